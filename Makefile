@@ -1,0 +1,18 @@
+# make run     proves and builds the program, and runs it on the stored image
+# make check   the merge gate: every proof from nothing, every test, every edit that must be refused
+# make bench   times the program beside the usual tools, on data that it makes
+# make refuse  refuses each allocation, read and write of a run in turn
+
+.PHONY: run check bench refuse
+
+run:
+	cd crates/cordkit && rt run < stdin
+
+check:
+	rt ci
+
+bench:
+	sh bench/check.sh
+
+refuse:
+	sh bench/refuse.sh

@@ -1,0 +1,75 @@
+#!/bin/sh
+# Runs the program with each allocation refused in turn, and over inputs and outputs that fail.
+# Each run has to give the right answer, or the one word for what stopped it and the status 3.
+set -eu
+cd "$(dirname "$0")/../crates/cordkit"
+program=out/cordkit
+[ -x "$program" ] || rt run < stdin > /dev/null 2>&1
+answer=$(cat stdout)
+folder=$(mktemp -d)
+trap 'rm -r "$folder"' EXIT
+out=$folder/out
+err=$folder/err
+count=0
+
+fail() {
+    echo "$1: status $status" >&2
+    cat "$out" "$err" >&2
+    exit 1
+}
+
+# the run was stopped, and said so by the word $2
+is_stopped() {
+    [ "$status" = 3 ] || fail "$1"
+    grep -qx "$2" "$err" || fail "$1"
+    [ "$(cat "$out")" = "${3-}" ] || fail "$1"
+    count=$((count + 1))
+}
+
+# The runs past the last allocation give the answer. One run that does could have lived without the memory: it takes four.
+number=1
+answered=0
+while [ "$answered" -lt 4 ]; do
+    status=0
+    rt try --fail-alloc "$number" < stdin > "$out" 2> "$err" || status=$?
+    if [ "$status" = 0 ] && cmp -s "$out" stdout; then
+        answered=$((answered + 1))
+    else
+        answered=0
+        is_stopped "allocation $number" memory
+    fi
+    number=$((number + 1))
+done
+refused=$count
+
+status=0
+"$program" < . > "$out" 2> "$err" || status=$?
+is_stopped "a folder as input" read
+status=0
+"$program" <&- > "$out" 2> "$err" || status=$?
+is_stopped "no input" read
+
+: > "$out"
+status=0
+"$program" < stdin > /dev/full 2> "$err" || status=$?
+is_stopped "a full device as output" write
+status=0
+"$program" < stdin >&- 2> "$err" || status=$?
+is_stopped "no output" write
+
+# The output takes only the first bytes of the line: a file that may hold 512 bytes has room for no more.
+taken=0
+while [ "$taken" -le "${#answer}" ]; do
+    head -c $((512 - taken)) /dev/zero > "$folder/file"
+    status=0
+    (
+        trap '' XFSZ
+        ulimit -f 1
+        exec "$program" < stdin >> "$folder/file" 2> "$err"
+    ) || status=$?
+    tail -c +$((513 - taken)) "$folder/file" > "$out"
+    is_stopped "room for $taken bytes" write "$(head -c "$taken" stdout)"
+    taken=$((taken + 1))
+done
+
+echo "refused: $refused allocations, $((count - refused)) reads and writes; each run was answered"

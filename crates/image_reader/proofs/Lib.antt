@@ -1,0 +1,11 @@
+pub mod Sections
+pub mod Counting
+pub mod Cutting
+pub mod Fields
+pub mod Faults
+pub mod Records
+pub mod RevisionRecords
+pub mod NodeRecords
+pub mod SectionLaws
+pub mod WholeImages
+pub mod RowSpans

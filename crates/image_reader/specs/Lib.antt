@@ -1,0 +1,5 @@
+pub mod Limits
+pub mod Layout
+pub mod Value
+pub mod Spelling
+pub mod Reading

@@ -1,0 +1,208 @@
+-- What bytes say when they are read by fixed places, and which fault they have first.
+use Rattle.std.specs.Prelude.{◌≡◌, ℕ, ◌+◌, ◌*◌, ◌≤◌, Bool, false, not, ◌||◌, ◌==◌, nat_lt, List, [], ◌∷◌, length, map, drop, Option, Some, None, if◌then◌else◌, codes}
+use Rattle.std.specs.List.{sum_by}
+use Rattle.std.specs.Int.{w8, w16, w32, w64}
+use Rattle.rope_node.specs.declared.node.NodeId.{NodeId}
+use Rattle.rope_node.specs.declared.node.NodeView.{NodeView}
+use Rattle.rope_node.specs.declared.node.NodeView.TheVariants.{Lit, Cat}
+use Rattle.rope_node.specs.Table.{Node}
+use Rattle.span_certificate.specs.declared.edit.Edit.{Edit}
+use Rattle.span_certificate.specs.declared.edit.Edit.TheVariants.{New, Insert}
+use Rattle.span_certificate.specs.declared.row.Row.{Row}
+use Rattle.span_certificate.specs.declared.row.RowKind.TheVariants.{Leaf}
+use Rattle.image_reader.specs.declared.fault.ReadFault.{ReadFault}
+use Rattle.image_reader.specs.declared.fault.ReadFault.TheVariants.{Truncated, Trailing, Magic, Version, Count, NonZeroPad, Kind}
+use Rattle.image_reader.specs.declared.header.Header.{Header}
+use Rattle.image_reader.specs.declared.revision.Revision.{Revision}
+use Rattle.image_reader.specs.Layout.{number_in, records}
+use Rattle.image_reader.specs.Limits.{magic, nil_root, most_sources, most_nodes, most_revisions, most_rows, most_pool}
+use Rattle.image_reader.specs.Value.{ImageValue}
+
+-- ---- what each record says
+
+unfoldable pub source_of : List ℕ → ℕ
+source_of bytes = number_in w64 0 bytes
+
+abbrev pub id_of : ℕ → NodeId
+id_of n = record { 0 = n }
+
+unfoldable pub view_of : List ℕ → NodeView
+view_of bytes = if number_in w8 0 bytes == 4 then Cat (id_of (number_in w32 4 bytes)) (id_of (number_in w32 16 bytes)) else Lit (number_in w64 16 bytes)
+
+abbrev pub node_of : List ℕ → Node
+node_of bytes = record { view = view_of bytes; len = number_in w64 8 bytes; depth = number_in w8 1 bytes }
+
+unfoldable pub edit_of : List ℕ → Edit
+edit_of bytes = if number_in w8 0 bytes == 1 then New else Insert (number_in w32 8 bytes) (number_in w64 16 bytes) (number_in w64 32 bytes) (number_in w64 40 bytes)
+
+abbrev pub root_of : ℕ → Option NodeId
+root_of n = if n == nil_root then None else Some (id_of n)
+
+unfoldable pub revision_of : List ℕ → Revision
+revision_of bytes = record { edit = edit_of bytes; mark = number_in w8 1 bytes == 1; root = root_of (number_in w32 4 bytes); rows = number_in w32 48 bytes }
+
+unfoldable pub row_of : List ℕ → Row
+row_of bytes = record { len = number_in w64 8 bytes; kind = Leaf }
+
+-- ---- the numbers of the header
+
+abbrev pub source_count : List ℕ → ℕ
+source_count bytes = number_in w32 12 bytes
+
+abbrev pub node_count : List ℕ → ℕ
+node_count bytes = number_in w32 16 bytes
+
+abbrev pub revision_count : List ℕ → ℕ
+revision_count bytes = number_in w32 20 bytes
+
+abbrev pub row_count : List ℕ → ℕ
+row_count bytes = number_in w32 24 bytes
+
+abbrev pub pool_len : List ℕ → ℕ
+pool_len bytes = number_in w64 32 bytes
+
+-- the whole length that the header states
+unfoldable pub stated_len : List ℕ → ℕ
+stated_len bytes = 40 + 8 * source_count bytes + 32 * node_count bytes + 56 * revision_count bytes + 24 * row_count bytes + pool_len bytes
+
+-- a header holds the numbers of these bytes, which are as many as it states
+pub record HasHeader (bytes : List ℕ) (h : Header) : Type 0 where
+  pub sources : h.sources ≡ source_count bytes
+  pub nodes : h.nodes ≡ node_count bytes
+  pub revisions : h.revisions ≡ revision_count bytes
+  pub rows : h.rows ≡ row_count bytes
+  pub pool : h.pool ≡ pool_len bytes
+  pub whole : length bytes ≡ 40 + 8 * h.sources + 32 * h.nodes + 56 * h.revisions + 24 * h.rows + h.pool
+
+-- ---- where each section begins, and what is from there on
+
+abbrev pub from_sources : List ℕ → List ℕ
+from_sources bytes = drop 40 bytes
+
+abbrev pub from_nodes : List ℕ → List ℕ
+from_nodes bytes = drop (8 * source_count bytes) (from_sources bytes)
+
+abbrev pub from_revisions : List ℕ → List ℕ
+from_revisions bytes = drop (32 * node_count bytes) (from_nodes bytes)
+
+abbrev pub from_rows : List ℕ → List ℕ
+from_rows bytes = drop (56 * revision_count bytes) (from_revisions bytes)
+
+abbrev pub from_pool : List ℕ → List ℕ
+from_pool bytes = drop (24 * row_count bytes) (from_rows bytes)
+
+-- the bytes from each section on are enough for its records
+pub record HasRoom (s : ℕ) (sources : List ℕ) (n : ℕ) (nodes : List ℕ) (k : ℕ) (revisions : List ℕ) (j : ℕ) (rows : List ℕ) : Type 0 where
+  pub for_sources : 8 * s ≤ length sources
+  pub for_nodes : 32 * n ≤ length nodes
+  pub for_revisions : 56 * k ≤ length revisions
+  pub for_rows : 24 * j ≤ length rows
+
+-- what sections say, each given with its number of records and with the bytes from it on
+unfoldable pub sections_value : ℕ → List ℕ → ℕ → List ℕ → ℕ → List ℕ → ℕ → List ℕ → List ℕ → ImageValue
+sections_value source_count sources node_count nodes revision_count revisions row_count rows pool = record {
+  sources = map source_of (records 8 source_count sources);
+  nodes = map node_of (records 32 node_count nodes);
+  revisions = map revision_of (records 56 revision_count revisions);
+  rows = map row_of (records 24 row_count rows);
+  pool = pool;
+}
+
+-- what bytes say
+abbrev pub image_of : List ℕ → ImageValue
+image_of bytes = sections_value (source_count bytes) (from_sources bytes) (node_count bytes) (from_nodes bytes) (revision_count bytes) (from_revisions bytes) (row_count bytes) (from_rows bytes) (from_pool bytes)
+
+-- ---- faults
+
+-- a fault, or else what comes after it
+infixr 10 ◌else◌
+abbrev pub ◌else◌ : Option ReadFault → Option ReadFault → Option ReadFault
+None else later = later
+(Some fault) else later = Some fault
+
+-- a fault where a test holds
+abbrev pub fault_if : Bool → ReadFault → Option ReadFault
+fault_if b fault = if b then Some fault else None
+
+-- the first fault of some records
+unfoldable pub first_fault : (List ℕ → Option ReadFault) → List (List ℕ) → Option ReadFault
+first_fault fault [] = None
+first_fault fault (x ∷ xs) = fault x else first_fault fault xs
+
+abbrev pub any_nonzero : List ℕ → Bool
+any_nonzero [] = false
+any_nonzero (n ∷ ns) = not (n == 0) || any_nonzero ns
+
+abbrev pub is_over_limit : List ℕ → Bool
+is_over_limit bytes = nat_lt most_sources (source_count bytes) || (nat_lt most_nodes (node_count bytes) || (nat_lt most_revisions (revision_count bytes) || (nat_lt most_rows (row_count bytes) || nat_lt most_pool (pool_len bytes))))
+
+unfoldable pub header_fault : List ℕ → Option ReadFault
+header_fault bytes =
+    fault_if (nat_lt (length bytes) 40) Truncated
+    else fault_if (not (number_in w64 0 bytes == magic)) Magic
+    else fault_if (not (number_in w32 8 bytes == 1)) Version
+    else fault_if (is_over_limit bytes) Count
+    else fault_if (not (number_in w32 28 bytes == 0)) NonZeroPad
+    else fault_if (nat_lt (length bytes) (stated_len bytes)) Truncated
+    else fault_if (nat_lt (stated_len bytes) (length bytes)) Trailing
+
+unfoldable pub source_fault : List ℕ → Option ReadFault
+source_fault bytes = fault_if (not (nat_lt (number_in w64 0 bytes) 1099511627776)) Count
+
+-- the fields that a node of this kind does not use
+abbrev pub unused_in_node : List ℕ → List ℕ
+unused_in_node bytes =
+    if number_in w8 0 bytes == 4
+    then number_in w8 2 bytes ∷ number_in w8 3 bytes ∷ number_in w32 20 bytes ∷ number_in w64 24 bytes ∷ []
+    else number_in w8 2 bytes ∷ number_in w8 3 bytes ∷ number_in w32 4 bytes ∷ number_in w64 24 bytes ∷ []
+
+unfoldable pub node_fault : List ℕ → Option ReadFault
+node_fault bytes =
+    fault_if (not (number_in w8 0 bytes == 1 || number_in w8 0 bytes == 4)) Kind
+    else fault_if (any_nonzero (unused_in_node bytes)) NonZeroPad
+
+-- the fields that no revision uses, and those that a command does not use
+abbrev pub unused_in_revision : List ℕ → List ℕ
+unused_in_revision bytes =
+    if number_in w8 0 bytes == 1
+    then number_in w16 2 bytes ∷ number_in w32 12 bytes ∷ number_in w64 24 bytes ∷ number_in w32 52 bytes ∷ number_in w32 8 bytes ∷ number_in w64 16 bytes ∷ number_in w64 32 bytes ∷ number_in w64 40 bytes ∷ []
+    else number_in w16 2 bytes ∷ number_in w32 12 bytes ∷ number_in w64 24 bytes ∷ number_in w32 52 bytes ∷ []
+
+unfoldable pub revision_fault : List ℕ → Option ReadFault
+revision_fault bytes =
+    fault_if (not (number_in w8 0 bytes == 1 || number_in w8 0 bytes == 3) || nat_lt 1 (number_in w8 1 bytes)) Kind
+    else fault_if (any_nonzero (unused_in_revision bytes)) NonZeroPad
+
+unfoldable pub row_fault : List ℕ → Option ReadFault
+row_fault bytes =
+    fault_if (not (number_in w8 0 bytes == 2)) Kind
+    else fault_if (any_nonzero (number_in w8 1 bytes ∷ number_in w16 2 bytes ∷ number_in w32 4 bytes ∷ number_in w64 16 bytes ∷ [])) NonZeroPad
+
+-- the rows that revisions have in all
+unfoldable pub counted_rows : ℕ → List ℕ → ℕ
+counted_rows count revisions = sum_by (λ (r : Revision). r.rows) (map revision_of (records 56 count revisions))
+
+-- the first fault of sections, each given with its number of records and with the bytes from it on
+unfoldable pub sections_fault : ℕ → List ℕ → ℕ → List ℕ → ℕ → List ℕ → ℕ → List ℕ → Option ReadFault
+sections_fault source_count sources node_count nodes revision_count revisions row_count rows =
+    first_fault source_fault (records 8 source_count sources)
+    else first_fault node_fault (records 32 node_count nodes)
+    else first_fault revision_fault (records 56 revision_count revisions)
+    else fault_if (not (counted_rows revision_count revisions == row_count)) Count
+    else first_fault row_fault (records 24 row_count rows)
+
+-- the first fault of bytes that are no image
+unfoldable pub fault_of : List ℕ → Option ReadFault
+fault_of bytes =
+    header_fault bytes
+    else sections_fault (source_count bytes) (from_sources bytes) (node_count bytes) (from_nodes bytes) (revision_count bytes) (from_revisions bytes) (row_count bytes) (from_rows bytes)
+
+-- the code that the program prints
+abbrev pub fault_code : ReadFault → List ℕ
+fault_code Truncated = codes "I1"
+fault_code Trailing = codes "I2"
+fault_code Magic = codes "I3"
+fault_code Version = codes "I4"
+fault_code Count = codes "I5"
+fault_code NonZeroPad = codes "I6"
+fault_code Kind = codes "I7"

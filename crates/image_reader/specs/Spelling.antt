@@ -1,0 +1,99 @@
+-- The one spelling of each image.
+use Rattle.std.specs.Prelude.{ℕ, Bool, true, false, List, [], ◌∷◌, ◌++◌, length, Option, Some, None}
+use Rattle.std.specs.List.{flat_map}
+use Rattle.std.specs.Int.{Width, w8, w16, w32, w64}
+use Rattle.rope_node.specs.declared.node.NodeId.{NodeId}
+use Rattle.rope_node.specs.declared.node.NodeView.{NodeView}
+use Rattle.rope_node.specs.declared.node.NodeView.TheVariants.{Lit, Src, Fun, Cat, Sub}
+use Rattle.rope_node.specs.Table.{Node}
+use Rattle.span_certificate.specs.declared.edit.Edit.{Edit}
+use Rattle.span_certificate.specs.declared.edit.Edit.TheVariants.{New, Insert}
+use Rattle.span_certificate.specs.declared.row.Row.{Row}
+use Rattle.span_certificate.specs.declared.row.RowKind.{RowKind}
+use Rattle.span_certificate.specs.declared.row.RowKind.TheVariants.{Leaf}
+use Rattle.image_reader.specs.declared.revision.Revision.{Revision}
+use Rattle.image_reader.specs.Layout.{spelled}
+use Rattle.image_reader.specs.Limits.{magic, nil_root}
+use Rattle.image_reader.specs.Value.{ImageValue}
+
+-- magic, version, the numbers of sources, nodes, revisions and rows, zero, the pool's length
+abbrev pub header_layout : List Width
+header_layout = w64 ∷ w32 ∷ w32 ∷ w32 ∷ w32 ∷ w32 ∷ w32 ∷ w64 ∷ []
+
+abbrev pub header_numbers : ImageValue → List ℕ
+header_numbers v = magic ∷ 1 ∷ length v.sources ∷ length v.nodes ∷ length v.revisions ∷ length v.rows ∷ 0 ∷ length v.pool ∷ []
+
+-- its length
+abbrev pub source_layout : List Width
+source_layout = w64 ∷ []
+
+unfoldable pub source_spelling : ℕ → List ℕ
+source_spelling n = spelled source_layout (n ∷ [])
+
+-- kind, depth, function code, pattern length, x, length, and the payload by the kind
+abbrev pub literal_layout : List Width
+literal_layout = w8 ∷ w8 ∷ w8 ∷ w8 ∷ w32 ∷ w64 ∷ w64 ∷ w64 ∷ []
+
+abbrev pub concatenation_layout : List Width
+concatenation_layout = w8 ∷ w8 ∷ w8 ∷ w8 ∷ w32 ∷ w64 ∷ w32 ∷ w32 ∷ w64 ∷ []
+
+unfoldable pub view_spelling : ℕ → ℕ → NodeView → List ℕ
+view_spelling depth len (Lit a) = spelled literal_layout (1 ∷ depth ∷ 0 ∷ 0 ∷ 0 ∷ len ∷ a ∷ 0 ∷ [])
+view_spelling depth len (Src s a) = []
+view_spelling depth len Fun = []
+view_spelling depth len (Cat l r) = spelled concatenation_layout (4 ∷ depth ∷ 0 ∷ 0 ∷ l.0 ∷ len ∷ r.0 ∷ 0 ∷ 0 ∷ [])
+view_spelling depth len (Sub b i) = []
+
+abbrev pub node_spelling : Node → List ℕ
+node_spelling n = view_spelling n.depth n.len n.view
+
+-- a command's code, and the numbers that it uses; what it does not use is 0
+pub record EditNumbers : Type 0 where
+  pub code : ℕ
+  pub r : ℕ
+  pub q : ℕ
+  pub p : ℕ
+  pub m : ℕ
+  pub a : ℕ
+  pub n : ℕ
+
+abbrev pub edit_numbers : Edit → EditNumbers
+edit_numbers New = record { code = 1; r = 0; q = 0; p = 0; m = 0; a = 0; n = 0 }
+edit_numbers (Insert r p a n) = record { code = 3; r = r; q = 0; p = p; m = 0; a = a; n = n }
+
+abbrev pub mark_number : Bool → ℕ
+mark_number false = 0
+mark_number true = 1
+
+abbrev pub root_number : Option NodeId → ℕ
+root_number None = nil_root
+root_number (Some id) = id.0
+
+-- code, mark, zero, root, r, q, p, m, a, n, the number of its rows, zero
+abbrev pub revision_layout : List Width
+revision_layout = w8 ∷ w8 ∷ w16 ∷ w32 ∷ w32 ∷ w32 ∷ w64 ∷ w64 ∷ w64 ∷ w64 ∷ w32 ∷ w32 ∷ []
+
+abbrev pub revision_numbers : EditNumbers → ℕ → ℕ → ℕ → List ℕ
+revision_numbers e mark root rows = e.code ∷ mark ∷ 0 ∷ root ∷ e.r ∷ e.q ∷ e.p ∷ e.m ∷ e.a ∷ e.n ∷ rows ∷ 0 ∷ []
+
+unfoldable pub revision_spelling : Revision → List ℕ
+revision_spelling r = spelled revision_layout (revision_numbers (edit_numbers r.edit) (mark_number r.mark) (root_number r.root) r.rows)
+
+-- tag, zeros, node, length, offset
+abbrev pub row_layout : List Width
+row_layout = w8 ∷ w8 ∷ w16 ∷ w32 ∷ w64 ∷ w64 ∷ []
+
+abbrev pub row_numbers : ℕ → RowKind → List ℕ
+row_numbers len Leaf = 2 ∷ 0 ∷ 0 ∷ 0 ∷ len ∷ 0 ∷ []
+
+unfoldable pub row_spelling : Row → List ℕ
+row_spelling r = spelled row_layout (row_numbers r.len r.kind)
+
+unfoldable pub spelling : ImageValue → List ℕ
+spelling v =
+    spelled header_layout (header_numbers v)
+    ++ (flat_map source_spelling v.sources
+    ++ (flat_map node_spelling v.nodes
+    ++ (flat_map revision_spelling v.revisions
+    ++ (flat_map row_spelling v.rows
+    ++ v.pool))))

@@ -1,0 +1,98 @@
+//! The header of an image.
+
+ghost use Rattle.std.specs.Prelude.{◌≡◌, length, IfOk};
+ghost use Rattle.std.specs.Result.{result_err};
+ghost use Rattle.image_reader.specs.Reading.{header_fault, HasHeader};
+
+use crate::fault::ReadFault;
+use crate::number::{u32_in, u64_in};
+
+/// How many records each section has, and how long the pool is.
+#[derive(Clone, Copy)]
+pub struct Header {
+    pub sources: u32,
+    pub nodes: u32,
+    pub revisions: u32,
+    pub rows: u32,
+    pub pool: u64,
+}
+
+const MAGIC: u64 = 0x434f_5244_5345_5353;
+
+const VERSION: u32 = 1;
+
+const MOST_SOURCES: u32 = 0;
+
+const MOST_NODES: u32 = 16_777_216;
+
+const MOST_REVISIONS: u32 = 1_048_576;
+
+const MOST_ROWS: u32 = 16_777_216;
+
+const MOST_POOL: u64 = 4_294_967_295;
+
+/// The numbers of the header, where it has no fault and the bytes are as many as it states.
+#[tactic(auto, unfolding(crate::specs::Reading::header_fault, crate::specs::Reading::stated_len))]
+pub fn read_header(bytes: &[u8]) -> Result<Header, ReadFault>
+    ensures fault { result_err result ≡ header_fault bytes.now }
+    ensures numbers { IfOk result (HasHeader bytes.now) }
+{
+    if bytes.len() < 40 {
+        return Err(ReadFault::Truncated);
+    }
+    if u64_in(bytes, 0) != MAGIC {
+        return Err(ReadFault::Magic);
+    }
+    if u32_in(bytes, 8) != VERSION {
+        return Err(ReadFault::Version);
+    }
+    let header = Header {
+        sources: u32_in(bytes, 12),
+        nodes: u32_in(bytes, 16),
+        revisions: u32_in(bytes, 20),
+        rows: u32_in(bytes, 24),
+        pool: u64_in(bytes, 32),
+    };
+    if header.is_over_limit() {
+        return Err(ReadFault::Count);
+    }
+    if u32_in(bytes, 28) != 0 {
+        return Err(ReadFault::NonZeroPad);
+    }
+    let stated = header.stated_len();
+    if (bytes.len() as u64) < stated {
+        return Err(ReadFault::Truncated);
+    }
+    if (bytes.len() as u64) > stated {
+        return Err(ReadFault::Trailing);
+    }
+    Ok(header)
+}
+
+impl Header {
+    ghost use Rattle.std.specs.Prelude.{◌≡◌, ◌+◌, ◌*◌, ◌<◌, ◌^◌, ◌||◌, nat_lt};
+    ghost use Rattle.image_reader.specs.Limits.{most_sources, most_nodes, most_revisions, most_rows, most_pool};
+
+    /// Whether a number is over its limit.
+    fn is_over_limit(&self) -> bool
+        ensures { result ≡ (nat_lt most_sources self.now.sources || (nat_lt most_nodes self.now.nodes || (nat_lt most_revisions self.now.revisions || (nat_lt most_rows self.now.rows || nat_lt most_pool self.now.pool)))) }
+    {
+        self.sources > MOST_SOURCES
+            || self.nodes > MOST_NODES
+            || self.revisions > MOST_REVISIONS
+            || self.rows > MOST_ROWS
+            || self.pool > MOST_POOL
+    }
+
+    /// The length of the whole image, in bytes.
+    fn stated_len(&self) -> u64
+        requires { self.now.pool < 2 ^ 32 }
+        ensures { result ≡ 40 + 8 * self.now.sources + 32 * self.now.nodes + 56 * self.now.revisions + 24 * self.now.rows + self.now.pool }
+    {
+        40 + 8 * self.sources as u64
+            + 32 * self.nodes as u64
+            + 56 * self.revisions as u64
+            + 24 * self.rows as u64
+            + self.pool
+    }
+}

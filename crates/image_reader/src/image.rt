@@ -1,0 +1,186 @@
+//! An image, over its bytes.
+
+ghost use Rattle.std.specs.Prelude.{◌≡◌, ◌<◌, length, IfOk, Ok, slice_get, Some};
+ghost use Rattle.std.specs.Result.{result_err};
+ghost use Rattle.rope_node.specs.Table.{view_at, len_at, depth_at};
+ghost use Rattle.image_reader.specs.Value.{ImageValue, IsImage, table_of};
+ghost use Rattle.image_reader.specs.Spelling.{spelling};
+ghost use Rattle.image_reader.specs.Reading.{fault_of, image_of};
+
+use crate::fault::ReadFault;
+use crate::header::read_header;
+use crate::number::{bytes_from, cell_at};
+use crate::parts::{depth_in, len_in, revision_in, row_in, source_in, view_in};
+use crate::revision::Revision;
+use crate::section::check_sections;
+use rope_node::{NodeId, NodeView};
+use span_certificate::Row;
+use std::marker::Model;
+
+/// A session image. It borrows the bytes that it was read from, and reads its fields from them as they are asked for.
+#[derive(Drop)]
+pub struct Image<'a> {
+    source_count: u32,
+    node_count: u32,
+    revision_count: u32,
+    row_count: u32,
+    sources: &'a [u8],
+    nodes: &'a [u8],
+    revisions: &'a [u8],
+    rows: &'a [u8],
+    pool: &'a [u8],
+}
+
+impl<'a> Model for Image<'a> {
+    ghost use Rattle.std.specs.Prelude.{◌*◌, ◌≤◌, length};
+    ghost use Rattle.image_reader.specs.Value.{ImageValue, IsImage};
+    ghost use Rattle.image_reader.specs.Reading.{sections_value, HasRoom};
+
+    ghost Value = { ImageValue };
+
+    ghost view = { λ a. sections_value a.source_count a.sources.now a.node_count a.nodes.now a.revision_count a.revisions.now a.row_count a.rows.now a.pool.now };
+
+    ghost invariant = { λ a. HasRoom a.source_count a.sources.now a.node_count a.nodes.now a.revision_count a.revisions.now a.row_count a.rows.now
+        × IsImage (sections_value a.source_count a.sources.now a.node_count a.nodes.now a.revision_count a.revisions.now a.row_count a.rows.now a.pool.now) };
+}
+
+impl<'a> Image<'a> {
+    /// Cuts the bytes into sections, where no record has a fault.
+    #[tactic(auto, unfolding(crate::specs::Reading::fault_of))]
+    fn read_sections(bytes: &'a [u8]) -> Result<Image<'a>, ReadFault>
+        ensures fault { result_err result ≡ fault_of bytes.now }
+        ensures value { IfOk result (λ v. v ≡ image_of bytes.now) }
+    {
+        let header = read_header(bytes)?;
+        let sources = bytes_from(bytes, 40);
+        let nodes = bytes_from(sources, 8 * header.sources as usize);
+        let revisions = bytes_from(nodes, 32 * header.nodes as usize);
+        let rows = bytes_from(revisions, 56 * header.revisions as usize);
+        let pool = bytes_from(rows, 24 * header.rows as usize);
+        check_sections(&header, sources, nodes, revisions, rows)?;
+        Ok(Image {
+            source_count: header.sources,
+            node_count: header.nodes,
+            revision_count: header.revisions,
+            row_count: header.rows,
+            sources,
+            nodes,
+            revisions,
+            rows,
+            pool,
+        })
+    }
+
+    /// Reads an image from all of the bytes. It takes no memory.
+    pub fn read(bytes: &'a [u8]) -> Result<Image<'a>, ReadFault>
+        // What is read is spelled so.
+        ensures found { IfOk result (λ v. IsImage v × (bytes.now ≡ spelling v)) }
+        // What is spelled so is read.
+        ensures only { (v : ImageValue) → IsImage v → bytes.now ≡ spelling v → result ≡ Ok v }
+        // Which fault it is: the first in the order of the format.
+        ensures fault { result_err result ≡ fault_of bytes.now }
+    {
+        Image::read_sections(bytes)
+    }
+
+    /// The same image once more. It takes no memory.
+    pub fn same(&self) -> Image<'a>
+        ensures { result ≡ self.now }
+    {
+        Image {
+            source_count: self.source_count,
+            node_count: self.node_count,
+            revision_count: self.revision_count,
+            row_count: self.row_count,
+            sources: self.sources,
+            nodes: self.nodes,
+            revisions: self.revisions,
+            rows: self.rows,
+            pool: self.pool,
+        }
+    }
+
+    /// How many sources the image has.
+    pub fn source_count(&self) -> u32
+        ensures { result ≡ length self.now.sources }
+    {
+        self.source_count
+    }
+
+    /// How many nodes it has.
+    pub fn node_count(&self) -> u32
+        ensures count { result ≡ length self.now.nodes }
+        ensures image { IsImage self.now }
+    {
+        self.node_count
+    }
+
+    /// How many revisions it has.
+    pub fn revision_count(&self) -> u32
+        ensures { result ≡ length self.now.revisions }
+    {
+        self.revision_count
+    }
+
+    /// How many certificate rows it has.
+    pub fn row_count(&self) -> u32
+        ensures { result ≡ length self.now.rows }
+    {
+        self.row_count
+    }
+
+    /// The pool.
+    pub fn pool(&self) -> &'a [u8]
+        ensures { result.now ≡ self.now.pool }
+    {
+        self.pool
+    }
+
+    /// The length of source `s`, in bytes.
+    pub fn source_len(&self, s: u32) -> u64
+        requires { s < length self.now.sources }
+        ensures { slice_get self.now.sources s ≡ Some result }
+    {
+        source_in(cell_at(self.sources, 8, s as usize))
+    }
+
+    /// What node `id` is.
+    pub fn node(&self, id: NodeId) -> NodeView
+        requires { id.0 < length self.now.nodes }
+        ensures { result ≡ view_at (table_of self.now) id.0 }
+    {
+        view_in(cell_at(self.nodes, 32, id.0 as usize))
+    }
+
+    /// The length that is recorded with node `id`, in bytes.
+    pub fn len(&self, id: NodeId) -> u64
+        requires { id.0 < length self.now.nodes }
+        ensures { result ≡ len_at (table_of self.now) id.0 }
+    {
+        len_in(cell_at(self.nodes, 32, id.0 as usize))
+    }
+
+    /// The depth that is recorded with node `id`.
+    pub fn depth(&self, id: NodeId) -> u8
+        requires { id.0 < length self.now.nodes }
+        ensures { result ≡ depth_at (table_of self.now) id.0 }
+    {
+        depth_in(cell_at(self.nodes, 32, id.0 as usize))
+    }
+
+    /// Revision `k`.
+    pub fn revision(&self, k: u32) -> Revision
+        requires { k < length self.now.revisions }
+        ensures { slice_get self.now.revisions k ≡ Some result }
+    {
+        revision_in(cell_at(self.revisions, 56, k as usize))
+    }
+
+    /// Row `j` of all rows.
+    pub fn row(&self, j: usize) -> Row
+        requires { j < length self.now.rows }
+        ensures { slice_get self.now.rows j ≡ Some result }
+    {
+        row_in(cell_at(self.rows, 24, j))
+    }
+}

@@ -1,0 +1,122 @@
+//! What single records say.
+
+ghost use Rattle.std.specs.Prelude.{◌≡◌, ◌+◌, ◌*◌, ◌≤◌, ◌<◌, ◌^◌, length};
+ghost use Rattle.std.specs.Int.{w8, w32, w64};
+ghost use Rattle.image_reader.specs.Layout.{number_in};
+ghost use Rattle.image_reader.specs.Reading.{source_of, node_of, view_of, edit_of, root_of, revision_of, row_of, counted_rows};
+
+use crate::number::{u8_in, u32_in, u64_in};
+use crate::revision::Revision;
+use rope_node::{NodeId, NodeView, Rope};
+use span_certificate::{Edit, Row, RowKind};
+
+/// The length of a source.
+#[tactic(auto, unfolding(crate::specs::Reading::source_of))]
+pub fn source_in(bytes: &[u8]) -> u64
+    requires { length bytes.now ≡ 8 }
+    ensures { result ≡ source_of bytes.now }
+{
+    u64_in(bytes, 0)
+}
+
+/// The length of a node.
+pub fn len_in(bytes: &[u8]) -> u64
+    requires { length bytes.now ≡ 32 }
+    ensures { result ≡ (node_of bytes.now).len }
+{
+    u64_in(bytes, 8)
+}
+
+/// The depth of a node.
+pub fn depth_in(bytes: &[u8]) -> u8
+    requires { length bytes.now ≡ 32 }
+    ensures { result ≡ (node_of bytes.now).depth }
+{
+    u8_in(bytes, 1)
+}
+
+/// What a node is.
+#[tactic(auto, unfolding(crate::specs::Reading::view_of))]
+pub fn view_in(bytes: &[u8]) -> NodeView
+    requires { length bytes.now ≡ 32 }
+    ensures { result ≡ view_of bytes.now }
+{
+    if u8_in(bytes, 0) == 4 {
+        NodeView::Cat {
+            l: NodeId(u32_in(bytes, 4)),
+            r: NodeId(u32_in(bytes, 16)),
+        }
+    } else {
+        NodeView::Lit {
+            a: u64_in(bytes, 16),
+        }
+    }
+}
+
+#[tactic(auto, unfolding(crate::specs::Reading::edit_of))]
+fn edit_in(bytes: &[u8]) -> Edit
+    requires { length bytes.now ≡ 56 }
+    ensures { result ≡ edit_of bytes.now }
+{
+    if u8_in(bytes, 0) == 1 {
+        Edit::New
+    } else {
+        Edit::Insert {
+            r: u32_in(bytes, 8),
+            p: u64_in(bytes, 16),
+            a: u64_in(bytes, 32),
+            n: u64_in(bytes, 40),
+        }
+    }
+}
+
+fn root_in(number: u32) -> Rope
+    ensures { result ≡ root_of number }
+{
+    if number == u32::MAX {
+        None
+    } else {
+        Some(NodeId(number))
+    }
+}
+
+/// What a revision is.
+#[tactic(auto, unfolding(crate::specs::Reading::revision_of))]
+pub fn revision_in(bytes: &[u8]) -> Revision
+    requires { length bytes.now ≡ 56 }
+    ensures { result ≡ revision_of bytes.now }
+{
+    Revision {
+        edit: edit_in(bytes),
+        mark: u8_in(bytes, 1) == 1,
+        root: root_in(u32_in(bytes, 4)),
+        rows: u32_in(bytes, 48),
+    }
+}
+
+/// What a row is.
+#[tactic(auto, unfolding(crate::specs::Reading::row_of))]
+pub fn row_in(bytes: &[u8]) -> Row
+    requires { length bytes.now ≡ 24 }
+    ensures { result ≡ row_of bytes.now }
+{
+    Row {
+        len: u64_in(bytes, 8),
+        kind: RowKind::Leaf,
+    }
+}
+
+/// The rows that `count` revisions have in all.
+pub fn counted_rows(count: u32, bytes: &[u8]) -> u64
+    requires { 56 * count ≤ length bytes.now }
+    ensures { result ≡ counted_rows count bytes.now }
+{
+    let mut rest = bytes;
+    let mut sum: u64 = 0;
+    for _ in 0..count {
+        let (front, after) = rest.split_at(56);
+        sum += u32_in(front, 48) as u64;
+        rest = after;
+    }
+    sum
+}

@@ -1,0 +1,181 @@
+//! Sections of records: each record of a kind has one size and one test.
+
+ghost use Rattle.std.specs.Prelude.{◌≡◌, ◌+◌, ◌*◌, ◌≤◌, ◌<◌, ◌^◌, ℕ, List, length, Option};
+ghost use Rattle.std.specs.Result.{result_err};
+ghost use Rattle.image_reader.specs.declared.fault.ReadFault.{ReadFault};
+ghost use Rattle.image_reader.specs.Layout.{records, number_in};
+ghost use Rattle.std.specs.Int.{w8};
+ghost use Rattle.image_reader.specs.Reading.{source_fault, node_fault, revision_fault, row_fault, first_fault, any_nonzero, unused_in_revision, sections_fault};
+
+use crate::fault::ReadFault;
+use crate::header::Header;
+use crate::number::{u8_in, u16_in, u32_in, u64_in};
+use crate::parts::counted_rows;
+
+/// A kind of record.
+pub trait Kind {
+    const SIZE: usize;
+
+    ghost SIZE: { ℕ };
+
+    ghost fault: { List ℕ → Option ReadFault };
+
+    /// Refuses a record that has a fault.
+    fn check(bytes: &[u8]) -> Result<(), ReadFault>
+        requires { length bytes.now ≡ SIZE }
+        ensures { result_err result ≡ fault bytes.now };
+}
+
+/// Refuses a section of `count` records where one of them has a fault: the first one's.
+pub fn check_each<K: Kind>(count: u32, bytes: &[u8]) -> Result<(), ReadFault>
+    requires { K.SIZE * count ≤ length bytes.now }
+    ensures { result_err result ≡ first_fault K.fault (records K.SIZE count bytes.now) }
+{
+    let mut rest = bytes;
+    for _ in 0..count {
+        let (front, after) = rest.split_at(K::SIZE);
+        K::check(front)?;
+        rest = after;
+    }
+    Ok(())
+}
+
+/// Refuses sections with a fault: the first one's, section by section.
+#[tactic(auto, unfolding(crate::specs::Reading::sections_fault))]
+pub fn check_sections(
+    header: &Header,
+    sources: &[u8],
+    nodes: &[u8],
+    revisions: &[u8],
+    rows: &[u8],
+) -> Result<(), ReadFault>
+    requires sources { 8 * header.now.sources ≤ length sources.now }
+    requires nodes { 32 * header.now.nodes ≤ length nodes.now }
+    requires revisions { 56 * header.now.revisions ≤ length revisions.now }
+    requires rows { 24 * header.now.rows ≤ length rows.now }
+    ensures { result_err result ≡ sections_fault header.now.sources sources.now header.now.nodes nodes.now header.now.revisions revisions.now header.now.rows rows.now }
+{
+    check_each::<SourceKind>(header.sources, sources)?;
+    check_each::<NodeKind>(header.nodes, nodes)?;
+    check_each::<RevisionKind>(header.revisions, revisions)?;
+    if counted_rows(header.revisions, revisions) != header.rows as u64 {
+        return Err(ReadFault::Count);
+    }
+    check_each::<RowKind>(header.rows, rows)
+}
+
+/// The records of sources.
+pub struct SourceKind;
+
+impl Kind for SourceKind {
+    const SIZE: usize = 8;
+
+    ghost SIZE = { 8 };
+
+    ghost fault = { source_fault };
+
+    #[tactic(auto, unfolding(crate::specs::Reading::source_fault))]
+    fn check(bytes: &[u8]) -> Result<(), ReadFault> {
+        if u64_in(bytes, 0) >= 1 << 40 {
+            return Err(ReadFault::Count);
+        }
+        Ok(())
+    }
+}
+
+/// The records of nodes.
+pub struct NodeKind;
+
+impl Kind for NodeKind {
+    const SIZE: usize = 32;
+
+    ghost SIZE = { 32 };
+
+    ghost fault = { node_fault };
+
+    #[tactic(auto, unfolding(crate::specs::Reading::node_fault))]
+    fn check(bytes: &[u8]) -> Result<(), ReadFault> {
+        let kind = u8_in(bytes, 0);
+        if kind != 1 && kind != 4 {
+            return Err(ReadFault::Kind);
+        }
+        let unused = if kind == 4 {
+            u32_in(bytes, 20)
+        } else {
+            u32_in(bytes, 4)
+        };
+        if u8_in(bytes, 2) != 0 || u8_in(bytes, 3) != 0 || unused != 0 || u64_in(bytes, 24) != 0 {
+            return Err(ReadFault::NonZeroPad);
+        }
+        Ok(())
+    }
+}
+
+/// The records of revisions.
+pub struct RevisionKind;
+
+impl Kind for RevisionKind {
+    const SIZE: usize = 56;
+
+    ghost SIZE = { 56 };
+
+    ghost fault = { revision_fault };
+
+    #[tactic(auto, unfolding(crate::specs::Reading::revision_fault))]
+    fn check(bytes: &[u8]) -> Result<(), ReadFault> {
+        let code = u8_in(bytes, 0);
+        if (code != 1 && code != 3) || u8_in(bytes, 1) > 1 {
+            return Err(ReadFault::Kind);
+        }
+        if has_unused_revision_field(code, bytes) {
+            return Err(ReadFault::NonZeroPad);
+        }
+        Ok(())
+    }
+}
+
+/// Whether a field that this command does not use, or no revision, is not zero.
+fn has_unused_revision_field(code: u8, bytes: &[u8]) -> bool
+    requires code { code ≡ number_in w8 0 bytes.now }
+    requires len { length bytes.now ≡ 56 }
+    ensures { result ≡ any_nonzero (unused_in_revision bytes.now) }
+{
+    if u16_in(bytes, 2) != 0
+        || u32_in(bytes, 12) != 0
+        || u64_in(bytes, 24) != 0
+        || u32_in(bytes, 52) != 0
+    {
+        return true;
+    }
+    code == 1
+        && (u32_in(bytes, 8) != 0
+            || u64_in(bytes, 16) != 0
+            || u64_in(bytes, 32) != 0
+            || u64_in(bytes, 40) != 0)
+}
+
+/// The records of certificate rows.
+pub struct RowKind;
+
+impl Kind for RowKind {
+    const SIZE: usize = 24;
+
+    ghost SIZE = { 24 };
+
+    ghost fault = { row_fault };
+
+    #[tactic(auto, unfolding(crate::specs::Reading::row_fault))]
+    fn check(bytes: &[u8]) -> Result<(), ReadFault> {
+        if u8_in(bytes, 0) != 2 {
+            return Err(ReadFault::Kind);
+        }
+        if u8_in(bytes, 1) != 0
+            || u16_in(bytes, 2) != 0
+            || u32_in(bytes, 4) != 0
+            || u64_in(bytes, 16) != 0
+        {
+            return Err(ReadFault::NonZeroPad);
+        }
+        Ok(())
+    }
+}

@@ -1,0 +1,4 @@
+pub mod Table
+pub mod Denotes
+pub mod Path
+pub mod Balance

@@ -1,0 +1,84 @@
+-- A table of nodes: what each node is, which tables are sound, and which records are true.
+use Rattle.std.specs.Prelude.{◌≡◌, ℕ, ◌+◌, ◌^◌, ◌<◌, ◌≤◌, max, List, length, get_or}
+use Rattle.rope_node.specs.declared.node.NodeView.{NodeView}
+use Rattle.rope_node.specs.declared.node.NodeView.TheVariants.{Lit, Src, Fun, Cat, Sub}
+
+-- a node with the length and the depth that are recorded with it
+pub record Node : Type 0 where
+  pub view : NodeView
+  pub len : ℕ
+  pub depth : ℕ
+
+-- the nodes in their order, the pool that literals lie in, the sources' lengths, and what the function at a node answers at a place
+pub record Table : Type 0 where
+  pub nodes : List Node
+  pub pool : List ℕ
+  pub sources : List ℕ
+  pub answer : ℕ → ℕ → ℕ
+
+-- what is read past the end
+abbrev pub no_node : Node
+no_node = record { view = Fun; len = 0; depth = 0 }
+
+abbrev pub node_at : Table → ℕ → Node
+node_at t id = get_or t.nodes id no_node
+
+abbrev pub view_at : Table → ℕ → NodeView
+view_at t id = (node_at t id).view
+
+abbrev pub len_at : Table → ℕ → ℕ
+len_at t id = (node_at t id).len
+
+abbrev pub depth_at : Table → ℕ → ℕ
+depth_at t id = (node_at t id).depth
+
+-- each child is an earlier node, and each source is there
+abbrev pub HasEarlierChildren : Table → ℕ → NodeView → Type 0
+HasEarlierChildren t id (Lit a) = Unit {0}
+HasEarlierChildren t id (Src s a) = s < length t.sources
+HasEarlierChildren t id Fun = Unit {0}
+HasEarlierChildren t id (Cat l r) = (l.0 < id) × (r.0 < id)
+HasEarlierChildren t id (Sub b i) = b.0 < id
+
+-- a span lies inside its pool, its source or its base
+abbrev pub HasSpanInside : Table → ℕ → NodeView → Type 0
+HasSpanInside t n (Lit a) = a + n ≤ length t.pool
+HasSpanInside t n (Src s a) = a + n ≤ get_or t.sources s 0
+HasSpanInside t n Fun = Unit {0}
+HasSpanInside t n (Cat l r) = Unit {0}
+HasSpanInside t n (Sub b i) = i + n ≤ len_at t b.0
+
+pub record IsSoundNode (t : Table) (id : ℕ) (n : Node) : Type 0 where
+  pub children : HasEarlierChildren t id n.view
+  pub not_empty : 1 ≤ n.len
+  pub not_long : n.len < 2 ^ 40
+  pub not_deep : n.depth ≤ 64
+  pub span : HasSpanInside t n.len n.view
+
+pub record IsSound (t : Table) : Type 0 where
+  pub nodes : (id : ℕ) → id < length t.nodes → IsSoundNode t id (node_at t id)
+  pub pool : length t.pool < 2 ^ 32
+  pub sources : (s : ℕ) → get_or t.sources s 0 < 2 ^ 40
+
+-- a concatenation is as long as its children together
+abbrev pub HasTrueLength : Table → ℕ → NodeView → Type 0
+HasTrueLength t n (Lit a) = Unit {0}
+HasTrueLength t n (Src s a) = Unit {0}
+HasTrueLength t n Fun = Unit {0}
+HasTrueLength t n (Cat l r) = n ≡ len_at t l.0 + len_at t r.0
+HasTrueLength t n (Sub b i) = Unit {0}
+
+-- a leaf has depth 0, every other node one more than its deepest child
+abbrev pub depth_of : Table → NodeView → ℕ
+depth_of t (Lit a) = 0
+depth_of t (Src s a) = 0
+depth_of t Fun = 0
+depth_of t (Cat l r) = 1 + max (depth_at t l.0) (depth_at t r.0)
+depth_of t (Sub b i) = 1 + depth_at t b.0
+
+pub record IsTrueNode (t : Table) (n : Node) : Type 0 where
+  pub len : HasTrueLength t n.len n.view
+  pub depth : n.depth ≡ depth_of t n.view
+
+pub record HasTrueRecords (t : Table) : Type 0 where
+  pub nodes : (id : ℕ) → id < length t.nodes → IsTrueNode t (node_at t id)

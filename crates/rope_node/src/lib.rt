@@ -1,0 +1,8 @@
+//! Tables of nodes: the texts that they denote, and what must hold of their records.
+#![tactic(auto)]
+
+mod node;
+mod space;
+
+pub use node::{NodeId, NodeView, Rope};
+pub use space::{NodeSpace, rope_len};

@@ -1,0 +1,4 @@
+pub mod Growth
+pub mod SoundTables
+pub mod GoodRevisions
+pub mod FaithfulImages

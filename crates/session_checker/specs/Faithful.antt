@@ -1,0 +1,33 @@
+-- What an accepted image is: each revision's root denotes the text that its commands give, and each record is true.
+use Rattle.std.specs.Prelude.{◌≡◌, ℕ, ◌<◌, List, length, map}
+use Rattle.rope_node.specs.Table.{len_at, IsSound, HasTrueRecords}
+use Rattle.rope_node.specs.Denotes.{cells, rope_cells, IsRope, text}
+use Rattle.span_certificate.specs.declared.edit.Edit.{Edit}
+use Rattle.span_certificate.specs.Commands.{Givens, IsHistory}
+use Rattle.image_reader.specs.declared.revision.Revision.{Revision}
+use Rattle.image_reader.specs.Value.{ImageValue, table_of}
+use Rattle.session_checker.specs.RevisionRules.{revision_at, HasGoodMark}
+
+-- what the commands take from outside the earlier texts
+abbrev pub givens : ImageValue → Givens ℕ
+givens v = record { pool = v.pool }
+
+abbrev pub commands : ImageValue → List Edit
+commands v = map (λ (r : Revision). r.edit) v.revisions
+
+-- the text of each revision's root, over the sources' bytes
+abbrev pub texts : ImageValue → (ℕ → ℕ → ℕ) → List (List ℕ)
+texts v source = map (λ (r : Revision). text source (rope_cells (table_of v) r.root)) v.revisions
+
+pub record IsFaithful (v : ImageValue) : Type 0 where
+  -- each child is an earlier node, each span lies inside, no length or depth is over its limit
+  pub sound : IsSound (table_of v)
+  -- each recorded length and depth is its node's
+  pub true_records : HasTrueRecords (table_of v)
+  pub lengths : (id : ℕ) → id < length v.nodes → length (cells (table_of v) id) ≡ len_at (table_of v) id
+  -- each root is nil or a node
+  pub roots : (k : ℕ) → k < length v.revisions → IsRope (table_of v) (revision_at v k).root
+  -- each revision's text is what its command gives of the texts before it
+  pub history : (source : ℕ → ℕ → ℕ) → IsHistory (givens v) (commands v) (texts v source)
+  -- each marked root is balanced
+  pub marks : (k : ℕ) → k < length v.revisions → HasGoodMark (table_of v) (revision_at v k)

@@ -1,0 +1,5 @@
+pub mod Codes
+pub mod NodeRules
+pub mod RevisionRules
+pub mod Accepted
+pub mod Faithful

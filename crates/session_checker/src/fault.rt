@@ -1,0 +1,48 @@
+//! Why an image is not accepted.
+
+ghost use Rattle.std.specs.Prelude.{Some};
+ghost use Rattle.session_checker.specs.Codes.{fault_code};
+
+use image_reader::ReadFault;
+use std::fmt;
+
+/// The first fault of an image that is not accepted, printed as its code.
+#[derive(Clone, Copy, Debug, PartialEq, Eq)]
+pub enum CheckFault {
+    /// `C1(I)`: the bytes are no image.
+    Read(ReadFault),
+    /// `C4(node)`: a child is not below its own node.
+    Reference(u32),
+    /// `C5(node)`: the recorded length is 0, over the limit, or not the sum of the children's.
+    Length(u32),
+    /// `C6(node)`: the recorded depth is wrong, or over 64.
+    Depth(u32),
+    /// `C7(node)`: a span is not inside the pool.
+    Span(u32),
+    /// `C8(revision)`: the command is out of range.
+    Command(u32),
+    /// `C9(revision)`: there is no such root, or its length is not the result's.
+    Root(u32),
+    /// `C10(revision)`: a mark on nil or on a root that is not balanced.
+    Mark(u32),
+    /// `C11(revision,row)`: the first row that does not fit, or the number of rows where text is left uncovered.
+    Rows(u32, usize),
+}
+
+impl fmt::Display for CheckFault {
+    ghost output = { λ fault. Some (fault_code fault) };
+
+    fn fmt<W: fmt::Write>(&self, f: &mut fmt::Formatter<W>) -> fmt::Result {
+        match self {
+            CheckFault::Read(fault) => write!(f, "C1({fault})"),
+            CheckFault::Reference(node) => write!(f, "C4({node})"),
+            CheckFault::Length(node) => write!(f, "C5({node})"),
+            CheckFault::Depth(node) => write!(f, "C6({node})"),
+            CheckFault::Span(node) => write!(f, "C7({node})"),
+            CheckFault::Command(revision) => write!(f, "C8({revision})"),
+            CheckFault::Root(revision) => write!(f, "C9({revision})"),
+            CheckFault::Mark(revision) => write!(f, "C10({revision})"),
+            CheckFault::Rows(revision, row) => write!(f, "C11({revision},{row})"),
+        }
+    }
+}

@@ -1,0 +1,12 @@
+//! The checker: a session image that it accepts can be trusted without the editor that wrote it.
+#![tactic(auto)]
+
+mod balance;
+mod checked;
+mod fault;
+mod node_rules;
+mod revision_rules;
+mod tables;
+
+pub use checked::{Checked, check};
+pub use fault::CheckFault;

@@ -1,0 +1,114 @@
+//! The rules that each node has to keep, tested by its record and those of its children.
+
+ghost use Rattle.std.specs.Prelude.{◌≡◌, ◌+◌, ◌<◌, ◌≤◌, ◌↔◌, length, IsTrue, IsOk, IfErr};
+ghost use Rattle.rope_node.specs.Table.{node_at, depth_of, HasEarlierChildren, HasSpanInside, IsSoundNode, IsTrueNode};
+ghost use Rattle.image_reader.specs.Value.{table_of};
+ghost use Rattle.session_checker.specs.NodeRules.{HasGoodLength, HasGoodDepth, Breaks};
+
+use image_reader::Image;
+use rope_node::{NodeId, NodeView};
+
+/// A rule of nodes.
+#[derive(Clone, Copy)]
+pub enum NodeRule {
+    /// Each child is below its own node.
+    Reference,
+    /// The length is not 0, not over the limit, and the sum of the children's.
+    Length,
+    /// The depth follows from the children's and is at most 64.
+    Depth,
+    /// Each span lies inside the pool, the source or the base.
+    Span,
+}
+
+const TEXT_LIMIT: u64 = 1 << 40;
+
+const DEPTH_LIMIT: u32 = 64;
+
+fn has_earlier_children(image: &Image, id: u32, view: NodeView) -> bool
+    ensures { IsTrue result ↔ HasEarlierChildren (table_of image.now) id view }
+{
+    match view {
+        NodeView::Lit { .. } | NodeView::Fun => true,
+        NodeView::Src { s, .. } => s < image.source_count(),
+        NodeView::Cat { l, r } => l.0 < id && r.0 < id,
+        NodeView::Sub { b, .. } => b.0 < id,
+    }
+}
+
+fn has_good_length(image: &Image, id: u32, view: NodeView, len: u64) -> bool
+    requires id { id < length image.now.nodes }
+    requires children { HasEarlierChildren (table_of image.now) id view }
+    ensures { IsTrue result ↔ HasGoodLength (table_of image.now) len view }
+{
+    let is_in_range = len >= 1 && len < TEXT_LIMIT;
+    match view {
+        NodeView::Cat { l, r } => is_in_range
+            && image.len(l).checked_add(image.len(r)) == Some(len),
+        _ => is_in_range,
+    }
+}
+
+/// The depth that follows from the children's.
+fn depth_of(image: &Image, id: u32, view: NodeView) -> u32
+    requires id { id < length image.now.nodes }
+    requires children { HasEarlierChildren (table_of image.now) id view }
+    ensures { result ≡ depth_of (table_of image.now) view }
+{
+    match view {
+        NodeView::Lit { .. } | NodeView::Src { .. } | NodeView::Fun => 0,
+        NodeView::Cat { l, r } => 1 + (image.depth(l) as u32).max(image.depth(r) as u32),
+        NodeView::Sub { b, .. } => 1 + image.depth(b) as u32,
+    }
+}
+
+fn has_good_depth(image: &Image, id: u32, view: NodeView, depth: u8) -> bool
+    requires id { id < length image.now.nodes }
+    requires children { HasEarlierChildren (table_of image.now) id view }
+    ensures { IsTrue result ↔ HasGoodDepth (table_of image.now) depth view }
+{
+    depth as u32 == depth_of(image, id, view) && depth as u32 <= DEPTH_LIMIT
+}
+
+/// Whether the `len` places from `start` on end at `end` or before.
+pub fn is_inside(start: u64, len: u64, end: u64) -> bool
+    ensures { IsTrue result ↔ (start + len ≤ end) }
+{
+    len <= end && start <= end - len
+}
+
+fn has_span_inside(image: &Image, id: u32, view: NodeView, len: u64) -> bool
+    requires id { id < length image.now.nodes }
+    requires children { HasEarlierChildren (table_of image.now) id view }
+    ensures { IsTrue result ↔ HasSpanInside (table_of image.now) len view }
+{
+    match view {
+        NodeView::Lit { a } => is_inside(a, len, image.pool().len() as u64),
+        NodeView::Src { s, a } => is_inside(a, len, image.source_len(s)),
+        NodeView::Fun | NodeView::Cat { .. } => true,
+        NodeView::Sub { b, i } => is_inside(i, len, image.len(b)),
+    }
+}
+
+/// Tests the rules of node `id` in their order, and answers the first that it breaks.
+pub fn check_node(image: &Image, id: NodeId) -> Result<(), NodeRule>
+    requires { id.0 < length image.now.nodes }
+    ensures ok { IsOk result ↔ (IsSoundNode (table_of image.now) id.0 (node_at (table_of image.now) id.0) × IsTrueNode (table_of image.now) (node_at (table_of image.now) id.0)) }
+    ensures err { IfErr result (Breaks (table_of image.now) id.0 (node_at (table_of image.now) id.0)) }
+{
+    let view = image.node(id);
+    let len = image.len(id);
+    if !has_earlier_children(image, id.0, view) {
+        return Err(NodeRule::Reference);
+    }
+    if !has_good_length(image, id.0, view, len) {
+        return Err(NodeRule::Length);
+    }
+    if !has_good_depth(image, id.0, view, image.depth(id)) {
+        return Err(NodeRule::Depth);
+    }
+    if !has_span_inside(image, id.0, view, len) {
+        return Err(NodeRule::Span);
+    }
+    Ok(())
+}

@@ -1,0 +1,98 @@
+//! The node table of an image, once its nodes have passed.
+
+ghost use Rattle.std.specs.Prelude.{◌≡◌, ◌<◌, ◌↔◌, ℕ, length, IfOk, IfErr, IsOk};
+ghost use Rattle.rope_node.specs.Table.{IsSound, HasTrueRecords};
+ghost use Rattle.image_reader.specs.Value.{IsImage, table_of};
+ghost use Rattle.session_checker.specs.NodeRules.{AreGoodNodes, IsGoodNode, IsFirstNodeFault, fault_at};
+
+use crate::fault::CheckFault;
+use crate::node_rules::{NodeRule, check_node};
+use image_reader::Image;
+use rope_node::{NodeId, NodeSpace, NodeView};
+use std::marker::Model;
+
+/// An image's nodes: a sound table with true records.
+#[derive(Drop)]
+pub struct Tables<'a> {
+    image: Image<'a>,
+}
+
+impl<'a> Model for Tables<'a> {
+    ghost use Rattle.image_reader.specs.Value.{ImageValue, IsImage, table_of};
+    ghost use Rattle.rope_node.specs.Table.{IsSound, HasTrueRecords};
+
+    ghost Value = { ImageValue };
+
+    ghost view = { λ a. a.image };
+
+    ghost invariant = { λ a. IsImage a.image × IsSound (table_of a.image) × HasTrueRecords (table_of a.image) };
+}
+
+impl<'a> Tables<'a> {
+    /// The image that the nodes are of.
+    pub fn image(&self) -> &Image<'a>
+        ensures image { result.now ≡ self.now }
+        ensures is_image { IsImage self.now }
+        ensures sound { IsSound (table_of self.now) }
+        ensures true_records { HasTrueRecords (table_of self.now) }
+    {
+        &self.image
+    }
+}
+
+impl NodeSpace for Tables<'_> {
+    ghost table = { table_of };
+
+    fn count(&self) -> u32 {
+        self.image.node_count()
+    }
+
+    fn node(&self, id: NodeId) -> NodeView {
+        self.image.node(id)
+    }
+
+    fn len(&self, id: NodeId) -> u64 {
+        self.image.len(id)
+    }
+
+    fn depth(&self, id: NodeId) -> u8 {
+        self.image.depth(id)
+    }
+}
+
+/// The fault that breaking a rule is.
+fn fault_of(rule: NodeRule, id: u32) -> CheckFault
+    ensures { result ≡ fault_at rule id }
+{
+    match rule {
+        NodeRule::Reference => CheckFault::Reference(id),
+        NodeRule::Length => CheckFault::Length(id),
+        NodeRule::Depth => CheckFault::Depth(id),
+        NodeRule::Span => CheckFault::Span(id),
+    }
+}
+
+/// Tests node by node.
+fn check_nodes(image: &Image) -> Result<(), CheckFault>
+    ensures ok { IsOk result ↔ AreGoodNodes (table_of image.now) }
+    ensures err { IfErr result (IsFirstNodeFault (table_of image.now)) }
+{
+    for id in 0..image.node_count() {
+        if let Err(rule) = check_node(image, NodeId(id)) {
+            return Err(fault_of(rule, id));
+        }
+    }
+    Ok(())
+}
+
+/// The table of an image's nodes, where each keeps the rules. The fault is the first.
+pub fn check_tables<'a>(image: &Image<'a>) -> Result<Tables<'a>, CheckFault>
+    ensures ok { IsOk result ↔ AreGoodNodes (table_of image.now) }
+    ensures value { IfOk result (λ v. v ≡ image.now) }
+    ensures err { IfErr result (IsFirstNodeFault (table_of image.now)) }
+{
+    check_nodes(image)?;
+    Ok(Tables {
+        image: image.same(),
+    })
+}

@@ -1,0 +1,5 @@
+pub mod Descents
+pub mod Spans
+pub mod Describing
+pub mod Covering
+pub mod Verdicts

@@ -1,0 +1,50 @@
+//! The way from a span of a node down to the leaf that it lies in.
+
+ghost use Rattle.std.specs.Prelude.{◌≡◌, ◌+◌, ◌<◌, ◌≤◌, ◌↔◌, length, Some, IfSome};
+ghost use Rattle.rope_node.specs.Table.{len_at};
+ghost use Rattle.span_certificate.specs.Leads.{LeadsToLeaf};
+ghost use Rattle.span_certificate.specs.declared.descent.LeafSpan.{LeafSpan};
+
+use rope_node::{NodeId, NodeSpace, NodeView};
+
+/// Where a span lies in a leaf.
+#[derive(Clone, Copy, Debug, PartialEq, Eq)]
+pub struct LeafSpan {
+    pub leaf: NodeId,
+    /// Its first byte, counted from the leaf's.
+    pub start: u64,
+}
+
+/// The leaf span to which the `len` bytes of `node` from `place` on lead, or nothing where they lie in no one leaf.
+pub fn leaf_span<S: NodeSpace>(space: &S, node: NodeId, place: u64, len: u64) -> Option<LeafSpan>
+    requires there { node.0 < length (S.table space.now).nodes }
+    requires not_empty { 1 ≤ len }
+    requires inside { place + len ≤ len_at (S.table space.now) node.0 }
+    ensures inside { IfSome result (λ s. (s.leaf.0 < length (S.table space.now).nodes) × (s.start + len ≤ len_at (S.table space.now) s.leaf.0)) }
+    ensures leads { (s : LeafSpan) → (result ≡ Some s) ↔ LeadsToLeaf (S.table space.now) len s.leaf.0 s.start node.0 place }
+{
+    let mut leaf = node;
+    let mut start = place;
+    'down: loop {
+        match space.node(leaf) {
+            NodeView::Cat { l, r } => {
+                let left = space.len(l);
+                if left <= start {
+                    leaf = r;
+                    start -= left;
+                } else if len <= left - start {
+                    leaf = l;
+                } else {
+                    return None;
+                }
+            }
+            NodeView::Sub { b, i } => {
+                leaf = b;
+                start += i;
+            }
+            NodeView::Lit { .. } | NodeView::Src { .. } | NodeView::Fun => {
+                return Some(LeafSpan { leaf, start });
+            }
+        }
+    }
+}
