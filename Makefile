@@ -13,6 +13,7 @@ check:
 
 bench:
 	sh bench/check.sh
+	sh bench/show.sh
 
 refuse:
 	sh bench/refuse.sh

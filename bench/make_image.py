@@ -1,13 +1,13 @@
 #!/usr/bin/env python3
-"""Writes a session image of a million nodes to standard output.
+"""Writes a session image to standard output: make_image.py [LITERALS], 500,000 where no number is given.
 
-One insertion whose root is a balanced tree: 500,000 literals of 16 bytes each, joined two by two, with a Leaf row for each.
+One insertion whose root is a balanced tree: literals of 16 bytes each, joined two by two, with a Leaf row for each.
 It knows the format's tables and nothing of the product's code.
 """
 import struct
 import sys
 
-LITERALS = 500_000
+LITERALS = int(sys.argv[1]) if len(sys.argv) > 1 else 500_000
 BYTES = 16
 
 

@@ -1,2 +1,4 @@
 pub mod Output
 pub mod Answers
+pub mod Refusals
+pub mod Words

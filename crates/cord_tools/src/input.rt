@@ -1,8 +1,8 @@
 //! Reading.
 
-ghost use Rattle.std.specs.Prelude.{◌≡◌, ◌≢◌, IfOk, IfErr};
+ghost use Rattle.std.specs.Prelude.{◌≡◌, ◌⊎◌, IfOk, IfErr};
 ghost use Rattle.cord_tools.specs.Answers.{AreRead};
-ghost use Rattle.cord_tools.specs.declared.fault.ToolFault.TheVariants.{Write};
+ghost use Rattle.cord_tools.specs.declared.fault.ToolFault.TheVariants.{Memory, Read};
 
 use crate::fault::ToolFault;
 use std::alloc::Global;
@@ -15,7 +15,7 @@ const IMAGE_LIMIT: u64 = 5_293_213_728;
 /// Reads all the bytes of an image, up to the limit. A longer one is refused by what was read.
 pub fn read_image<R: Read + Drop>(alloc: Global, reader: R) -> Result<Vec<u8>, ToolFault>
     ensures ok { IfOk result (λ v. AreRead (R.remaining reader) v.items) }
-    ensures fault { IfErr result (λ e. e ≢ Write) }
+    ensures fault { IfErr result (λ e. (e ≡ Memory) ⊎ (e ≡ Read)) }
 {
     let mut bytes = Vec::new(alloc);
     match reader.take(IMAGE_LIMIT).read_to_end(&mut bytes) {

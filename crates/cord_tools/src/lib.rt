@@ -1,14 +1,19 @@
 //! The program's tools, each over readers and writers.
 #![tactic(auto)]
 
+mod action;
+mod check;
 mod fault;
 mod input;
 mod output;
+mod show;
 mod status;
-mod stdin;
 #[cfg(test)]
 mod tests;
+pub mod words;
 
+pub use action::Action;
+pub use check::{run_check, run_stdin};
 pub use fault::ToolFault;
+pub use show::run_show;
 pub use status::Status;
-pub use stdin::run_stdin;

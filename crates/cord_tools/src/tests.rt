@@ -1,6 +1,8 @@
 //! The tools over readers and writers that are interrupted, that fail, and that take no more.
 
-use crate::{Status, ToolFault, run_stdin};
+use crate::{Status, ToolFault, run_show, run_stdin};
+use image_reader::ReadFault;
+use session_checker::CheckFault;
 use std::io;
 use std::io::{ErrorKind, Read, Write};
 use std::process::Abort;
@@ -179,4 +181,48 @@ fn an_interrupted_read_or_write_is_made_again(rt: HostRuntime) {
     let outcome = run(&rt, reader, &mut writer);
     assert_eq!(rt; outcome, Ok(Status::Success));
     assert_eq!(rt; writer.taken(), ACCEPTED);
+}
+
+/// Shows a revision of the image. Where memory was refused, nothing was written, and it runs once more.
+fn show(
+    rt: &(impl AllocGlobal + Abort),
+    image: &[u8],
+    revision: u64,
+    writer: &mut Sink,
+) -> Result<(), ToolFault> {
+    let outcome = run_show(rt.alloc(), whole(image), revision, writer);
+    if outcome != Err(ToolFault::Memory) {
+        return outcome;
+    }
+    assert!(rt; writer.taken().is_empty());
+    run_show(rt.alloc(), whole(image), revision, writer)
+}
+
+#[test]
+fn a_revision_is_shown_or_refused(rt: HostRuntime) {
+    let refused = ToolFault::Refused(CheckFault::Read(ReadFault::Truncated));
+    let cut_short = &ONE_INSERT[..ONE_INSERT.len() - 1];
+    let answers: [(&[u8], u64, Result<(), ToolFault>, &[u8]); 5] = [
+        (ONE_INSERT, 0, Ok(()), b""),
+        (ONE_INSERT, 1, Ok(()), b"abc"),
+        (ONE_INSERT, 2, Err(ToolFault::NoRevision), b""),
+        (ONE_INSERT, u64::MAX, Err(ToolFault::NoRevision), b""),
+        (cut_short, 1, Err(refused), b""),
+    ];
+    for (image, revision, expected, text) in answers {
+        let mut writer = Sink::with_room(64, End::Fails);
+        let outcome = show(&rt, image, revision, &mut writer);
+        assert_eq!(rt; outcome, expected);
+        assert_eq!(rt; writer.taken(), text);
+    }
+}
+
+#[test]
+fn a_prefix_is_shown_where_the_writer_fails(rt: HostRuntime) {
+    for room in 0..3 {
+        let mut writer = Sink::with_room(room, End::Fails);
+        let outcome = show(&rt, ONE_INSERT, 1, &mut writer);
+        assert_eq!(rt; outcome, Err(ToolFault::Write));
+        assert_eq!(rt; writer.taken(), &b"abc"[..room]);
+    }
 }

@@ -1,24 +1,69 @@
-//! The program `cordkit`.
+//! The program `cordkit`: it opens what its words name, and ends as its tool says.
 #![tactic(auto)]
 
-use cord_tools::{Status, ToolFault, run_stdin};
-use std::io;
+use cord_tools::words::{WordsFault, words};
+use cord_tools::{Action, Status, ToolFault, run_check, run_show, run_stdin};
+use std::fs::File;
+use std::io::ErrorKind;
 use std::process::ExitCode;
+use std::{env, fs, io};
 
-/// The status of the program, and the word that it prints where a tool was stopped.
-fn finish(rt: &impl Eprint, outcome: Result<Status, ToolFault>) -> ExitCode {
+/// Opens an input.
+fn open(rt: &HostRuntime, path: &str) -> Result<File, ToolFault> {
+    match fs::open(rt, path) {
+        Ok(file) => Ok(file),
+        Err(error) => {
+            if error.kind() == ErrorKind::OutOfMemory {
+                Err(ToolFault::Memory)
+            } else {
+                Err(ToolFault::Read)
+            }
+        }
+    }
+}
+
+/// Does what the words ask for.
+fn run(rt: &HostRuntime, action: &Action) -> Result<Status, ToolFault> {
+    let mut writer = io::writer(rt);
+    match action {
+        Action::CheckInput => run_stdin(rt.alloc(), rt.reader(), &mut writer),
+        Action::Check { image } => run_check(rt.alloc(), open(rt, image)?, &mut writer),
+        Action::Show { image, revision } => {
+            run_show(rt.alloc(), open(rt, image)?, *revision, &mut writer)?;
+            Ok(Status::Success)
+        }
+    }
+}
+
+/// The status of the program. What ended it without its answer goes to standard error.
+fn finish(rt: &HostRuntime, outcome: Result<Status, ToolFault>) -> ExitCode {
     match outcome {
         Ok(Status::Success) => ExitCode::from(0),
         Ok(Status::Failure) => ExitCode::from(1),
         Err(fault) => {
             // There is no other place to tell that standard error is closed.
             let _ = rt.eprintln(fault);
-            ExitCode::from(3)
+            match fault {
+                ToolFault::Refused(_) | ToolFault::NoRevision => ExitCode::from(1),
+                ToolFault::Memory | ToolFault::Read | ToolFault::Write => ExitCode::from(3),
+            }
         }
     }
 }
 
 fn main(rt: HostRuntime) -> ExitCode {
-    let outcome = run_stdin(rt.alloc(), rt.reader(), &mut io::writer(&rt));
-    finish(&rt, outcome)
+    let Ok(given) = env::args(&rt) else {
+        return finish(&rt, Err(ToolFault::Memory));
+    };
+    let Ok(given) = given.collect::<Vec<String>>(rt.alloc()) else {
+        return finish(&rt, Err(ToolFault::Memory));
+    };
+    match words(rt.alloc(), &given) {
+        Ok(action) => finish(&rt, run(&rt, &action)),
+        Err(WordsFault::Memory) => finish(&rt, Err(ToolFault::Memory)),
+        Err(WordsFault::Usage(error)) => {
+            let _ = rt.eprint(error);
+            ExitCode::from(2)
+        }
+    }
 }

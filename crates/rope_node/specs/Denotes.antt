@@ -1,5 +1,5 @@
 -- What a node denotes: a list of cells, each of them a byte or a place of a source.
-use Rattle.std.specs.Prelude.{ℕ, zero, suc, ◌+◌, ◌<◌, List, [], length, ◌++◌, map, take, drop, slice_range, Option, Some, None}
+use Rattle.std.specs.Prelude.{ℕ, zero, suc, ◌+◌, ◌<◌, List, [], length, ◌++◌, map, take, drop, slice_range, get_or, Option, Some, None}
 use Rattle.std.specs.List.{range_with_len}
 use Rattle.rope_node.specs.declared.node.NodeId.{NodeId}
 use Rattle.rope_node.specs.declared.node.NodeView.{NodeView}
@@ -25,6 +25,10 @@ cells_in t (suc steps) id = node_cells t (cells_in t steps) id (len_at t id) (vi
 -- a node's children are earlier nodes, so it needs no more steps than its number and one
 abbrev pub cells : Table → ℕ → List Cell
 cells t id = cells_in t (suc id) id
+
+-- the cell at a place
+abbrev pub cell_at : Table → ℕ → ℕ → Cell
+cell_at t id i = get_or (cells t id) i (Byte 0)
 
 abbrev pub rope_cells : Table → Option NodeId → List Cell
 rope_cells t None = []

@@ -1,5 +1,6 @@
 -- The path from a node to the leaf that holds a place, counted in nodes.
-use Rattle.std.specs.Prelude.{ℕ, zero, suc, ◌+◌, ◌-◌, nat_lt, if◌then◌else◌}
+use Rattle.std.specs.Prelude.{ℕ, zero, suc, ◌+◌, ◌-◌, nat_lt, if◌then◌else◌, Option, Some, None}
+use Rattle.rope_node.specs.declared.node.NodeId.{NodeId}
 use Rattle.rope_node.specs.declared.node.NodeView.{NodeView}
 use Rattle.rope_node.specs.declared.node.NodeView.TheVariants.{Lit, Src, Fun, Cat, Sub}
 use Rattle.rope_node.specs.Table.{Table, view_at, len_at}
@@ -18,3 +19,8 @@ visits_in t (suc steps) id i = node_visits t (visits_in t steps) i (view_at t id
 
 abbrev pub visits : Table → ℕ → ℕ → ℕ
 visits t id i = visits_in t (suc id) id i
+
+-- the visits from a rope's root on; past its end there are none
+abbrev pub rope_visits : Table → Option NodeId → ℕ → ℕ
+rope_visits t None i = 0
+rope_visits t (Some id) i = if nat_lt i (len_at t id.0) then visits t id.0 i else 0

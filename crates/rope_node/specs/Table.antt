@@ -1,5 +1,5 @@
 -- A table of nodes: what each node is, which tables are sound, and which records are true.
-use Rattle.std.specs.Prelude.{◌≡◌, ℕ, ◌+◌, ◌^◌, ◌<◌, ◌≤◌, max, List, length, get_or}
+use Rattle.std.specs.Prelude.{◌≡◌, ℕ, ◌+◌, ◌^◌, ◌<◌, ◌≤◌, max, List, [], length, get_or, slice_range}
 use Rattle.rope_node.specs.declared.node.NodeView.{NodeView}
 use Rattle.rope_node.specs.declared.node.NodeView.TheVariants.{Lit, Src, Fun, Cat, Sub}
 
@@ -82,3 +82,25 @@ pub record IsTrueNode (t : Table) (n : Node) : Type 0 where
 
 pub record HasTrueRecords (t : Table) : Type 0 where
   pub nodes : (id : ℕ) → id < length t.nodes → IsTrueNode t (node_at t id)
+
+abbrev pub IsLiteral : NodeView → Type 0
+IsLiteral (Lit a) = Unit {0}
+IsLiteral (Src s a) = ⊥
+IsLiteral Fun = ⊥
+IsLiteral (Cat l r) = ⊥
+IsLiteral (Sub b i) = ⊥
+
+-- the bytes of a literal of length n from its byte off on
+abbrev pub literal_bytes : Table → ℕ → ℕ → NodeView → List ℕ
+literal_bytes t off n (Lit a) = slice_range t.pool (a + off) (a + n)
+literal_bytes t off n (Src s a) = []
+literal_bytes t off n Fun = []
+literal_bytes t off n (Cat l r) = []
+literal_bytes t off n (Sub b i) = []
+
+abbrev pub IsLeaf : NodeView → Type 0
+IsLeaf (Lit a) = Unit {0}
+IsLeaf (Src s a) = Unit {0}
+IsLeaf Fun = Unit {0}
+IsLeaf (Cat l r) = ⊥
+IsLeaf (Sub b i) = ⊥

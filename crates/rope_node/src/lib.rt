@@ -2,7 +2,9 @@
 #![tactic(auto)]
 
 mod node;
+mod path;
 mod space;
 
 pub use node::{NodeId, NodeView, Rope};
+pub use path::{LeafPlace, find_leaf};
 pub use space::{NodeSpace, rope_len};

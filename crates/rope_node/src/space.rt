@@ -2,7 +2,7 @@
 
 ghost use Rattle.std.specs.Prelude.{◌≡◌, ◌<◌, ◌≤◌, ◌^◌, length};
 ghost use Rattle.rope_node.specs.Denotes.{rope_len, IsRope};
-ghost use Rattle.rope_node.specs.Table.{Table, view_at, len_at, depth_at, IsSound, HasTrueRecords};
+ghost use Rattle.rope_node.specs.Table.{Table, view_at, len_at, depth_at, IsSound, HasTrueRecords, IsLiteral, literal_bytes};
 
 use crate::node::{NodeId, NodeView, Rope};
 
@@ -34,6 +34,13 @@ pub trait NodeSpace {
         requires { id.0 < length (table self.now).nodes }
         ensures value { result ≡ depth_at (table self.now) id.0 }
         ensures limit { result ≤ 64 };
+
+    /// A literal's bytes from its byte `off` on.
+    fn literal(&self, id: NodeId, off: u64) -> &[u8]
+        requires there { id.0 < length (table self.now).nodes }
+        requires literal { IsLiteral (view_at (table self.now) id.0) }
+        requires inside { off ≤ len_at (table self.now) id.0 }
+        ensures { result.now ≡ literal_bytes (table self.now) off (len_at (table self.now) id.0) (view_at (table self.now) id.0) };
 }
 
 /// The length of a rope in bytes, 0 for nil.

@@ -2,3 +2,4 @@ pub mod Growth
 pub mod SoundTables
 pub mod GoodRevisions
 pub mod FaithfulImages
+pub mod Fetches

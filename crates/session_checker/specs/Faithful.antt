@@ -1,7 +1,8 @@
 -- What an accepted image is: each revision's root denotes the text that its commands give, and each record is true.
-use Rattle.std.specs.Prelude.{◌≡◌, ℕ, ◌<◌, List, length, map}
+use Rattle.std.specs.Prelude.{◌≡◌, ℕ, ◌<◌, List, [], length, map, get_or}
 use Rattle.rope_node.specs.Table.{len_at, IsSound, HasTrueRecords}
 use Rattle.rope_node.specs.Denotes.{cells, rope_cells, IsRope, text}
+use Rattle.rope_node.specs.Path.{rope_visits}
 use Rattle.span_certificate.specs.declared.edit.Edit.{Edit}
 use Rattle.span_certificate.specs.Commands.{Givens, IsHistory}
 use Rattle.image_reader.specs.declared.revision.Revision.{Revision}
@@ -18,6 +19,14 @@ commands v = map (λ (r : Revision). r.edit) v.revisions
 -- the text of each revision's root, over the sources' bytes
 abbrev pub texts : ImageValue → (ℕ → ℕ → ℕ) → List (List ℕ)
 texts v source = map (λ (r : Revision). text source (rope_cells (table_of v) r.root)) v.revisions
+
+-- the text of revision k, where there is one
+abbrev pub text_of : ImageValue → (ℕ → ℕ → ℕ) → ℕ → List ℕ
+text_of v source k = get_or (texts v source) k []
+
+-- how many nodes are visited for the byte at i of revision k's text
+abbrev pub fetch_visits : ImageValue → ℕ → ℕ → ℕ
+fetch_visits v k i = rope_visits (table_of v) (revision_at v k).root i
 
 pub record IsFaithful (v : ImageValue) : Type 0 where
   -- each child is an earlier node, each span lies inside, no length or depth is over its limit

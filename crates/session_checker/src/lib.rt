@@ -10,3 +10,6 @@ mod tables;
 
 pub use checked::{Checked, check};
 pub use fault::CheckFault;
+
+#[cfg(test)]
+mod tests;

@@ -58,6 +58,16 @@ impl NodeSpace for Tables<'_> {
     fn depth(&self, id: NodeId) -> u8 {
         self.image.depth(id)
     }
+
+    fn literal(&self, id: NodeId, off: u64) -> &[u8] {
+        match self.image.node(id) {
+            NodeView::Lit { a } => {
+                let len = self.image.len(id);
+                &self.image.pool()[(a + off) as usize..(a + len) as usize]
+            }
+            _ => unreachable!(),
+        }
+    }
 }
 
 /// The fault that breaking a rule is.

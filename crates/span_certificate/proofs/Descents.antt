@@ -1,11 +1,11 @@
 -- Descents: what a lead says at each kind of node, and what stays true on the way down.
-use Rattle.std.proofs.Common.{◌≡◌, ℕ, ◌+◌, ◌-◌, ◌<◌, ◌≤◌, ◌⊎◌, inl, inr, length, sym, subst, ◌∙◌, arith}
+use Rattle.std.proofs.Common.{◌≡◌, ℕ, ◌+◌, ◌-◌, ◌<◌, ◌≤◌, ◌⊎◌, inl, inr, length, subst, arith}
 use Rattle.rope_node.specs.declared.node.NodeId.{NodeId}
 use Rattle.rope_node.specs.declared.node.NodeView.{NodeView}
 use Rattle.rope_node.specs.declared.node.NodeView.TheVariants.{Lit, Src, Fun, Cat, Sub}
-use Rattle.rope_node.specs.Table.{Table, view_at, len_at, IsSound, HasTrueRecords}
+use Rattle.rope_node.specs.Table.{Table, view_at, len_at, IsLeaf, IsSound, HasTrueRecords}
 use Rattle.span_certificate.specs.declared.descent.LeafSpan.{LeafSpan}
-use Rattle.span_certificate.specs.Leads.{Leads, here, in_left, in_right, in_base, IsLeaf, LeadsToLeaf}
+use Rattle.span_certificate.specs.Leads.{Leads, here, in_left, in_right, in_base, LeadsToLeaf}
 
 -- a concatenation is no leaf
 not_leaf_cat : (v : NodeView) (l r : NodeId) → v ≡ Cat l r → IsLeaf v → ⊥
@@ -113,9 +113,3 @@ over_border t n y q x p k o l r e before behind way lead =
 -- a descent that has come to a leaf has found the one leaf span
 pub found_leaf : (t : Table) (n y q x p : ℕ) (s : LeafSpan) → IsLeaf (view_at t x) → IsOnTheWay t n y q x p → LeadsToLeaf t n s.leaf.0 s.start y q → (x ≡ s.leaf.0) × (p ≡ s.start)
 found_leaf t n y q x p s leaf way lead = at_leaf (way.forth s.leaf.0 s.start lead).0 leaf
-
--- the kinds of node at which a descent ends
-pub is_leaf_of : (v w : NodeView) → ((a : ℕ) × (v ≡ Lit a)) ⊎ (((s : ℕ) × (a : ℕ) × (v ≡ Src s a)) ⊎ (v ≡ Fun)) → v ≡ w → IsLeaf w
-is_leaf_of v w (inl (a, is)) e = subst IsLeaf (sym is ∙ e) tt
-is_leaf_of v w (inr (inl (s, a, is))) e = subst IsLeaf (sym is ∙ e) tt
-is_leaf_of v w (inr (inr is)) e = subst IsLeaf (sym is ∙ e) tt

@@ -3,7 +3,7 @@ use Rattle.std.specs.Prelude.{◌≡◌, ℕ, ◌+◌, ◌-◌, ◌≤◌, Optio
 use Rattle.rope_node.specs.declared.node.NodeId.{NodeId}
 use Rattle.rope_node.specs.declared.node.NodeView.{NodeView}
 use Rattle.rope_node.specs.declared.node.NodeView.TheVariants.{Lit, Src, Fun, Cat, Sub}
-use Rattle.rope_node.specs.Table.{Table, view_at, len_at}
+use Rattle.rope_node.specs.Table.{Table, view_at, len_at, IsLeaf}
 use Rattle.span_certificate.specs.declared.describe.Description.{Description}
 use Rattle.span_certificate.specs.declared.describe.Description.TheVariants.{Pooled, Sourced}
 use Rattle.span_certificate.specs.declared.part.Part.{Part}
@@ -15,13 +15,6 @@ pub data Leads (t : Table) (n k o : ℕ) : ℕ → ℕ → Type 0 where
   in_left : {x p : ℕ} (l r : NodeId) → view_at t x ≡ Cat l r → p + n ≤ len_at t l.0 → Leads t n k o l.0 p → Leads t n k o x p
   in_right : {x p : ℕ} (l r : NodeId) → view_at t x ≡ Cat l r → len_at t l.0 ≤ p → Leads t n k o r.0 (p - len_at t l.0) → Leads t n k o x p
   in_base : {x p : ℕ} (b : NodeId) (i : ℕ) → view_at t x ≡ Sub b i → Leads t n k o b.0 (p + i) → Leads t n k o x p
-
-abbrev pub IsLeaf : NodeView → Type 0
-IsLeaf (Lit a) = Unit {0}
-IsLeaf (Src s a) = Unit {0}
-IsLeaf Fun = Unit {0}
-IsLeaf (Cat l r) = ⊥
-IsLeaf (Sub b i) = ⊥
 
 abbrev pub LeadsToLeaf : Table → ℕ → ℕ → ℕ → ℕ → ℕ → Type 0
 LeadsToLeaf t n k o x p = Leads t n k o x p × IsLeaf (view_at t k)

@@ -1,8 +1,9 @@
-use Rattle.std.proofs.Common.{◌≡◌, ℕ, ◌^◌, ◌<◌, Some, refl, sym, ap, ◌∙◌, arith}
-use Rattle.rope_node.specs.Table.{len_at, view_at}
+use Rattle.std.proofs.Common.{◌≡◌, ℕ, ◌^◌, ◌<◌, Some, refl, sym, ap, subst, ◌∙◌, arith}
+use Rattle.rope_node.specs.Table.{len_at, IsLeaf}
+use Rattle.rope_node.proofs.Paths.{is_leaf_of}
 use Rattle.span_certificate.specs.declared.descent.LeafSpan.{LeafSpan}
 use Rattle.span_certificate.specs.Leads.{here}
-use Rattle.span_certificate.proofs.Descents.{goes_left, goes_right, goes_down, over_border, found_leaf, is_leaf_of, base_of_sub}
+use Rattle.span_certificate.proofs.Descents.{goes_left, goes_right, goes_down, over_border, found_leaf, base_of_sub}
 use Rattle.span_certificate.proofs.descent.leaf_span.Goals as goal
 
 pub down-preserved-then-left-start : goal.down-preserved-then-left-start
@@ -30,7 +31,7 @@ overflow_add-start g c =
 pub returns-in-Lit-clause-leads : goal.returns-in-Lit-clause-leads
 returns-in-Lit-clause-leads g c =
     let t = g.S.NodeSpace.table c.args.space.now in
-    let leaf = is_leaf_of c.node.result (view_at t c.down.leaf.0) c.in-Lit.is c.node.ensures.view in
+    let leaf = subst IsLeaf c.node.ensures.view (is_leaf_of c.node.result c.in-Lit.is) in
     λ s. (
       λ e. let leaf_is : c.down.leaf.0 ≡ s.leaf.0 = cc in let start_is : c.down.start ≡ s.start = cc in
           rw (← leaf_is, ← start_is) (c.down.invariant.back c.down.leaf.0 c.down.start (here refl refl, leaf)),

@@ -39,7 +39,7 @@ fn answer(alloc: Global, bytes: &[u8]) -> Result<(String, Status), AllocError>
 }
 
 /// Checks the image that the reader gives, and writes one line: `accepted R revisions N nodes K rows` or `refused CODE`.
-pub fn run_stdin<R: io::Read + Drop, W: io::Write>(
+pub fn run_check<R: io::Read + Drop, W: io::Write>(
     alloc: Global,
     reader: R,
     writer: &mut W,
@@ -53,4 +53,15 @@ pub fn run_stdin<R: io::Read + Drop, W: io::Write>(
     };
     write_bytes(writer, line.as_bytes())?;
     Ok(status)
+}
+
+/// The check of standard input.
+pub fn run_stdin<R: io::Read + Drop, W: io::Write>(
+    alloc: Global,
+    reader: R,
+    writer: &mut W,
+) -> Result<Status, ToolFault>
+    ensures { ChecksInput (R.remaining reader) (W.contents writer.old) (W.contents writer.new) result }
+{
+    run_check(alloc, reader, writer)
 }

@@ -1,0 +1,87 @@
+-- The program's command line, and what an action holds of it.
+use Rattle.std.specs.Prelude.{◌≡◌, ◌⊎◌, ◌∷◌, ⊤, ℕ, true, List, [], Option, Some, None, Ok, codes, map, unwrap_or}
+use Rattle.std.specs.Prelude.{String, string_bytes}
+use Rattle.std.specs.Str.Parse.{ParsesUnsigned}
+use Rattle.std.specs.declared.num.ParseIntError.{ParseIntError}
+use Rattle.clap.specs.Words.{App, Kinds, Row, Rule, Text, fault_of, first_of, new_app}
+use Rattle.clap.specs.Words.{new_rule, with_rule, with_subcommand}
+use Rattle.clap.specs.Kinds.{or_else}
+use Rattle.clap.specs.declared.error.kind.ErrorKind.TheVariants.{ValueValidation}
+use Rattle.cord_tools.specs.declared.action.Action.{Action}
+use Rattle.cord_tools.specs.declared.action.Action.TheVariants.{CheckInput, Check, Show}
+
+-- ---- the words that the program takes
+
+abbrev pub required_rule : Text → Rule
+required_rule id = record (new_rule id) { required = true }
+
+abbrev pub image_rule : Rule
+image_rule = required_rule (codes "IMAGE")
+
+abbrev pub revision_rule : Rule
+revision_rule = required_rule (codes "REV")
+
+-- `check IMAGE`
+abbrev pub check_app : App
+check_app = with_rule (new_app (codes "check")) image_rule
+
+-- `show IMAGE REV`
+abbrev pub show_app : App
+show_app = with_rule (with_rule (new_app (codes "show")) image_rule) revision_rule
+
+unfoldable pub cordkit_app : App
+cordkit_app = with_subcommand (with_subcommand (new_app (codes "cordkit")) check_app.top)
+    show_app.top
+
+-- ---- what was given
+
+-- the words of a command line as texts
+abbrev pub line_of : {Z : Type 0} → List (String Z) → List Text
+line_of = map string_bytes
+
+-- the text of an argument, and the empty text where it has none
+abbrev pub text_of : List Row → Text → Text
+text_of rows id = unwrap_or (first_of id rows) []
+
+-- the text reads as this `u64`
+abbrev pub ReadsAs : Text → ℕ → Type 0
+ReadsAs t n = ParsesUnsigned {E = ParseIntError} 64 10 t (Ok n)
+
+abbrev pub IsNumber : Text → Type 0
+IsNumber t = (n : ℕ) × ReadsAs t n
+
+-- this subcommand was given, with such arguments
+abbrev pub Gives : Option (Text × List Row) → Text → (List Row → Type 0) → Type 0
+Gives given name P = (rows : List Row) × (given ≡ Some (name, rows)) × P rows
+
+-- the action is the subcommand that was given, with the texts and the numbers of its arguments
+abbrev pub Holds : Option (Text × List Row) → Action → Type 0
+Holds given CheckInput = given ≡ None
+Holds given (Check image) = Gives given (codes "check") (λ rows.
+    image.now ≡ text_of rows (codes "IMAGE"))
+Holds given (Show image revision) = Gives given (codes "show") (λ rows.
+    (image.now ≡ text_of rows (codes "IMAGE")) × ReadsAs (text_of rows (codes "REV")) revision)
+
+abbrev pub IsOneOf : List Text → Text → Type 0
+IsOneOf [] n = ⊥
+IsOneOf (x ∷ xs) n = (n ≡ x) ⊎ IsOneOf xs n
+
+abbrev pub subcommand_names : List Text
+subcommand_names = codes "check" ∷ codes "show" ∷ []
+
+-- the subcommand that was given, if any, is one of the program's own, and not `help`
+abbrev pub IsKnown : Option (Text × List Row) → Type 0
+IsKnown None = ⊤
+IsKnown (Some p) = IsOneOf subcommand_names p.0
+
+-- where this subcommand was given, its arguments are so
+abbrev pub WhereGiven : Option (Text × List Row) → Text → (List Row → Type 0) → Type 0
+WhereGiven given name P = (rows : List Row) → given ≡ Some (name, rows) → P rows
+
+-- each word that stands for a number is one
+pub record NumbersRead (given : Option (Text × List Row)) : Type 0 where
+  pub show : WhereGiven given (codes "show") (λ rows. IsNumber (text_of rows (codes "REV")))
+
+-- the kinds of a refusal: that of clap's first fault, or that of a number that does not read
+abbrev pub refusal_kinds : List Text → Kinds
+refusal_kinds words = or_else (fault_of cordkit_app words) (ValueValidation ∷ [])

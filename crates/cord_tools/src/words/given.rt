@@ -1,0 +1,42 @@
+//! The arguments of a subcommand, as they were given.
+
+ghost use Rattle.std.specs.Prelude.{◌≡◌, ◌∷◌, [], IfOk, IfErr};
+ghost use Rattle.clap.specs.Words.{found_of, rows_of};
+ghost use Rattle.clap.specs.declared.error.kind.ErrorKind.TheVariants.{ValueValidation};
+ghost use Rattle.cord_tools.specs.Words.{IsNumber, ReadsAs, text_of};
+ghost use Rattle.cord_tools.specs.Refusals.{FailsAs};
+
+use super::fault::WordsFault;
+use clap::error::ErrorKind;
+use clap::{ArgMatches, Command};
+use std::alloc::Global;
+
+/// The text of an argument, and the empty text where it has none.
+pub fn text<'a>(given: &ArgMatches<'a>, id: &str) -> &'a str
+    ensures { result.now ≡ text_of (rows_of (found_of given.now)) id.now }
+{
+    given.get_str(id).unwrap_or("")
+}
+
+/// The number of an argument. Where its text is none of 64 bits, the fault is one of `command`.
+pub fn number(
+    alloc: Global,
+    command: &mut Command<'_>,
+    given: &ArgMatches<'_>,
+    id: &str,
+) -> Result<u64, WordsFault>
+    ensures reads { IfOk result (ReadsAs (text_of (rows_of (found_of given.now)) id.now)) }
+    ensures only_memory { IfErr result (λ f.
+        IsNumber (text_of (rows_of (found_of given.now)) id.now) → f ≡ WordsFault.Memory) }
+    ensures kind { IfErr result (FailsAs (ValueValidation ∷ [])) }
+{
+    let text = text(given, id);
+    match text.parse::<u64>() {
+        Ok(number) => Ok(number),
+        Err(error) => {
+            let message = format!(in alloc; "invalid value '{text}' for '<{id}>': {error}")?;
+            let error = command.error(ErrorKind::ValueValidation, message.as_str())?;
+            Err(WordsFault::Usage(error))
+        }
+    }
+}
