@@ -14,6 +14,7 @@ check:
 bench:
 	sh bench/check.sh
 	sh bench/show.sh
+	cd crates/cord_bench && rt run
 
 refuse:
 	sh bench/refuse.sh

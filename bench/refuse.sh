@@ -26,25 +26,42 @@ is_stopped() {
     count=$((count + 1))
 }
 
-# The runs past the last allocation give the answer. One run that does could have lived without the memory: it takes four.
-number=1
-answered=0
-while [ "$answered" -lt 4 ]; do
-    status=0
-    rt try --fail-alloc "$number" < stdin > "$out" 2> "$err" || status=$?
-    if [ "$status" = 0 ] && cmp -s "$out" stdout; then
-        answered=$((answered + 1))
-    else
-        answered=0
-        is_stopped "allocation $number" memory
-    fi
-    number=$((number + 1))
-done
+# Each allocation in turn, of the run that these words ask for. The runs past the last allocation give the answer $1. One run that
+# does could have lived without the memory: it takes four.
+refuse_allocations() {
+    right=$1
+    shift
+    number=1
+    answered=0
+    while [ "$answered" -lt 4 ]; do
+        status=0
+        rt try --fail-alloc "$number" -- "$@" < stdin > "$out" 2> "$err" || status=$?
+        if [ "$status" = 0 ] && cmp -s "$out" "$right"; then
+            answered=$((answered + 1))
+        else
+            answered=0
+            is_stopped "allocation $number of $*" memory
+        fi
+        number=$((number + 1))
+    done
+}
+
+cp stdin "$folder/image"
+printf abc > "$folder/abc"
+refuse_allocations stdout
+refuse_allocations stdout check "$folder/image"
+refuse_allocations "$folder/abc" show "$folder/image" 1
 refused=$count
 
 status=0
 "$program" < . > "$out" 2> "$err" || status=$?
 is_stopped "a folder as input" read
+status=0
+"$program" show . 1 > "$out" 2> "$err" || status=$?
+is_stopped "a folder as a file" read
+status=0
+"$program" check "$folder/none" > "$out" 2> "$err" || status=$?
+is_stopped "no such file" read
 status=0
 "$program" <&- > "$out" 2> "$err" || status=$?
 is_stopped "no input" read
@@ -53,6 +70,9 @@ is_stopped "no input" read
 status=0
 "$program" < stdin > /dev/full 2> "$err" || status=$?
 is_stopped "a full device as output" write
+status=0
+"$program" show "$folder/image" 1 > /dev/full 2> "$err" || status=$?
+is_stopped "a full device as output of show" write
 status=0
 "$program" < stdin >&- 2> "$err" || status=$?
 is_stopped "no output" write

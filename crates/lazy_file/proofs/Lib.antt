@@ -1,0 +1,3 @@
+pub mod AgreedBytes
+pub mod MemoryTexts
+pub mod ReadOutcomes

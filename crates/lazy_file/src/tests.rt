@@ -1,0 +1,145 @@
+use super::*;
+use std::process::Abort;
+
+/// Adds a text. Where memory is refused nothing has changed, and the next call goes on.
+fn add<'a>(rt: &impl Abort, sources: &mut MemSources<'a>, text: &'a [u8]) -> Result<u8, AddFault> {
+    let before = sources.count();
+    match sources.add(text) {
+        Err(AddFault::Memory) => {
+            assert_eq!(rt; sources.count(), before);
+            sources.add(text)
+        }
+        outcome => outcome,
+    }
+}
+
+/// The size of source `s`, where there is one.
+fn size_of<S: Sources>(sources: &S, s: u8) -> Option<u64> {
+    (s < sources.count()).then(|| sources.len(s))
+}
+
+/// One source of three bytes, which states no text, and whose first read fails.
+#[derive(Drop)]
+struct FailsOnce {
+    failed: bool,
+}
+
+impl Sources for FailsOnce {
+    ghost use Rattle.std.specs.Prelude.{[], ◌∷◌, None, false, if◌then◌else◌};
+
+    ghost sizes = { λ _. 3 ∷ [] };
+
+    ghost texts = { λ _. None ∷ [] };
+
+    ghost failures = { λ s. if s.failed then 1 else 0 };
+
+    ghost never_fails = { λ _. false };
+
+    fn count(&self) -> u8 {
+        1
+    }
+
+    fn len(&self, _s: u8) -> u64 {
+        3
+    }
+
+    fn read(&mut self, s: u8, off: u64, buffer: &mut [u8]) -> Result<(), SourceFault> {
+        if s > 0 || off > 3 || buffer.len() as u64 > 3 - off {
+            return Err(SourceFault::BadSource);
+        }
+        if !self.failed {
+            self.failed = true;
+            return Err(SourceFault::Device);
+        }
+        buffer.fill(b'x');
+        Ok(())
+    }
+}
+
+/// Reads two bytes of the first source.
+fn read_two<S: Sources>(sources: &mut S, off: u64) -> Result<[u8; 2], SourceFault> {
+    let mut two = [0; 2];
+    sources.read(0, off, &mut two)?;
+    Ok(two)
+}
+
+#[test]
+fn read_after_a_fault_may_succeed(rt: HostRuntime) {
+    let mut sources = FailsOnce { failed: false };
+    assert_eq!(rt; read_two(&mut sources, 2), Err(SourceFault::BadSource));
+    assert_eq!(rt; read_two(&mut sources, 1), Err(SourceFault::Device));
+    assert_eq!(rt; read_two(&mut sources, 1), Ok(*b"xx"));
+    assert_eq!(rt; size_of(&sources, 0), Some(3));
+}
+
+#[test]
+fn texts_in_memory_are_read(rt: HostRuntime) {
+    let mut sources = MemSources::new(rt.alloc());
+    assert_eq!(rt; sources.count(), 0);
+    assert_eq!(rt; add(&rt, &mut sources, b"abcde"), Ok(0));
+    assert_eq!(rt; add(&rt, &mut sources, b"xy"), Ok(1));
+    assert_eq!(rt; sources.count(), 2);
+    assert_eq!(rt; size_of(&sources, 0), Some(5));
+    assert_eq!(rt; size_of(&sources, 1), Some(2));
+    assert_eq!(rt; size_of(&sources, 2), None);
+
+    let mut buffer = *b"...";
+    assert_eq!(rt; sources.read(0, 1, &mut buffer), Ok(()));
+    assert_eq!(rt; &buffer, b"bcd");
+    assert_eq!(rt; sources.read(0, 2, &mut buffer), Ok(()));
+    assert_eq!(rt; &buffer, b"cde");
+    assert_eq!(rt; sources.read(1, 0, &mut buffer[..2]), Ok(()));
+    assert_eq!(rt; &buffer, b"xye");
+    assert_eq!(rt; sources.read(0, 5, &mut []), Ok(()));
+}
+
+#[test]
+fn spans_outside_are_refused(rt: HostRuntime) {
+    let mut sources = MemSources::new(rt.alloc());
+    assert_eq!(rt; add(&rt, &mut sources, b"abcde"), Ok(0));
+    let mut two = [0; 2];
+    for (s, off) in [(0, 4), (0, 5), (0, u64::MAX), (1, 0)] {
+        let outcome = sources.read(s, off, &mut two);
+        assert_eq!(rt; outcome, Err(SourceFault::BadSource), "source {s} at {off}");
+    }
+    assert_eq!(rt; sources.read(0, 6, &mut []), Err(SourceFault::BadSource));
+    assert_eq!(rt; sources.read(1, 0, &mut []), Err(SourceFault::BadSource));
+}
+
+// A text of more than `SOURCE_LIMIT` bytes cannot be made here, so `SourceTooLong` rests on its clause
+// alone.
+#[test]
+fn at_most_255_sources(rt: HostRuntime) {
+    let mut sources = MemSources::new(rt.alloc());
+    for s in 0..255 {
+        assert_eq!(rt; add(&rt, &mut sources, b"a"), Ok(s));
+    }
+    assert_eq!(rt; add(&rt, &mut sources, b""), Err(AddFault::TooManySources));
+    assert_eq!(rt; sources.count(), 255);
+}
+
+#[test]
+fn faults_print_their_codes(rt: HostRuntime) {
+    for (fault, code) in [
+        (SourceFault::Device, "S1"),
+        (SourceFault::Short, "S2"),
+        (SourceFault::BadSource, "S3"),
+        (SourceFault::Memory, "Memory"),
+    ] {
+        // A refusal of memory: the next call goes on.
+        let printed = fault
+            .to_string(rt.alloc())
+            .or_else(|_| fault.to_string(rt.alloc()));
+        assert!(rt; printed.is_ok_and(|text| text.as_str() == code), "{code}");
+    }
+    for (fault, code) in [
+        (AddFault::TooManySources, "S4"),
+        (AddFault::SourceTooLong, "S5"),
+        (AddFault::Memory, "Memory"),
+    ] {
+        let printed = fault
+            .to_string(rt.alloc())
+            .or_else(|_| fault.to_string(rt.alloc()));
+        assert!(rt; printed.is_ok_and(|text| text.as_str() == code), "{code}");
+    }
+}

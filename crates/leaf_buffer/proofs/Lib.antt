@@ -1,0 +1,4 @@
+pub mod Consecutive
+pub mod Growth
+pub mod Pieces
+pub mod Spans

@@ -1,0 +1,4 @@
+pub mod Blocks
+pub mod Codes
+pub mod Contents
+pub mod Progress

@@ -1,0 +1,16 @@
+//! The bytes that leaves of a rope lie in: a pool of blocks that never move, and a cursor over one leaf.
+#![tactic(auto)]
+
+mod block;
+mod fault;
+mod piece;
+mod placed;
+mod pool;
+mod run;
+#[cfg(test)]
+mod tests;
+
+pub use fault::LeafError;
+pub use piece::Piece;
+pub use pool::Pool;
+pub use run::Run;

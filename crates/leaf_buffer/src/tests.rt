@@ -1,0 +1,92 @@
+use crate::{LeafError, Piece, Pool, Run};
+use std::process::Abort;
+
+/// Appends. Where memory is refused, nothing has changed, and the call is made again.
+fn append(rt: &impl Abort, pool: &mut Pool, bytes: &[u8]) -> Result<Piece, LeafError> {
+    let (len, room) = (pool.len(), pool.room());
+    let first = pool.append(bytes);
+    if first != Err(LeafError::Memory) {
+        return first;
+    }
+    assert_eq!(rt; pool.len(), len);
+    assert_eq!(rt; pool.room(), room);
+    pool.append(bytes)
+}
+
+fn piece(start: u32, len: u32) -> Piece {
+    Piece { start, len }
+}
+
+#[test]
+fn pool_takes_extends_and_refuses(rt: HostRuntime) {
+    let long = [b'x'; 65_537];
+    let mut pool = Pool::new(rt.alloc());
+    assert_eq!(&rt; (pool.len(), pool.room()), (0, 0));
+    assert_eq!(&rt; append(&rt, &mut pool, b"abc"), Ok(piece(0, 3)));
+    assert_eq!(&rt; pool.room(), 65_533);
+    assert_eq!(&rt; pool.extend_last(piece(0, 3), b"de"), Some(piece(0, 5)));
+    assert_eq!(&rt; pool.room(), 65_531);
+    assert!(&rt; pool.get(piece(0, 3)) == Some(b"abc".as_slice()));
+    assert_eq!(&rt; pool.extend_last(piece(0, 3), b"x"), None);
+    assert_eq!(&rt;
+        append(&rt, &mut pool, &long[..65_536]),
+        Ok(piece(5, 65_536))
+    );
+    assert_eq!(&rt; pool.room(), 0);
+    assert!(&rt; pool.get(piece(4, 2)).is_none());
+    assert_eq!(&rt; append(&rt, &mut pool, b""), Err(LeafError::Empty));
+    assert_eq!(&rt; append(&rt, &mut pool, &long), Err(LeafError::TooLong));
+    assert_eq!(&rt; pool.len(), 65_541);
+}
+
+#[test]
+fn full_block_is_followed_by_another(rt: HostRuntime) {
+    let full = [b'a'; 65_536];
+    let mut pool = Pool::new(rt.alloc());
+    assert_eq!(&rt; append(&rt, &mut pool, &full), Ok(piece(0, 65_536)));
+    assert_eq!(&rt; pool.room(), 0);
+    assert_eq!(&rt; append(&rt, &mut pool, b"b"), Ok(piece(65_536, 1)));
+    assert_eq!(&rt; pool.room(), 65_535);
+    assert_eq!(&rt;
+        pool.extend_last(piece(65_536, 1), b"c"),
+        Some(piece(65_536, 2))
+    );
+    assert!(&rt; pool.get(piece(65_535, 2)).is_none());
+    assert_eq!(&rt; pool.extend_last(piece(0, 65_536), b"x"), None);
+    assert!(&rt; pool.get(piece(65_536, 2)) == Some(b"bc".as_slice()));
+    assert_eq!(&rt; pool.len(), 65_538);
+    assert_eq!(&rt; pool.rest_of_block(65_537), b"c".as_slice());
+}
+
+#[test]
+fn run_moves_over_text_and_back(rt: HostRuntime) {
+    let mut run = Run::over(b"abc");
+    assert_eq!(&rt; run.skip(5), 3);
+    assert_eq!(&rt; run.next(), None);
+    assert_eq!(&rt; run.back(), Some(0x63));
+    assert_eq!(&rt; run.passed(), 2);
+    assert_eq!(&rt; run.rest(), b"c".as_slice());
+}
+
+#[test]
+fn run_over_no_bytes_stays(rt: HostRuntime) {
+    let mut run = Run::over(b"");
+    assert_eq!(&rt; run.peek(), None);
+    assert_eq!(&rt; run.next(), None);
+    assert_eq!(&rt; run.back(), None);
+    assert_eq!(&rt; run.skip(1), 0);
+}
+
+#[test]
+fn refusals_print_their_codes(rt: HostRuntime) {
+    for (error, code) in [
+        (LeafError::Empty, "L1"),
+        (LeafError::TooLong, "L2"),
+        (LeafError::PoolFull, "L3"),
+        (LeafError::Memory, "Memory"),
+    ] {
+        if let Ok(text) = format!(in rt.alloc(); "{error}") {
+            assert_eq!(&rt; text.as_str(), code);
+        }
+    }
+}
