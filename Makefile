@@ -14,7 +14,7 @@ check:
 bench:
 	sh bench/check.sh
 	sh bench/show.sh
-	cd crates/cord_bench && rt run
+	sh bench/rope.sh
 
 refuse:
 	sh bench/refuse.sh

@@ -26,11 +26,14 @@ is_stopped() {
     count=$((count + 1))
 }
 
-# Each allocation in turn, of the run that these words ask for. The runs past the last allocation give the answer $1. One run that
-# does could have lived without the memory: it takes four.
+# Each allocation in turn, of the run that these words ask for. The runs past the last allocation give the answer $2. One run that
+# does could have lived without the memory: it takes four. The number of refusals is left in the file $1.
 refuse_allocations() {
-    right=$1
-    shift
+    refused=$1
+    right=$2
+    shift 2
+    out=$refused.out
+    err=$refused.err
     number=1
     answered=0
     while [ "$answered" -lt 4 ]; do
@@ -44,14 +47,21 @@ refuse_allocations() {
         fi
         number=$((number + 1))
     done
+    echo "$count" > "$refused"
 }
 
 cp stdin "$folder/image"
 printf abc > "$folder/abc"
-refuse_allocations stdout
-refuse_allocations stdout check "$folder/image"
-refuse_allocations "$folder/abc" show "$folder/image" 1
-refused=$count
+refuse_allocations "$folder/input" stdout &
+first=$!
+refuse_allocations "$folder/check" stdout check "$folder/image" &
+second=$!
+refuse_allocations "$folder/show" "$folder/abc" show "$folder/image" 1 &
+third=$!
+wait "$first"
+wait "$second"
+wait "$third"
+refused=$(($(cat "$folder/input") + $(cat "$folder/check") + $(cat "$folder/show")))
 
 status=0
 "$program" < . > "$out" 2> "$err" || status=$?
@@ -62,6 +72,12 @@ is_stopped "a folder as a file" read
 status=0
 "$program" check "$folder/none" > "$out" 2> "$err" || status=$?
 is_stopped "no such file" read
+status=0
+"$program" check "$folder/image" "$folder/none" > "$out" 2> "$err" || status=$?
+is_stopped "no such source" read
+status=0
+"$program" show "$folder/image" 1 . > "$out" 2> "$err" || status=$?
+is_stopped "a folder as a source" read
 status=0
 "$program" <&- > "$out" 2> "$err" || status=$?
 is_stopped "no input" read
@@ -92,4 +108,4 @@ while [ "$taken" -le "${#answer}" ]; do
     taken=$((taken + 1))
 done
 
-echo "refused: $refused allocations, $((count - refused)) reads and writes; each run was answered"
+echo "refused: $refused allocations, $count reads and writes; each run was answered"

@@ -1,39 +1,16 @@
-//! Times the parts of the program that run once a byte. The numbers differ from run to run, so they go to standard error.
+//! Times what runs often. The numbers differ from run to run, so they go to standard error.
 #![tactic(auto)]
 
+mod pool;
+mod ropes;
+
 use anyhow::Result;
-use leaf_buffer::{LeafError, Piece, Pool};
-use std::time::Instant;
-
-/// How many bytes are appended.
-const COUNT: u32 = 16_000_000;
-
-/// Appends one byte, behind the last piece where its block takes it.
-fn append_byte(pool: &mut Pool, last: Piece) -> Result<Piece, LeafError> {
-    match pool.extend_last(last, b"x") {
-        Some(longer) => Ok(longer),
-        None => pool.append(b"x"),
-    }
-}
-
-/// Appends bytes one at a time.
-fn append_bytes(pool: &mut Pool) -> Result<(), LeafError> {
-    let mut last = pool.append(b"x")?;
-    for _ in 1..COUNT {
-        last = append_byte(pool, last)?;
-    }
-    Ok(())
-}
 
 fn main(rt: HostRuntime) -> Result<()> {
-    let mut pool = Pool::new(rt.alloc());
-    let start = Instant::now(&rt)?;
-    append_bytes(&mut pool)?;
-    let taken = start.elapsed(&rt)?;
-    let bytes = pool.len();
-    eprintln!(rt;
-        "a byte at a time: {bytes} bytes in {} ms",
-        taken.as_millis()
-    )?;
-    Ok(())
+    pool::time(&rt)?;
+    eprintln!(rt; "cordkit's store, {} of each:", ropes::COUNT)?;
+    ropes::time_appends(&rt)?;
+    ropes::time_joins(&rt)?;
+    ropes::time_substrings(&rt)?;
+    ropes::time_fetches(&rt)
 }

@@ -3,9 +3,10 @@ use Rattle.std.specs.Prelude.{◌≡◌, ◌⊎◌, ◌∷◌, ⊤, ℕ, true, L
 use Rattle.std.specs.Prelude.{String, string_bytes}
 use Rattle.std.specs.Str.Parse.{ParsesUnsigned}
 use Rattle.std.specs.declared.num.ParseIntError.{ParseIntError}
-use Rattle.clap.specs.Words.{App, Kinds, Row, Rule, Text, fault_of, first_of, new_app}
+use Rattle.clap.specs.Words.{App, Kinds, Row, Rule, Text, all_of, fault_of, first_of, new_app}
 use Rattle.clap.specs.Words.{new_rule, with_rule, with_subcommand}
 use Rattle.clap.specs.Kinds.{or_else}
+use Rattle.clap.specs.declared.builder.action.ArgAction.TheVariants.{Append}
 use Rattle.clap.specs.declared.error.kind.ErrorKind.TheVariants.{ValueValidation}
 use Rattle.cord_tools.specs.declared.action.Action.{Action}
 use Rattle.cord_tools.specs.declared.action.Action.TheVariants.{CheckInput, Check, Show}
@@ -21,13 +22,18 @@ image_rule = required_rule (codes "IMAGE")
 abbrev pub revision_rule : Rule
 revision_rule = required_rule (codes "REV")
 
--- `check IMAGE`
-abbrev pub check_app : App
-check_app = with_rule (new_app (codes "check")) image_rule
+-- any number of values, none of which is required
+abbrev pub sources_rule : Rule
+sources_rule = record (new_rule (codes "SOURCE")) { action = Some Append }
 
--- `show IMAGE REV`
+-- `check IMAGE [SOURCE]...`
+abbrev pub check_app : App
+check_app = with_rule (with_rule (new_app (codes "check")) image_rule) sources_rule
+
+-- `show IMAGE REV [SOURCE]...`
 abbrev pub show_app : App
-show_app = with_rule (with_rule (new_app (codes "show")) image_rule) revision_rule
+show_app = with_rule (with_rule (with_rule (new_app (codes "show")) image_rule) revision_rule)
+    sources_rule
 
 unfoldable pub cordkit_app : App
 cordkit_app = with_subcommand (with_subcommand (new_app (codes "cordkit")) check_app.top)
@@ -43,6 +49,10 @@ line_of = map string_bytes
 abbrev pub text_of : List Row → Text → Text
 text_of rows id = unwrap_or (first_of id rows) []
 
+-- the texts of an argument in their order, and none where it was not given
+abbrev pub texts_of : List Row → Text → List Text
+texts_of rows id = unwrap_or (all_of id rows) []
+
 -- the text reads as this `u64`
 abbrev pub ReadsAs : Text → ℕ → Type 0
 ReadsAs t n = ParsesUnsigned {E = ParseIntError} 64 10 t (Ok n)
@@ -57,10 +67,11 @@ Gives given name P = (rows : List Row) × (given ≡ Some (name, rows)) × P row
 -- the action is the subcommand that was given, with the texts and the numbers of its arguments
 abbrev pub Holds : Option (Text × List Row) → Action → Type 0
 Holds given CheckInput = given ≡ None
-Holds given (Check image) = Gives given (codes "check") (λ rows.
-    image.now ≡ text_of rows (codes "IMAGE"))
-Holds given (Show image revision) = Gives given (codes "show") (λ rows.
-    (image.now ≡ text_of rows (codes "IMAGE")) × ReadsAs (text_of rows (codes "REV")) revision)
+Holds given (Check image sources) = Gives given (codes "check") (λ rows.
+    (image.now ≡ text_of rows (codes "IMAGE")) × (map (λ s. s.now) sources.items ≡ texts_of rows (codes "SOURCE")))
+Holds given (Show image revision sources) = Gives given (codes "show") (λ rows.
+    (image.now ≡ text_of rows (codes "IMAGE")) × ReadsAs (text_of rows (codes "REV")) revision
+    × (map (λ s. s.now) sources.items ≡ texts_of rows (codes "SOURCE")))
 
 abbrev pub IsOneOf : List Text → Text → Type 0
 IsOneOf [] n = ⊥

@@ -1,12 +1,15 @@
-//! The check of standard input.
+//! The check of an image with its sources.
 
-ghost use Rattle.std.specs.Prelude.{◌≡◌, IfOk, string_bytes};
-ghost use Rattle.cord_tools.specs.Answers.{accepted_line, refused_line, AnswersCheck, ChecksInput};
+ghost use Rattle.std.specs.Prelude.{◌≡◌, [], IfOk, string_bytes};
+ghost use Rattle.cord_tools.specs.Answers.{accepted_line, refused_line, refused_source_line, AnswersCheck, AnswersWith, ChecksInput};
+ghost use Rattle.cord_tools.specs.Sources.{texts_in};
 
 use crate::fault::ToolFault;
 use crate::input::read_image;
 use crate::output::write_bytes;
+use crate::sources::sources_of;
 use crate::status::Status;
+use lazy_file::{AddFault, Sources};
 use rope_node::NodeSpace;
 use session_checker::{CheckFault, Checked, check};
 use std::alloc::{AllocError, Global};
@@ -28,26 +31,52 @@ fn refused_line(alloc: Global, fault: CheckFault) -> Result<String, AllocError>
     format!(in alloc; "refused {fault}\n")
 }
 
-/// The line and the status that answer for an image.
-fn answer(alloc: Global, bytes: &[u8]) -> Result<(String, Status), AllocError>
-    ensures { IfOk result (λ x. AnswersCheck bytes.now (string_bytes x.0) x.1) }
+/// The line that names the refusal of a source.
+fn refused_source_line(alloc: Global, refusal: AddFault) -> Result<String, AllocError>
+    ensures { IfOk result (λ line. string_bytes line ≡ refused_source_line refusal) }
 {
-    match check(bytes) {
+    format!(in alloc; "refused {refusal}\n")
+}
+
+/// The line and the status that answer for an image with its sources.
+fn answer_with<S: Sources>(
+    alloc: Global,
+    bytes: &[u8],
+    sources: &S,
+) -> Result<(String, Status), AllocError>
+    ensures { IfOk result (λ x. AnswersWith bytes.now (S.sizes sources.now) (string_bytes x.0) x.1) }
+{
+    match check(bytes, sources) {
         Ok(image) => Ok((accepted_line(alloc, &image)?, Status::Success)),
         Err(fault) => Ok((refused_line(alloc, fault)?, Status::Failure)),
     }
 }
 
-/// Checks the image that the reader gives, and writes one line: `accepted R revisions N nodes K rows` or `refused CODE`.
+/// The line and the status that answer for an image with sources of these texts.
+fn answer(alloc: Global, bytes: &[u8], texts: &[Vec<u8>]) -> Result<(String, Status), AllocError>
+    ensures { IfOk result (λ x. AnswersCheck bytes.now (texts_in texts.entry.now) (string_bytes x.0) x.1) }
+{
+    match sources_of(alloc, texts) {
+        Ok(sources) => answer_with(alloc, bytes, &sources),
+        Err(ToolFault::Source(refusal)) => {
+            Ok((refused_source_line(alloc, refusal)?, Status::Failure))
+        }
+        Err(_) => Err(AllocError),
+    }
+}
+
+/// Checks the image that the reader gives, with sources of these texts, and writes one line: `accepted R revisions N nodes K rows`
+/// or `refused CODE`.
 pub fn run_check<R: io::Read + Drop, W: io::Write>(
     alloc: Global,
     reader: R,
+    texts: &[Vec<u8>],
     writer: &mut W,
 ) -> Result<Status, ToolFault>
-    ensures { ChecksInput (R.remaining reader) (W.contents writer.old) (W.contents writer.new) result }
+    ensures { ChecksInput (R.remaining reader) (texts_in texts.entry.now) (W.contents writer.old) (W.contents writer.new) result }
 {
     let bytes = read_image(alloc, reader)?;
-    let (line, status) = match answer(alloc, &bytes) {
+    let (line, status) = match answer(alloc, &bytes, texts) {
         Ok(answer) => answer,
         Err(_) => return Err(ToolFault::Memory),
     };
@@ -55,13 +84,13 @@ pub fn run_check<R: io::Read + Drop, W: io::Write>(
     Ok(status)
 }
 
-/// The check of standard input.
+/// The check of standard input, with no sources.
 pub fn run_stdin<R: io::Read + Drop, W: io::Write>(
     alloc: Global,
     reader: R,
     writer: &mut W,
 ) -> Result<Status, ToolFault>
-    ensures { ChecksInput (R.remaining reader) (W.contents writer.old) (W.contents writer.new) result }
+    ensures { ChecksInput (R.remaining reader) [] (W.contents writer.old) (W.contents writer.new) result }
 {
-    run_check(alloc, reader, writer)
+    run_check(alloc, reader, &[], writer)
 }

@@ -1,7 +1,7 @@
 //! Reading.
 
 ghost use Rattle.std.specs.Prelude.{◌≡◌, ◌⊎◌, IfOk, IfErr};
-ghost use Rattle.cord_tools.specs.Answers.{AreRead};
+ghost use Rattle.cord_tools.specs.Answers.{AreRead, AreReadUpTo};
 ghost use Rattle.cord_tools.specs.declared.fault.ToolFault.TheVariants.{Memory, Read};
 
 use crate::fault::ToolFault;
@@ -17,8 +17,20 @@ pub fn read_image<R: Read + Drop>(alloc: Global, reader: R) -> Result<Vec<u8>, T
     ensures ok { IfOk result (λ v. AreRead (R.remaining reader) v.items) }
     ensures fault { IfErr result (λ e. (e ≡ Memory) ⊎ (e ≡ Read)) }
 {
+    read_up_to(alloc, reader, IMAGE_LIMIT)
+}
+
+/// Reads all the bytes, and at most `limit` of them.
+pub fn read_up_to<R: Read + Drop>(
+    alloc: Global,
+    reader: R,
+    limit: u64,
+) -> Result<Vec<u8>, ToolFault>
+    ensures ok { IfOk result (λ v. AreReadUpTo limit (R.remaining reader) v.items) }
+    ensures fault { IfErr result (λ e. (e ≡ Memory) ⊎ (e ≡ Read)) }
+{
     let mut bytes = Vec::new(alloc);
-    match reader.take(IMAGE_LIMIT).read_to_end(&mut bytes) {
+    match reader.take(limit).read_to_end(&mut bytes) {
         Ok(_) => Ok(bytes),
         Err(error) => {
             if error.kind() == ErrorKind::OutOfMemory {

@@ -1,11 +1,14 @@
 //! The tools over readers and writers that are interrupted, that fail, and that take no more.
 
-use crate::{Status, ToolFault, run_show, run_stdin};
+use crate::{Status, ToolFault, read_source, run_check, run_show, run_stdin, sources_of};
 use image_reader::ReadFault;
+use lazy_file::{AddFault, MemSources, Sources};
 use session_checker::CheckFault;
+use std::alloc::{AllocError, Global};
 use std::io;
 use std::io::{ErrorKind, Read, Write};
 use std::process::Abort;
+use std::test::Fail;
 
 /// The image of one insertion of `abc`: its header, node, two revisions, row and pool.
 const ONE_INSERT: &[u8] = b"CORDSESS\0\0\0\x01\0\0\0\0\0\0\0\x01\0\0\0\x02\
@@ -20,6 +23,14 @@ const ONE_INSERT: &[u8] = b"CORDSESS\0\0\0\x01\0\0\0\0\0\0\0\x01\0\0\0\x02\
     \0\0\0\x01\0\0\0\0\
     \x02\0\0\0\0\0\0\0\0\0\0\0\0\0\0\x03\0\0\0\0\0\0\0\0\
     abc";
+
+/// The image of an empty text beside a source of 3 bytes: its header, source and revision.
+const ONE_SOURCE: &[u8] = b"CORDSESS\0\0\0\x01\0\0\0\x01\0\0\0\0\0\0\0\x01\
+    \0\0\0\0\0\0\0\0\0\0\0\0\0\0\0\0\
+    \0\0\0\0\0\0\0\x03\
+    \x01\0\0\0\xff\xff\xff\xff\0\0\0\0\0\0\0\0\0\0\0\0\0\0\0\0\
+    \0\0\0\0\0\0\0\0\0\0\0\0\0\0\0\0\0\0\0\0\0\0\0\0\
+    \0\0\0\0\0\0\0\0";
 
 const ACCEPTED: &[u8] = b"accepted 2 revisions 1 nodes 1 rows\n";
 
@@ -190,12 +201,12 @@ fn show(
     revision: u64,
     writer: &mut Sink,
 ) -> Result<(), ToolFault> {
-    let outcome = run_show(rt.alloc(), whole(image), revision, writer);
+    let outcome = run_show(rt.alloc(), whole(image), &[], revision, writer);
     if outcome != Err(ToolFault::Memory) {
         return outcome;
     }
     assert!(rt; writer.taken().is_empty());
-    run_show(rt.alloc(), whole(image), revision, writer)
+    run_show(rt.alloc(), whole(image), &[], revision, writer)
 }
 
 #[test]
@@ -225,4 +236,144 @@ fn a_prefix_is_shown_where_the_writer_fails(rt: HostRuntime) {
         assert_eq!(rt; outcome, Err(ToolFault::Write));
         assert_eq!(rt; writer.taken(), &b"abc"[..room]);
     }
+}
+
+/// Reads a source. Where memory was refused, it is read once more.
+fn read(rt: &impl AllocGlobal, reader: Source<'_>) -> Result<Vec<u8>, ToolFault> {
+    match read_source(rt.alloc(), reader) {
+        Err(ToolFault::Memory) => read_source(rt.alloc(), reader),
+        outcome => outcome,
+    }
+}
+
+#[test]
+fn a_source_is_read_whole(rt: HostRuntime) {
+    let mut reader = whole(ONE_INSERT);
+    reader.cut = Some(100);
+    reader.kind = ErrorKind::Interrupted;
+    for reader in [whole(ONE_INSERT), reader] {
+        let outcome = read(&rt, reader);
+        assert!(rt; outcome.is_ok_and(|text| text.as_slice() == ONE_INSERT));
+    }
+    let empty = read(&rt, whole(b""));
+    assert!(rt; empty.is_ok_and(|text| text.is_empty()));
+}
+
+#[test]
+fn a_source_that_fails_in_the_middle_is_a_read_fault(rt: HostRuntime) {
+    for cut in [0, 1, 40, 211] {
+        let mut reader = whole(ONE_INSERT);
+        reader.cut = Some(cut);
+        let outcome = read(&rt, reader);
+        assert!(rt;
+            outcome.is_err_and(|fault| fault == ToolFault::Read),
+            "at {cut}"
+        );
+    }
+}
+
+/// Texts of one byte each, which count up from 0.
+fn small_texts(alloc: Global, count: usize) -> Result<Vec<Vec<u8>>, AllocError> {
+    let mut texts = Vec::new(alloc);
+    for i in 0..count {
+        texts.push(Vec::from_slice(alloc, &[(i % 256) as u8])?)?;
+    }
+    Ok(texts)
+}
+
+/// The texts as sources. Where memory was refused, they are gathered once more.
+fn gather<'a>(rt: &impl AllocGlobal, texts: &'a [Vec<u8>]) -> Result<MemSources<'a>, ToolFault> {
+    match sources_of(rt.alloc(), texts) {
+        Err(ToolFault::Memory) => sources_of(rt.alloc(), texts),
+        outcome => outcome,
+    }
+}
+
+#[test]
+fn texts_are_sources_in_their_order(rt: HostRuntime) -> Result<(), Fail> {
+    let alloc = rt.alloc();
+    let texts = small_texts(alloc, 255).or_else(|_| small_texts(alloc, 255))?;
+    let mut sources = gather(&rt, texts.as_slice()).unwrap_or(MemSources::new(alloc));
+    assert_eq!(rt; sources.count(), 255);
+    for s in 0..255 {
+        let mut byte = [0];
+        assert_eq!(rt; sources.read(s, 0, &mut byte), Ok(()));
+        assert_eq!(rt; byte, [s]);
+    }
+    Ok(())
+}
+
+#[test]
+fn more_than_255_texts_are_refused(rt: HostRuntime) -> Result<(), Fail> {
+    let alloc = rt.alloc();
+    let texts = small_texts(alloc, 256).or_else(|_| small_texts(alloc, 256))?;
+    let refused = ToolFault::Source(AddFault::TooManySources);
+    let outcome = gather(&rt, texts.as_slice());
+    assert!(rt; outcome.is_err_and(|fault| fault == refused));
+    let shown = format!(in alloc; "{refused}").or_else(|_| format!(in alloc; "{refused}"))?;
+    assert_eq!(rt; shown.as_str(), "refused S4");
+    Ok(())
+}
+
+/// Checks the image with sources. Where memory was refused, nothing was written, and it runs once more.
+fn check_with(
+    rt: &(impl AllocGlobal + Abort),
+    image: &[u8],
+    texts: &[Vec<u8>],
+    writer: &mut Sink,
+) -> Result<Status, ToolFault> {
+    let outcome = run_check(rt.alloc(), whole(image), texts, writer);
+    if outcome != Err(ToolFault::Memory) {
+        return outcome;
+    }
+    assert!(rt; writer.taken().is_empty());
+    run_check(rt.alloc(), whole(image), texts, writer)
+}
+
+/// One text.
+fn one_text(alloc: Global, text: &[u8]) -> Result<Vec<Vec<u8>>, AllocError> {
+    let mut texts = Vec::new(alloc);
+    texts.push(Vec::from_slice(alloc, text)?)?;
+    Ok(texts)
+}
+
+#[test]
+fn sources_are_counted_and_measured(rt: HostRuntime) -> Result<(), Fail> {
+    let alloc = rt.alloc();
+    let accepted: &[u8] = b"accepted 1 revisions 0 nodes 0 rows\n";
+    let answers: [(&[u8], &[u8], Status); 2] = [
+        (b"abc", accepted, Status::Success),
+        (b"ab", b"refused C3(0)\n", Status::Failure),
+    ];
+    for (text, line, status) in answers {
+        let texts = one_text(alloc, text).or_else(|_| one_text(alloc, text))?;
+        let mut writer = Sink::with_room(64, End::Fails);
+        let outcome = check_with(&rt, ONE_SOURCE, texts.as_slice(), &mut writer);
+        assert_eq!(rt; outcome, Ok(status));
+        assert_eq!(rt; writer.taken(), line);
+    }
+    let mut writer = Sink::with_room(64, End::Fails);
+    let outcome = check_with(&rt, ONE_SOURCE, &[], &mut writer);
+    assert_eq!(rt; outcome, Ok(Status::Failure));
+    assert_eq!(rt; writer.taken(), b"refused C2\n".as_slice());
+    Ok(())
+}
+
+#[test]
+fn a_check_with_256_sources_is_refused(rt: HostRuntime) -> Result<(), Fail> {
+    let alloc = rt.alloc();
+    let texts = small_texts(alloc, 256).or_else(|_| small_texts(alloc, 256))?;
+    let mut writer = Sink::with_room(64, End::Fails);
+    let outcome = check_with(&rt, ONE_INSERT, texts.as_slice(), &mut writer);
+    assert_eq!(rt; outcome, Ok(Status::Failure));
+    assert_eq!(rt; writer.taken(), b"refused S4\n".as_slice());
+    let mut shown = Sink::with_room(64, End::Fails);
+    let refused = ToolFault::Source(AddFault::TooManySources);
+    let mut outcome = run_show(alloc, whole(ONE_INSERT), texts.as_slice(), 1, &mut shown);
+    if outcome == Err(ToolFault::Memory) {
+        outcome = run_show(alloc, whole(ONE_INSERT), texts.as_slice(), 1, &mut shown);
+    }
+    assert_eq!(rt; outcome, Err(refused));
+    assert!(rt; shown.taken().is_empty());
+    Ok(())
 }

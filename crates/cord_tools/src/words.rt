@@ -67,7 +67,7 @@ fn action_of<'a>(
 {
     match matches.subcommand() {
         None => Ok(Action::CheckInput),
-        Some(("check", given)) => Ok(check::action(given)),
+        Some(("check", given)) => Ok(check::action(alloc, given)?),
         Some(("show", given)) => show::action(alloc, command, given),
         Some(_) => unreachable!(),
     }

@@ -1,6 +1,6 @@
 //! An image, and how the check answers it.
 
-ghost use Rattle.std.specs.Prelude.{◌≡◌, ◌↔◌, ◌==◌, not, filter, take, Ok, IfOk, IsTrue, string_bytes};
+ghost use Rattle.std.specs.Prelude.{◌≡◌, ◌↔◌, ◌==◌, [], not, filter, take, Ok, IfOk, IsTrue, string_bytes};
 ghost use Rattle.hex.specs.Hex.{decode_of};
 ghost use Rattle.cord_tools.specs.Answers.{image_limit, AnswersCheck};
 ghost use Rattle.cord_tools.specs.declared.status.Status.TheVariants.{Failure};
@@ -41,7 +41,7 @@ pub struct Answer {
 impl Answer {
     /// The answer to an image.
     pub fn of(alloc: Global, image: &[u8]) -> Result<Answer>
-        ensures { IfOk result (λ answer. AnswersCheck (take image_limit image.now) (string_bytes answer.line) answer.status) }
+        ensures { IfOk result (λ answer. AnswersCheck (take image_limit image.now) [] (string_bytes answer.line) answer.status) }
     {
         let mut written = Vec::new(alloc);
         let status = run_stdin(alloc, image, &mut written)?;

@@ -10,7 +10,7 @@ use image::{Answer, read_hex};
 use std::rt::Files;
 
 /// The names of the images. Each lies in hex in the file `NAME.hex`.
-const NAMES: [&str; 17] = [
+const NAMES: [&str; 24] = [
     "new_alone",
     "one_insert",
     "cut_short_by_one",
@@ -22,12 +22,19 @@ const NAMES: [&str; 17] = [
     "chain_of_four_unmarked",
     "depth_four_length_8",
     "depth_four_length_5",
+    "join_past_the_limit",
+    "substring_of_substring",
+    "substring_depth_wrong",
     "text_left_uncovered",
     "row_past_the_end",
     "header_pad_set",
     "unknown_node_kind",
     "later_version",
     "row_count_too_large",
+    "doubled_to_the_limit",
+    "doubled_past_the_limit",
+    "substrings_of_depth_64",
+    "substrings_of_depth_65",
 ];
 
 fn print_answer(rt: &(impl Files + AllocGlobal + Print), name: &str) -> Result<()> {

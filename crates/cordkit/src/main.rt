@@ -2,7 +2,7 @@
 #![tactic(auto)]
 
 use cord_tools::words::{WordsFault, words};
-use cord_tools::{Action, Status, ToolFault, run_check, run_show, run_stdin};
+use cord_tools::{Action, Status, ToolFault, read_source, run_check, run_show, run_stdin};
 use std::fs::File;
 use std::io::ErrorKind;
 use std::process::ExitCode;
@@ -22,14 +22,34 @@ fn open(rt: &HostRuntime, path: &str) -> Result<File, ToolFault> {
     }
 }
 
-/// Does what the words ask for.
+/// Reads the sources, in the order of their paths.
+fn source_texts(rt: &HostRuntime, paths: &[&str]) -> Result<Vec<Vec<u8>>, ToolFault> {
+    let mut texts = Vec::new(rt.alloc());
+    for path in paths {
+        let text = read_source(rt.alloc(), open(rt, path)?)?;
+        texts.push(text).map_err(|_| ToolFault::Memory)?;
+    }
+    Ok(texts)
+}
+
+/// Does what the words ask for. The image is opened and the sources are read before anything is written.
 fn run(rt: &HostRuntime, action: &Action) -> Result<Status, ToolFault> {
     let mut writer = io::writer(rt);
     match action {
         Action::CheckInput => run_stdin(rt.alloc(), rt.reader(), &mut writer),
-        Action::Check { image } => run_check(rt.alloc(), open(rt, image)?, &mut writer),
-        Action::Show { image, revision } => {
-            run_show(rt.alloc(), open(rt, image)?, *revision, &mut writer)?;
+        Action::Check { image, sources } => {
+            let image = open(rt, image)?;
+            let texts = source_texts(rt, sources.as_slice())?;
+            run_check(rt.alloc(), image, texts.as_slice(), &mut writer)
+        }
+        Action::Show {
+            image,
+            revision,
+            sources,
+        } => {
+            let image = open(rt, image)?;
+            let texts = source_texts(rt, sources.as_slice())?;
+            run_show(rt.alloc(), image, texts.as_slice(), *revision, &mut writer)?;
             Ok(Status::Success)
         }
     }
@@ -44,7 +64,9 @@ fn finish(rt: &HostRuntime, outcome: Result<Status, ToolFault>) -> ExitCode {
             // There is no other place to tell that standard error is closed.
             let _ = rt.eprintln(fault);
             match fault {
-                ToolFault::Refused(_) | ToolFault::NoRevision => ExitCode::from(1),
+                ToolFault::Refused(_) | ToolFault::Source(_) | ToolFault::NoRevision => {
+                    ExitCode::from(1)
+                }
                 ToolFault::Memory | ToolFault::Read | ToolFault::Write => ExitCode::from(3),
             }
         }

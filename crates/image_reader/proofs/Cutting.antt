@@ -1,10 +1,15 @@
 -- Single records of a section.
-use Rattle.std.proofs.Common.{◌≡◌, ℕ, zero, suc, ◌+◌, ◌*◌, ◌<◌, ◌≤◌, List, length, map, take, drop, get_or, Some, refl, sym, ap, ◌∙◌, arith}
+use Rattle.std.proofs.Common.{◌≡◌, ℕ, zero, suc, ◌+◌, ◌*◌, ◌<◌, ◌≤◌, List, [], ◌∷◌, length, map, take, drop, get_or, Option, Some, None, refl, sym, ap, subst, ◌∙◌, arith}
 use Rattle.std.specs.Prelude.{slice_get}
 use Rattle.std.proofs.Math.Nat.{mul-suc, mul-zero, mul-le-mul_left}
-use Rattle.std.proofs.lemmas.List.{drop-drop}
-use Rattle.std.proofs.lemmas.Option.{get_or_from_slice_get}
+use Rattle.std.specs.List.{AllByRecursion}
+use Rattle.std.specs.Option.{option_map}
+use Rattle.std.proofs.lemmas.List.{drop-drop, length-map}
+use Rattle.std.proofs.lemmas.Option.{get_or_from_slice_get, slice_get-map}
+use Rattle.image_reader.specs.declared.fault.ReadFault.{ReadFault}
 use Rattle.image_reader.specs.Layout.{records}
+use Rattle.image_reader.specs.Reading.{first_fault}
+use Rattle.image_reader.proofs.Faults.{else_none}
 
 pub length-map-records : {X : Type 0} (f : List ℕ → X) (size n : ℕ) (bytes : List ℕ) → length (map f (records size n bytes)) ≡ n
 unfolding records
@@ -42,3 +47,29 @@ read_at f g size count i bytes xs d cell y c lt is e = e ∙ ap (λ (b : List �
 
 pub got_at : {X : Type 0} (f : List ℕ → X) (size count i : ℕ) (bytes : List ℕ) (xs : List X) (cell : List ℕ) (x : X) → IsCut f size count bytes xs → i < length xs → cell ≡ take size (drop (size * i) bytes) → x ≡ f cell → slice_get xs i ≡ Some x
 got_at f size count i bytes xs cell x c lt is e = c.holds i lt ∙ ap Some (ap f (sym is) ∙ sym e)
+
+-- the same of what g reads from xs
+pub cut_map : {X Y : Type 0} (f : List ℕ → X) (g : X → Y) (size count : ℕ) (bytes : List ℕ) (xs : List X) → IsCut f size count bytes xs → IsCut (λ (b : List ℕ). g (f b)) size count bytes (map g xs)
+cut_map f g size count bytes xs c =
+    let same = length-map xs g in
+    record {
+      counted = c.counted ∙ sym same;
+      inside = λ i lt. c.inside i (omega (arith, same));
+      holds = λ i lt. slice_get-map g xs i ∙ ap (option_map g) (c.holds i (omega (arith, same)));
+    }
+
+-- each record of a section without a fault has none
+pub no_fault_at : (fault : List ℕ → Option ReadFault) (size n i : ℕ) (bytes : List ℕ) → i < n → first_fault fault (records size n bytes) ≡ None → fault (take size (drop (size * i) bytes)) ≡ None
+unfolding records first_fault
+no_fault_at fault size zero i bytes lt none = absurd (omega arith)
+no_fault_at fault size (suc n) zero bytes lt none = rw mul-zero (else_none _ _ none).0
+no_fault_at fault size (suc n) (suc i) bytes lt none =
+    let others = no_fault_at fault size n i (drop size bytes) (omega arith) (else_none _ _ none).1 in
+    let same : drop (size * i) (drop size bytes) ≡ drop (size * suc i) bytes = drop-drop (size * i) size bytes ∙ ap (λ (k : ℕ). drop k bytes) (rw mul-suc (omega arith)) in
+    rw same at others
+
+-- what holds of all holds of the one at a place
+pub all_at : {X : Type 0} (P : X → Type 0) (xs : List X) (i : ℕ) (x : X) → AllByRecursion P xs → slice_get xs i ≡ Some x → P x
+all_at P [] i x all e = absurd cc
+all_at P (y ∷ ys) zero x all e = let same : y ≡ x = cc in subst P same all.0
+all_at P (y ∷ ys) (suc i) x all e = all_at P ys i x all.1 e

@@ -12,6 +12,11 @@ pub fault_if_none : (b : Bool) (f : ReadFault) → fault_if b f ≡ None → b �
 fault_if_none true f e = absurd cc
 fault_if_none false f e = refl
 
+pub zero_first : (n : ℕ) (ns : List ℕ) → any_nonzero (n ∷ ns) ≡ false → (n ≡ 0) × (any_nonzero ns ≡ false)
+zero_first n ns e =
+    let parts = or_parts (not (eqb n 0)) (any_nonzero ns) e in
+    (eqb-true n 0 (not-false (eqb n 0) parts.0), parts.1)
+
 abbrev pub AreZero : List ℕ → Type 0
 AreZero [] = Unit {0}
 AreZero (n ∷ ns) = (n ≡ 0) × AreZero ns
@@ -19,5 +24,5 @@ AreZero (n ∷ ns) = (n ≡ 0) × AreZero ns
 pub are_zero : (ns : List ℕ) → any_nonzero ns ≡ false → AreZero ns
 are_zero [] e = tt
 are_zero (n ∷ ns) e =
-    let parts = or_parts (not (eqb n 0)) (any_nonzero ns) e in
-    (eqb-true n 0 (not-false (eqb n 0) parts.0), are_zero ns parts.1)
+    let parts = zero_first n ns e in
+    (parts.0, are_zero ns parts.1)

@@ -5,7 +5,10 @@ pub mod Fields
 pub mod Faults
 pub mod Records
 pub mod RevisionRecords
+pub mod Payloads
+pub mod FunctionRecords
 pub mod NodeRecords
+pub mod Nodes
 pub mod SectionLaws
 pub mod WholeImages
 pub mod RowSpans

@@ -14,7 +14,7 @@ use Rattle.image_reader.specs.Limits.{magic, most_sources, most_nodes, most_revi
 use Rattle.image_reader.specs.Layout.{IsBytes, spelled, number_in, records}
 use Rattle.image_reader.specs.Value.{ImageValue, IsImage, FitsSource, FitsNode, FitsRevision, FitsRow}
 use Rattle.image_reader.specs.Spelling.{header_layout, header_numbers, source_spelling, node_spelling, revision_spelling, row_spelling, spelling}
-use Rattle.image_reader.specs.Reading.{HasHeader, HasRoom, source_of, node_of, revision_of, row_of, source_count, node_count, revision_count, row_count, pool_len, stated_len, is_over_limit, from_sources, from_nodes, from_revisions, from_rows, from_pool, sections_value, image_of, header_fault, source_fault, node_fault, revision_fault, row_fault, counted_rows, sections_fault, fault_of}
+use Rattle.image_reader.specs.Reading.{HasHeader, HasRoom, source_of, node_of, revision_of, row_of, source_count, node_count, revision_count, row_count, pool_len, stated_len, is_over_limit, from_sources, from_nodes, from_revisions, from_rows, from_pool, sections_value, image_of, header_fault, source_fault, node_fault, revision_fault, row_fault, counted_rows, first_fault, sections_fault, fault_of}
 use Rattle.image_reader.proofs.Faults.{else_none, fault_if_none}
 use Rattle.image_reader.proofs.Cutting.{length-map-records}
 use Rattle.image_reader.proofs.Fields.{AreWide, FitFields, wide32, wide64, IsBytes-drop, numbers_from, spelled_back, spelled_again, length-spelled}
@@ -223,11 +223,12 @@ is_only bytes (Err f) fault value v is spelled_so =
 -- what the sections of bytes without a fault are
 pub sections_image : (bytes : List ℕ) (h : Header) (b0 b1 b2 b3 b4 : List ℕ) → IsBytes bytes → HasHeader bytes h → None ≡ header_fault bytes → None ≡ sections_fault h.sources b0 h.nodes b1 h.revisions b2 h.rows b3
     → b0 ≡ drop 40 bytes → b1 ≡ drop (8 * h.sources) b0 → b2 ≡ drop (32 * h.nodes) b1 → b3 ≡ drop (56 * h.revisions) b2 → b4 ≡ drop (24 * h.rows) b3
-    → HasRoom h.sources b0 h.nodes b1 h.revisions b2 h.rows b3 × IsImage (sections_value h.sources b0 h.nodes b1 h.revisions b2 h.rows b3 b4)
-unfolding fault_of
+    → HasRoom h.sources b0 h.nodes b1 h.revisions b2 h.rows b3 × IsImage (sections_value h.sources b0 h.nodes b1 h.revisions b2 h.rows b3 b4) × (first_fault node_fault (records 32 h.nodes b1) ≡ None)
+unfolding fault_of sections_fault
 sections_image bytes h b0 b1 b2 b3 b4 is_bytes header good none e0 e1 e2 e3 e4 =
     let none_of : fault_of bytes ≡ None = rw (← good, ← header.sources, ← header.nodes, ← header.revisions, ← header.rows, ← e0, ← e1, ← e2, ← e3, ← none) refl in
     let image = (whole_back bytes is_bytes none_of).0 in
+    let nodes : first_fault node_fault (records 32 h.nodes b1) ≡ None = (else_none _ _ (else_none _ _ (sym none)).1).0 in
     let len0 : length b0 ≡ length bytes - 40 = rw e0 (length-drop 40 bytes) in
     let len1 : length b1 ≡ length b0 - 8 * h.sources = rw e1 (length-drop (8 * h.sources) b0) in
     let len2 : length b2 ≡ length b1 - 32 * h.nodes = rw e2 (length-drop (32 * h.nodes) b1) in
@@ -239,4 +240,5 @@ sections_image bytes h b0 b1 b2 b3 b4 is_bytes header good none e0 e1 e2 e3 e4 =
         for_rows = omega (arith, header.whole);
       },
       rw (← header.sources, ← header.nodes, ← header.revisions, ← header.rows, ← e0, ← e1, ← e2, ← e3, ← e4) at image,
+      nodes,
     )

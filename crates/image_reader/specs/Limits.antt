@@ -1,9 +1,8 @@
 -- How many of each there may be in an image.
 use Rattle.std.specs.Prelude.{ℕ}
 
--- no image has sources yet
 abbrev pub most_sources : ℕ
-most_sources = 0
+most_sources = 255
 
 abbrev pub most_nodes : ℕ
 most_nodes = 16777216

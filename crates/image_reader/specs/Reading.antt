@@ -1,11 +1,12 @@
 -- What bytes say when they are read by fixed places, and which fault they have first.
-use Rattle.std.specs.Prelude.{◌≡◌, ℕ, ◌+◌, ◌*◌, ◌≤◌, Bool, false, not, ◌||◌, ◌==◌, nat_lt, List, [], ◌∷◌, length, map, drop, Option, Some, None, if◌then◌else◌, codes}
+use Rattle.std.specs.Prelude.{◌≡◌, ℕ, ◌+◌, ◌*◌, ◌≤◌, Bool, false, not, ◌||◌, ◌&&◌, ◌==◌, nat_lt, List, [], ◌∷◌, length, map, take, drop, Option, Some, None, if◌then◌else◌, codes}
 use Rattle.std.specs.List.{sum_by}
 use Rattle.std.specs.Int.{w8, w16, w32, w64}
 use Rattle.rope_node.specs.declared.node.NodeId.{NodeId}
 use Rattle.rope_node.specs.declared.node.NodeView.{NodeView}
-use Rattle.rope_node.specs.declared.node.NodeView.TheVariants.{Lit, Cat}
-use Rattle.rope_node.specs.Table.{Node}
+use Rattle.rope_node.specs.declared.node.NodeView.TheVariants.{Lit, Src, Fun, Cat, Sub}
+use Rattle.function_leaf.specs.declared.coded.Coded.{Coded}
+use Rattle.function_leaf.specs.declared.coded.Coded.TheVariants.{Fill, Ramp, Cycle}
 use Rattle.span_certificate.specs.declared.edit.Edit.{Edit}
 use Rattle.span_certificate.specs.declared.edit.Edit.TheVariants.{New, Insert}
 use Rattle.span_certificate.specs.declared.row.Row.{Row}
@@ -16,7 +17,7 @@ use Rattle.image_reader.specs.declared.header.Header.{Header}
 use Rattle.image_reader.specs.declared.revision.Revision.{Revision}
 use Rattle.image_reader.specs.Layout.{number_in, records}
 use Rattle.image_reader.specs.Limits.{magic, nil_root, most_sources, most_nodes, most_revisions, most_rows, most_pool}
-use Rattle.image_reader.specs.Value.{ImageValue}
+use Rattle.image_reader.specs.Value.{ImageNode, ImageValue}
 
 -- ---- what each record says
 
@@ -26,11 +27,38 @@ source_of bytes = number_in w64 0 bytes
 abbrev pub id_of : ℕ → NodeId
 id_of n = record { 0 = n }
 
-unfoldable pub view_of : List ℕ → NodeView
-view_of bytes = if number_in w8 0 bytes == 4 then Cat (id_of (number_in w32 4 bytes)) (id_of (number_in w32 16 bytes)) else Lit (number_in w64 16 bytes)
+-- the kind of a node: 1 a literal, 2 a span of a source, 3 a function, 4 a concatenation, 5 a substring
+abbrev pub kind_in : List ℕ → ℕ
+kind_in bytes = number_in w8 0 bytes
 
-abbrev pub node_of : List ℕ → Node
-node_of bytes = record { view = view_of bytes; len = number_in w64 8 bytes; depth = number_in w8 1 bytes }
+-- the code of a function: 1 a fill, 2 a ramp, 3 a cycle
+abbrev pub function_code_in : List ℕ → ℕ
+function_code_in bytes = number_in w8 2 bytes
+
+abbrev pub pattern_size_in : List ℕ → ℕ
+pattern_size_in bytes = number_in w8 3 bytes
+
+unfoldable pub view_of : List ℕ → NodeView
+view_of bytes =
+    if kind_in bytes == 1 then Lit (number_in w64 16 bytes)
+    else (if kind_in bytes == 2 then Src (number_in w32 4 bytes) (number_in w64 16 bytes)
+    else (if kind_in bytes == 4 then Cat (id_of (number_in w32 4 bytes)) (id_of (number_in w32 16 bytes))
+    else (if kind_in bytes == 5 then Sub (id_of (number_in w32 4 bytes)) (number_in w64 16 bytes) else Fun)))
+
+-- the pattern of a cycle
+abbrev pub pattern_of : List ℕ → List ℕ
+pattern_of bytes = take (pattern_size_in bytes) (drop 16 bytes)
+
+unfoldable pub coded_of : List ℕ → Coded
+coded_of bytes =
+    if function_code_in bytes == 1 then Fill (number_in w8 16 bytes)
+    else (if function_code_in bytes == 2 then Ramp (number_in w8 16 bytes) else Cycle (pattern_of bytes))
+
+unfoldable pub function_of : List ℕ → Option Coded
+function_of bytes = if kind_in bytes == 3 then Some (coded_of bytes) else None
+
+abbrev pub node_of : List ℕ → ImageNode
+node_of bytes = record { node = record { view = view_of bytes; len = number_in w64 8 bytes; depth = number_in w8 1 bytes }; function = function_of bytes }
 
 unfoldable pub edit_of : List ℕ → Edit
 edit_of bytes = if number_in w8 0 bytes == 1 then New else Insert (number_in w32 8 bytes) (number_in w64 16 bytes) (number_in w64 32 bytes) (number_in w64 40 bytes)
@@ -149,16 +177,37 @@ header_fault bytes =
 unfoldable pub source_fault : List ℕ → Option ReadFault
 source_fault bytes = fault_if (not (nat_lt (number_in w64 0 bytes) 1099511627776)) Count
 
+-- a function code that stands for none, or a pattern of a length that none may have
+abbrev pub is_unknown_function : List ℕ → Bool
+is_unknown_function bytes =
+    nat_lt (function_code_in bytes) 1 || (nat_lt 3 (function_code_in bytes)
+    || (function_code_in bytes == 3 && (nat_lt (pattern_size_in bytes) 1 || nat_lt 16 (pattern_size_in bytes))))
+
+abbrev pub is_unknown_node : List ℕ → Bool
+is_unknown_node bytes = nat_lt (kind_in bytes) 1 || (nat_lt 5 (kind_in bytes) || (kind_in bytes == 3 && is_unknown_function bytes))
+
+-- the fields that a function of this code does not use
+abbrev pub unused_in_function : List ℕ → List ℕ
+unused_in_function bytes =
+    number_in w32 4 bytes ∷ (if function_code_in bytes == 3 then drop (pattern_size_in bytes) (drop 16 bytes) else pattern_size_in bytes ∷ drop 1 (drop 16 bytes))
+
+abbrev pub unused_in_concatenation : List ℕ → List ℕ
+unused_in_concatenation bytes = number_in w8 2 bytes ∷ number_in w8 3 bytes ∷ number_in w32 20 bytes ∷ number_in w64 24 bytes ∷ []
+
+-- those of a literal, of a span of a source and of a substring
+abbrev pub unused_in_span : List ℕ → List ℕ
+unused_in_span bytes = number_in w8 2 bytes ∷ number_in w8 3 bytes ∷ number_in w64 24 bytes ∷ []
+
 -- the fields that a node of this kind does not use
 abbrev pub unused_in_node : List ℕ → List ℕ
 unused_in_node bytes =
-    if number_in w8 0 bytes == 4
-    then number_in w8 2 bytes ∷ number_in w8 3 bytes ∷ number_in w32 20 bytes ∷ number_in w64 24 bytes ∷ []
-    else number_in w8 2 bytes ∷ number_in w8 3 bytes ∷ number_in w32 4 bytes ∷ number_in w64 24 bytes ∷ []
+    if kind_in bytes == 3 then unused_in_function bytes
+    else (if kind_in bytes == 4 then unused_in_concatenation bytes
+    else (if kind_in bytes == 1 then number_in w32 4 bytes ∷ unused_in_span bytes else unused_in_span bytes))
 
 unfoldable pub node_fault : List ℕ → Option ReadFault
 node_fault bytes =
-    fault_if (not (number_in w8 0 bytes == 1 || number_in w8 0 bytes == 4)) Kind
+    fault_if (is_unknown_node bytes) Kind
     else fault_if (any_nonzero (unused_in_node bytes)) NonZeroPad
 
 -- the fields that no revision uses, and those that a command does not use

@@ -5,7 +5,9 @@ use Rattle.std.specs.Int.{Width, w8, w16, w32, w64}
 use Rattle.rope_node.specs.declared.node.NodeId.{NodeId}
 use Rattle.rope_node.specs.declared.node.NodeView.{NodeView}
 use Rattle.rope_node.specs.declared.node.NodeView.TheVariants.{Lit, Src, Fun, Cat, Sub}
-use Rattle.rope_node.specs.Table.{Node}
+use Rattle.function_leaf.specs.declared.coded.Coded.{Coded}
+use Rattle.function_leaf.specs.declared.coded.Coded.TheVariants.{Fill, Ramp, Cycle}
+use Rattle.function_leaf.specs.Pattern.{padded}
 use Rattle.span_certificate.specs.declared.edit.Edit.{Edit}
 use Rattle.span_certificate.specs.declared.edit.Edit.TheVariants.{New, Insert}
 use Rattle.span_certificate.specs.declared.row.Row.{Row}
@@ -14,7 +16,7 @@ use Rattle.span_certificate.specs.declared.row.RowKind.TheVariants.{Leaf}
 use Rattle.image_reader.specs.declared.revision.Revision.{Revision}
 use Rattle.image_reader.specs.Layout.{spelled}
 use Rattle.image_reader.specs.Limits.{magic, nil_root}
-use Rattle.image_reader.specs.Value.{ImageValue}
+use Rattle.image_reader.specs.Value.{ImageNode, ImageValue}
 
 -- magic, version, the numbers of sources, nodes, revisions and rows, zero, the pool's length
 abbrev pub header_layout : List Width
@@ -30,22 +32,58 @@ source_layout = w64 ∷ []
 unfoldable pub source_spelling : ℕ → List ℕ
 source_spelling n = spelled source_layout (n ∷ [])
 
--- kind, depth, function code, pattern length, x, length, and the payload by the kind
-abbrev pub literal_layout : List Width
-literal_layout = w8 ∷ w8 ∷ w8 ∷ w8 ∷ w32 ∷ w64 ∷ w64 ∷ w64 ∷ []
+-- kind, depth, function code, pattern length, x, length, a start, zeros
+abbrev pub span_layout : List Width
+span_layout = w8 ∷ w8 ∷ w8 ∷ w8 ∷ w32 ∷ w64 ∷ w64 ∷ w64 ∷ []
 
+abbrev pub span_numbers : ℕ → ℕ → ℕ → ℕ → ℕ → List ℕ
+span_numbers kind depth x len start = kind ∷ depth ∷ 0 ∷ 0 ∷ x ∷ len ∷ start ∷ 0 ∷ []
+
+-- the same up to the length, and behind it the second child and zeros
 abbrev pub concatenation_layout : List Width
 concatenation_layout = w8 ∷ w8 ∷ w8 ∷ w8 ∷ w32 ∷ w64 ∷ w32 ∷ w32 ∷ w64 ∷ []
 
-unfoldable pub view_spelling : ℕ → ℕ → NodeView → List ℕ
-view_spelling depth len (Lit a) = spelled literal_layout (1 ∷ depth ∷ 0 ∷ 0 ∷ 0 ∷ len ∷ a ∷ 0 ∷ [])
-view_spelling depth len (Src s a) = []
-view_spelling depth len Fun = []
-view_spelling depth len (Cat l r) = spelled concatenation_layout (4 ∷ depth ∷ 0 ∷ 0 ∷ l.0 ∷ len ∷ r.0 ∷ 0 ∷ 0 ∷ [])
-view_spelling depth len (Sub b i) = []
+abbrev pub concatenation_numbers : ℕ → ℕ → ℕ → ℕ → List ℕ
+concatenation_numbers depth len l r = 4 ∷ depth ∷ 0 ∷ 0 ∷ l ∷ len ∷ r ∷ 0 ∷ 0 ∷ []
 
-abbrev pub node_spelling : Node → List ℕ
-node_spelling n = view_spelling n.depth n.len n.view
+-- the same up to the length, in front of a function's payload
+abbrev pub function_layout : List Width
+function_layout = w8 ∷ w8 ∷ w8 ∷ w8 ∷ w32 ∷ w64 ∷ []
+
+abbrev pub function_code : Coded → ℕ
+function_code (Fill c) = 1
+function_code (Ramp c) = 2
+function_code (Cycle pattern) = 3
+
+-- the pattern length, 0 where there is no pattern
+abbrev pub pattern_size : Coded → ℕ
+pattern_size (Fill c) = 0
+pattern_size (Ramp c) = 0
+pattern_size (Cycle pattern) = length pattern
+
+-- the bytes of the payload in front of its zeros
+abbrev pub payload : Coded → List ℕ
+payload (Fill c) = c ∷ []
+payload (Ramp c) = c ∷ []
+payload (Cycle pattern) = pattern
+
+abbrev pub function_numbers : ℕ → ℕ → ℕ → ℕ → List ℕ
+function_numbers depth len code size = 3 ∷ depth ∷ code ∷ size ∷ 0 ∷ len ∷ []
+
+unfoldable pub function_spelling : ℕ → ℕ → Coded → List ℕ
+function_spelling depth len c = spelled function_layout (function_numbers depth len (function_code c) (pattern_size c)) ++ padded (payload c)
+
+-- a node that is a function and holds none has no spelling
+unfoldable pub view_spelling : ℕ → ℕ → NodeView → Option Coded → List ℕ
+view_spelling depth len (Lit a) function = spelled span_layout (span_numbers 1 depth 0 len a)
+view_spelling depth len (Src s a) function = spelled span_layout (span_numbers 2 depth s len a)
+view_spelling depth len Fun None = []
+view_spelling depth len Fun (Some c) = function_spelling depth len c
+view_spelling depth len (Cat l r) function = spelled concatenation_layout (concatenation_numbers depth len l.0 r.0)
+view_spelling depth len (Sub b i) function = spelled span_layout (span_numbers 5 depth b.0 len i)
+
+abbrev pub node_spelling : ImageNode → List ℕ
+node_spelling n = view_spelling n.node.depth n.node.len n.node.view n.function
 
 -- a command's code, and the numbers that it uses; what it does not use is 0
 pub record EditNumbers : Type 0 where

@@ -1,10 +1,14 @@
 -- What an image says, without how it is spelled.
-use Rattle.std.specs.Prelude.{◌≡◌, ℕ, ◌^◌, ◌<◌, ◌≤◌, List, length, Option, Some, None}
+use Rattle.std.specs.Prelude.{◌≡◌, ℕ, ◌^◌, ◌<◌, ◌≤◌, List, length, map, get_or, Option, Some, None}
 use Rattle.std.specs.List.{sum_by, AllByRecursion}
+use Rattle.function_leaf.specs.declared.coded.Coded.{Coded}
+use Rattle.function_leaf.specs.declared.coded.Coded.TheVariants.{Fill, Ramp, Cycle}
+use Rattle.function_leaf.specs.Coded.{coded_byte}
+use Rattle.function_leaf.specs.Pattern.{IsPatternLength}
 use Rattle.rope_node.specs.declared.node.NodeId.{NodeId}
 use Rattle.rope_node.specs.declared.node.NodeView.{NodeView}
 use Rattle.rope_node.specs.declared.node.NodeView.TheVariants.{Lit, Src, Fun, Cat, Sub}
-use Rattle.rope_node.specs.Table.{Node, Table}
+use Rattle.rope_node.specs.Table.{Node, Table, no_node}
 use Rattle.span_certificate.specs.declared.edit.Edit.{Edit}
 use Rattle.span_certificate.specs.declared.edit.Edit.TheVariants.{New, Insert}
 use Rattle.span_certificate.specs.declared.row.Row.{Row}
@@ -12,30 +16,59 @@ use Rattle.image_reader.specs.declared.revision.Revision.{Revision}
 use Rattle.image_reader.specs.Layout.{IsBytes}
 use Rattle.image_reader.specs.Limits.{most_sources, most_nodes, most_revisions, most_rows, most_pool, nil_root}
 
+-- a node, and the function that it holds where it is one
+pub record ImageNode : Type 0 where
+  pub node : Node
+  pub function : Option Coded
+
 -- the sources' lengths, the nodes, the revisions, all their rows in order, and the pool
 pub record ImageValue : Type 0 where
   pub sources : List ℕ
-  pub nodes : List Node
+  pub nodes : List ImageNode
   pub revisions : List Revision
   pub rows : List Row
   pub pool : List ℕ
 
+-- what is read past the end
+abbrev pub no_image_node : ImageNode
+no_image_node = record { node = no_node; function = None }
+
+-- the function that a node holds
+abbrev pub function_at : ImageValue → ℕ → Option Coded
+function_at v id = (get_or v.nodes id no_image_node).function
+
+-- the byte that a node's function answers at a place, and 0 where it holds none
+abbrev pub answer_of : Option Coded → ℕ → ℕ
+answer_of None k = 0
+answer_of (Some c) k = coded_byte c k
+
 -- the table of an image's nodes
 abbrev pub table_of : ImageValue → Table
-table_of v = record { nodes = v.nodes; pool = v.pool; sources = v.sources; answer = λ _ _. 0 }
+table_of v = record { nodes = map (λ (n : ImageNode). n.node) v.nodes; pool = v.pool; sources = v.sources; answer = λ id k. answer_of (function_at v id) k }
 
--- Each number fits its field. Literals and concatenations are the only nodes that an image holds yet.
-abbrev pub FitsView : NodeView → Type 0
-FitsView (Lit a) = a < 2 ^ 64
-FitsView (Src s a) = ⊥
-FitsView Fun = ⊥
-FitsView (Cat l r) = (l.0 < 2 ^ 32) × (r.0 < 2 ^ 32)
-FitsView (Sub b i) = ⊥
+-- a function's bytes fit, and a pattern has a length that it may have
+abbrev pub FitsFunction : Coded → Type 0
+FitsFunction (Fill c) = c < 256
+FitsFunction (Ramp c) = c < 256
+FitsFunction (Cycle pattern) = IsBytes pattern × IsPatternLength (length pattern)
 
-pub record FitsNode (n : Node) : Type 0 where
-  pub view : FitsView n.view
-  pub len : n.len < 2 ^ 64
-  pub depth : n.depth < 2 ^ 8
+-- Each number fits its field, and functions alone hold one.
+abbrev pub FitsView : NodeView → Option Coded → Type 0
+FitsView (Lit a) None = a < 2 ^ 64
+FitsView (Lit a) (Some c) = ⊥
+FitsView (Src s a) None = (s < 2 ^ 32) × (a < 2 ^ 64)
+FitsView (Src s a) (Some c) = ⊥
+FitsView Fun None = ⊥
+FitsView Fun (Some c) = FitsFunction c
+FitsView (Cat l r) None = (l.0 < 2 ^ 32) × (r.0 < 2 ^ 32)
+FitsView (Cat l r) (Some c) = ⊥
+FitsView (Sub b i) None = (b.0 < 2 ^ 32) × (i < 2 ^ 64)
+FitsView (Sub b i) (Some c) = ⊥
+
+pub record FitsNode (n : ImageNode) : Type 0 where
+  pub view : FitsView n.node.view n.function
+  pub len : n.node.len < 2 ^ 64
+  pub depth : n.node.depth < 2 ^ 8
 
 abbrev pub FitsEdit : Edit → Type 0
 FitsEdit New = Unit {0}

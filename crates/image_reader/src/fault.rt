@@ -20,7 +20,7 @@ pub enum ReadFault {
     Count,
     /// `I6`: a field that is not used is not zero.
     NonZeroPad,
-    /// `I7`: an unknown kind of node, command, mark or row.
+    /// `I7`: an unknown kind of node, function, command, mark or row, or a pattern of a length that none may have.
     Kind,
 }
 

@@ -21,7 +21,7 @@ const MAGIC: u64 = 0x434f_5244_5345_5353;
 
 const VERSION: u32 = 1;
 
-const MOST_SOURCES: u32 = 0;
+const MOST_SOURCES: u32 = 255;
 
 const MOST_NODES: u32 = 16_777_216;
 

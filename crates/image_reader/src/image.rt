@@ -1,18 +1,21 @@
 //! An image, over its bytes.
 
-ghost use Rattle.std.specs.Prelude.{◌≡◌, ◌<◌, length, IfOk, Ok, slice_get, Some};
+ghost use Rattle.std.specs.Prelude.{◌≡◌, ◌<◌, ◌^◌, length, IfOk, Ok, slice_get, Some};
 ghost use Rattle.std.specs.Result.{result_err};
+ghost use Rattle.rope_node.specs.declared.node.NodeView.TheVariants.{Fun};
 ghost use Rattle.rope_node.specs.Table.{view_at, len_at, depth_at};
-ghost use Rattle.image_reader.specs.Value.{ImageValue, IsImage, table_of};
+ghost use Rattle.image_reader.specs.Value.{ImageValue, IsImage, function_at, table_of};
 ghost use Rattle.image_reader.specs.Spelling.{spelling};
 ghost use Rattle.image_reader.specs.Reading.{fault_of, image_of};
 
 use crate::fault::ReadFault;
 use crate::header::read_header;
+use crate::node::{depth_in, function_in, len_in, view_in};
 use crate::number::{bytes_from, cell_at};
-use crate::parts::{depth_in, len_in, revision_in, row_in, source_in, view_in};
+use crate::parts::{revision_in, row_in, source_in};
 use crate::revision::Revision;
 use crate::section::check_sections;
+use function_leaf::Coded;
 use rope_node::{NodeId, NodeView};
 use span_certificate::Row;
 use std::marker::Model;
@@ -32,16 +35,18 @@ pub struct Image<'a> {
 }
 
 impl<'a> Model for Image<'a> {
-    ghost use Rattle.std.specs.Prelude.{◌*◌, ◌≤◌, length};
+    ghost use Rattle.std.specs.Prelude.{◌≡◌, ◌*◌, ◌≤◌, length, None};
     ghost use Rattle.image_reader.specs.Value.{ImageValue, IsImage};
-    ghost use Rattle.image_reader.specs.Reading.{sections_value, HasRoom};
+    ghost use Rattle.image_reader.specs.Layout.{records};
+    ghost use Rattle.image_reader.specs.Reading.{sections_value, HasRoom, first_fault, node_fault};
 
     ghost Value = { ImageValue };
 
     ghost view = { λ a. sections_value a.source_count a.sources.now a.node_count a.nodes.now a.revision_count a.revisions.now a.row_count a.rows.now a.pool.now };
 
     ghost invariant = { λ a. HasRoom a.source_count a.sources.now a.node_count a.nodes.now a.revision_count a.revisions.now a.row_count a.rows.now
-        × IsImage (sections_value a.source_count a.sources.now a.node_count a.nodes.now a.revision_count a.revisions.now a.row_count a.rows.now a.pool.now) };
+        × IsImage (sections_value a.source_count a.sources.now a.node_count a.nodes.now a.revision_count a.revisions.now a.row_count a.rows.now a.pool.now)
+        × (first_fault node_fault (records 32 a.node_count a.nodes.now) ≡ None) };
 }
 
 impl<'a> Image<'a> {
@@ -109,7 +114,7 @@ impl<'a> Image<'a> {
 
     /// How many nodes it has.
     pub fn node_count(&self) -> u32
-        ensures count { result ≡ length self.now.nodes }
+        ensures count { result ≡ length (table_of self.now).nodes }
         ensures image { IsImage self.now }
     {
         self.node_count
@@ -139,14 +144,15 @@ impl<'a> Image<'a> {
     /// The length of source `s`, in bytes.
     pub fn source_len(&self, s: u32) -> u64
         requires { s < length self.now.sources }
-        ensures { slice_get self.now.sources s ≡ Some result }
+        ensures value { slice_get self.now.sources s ≡ Some result }
+        ensures limit { result < 2 ^ 40 }
     {
         source_in(cell_at(self.sources, 8, s as usize))
     }
 
     /// What node `id` is.
     pub fn node(&self, id: NodeId) -> NodeView
-        requires { id.0 < length self.now.nodes }
+        requires { id.0 < length (table_of self.now).nodes }
         ensures { result ≡ view_at (table_of self.now) id.0 }
     {
         view_in(cell_at(self.nodes, 32, id.0 as usize))
@@ -154,7 +160,7 @@ impl<'a> Image<'a> {
 
     /// The length that is recorded with node `id`, in bytes.
     pub fn len(&self, id: NodeId) -> u64
-        requires { id.0 < length self.now.nodes }
+        requires { id.0 < length (table_of self.now).nodes }
         ensures { result ≡ len_at (table_of self.now) id.0 }
     {
         len_in(cell_at(self.nodes, 32, id.0 as usize))
@@ -162,10 +168,19 @@ impl<'a> Image<'a> {
 
     /// The depth that is recorded with node `id`.
     pub fn depth(&self, id: NodeId) -> u8
-        requires { id.0 < length self.now.nodes }
+        requires { id.0 < length (table_of self.now).nodes }
         ensures { result ≡ depth_at (table_of self.now) id.0 }
     {
         depth_in(cell_at(self.nodes, 32, id.0 as usize))
+    }
+
+    /// The function that node `id` holds.
+    pub fn coded(&self, id: NodeId) -> Coded
+        requires there { id.0 < length (table_of self.now).nodes }
+        requires function { view_at (table_of self.now) id.0 ≡ Fun }
+        ensures { function_at self.now id.0 ≡ Some result }
+    {
+        function_in(cell_at(self.nodes, 32, id.0 as usize))
     }
 
     /// Revision `k`.

@@ -4,6 +4,7 @@
 mod fault;
 mod header;
 mod image;
+mod node;
 mod number;
 mod parts;
 mod revision;

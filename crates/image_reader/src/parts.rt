@@ -1,13 +1,13 @@
-//! What single records say.
+//! What single records of sources, revisions and rows say.
 
 ghost use Rattle.std.specs.Prelude.{◌≡◌, ◌+◌, ◌*◌, ◌≤◌, ◌<◌, ◌^◌, length};
 ghost use Rattle.std.specs.Int.{w8, w32, w64};
 ghost use Rattle.image_reader.specs.Layout.{number_in};
-ghost use Rattle.image_reader.specs.Reading.{source_of, node_of, view_of, edit_of, root_of, revision_of, row_of, counted_rows};
+ghost use Rattle.image_reader.specs.Reading.{source_of, edit_of, root_of, revision_of, row_of, counted_rows};
 
 use crate::number::{u8_in, u32_in, u64_in};
 use crate::revision::Revision;
-use rope_node::{NodeId, NodeView, Rope};
+use rope_node::{NodeId, Rope};
 use span_certificate::{Edit, Row, RowKind};
 
 /// The length of a source.
@@ -17,40 +17,6 @@ pub fn source_in(bytes: &[u8]) -> u64
     ensures { result ≡ source_of bytes.now }
 {
     u64_in(bytes, 0)
-}
-
-/// The length of a node.
-pub fn len_in(bytes: &[u8]) -> u64
-    requires { length bytes.now ≡ 32 }
-    ensures { result ≡ (node_of bytes.now).len }
-{
-    u64_in(bytes, 8)
-}
-
-/// The depth of a node.
-pub fn depth_in(bytes: &[u8]) -> u8
-    requires { length bytes.now ≡ 32 }
-    ensures { result ≡ (node_of bytes.now).depth }
-{
-    u8_in(bytes, 1)
-}
-
-/// What a node is.
-#[tactic(auto, unfolding(crate::specs::Reading::view_of))]
-pub fn view_in(bytes: &[u8]) -> NodeView
-    requires { length bytes.now ≡ 32 }
-    ensures { result ≡ view_of bytes.now }
-{
-    if u8_in(bytes, 0) == 4 {
-        NodeView::Cat {
-            l: NodeId(u32_in(bytes, 4)),
-            r: NodeId(u32_in(bytes, 16)),
-        }
-    } else {
-        NodeView::Lit {
-            a: u64_in(bytes, 16),
-        }
-    }
 }
 
 #[tactic(auto, unfolding(crate::specs::Reading::edit_of))]

@@ -9,11 +9,12 @@ ghost use Rattle.image_reader.specs.Reading.{source_fault, node_fault, revision_
 
 use crate::fault::ReadFault;
 use crate::header::Header;
+use crate::node::{has_unused_node_field, is_unknown_node};
 use crate::number::{u8_in, u16_in, u32_in, u64_in};
 use crate::parts::counted_rows;
 
 /// A kind of record.
-pub trait Kind {
+pub trait Records {
     const SIZE: usize;
 
     ghost SIZE: { ℕ };
@@ -27,14 +28,14 @@ pub trait Kind {
 }
 
 /// Refuses a section of `count` records where one of them has a fault: the first one's.
-pub fn check_each<K: Kind>(count: u32, bytes: &[u8]) -> Result<(), ReadFault>
-    requires { K.SIZE * count ≤ length bytes.now }
-    ensures { result_err result ≡ first_fault K.fault (records K.SIZE count bytes.now) }
+pub fn check_each<R: Records>(count: u32, bytes: &[u8]) -> Result<(), ReadFault>
+    requires { R.SIZE * count ≤ length bytes.now }
+    ensures { result_err result ≡ first_fault R.fault (records R.SIZE count bytes.now) }
 {
     let mut rest = bytes;
     for _ in 0..count {
-        let (front, after) = rest.split_at(K::SIZE);
-        K::check(front)?;
+        let (front, after) = rest.split_at(R::SIZE);
+        R::check(front)?;
         rest = after;
     }
     Ok(())
@@ -55,19 +56,19 @@ pub fn check_sections(
     requires rows { 24 * header.now.rows ≤ length rows.now }
     ensures { result_err result ≡ sections_fault header.now.sources sources.now header.now.nodes nodes.now header.now.revisions revisions.now header.now.rows rows.now }
 {
-    check_each::<SourceKind>(header.sources, sources)?;
-    check_each::<NodeKind>(header.nodes, nodes)?;
-    check_each::<RevisionKind>(header.revisions, revisions)?;
+    check_each::<SourceRecords>(header.sources, sources)?;
+    check_each::<NodeRecords>(header.nodes, nodes)?;
+    check_each::<RevisionRecords>(header.revisions, revisions)?;
     if counted_rows(header.revisions, revisions) != header.rows as u64 {
         return Err(ReadFault::Count);
     }
-    check_each::<RowKind>(header.rows, rows)
+    check_each::<RowRecords>(header.rows, rows)
 }
 
 /// The records of sources.
-pub struct SourceKind;
+pub struct SourceRecords;
 
-impl Kind for SourceKind {
+impl Records for SourceRecords {
     const SIZE: usize = 8;
 
     ghost SIZE = { 8 };
@@ -84,9 +85,9 @@ impl Kind for SourceKind {
 }
 
 /// The records of nodes.
-pub struct NodeKind;
+pub struct NodeRecords;
 
-impl Kind for NodeKind {
+impl Records for NodeRecords {
     const SIZE: usize = 32;
 
     ghost SIZE = { 32 };
@@ -95,16 +96,10 @@ impl Kind for NodeKind {
 
     #[tactic(auto, unfolding(crate::specs::Reading::node_fault))]
     fn check(bytes: &[u8]) -> Result<(), ReadFault> {
-        let kind = u8_in(bytes, 0);
-        if kind != 1 && kind != 4 {
+        if is_unknown_node(bytes) {
             return Err(ReadFault::Kind);
         }
-        let unused = if kind == 4 {
-            u32_in(bytes, 20)
-        } else {
-            u32_in(bytes, 4)
-        };
-        if u8_in(bytes, 2) != 0 || u8_in(bytes, 3) != 0 || unused != 0 || u64_in(bytes, 24) != 0 {
+        if has_unused_node_field(bytes) {
             return Err(ReadFault::NonZeroPad);
         }
         Ok(())
@@ -112,9 +107,9 @@ impl Kind for NodeKind {
 }
 
 /// The records of revisions.
-pub struct RevisionKind;
+pub struct RevisionRecords;
 
-impl Kind for RevisionKind {
+impl Records for RevisionRecords {
     const SIZE: usize = 56;
 
     ghost SIZE = { 56 };
@@ -155,9 +150,9 @@ fn has_unused_revision_field(code: u8, bytes: &[u8]) -> bool
 }
 
 /// The records of certificate rows.
-pub struct RowKind;
+pub struct RowRecords;
 
-impl Kind for RowKind {
+impl Records for RowRecords {
     const SIZE: usize = 24;
 
     ghost SIZE = { 24 };

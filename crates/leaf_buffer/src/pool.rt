@@ -153,7 +153,7 @@ impl Pool {
         ensures in_one_block { IfSome result (λ p. IsInOneBlock self.new p.start p.len) }
         ensures keeps { KeepsPieces self.old self.new }
     {
-        if !self.ends_with(piece) || !self.takes(bytes.len()) {
+        if !self.can_extend(piece, bytes.len()) {
             return None;
         }
         self.extend(bytes);
@@ -161,6 +161,13 @@ impl Pool {
             start: piece.start,
             len: piece.len + bytes.len() as u32,
         })
+    }
+
+    /// Whether `extend_last` would put this many bytes behind the piece.
+    pub fn can_extend(&self, piece: Piece, count: usize) -> bool
+        ensures { IsTrue result ↔ (IsLastPiece self.now piece.start piece.len × Takes self.now count) }
+    {
+        self.ends_with(piece) && self.takes(count)
     }
 
     /// The bytes of a piece, where it is not empty and lies in one block.

@@ -24,6 +24,8 @@ fn pool_takes_extends_and_refuses(rt: HostRuntime) {
     assert_eq!(&rt; (pool.len(), pool.room()), (0, 0));
     assert_eq!(&rt; append(&rt, &mut pool, b"abc"), Ok(piece(0, 3)));
     assert_eq!(&rt; pool.room(), 65_533);
+    assert!(&rt; pool.can_extend(piece(0, 3), 65_533));
+    assert!(&rt; !pool.can_extend(piece(0, 3), 65_534));
     assert_eq!(&rt; pool.extend_last(piece(0, 3), b"de"), Some(piece(0, 5)));
     assert_eq!(&rt; pool.room(), 65_531);
     assert!(&rt; pool.get(piece(0, 3)) == Some(b"abc".as_slice()));

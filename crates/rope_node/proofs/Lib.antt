@@ -1,3 +1,6 @@
 pub mod Cells
 pub mod Visits
 pub mod Paths
+pub mod Extensions
+pub mod HeldCells
+pub mod Ropes

@@ -2,3 +2,6 @@ pub mod Table
 pub mod Denotes
 pub mod Path
 pub mod Balance
+pub mod Coded
+pub mod Extends
+pub mod Held

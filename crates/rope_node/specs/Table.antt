@@ -98,6 +98,13 @@ literal_bytes t off n Fun = []
 literal_bytes t off n (Cat l r) = []
 literal_bytes t off n (Sub b i) = []
 
+abbrev pub IsFunction : NodeView → Type 0
+IsFunction (Lit a) = ⊥
+IsFunction (Src s a) = ⊥
+IsFunction Fun = Unit {0}
+IsFunction (Cat l r) = ⊥
+IsFunction (Sub b i) = ⊥
+
 abbrev pub IsLeaf : NodeView → Type 0
 IsLeaf (Lit a) = Unit {0}
 IsLeaf (Src s a) = Unit {0}

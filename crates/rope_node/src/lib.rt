@@ -7,4 +7,4 @@ mod space;
 
 pub use node::{NodeId, NodeView, Rope};
 pub use path::{LeafPlace, find_leaf};
-pub use space::{NodeSpace, rope_len};
+pub use space::{CodedSpace, NodeSpace, rope_len};

@@ -1,10 +1,13 @@
 //! What every table of nodes offers.
 
-ghost use Rattle.std.specs.Prelude.{◌≡◌, ◌<◌, ◌≤◌, ◌^◌, length};
+ghost use Rattle.std.specs.Prelude.{◌≡◌, ◌<◌, ◌≤◌, ◌^◌, ℕ, length, take, drop, get_or};
 ghost use Rattle.rope_node.specs.Denotes.{rope_len, IsRope};
-ghost use Rattle.rope_node.specs.Table.{Table, view_at, len_at, depth_at, IsSound, HasTrueRecords, IsLiteral, literal_bytes};
+ghost use Rattle.rope_node.specs.Table.{Table, view_at, len_at, depth_at, IsSound, HasTrueRecords, IsLiteral, IsFunction, literal_bytes};
+ghost use Rattle.rope_node.specs.Coded.{AnswersCoded};
+ghost use Rattle.function_leaf.specs.declared.coded.Coded.{Coded};
 
 use crate::node::{NodeId, NodeView, Rope};
+use function_leaf::Coded;
 
 /// A sound table of nodes whose records are true.
 pub trait NodeSpace {
@@ -27,7 +30,9 @@ pub trait NodeSpace {
     fn len(&self, id: NodeId) -> u64
         requires { id.0 < length (table self.now).nodes }
         ensures value { result ≡ len_at (table self.now) id.0 }
-        ensures limit { result < 2 ^ 40 };
+        ensures limit { result < 2 ^ 40 }
+        ensures sound { IsSound (table self.now) }
+        ensures true_records { HasTrueRecords (table self.now) };
 
     /// The recorded depth.
     fn depth(&self, id: NodeId) -> u8
@@ -41,6 +46,45 @@ pub trait NodeSpace {
         requires literal { IsLiteral (view_at (table self.now) id.0) }
         requires inside { off ≤ len_at (table self.now) id.0 }
         ensures { result.now ≡ literal_bytes (table self.now) off (len_at (table self.now) id.0) (view_at (table self.now) id.0) };
+
+    /// The byte that the function at a node answers at place `i`.
+    fn fun_byte(&self, id: NodeId, i: u64) -> u8
+        requires there { id.0 < length (table self.now).nodes }
+        requires function { IsFunction (view_at (table self.now) id.0) }
+        ensures { result ≡ (table self.now).answer id.0 i };
+
+    /// How many sources there are.
+    fn source_count(&self) -> u32
+        ensures { result ≡ length (table self.now).sources };
+
+    /// The length of source `s`, in bytes.
+    fn source_len(&self, s: u32) -> u64
+        requires { s < length (table self.now).sources }
+        ensures value { result ≡ get_or (table self.now).sources s 0 }
+        ensures limit { result < 2 ^ 40 };
+
+    /// The length of the pool, in bytes.
+    fn pool_len(&self) -> u64
+        ensures value { result ≡ length (table self.now).pool }
+        ensures limit { result < 2 ^ 32 };
+
+    /// Bytes of the pool from place `a` on: one or more of them.
+    fn pool(&self, a: u64) -> &[u8]
+        requires { a < length (table self.now).pool }
+        ensures some { 1 ≤ length result.now }
+        ensures bytes { result.now ≡ take (length result.now) (drop a (table self.now).pool) };
+}
+
+/// A table whose functions are those that an image can hold.
+pub trait CodedSpace: NodeSpace {
+    ghost coded: { Self → ℕ → Coded };
+
+    /// The function at a node.
+    fn coded(&self, id: NodeId) -> Coded
+        requires there { id.0 < length (Self.NodeSpace.table self.now).nodes }
+        requires function { IsFunction (view_at (Self.NodeSpace.table self.now) id.0) }
+        ensures function { result ≡ coded self.now id.0 }
+        ensures answers { AnswersCoded (Self.NodeSpace.table self.now) id.0 result };
 }
 
 /// The length of a rope in bytes, 0 for nil.

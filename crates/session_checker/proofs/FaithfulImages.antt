@@ -17,7 +17,7 @@ use Rattle.span_certificate.specs.Parts.{parts_of, parts_cells}
 use Rattle.span_certificate.proofs.Covering.{covered_cells}
 use Rattle.image_reader.specs.declared.revision.Revision.{Revision}
 use Rattle.image_reader.specs.Value.{ImageValue, IsImage, table_of}
-use Rattle.session_checker.specs.NodeRules.{AreGoodNodes}
+use Rattle.image_reader.specs.Acceptance.{AreGoodNodes}
 use Rattle.session_checker.specs.RevisionRules.{no_revision, revision_at, IsInRange, AreGoodRevisions}
 use Rattle.session_checker.specs.Faithful.{givens, commands, texts, IsFaithful}
 use Rattle.session_checker.proofs.SoundTables.{sound_table, true_table}

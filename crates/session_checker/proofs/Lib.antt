@@ -2,4 +2,5 @@ pub mod Growth
 pub mod SoundTables
 pub mod GoodRevisions
 pub mod FaithfulImages
-pub mod Fetches
+pub mod RevisionTexts
+pub mod SameSources

@@ -3,7 +3,7 @@ use Rattle.std.proofs.Common.{ℕ, zero, suc, ◌^◌, ◌<◌, List, [], ◌∷
 use Rattle.std.specs.List.{AllByRecursion}
 use Rattle.rope_node.specs.Table.{IsSound, HasTrueRecords}
 use Rattle.image_reader.specs.Value.{ImageValue, IsImage, FitsSource, table_of}
-use Rattle.session_checker.specs.NodeRules.{AreGoodNodes}
+use Rattle.image_reader.specs.Acceptance.{AreGoodNodes}
 
 sources_short : (xs : List ℕ) → AllByRecursion FitsSource xs → (s : ℕ) → get_or xs s 0 < 2 ^ 40
 sources_short [] fits s = omega arith

@@ -3,10 +3,12 @@ use Rattle.std.specs.Prelude.{ℕ, List, ◌++◌, codes}
 use Rattle.std.specs.Fmt.{decimal}
 use Rattle.image_reader.specs.Reading.{fault_code as read_code}
 use Rattle.session_checker.specs.declared.fault.CheckFault.{CheckFault}
-use Rattle.session_checker.specs.declared.fault.CheckFault.TheVariants.{Read, Reference, Length, Depth, Span, Command, Root, Mark, Rows}
+use Rattle.session_checker.specs.declared.fault.CheckFault.TheVariants.{Read, SourceCount, SourceLength, Reference, Length, Depth, Span, Command, Root, Mark, Rows}
 
 abbrev pub fault_code : CheckFault → List ℕ
 fault_code (Read fault) = codes "C1(" ++ read_code fault ++ codes ")"
+fault_code SourceCount = codes "C2"
+fault_code (SourceLength s) = codes "C3(" ++ decimal s ++ codes ")"
 fault_code (Reference node) = codes "C4(" ++ decimal node ++ codes ")"
 fault_code (Length node) = codes "C5(" ++ decimal node ++ codes ")"
 fault_code (Depth node) = codes "C6(" ++ decimal node ++ codes ")"

@@ -1,10 +1,12 @@
 -- What an accepted image is: each revision's root denotes the text that its commands give, and each record is true.
-use Rattle.std.specs.Prelude.{◌≡◌, ℕ, ◌<◌, List, [], length, map, get_or}
+use Rattle.std.specs.Prelude.{◌≡◌, ℕ, ◌<◌, List, [], length, map, get_or, slice_get, Option}
 use Rattle.rope_node.specs.Table.{len_at, IsSound, HasTrueRecords}
-use Rattle.rope_node.specs.Denotes.{cells, rope_cells, IsRope, text}
+use Rattle.rope_node.specs.Denotes.{Cell, cells, rope_cells, IsRope, text}
 use Rattle.rope_node.specs.Path.{rope_visits}
 use Rattle.span_certificate.specs.declared.edit.Edit.{Edit}
 use Rattle.span_certificate.specs.Commands.{Givens, IsHistory}
+use Rattle.lazy_file.specs.SourceTexts.{Agrees}
+use Rattle.cord_position.specs.Fetched.{IsStated, rope_cell}
 use Rattle.image_reader.specs.declared.revision.Revision.{Revision}
 use Rattle.image_reader.specs.Value.{ImageValue, table_of}
 use Rattle.session_checker.specs.RevisionRules.{revision_at, HasGoodMark}
@@ -24,6 +26,14 @@ texts v source = map (λ (r : Revision). text source (rope_cells (table_of v) r.
 abbrev pub text_of : ImageValue → (ℕ → ℕ → ℕ) → ℕ → List ℕ
 text_of v source k = get_or (texts v source) k []
 
+-- the cell at i of revision k's root
+abbrev pub fetched_cell : ImageValue → ℕ → ℕ → Cell
+fetched_cell v k i = rope_cell (table_of v) (revision_at v k).root i
+
+-- the byte at i of revision k's text, where the source of its cell, if it has one, states its text
+abbrev pub IsFetchedOf : ImageValue → List (Option (List ℕ)) → ℕ → ℕ → Option ℕ → Type 0
+IsFetchedOf v stated k i found = (source : ℕ → ℕ → ℕ) → Agrees stated source → IsStated stated (fetched_cell v k i) → found ≡ slice_get (text_of v source k) i
+
 -- how many nodes are visited for the byte at i of revision k's text
 abbrev pub fetch_visits : ImageValue → ℕ → ℕ → ℕ
 fetch_visits v k i = rope_visits (table_of v) (revision_at v k).root i
@@ -33,7 +43,7 @@ pub record IsFaithful (v : ImageValue) : Type 0 where
   pub sound : IsSound (table_of v)
   -- each recorded length and depth is its node's
   pub true_records : HasTrueRecords (table_of v)
-  pub lengths : (id : ℕ) → id < length v.nodes → length (cells (table_of v) id) ≡ len_at (table_of v) id
+  pub lengths : (id : ℕ) → id < length (table_of v).nodes → length (cells (table_of v) id) ≡ len_at (table_of v) id
   -- each root is nil or a node
   pub roots : (k : ℕ) → k < length v.revisions → IsRope (table_of v) (revision_at v k).root
   -- each revision's text is what its command gives of the texts before it

@@ -1,7 +1,8 @@
 -- The rules that each node of an image has to keep, in their order, and which one it breaks first.
 use Rattle.std.specs.Prelude.{◌≡◌, ℕ, ◌^◌, ◌<◌, ◌≤◌, length}
 use Rattle.rope_node.specs.declared.node.NodeView.{NodeView}
-use Rattle.rope_node.specs.Table.{Node, Table, node_at, HasEarlierChildren, HasTrueLength, HasSpanInside, depth_of, IsSoundNode, IsTrueNode}
+use Rattle.rope_node.specs.Table.{Node, Table, node_at, HasEarlierChildren, HasTrueLength, HasSpanInside, depth_of}
+use Rattle.image_reader.specs.Acceptance.{IsGoodNode}
 use Rattle.session_checker.specs.declared.fault.CheckFault.{CheckFault}
 use Rattle.session_checker.specs.declared.fault.CheckFault.TheVariants as faults
 use Rattle.session_checker.specs.declared.node_rules.NodeRule.{NodeRule}
@@ -24,13 +25,6 @@ Breaks t id n Reference = ¬ HasEarlierChildren t id n.view
 Breaks t id n Length = HasEarlierChildren t id n.view × ¬ HasGoodLength t n.len n.view
 Breaks t id n Depth = HasEarlierChildren t id n.view × HasGoodLength t n.len n.view × ¬ HasGoodDepth t n.depth n.view
 Breaks t id n Span = HasEarlierChildren t id n.view × HasGoodLength t n.len n.view × HasGoodDepth t n.depth n.view × ¬ HasSpanInside t n.len n.view
-
--- a node that breaks no rule
-abbrev pub IsGoodNode : Table → ℕ → Type 0
-IsGoodNode t id = IsSoundNode t id (node_at t id) × IsTrueNode t (node_at t id)
-
-abbrev pub AreGoodNodes : Table → Type 0
-AreGoodNodes t = (id : ℕ) → id < length t.nodes → IsGoodNode t id
 
 abbrev pub fault_at : NodeRule → ℕ → CheckFault
 fault_at Reference id = faults.Reference id

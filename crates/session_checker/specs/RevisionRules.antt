@@ -13,7 +13,7 @@ use Rattle.span_certificate.specs.Covers.{Covers, IsFirstBad}
 use Rattle.image_reader.specs.declared.revision.Revision.{Revision}
 use Rattle.image_reader.specs.Value.{ImageValue, table_of}
 use Rattle.session_checker.specs.declared.fault.CheckFault.{CheckFault}
-use Rattle.session_checker.specs.declared.fault.CheckFault.TheVariants.{Read, Reference, Length, Depth, Span, Command, Root, Mark, Rows}
+use Rattle.session_checker.specs.declared.fault.CheckFault.TheVariants.{Read, SourceCount, SourceLength, Reference, Length, Depth, Span, Command, Root, Mark, Rows}
 
 -- what is read past the end
 abbrev pub no_revision : Revision
@@ -71,6 +71,8 @@ AreGoodRevisions v = (k : ℕ) → k < length v.revisions → IsGoodRevision v k
 -- the first rule that revision k breaks
 abbrev pub BreaksAt : ImageValue → ℕ → CheckFault → Type 0
 BreaksAt v k (Read f) = ⊥
+BreaksAt v k SourceCount = ⊥
+BreaksAt v k (SourceLength s) = ⊥
 BreaksAt v k (Reference id) = ⊥
 BreaksAt v k (Length id) = ⊥
 BreaksAt v k (Depth id) = ⊥

@@ -1,19 +1,23 @@
 //! Accepted images.
 
-ghost use Rattle.std.specs.Prelude.{◌≡◌, ◌↔◌, ◌<◌, ◌≤◌, ◌+◌, ℕ, length, slice_get, None, IfOk, IfErr, IfSome, IsOk};
-ghost use Rattle.rope_node.specs.Table.{view_at, len_at, IsLeaf};
-ghost use Rattle.rope_node.specs.Denotes.{Byte, cell_at, rope_depth, IsRope};
+ghost use Rattle.std.specs.Prelude.{◌≡◌, ◌↔◌, ◌<◌, ◌≤◌, ◌+◌, ℕ, true, length, slice_get, None, IfOk, IfErr, IfSome, IsOk};
+ghost use Rattle.rope_node.specs.Denotes.{rope_depth, IsRope};
+ghost use Rattle.cord_position.specs.Fetched.{IsPlaceFault};
+ghost use Rattle.image_reader.specs.Acceptance.{HasSources};
 ghost use Rattle.image_reader.specs.Value.{IsImage, table_of};
 ghost use Rattle.image_reader.specs.Spelling.{spelling};
 ghost use Rattle.session_checker.specs.Accepted.{IsAccepted, IsFirstFault};
 ghost use Rattle.session_checker.specs.RevisionRules.{revision_at};
-ghost use Rattle.session_checker.specs.Faithful.{IsFaithful, text_of, fetch_visits};
+ghost use Rattle.session_checker.specs.Faithful.{IsFaithful, IsFetchedOf, fetch_visits, fetched_cell};
 
 use crate::fault::CheckFault;
 use crate::revision_rules::check_revisions;
 use crate::tables::{Tables, check_tables};
+use cord_position::fetch_byte;
+use function_leaf::Coded;
 use image_reader::{Image, Revision};
-use rope_node::{NodeId, NodeSpace, NodeView, Rope, find_leaf};
+use lazy_file::{SourceFault, Sources};
+use rope_node::{CodedSpace, NodeId, NodeSpace, NodeView, Rope};
 use std::marker::Model;
 
 /// An image that was accepted: each revision's root denotes the text that its commands give.
@@ -78,29 +82,33 @@ impl Checked<'_> {
         Some(self.revision(k)?.mark)
     }
 
-    /// The byte of a leaf at a place.
-    fn byte_at(&self, leaf: NodeId, start: u64) -> u8
-        requires there { leaf.0 < length self.now.nodes }
-        requires leaf { IsLeaf (view_at (table_of self.now) leaf.0) }
-        requires inside { start < len_at (table_of self.now) leaf.0 }
-        ensures { cell_at (table_of self.now) leaf.0 start ≡ Byte result }
-    {
-        self.tables.literal(leaf, start)[0]
-    }
-
     /// The byte at `i` of the text of revision `k`, and how many nodes were visited for it, from the root to the leaf. Past the
-    /// end of the text, and where there is no such revision, no byte and no node.
-    pub fn fetch(&self, k: u32, i: u64) -> (Option<u8>, u32)
-        ensures byte { (source : ℕ → ℕ → ℕ) → result.0 ≡ slice_get (text_of self.now source k) i }
-        ensures visits { result.1 ≡ fetch_visits self.now k i }
-        ensures few { result.1 ≤ rope_depth (table_of self.now) (revision_at self.now k).root + 1 }
+    /// end of the text, and where there is no such revision, no byte and no node. It takes no memory of its own.
+    ///
+    /// # Errors
+    ///
+    /// A source's fault, where the byte is one of that source and the read of it failed. Sources that never fail, and are as many
+    /// and as long as the image says, give none.
+    pub fn fetch<S: Sources>(
+        &self,
+        sources: &mut S,
+        k: u32,
+        i: u64,
+    ) -> Result<(Option<u8>, u32), SourceFault>
+        ensures byte { IfOk result (λ x. IsFetchedOf self.now (S.texts sources.old) k i x.0) }
+        ensures visits { IfOk result (λ x. x.1 ≡ fetch_visits self.now k i) }
+        ensures few { IfOk result (λ x. x.1 ≤ rope_depth (table_of self.now) (revision_at self.now k).root + 1) }
+        ensures fault { IfErr result (IsPlaceFault (S.sizes sources.old) (S.texts sources.old) (S.failures sources.old) (S.failures sources.new) (fetched_cell self.now k i)) }
+        ensures succeeds { S.never_fails sources.old ≡ true → HasSources self.now (S.sizes sources.old) → IsOk result }
+
+        // A fetch changes no size and no text, nor whether the sources may fail.
+        ensures sizes { S.sizes sources.new ≡ S.sizes sources.old }
+        ensures texts { S.texts sources.new ≡ S.texts sources.old }
+        ensures never_fails { S.never_fails sources.new ≡ S.never_fails sources.old }
     {
         match self.root(k) {
-            Some(Some(node)) if i < self.tables.len(node) => {
-                let found = find_leaf(&self.tables, node, i);
-                (Some(self.byte_at(found.leaf, found.start)), found.visits)
-            }
-            _ => (None, 0),
+            Some(root) => fetch_byte(&self.tables, sources, root, i),
+            None => Ok((None, 0)),
         }
     }
 }
@@ -129,23 +137,55 @@ impl NodeSpace for Checked<'_> {
     fn literal(&self, id: NodeId, off: u64) -> &[u8] {
         self.tables.literal(id, off)
     }
+
+    fn fun_byte(&self, id: NodeId, i: u64) -> u8 {
+        self.tables.fun_byte(id, i)
+    }
+
+    fn source_count(&self) -> u32 {
+        self.tables.source_count()
+    }
+
+    fn source_len(&self, s: u32) -> u64 {
+        self.tables.source_len(s)
+    }
+
+    fn pool_len(&self) -> u64 {
+        self.tables.pool_len()
+    }
+
+    fn pool(&self, a: u64) -> &[u8] {
+        self.tables.pool(a)
+    }
 }
 
-/// Accepts or refuses a session image. It goes over the bytes section by section, and takes no memory.
-pub fn check(bytes: &[u8]) -> Result<Checked<'_>, CheckFault>
-    // What is accepted is faithful, and it is what the bytes spell.
+impl CodedSpace for Checked<'_> {
+    ghost use Rattle.session_checker.specs.Functions.{coded_at};
+
+    ghost coded = { coded_at };
+
+    fn coded(&self, id: NodeId) -> Coded {
+        self.tables.coded(id)
+    }
+}
+
+/// Accepts or refuses a session image with its sources. It goes over the bytes section by section, reads no source, and takes no
+/// memory.
+pub fn check<'a, S: Sources>(bytes: &'a [u8], sources: &S) -> Result<Checked<'a>, CheckFault>
+    // What is accepted is faithful, it is what the bytes spell, and the sources are its own.
     ensures faithful { IfOk result IsFaithful }
     ensures image { IfOk result (λ v. IsImage v × (bytes.now ≡ spelling v)) }
-    // What is accepted are the bytes that keep the rules.
-    ensures accepted { IsOk result ↔ IsAccepted bytes.now }
+    ensures sources { IfOk result (λ v. HasSources v (S.sizes sources.now)) }
+    // What is accepted are the bytes and sources that keep the rules.
+    ensures accepted { IsOk result ↔ IsAccepted bytes.now (S.sizes sources.now) }
     // A refusal is the first fault.
-    ensures refused { IfErr result (IsFirstFault bytes.now) }
+    ensures refused { IfErr result (IsFirstFault bytes.now (S.sizes sources.now)) }
 {
     let image = match Image::read(bytes) {
         Ok(image) => image,
         Err(fault) => return Err(CheckFault::Read(fault)),
     };
-    let tables = check_tables(&image)?;
+    let tables = check_tables(&image, sources)?;
     check_revisions(&tables)?;
     Ok(Checked { tables })
 }

@@ -11,13 +11,17 @@ use std::fmt;
 pub enum CheckFault {
     /// `C1(I)`: the bytes are no image.
     Read(ReadFault),
-    /// `C4(node)`: a child is not below its own node.
+    /// `C2`: there are more or fewer sources than the image says.
+    SourceCount,
+    /// `C3(source)`: the source is not as long as the image says.
+    SourceLength(u32),
+    /// `C4(node)`: a child is not below its own node, or there is no such source.
     Reference(u32),
     /// `C5(node)`: the recorded length is 0, over the limit, or not the sum of the children's.
     Length(u32),
     /// `C6(node)`: the recorded depth is wrong, or over 64.
     Depth(u32),
-    /// `C7(node)`: a span is not inside the pool.
+    /// `C7(node)`: a span is not inside the pool, its source or its base.
     Span(u32),
     /// `C8(revision)`: the command is out of range.
     Command(u32),
@@ -35,6 +39,8 @@ impl fmt::Display for CheckFault {
     fn fmt<W: fmt::Write>(&self, f: &mut fmt::Formatter<W>) -> fmt::Result {
         match self {
             CheckFault::Read(fault) => write!(f, "C1({fault})"),
+            CheckFault::SourceCount => write!(f, "C2"),
+            CheckFault::SourceLength(source) => write!(f, "C3({source})"),
             CheckFault::Reference(node) => write!(f, "C4({node})"),
             CheckFault::Length(node) => write!(f, "C5({node})"),
             CheckFault::Depth(node) => write!(f, "C6({node})"),

@@ -6,10 +6,12 @@ mod checked;
 mod fault;
 mod node_rules;
 mod revision_rules;
+mod source_rules;
 mod tables;
 
 pub use checked::{Checked, check};
 pub use fault::CheckFault;
+pub use tables::{Tables, check_tables};
 
 #[cfg(test)]
 mod tests;

@@ -37,7 +37,7 @@ fn has_earlier_children(image: &Image, id: u32, view: NodeView) -> bool
 }
 
 fn has_good_length(image: &Image, id: u32, view: NodeView, len: u64) -> bool
-    requires id { id < length image.now.nodes }
+    requires id { id < length (table_of image.now).nodes }
     requires children { HasEarlierChildren (table_of image.now) id view }
     ensures { IsTrue result ↔ HasGoodLength (table_of image.now) len view }
 {
@@ -51,7 +51,7 @@ fn has_good_length(image: &Image, id: u32, view: NodeView, len: u64) -> bool
 
 /// The depth that follows from the children's.
 fn depth_of(image: &Image, id: u32, view: NodeView) -> u32
-    requires id { id < length image.now.nodes }
+    requires id { id < length (table_of image.now).nodes }
     requires children { HasEarlierChildren (table_of image.now) id view }
     ensures { result ≡ depth_of (table_of image.now) view }
 {
@@ -63,7 +63,7 @@ fn depth_of(image: &Image, id: u32, view: NodeView) -> u32
 }
 
 fn has_good_depth(image: &Image, id: u32, view: NodeView, depth: u8) -> bool
-    requires id { id < length image.now.nodes }
+    requires id { id < length (table_of image.now).nodes }
     requires children { HasEarlierChildren (table_of image.now) id view }
     ensures { IsTrue result ↔ HasGoodDepth (table_of image.now) depth view }
 {
@@ -78,7 +78,7 @@ pub fn is_inside(start: u64, len: u64, end: u64) -> bool
 }
 
 fn has_span_inside(image: &Image, id: u32, view: NodeView, len: u64) -> bool
-    requires id { id < length image.now.nodes }
+    requires id { id < length (table_of image.now).nodes }
     requires children { HasEarlierChildren (table_of image.now) id view }
     ensures { IsTrue result ↔ HasSpanInside (table_of image.now) len view }
 {
@@ -92,7 +92,7 @@ fn has_span_inside(image: &Image, id: u32, view: NodeView, len: u64) -> bool
 
 /// Tests the rules of node `id` in their order, and answers the first that it breaks.
 pub fn check_node(image: &Image, id: NodeId) -> Result<(), NodeRule>
-    requires { id.0 < length image.now.nodes }
+    requires { id.0 < length (table_of image.now).nodes }
     ensures ok { IsOk result ↔ (IsSoundNode (table_of image.now) id.0 (node_at (table_of image.now) id.0) × IsTrueNode (table_of image.now) (node_at (table_of image.now) id.0)) }
     ensures err { IfErr result (Breaks (table_of image.now) id.0 (node_at (table_of image.now) id.0)) }
 {

@@ -3,12 +3,17 @@
 ghost use Rattle.std.specs.Prelude.{◌≡◌, ◌<◌, ◌↔◌, ℕ, length, IfOk, IfErr, IsOk};
 ghost use Rattle.rope_node.specs.Table.{IsSound, HasTrueRecords};
 ghost use Rattle.image_reader.specs.Value.{IsImage, table_of};
-ghost use Rattle.session_checker.specs.NodeRules.{AreGoodNodes, IsGoodNode, IsFirstNodeFault, fault_at};
+ghost use Rattle.image_reader.specs.Acceptance.{AreGoodNodes};
+ghost use Rattle.session_checker.specs.NodeRules.{IsFirstNodeFault, fault_at};
+ghost use Rattle.session_checker.specs.Accepted.{HasGoodTables, IsFirstTableFault};
 
 use crate::fault::CheckFault;
 use crate::node_rules::{NodeRule, check_node};
+use crate::source_rules::check_sources;
+use function_leaf::{Coded, LeafFn};
 use image_reader::Image;
-use rope_node::{NodeId, NodeSpace, NodeView};
+use lazy_file::Sources;
+use rope_node::{CodedSpace, NodeId, NodeSpace, NodeView};
 use std::marker::Model;
 
 /// An image's nodes: a sound table with true records.
@@ -68,6 +73,36 @@ impl NodeSpace for Tables<'_> {
             _ => unreachable!(),
         }
     }
+
+    fn fun_byte(&self, id: NodeId, i: u64) -> u8 {
+        self.image.coded(id).byte(i)
+    }
+
+    fn source_count(&self) -> u32 {
+        self.image.source_count()
+    }
+
+    fn source_len(&self, s: u32) -> u64 {
+        self.image.source_len(s)
+    }
+
+    fn pool_len(&self) -> u64 {
+        self.image.pool().len() as u64
+    }
+
+    fn pool(&self, a: u64) -> &[u8] {
+        &self.image.pool()[a as usize..]
+    }
+}
+
+impl CodedSpace for Tables<'_> {
+    ghost use Rattle.session_checker.specs.Functions.{coded_at};
+
+    ghost coded = { coded_at };
+
+    fn coded(&self, id: NodeId) -> Coded {
+        self.image.coded(id)
+    }
 }
 
 /// The fault that breaking a rule is.
@@ -95,12 +130,20 @@ fn check_nodes(image: &Image) -> Result<(), CheckFault>
     Ok(())
 }
 
-/// The table of an image's nodes, where each keeps the rules. The fault is the first.
-pub fn check_tables<'a>(image: &Image<'a>) -> Result<Tables<'a>, CheckFault>
-    ensures ok { IsOk result ↔ AreGoodNodes (table_of image.now) }
+/// The table of an image's nodes, where the sources are the image's and each node keeps the rules. It takes no memory.
+///
+/// # Errors
+///
+/// The first fault of the sources, then of the nodes: `C2` to `C7`.
+pub fn check_tables<'a, S: Sources>(
+    image: &Image<'a>,
+    sources: &S,
+) -> Result<Tables<'a>, CheckFault>
+    ensures ok { IsOk result ↔ HasGoodTables image.now (S.sizes sources.now) }
     ensures value { IfOk result (λ v. v ≡ image.now) }
-    ensures err { IfErr result (IsFirstNodeFault (table_of image.now)) }
+    ensures err { IfErr result (IsFirstTableFault image.now (S.sizes sources.now)) }
 {
+    check_sources(image, sources)?;
     check_nodes(image)?;
     Ok(Tables {
         image: image.same(),

@@ -1,9 +1,10 @@
-//! Fetches of the image of one insertion of `abc`.
+//! Fetches of accepted images.
 
 use crate::check;
+use lazy_file::MemSources;
 use rope_node::NodeId;
 
-/// Its header, node, two revisions, row and pool.
+/// The image of one insertion of `abc`: its header, node, two revisions, row and pool.
 const ONE_INSERT: &[u8] = b"CORDSESS\0\0\0\x01\0\0\0\0\0\0\0\x01\0\0\0\x02\
     \0\0\0\x01\0\0\0\0\0\0\0\0\0\0\0\x03\
     \x01\0\0\0\0\0\0\0\0\0\0\0\0\0\0\x03\0\0\0\0\0\0\0\0\
@@ -17,18 +18,55 @@ const ONE_INSERT: &[u8] = b"CORDSESS\0\0\0\x01\0\0\0\0\0\0\0\x01\0\0\0\x02\
     \x02\0\0\0\0\0\0\0\0\0\0\0\0\0\0\x03\0\0\0\0\0\0\0\0\
     abc";
 
+/// The image of `cd`, inserted from the pool `abcd`, whose root is a substring of a substring of two joined literals: its header,
+/// five nodes, two revisions, row and pool.
+const SUBSTRINGS: &[u8] = b"CORDSESS\0\0\0\x01\0\0\0\0\
+    \0\0\0\x05\0\0\0\x02\0\0\0\x01\0\0\0\0\
+    \0\0\0\0\0\0\0\x04\
+    \x01\0\0\0\0\0\0\0\0\0\0\0\0\0\0\x02\
+    \0\0\0\0\0\0\0\0\0\0\0\0\0\0\0\0\
+    \x01\0\0\0\0\0\0\0\0\0\0\0\0\0\0\x02\
+    \0\0\0\0\0\0\0\x02\0\0\0\0\0\0\0\0\
+    \x04\x01\0\0\0\0\0\0\0\0\0\0\0\0\0\x04\
+    \0\0\0\x01\0\0\0\0\0\0\0\0\0\0\0\0\
+    \x05\x02\0\0\0\0\0\x02\0\0\0\0\0\0\0\x03\
+    \0\0\0\0\0\0\0\x01\0\0\0\0\0\0\0\0\
+    \x05\x03\0\0\0\0\0\x03\0\0\0\0\0\0\0\x02\
+    \0\0\0\0\0\0\0\x01\0\0\0\0\0\0\0\0\
+    \x01\0\0\0\xff\xff\xff\xff\0\0\0\0\0\0\0\0\
+    \0\0\0\0\0\0\0\0\0\0\0\0\0\0\0\0\
+    \0\0\0\0\0\0\0\0\0\0\0\0\0\0\0\0\
+    \0\0\0\0\0\0\0\0\x03\0\0\0\0\0\0\x04\
+    \0\0\0\0\0\0\0\0\0\0\0\0\0\0\0\0\
+    \0\0\0\0\0\0\0\0\0\0\0\0\0\0\0\x02\
+    \0\0\0\0\0\0\0\x02\0\0\0\x01\0\0\0\0\
+    \x02\0\0\0\0\0\0\0\0\0\0\0\0\0\0\x02\
+    \0\0\0\0\0\0\0\0\
+    abcd";
+
+#[test]
+fn a_fetch_goes_through_a_substring_of_a_substring(rt: HostRuntime) {
+    let mut sources = MemSources::new(rt.alloc());
+    let image = check(SUBSTRINGS, &sources).expect(&rt, "the image is accepted");
+    assert_eq!(rt; image.fetch(&mut sources, 1, 0), Ok((Some(0x63), 4)));
+    assert_eq!(rt; image.fetch(&mut sources, 1, 1), Ok((Some(0x64), 4)));
+    assert_eq!(rt; image.fetch(&mut sources, 1, 2), Ok((None, 0)));
+}
+
 #[test]
 fn a_fetch_gives_the_byte_and_the_nodes_visited(rt: HostRuntime) {
-    let image = check(ONE_INSERT).expect(&rt, "the image is accepted");
-    assert_eq!(rt; image.fetch(1, 2), (Some(0x63), 1));
-    assert_eq!(rt; image.fetch(1, 3), (None, 0));
-    assert_eq!(rt; image.fetch(0, 0), (None, 0));
-    assert_eq!(rt; image.fetch(2, 0), (None, 0));
+    let mut sources = MemSources::new(rt.alloc());
+    let image = check(ONE_INSERT, &sources).expect(&rt, "the image is accepted");
+    assert_eq!(rt; image.fetch(&mut sources, 1, 2), Ok((Some(0x63), 1)));
+    assert_eq!(rt; image.fetch(&mut sources, 1, 3), Ok((None, 0)));
+    assert_eq!(rt; image.fetch(&mut sources, 0, 0), Ok((None, 0)));
+    assert_eq!(rt; image.fetch(&mut sources, 2, 0), Ok((None, 0)));
 }
 
 #[test]
 fn a_revision_has_its_root_and_its_mark(rt: HostRuntime) {
-    let image = check(ONE_INSERT).expect(&rt, "the image is accepted");
+    let sources = MemSources::new(rt.alloc());
+    let image = check(ONE_INSERT, &sources).expect(&rt, "the image is accepted");
     assert_eq!(rt; (image.root(0), image.mark(0)), (Some(None), Some(false)));
     assert_eq!(rt;
         (image.root(1), image.mark(1)),

@@ -1,4 +1,4 @@
-//! `check IMAGE`
+//! `check IMAGE [SOURCE]...`
 
 ghost use Rattle.std.specs.Prelude.{◌≡◌, IfOk, Some, codes, false};
 ghost use Rattle.clap.specs.Words.{app_of, found_of, rows_of};
@@ -17,14 +17,16 @@ pub fn command<'a>(alloc: Global) -> Result<Command<'a>, AllocError>
 {
     Command::new(alloc, "check")
         .about("Say whether a saved session is accepted, or by which fault it is refused")
-        .arg(args::image(alloc))
+        .arg(args::image(alloc))?
+        .arg(args::sources(alloc))
 }
 
 /// The action of what was given.
-pub fn action<'a>(given: &ArgMatches<'a>) -> Action<'a>
-    ensures { Holds (Some (codes "check", rows_of (found_of given.now))) result }
+pub fn action<'a>(alloc: Global, given: &ArgMatches<'a>) -> Result<Action<'a>, AllocError>
+    ensures { IfOk result (Holds (Some (codes "check", rows_of (found_of given.now)))) }
 {
-    Action::Check {
+    Ok(Action::Check {
         image: given::text(given, "IMAGE"),
-    }
+        sources: given::texts(alloc, given, "SOURCE")?,
+    })
 }

@@ -1,21 +1,33 @@
 //! The arguments of a subcommand, as they were given.
 
-ghost use Rattle.std.specs.Prelude.{◌≡◌, ◌∷◌, [], IfOk, IfErr};
+ghost use Rattle.std.specs.Prelude.{◌≡◌, ◌∷◌, [], IfOk, IfErr, map};
 ghost use Rattle.clap.specs.Words.{found_of, rows_of};
 ghost use Rattle.clap.specs.declared.error.kind.ErrorKind.TheVariants.{ValueValidation};
-ghost use Rattle.cord_tools.specs.Words.{IsNumber, ReadsAs, text_of};
+ghost use Rattle.cord_tools.specs.Words.{IsNumber, ReadsAs, text_of, texts_of};
 ghost use Rattle.cord_tools.specs.Refusals.{FailsAs};
 
 use super::fault::WordsFault;
 use clap::error::ErrorKind;
 use clap::{ArgMatches, Command};
-use std::alloc::Global;
+use std::alloc::{AllocError, Global};
 
 /// The text of an argument, and the empty text where it has none.
 pub fn text<'a>(given: &ArgMatches<'a>, id: &str) -> &'a str
     ensures { result.now ≡ text_of (rows_of (found_of given.now)) id.now }
 {
     given.get_str(id).unwrap_or("")
+}
+
+/// The texts of an argument in their order, and none where it was not given.
+pub fn texts<'a>(
+    alloc: Global,
+    given: &ArgMatches<'a>,
+    id: &str,
+) -> Result<Vec<&'a str>, AllocError>
+    ensures { IfOk result (λ texts.
+        map (λ text. text.now) texts.items ≡ texts_of (rows_of (found_of given.now)) id.now) }
+{
+    Vec::from_slice(alloc, given.get_strs(id).unwrap_or(&[]))
 }
 
 /// The number of an argument. Where its text is none of 64 bits, the fault is one of `command`.

@@ -1,4 +1,4 @@
-//! `show IMAGE REV`
+//! `show IMAGE REV [SOURCE]...`
 
 ghost use Rattle.std.specs.Prelude.{◌≡◌, ◌∷◌, [], IfErr, IfOk, Some, codes, false};
 ghost use Rattle.clap.specs.Words.{app_of, found_of, rows_of};
@@ -24,7 +24,8 @@ pub fn command<'a>(alloc: Global) -> Result<Command<'a>, AllocError>
     Command::new(alloc, "show")
         .about("Write the text of one revision of a saved session")
         .arg(args::image(alloc))?
-        .arg(revision)
+        .arg(revision)?
+        .arg(args::sources(alloc))
 }
 
 /// The action of what was given. Where a number does not read, the fault is one of `command`.
@@ -41,5 +42,6 @@ pub fn action<'a>(
     Ok(Action::Show {
         image: given::text(given, "IMAGE"),
         revision: given::number(alloc, command, given, "REV")?,
+        sources: given::texts(alloc, given, "SOURCE")?,
     })
 }

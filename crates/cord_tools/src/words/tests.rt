@@ -37,31 +37,68 @@ fn usage_of(rt: &HostRuntime, text: &str) -> Result<Option<(ErrorKind, String)>,
     Ok(Some((error.kind(), shown)))
 }
 
+fn are_texts(given: &[&str], wanted: &[&str]) -> bool {
+    given.len() == wanted.len() && given.iter().zip(wanted).all(|(x, y)| *x == *y)
+}
+
 #[test]
-fn each_subcommand_is_read(rt: HostRuntime) -> Result<(), Fail> {
-    for (text, action) in [
-        ("cordkit", Action::CheckInput),
-        ("cordkit check a.cord", Action::Check { image: "a.cord" }),
-        ("cordkit check -- -a", Action::Check { image: "-a" }),
-        (
-            "cordkit show a 1",
-            Action::Show {
-                image: "a",
-                revision: 1,
-            },
-        ),
-        (
-            "cordkit show a 18446744073709551615",
-            Action::Show {
-                image: "a",
-                revision: u64::MAX,
-            },
-        ),
-    ] {
+fn no_words_check_input(rt: HostRuntime) -> Result<(), Fail> {
+    let line = line(&rt, "cordkit")?;
+    let is_read = match read(&rt, line.as_slice()) {
+        Ok(action) => action == Action::CheckInput,
+        Err(_) => false,
+    };
+    assert!(rt; is_read);
+    Ok(())
+}
+
+#[test]
+fn check_is_read(rt: HostRuntime) -> Result<(), Fail> {
+    let cases: [(&str, &str, &[&str]); 5] = [
+        ("cordkit check a.cord", "a.cord", &[]),
+        ("cordkit check -- -a", "-a", &[]),
+        ("cordkit check a.cord b.txt", "a.cord", &["b.txt"]),
+        ("cordkit check a.cord c b", "a.cord", &["c", "b"]),
+        ("cordkit check a -- b -c", "a", &["b", "-c"]),
+    ];
+    for (text, wanted_image, wanted_sources) in cases {
         let line = line(&rt, text)?;
-        let is_read = match read(&rt, line.as_slice()) {
-            Ok(read) => read == action,
-            Err(_) => false,
+        let outcome = read(&rt, line.as_slice());
+        let is_read = match &outcome {
+            Ok(Action::Check { image, sources }) => {
+                *image == wanted_image && are_texts(sources.as_slice(), wanted_sources)
+            }
+            _ => false,
+        };
+        assert!(rt; is_read, "{text}");
+    }
+    Ok(())
+}
+
+#[test]
+fn show_is_read(rt: HostRuntime) -> Result<(), Fail> {
+    let cases: [(&str, &str, u64, &[&str]); 4] = [
+        ("cordkit show a 1", "a", 1, &[]),
+        ("cordkit show a 18446744073709551615", "a", u64::MAX, &[]),
+        ("cordkit show a.cord 2 b", "a.cord", 2, &["b"]),
+        ("cordkit show a.cord 2 c b", "a.cord", 2, &["c", "b"]),
+    ];
+    for (text, wanted_image, wanted_revision, wanted_sources) in cases {
+        let line = line(&rt, text)?;
+        let outcome = read(&rt, line.as_slice());
+        let is_read = match &outcome {
+            Ok(
+                Action::Show {
+                    image,
+                    revision,
+                    sources,
+                },
+            ) => {
+                *image == wanted_image
+                    && *revision == wanted_revision
+                    && are_texts(sources.as_slice(), wanted_sources)
+            }
+            _ => false,
         };
         assert!(rt; is_read, "{text}");
     }
@@ -76,10 +113,9 @@ fn other_words_are_usage_faults(rt: HostRuntime) -> Result<(), Fail> {
         ("cordkit a.cord check", ErrorKind::InvalidSubcommand),
         ("cordkit check", ErrorKind::MissingRequiredArgument),
         ("cordkit check --frob a.cord", ErrorKind::UnknownArgument),
-        ("cordkit check a.cord b", ErrorKind::UnknownArgument),
         ("cordkit show", ErrorKind::MissingRequiredArgument),
         ("cordkit show a.cord", ErrorKind::MissingRequiredArgument),
-        ("cordkit show a.cord 1 b", ErrorKind::UnknownArgument),
+        ("cordkit show a.cord b 1", ErrorKind::ValueValidation),
         ("cordkit show a.cord x", ErrorKind::ValueValidation),
         ("cordkit show a.cord 1.0", ErrorKind::ValueValidation),
         (
@@ -115,9 +151,19 @@ fn usage_is_told_in_words(rt: HostRuntime) -> Result<(), Fail> {
             "cordkit --help",
             "With no words, check the session on standard input.",
         ),
-        ("cordkit check --help", "Usage: cordkit check <IMAGE>\n"),
+        (
+            "cordkit check --help",
+            "Usage: cordkit check <IMAGE> [SOURCE]...\n",
+        ),
         ("cordkit check --help", "The file of the saved session"),
-        ("cordkit show --help", "Usage: cordkit show <IMAGE> <REV>\n"),
+        (
+            "cordkit check --help",
+            "The files that the session was made from, in their order",
+        ),
+        (
+            "cordkit show --help",
+            "Usage: cordkit show <IMAGE> <REV> [SOURCE]...\n",
+        ),
         ("cordkit show --help", "The number of the revision"),
         (
             "cordkit show a x",

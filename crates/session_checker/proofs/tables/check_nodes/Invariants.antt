@@ -1,6 +1,6 @@
 use Rattle.std.proofs.Common.{ℕ, ◌<◌}
 use Rattle.image_reader.specs.Value.{table_of}
-use Rattle.session_checker.specs.NodeRules.{IsGoodNode}
+use Rattle.image_reader.specs.Acceptance.{IsGoodNode}
 use Rattle.session_checker.proofs.tables.check_nodes.Given as goal
 
 abbrev pub invariant-loop-id : goal.invariant-loop-id

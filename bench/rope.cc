@@ -1,0 +1,55 @@
+// The work of crates/cord_bench on the rope of libstdc++: the same texts, the same places, as many times.
+#include <chrono>
+#include <cstdint>
+#include <cstdio>
+#include <ext/rope>
+#include <string>
+
+using __gnu_cxx::crope;
+using Clock = std::chrono::steady_clock;
+
+static const uint64_t count = 1000000;
+
+// a place below the end, one after the other as if at random
+static uint64_t place(uint64_t k, uint64_t end) { return k * 2654435761 % end; }
+
+static void report(const char *work, Clock::time_point start) {
+    auto taken = std::chrono::duration_cast<std::chrono::nanoseconds>(Clock::now() - start);
+    std::printf("  %-34s %6lld ns\n", work, (long long)(taken.count() / (long long)count));
+}
+
+int main() {
+    uint64_t sum = 0;
+    {
+        auto start = Clock::now();
+        crope text;
+        for (uint64_t k = 0; k < count; k++)
+            text.push_back('x');
+        sum += text.size();
+        report("an append of one byte", start);
+    }
+    std::string line(64, 'x');
+    crope text(line.c_str());
+    for (int k = 0; k < 14; k++)
+        text = text + text;
+    {
+        crope left(line.c_str()), right(line.c_str());
+        auto start = Clock::now();
+        for (uint64_t k = 0; k < count; k++)
+            sum += (left + right).size();
+        report("a join of two texts of 64 bytes", start);
+    }
+    {
+        auto start = Clock::now();
+        for (uint64_t k = 0; k < count; k++)
+            sum += text.substr(place(k, text.size() - 1000), 1000).size();
+        report("a substring of a megabyte", start);
+    }
+    {
+        auto start = Clock::now();
+        for (uint64_t k = 0; k < count; k++)
+            sum += text[place(k, text.size())];
+        report("a fetch in a megabyte", start);
+    }
+    return sum == 0;
+}

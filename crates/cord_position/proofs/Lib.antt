@@ -1,0 +1,2 @@
+pub mod LeafCells
+pub mod RopeBytes

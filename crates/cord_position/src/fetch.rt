@@ -1,0 +1,45 @@
+//! The byte at a place of a rope, by one descent.
+
+ghost use Rattle.std.specs.Prelude.{◌≡◌, ◌≤◌, ◌+◌, ℕ, true, IfOk, IfErr, IsOk};
+ghost use Rattle.rope_node.specs.Denotes.{rope_depth, IsRope};
+ghost use Rattle.rope_node.specs.Path.{rope_visits};
+ghost use Rattle.cord_position.specs.Fetched.{IsFetched, IsPlaceFault, HoldsPlace, rope_cell};
+
+use crate::leaf::leaf_byte;
+use lazy_file::{SourceFault, Sources};
+use rope_node::{NodeSpace, Rope, find_leaf};
+
+/// The byte at `i` of a rope, and how many nodes were visited for it, from the root to the leaf. At the end and past it, no byte
+/// and no node. It takes no memory of its own.
+///
+/// # Errors
+///
+/// A source's fault, where the byte is one of that source and the read of it failed.
+pub fn fetch_byte<S: NodeSpace, T: Sources>(
+    space: &S,
+    sources: &mut T,
+    rope: Rope,
+    i: u64,
+) -> Result<(Option<u8>, u32), SourceFault>
+    requires { IsRope (S.table space.now) rope }
+    ensures byte { IfOk result (λ x. IsFetched (S.table space.now) (T.texts sources.old) rope i x.0) }
+    ensures visits { IfOk result (λ x. x.1 ≡ rope_visits (S.table space.now) rope i) }
+    ensures few { IfOk result (λ x. x.1 ≤ rope_depth (S.table space.now) rope + 1) }
+    ensures fault { IfErr result (IsPlaceFault (T.sizes sources.old) (T.texts sources.old) (T.failures sources.old) (T.failures sources.new) (rope_cell (S.table space.now) rope i)) }
+    ensures succeeds { T.never_fails sources.old ≡ true → HoldsPlace (T.sizes sources.old) (rope_cell (S.table space.now) rope i) → IsOk result }
+    ensures own_sources { T.never_fails sources.old ≡ true → T.sizes sources.old ≡ (S.table space.now).sources → IsOk result }
+
+    // A fetch changes no size and no text, nor whether the sources may fail.
+    ensures sizes { T.sizes sources.new ≡ T.sizes sources.old }
+    ensures texts { T.texts sources.new ≡ T.texts sources.old }
+    ensures never_fails { T.never_fails sources.new ≡ T.never_fails sources.old }
+{
+    match rope {
+        Some(node) if i < space.len(node) => {
+            let found = find_leaf(space, node, i);
+            let byte = leaf_byte(space, sources, found.leaf, found.start)?;
+            Ok((Some(byte), found.visits))
+        }
+        _ => Ok((None, 0)),
+    }
+}

@@ -1,7 +1,0 @@
-use Rattle.cord_tools.proofs.Bytes.{read_up_to}
-use Rattle.cord_tools.proofs.input.read_image.Goals as goal
-
-pub returns-in-Ok-clause-ok : goal.returns-in-Ok-clause-ok
-returns-in-Ok-clause-ok g c =
-    read_up_to g.R.Read.remaining c.take.result.inner c.args.reader c.take.result.limit 5293213728 c.new-bytes.result.items c.read_to_end.new.buf.items
-    c.take.ensures.inner c.take.ensures.limit c.new-bytes.ensures.items c.in-Ok.ensures.bytes

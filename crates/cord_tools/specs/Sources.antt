@@ -1,0 +1,33 @@
+-- The sources of a session: how much is read of one, and when texts are refused.
+use Rattle.std.specs.Prelude.{ℕ, List, ⊤, ◌<◌, Any, length, map, take}
+use Rattle.std.specs.Global.{Vec}
+use Rattle.lazy_file.specs.SourceTexts.{AreSizes}
+use Rattle.lazy_file.specs.declared.sources.TheConstants.{COUNT_LIMIT, SOURCE_LIMIT}
+use Rattle.lazy_file.specs.declared.faults.AddFault.{AddFault}
+use Rattle.lazy_file.specs.declared.faults.AddFault.TheVariants as Add
+use Rattle.cord_tools.specs.declared.fault.ToolFault.{ToolFault}
+use Rattle.cord_tools.specs.declared.fault.ToolFault.TheVariants.{Memory, Read, Write, Refused, Source, NoRevision}
+
+-- one more byte than the longest source has
+abbrev pub source_limit : ℕ
+source_limit = 1099511627776
+
+abbrev pub texts_in : List (Vec ℕ) → List (List ℕ)
+texts_in = map (λ v. v.items)
+
+-- what the refusal of a source comes to
+abbrev pub source_fault : AddFault → ToolFault
+source_fault Add.TooManySources = Source Add.TooManySources
+source_fault Add.SourceTooLong = Source Add.SourceTooLong
+source_fault Add.Memory = Memory
+
+-- The texts are refused by this fault: the first text that cannot be added is one too many, or too long.
+abbrev pub RefusesSources : List (List ℕ) → ToolFault → Type 0
+RefusesSources texts Memory = ⊤
+RefusesSources texts (Source Add.TooManySources) = (COUNT_LIMIT < length texts) × AreSizes (map length (take COUNT_LIMIT texts))
+RefusesSources texts (Source Add.SourceTooLong) = Any (λ text. SOURCE_LIMIT < length text) (take COUNT_LIMIT texts)
+RefusesSources texts (Source Add.Memory) = ⊥
+RefusesSources texts Read = ⊥
+RefusesSources texts Write = ⊥
+RefusesSources texts (Refused f) = ⊥
+RefusesSources texts NoRevision = ⊥

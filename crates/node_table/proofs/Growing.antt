@@ -1,0 +1,118 @@
+-- A table that grows keeps its rules.
+use Rattle.std.proofs.Common.{◌≡◌, ℕ, zero, suc, ◌+◌, ◌-◌, ◌^◌, ◌<◌, ◌≤◌, inl, inr, Bool, true, false, if◌then◌else◌, List, [], ◌∷◌, ◌++◌, map, length, get_or, Option, Some, None, refl, sym, ap, subst, ◌∙◌, arith}
+use Rattle.std.proofs.lemmas.Bool.{cases_lt}
+use Rattle.std.proofs.lemmas.List.{length-append, length-map, get_or_append_left, get_or-append_right, get_or-map, map-append}
+use Rattle.leaf_buffer.specs.Contents.{Contents, KeepsPieces}
+use Rattle.rope_node.specs.declared.node.NodeView.{NodeView}
+use Rattle.rope_node.specs.declared.node.NodeView.TheVariants.{Lit, Src, Fun, Cat, Sub}
+use Rattle.rope_node.specs.Table.{Node, node_at, no_node, IsSoundNode, IsTrueNode, IsSound, HasTrueRecords}
+use Rattle.rope_node.specs.Extends.{Extends}
+use Rattle.rope_node.proofs.Extensions.{sound_kept, true_kept}
+use Rattle.node_table.specs.declared.record.Record.{Record}
+use Rattle.node_table.specs.Held.{Held, IsKept, IsGoodNode, IsKeptNode, CanHold, table_of, with_records, held_of, node_of, function_of, answer_of, most_nodes, most_sources}
+
+-- ---- the table of a store that was kept
+
+pub sound_of : {F : Type 0} (meaning : F → ℕ → ℕ) (h : Held F) → IsKept meaning h → IsSound (table_of meaning h)
+sound_of meaning h k = record { nodes = λ id lt. (k.nodes id lt).sound; pool = k.pool; sources = k.sources }
+
+pub true_of : {F : Type 0} (meaning : F → ℕ → ℕ) (h : Held F) → IsKept meaning h → HasTrueRecords (table_of meaning h)
+true_of meaning h k = record { nodes = λ id lt. (k.nodes id lt).true_record }
+
+-- ---- growing
+
+pub extends_records : {F : Type 0} (meaning : F → ℕ → ℕ) (h : Held F) (pool : Contents) (records : List (Record F)) → length h.functions ≡ length h.nodes → KeepsPieces h.pool pool → length h.pool.bytes ≤ length pool.bytes → Extends (table_of meaning h) (table_of meaning (with_records h pool records))
+extends_records {F} meaning h pool records same keeps longer = record {
+  nodes = λ id lt. get_or_append_left h.nodes (map node_of records) no_node id lt;
+  more_nodes = omega (arith, length-append h.nodes (map node_of records));
+  pool = keeps.bytes;
+  more_pool = longer;
+  sources = λ s lt. refl;
+  more_sources = omega arith;
+  answer = λ id lt. ap (λ (f : Option F). answer_of meaning f) (get_or_append_left h.functions (map function_of records) None id (omega arith));
+}
+
+kept_node : {F : Type 0} (old new : Contents) → KeepsPieces old new → (n : ℕ) (v : NodeView) (f : Option F) → IsKeptNode old n v f → IsKeptNode new n v f
+kept_node old new keeps n (Lit a) f k = keeps.in_one_block a n k
+kept_node old new keeps n (Src s a) f k = tt
+kept_node old new keeps n Fun None k = absurd k
+kept_node old new keeps n Fun (Some f) k = tt
+kept_node old new keeps n (Cat l r) f k = tt
+kept_node old new keeps n (Sub b i) f k = tt
+
+-- a node that keeps the rules keeps them in a table that goes on
+pub good_kept : {F : Type 0} (meaning : F → ℕ → ℕ) (old new : Held F) → Extends (table_of meaning old) (table_of meaning new) → KeepsPieces old.pool new.pool → (id : ℕ) → id < length old.nodes → get_or new.functions id None ≡ get_or old.functions id None → IsGoodNode meaning old id → IsGoodNode meaning new id
+good_kept {F} meaning old new x keeps id inside f g =
+    let n : Node = node_at (table_of meaning old) id in
+    let same : node_at (table_of meaning new) id ≡ n = x.nodes id inside in
+    record {
+      sound = subst (λ (k : Node). IsSoundNode (table_of meaning new) id k) (sym same) (sound_kept (table_of meaning old) (table_of meaning new) x id n (omega arith) g.sound);
+      true_record = subst (λ (k : Node). IsTrueNode (table_of meaning new) k) (sym same) (true_kept (table_of meaning old) (table_of meaning new) x id n (omega arith) g.sound g.true_record);
+      kept = subst (λ (k : Node). IsKeptNode new.pool k.len k.view (get_or new.functions id None)) (sym same)
+          (subst (λ (o : Option F). IsKeptNode new.pool n.len n.view o) (sym f) (kept_node old.pool new.pool keeps n.len n.view (get_or old.functions id None) g.kept));
+    }
+
+-- nodes that can be held are held
+pub kept_records : {F : Type 0} (meaning : F → ℕ → ℕ) (h : Held F) (pool : Contents) (records : List (Record F)) → IsKept meaning h → CanHold meaning h pool records → KeepsPieces h.pool pool → length h.pool.bytes ≤ length pool.bytes → length pool.bytes < 2 ^ 32 → length h.nodes + length records ≤ most_nodes → IsKept meaning (with_records h pool records)
+kept_records {F} meaning h pool records k can keeps longer limit few =
+    let whole : length (h.nodes ++ map node_of records) ≡ length h.nodes + length records = rw (length-append, length-map) refl in
+    let functions : length (h.functions ++ map function_of records) ≡ length h.functions + length records = rw (length-append, length-map) refl in
+    record {
+      nodes = λ id lt. elim (cases_lt id (length h.nodes)) [
+        | inl old ↦ good_kept meaning h (with_records h pool records) (extends_records meaning h pool records k.functions keeps longer) keeps id old (get_or_append_left h.functions (map function_of records) None id (omega (arith, k.functions))) (k.nodes id old)
+        | inr new ↦ can.nodes id new (omega (arith, whole))
+      ];
+      functions = omega (arith, whole, functions, k.functions);
+      few = omega (arith, whole);
+      pool = limit;
+      few_sources = k.few_sources;
+      sources = k.sources;
+    }
+
+-- ---- a further source
+
+get_or_one : (n k limit : ℕ) → n < limit → get_or (n ∷ []) k 0 < limit
+get_or_one n zero limit lt = lt
+get_or_one n (suc k) limit lt = omega arith
+
+pub kept_source : {F : Type 0} (meaning : F → ℕ → ℕ) (h : Held F) (len : ℕ) → IsKept meaning h → length h.sources < most_sources → len < 2 ^ 40 → IsKept meaning (record h { sources = h.sources ++ len ∷ [] })
+kept_source {F} meaning h len k few short =
+    let x : Extends (table_of meaning h) (table_of meaning (record h { sources = h.sources ++ len ∷ [] })) = record {
+      nodes = λ id lt. refl;
+      more_nodes = omega arith;
+      pool = λ a n fits. refl;
+      more_pool = omega arith;
+      sources = λ s lt. get_or_append_left h.sources (len ∷ []) 0 s lt;
+      more_sources = omega (arith, length-append h.sources (len ∷ []));
+      answer = λ id lt. refl;
+    } in
+    record {
+      nodes = λ id lt. good_kept meaning h (record h { sources = h.sources ++ len ∷ [] }) x (record { in_one_block = λ a n c. c; bytes = λ a n c. refl }) id lt refl (k.nodes id lt);
+      functions = k.functions;
+      few = k.few;
+      pool = k.pool;
+      few_sources = omega (arith, length-append h.sources (len ∷ []));
+      sources = λ s. elim (cases_lt s (length h.sources)) [
+        | inl old ↦ rw (get_or_append_left h.sources (len ∷ []) 0 s old) (k.sources s)
+        | inr new ↦ rw (get_or-append_right h.sources (len ∷ []) (length h.sources) s 0 refl new) (get_or_one len (s - length h.sources) (2 ^ 40) short)
+      ];
+    }
+
+pub kept_push : {F : Type 0} (meaning : F → ℕ → ℕ) (records : List (Record F)) (pool : Contents) (sources : List ℕ) (len : ℕ) (b : Bool) (pushed : List ℕ) → IsKept meaning (held_of records pool sources) → length sources < most_sources → len < 2 ^ 40 → pushed ≡ (if b then sources ++ len ∷ [] else sources) → IsKept meaning (held_of records pool pushed)
+kept_push meaning records pool sources len true pushed k few short is = rw is (kept_source meaning (held_of records pool sources) len k few short)
+kept_push meaning records pool sources len false pushed k few short is = rw is k
+
+-- ---- further records
+
+pub kept_put : {F : Type 0} (meaning : F → ℕ → ℕ) (h : Held F) (before : List (Record F)) (old pool : Contents) (sources : List ℕ) (put : List (Record F)) (b : Bool) (reserved after : List (Record F)) → held_of before old sources ≡ h → IsKept meaning (held_of before old sources) → CanHold meaning h pool put → KeepsPieces old pool → length old.bytes ≤ length pool.bytes → length pool.bytes < 2 ^ 32 → length before + length put ≤ most_nodes → reserved ≡ before → b ≡ true → after ≡ (if b then reserved ++ put else reserved) → IsKept meaning (held_of after pool sources)
+kept_put {F} meaning h before old pool sources put false reserved after view k can keeps longer limit few e isnt is = absurd cc
+kept_put {F} meaning h before old pool sources put true reserved after view k can keeps longer limit few e took is =
+    let whole : after ≡ before ++ put = is ∙ ap (λ (rs : List (Record F)). rs ++ put) e in
+    let counted : length (map (node_of {F = F}) before) + length put ≤ most_nodes = rw length-map few in
+    let held : IsKept meaning (with_records (held_of before old sources) pool put) = kept_records meaning (held_of before old sources) pool put k (subst (λ (x : Held F). CanHold meaning x pool put) (sym view) can) keeps longer limit counted in
+    rw (whole, map-append node_of before put, map-append function_of before put) held
+
+-- ---- the record of a node
+
+pub node_of_record : {F : Type 0} (records : List (Record F)) (id : ℕ) (r : Record F) → id < length records → r ≡ get_or records id r → get_or (map node_of records) id no_node ≡ node_of r
+node_of_record records id r inside is = get_or-map node_of records id r no_node inside ∙ ap node_of (sym is)

@@ -1,0 +1,19 @@
+-- How long a pool is that has grown, and the rest of a literal in it.
+use Rattle.std.proofs.Common.{◌≡◌, ℕ, ◌+◌, ◌-◌, ◌≤◌, nat_le, List, length, take, drop, slice_range, ap, sym, ◌∙◌, arith}
+use Rattle.std.proofs.lemmas.List.{length-append, drop-drop, drop-take, take_rest}
+use Rattle.std.proofs.lemmas.Bool.{cond_both}
+use Rattle.leaf_buffer.specs.Contents.{Contents, appended, extended, with_block}
+
+pub length-appended : (pool : Contents) (bytes : List ℕ) → length (appended pool bytes).bytes ≡ length pool.bytes + length bytes
+length-appended pool bytes = cond_both (nat_le (length bytes) pool.room) (extended pool bytes) (with_block pool bytes) (λ (c : Contents). length c.bytes ≡ length pool.bytes + length bytes) (λ e. length-append pool.bytes bytes) (λ e. length-append pool.bytes bytes)
+
+-- the bytes of a literal of length n from its byte off on
+pub literal_rest : (pool : List ℕ) (a n off : ℕ) (bytes : List ℕ) → off ≤ n → bytes ≡ slice_range pool a (a + n) → take (length bytes - off) (drop off bytes) ≡ slice_range pool (a + off) (a + n)
+literal_rest pool a n off bytes le is =
+    let whole : (a + n) - a ≡ off + (n - off) = omega arith in
+    let left : (a + n) - (a + off) ≡ n - off = omega arith in
+    take_rest bytes off
+    ∙ ap (drop off) (is ∙ ap (λ (k : ℕ). take k (drop a pool)) whole)
+    ∙ drop-take off (n - off) (drop a pool)
+    ∙ ap (take (n - off)) (drop-drop off a pool)
+    ∙ ap (λ (k : ℕ). take k (drop (a + off) pool)) (sym left)

@@ -1,0 +1,79 @@
+-- What a table holds, and what may be put into it.
+use Rattle.std.specs.Prelude.{◌≡◌, ℕ, ◌+◌, ◌^◌, ◌<◌, ◌≤◌, List, length, map, get_or, ◌++◌, Option, Some, None}
+use Rattle.function_leaf.specs.declared.coded.Coded.{Coded}
+use Rattle.function_leaf.specs.declared.coded.Coded.TheVariants.{Fill}
+use Rattle.leaf_buffer.specs.Contents.{Contents, IsInOneBlock}
+use Rattle.rope_node.specs.declared.node.NodeView.{NodeView}
+use Rattle.rope_node.specs.declared.node.NodeView.TheVariants.{Lit, Src, Fun, Cat, Sub}
+use Rattle.rope_node.specs.Table.{Node, Table, node_at, IsSoundNode, IsTrueNode}
+use Rattle.node_table.specs.declared.record.Record.{Record}
+
+abbrev pub most_nodes : ℕ
+most_nodes = 16777216
+
+abbrev pub most_sources : ℕ
+most_sources = 255
+
+-- the nodes, the function of each that is one, the pool, and the sources' lengths
+pub record Held (F : Type 0) : Type 0 where
+  pub nodes : List Node
+  pub functions : List (Option F)
+  pub pool : Contents
+  pub sources : List ℕ
+
+abbrev pub node_of : {F : Type 0} → Record F → Node
+node_of r = record { view = r.view; len = r.len; depth = r.depth }
+
+abbrev pub function_of : {F : Type 0} → Record F → Option F
+function_of r = r.function
+
+abbrev pub held_of : {F : Type 0} → List (Record F) → Contents → List ℕ → Held F
+held_of records pool sources = record { nodes = map node_of records; functions = map function_of records; pool = pool; sources = sources }
+
+-- what a function answers, where there is one
+abbrev pub answer_of : {F : Type 0} → (F → ℕ → ℕ) → Option F → ℕ → ℕ
+answer_of meaning None i = 0
+answer_of meaning (Some f) i = meaning f i
+
+abbrev pub table_of : {F : Type 0} → (F → ℕ → ℕ) → Held F → Table
+table_of meaning h = record { nodes = h.nodes; pool = h.pool.bytes; sources = h.sources; answer = λ id i. answer_of meaning (get_or h.functions id None) i }
+
+-- the function of a node, where it is one that an image can hold
+abbrev pub or_fill : Option Coded → Coded
+or_fill None = Fill 0
+or_fill (Some f) = f
+
+abbrev pub coded_at : Held Coded → ℕ → Coded
+coded_at h id = or_fill (get_or h.functions id None)
+
+-- with these nodes behind the others, and this pool
+abbrev pub with_records : {F : Type 0} → Held F → Contents → List (Record F) → Held F
+with_records h pool records = record { nodes = h.nodes ++ map node_of records; functions = h.functions ++ map function_of records; pool = pool; sources = h.sources }
+
+-- a literal lies in one block of the pool, and a function is there
+abbrev pub IsKeptNode : {F : Type 0} → Contents → ℕ → NodeView → Option F → Type 0
+IsKeptNode pool n (Lit a) f = IsInOneBlock pool a n
+IsKeptNode pool n (Src s a) f = Unit {0}
+IsKeptNode pool n Fun None = ⊥
+IsKeptNode pool n Fun (Some f) = Unit {0}
+IsKeptNode pool n (Cat l r) f = Unit {0}
+IsKeptNode pool n (Sub b i) f = Unit {0}
+
+-- this node of a table keeps every rule
+pub record IsGoodNode {F : Type 0} (meaning : F → ℕ → ℕ) (h : Held F) (id : ℕ) : Type 0 where
+  pub sound : IsSoundNode (table_of meaning h) id (node_at (table_of meaning h) id)
+  pub true_record : IsTrueNode (table_of meaning h) (node_at (table_of meaning h) id)
+  pub kept : IsKeptNode h.pool (node_at (table_of meaning h) id).len (node_at (table_of meaning h) id).view (get_or h.functions id None)
+
+-- what a table keeps to
+pub record IsKept {F : Type 0} (meaning : F → ℕ → ℕ) (h : Held F) : Type 0 where
+  pub nodes : (id : ℕ) → id < length h.nodes → IsGoodNode meaning h id
+  pub functions : length h.functions ≡ length h.nodes
+  pub few : length h.nodes ≤ most_nodes
+  pub pool : length h.pool.bytes < 2 ^ 32
+  pub few_sources : length h.sources ≤ most_sources
+  pub sources : (s : ℕ) → get_or h.sources s 0 < 2 ^ 40
+
+-- each of these nodes keeps every rule, once it stands behind the table's own
+pub record CanHold {F : Type 0} (meaning : F → ℕ → ℕ) (h : Held F) (pool : Contents) (records : List (Record F)) : Type 0 where
+  pub nodes : (id : ℕ) → length h.nodes ≤ id → id < length h.nodes + length records → IsGoodNode meaning (with_records h pool records) id

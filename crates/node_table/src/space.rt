@@ -1,0 +1,81 @@
+//! The table as a space of nodes.
+
+use crate::node_table::NodeTable;
+use function_leaf::{Coded, LeafFn};
+use leaf_buffer::Piece;
+use rope_node::{CodedSpace, NodeId, NodeSpace, NodeView};
+
+impl<F: LeafFn> NodeSpace for NodeTable<F> {
+    ghost use Rattle.node_table.specs.Held.{table_of};
+
+    ghost table = { λ h. table_of F.meaning h };
+
+    fn count(&self) -> u32 {
+        self.records.len() as u32
+    }
+
+    fn node(&self, id: NodeId) -> NodeView {
+        self.records[id.0 as usize].view
+    }
+
+    fn len(&self, id: NodeId) -> u64 {
+        self.records[id.0 as usize].len
+    }
+
+    fn depth(&self, id: NodeId) -> u8 {
+        self.records[id.0 as usize].depth
+    }
+
+    fn literal(&self, id: NodeId, off: u64) -> &[u8] {
+        let record = &self.records[id.0 as usize];
+        match record.view {
+            NodeView::Lit { a } => {
+                let piece = Piece {
+                    start: a as u32,
+                    len: record.len as u32,
+                };
+                match self.pool.get(piece) {
+                    Some(bytes) => &bytes[off as usize..],
+                    None => unreachable!(),
+                }
+            }
+            _ => unreachable!(),
+        }
+    }
+
+    fn fun_byte(&self, id: NodeId, i: u64) -> u8 {
+        match self.records[id.0 as usize].function {
+            Some(function) => function.byte(i),
+            None => unreachable!(),
+        }
+    }
+
+    fn source_count(&self) -> u32 {
+        self.sources.len() as u32
+    }
+
+    fn source_len(&self, s: u32) -> u64 {
+        self.sources[s as usize]
+    }
+
+    fn pool_len(&self) -> u64 {
+        self.pool.len()
+    }
+
+    fn pool(&self, a: u64) -> &[u8] {
+        self.pool.rest_of_block(a as u32)
+    }
+}
+
+impl CodedSpace for NodeTable<Coded> {
+    ghost use Rattle.node_table.specs.Held.{coded_at};
+
+    ghost coded = { coded_at };
+
+    fn coded(&self, id: NodeId) -> Coded {
+        match self.records[id.0 as usize].function {
+            Some(function) => function,
+            None => unreachable!(),
+        }
+    }
+}

@@ -1,0 +1,65 @@
+//! What a table refuses by itself. Its nodes are put by the store above, whose tests put them.
+
+use crate::{NodeFault, NodeTable};
+use function_leaf::Coded;
+use rope_node::NodeSpace;
+use std::process::Abort;
+
+/// Adds a source. Where memory is refused, there is none more, and the call is made again.
+fn add_source(rt: &impl Abort, table: &mut NodeTable<Coded>, len: u64) -> Result<u8, NodeFault> {
+    let count = table.source_count();
+    let first = table.add_source(len);
+    if first != Err(NodeFault::Memory) {
+        return first;
+    }
+    assert_eq!(rt; table.source_count(), count);
+    table.add_source(len)
+}
+
+#[test]
+fn a_new_table_is_empty(rt: HostRuntime) {
+    let table = NodeTable::<Coded>::new(rt.alloc());
+    assert_eq!(&rt; (table.count(), table.pool_len()), (0, 0));
+    assert_eq!(&rt; table.source_count(), 0);
+    assert!(&rt; !table.can_grow(0, 1, 1));
+}
+
+#[test]
+fn a_source_is_shorter_than_2_to_40_bytes(rt: HostRuntime) {
+    let mut table = NodeTable::new(rt.alloc());
+    assert_eq!(&rt; add_source(&rt, &mut table, (1 << 40) - 1), Ok(0));
+    assert_eq!(&rt;
+        add_source(&rt, &mut table, 1 << 40),
+        Err(NodeFault::TooLong)
+    );
+    assert_eq!(&rt; table.source_count(), 1);
+}
+
+#[test]
+fn there_are_at_most_255_sources(rt: HostRuntime) {
+    let mut table = NodeTable::new(rt.alloc());
+    for s in 0..255 {
+        assert_eq!(&rt; add_source(&rt, &mut table, 1), Ok(s));
+    }
+    assert_eq!(&rt;
+        add_source(&rt, &mut table, 1),
+        Err(NodeFault::TooManySources)
+    );
+}
+
+#[test]
+fn refusals_print_their_codes(rt: HostRuntime) {
+    for (fault, code) in [
+        (NodeFault::TooLong, "N1"),
+        (NodeFault::TooDeep, "N2"),
+        (NodeFault::TableFull, "N3"),
+        (NodeFault::PoolFull, "N4"),
+        (NodeFault::BadSpan, "N5"),
+        (NodeFault::TooManySources, "N6"),
+        (NodeFault::Memory, "Memory"),
+    ] {
+        if let Ok(text) = format!(in rt.alloc(); "{fault}") {
+            assert_eq!(&rt; text.as_str(), code);
+        }
+    }
+}

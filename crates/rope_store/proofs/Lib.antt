@@ -1,0 +1,11 @@
+pub mod Pools
+pub mod Growth
+pub mod Nodes
+pub mod Made
+pub mod LeafTexts
+pub mod PartTexts
+pub mod Concatenations
+pub mod LastLiterals
+pub mod MergedTexts
+pub mod GrownTexts
+pub mod AppendedTexts

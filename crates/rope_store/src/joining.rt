@@ -1,0 +1,76 @@
+//! Texts put together.
+
+ghost use Rattle.std.specs.Prelude.{◌≡◌, ◌+◌, ◌^◌, ◌<◌, ◌≤◌, ◌++◌, length, map};
+ghost use Rattle.rope_node.specs.Table.{view_at, len_at};
+ghost use Rattle.rope_node.specs.Denotes.{cells, rope_cells, rope_len, IsRope};
+ghost use Rattle.node_table.specs.Held.{table_of};
+ghost use Rattle.rope_store.specs.Additions.{Makes, concatenated};
+ghost use Rattle.rope_store.specs.Joining.{joined, nodes_joined, ending_for};
+ghost use Rattle.rope_store.specs.Refusals.{Refuses};
+
+use crate::leaves::TEXT_LIMIT;
+use crate::new_nodes::NewNodes;
+use crate::records::concatenation;
+use crate::store::{MOST_DEPTH, Store};
+use function_leaf::LeafFn;
+use node_table::NodeFault;
+use rope_node::{NodeId, NodeSpace, Rope};
+
+impl<F: LeafFn> Store<F> {
+    /// The text of `l` followed by that of `r`, as one new node over both.
+    ///
+    /// # Errors
+    ///
+    /// `TooLong` where both together have 2^40 bytes or more, `TooDeep` where one of them has depth 64, `TableFull`, `Memory`. The
+    /// store is then as before.
+    pub fn cat_plain(&mut self, l: NodeId, r: NodeId) -> Result<Rope, NodeFault>
+        requires left { l.0 < length self.old.nodes }
+        requires right { r.0 < length self.old.nodes }
+        ensures makes { Makes F.meaning self.old (concatenated (table_of F.meaning self.old) l r) (cells (table_of F.meaning self.old) l.0 ++ cells (table_of F.meaning self.old) r.0) result self.new }
+        ensures refuses { Refuses self.old (concatenated (table_of F.meaning self.old) l r) ⊥ (2 ^ 40 ≤ len_at (table_of F.meaning self.old) l.0 + len_at (table_of F.meaning self.old) r.0) result }
+    {
+        let len = self.table.len(l) + self.table.len(r);
+        if len >= TEXT_LIMIT {
+            return Err(NodeFault::TooLong);
+        }
+        let depth = 1 + self.table.depth(l).max(self.table.depth(r));
+        if depth > MOST_DEPTH {
+            return Err(NodeFault::TooDeep);
+        }
+        self.make(&[], NewNodes::One(concatenation(l, r, len, depth)))
+    }
+
+    /// The text of `l` followed by that of `r`. A nil side gives the other side. Two literals of together at most 31 bytes become one,
+    /// and so do a literal on the right and the literal that `l` has as its right child. Otherwise it is one node over both.
+    ///
+    /// # Errors
+    ///
+    /// `TooLong` where both together have 2^40 bytes or more, `TooDeep` where the node over both would be deeper than 64, `TableFull`,
+    /// `PoolFull`, `Memory`. The store is then as before.
+    pub fn cat(&mut self, l: Rope, r: Rope) -> Result<Rope, NodeFault>
+        requires left { IsRope (table_of F.meaning self.old) l }
+        requires right { IsRope (table_of F.meaning self.old) r }
+        ensures makes { Makes F.meaning self.old (joined (table_of F.meaning self.old) l r) (rope_cells (table_of F.meaning self.old) l ++ rope_cells (table_of F.meaning self.old) r) result self.new }
+        ensures refuses { Refuses self.old (joined (table_of F.meaning self.old) l r) ⊥ (2 ^ 40 ≤ rope_len (table_of F.meaning self.old) l + rope_len (table_of F.meaning self.old) r) result }
+    {
+        let _kept = &self.table;
+        match (l, r) {
+            (None, _) => Ok(r),
+            (Some(_), None) => Ok(l),
+            (Some(l), Some(r)) => self.join(l, r),
+        }
+    }
+
+    /// The text of two nodes.
+    fn join(&mut self, l: NodeId, r: NodeId) -> Result<Rope, NodeFault>
+        requires left { l.0 < length self.old.nodes }
+        requires right { r.0 < length self.old.nodes }
+        ensures makes { Makes F.meaning self.old (nodes_joined (table_of F.meaning self.old) l r (ending_for (table_of F.meaning self.old) l r (view_at (table_of F.meaning self.old) r.0))) (cells (table_of F.meaning self.old) l.0 ++ cells (table_of F.meaning self.old) r.0) result self.new }
+        ensures refuses { Refuses self.old (nodes_joined (table_of F.meaning self.old) l r (ending_for (table_of F.meaning self.old) l r (view_at (table_of F.meaning self.old) r.0))) ⊥ (2 ^ 40 ≤ len_at (table_of F.meaning self.old) l.0 + len_at (table_of F.meaning self.old) r.0) result }
+    {
+        match self.ending_for(l, r) {
+            None => self.cat_plain(l, r),
+            Some(ending) => self.merge(l, ending, r),
+        }
+    }
+}

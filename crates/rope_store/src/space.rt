@@ -1,0 +1,61 @@
+//! The store as a space of nodes.
+
+use crate::store::Store;
+use function_leaf::{Coded, LeafFn};
+use rope_node::{CodedSpace, NodeId, NodeSpace, NodeView};
+
+impl<F: LeafFn> NodeSpace for Store<F> {
+    ghost use Rattle.node_table.specs.Held.{table_of};
+
+    ghost table = { λ h. table_of F.meaning h };
+
+    fn count(&self) -> u32 {
+        self.table.count()
+    }
+
+    fn node(&self, id: NodeId) -> NodeView {
+        self.table.node(id)
+    }
+
+    fn len(&self, id: NodeId) -> u64 {
+        self.table.len(id)
+    }
+
+    fn depth(&self, id: NodeId) -> u8 {
+        self.table.depth(id)
+    }
+
+    fn literal(&self, id: NodeId, off: u64) -> &[u8] {
+        self.table.literal(id, off)
+    }
+
+    fn fun_byte(&self, id: NodeId, i: u64) -> u8 {
+        self.table.fun_byte(id, i)
+    }
+
+    fn source_count(&self) -> u32 {
+        self.table.source_count()
+    }
+
+    fn source_len(&self, s: u32) -> u64 {
+        self.table.source_len(s)
+    }
+
+    fn pool_len(&self) -> u64 {
+        self.table.pool_len()
+    }
+
+    fn pool(&self, a: u64) -> &[u8] {
+        self.table.pool(a)
+    }
+}
+
+impl CodedSpace for Store<Coded> {
+    ghost use Rattle.node_table.specs.Held.{coded_at};
+
+    ghost coded = { coded_at };
+
+    fn coded(&self, id: NodeId) -> Coded {
+        self.table.coded(id)
+    }
+}
