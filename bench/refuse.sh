@@ -1,5 +1,6 @@
 #!/bin/sh
-# Runs the program with each allocation refused in turn, and over inputs and outputs that fail.
+# Runs the program with each allocation refused in turn, by a library that stands before its allocator, and over inputs and
+# outputs that fail.
 # Each run has to give the right answer, or the one word for what stopped it and the status 3.
 set -eu
 cd "$(dirname "$0")/../crates/cordkit"
@@ -10,7 +11,9 @@ folder=$(mktemp -d)
 trap 'rm -r "$folder"' EXIT
 out=$folder/out
 err=$folder/err
+shim=$folder/refuse.so
 count=0
+spared=0
 
 fail() {
     echo "$1: status $status" >&2
@@ -26,42 +29,47 @@ is_stopped() {
     count=$((count + 1))
 }
 
-# Each allocation in turn, of the run that these words ask for. The runs past the last allocation give the answer $2. One run that
-# does could have lived without the memory: it takes four. The number of refusals is left in the file $1.
+# Each allocation in turn, of the run that these words ask for: it is stopped, or could live without that memory and gives the
+# answer $1. It ends with the first number that the run does not reach, where the answer has to be right.
 refuse_allocations() {
-    refused=$1
-    right=$2
-    shift 2
-    out=$refused.out
-    err=$refused.err
+    right=$1
+    shift
     number=1
-    answered=0
-    while [ "$answered" -lt 4 ]; do
+    while :; do
         status=0
-        rt try --fail-alloc "$number" -- "$@" < stdin > "$out" 2> "$err" || status=$?
+        REFUSE=$number COUNTED=$folder/counted LD_PRELOAD=$shim "$program" "$@" < stdin > "$out" 2> "$err" || status=$?
         if [ "$status" = 0 ] && cmp -s "$out" "$right"; then
-            answered=$((answered + 1))
+            spared=$((spared + 1))
         else
-            answered=0
             is_stopped "allocation $number of $*" memory
         fi
+        [ "$(cat "$folder/counted")" -ge "$number" ] || break
         number=$((number + 1))
     done
-    echo "$count" > "$refused"
+    [ "$status" = 0 ] || fail "$*"
+    spared=$((spared - 1))
 }
 
+# the image of an empty text beside a source of 3 bytes
+one_source() {
+    printf 'CORDSESS\0\0\0\1\0\0\0\1\0\0\0\0\0\0\0\1'
+    head -c 23 /dev/zero
+    printf '\3\1\0\0\0\377\377\377\377'
+    head -c 48 /dev/zero
+}
+
+gcc -O2 -shared -fPIC -o "$shim" ../../bench/refuse.c
 cp stdin "$folder/image"
 printf abc > "$folder/abc"
-refuse_allocations "$folder/input" stdout &
-first=$!
-refuse_allocations "$folder/check" stdout check "$folder/image" &
-second=$!
-refuse_allocations "$folder/show" "$folder/abc" show "$folder/image" 1 &
-third=$!
-wait "$first"
-wait "$second"
-wait "$third"
-refused=$(($(cat "$folder/input") + $(cat "$folder/check") + $(cat "$folder/show")))
+one_source > "$folder/one_source"
+echo "accepted 1 revisions 0 nodes 0 rows" > "$folder/accepted"
+: > "$folder/nothing"
+refuse_allocations stdout
+refuse_allocations stdout check "$folder/image"
+refuse_allocations "$folder/abc" show "$folder/image" 1
+refuse_allocations "$folder/accepted" check "$folder/one_source" "$folder/abc"
+refuse_allocations "$folder/nothing" show "$folder/one_source" 0 "$folder/abc"
+refused=$count
 
 status=0
 "$program" < . > "$out" 2> "$err" || status=$?
@@ -108,4 +116,4 @@ while [ "$taken" -le "${#answer}" ]; do
     taken=$((taken + 1))
 done
 
-echo "refused: $refused allocations, $count reads and writes; each run was answered"
+echo "refused: $((refused + spared)) allocations ($spared of them spared), $((count - refused)) reads and writes; each run was answered"

@@ -1,7 +1,7 @@
 use super::*;
 use function_leaf::Coded;
 use node_table::NodeFault;
-use rope_node::{NodeId, NodeSpace, NodeView, Rope};
+use rope_node::{CodedSpace, NodeId, NodeSpace, NodeView, Rope};
 use std::process::Abort;
 
 // Each of these makes its call, and where memory was refused asserts that nothing changed and makes it again.
@@ -262,4 +262,46 @@ fn older_literals_are_copied(rt: HostRuntime) {
     assert_eq!(rt; shape(&rt, &store, abc), (NodeView::Lit { a: 4 }, 3, 0));
     assert_eq!(rt; shape(&rt, &store, other), (NodeView::Lit { a: 2 }, 1, 0));
     assert_eq!(rt; (store.count(), store.pool_len()), (4, 7));
+}
+
+#[test]
+fn plain_concatenation_makes_one_node(rt: HostRuntime) {
+    let mut store: Store<Coded> = Store::new(rt.alloc());
+    let (ab, cd) = (
+        from_bytes(&rt, &mut store, b"ab"),
+        from_bytes(&rt, &mut store, b"cd"),
+    );
+    let (Some(l), Some(r)) = (ab, cd) else {
+        panic!(rt; "two literals");
+    };
+    assert!(rt; store.has(Some(l)) && store.has(Some(r)));
+    let mut both = store.cat_plain(l, r);
+    if both == Err(NodeFault::Memory) {
+        assert_same(&rt, &store, 2, 4);
+        assert!(rt; store.has(Some(l)) && store.has(Some(r)));
+        both = store.cat_plain(l, r);
+    }
+    let both = both.expect(&rt, "abcd");
+    assert_eq!(rt; shape(&rt, &store, both), (NodeView::Cat { l, r }, 4, 1));
+    assert_same(&rt, &store, 3, 4);
+}
+
+#[test]
+fn function_leaf_answers_its_bytes(rt: HostRuntime) {
+    let mut store: Store<Coded> = Store::new(rt.alloc());
+    let mut rope = store.from_fn(Coded::ramp(b'a'), 3);
+    if rope == Err(NodeFault::Memory) {
+        rope = store.from_fn(Coded::ramp(b'a'), 3);
+    }
+    let Ok(Some(node)) = rope else {
+        panic!(rt; "a function");
+    };
+    assert!(rt; store.has(Some(node)));
+    match store.node(node) {
+        NodeView::Fun => {
+            assert_eq!(rt; store.fun_byte(node, 2), b'c');
+            assert!(rt; store.coded(node).is_same(&Coded::ramp(b'a')));
+        }
+        _ => panic!(rt; "a function"),
+    }
 }
