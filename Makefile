@@ -15,6 +15,7 @@ bench:
 	sh bench/check.sh
 	sh bench/show.sh
 	sh bench/rope.sh
+	sh bench/tools.sh
 
 refuse:
 	sh bench/refuse.sh

@@ -69,6 +69,14 @@ refuse_allocations stdout check "$folder/image"
 refuse_allocations "$folder/abc" show "$folder/image" 1
 refuse_allocations "$folder/accepted" check "$folder/one_source" "$folder/abc"
 refuse_allocations "$folder/nothing" show "$folder/one_source" 0 "$folder/abc"
+printf b > "$folder/b"
+printf abcb > "$folder/abcb"
+echo 2 > "$folder/two"
+echo equal > "$folder/equal"
+refuse_allocations "$folder/b" cut 1 1 "$folder/abc"
+refuse_allocations "$folder/abcb" join "$folder/abc" "$folder/b"
+refuse_allocations "$folder/two" find 1 c "$folder/abc"
+refuse_allocations "$folder/equal" cmp "$folder/b" "$folder/b"
 refused=$count
 
 status=0
@@ -86,6 +94,11 @@ is_stopped "no such source" read
 status=0
 "$program" show "$folder/image" 1 . > "$out" 2> "$err" || status=$?
 is_stopped "a folder as a source" read
+for words in "cut 0 1 ." "join $folder/abc ." "find 0 c $folder/none" "cmp $folder/abc $folder/none"; do
+    status=0
+    "$program" $words > "$out" 2> "$err" || status=$?
+    is_stopped "a file of $words" read
+done
 status=0
 "$program" <&- > "$out" 2> "$err" || status=$?
 is_stopped "no input" read
@@ -97,6 +110,11 @@ is_stopped "a full device as output" write
 status=0
 "$program" show "$folder/image" 1 > /dev/full 2> "$err" || status=$?
 is_stopped "a full device as output of show" write
+for words in "cut 0 1 $folder/abc" "join $folder/abc" "find 0 c $folder/abc" "cmp $folder/abc $folder/b"; do
+    status=0
+    "$program" $words > /dev/full 2> "$err" || status=$?
+    is_stopped "a full device as output of $words" write
+done
 status=0
 "$program" < stdin >&- 2> "$err" || status=$?
 is_stopped "no output" write

@@ -13,9 +13,32 @@ static const uint64_t count = 1000000;
 // a place below the end, one after the other as if at random
 static uint64_t place(uint64_t k, uint64_t end) { return k * 2654435761 % end; }
 
-static void report(const char *work, Clock::time_point start) {
+static void report_of(const char *work, Clock::time_point start, uint64_t times) {
     auto taken = std::chrono::duration_cast<std::chrono::nanoseconds>(Clock::now() - start);
-    std::printf("  %-34s %6lld ns\n", work, (long long)(taken.count() / (long long)count));
+    std::printf("  %-34s %6lld ns\n", work, (long long)(taken.count() / (long long)times));
+}
+
+static void report(const char *work, Clock::time_point start) { report_of(work, start, count); }
+
+// leaves of 64 bytes joined one behind the other
+static uint64_t join_leaves(uint64_t leaves) {
+    std::string line(64, 'x');
+    crope leaf(line.c_str());
+    auto start = Clock::now();
+    crope text;
+    for (uint64_t k = 0; k < leaves; k++)
+        text = text + leaf;
+    report_of(("a leaf, " + std::to_string(leaves) + " joined").c_str(), start, leaves);
+    return text.size();
+}
+
+// insertions of ten bytes into a text of a megabyte
+static uint64_t insert(crope text, uint64_t edits) {
+    auto start = Clock::now();
+    for (uint64_t k = 0; k < edits; k++)
+        text.insert(place(k, text.size()), "0123456789", 10);
+    report_of(("an insertion, " + std::to_string(edits) + " made").c_str(), start, edits);
+    return text.size();
 }
 
 int main() {
@@ -51,5 +74,10 @@ int main() {
             sum += text[place(k, text.size())];
         report("a fetch in a megabyte", start);
     }
+    for (uint64_t leaves : {1000, 4000, 16000})
+        sum += join_leaves(leaves);
+    crope flat(std::string(1 << 20, 'x').c_str());
+    for (uint64_t edits : {1000, 2500, 5000})
+        sum += insert(flat, edits);
     return sum == 0;
 }

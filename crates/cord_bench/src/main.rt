@@ -1,6 +1,7 @@
 //! Times what runs often. The numbers differ from run to run, so they go to standard error.
 #![tactic(auto)]
 
+mod balancing;
 mod pool;
 mod ropes;
 
@@ -12,5 +13,6 @@ fn main(rt: HostRuntime) -> Result<()> {
     ropes::time_appends(&rt)?;
     ropes::time_joins(&rt)?;
     ropes::time_substrings(&rt)?;
-    ropes::time_fetches(&rt)
+    ropes::time_fetches(&rt)?;
+    balancing::time(&rt)
 }

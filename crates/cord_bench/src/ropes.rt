@@ -19,16 +19,16 @@ use std::time::Instant;
 pub const COUNT: u32 = 1_000_000;
 
 /// The length of the long text, in bytes.
-const MEGABYTE: u64 = 1 << 20;
+pub const MEGABYTE: u64 = 1 << 20;
 
 /// The length of the parts that are taken, in bytes.
 const PART: u64 = 1000;
 
 /// The line that texts begin with.
-const LINE: &[u8] = &[b'x'; 64];
+pub const LINE: &[u8] = &[b'x'; 64];
 
 /// A place below the end, one after the other as if at random.
-fn place(k: u32, end: u64) -> u64
+pub fn place(k: u32, end: u64) -> u64
     requires { 0 < end }
     ensures { result < end }
 {

@@ -1,2 +1,4 @@
 pub mod LeafCells
+pub mod LeafParts
 pub mod RopeBytes
+pub mod Samples

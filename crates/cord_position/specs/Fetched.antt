@@ -1,5 +1,5 @@
 -- The byte at a place of a rope, over what the sources state.
-use Rattle.std.specs.Prelude.{◌≡◌, ℕ, true, List, Option, Some, None, Err, IsSome, slice_get}
+use Rattle.std.specs.Prelude.{◌≡◌, ℕ, ◌<◌, true, List, length, get_or, Option, Some, None, Err, IsSome, slice_get, All}
 use Rattle.rope_node.specs.declared.node.NodeId.{NodeId}
 use Rattle.rope_node.specs.Table.{Table}
 use Rattle.rope_node.specs.Denotes.{Cell, Byte, Place, cell_at, cell_byte, rope_cells, text}
@@ -40,3 +40,13 @@ pub record IsPlaceFault (sizes : List ℕ) (texts : List (Option (List ℕ))) (b
   pub p : ℕ
   pub is : cell ≡ Place s p
   pub read : IsReadFault sizes texts before now s p fault
+
+-- each cell's source, if it has one, states its text
+abbrev pub AreStated : List (Option (List ℕ)) → List Cell → Type 0
+AreStated texts cells = All (IsStated texts) cells
+
+-- one of these cells is a source's, and a read of its place failed so
+pub record IsFaultAmong (sizes : List ℕ) (texts : List (Option (List ℕ))) (before now : ℕ) (cells : List Cell) (fault : SourceFault) : Type 0 where
+  pub place : ℕ
+  pub inside : place < length cells
+  pub read : IsPlaceFault sizes texts before now (get_or cells place (Byte 0)) fault

@@ -1,1 +1,4 @@
 pub mod Fetched
+pub mod Position
+pub mod Runs
+pub mod Sample

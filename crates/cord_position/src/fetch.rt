@@ -30,6 +30,7 @@ pub fn fetch_byte<S: NodeSpace, T: Sources>(
     ensures own_sources { T.never_fails sources.old ≡ true → T.sizes sources.old ≡ (S.table space.now).sources → IsOk result }
 
     // A fetch changes no size and no text, nor whether the sources may fail.
+    ensures later { T.failures sources.old ≤ T.failures sources.new }
     ensures sizes { T.sizes sources.new ≡ T.sizes sources.old }
     ensures texts { T.texts sources.new ≡ T.texts sources.old }
     ensures never_fails { T.never_fails sources.new ≡ T.never_fails sources.old }

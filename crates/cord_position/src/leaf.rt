@@ -1,6 +1,6 @@
 //! The byte at a place of a leaf.
 
-ghost use Rattle.std.specs.Prelude.{◌≡◌, ◌<◌, ℕ, true, length, IfOk, IfErr, IsOk};
+ghost use Rattle.std.specs.Prelude.{◌≡◌, ◌<◌, ◌≤◌, ℕ, true, length, IfOk, IfErr, IsOk};
 ghost use Rattle.rope_node.specs.Table.{view_at, len_at, IsLeaf};
 ghost use Rattle.rope_node.specs.Denotes.{Place, cell_at};
 ghost use Rattle.cord_position.specs.Fetched.{IsByteOf, IsReadFault, IsPlaceFault, HoldsPlace};
@@ -13,6 +13,7 @@ fn source_byte<T: Sources>(sources: &mut T, s: u32, place: u64) -> Result<u8, So
     ensures byte { IfOk result (IsByteOf (T.texts sources.old) (Place s place)) }
     ensures fault { IfErr result (IsReadFault (T.sizes sources.old) (T.texts sources.old) (T.failures sources.old) (T.failures sources.new) s place) }
     ensures succeeds { T.never_fails sources.old ≡ true → HoldsPlace (T.sizes sources.old) (Place s place) → IsOk result }
+    ensures later { T.failures sources.old ≤ T.failures sources.new }
     ensures sizes { T.sizes sources.new ≡ T.sizes sources.old }
     ensures texts { T.texts sources.new ≡ T.texts sources.old }
     ensures never_fails { T.never_fails sources.new ≡ T.never_fails sources.old }
@@ -39,6 +40,7 @@ pub fn leaf_byte<S: NodeSpace, T: Sources>(
     ensures fault { IfErr result (IsPlaceFault (T.sizes sources.old) (T.texts sources.old) (T.failures sources.old) (T.failures sources.new) (cell_at (S.table space.now) leaf.0 start)) }
     ensures succeeds { T.never_fails sources.old ≡ true → HoldsPlace (T.sizes sources.old) (cell_at (S.table space.now) leaf.0 start) → IsOk result }
     ensures own_sources { T.never_fails sources.old ≡ true → T.sizes sources.old ≡ (S.table space.now).sources → IsOk result }
+    ensures later { T.failures sources.old ≤ T.failures sources.new }
     ensures sizes { T.sizes sources.new ≡ T.sizes sources.old }
     ensures texts { T.texts sources.new ≡ T.texts sources.old }
     ensures never_fails { T.never_fails sources.new ≡ T.never_fails sources.old }

@@ -1,7 +1,13 @@
-//! The byte at a place of a rope.
+//! The byte at a place of a rope, and positions in its text.
 #![tactic(auto)]
 
 mod fetch;
+mod fill;
 mod leaf;
+mod position;
+mod run;
+#[cfg(test)]
+mod tests;
 
 pub use fetch::fetch_byte;
+pub use position::Pos;

@@ -1,10 +1,9 @@
--- What is known of bytes read up to a limit, and of bytes written one piece after the other.
-use Rattle.std.proofs.Common.{◌≡◌, ℕ, zero, suc, ◌+◌, List, [], ◌∷◌, ◌++◌, take, drop, Option, Some, None, refl, sym, ap, subst, ◌∙◌, append_assoc}
+-- What is known of bytes read up to a limit, and where nothing is written.
+use Rattle.std.proofs.Common.{◌≡◌, ℕ, List, [], ◌++◌, take, Option, Some, None, refl, sym}
 use Rattle.std.specs.Prelude.{IfSome}
 use Rattle.std.specs.Option.{option_map}
 use Rattle.std.specs.Io.KnownBytes.{Appends, Keeps}
-use Rattle.std.proofs.Math.Seq.{take-add}
-use Rattle.cord_tools.specs.Output.{AppendsPrefix}
+use Rattle.std.proofs.lemmas.List.{append-nil}
 
 -- what was read of the first n bytes
 pub read_up_to : {R : Type 0} (remaining : R → Option (List ℕ)) (inner reader : R) (limit n : ℕ) (old bytes : List ℕ) → inner ≡ reader → limit ≡ n → old ≡ []
@@ -16,27 +15,10 @@ read_up_to {R} remaining inner reader limit n old bytes same at none h =
     known None k = tt
     known (Some xs) k = k
 
--- two pieces, one after the other
-pub Appends-then : (a b c : Option (List ℕ)) (n m : ℕ) (bs : List ℕ) → Appends a b (take n bs) → Appends b c (take m (drop n bs)) → Appends a c (take (n + m) bs)
-Appends-then None b c n m bs h k = tt
-Appends-then (Some xs) None c n m bs h k = absurd h
-Appends-then (Some xs) (Some ys) None n m bs h k = absurd k
-Appends-then (Some xs) (Some ys) (Some zs) n m bs h k =
-    k ∙ ap (λ (v : List ℕ). v ++ take m (drop n bs)) h ∙ append_assoc xs (take n bs) (take m (drop n bs)) ∙ ap (λ (v : List ℕ). xs ++ v) (sym (take-add n m bs))
-
--- a prefix of a prefix is one
-prefix_of_prefix : (k m : ℕ) (bs : List ℕ) → (j : ℕ) × (take k (take m bs) ≡ take j bs)
-prefix_of_prefix zero m bs = (0, refl)
-prefix_of_prefix (suc k) zero bs = (0, refl)
-prefix_of_prefix (suc k) (suc m) [] = (0, refl)
-prefix_of_prefix (suc k) (suc m) (x ∷ xs) = let p = prefix_of_prefix k m xs in (suc p.0, ap (λ (ys : List ℕ). x ∷ ys) p.1)
-
--- a piece, and then a prefix of the next
-pub Appends-then_prefix : (a b c : Option (List ℕ)) (n m : ℕ) (bs : List ℕ) → Appends a b (take n bs) → AppendsPrefix b c (take m (drop n bs)) → AppendsPrefix a c bs
-Appends-then_prefix a b c n m bs h (k, more) =
-    let p = prefix_of_prefix k m (drop n bs) in
-    (n + p.0, Appends-then a b c n p.0 bs h (subst (λ (v : List ℕ). Appends b c v) p.1 more))
-
 pub Keeps-same : (o : Option (List ℕ)) → Keeps o o
 Keeps-same None = tt
 Keeps-same (Some xs) = refl
+
+pub Appends-nothing : (o : Option (List ℕ)) → Appends o o []
+Appends-nothing None = tt
+Appends-nothing (Some xs) = sym (append-nil xs)

@@ -13,11 +13,11 @@ use Rattle.session_checker.specs.Accepted.{IsFirstFault}
 use Rattle.session_checker.specs.Faithful.{IsFaithful, text_of}
 use Rattle.session_checker.specs.Codes.{fault_code}
 use Rattle.cord_tools.specs.declared.fault.ToolFault.{ToolFault}
-use Rattle.cord_tools.specs.declared.fault.ToolFault.TheVariants.{Memory, Read, Write, Refused, Source, NoRevision}
+use Rattle.cord_tools.specs.declared.fault.ToolFault.TheVariants.{Memory, Read, Write, Refused, Source, NoRevision, PatternTooLong}
 use Rattle.cord_tools.specs.declared.status.Status.{Status}
 use Rattle.cord_tools.specs.declared.status.Status.TheVariants.{Success, Failure}
 use Rattle.cord_tools.specs.Sources.{RefusesSources}
-use Rattle.cord_tools.specs.Output.{AppendsPrefix}
+use Rattle.cord_search.specs.Output.{AppendsPrefix}
 
 -- one more byte than the largest image has
 abbrev pub image_limit : ℕ
@@ -71,6 +71,7 @@ ChecksInput remaining texts old new (Err Memory) = Keeps old new
 ChecksInput remaining texts old new (Err (Refused f)) = ⊥
 ChecksInput remaining texts old new (Err (Source f)) = ⊥
 ChecksInput remaining texts old new (Err NoRevision) = ⊥
+ChecksInput remaining texts old new (Err PatternTooLong) = ⊥
 
 -- the bytes read spell a faithful image with sources of these texts
 abbrev pub ReadsFaithful : Option (List ℕ) → List (List ℕ) → ImageValue → Type 0
@@ -89,3 +90,4 @@ ShowsRevision remaining texts k old new (Err Memory) = Keeps old new
 ShowsRevision remaining texts k old new (Err (Refused f)) = Keeps old new × ((bytes : List ℕ) × AreRead remaining bytes × IsFirstFault bytes (map length texts) f)
 ShowsRevision remaining texts k old new (Err (Source f)) = Keeps old new × RefusesSources texts (Source f)
 ShowsRevision remaining texts k old new (Err NoRevision) = Keeps old new × ((v : ImageValue) × ReadsFaithful remaining texts v × (length v.revisions ≤ k))
+ShowsRevision remaining texts k old new (Err PatternTooLong) = ⊥

@@ -1,5 +1,7 @@
-pub mod Output
 pub mod Answers
+pub mod Faults
+pub mod Files
 pub mod Sources
+pub mod Spans
 pub mod Refusals
 pub mod Words

@@ -9,7 +9,7 @@ use Rattle.clap.specs.Kinds.{or_else}
 use Rattle.clap.specs.declared.builder.action.ArgAction.TheVariants.{Append}
 use Rattle.clap.specs.declared.error.kind.ErrorKind.TheVariants.{ValueValidation}
 use Rattle.cord_tools.specs.declared.action.Action.{Action}
-use Rattle.cord_tools.specs.declared.action.Action.TheVariants.{CheckInput, Check, Show}
+use Rattle.cord_tools.specs.declared.action.Action.TheVariants.{CheckInput, Check, Show, Cut, Join, Find, Cmp}
 
 -- ---- the words that the program takes
 
@@ -26,6 +26,16 @@ revision_rule = required_rule (codes "REV")
 abbrev pub sources_rule : Rule
 sources_rule = record (new_rule (codes "SOURCE")) { action = Some Append }
 
+abbrev pub start_rule : Rule
+start_rule = required_rule (codes "START")
+
+abbrev pub file_rule : Rule
+file_rule = required_rule (codes "FILE")
+
+-- one value or more
+abbrev pub files_rule : Rule
+files_rule = record file_rule { action = Some Append }
+
 -- `check IMAGE [SOURCE]...`
 abbrev pub check_app : App
 check_app = with_rule (with_rule (new_app (codes "check")) image_rule) sources_rule
@@ -35,9 +45,28 @@ abbrev pub show_app : App
 show_app = with_rule (with_rule (with_rule (new_app (codes "show")) image_rule) revision_rule)
     sources_rule
 
+-- `cut START COUNT FILE`
+abbrev pub cut_app : App
+cut_app = with_rule (with_rule (with_rule (new_app (codes "cut")) start_rule)
+    (required_rule (codes "COUNT"))) file_rule
+
+-- `join FILE...`
+abbrev pub join_app : App
+join_app = with_rule (new_app (codes "join")) files_rule
+
+-- `find START PATTERN FILE`
+abbrev pub find_app : App
+find_app = with_rule (with_rule (with_rule (new_app (codes "find")) start_rule)
+    (required_rule (codes "PATTERN"))) file_rule
+
+-- `cmp FILE FILE`
+abbrev pub cmp_app : App
+cmp_app = with_rule (with_rule (new_app (codes "cmp")) (required_rule (codes "FIRST")))
+    (required_rule (codes "SECOND"))
+
 unfoldable pub cordkit_app : App
-cordkit_app = with_subcommand (with_subcommand (new_app (codes "cordkit")) check_app.top)
-    show_app.top
+cordkit_app = with_subcommand (with_subcommand (with_subcommand (with_subcommand (with_subcommand (with_subcommand
+    (new_app (codes "cordkit")) check_app.top) show_app.top) cut_app.top) join_app.top) find_app.top) cmp_app.top
 
 -- ---- what was given
 
@@ -72,13 +101,22 @@ Holds given (Check image sources) = Gives given (codes "check") (λ rows.
 Holds given (Show image revision sources) = Gives given (codes "show") (λ rows.
     (image.now ≡ text_of rows (codes "IMAGE")) × ReadsAs (text_of rows (codes "REV")) revision
     × (map (λ s. s.now) sources.items ≡ texts_of rows (codes "SOURCE")))
+Holds given (Cut start count file) = Gives given (codes "cut") (λ rows.
+    ReadsAs (text_of rows (codes "START")) start × ReadsAs (text_of rows (codes "COUNT")) count
+    × (file.now ≡ text_of rows (codes "FILE")))
+Holds given (Join files) = Gives given (codes "join") (λ rows. map (λ s. s.now) files.items ≡ texts_of rows (codes "FILE"))
+Holds given (Find start pattern file) = Gives given (codes "find") (λ rows.
+    ReadsAs (text_of rows (codes "START")) start × (pattern.now ≡ text_of rows (codes "PATTERN"))
+    × (file.now ≡ text_of rows (codes "FILE")))
+Holds given (Cmp first second) = Gives given (codes "cmp") (λ rows.
+    (first.now ≡ text_of rows (codes "FIRST")) × (second.now ≡ text_of rows (codes "SECOND")))
 
 abbrev pub IsOneOf : List Text → Text → Type 0
 IsOneOf [] n = ⊥
 IsOneOf (x ∷ xs) n = (n ≡ x) ⊎ IsOneOf xs n
 
 abbrev pub subcommand_names : List Text
-subcommand_names = codes "check" ∷ codes "show" ∷ []
+subcommand_names = codes "check" ∷ codes "show" ∷ codes "cut" ∷ codes "join" ∷ codes "find" ∷ codes "cmp" ∷ []
 
 -- the subcommand that was given, if any, is one of the program's own, and not `help`
 abbrev pub IsKnown : Option (Text × List Row) → Type 0
@@ -92,6 +130,9 @@ WhereGiven given name P = (rows : List Row) → given ≡ Some (name, rows) → 
 -- each word that stands for a number is one
 pub record NumbersRead (given : Option (Text × List Row)) : Type 0 where
   pub show : WhereGiven given (codes "show") (λ rows. IsNumber (text_of rows (codes "REV")))
+  pub cut : WhereGiven given (codes "cut") (λ rows.
+      IsNumber (text_of rows (codes "START")) × IsNumber (text_of rows (codes "COUNT")))
+  pub find : WhereGiven given (codes "find") (λ rows. IsNumber (text_of rows (codes "START")))
 
 -- the kinds of a refusal: that of clap's first fault, or that of a number that does not read
 abbrev pub refusal_kinds : List Text → Kinds

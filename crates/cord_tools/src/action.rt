@@ -17,4 +17,25 @@ pub enum Action<'a> {
         revision: u64,
         sources: Vec<&'a str>,
     },
+    /// Write at most `count` bytes of a file, from its byte `start` on.
+    Cut {
+        start: u64,
+        count: u64,
+        file: &'a str,
+    },
+    /// Write the bytes of files, one behind the other.
+    Join {
+        files: Vec<&'a str>,
+    },
+    /// Write the place at which a pattern first occurs in a file, from its byte `start` on.
+    Find {
+        start: u64,
+        pattern: &'a str,
+        file: &'a str,
+    },
+    /// Say how the bytes of a file compare with those of another.
+    Cmp {
+        first: &'a str,
+        second: &'a str,
+    },
 }

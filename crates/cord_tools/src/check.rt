@@ -6,9 +6,9 @@ ghost use Rattle.cord_tools.specs.Sources.{texts_in};
 
 use crate::fault::ToolFault;
 use crate::input::read_image;
-use crate::output::write_bytes;
 use crate::sources::sources_of;
 use crate::status::Status;
+use cord_search::write_bytes;
 use lazy_file::{AddFault, Sources};
 use rope_node::NodeSpace;
 use session_checker::{CheckFault, Checked, check};

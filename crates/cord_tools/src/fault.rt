@@ -1,10 +1,13 @@
 //! Why a tool ended without its answer.
 
 ghost use Rattle.std.specs.Prelude.{◌≡◌};
+ghost use Rattle.cord_tools.specs.Faults.{find_fault, put_fault, read_fault};
 ghost use Rattle.cord_tools.specs.Sources.{source_fault};
 
-use lazy_file::AddFault;
+use cord_search::{FindFault, PutFault};
+use lazy_file::{AddFault, SourceFault};
 use session_checker::CheckFault;
+use std::alloc::AllocError;
 use thiserror::Error;
 
 /// A tool that refused its input or was stopped. The program prints the words on standard error; it ends with status 1 after a
@@ -29,6 +32,9 @@ pub enum ToolFault {
     /// The image has no such revision.
     #[error("refused no revision")]
     NoRevision,
+    /// The pattern of a search has more than 4,096 bytes.
+    #[error("refused F1")]
+    PatternTooLong,
 }
 
 impl From<AddFault> for ToolFault {
@@ -38,6 +44,49 @@ impl From<AddFault> for ToolFault {
         match fault {
             AddFault::Memory => ToolFault::Memory,
             AddFault::TooManySources | AddFault::SourceTooLong => ToolFault::Source(fault),
+        }
+    }
+}
+
+impl From<AllocError> for ToolFault {
+    ghost use Rattle.cord_tools.specs.declared.fault.ToolFault.TheVariants.{Memory};
+
+    ghost from_gives = { λ _ f. f ≡ Memory };
+
+    fn from(_error: AllocError) -> ToolFault {
+        ToolFault::Memory
+    }
+}
+
+impl From<SourceFault> for ToolFault {
+    ghost from_gives = { λ e f. f ≡ read_fault e };
+
+    fn from(fault: SourceFault) -> ToolFault {
+        match fault {
+            SourceFault::Memory => ToolFault::Memory,
+            SourceFault::Device | SourceFault::Short | SourceFault::BadSource => ToolFault::Read,
+        }
+    }
+}
+
+impl From<PutFault> for ToolFault {
+    ghost from_gives = { λ e f. f ≡ put_fault e };
+
+    fn from(fault: PutFault) -> ToolFault {
+        match fault {
+            PutFault::Source(fault) => ToolFault::from(fault),
+            PutFault::Write => ToolFault::Write,
+        }
+    }
+}
+
+impl From<FindFault> for ToolFault {
+    ghost from_gives = { λ e f. f ≡ find_fault e };
+
+    fn from(fault: FindFault) -> ToolFault {
+        match fault {
+            FindFault::PatternTooLong => ToolFault::PatternTooLong,
+            FindFault::Source(fault) => ToolFault::from(fault),
         }
     }
 }

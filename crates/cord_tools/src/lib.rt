@@ -3,9 +3,13 @@
 
 mod action;
 mod check;
+mod cmp;
+mod cut;
 mod fault;
+mod files;
+mod find;
 mod input;
-mod output;
+mod join;
 mod show;
 mod sources;
 mod status;
@@ -15,7 +19,11 @@ pub mod words;
 
 pub use action::Action;
 pub use check::{run_check, run_stdin};
+pub use cmp::run_cmp;
+pub use cut::run_cut;
 pub use fault::ToolFault;
+pub use find::run_find;
+pub use join::run_join;
 pub use show::run_show;
 pub use sources::{read_source, sources_of};
 pub use status::Status;

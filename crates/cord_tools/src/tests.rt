@@ -1,6 +1,9 @@
 //! The tools over readers and writers that are interrupted, that fail, and that take no more.
 
-use crate::{Status, ToolFault, read_source, run_check, run_show, run_stdin, sources_of};
+use crate::{
+    Status, ToolFault, read_source, run_check, run_cmp, run_cut, run_find, run_join, run_show,
+    run_stdin, sources_of,
+};
 use image_reader::ReadFault;
 use lazy_file::{AddFault, MemSources, Sources};
 use session_checker::CheckFault;
@@ -376,4 +379,182 @@ fn a_check_with_256_sources_is_refused(rt: HostRuntime) -> Result<(), Fail> {
     assert_eq!(rt; outcome, Err(refused));
     assert!(rt; shown.taken().is_empty());
     Ok(())
+}
+
+/// The texts as sources, each added once more where memory was refused.
+fn files<'a>(rt: &impl AllocGlobal, texts: &[&'a [u8]]) -> MemSources<'a> {
+    let mut sources = MemSources::new(rt.alloc());
+    for text in texts {
+        if sources.add(*text) == Err(AddFault::Memory) {
+            let _ = sources.add(*text);
+        }
+    }
+    sources
+}
+
+/// Cuts a text. Where memory was refused, nothing was written, and it runs once more. Here and below the counts of sources are what
+/// the tools ask for.
+fn cut(
+    rt: &(impl AllocGlobal + Abort),
+    text: &[u8],
+    start: u64,
+    count: u64,
+    writer: &mut Sink,
+) -> Result<(), ToolFault> {
+    let mut sources = files(rt, &[text]);
+    assert!(rt; sources.count() >= 1);
+    let outcome = run_cut(rt.alloc(), &mut sources, start, count, writer);
+    if outcome != Err(ToolFault::Memory) {
+        return outcome;
+    }
+    assert!(rt; writer.taken().is_empty());
+    assert!(rt; sources.count() >= 1);
+    run_cut(rt.alloc(), &mut sources, start, count, writer)
+}
+
+/// Searches a text.
+fn find(
+    rt: &(impl AllocGlobal + Abort),
+    text: &[u8],
+    start: u64,
+    pattern: &[u8],
+    writer: &mut Sink,
+) -> Result<Status, ToolFault> {
+    let mut sources = files(rt, &[text]);
+    assert!(rt; sources.count() >= 1);
+    let outcome = run_find(rt.alloc(), &mut sources, start, pattern, writer);
+    if outcome != Err(ToolFault::Memory) {
+        return outcome;
+    }
+    assert!(rt; writer.taken().is_empty());
+    assert!(rt; sources.count() >= 1);
+    run_find(rt.alloc(), &mut sources, start, pattern, writer)
+}
+
+/// Compares two texts.
+fn compare(
+    rt: &(impl AllocGlobal + Abort),
+    first: &[u8],
+    second: &[u8],
+    writer: &mut Sink,
+) -> Result<Status, ToolFault> {
+    let mut sources = files(rt, &[first, second]);
+    assert!(rt; sources.count() >= 2);
+    let outcome = run_cmp(rt.alloc(), &mut sources, writer);
+    if outcome != Err(ToolFault::Memory) {
+        return outcome;
+    }
+    assert!(rt; writer.taken().is_empty());
+    assert!(rt; sources.count() >= 2);
+    run_cmp(rt.alloc(), &mut sources, writer)
+}
+
+#[test]
+fn a_part_of_a_file_is_cut(rt: HostRuntime) {
+    let parts: [(u64, u64, &[u8]); 6] = [
+        (3, 10, b"de"),
+        (9, 1, b""),
+        (0, 2, b"ab"),
+        (1, 0, b""),
+        (5, 1, b""),
+        (1, u64::MAX, b"bcde"),
+    ];
+    for (start, count, part) in parts {
+        let mut writer = Sink::with_room(64, End::Fails);
+        let outcome = cut(&rt, b"abcde", start, count, &mut writer);
+        assert_eq!(rt; outcome, Ok(()), "from {start}");
+        assert_eq!(rt; writer.taken(), part, "from {start}");
+    }
+}
+
+#[test]
+fn files_are_compared(rt: HostRuntime) {
+    let orders: [(&[u8], &[u8], &[u8], Status); 5] = [
+        (b"ab", b"abc", b"less\n", Status::Failure),
+        (b"abc", b"abc", b"equal\n", Status::Success),
+        (b"", b"", b"equal\n", Status::Success),
+        (b"abc", b"ab", b"greater\n", Status::Failure),
+        (b"b", b"abc", b"greater\n", Status::Failure),
+    ];
+    for (first, second, line, status) in orders {
+        let mut writer = Sink::with_room(64, End::Fails);
+        let outcome = compare(&rt, first, second, &mut writer);
+        assert_eq!(rt; outcome, Ok(status));
+        assert_eq!(rt; writer.taken(), line);
+    }
+}
+
+#[test]
+fn a_pattern_is_found_or_not(rt: HostRuntime) {
+    let places: [(u64, &[u8], &[u8], Status); 6] = [
+        (1, b"cd", b"2\n", Status::Success),
+        (2, b"cd", b"2\n", Status::Success),
+        (3, b"cd", b"", Status::Failure),
+        (0, b"zz", b"", Status::Failure),
+        (5, b"", b"5\n", Status::Success),
+        (6, b"", b"", Status::Failure),
+    ];
+    for (start, pattern, line, status) in places {
+        let mut writer = Sink::with_room(64, End::Fails);
+        let outcome = find(&rt, b"abcde", start, pattern, &mut writer);
+        assert_eq!(rt; outcome, Ok(status), "from {start}");
+        assert_eq!(rt; writer.taken(), line, "from {start}");
+    }
+}
+
+#[test]
+fn a_pattern_of_more_than_4096_bytes_is_refused(rt: HostRuntime) -> Result<(), Fail> {
+    let alloc = rt.alloc();
+    let mut writer = Sink::with_room(64, End::Fails);
+    let outcome = find(&rt, b"abcde", 0, &[0; 4096], &mut writer);
+    assert_eq!(rt; outcome, Ok(Status::Failure));
+    let outcome = find(&rt, b"abcde", 0, &[0; 4097], &mut writer);
+    let refused = ToolFault::PatternTooLong;
+    assert_eq!(rt; outcome, Err(refused));
+    assert!(rt; writer.taken().is_empty());
+    let shown = format!(in alloc; "{refused}").or_else(|_| format!(in alloc; "{refused}"))?;
+    assert_eq!(rt; shown.as_str(), "refused F1");
+    Ok(())
+}
+
+#[test]
+fn files_are_joined_in_their_order(rt: HostRuntime) {
+    for room in 0..6 {
+        let mut sources = files(&rt, &[b"ab".as_slice(), b"", b"cde"]);
+        let mut writer = Sink::with_room(room, End::Fails);
+        let mut outcome = run_join(rt.alloc(), &mut sources, &mut writer);
+        if outcome == Err(ToolFault::Memory) {
+            writer = Sink::with_room(room, End::Fails);
+            outcome = run_join(rt.alloc(), &mut sources, &mut writer);
+        }
+        let expected = if room < 5 {
+            Err(ToolFault::Write)
+        } else {
+            Ok(())
+        };
+        assert_eq!(rt; outcome, expected, "at {room}");
+        assert_eq!(rt; writer.taken(), &b"abcde"[..room.min(5)], "at {room}");
+    }
+}
+
+#[test]
+fn a_writer_that_fails_has_a_prefix_of_the_answer(rt: HostRuntime) {
+    for end in [End::Fails, End::TakesNothing] {
+        for room in 0..2 {
+            let mut writer = Sink::with_room(room, end);
+            let outcome = cut(&rt, b"abcde", 3, 10, &mut writer);
+            assert_eq!(rt; outcome, Err(ToolFault::Write), "at {room}");
+            assert_eq!(rt; writer.taken(), &b"de"[..room], "at {room}");
+            let mut writer = Sink::with_room(room, end);
+            let outcome = find(&rt, b"abcde", 1, b"cd", &mut writer);
+            assert_eq!(rt; outcome, Err(ToolFault::Write), "at {room}");
+            assert_eq!(rt; writer.taken(), &b"2\n"[..room], "at {room}");
+        }
+        for room in 0..5 {
+            let mut writer = Sink::with_room(room, end);
+            let outcome = compare(&rt, b"ab", b"abc", &mut writer);
+            assert_eq!(rt; outcome, Err(ToolFault::Write), "at {room}");
+            assert_eq!(rt; writer.taken(), &b"less\n"[..room], "at {room}");
+        }
+    }
 }

@@ -1,7 +1,7 @@
 //! The command line.
 
-ghost use Rattle.std.specs.Prelude.{◌≡◌, ◌∷◌, [], IfOk, IfErr, OnOk, true};
-ghost use Rattle.clap.specs.Words.{app_of, fault_of, subcommand_of};
+ghost use Rattle.std.specs.Prelude.{◌≡◌, ◌∷◌, [], IfOk, IfErr, OnOk, codes, true};
+ghost use Rattle.clap.specs.Words.{app_of, fault_of, new_app, subcommand_of};
 ghost use Rattle.clap.specs.Words.{subcommand_rows_of, takes};
 ghost use Rattle.clap.specs.declared.error.kind.ErrorKind.TheVariants.{ValueValidation};
 ghost use Rattle.cord_tools.specs.Words.{Holds, IsKnown, NumbersRead, cordkit_app, line_of};
@@ -10,8 +10,12 @@ ghost use Rattle.cord_tools.specs.Refusals.{FailsAs};
 
 mod args;
 mod check;
+mod cmp;
+mod cut;
 mod fault;
+mod find;
 mod given;
+mod join;
 mod show;
 
 use crate::action::Action;
@@ -69,19 +73,34 @@ fn action_of<'a>(
         None => Ok(Action::CheckInput),
         Some(("check", given)) => Ok(check::action(alloc, given)?),
         Some(("show", given)) => show::action(alloc, command, given),
+        Some(("cut", given)) => cut::action(alloc, command, given),
+        Some(("join", given)) => Ok(join::action(alloc, given)?),
+        Some(("find", given)) => find::action(alloc, command, given),
+        Some(("cmp", given)) => Ok(cmp::action(given)),
         Some(_) => unreachable!(),
     }
+}
+
+/// The program without its subcommands.
+fn program<'a>(alloc: Global) -> Command<'a>
+    ensures { app_of result ≡ new_app (codes "cordkit") }
+{
+    Command::new(alloc, "cordkit")
+        .about("a text workbench whose saved sessions can be checked")
+        .after_help("With no words, check the session on standard input.")
 }
 
 /// The program, as `clap` is told of it.
 fn cordkit<'a>(alloc: Global) -> Result<Command<'a>, AllocError>
     ensures { IfOk result (λ c. app_of c ≡ cordkit_app) }
 {
-    Command::new(alloc, "cordkit")
-        .about("a text workbench whose saved sessions can be checked")
-        .after_help("With no words, check the session on standard input.")
+    program(alloc)
         .subcommand(check::command(alloc)?)?
-        .subcommand(show::command(alloc)?)
+        .subcommand(show::command(alloc)?)?
+        .subcommand(cut::command(alloc)?)?
+        .subcommand(join::command(alloc)?)?
+        .subcommand(find::command(alloc)?)?
+        .subcommand(cmp::command(alloc)?)
 }
 
 #[cfg(test)]

@@ -1,8 +1,13 @@
 //! The program `cordkit`: it opens what its words name, and ends as its tool says.
 #![tactic(auto)]
 
+ghost use Rattle.std.specs.Prelude.{◌≡◌, IfOk, length};
+
 use cord_tools::words::{WordsFault, words};
-use cord_tools::{Action, Status, ToolFault, read_source, run_check, run_show, run_stdin};
+use cord_tools::{
+    Action, Status, ToolFault, read_source, run_check, run_cmp, run_cut, run_find, run_join,
+    run_show, run_stdin, sources_of,
+};
 use std::fs::File;
 use std::io::ErrorKind;
 use std::process::ExitCode;
@@ -23,13 +28,51 @@ fn open(rt: &HostRuntime, path: &str) -> Result<File, ToolFault> {
 }
 
 /// Reads the sources, in the order of their paths.
-fn source_texts(rt: &HostRuntime, paths: &[&str]) -> Result<Vec<Vec<u8>>, ToolFault> {
+fn source_texts(rt: &HostRuntime, paths: &[&str]) -> Result<Vec<Vec<u8>>, ToolFault>
+    ensures { IfOk result (λ texts. length texts.items ≡ length paths.entry.now) }
+{
     let mut texts = Vec::new(rt.alloc());
     for path in paths {
         let text = read_source(rt.alloc(), open(rt, path)?)?;
         texts.push(text).map_err(|_| ToolFault::Memory)?;
     }
     Ok(texts)
+}
+
+/// Writes a part of a file. Here and below, files are read before anything is written.
+fn cut(rt: &HostRuntime, start: u64, count: u64, file: &str) -> Result<Status, ToolFault> {
+    let texts = source_texts(rt, &[file])?;
+    let mut sources = sources_of(rt.alloc(), texts.as_slice())?;
+    run_cut(rt.alloc(), &mut sources, start, count, &mut io::writer(rt))?;
+    Ok(Status::Success)
+}
+
+/// Writes files, one behind the other.
+fn join(rt: &HostRuntime, files: &[&str]) -> Result<Status, ToolFault> {
+    let texts = source_texts(rt, files)?;
+    let mut sources = sources_of(rt.alloc(), texts.as_slice())?;
+    run_join(rt.alloc(), &mut sources, &mut io::writer(rt))?;
+    Ok(Status::Success)
+}
+
+/// Writes the first place of a pattern in a file.
+fn find(rt: &HostRuntime, start: u64, pattern: &[u8], file: &str) -> Result<Status, ToolFault> {
+    let texts = source_texts(rt, &[file])?;
+    let mut sources = sources_of(rt.alloc(), texts.as_slice())?;
+    run_find(
+        rt.alloc(),
+        &mut sources,
+        start,
+        pattern,
+        &mut io::writer(rt),
+    )
+}
+
+/// Writes how a file compares with another.
+fn compare(rt: &HostRuntime, first: &str, second: &str) -> Result<Status, ToolFault> {
+    let texts = source_texts(rt, &[first, second])?;
+    let mut sources = sources_of(rt.alloc(), texts.as_slice())?;
+    run_cmp(rt.alloc(), &mut sources, &mut io::writer(rt))
 }
 
 /// Does what the words ask for. The image is opened and the sources are read before anything is written.
@@ -52,6 +95,14 @@ fn run(rt: &HostRuntime, action: &Action) -> Result<Status, ToolFault> {
             run_show(rt.alloc(), image, texts.as_slice(), *revision, &mut writer)?;
             Ok(Status::Success)
         }
+        Action::Cut { start, count, file } => cut(rt, *start, *count, file),
+        Action::Join { files } => join(rt, files.as_slice()),
+        Action::Find {
+            start,
+            pattern,
+            file,
+        } => find(rt, *start, pattern.as_bytes(), file),
+        Action::Cmp { first, second } => compare(rt, first, second),
     }
 }
 
@@ -64,9 +115,10 @@ fn finish(rt: &HostRuntime, outcome: Result<Status, ToolFault>) -> ExitCode {
             // There is no other place to tell that standard error is closed.
             let _ = rt.eprintln(fault);
             match fault {
-                ToolFault::Refused(_) | ToolFault::Source(_) | ToolFault::NoRevision => {
-                    ExitCode::from(1)
-                }
+                ToolFault::Refused(_)
+                | ToolFault::Source(_)
+                | ToolFault::NoRevision
+                | ToolFault::PatternTooLong => ExitCode::from(1),
                 ToolFault::Memory | ToolFault::Read | ToolFault::Write => ExitCode::from(3),
             }
         }

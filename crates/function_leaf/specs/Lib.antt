@@ -1,3 +1,4 @@
 pub mod Coded
+pub mod Optional
 pub mod Padding
 pub mod Pattern

@@ -4,6 +4,7 @@ use Rattle.std.specs.List.{sum_by, AllByRecursion}
 use Rattle.function_leaf.specs.declared.coded.Coded.{Coded}
 use Rattle.function_leaf.specs.declared.coded.Coded.TheVariants.{Fill, Ramp, Cycle}
 use Rattle.function_leaf.specs.Coded.{coded_byte}
+use Rattle.function_leaf.specs.Optional.{answer_of}
 use Rattle.function_leaf.specs.Pattern.{IsPatternLength}
 use Rattle.rope_node.specs.declared.node.NodeId.{NodeId}
 use Rattle.rope_node.specs.declared.node.NodeView.{NodeView}
@@ -37,14 +38,9 @@ no_image_node = record { node = no_node; function = None }
 abbrev pub function_at : ImageValue → ℕ → Option Coded
 function_at v id = (get_or v.nodes id no_image_node).function
 
--- the byte that a node's function answers at a place, and 0 where it holds none
-abbrev pub answer_of : Option Coded → ℕ → ℕ
-answer_of None k = 0
-answer_of (Some c) k = coded_byte c k
-
 -- the table of an image's nodes
 abbrev pub table_of : ImageValue → Table
-table_of v = record { nodes = map (λ (n : ImageNode). n.node) v.nodes; pool = v.pool; sources = v.sources; answer = λ id k. answer_of (function_at v id) k }
+table_of v = record { nodes = map (λ (n : ImageNode). n.node) v.nodes; pool = v.pool; sources = v.sources; answer = λ id k. answer_of coded_byte (function_at v id) k }
 
 -- a function's bytes fit, and a pattern has a length that it may have
 abbrev pub FitsFunction : Coded → Type 0

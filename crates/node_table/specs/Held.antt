@@ -1,7 +1,7 @@
 -- What a table holds, and what may be put into it.
 use Rattle.std.specs.Prelude.{◌≡◌, ℕ, ◌+◌, ◌^◌, ◌<◌, ◌≤◌, List, length, map, get_or, ◌++◌, Option, Some, None}
 use Rattle.function_leaf.specs.declared.coded.Coded.{Coded}
-use Rattle.function_leaf.specs.declared.coded.Coded.TheVariants.{Fill}
+use Rattle.function_leaf.specs.Optional.{answer_of, or_fill}
 use Rattle.leaf_buffer.specs.Contents.{Contents, IsInOneBlock}
 use Rattle.rope_node.specs.declared.node.NodeView.{NodeView}
 use Rattle.rope_node.specs.declared.node.NodeView.TheVariants.{Lit, Src, Fun, Cat, Sub}
@@ -30,19 +30,10 @@ function_of r = r.function
 abbrev pub held_of : {F : Type 0} → List (Record F) → Contents → List ℕ → Held F
 held_of records pool sources = record { nodes = map node_of records; functions = map function_of records; pool = pool; sources = sources }
 
--- what a function answers, where there is one
-abbrev pub answer_of : {F : Type 0} → (F → ℕ → ℕ) → Option F → ℕ → ℕ
-answer_of meaning None i = 0
-answer_of meaning (Some f) i = meaning f i
-
 abbrev pub table_of : {F : Type 0} → (F → ℕ → ℕ) → Held F → Table
 table_of meaning h = record { nodes = h.nodes; pool = h.pool.bytes; sources = h.sources; answer = λ id i. answer_of meaning (get_or h.functions id None) i }
 
 -- the function of a node, where it is one that an image can hold
-abbrev pub or_fill : Option Coded → Coded
-or_fill None = Fill 0
-or_fill (Some f) = f
-
 abbrev pub coded_at : Held Coded → ℕ → Coded
 coded_at h id = or_fill (get_or h.functions id None)
 

@@ -1,9 +1,9 @@
 -- What stays of the nodes of a table that goes on.
-use Rattle.std.proofs.Common.{◌≡◌, ℕ, zero, suc, ◌+◌, ◌<◌, ◌≤◌, max, List, map, length, get_or, refl, sym, ap, ◌∙◌, arith}
+use Rattle.std.proofs.Common.{◌≡◌, ℕ, zero, suc, ◌<◌, ◌≤◌, List, map, length, refl, sym, ap, ◌∙◌, arith}
 use Rattle.std.specs.List.{range_with_len}
 use Rattle.rope_node.specs.declared.node.NodeView.{NodeView}
 use Rattle.rope_node.specs.declared.node.NodeView.TheVariants.{Lit, Src, Fun, Cat, Sub}
-use Rattle.rope_node.specs.Table.{Node, Table, node_at, view_at, len_at, depth_at, depth_of, HasEarlierChildren, HasSpanInside, HasTrueLength, IsSoundNode, IsSound, IsTrueNode}
+use Rattle.rope_node.specs.Table.{Node, Table, view_at, len_at, depth_at, depth_of, HasEarlierChildren, HasSpanInside, HasTrueLength, IsSoundNode, IsSound, IsTrueNode}
 use Rattle.rope_node.specs.Denotes.{Cell, Byte, cells, cells_in, node_cells}
 use Rattle.rope_node.specs.Extends.{Extends}
 

@@ -1,5 +1,5 @@
 -- Each cell of a sound table is a byte, or a place inside a source.
-use Rattle.std.proofs.Common.{◌≡◌, ℕ, zero, suc, ◌+◌, ◌-◌, ◌<◌, ◌≤◌, List, map, length, get_or, take, drop, inl, inr, refl, sym, ap, subst, ◌∙◌, arith}
+use Rattle.std.proofs.Common.{ℕ, zero, suc, ◌+◌, ◌-◌, ◌<◌, List, map, length, get_or, take, drop, inl, inr, refl, sym, subst, ◌∙◌, arith}
 use Rattle.std.specs.List.{slice_range, range_with_len}
 use Rattle.std.proofs.lemmas.Bool.{cases_lt}
 use Rattle.std.proofs.lemmas.List.{length-map, length-take, get_or-map, get_or_past, get_or-take, get_or-drop, get_or_append_left, get_or-append_right}

@@ -4,3 +4,5 @@ pub mod Paths
 pub mod Extensions
 pub mod HeldCells
 pub mod Ropes
+pub mod Parts
+pub mod LeafSpans

@@ -1,5 +1,5 @@
 -- Ropes of a table that goes on.
-use Rattle.std.proofs.Common.{◌≡◌, ℕ, ◌<◌, ◌≤◌, length, Option, Some, None, refl, ◌∙◌, arith}
+use Rattle.std.proofs.Common.{◌≡◌, Option, Some, None, refl, ◌∙◌, arith}
 use Rattle.rope_node.specs.declared.node.NodeId.{NodeId}
 use Rattle.rope_node.specs.Table.{Table, IsSound}
 use Rattle.rope_node.specs.Denotes.{rope_cells, IsRope}

@@ -1,5 +1,5 @@
 -- The places of sources among the cells of a table.
-use Rattle.std.specs.Prelude.{ℕ, ◌<◌, length, get_or}
+use Rattle.std.specs.Prelude.{◌<◌, length, get_or}
 use Rattle.rope_node.specs.Table.{Table}
 use Rattle.rope_node.specs.Denotes.{Cell, Byte, Place}
 

@@ -4,7 +4,9 @@
 mod node;
 mod path;
 mod space;
+mod span;
 
-pub use node::{NodeId, NodeView, Rope};
+pub use node::{LeafSpan, NodeId, NodeView, Rope};
 pub use path::{LeafPlace, find_leaf};
 pub use space::{CodedSpace, NodeSpace, rope_len};
+pub use span::find_span;

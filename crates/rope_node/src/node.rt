@@ -21,3 +21,13 @@ pub enum NodeView {
     /// The bytes of `b` from place `i` on.
     Sub { b: NodeId, i: u64 },
 }
+
+/// A span of one leaf.
+#[derive(Clone, Copy, Debug, PartialEq, Eq)]
+pub struct LeafSpan {
+    pub leaf: NodeId,
+    /// Where it begins, counted from the leaf's first byte.
+    pub start: u64,
+    /// How many bytes it has.
+    pub len: u64,
+}

@@ -11,7 +11,8 @@ use Rattle.rope_node.specs.Extends.{Extends}
 use Rattle.rope_node.proofs.Cells.{cells_at}
 use Rattle.rope_node.proofs.Extensions.{sound_kept, true_kept}
 use Rattle.node_table.specs.declared.record.Record.{Record}
-use Rattle.node_table.specs.Held.{Held, node_of, function_of, answer_of, table_of, with_records, most_nodes, IsKept, IsKeptNode, IsGoodNode, CanHold}
+use Rattle.node_table.specs.Held.{Held, node_of, function_of, table_of, with_records, most_nodes, IsKept, IsKeptNode, IsGoodNode, CanHold}
+use Rattle.node_table.proofs.Growing.{extends_records, good_kept}
 use Rattle.rope_store.specs.Kept.{IsStore}
 use Rattle.rope_store.proofs.Pools.{Grows}
 
@@ -32,43 +33,13 @@ true_of meaning h holds = record { nodes = λ id lt. (holds.nodes id lt).true_re
 
 -- more nodes and a longer pool extend a table
 pub extends_with : {F : Type 0} (meaning : F → ℕ → ℕ) (h : Held F) (pool : Contents) (rs : List (Record F)) → length h.functions ≡ length h.nodes → Grows h.pool pool → Extends (table_of meaning h) (table_of meaning (with_records h pool rs))
-extends_with {F = F} meaning h pool rs same grows = record {
-  more_nodes = omega (arith, length-append h.nodes (map node_of rs));
-  nodes = λ id lt. get_or_append_left h.nodes (map node_of rs) no_node id lt;
-  more_pool = grows.longer;
-  pool = grows.pieces.bytes;
-  more_sources = omega arith;
-  sources = λ s lt. refl;
-  answer = λ id lt. ap (λ (f : Option F). answer_of meaning f) (get_or_append_left h.functions (map function_of rs) None id (omega arith));
-}
-
-kept_node_stays : {F : Type 0} (old new : Contents) → KeepsPieces old new → (n : ℕ) (v : NodeView) (f : Option F) → IsKeptNode old n v f → IsKeptNode new n v f
-kept_node_stays old new keeps n (Lit a) f h = keeps.in_one_block a n h
-kept_node_stays old new keeps n (Src s a) f h = h
-kept_node_stays old new keeps n Fun None h = h
-kept_node_stays old new keeps n Fun (Some f) h = h
-kept_node_stays old new keeps n (Cat l r) f h = h
-kept_node_stays old new keeps n (Sub b i) f h = h
-
--- a node that keeps every rule, given as its parts
-good_from : {F : Type 0} (meaning : F → ℕ → ℕ) (h : Held F) (id : ℕ) (n : Node) (f : Option F) → node_at (table_of meaning h) id ≡ n → get_or h.functions id None ≡ f → IsSoundNode (table_of meaning h) id n → IsTrueNode (table_of meaning h) n → IsKeptNode h.pool n.len n.view f → IsGoodNode meaning h id
-good_from meaning h id n f is_node is_function sound true_record kept = record {
-  sound = rw is_node sound;
-  true_record = rw is_node true_record;
-  kept = rw (is_node, is_function) kept;
-}
+extends_with meaning h pool rs same grows = extends_records meaning h pool rs same grows.pieces grows.longer
 
 -- a node keeps its rules
 good_stays : {F : Type 0} (meaning : F → ℕ → ℕ) (h : Held F) (pool : Contents) (rs : List (Record F)) → length h.functions ≡ length h.nodes → Grows h.pool pool → (id : ℕ) → id < length h.nodes → IsGoodNode meaning h id → IsGoodNode meaning (with_records h pool rs) id
 good_stays meaning h pool rs same grows id lt good =
-    let t = table_of meaning h in
-    let new = table_of meaning (with_records h pool rs) in
-    let e : Extends t new = extends_with meaning h pool rs same grows in
-    let n = node_at t id in
-    let f = get_or h.functions id None in
-    good_from meaning (with_records h pool rs) id n f (e.nodes id lt) (get_or_append_left h.functions (map function_of rs) None id (omega arith))
-    (sound_kept t new e id n (omega arith) good.sound) (true_kept t new e id n (omega arith) good.sound good.true_record)
-    (kept_node_stays h.pool pool grows.pieces n.len n.view f good.kept)
+    good_kept meaning h (with_records h pool rs) (extends_with meaning h pool rs same grows) grows.pieces id lt
+    (get_or_append_left h.functions (map function_of rs) None id (omega arith)) good
 
 pub holds_after : {F : Type 0} (meaning : F → ℕ → ℕ) (h : Held F) (pool : Contents) (rs : List (Record F)) → Holds meaning h → Grows h.pool pool → CanHold meaning h pool rs → Holds meaning (with_records h pool rs)
 holds_after meaning h pool rs holds grows can = record {
@@ -111,6 +82,14 @@ can_hold_both {F = F} meaning h pool rs ss holds grows first second =
     let both = holds_after meaning (with_records h pool rs) pool ss one (record { pieces = record { in_one_block = λ a n k. k; bytes = λ a n k. refl }; longer = omega arith; borders = grows.borders }) second in
     let all = subst (λ (k : Held F). Holds meaning k) (with_records_twice h pool rs ss) both in
     record { nodes = λ id from lt. all.nodes id (omega (arith, length-append h.nodes (map node_of (rs ++ ss)), length-map (rs ++ ss) node_of)) }
+
+-- a node that keeps every rule, given as its parts
+good_from : {F : Type 0} (meaning : F → ℕ → ℕ) (h : Held F) (id : ℕ) (n : Node) (f : Option F) → node_at (table_of meaning h) id ≡ n → get_or h.functions id None ≡ f → IsSoundNode (table_of meaning h) id n → IsTrueNode (table_of meaning h) n → IsKeptNode h.pool n.len n.view f → IsGoodNode meaning h id
+good_from meaning h id n f is_node is_function sound true_record kept = record {
+  sound = rw is_node sound;
+  true_record = rw is_node true_record;
+  kept = rw (is_node, is_function) kept;
+}
 
 -- one more node keeps the rules, where its record does
 pub can_hold_one : {F : Type 0} (meaning : F → ℕ → ℕ) (h : Held F) (pool : Contents) (r : Record F) → length h.functions ≡ length h.nodes → IsSoundNode (table_of meaning (with_records h pool (r ∷ []))) (length h.nodes) (node_of r) → IsTrueNode (table_of meaning (with_records h pool (r ∷ []))) (node_of r) → IsKeptNode pool r.len r.view r.function → CanHold meaning h pool (r ∷ [])

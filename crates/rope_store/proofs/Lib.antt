@@ -9,3 +9,4 @@ pub mod LastLiterals
 pub mod MergedTexts
 pub mod GrownTexts
 pub mod AppendedTexts
+pub mod CallSizes

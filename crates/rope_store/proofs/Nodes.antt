@@ -9,7 +9,8 @@ use Rattle.rope_node.specs.Denotes.{Cell, Byte, Place, cells, node_cells, rope_c
 use Rattle.rope_node.specs.Extends.{Extends}
 use Rattle.rope_node.proofs.Extensions.{sound_kept, true_kept, cells_kept}
 use Rattle.node_table.specs.declared.record.Record.{Record}
-use Rattle.node_table.specs.Held.{Held, node_of, answer_of, table_of, with_records, IsKeptNode, CanHold}
+use Rattle.function_leaf.specs.Optional.{answer_of}
+use Rattle.node_table.specs.Held.{Held, node_of, table_of, with_records, IsKeptNode, CanHold}
 use Rattle.rope_store.specs.Additions.{literal_record, source_record, function_record, concatenation_record, part_record, new_node}
 use Rattle.rope_store.proofs.Pools.{Grows}
 use Rattle.rope_store.proofs.Growth.{Holds, sound_of, holds_after, extends_with, can_hold_one, can_hold_both, cells_of_last, with_records_twice}

@@ -9,6 +9,7 @@ use Rattle.rope_node.specs.declared.node.NodeView.TheVariants.{Lit, Src, Sub}
 use Rattle.rope_node.specs.Table.{Table, len_at, view_at, depth_at}
 use Rattle.rope_node.specs.Denotes.{Cell, Byte, Place, cells}
 use Rattle.rope_node.proofs.Cells.{cells_at}
+use Rattle.rope_node.proofs.Parts.{span_within, span-range_with_len}
 use Rattle.node_table.specs.Held.{Held, table_of}
 use Rattle.rope_store.specs.Kept.{IsStore}
 use Rattle.rope_store.specs.Additions.{Addition, literal_record, source_record, part_record, new_node, nothing, inner_part, node_part}
@@ -44,27 +45,8 @@ take_whole xs i n inside all some =
     rw first (take_all n xs (omega arith))
 
 -- a part of a part
-pub part_of_part : {X : Type 0} (xs : List X) (j m i n : ℕ) → i + n ≤ m → take n (drop i (take m (drop j xs))) ≡ take n (drop (j + i) xs)
-part_of_part xs j m i n inside =
-    let split : m ≡ i + (m - i) = omega arith in
-    ap (λ (k : ℕ). take n (drop i (take k (drop j xs)))) split ∙ ap (take n) (drop-take i (m - i) (drop j xs)) ∙ take-take n (m - i) (drop i (drop j xs)) (omega arith) ∙ ap (take n) (drop-drop i j xs)
-
-pub drop_range : (i a m : ℕ) → drop i (range_with_len a (i + m)) ≡ range_with_len (a + i) m
-drop_range zero a m = ap (λ (k : ℕ). range_with_len a k) (omega arith) ∙ ap (λ (k : ℕ). range_with_len k m) (omega arith)
-drop_range (suc i) a m =
-    let step : suc i + m ≡ suc (i + m) = omega arith in
-    ap (λ (k : ℕ). drop (suc i) (range_with_len a k)) step ∙ drop_range i (a + 1) m ∙ ap (λ (k : ℕ). range_with_len k m) (omega arith)
-
-pub take_range : (a m n : ℕ) → n ≤ m → take n (range_with_len a m) ≡ range_with_len a n
-take_range a m zero le = refl
-take_range a zero (suc n) le = absurd (omega arith)
-take_range a (suc m) (suc n) le = ap (λ (xs : List ℕ). a ∷ xs) (take_range (a + 1) m n (omega arith))
-
--- numbers in a row, from the i-th on
-pub range_part : (a m i n : ℕ) → i + n ≤ m → take n (drop i (range_with_len a m)) ≡ range_with_len (a + i) n
-range_part a m i n inside =
-    let split : m ≡ i + (m - i) = omega arith in
-    ap (λ (k : ℕ). take n (drop i (range_with_len a k))) split ∙ ap (take n) (drop_range i a (m - i)) ∙ take_range (a + i) (m - i) n (omega arith)
+part_of_part : {X : Type 0} (xs : List X) (j m i n : ℕ) → i + n ≤ m → take n (drop i (take m (drop j xs))) ≡ take n (drop (j + i) xs)
+part_of_part xs j m i n inside = span_within n i m j xs inside ∙ ap (λ (k : ℕ). take n (drop k xs)) (omega arith)
 
 -- a part of a literal
 pub literal_part_good : {F : Type 0} (meaning : F → ℕ → ℕ) (h : Held F) → IsStore meaning h → (x : NodeId) (a i n : ℕ) → x.0 < length h.nodes → view_at (table_of meaning h) x.0 ≡ Lit a → 0 < n → i + n ≤ len_at (table_of meaning h) x.0
@@ -99,7 +81,7 @@ source_part_good {F = F} meaning h store x s a i n there is some inside =
     let source : s < length h.sources = rw is at good.sound.children in
     let span : a + len ≤ get_or h.sources s 0 = rw is at good.sound.span in
     let text : map (Place s) (range_with_len (a + i) n) ≡ take n (drop i (cells t x.0)) =
-    ap (map (Place s)) (sym (range_part a len i n inside)) ∙ sym (take-map (Place s) n (drop i (range_with_len a len)))
+    ap (map (Place s)) (sym (span-range_with_len n i a len inside)) ∙ sym (take-map (Place s) n (drop i (range_with_len a len)))
     ∙ ap (take n) (sym (drop-map (Place s) i (range_with_len a len))) ∙ ap (λ (cs : List Cell). take n (drop i cs)) (sym (cells_at t sound x.0 there (Src s a) is)) in
     subst (λ (cs : List Cell). IsGood meaning h (appended h.pool []) (source_record s (a + i) n ∷ []) (Some (new_node t 0)) cs) text
     (source_good meaning h (appended h.pool []) s (a + i) n holds (grows_appended h.pool [] store.borders) source (omega arith) some)

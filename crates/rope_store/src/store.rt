@@ -26,6 +26,7 @@ pub(crate) const MOST_DEPTH: u8 = 64;
 const POOL_LIMIT: u64 = 1 << 32;
 
 /// A store of ropes. Its nodes, bytes and sources only grow, so a rope denotes the same text for good.
+// What a store keeps is known to the check where a field of it is read. A method that reads none names the table for that, as `_kept`.
 #[derive(Drop)]
 pub struct Store<F: LeafFn> {
     pub(crate) table: NodeTable<F>,

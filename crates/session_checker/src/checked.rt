@@ -186,6 +186,6 @@ pub fn check<'a, S: Sources>(bytes: &'a [u8], sources: &S) -> Result<Checked<'a>
         Err(fault) => return Err(CheckFault::Read(fault)),
     };
     let tables = check_tables(&image, sources)?;
-    check_revisions(&tables)?;
+    check_revisions(&tables, sources)?;
     Ok(Checked { tables })
 }

@@ -1,7 +1,6 @@
 //! The checker: a session image that it accepts can be trusted without the editor that wrote it.
 #![tactic(auto)]
 
-mod balance;
 mod checked;
 mod fault;
 mod node_rules;

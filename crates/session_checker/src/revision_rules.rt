@@ -8,11 +8,12 @@ ghost use Rattle.span_certificate.specs.declared.cover.Verdict.TheVariants.{Good
 ghost use Rattle.image_reader.specs.Value.{table_of};
 ghost use Rattle.session_checker.specs.RevisionRules.{IsInRange, result_len, HasGoodRoot, HasGoodMark, IsGoodRevision, AreGoodRevisions, BreaksAt, IsFirstRevisionFault, rows_before, rows_from};
 
-use crate::balance::is_balanced;
 use crate::fault::CheckFault;
 use crate::node_rules::is_inside;
 use crate::tables::Tables;
 use image_reader::{Image, Revision, RevisionRows};
+use lazy_file::Sources;
+use rebalance::is_balanced;
 use rope_node::{NodeSpace, Rope};
 use span_certificate::{Edit, Parts, Verdict, verify};
 
@@ -75,7 +76,7 @@ fn has_good_mark(tables: &Tables, revision: Revision) -> bool
 }
 
 /// Whether the rows of a revision from row `from` on cover its parts and its root.
-fn verify_rows(tables: &Tables, revision: Revision, from: u32) -> Verdict
+fn verify_rows<S: Sources>(tables: &Tables, sources: &S, revision: Revision, from: u32) -> Verdict
     requires parts { AreParts (table_of tables.now) (parts_of revision.edit) }
     requires root { IsRope (table_of tables.now) revision.root }
     requires rows { from + revision.rows ≤ length tables.now.rows }
@@ -88,11 +89,16 @@ fn verify_rows(tables: &Tables, revision: Revision, from: u32) -> Verdict
         from,
         count: revision.rows,
     };
-    verify(tables, parts.as_slice(), revision.root, &rows)
+    verify(tables, sources, parts.as_slice(), revision.root, &rows)
 }
 
 /// Tests the rules of revision `k`, whose rows begin at row `from`, in their order.
-fn check_revision(tables: &Tables, k: u32, from: u32) -> Result<(), CheckFault>
+fn check_revision<S: Sources>(
+    tables: &Tables,
+    sources: &S,
+    k: u32,
+    from: u32,
+) -> Result<(), CheckFault>
     requires there { k < length tables.now.revisions }
     requires from { from ≡ rows_before tables.now k }
     ensures ok { IsOk result ↔ IsGoodRevision tables.now k }
@@ -109,21 +115,21 @@ fn check_revision(tables: &Tables, k: u32, from: u32) -> Result<(), CheckFault>
     if !has_good_mark(tables, revision) {
         return Err(CheckFault::Mark(k));
     }
-    match verify_rows(tables, revision, from) {
+    match verify_rows(tables, sources, revision, from) {
         Verdict::Good => Ok(()),
         Verdict::Bad(row) => Err(CheckFault::Rows(k, row)),
     }
 }
 
 /// Tests revision by revision.
-pub fn check_revisions(tables: &Tables) -> Result<(), CheckFault>
+pub fn check_revisions<S: Sources>(tables: &Tables, sources: &S) -> Result<(), CheckFault>
     ensures ok { IsOk result ↔ AreGoodRevisions tables.now }
     ensures err { IfErr result (IsFirstRevisionFault tables.now) }
 {
     let image = tables.image();
     let mut from = 0;
     for k in 0..image.revision_count() {
-        check_revision(tables, k, from)?;
+        check_revision(tables, sources, k, from)?;
         from += image.revision(k).rows;
     }
     Ok(())

@@ -20,7 +20,8 @@ use Rattle.span_certificate.specs.declared.row.RowKind.TheVariants.{Leaf}
 use Rattle.span_certificate.specs.Parts.{part_len, parts_len, part_cells, parts_cells, IsPart, AreParts, part_at}
 use Rattle.span_certificate.specs.Leads.{RopeHasDescription, part_description}
 use Rattle.span_certificate.specs.Covers.{row_at, no_row, rows_len, place_of, KindFits, Fits, Covers}
-use Rattle.span_certificate.proofs.Spans.{span_left, span_right, span_within, span-map, described, described_cells}
+use Rattle.rope_node.proofs.Parts.{span_left, span_right, span_within, span-map}
+use Rattle.span_certificate.proofs.Spans.{described, described_cells}
 
 length-part_cells : (t : Table) (part : Part) → IsPart t part → length (part_cells t part) ≡ part_len part
 length-part_cells t (Pool a n) h = simp (length-map, length-take, length-drop) (omega arith)

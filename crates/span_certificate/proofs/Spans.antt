@@ -1,37 +1,16 @@
--- Spans of lists, and what leads and descriptions say of cells.
-use Rattle.std.proofs.Common.{◌≡◌, ℕ, zero, suc, ◌+◌, ◌-◌, ◌<◌, ◌≤◌, List, ◌∷◌, ◌++◌, map, length, take, drop, Some, refl, ap, ◌∙◌, arith, add-zero}
-use Rattle.std.proofs.Math.Nat.{sub-zero}
+-- What leads and descriptions say of cells.
+use Rattle.std.proofs.Common.{◌≡◌, ℕ, ◌+◌, ◌-◌, ◌<◌, ◌≤◌, List, map, length, take, drop, Some, refl, ap, ◌∙◌, arith}
 use Rattle.std.specs.List.{range_with_len, slice_range}
-use Rattle.std.proofs.lemmas.List.{length-drop, drop-drop, drop-take, take-take, take-append-le, drop-append-le, take-map, drop-map}
-use Rattle.std.proofs.Math.Seq.{drop-append-add}
 use Rattle.rope_node.specs.declared.node.NodeView.{NodeView}
 use Rattle.rope_node.specs.declared.node.NodeView.TheVariants.{Lit, Src, Fun, Cat, Sub}
 use Rattle.rope_node.specs.Table.{Table, view_at, len_at, IsSound, HasTrueRecords}
 use Rattle.rope_node.specs.Denotes.{Cell, Byte, Place, cells}
 use Rattle.rope_node.proofs.Cells.{cells_at, cells_length}
+use Rattle.rope_node.proofs.Parts.{span_left, span_right, span_within, span-range_with_len, span-map}
 use Rattle.span_certificate.specs.declared.describe.Description.{Description}
 use Rattle.span_certificate.specs.declared.describe.Description.TheVariants.{Pooled, Sourced}
 use Rattle.span_certificate.specs.Leads.{Leads, here, in_left, in_right, in_base, leaf_description, HasDescription}
 use Rattle.span_certificate.proofs.Descents.{children_of_cat, base_of_sub}
-
--- a span inside the left one of two lists, inside the right one, and inside a span
-pub span_left : {C : Type 0} (n p : ℕ) (xs ys : List C) → p + n ≤ length xs → take n (drop p (xs ++ ys)) ≡ take n (drop p xs)
-span_left n p xs ys fits =
-    ap (take n) (drop-append-le p xs ys (omega arith)) ∙ take-append-le n (drop p xs) ys (omega (arith, length-drop p xs))
-
-pub span_right : {C : Type 0} (n p : ℕ) (xs ys : List C) → length xs ≤ p → take n (drop p (xs ++ ys)) ≡ take n (drop (p - length xs) ys)
-span_right n p xs ys past =
-    let split : p ≡ length xs + (p - length xs) = omega arith in
-    ap (λ (j : ℕ). take n (drop j (xs ++ ys))) split ∙ ap (take n) (drop-append-add xs ys (p - length xs))
-
-pub span_within : {C : Type 0} (n p m i : ℕ) (xs : List C) → p + n ≤ m → take n (drop p (take m (drop i xs))) ≡ take n (drop (p + i) xs)
-span_within n p m i xs fits =
-    let split : m ≡ p + (m - p) = omega arith in
-    ap (λ (j : ℕ). take n (drop p (take j (drop i xs)))) split
-    ∙ ap (take n) (drop-take p (m - p) (drop i xs))
-    ∙ take-take n (m - p) (drop p (drop i xs)) (omega arith)
-    ∙ ap (take n) (drop-drop p i xs)
-    ∙ ap (λ (j : ℕ). take n (drop j xs)) (omega arith)
 
 -- where a span leads to lies in the table and in its node
 pub leads_inside : (t : Table) → IsSound t → HasTrueRecords t → {n k o x p : ℕ} → 1 ≤ n → Leads t n k o x p → x < length t.nodes → p + n ≤ len_at t x → (k < length t.nodes) × (o + n ≤ len_at t k)
@@ -68,25 +47,6 @@ leads_cells t s h {n} {k} {o} {x} {p} some (in_base b i e lead) there inside =
 abbrev pub described_cells : Table → ℕ → Description → List Cell
 described_cells t n (Pooled a) = map Byte (take n (drop a t.pool))
 described_cells t n (Sourced s a) = map (Place s) (range_with_len a n)
-
-drop-range_with_len : (o a m : ℕ) → o ≤ m → drop o (range_with_len a m) ≡ range_with_len (a + o) (m - o)
-drop-range_with_len zero a m le = rw (add-zero a, sub-zero m) refl
-drop-range_with_len (suc o) a zero le = absurd (omega arith)
-drop-range_with_len (suc o) a (suc m) le =
-    drop-range_with_len o (a + 1) m (omega arith) ∙ ap (λ (b : ℕ). range_with_len b (m - o)) (omega arith) ∙ ap (range_with_len (a + suc o)) (omega arith)
-
-take-range_with_len : (n a m : ℕ) → n ≤ m → take n (range_with_len a m) ≡ range_with_len a n
-take-range_with_len zero a m le = refl
-take-range_with_len (suc n) a zero le = absurd (omega arith)
-take-range_with_len (suc n) a (suc m) le = ap (λ (xs : List ℕ). a ∷ xs) (take-range_with_len n (a + 1) m (omega arith))
-
-pub span-range_with_len : (n o a m : ℕ) → o + n ≤ m → take n (drop o (range_with_len a m)) ≡ range_with_len (a + o) n
-span-range_with_len n o a m fits =
-    ap (take n) (drop-range_with_len o a m (omega arith)) ∙ take-range_with_len n (a + o) (m - o) (omega arith)
-
--- a span of a list under a map
-pub span-map : {X Y : Type 0} (f : X → Y) (n o : ℕ) (xs : List X) → take n (drop o (map f xs)) ≡ map f (take n (drop o xs))
-span-map f n o xs = ap (take n) (drop-map f o xs) ∙ take-map f n (drop o xs)
 
 -- a leaf span denotes what its description does
 pub leaf_cells : (t : Table) → IsSound t → (k o n : ℕ) → k < length t.nodes → o + n ≤ len_at t k → (v : NodeView) → view_at t k ≡ v → (d : Description) → leaf_description o v ≡ Some d → take n (drop o (cells t k)) ≡ described_cells t n d

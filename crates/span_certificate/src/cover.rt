@@ -11,6 +11,7 @@ ghost use Rattle.span_certificate.specs.declared.cover.Verdict.TheVariants.{Good
 use crate::describe::describe_rope;
 use crate::part::Part;
 use crate::row::{Row, RowKind, Rows};
+use lazy_file::Sources;
 use rope_node::{NodeSpace, Rope, rope_len};
 
 /// What verifying found.
@@ -97,8 +98,15 @@ fn is_whole<S: NodeSpace>(space: &S, parts: &[Part], root: Rope, place: u64) -> 
     }
 }
 
-/// Whether the rows cover the parts of a command and a root, each row at its place.
-pub fn verify<S: NodeSpace, R: Rows>(space: &S, parts: &[Part], root: Rope, rows: &R) -> Verdict
+/// Whether the rows cover the parts of a command and a root, each row at its place. The sources are for rows that compare bytes;
+/// no row does yet, and none is read.
+pub fn verify<S: NodeSpace, T: Sources, R: Rows>(
+    space: &S,
+    _sources: &T,
+    parts: &[Part],
+    root: Rope,
+    rows: &R,
+) -> Verdict
     requires parts { AreParts (S.table space.now) parts.now }
     requires root { IsRope (S.table space.now) root }
     ensures good { (result ≡ Good) ↔ Covers (S.table space.now) parts.now root (R.listed rows.now) }

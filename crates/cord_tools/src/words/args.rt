@@ -2,7 +2,7 @@
 
 ghost use Rattle.std.specs.Prelude.{◌≡◌, false};
 ghost use Rattle.clap.specs.Words.{rule_of};
-ghost use Rattle.cord_tools.specs.Words.{image_rule, sources_rule};
+ghost use Rattle.cord_tools.specs.Words.{file_rule, image_rule, sources_rule, start_rule};
 
 use clap::{Arg, ArgAction};
 use std::alloc::Global;
@@ -25,4 +25,22 @@ pub fn sources<'a>(alloc: Global) -> Arg<'a>
     Arg::new(alloc, "SOURCE")
         .help("The files that the session was made from, in their order")
         .action(ArgAction::Append)
+}
+
+/// `START`
+pub fn start<'a>(alloc: Global) -> Arg<'a>
+    ensures rule { rule_of result ≡ start_rule }
+    ensures local { result.global ≡ false }
+{
+    Arg::new(alloc, "START")
+        .help("The place of the first byte, counted from 0")
+        .required(true)
+}
+
+/// `FILE`
+pub fn file<'a>(alloc: Global) -> Arg<'a>
+    ensures rule { rule_of result ≡ file_rule }
+    ensures local { result.global ≡ false }
+{
+    Arg::new(alloc, "FILE").help("The file").required(true)
 }

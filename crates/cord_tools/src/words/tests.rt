@@ -106,6 +106,91 @@ fn show_is_read(rt: HostRuntime) -> Result<(), Fail> {
 }
 
 #[test]
+fn cut_is_read(rt: HostRuntime) -> Result<(), Fail> {
+    let line = line(&rt, "cordkit cut 3 18446744073709551615 a.txt")?;
+    let outcome = read(&rt, line.as_slice());
+    let is_read = match &outcome {
+        Ok(Action::Cut { start, count, file }) => {
+            *start == 3 && *count == u64::MAX && *file == "a.txt"
+        }
+        _ => false,
+    };
+    assert!(rt; is_read);
+    Ok(())
+}
+
+#[test]
+fn join_is_read(rt: HostRuntime) -> Result<(), Fail> {
+    let cases: [(&str, &[&str]); 2] = [
+        ("cordkit join a.txt", &["a.txt"]),
+        ("cordkit join c b c", &["c", "b", "c"]),
+    ];
+    for (text, wanted) in cases {
+        let line = line(&rt, text)?;
+        let outcome = read(&rt, line.as_slice());
+        let is_read = match &outcome {
+            Ok(Action::Join { files }) => are_texts(files.as_slice(), wanted),
+            _ => false,
+        };
+        assert!(rt; is_read, "{text}");
+    }
+    Ok(())
+}
+
+#[test]
+fn find_is_read(rt: HostRuntime) -> Result<(), Fail> {
+    let line = line(&rt, "cordkit find 7 needle a.txt")?;
+    let outcome = read(&rt, line.as_slice());
+    let is_read = match &outcome {
+        Ok(
+            Action::Find {
+                start,
+                pattern,
+                file,
+            },
+        ) => *start == 7 && *pattern == "needle" && *file == "a.txt",
+        _ => false,
+    };
+    assert!(rt; is_read);
+    Ok(())
+}
+
+#[test]
+fn cmp_is_read(rt: HostRuntime) -> Result<(), Fail> {
+    let line = line(&rt, "cordkit cmp b a")?;
+    let outcome = read(&rt, line.as_slice());
+    let is_read = match &outcome {
+        Ok(Action::Cmp { first, second }) => *first == "b" && *second == "a",
+        _ => false,
+    };
+    assert!(rt; is_read);
+    Ok(())
+}
+
+#[test]
+fn words_of_files_are_usage_faults(rt: HostRuntime) -> Result<(), Fail> {
+    for (text, wanted) in [
+        ("cordkit cut", ErrorKind::MissingRequiredArgument),
+        ("cordkit cut 1 2", ErrorKind::MissingRequiredArgument),
+        ("cordkit cut x 2 a", ErrorKind::ValueValidation),
+        ("cordkit cut 1 x a", ErrorKind::ValueValidation),
+        ("cordkit cut 1 2 a b", ErrorKind::UnknownArgument),
+        ("cordkit join", ErrorKind::MissingRequiredArgument),
+        ("cordkit find 1 b", ErrorKind::MissingRequiredArgument),
+        ("cordkit find x b a", ErrorKind::ValueValidation),
+        ("cordkit cmp a", ErrorKind::MissingRequiredArgument),
+        ("cordkit cmp a b c", ErrorKind::UnknownArgument),
+    ] {
+        let is_refused = match usage_of(&rt, text)? {
+            Some((kind, _)) => kind == wanted,
+            None => false,
+        };
+        assert!(rt; is_refused, "{text}");
+    }
+    Ok(())
+}
+
+#[test]
 fn other_words_are_usage_faults(rt: HostRuntime) -> Result<(), Fail> {
     for (text, wanted) in [
         ("cordkit frob", ErrorKind::InvalidSubcommand),

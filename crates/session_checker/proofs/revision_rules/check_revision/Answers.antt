@@ -6,14 +6,14 @@ use Rattle.session_checker.proofs.GoodRevisions.{rows_inside, keeps_is, rows_fau
 use Rattle.session_checker.proofs.revision_rules.check_revision.Goals as goal
 
 pub verify_rows-requires-clause-rows : goal.verify_rows-requires-clause-rows
-verify_rows-requires-clause-rows c =
+verify_rows-requires-clause-rows g c =
     let v = c.args.tables.now in
     let r = c.revision-revision.result in
     let at : slice_get v.revisions c.args.k ≡ Some r = subst (λ (w : ImageValue). slice_get w.revisions c.args.k ≡ Some r) c.image-image.ensures.image c.revision-revision.ensures in
     rw c.requires.from (rows_inside v c.image-image.ensures.is_image c.args.k r at)
 
 pub returns-in-Good-clause-ok : goal.returns-in-Good-clause-ok
-returns-in-Good-clause-ok c =
+returns-in-Good-clause-ok g c =
     let v = c.args.tables.now in
     let r = c.revision-revision.result in
     let at : slice_get v.revisions c.args.k ≡ Some r = subst (λ (w : ImageValue). slice_get w.revisions c.args.k ≡ Some r) c.image-image.ensures.image c.revision-revision.ensures in
@@ -29,7 +29,7 @@ returns-in-Good-clause-ok c =
     )
 
 pub returns-in-Bad-clause-ok : goal.returns-in-Bad-clause-ok
-returns-in-Bad-clause-ok c =
+returns-in-Bad-clause-ok g c =
     let v = c.args.tables.now in
     let r = c.revision-revision.result in
     let at : slice_get v.revisions c.args.k ≡ Some r = subst (λ (w : ImageValue). slice_get w.revisions c.args.k ≡ Some r) c.image-image.ensures.image c.revision-revision.ensures in
@@ -39,7 +39,7 @@ returns-in-Bad-clause-ok c =
     (λ e. absurd cc, λ good. absurd (broken.1 good))
 
 pub returns-in-Bad-clause-err : goal.returns-in-Bad-clause-err
-returns-in-Bad-clause-err c =
+returns-in-Bad-clause-err g c =
     let v = c.args.tables.now in
     let r = c.revision-revision.result in
     let at : slice_get v.revisions c.args.k ≡ Some r = subst (λ (w : ImageValue). slice_get w.revisions c.args.k ≡ Some r) c.image-image.ensures.image c.revision-revision.ensures in

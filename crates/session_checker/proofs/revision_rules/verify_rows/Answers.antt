@@ -8,7 +8,7 @@ use Rattle.session_checker.specs.RevisionRules.{rows_from}
 use Rattle.session_checker.proofs.revision_rules.verify_rows.Goals as goal
 
 pub returns-clause-bad : goal.returns-clause-bad
-returns-clause-bad c = λ j.
+returns-clause-bad g c = λ j.
     let t = table_of c.args.tables.now in
     let root = c.args.revision.root in
     subst (λ (parts : List Part). (c.verify.result ≡ Bad j) ↔ IsFirstBad t parts root (rows_from c.args.tables.now c.args.revision c.args.from) j) (c.as_slice.ensures ∙ c.of-parts.ensures)

@@ -1,0 +1,173 @@
+//! Positions in a rope's text.
+
+ghost use Rattle.std.specs.Prelude.{◌≡◌, ◌↔◌, ◌<◌, ◌≤◌, ◌+◌, ◌-◌, ◌^◌, ℕ, min, true, length, map, take, drop, All, IsTrue, IfOk, IfErr, IsOk};
+ghost use Rattle.rope_node.specs.Denotes.{Byte, rope_len, rope_cells, IsRope};
+ghost use Rattle.cord_position.specs.Fetched.{IsFetched, IsPlaceFault, IsFaultAmong, HoldsPlace, rope_cell};
+ghost use Rattle.cord_position.specs.Runs.{run_left, run_bytes, AreBytesOf};
+
+use crate::fetch::fetch_byte;
+use crate::fill::fill_part;
+use crate::run::{find_run, literal_span};
+use lazy_file::{SourceFault, Sources};
+use rope_node::{NodeSpace, Rope, rope_len};
+use std::marker::Model;
+
+/// A place of a rope's text: that of a byte, or the end behind the last one.
+#[derive(Drop)]
+pub struct Pos<'a, S: NodeSpace> {
+    space: &'a S,
+    rope: Rope,
+    place: u64,
+}
+
+impl<'a, S: NodeSpace> Model for Pos<'a, S> {
+    ghost use Rattle.cord_position.specs.Position.{Position, IsPosition};
+
+    ghost Value = { Position S };
+
+    ghost view = { λ a. record { space = a.space.now; rope = a.rope; index = a.place } };
+
+    ghost invariant = { λ a. IsPosition (S.table a.space.now) a.rope a.place };
+}
+
+impl<'a, S: NodeSpace> Pos<'a, S> {
+    /// The place `i` of a rope, or its end where `i` is past it.
+    pub fn set(space: &'a S, rope: Rope, i: u64) -> Pos<'a, S>
+        requires { IsRope (S.table space.now) rope }
+        ensures space { result.space ≡ space.now }
+        ensures rope { result.rope ≡ rope }
+        ensures index { result.index ≡ min i (rope_len (S.table space.now) rope) }
+    {
+        let place = i.min(rope_len(space, rope));
+        Pos { space, rope, place }
+    }
+
+    /// Whether a byte stands here, and not the end.
+    pub fn valid(&self) -> bool
+        ensures { IsTrue result ↔ self.now.index < rope_len (S.table self.now.space) self.now.rope }
+    {
+        self.place < rope_len(self.space, self.rope)
+    }
+
+    /// The place, counted from the text's first byte.
+    pub fn index(&self) -> u64
+        ensures index { result ≡ self.now.index }
+        ensures limit { result < 2 ^ 40 }
+    {
+        self.place
+    }
+
+    /// The byte that stands here; at the end, none.
+    ///
+    /// # Errors
+    ///
+    /// A source's fault, where the byte is one of that source and the read of it failed.
+    pub fn fetch<T: Sources>(&self, sources: &mut T) -> Result<Option<u8>, SourceFault>
+        ensures byte { IfOk result (IsFetched (S.table self.now.space) (T.texts sources.old) self.now.rope self.now.index) }
+        ensures fault { IfErr result (IsPlaceFault (T.sizes sources.old) (T.texts sources.old) (T.failures sources.old) (T.failures sources.new) (rope_cell (S.table self.now.space) self.now.rope self.now.index)) }
+        ensures succeeds { T.never_fails sources.old ≡ true → HoldsPlace (T.sizes sources.old) (rope_cell (S.table self.now.space) self.now.rope self.now.index) → IsOk result }
+        ensures own_sources { T.never_fails sources.old ≡ true → T.sizes sources.old ≡ (S.table self.now.space).sources → IsOk result }
+
+        // A fetch changes no size and no text, nor whether the sources may fail.
+        ensures later { T.failures sources.old ≤ T.failures sources.new }
+        ensures sizes { T.sizes sources.new ≡ T.sizes sources.old }
+        ensures texts { T.texts sources.new ≡ T.texts sources.old }
+        ensures never_fails { T.never_fails sources.new ≡ T.never_fails sources.old }
+    {
+        let (byte, _) = fetch_byte(self.space, sources, self.rope, self.place)?;
+        Ok(byte)
+    }
+
+    /// Moves to the next place, and answers whether it moved: at the end it stays.
+    pub fn next(&mut self) -> bool
+        ensures moved { IsTrue result ↔ self.old.index < rope_len (S.table self.old.space) self.old.rope }
+        ensures index { self.new.index ≡ min (self.old.index + 1) (rope_len (S.table self.old.space) self.old.rope) }
+        ensures space { self.new.space ≡ self.old.space }
+        ensures rope { self.new.rope ≡ self.old.rope }
+    {
+        let moves = self.place < rope_len(self.space, self.rope);
+        if moves {
+            self.place += 1;
+        }
+        moves
+    }
+
+    /// Moves to the place before, and answers whether it moved: at the text's first byte it stays.
+    pub fn prev(&mut self) -> bool
+        ensures moved { IsTrue result ↔ 0 < self.old.index }
+        ensures index { self.new.index ≡ self.old.index - 1 }
+        ensures space { self.new.space ≡ self.old.space }
+        ensures rope { self.new.rope ≡ self.old.rope }
+    {
+        let moves = self.place > 0;
+        if moves {
+            self.place -= 1;
+        }
+        moves
+    }
+
+    /// Moves on by `n` places, to the end where there are fewer.
+    pub fn skip(&mut self, n: u64)
+        ensures index { self.new.index ≡ min (self.old.index + n) (rope_len (S.table self.old.space) self.old.rope) }
+        ensures space { self.new.space ≡ self.old.space }
+        ensures rope { self.new.rope ≡ self.old.rope }
+    {
+        let left = rope_len(self.space, self.rope) - self.place;
+        self.place += n.min(left);
+    }
+
+    /// How many bytes there are from here to the end of the present leaf's span; at the end, 0.
+    pub fn run_left(&self) -> u64
+        ensures exact { result ≡ run_left (S.table self.now.space) self.now.rope self.now.index }
+        ensures inside { self.now.index + result ≤ rope_len (S.table self.now.space) self.now.rope }
+        ensures some { self.now.index < rope_len (S.table self.now.space) self.now.rope → 1 ≤ result }
+    {
+        match find_run(self.space, self.rope, self.place) {
+            Some(span) => span.len,
+            None => 0,
+        }
+    }
+
+    /// The bytes from here to the end of the present leaf's span, where the leaf is a literal; elsewhere and at the end, none.
+    pub fn run_bytes(&self) -> &[u8]
+        ensures exact { result.now ≡ run_bytes (S.table self.now.space) self.now.rope self.now.index }
+        ensures cells { 1 ≤ length result.now → map Byte result.now ≡ take (run_left (S.table self.now.space) self.now.rope self.now.index) (drop self.now.index (rope_cells (S.table self.now.space) self.now.rope)) }
+    {
+        match find_run(self.space, self.rope, self.place) {
+            Some(span) => literal_span(self.space, span),
+            None => &[],
+        }
+    }
+
+    /// Writes the bytes from here to the end of the present leaf's span into the buffer, as many as it takes, and answers how many.
+    /// The position stays.
+    ///
+    /// # Errors
+    ///
+    /// A source's fault, where the leaf is a part of that source and the read of these bytes failed. They may then be any bytes in the
+    /// buffer.
+    pub fn fill<T: Sources>(&self, sources: &mut T, buffer: &mut [u8]) -> Result<usize, SourceFault>
+        ensures count { IfOk result (λ n. n ≡ min (run_left (S.table self.now.space) self.now.rope self.now.index) (length buffer.old)) }
+        ensures length { length buffer.new ≡ length buffer.old }
+        ensures rest { drop (min (run_left (S.table self.now.space) self.now.rope self.now.index) (length buffer.old)) buffer.new ≡ drop (min (run_left (S.table self.now.space) self.now.rope self.now.index) (length buffer.old)) buffer.old }
+        ensures bytes { IfOk result (λ n. AreBytesOf (T.texts sources.old) (take n (drop self.now.index (rope_cells (S.table self.now.space) self.now.rope))) (take n buffer.new)) }
+        ensures fault { IfErr result (IsFaultAmong (T.sizes sources.old) (T.texts sources.old) (T.failures sources.old) (T.failures sources.new) (take (min (run_left (S.table self.now.space) self.now.rope self.now.index) (length buffer.old)) (drop self.now.index (rope_cells (S.table self.now.space) self.now.rope)))) }
+        ensures succeeds { T.never_fails sources.old ≡ true → All (HoldsPlace (T.sizes sources.old)) (take (min (run_left (S.table self.now.space) self.now.rope self.now.index) (length buffer.old)) (drop self.now.index (rope_cells (S.table self.now.space) self.now.rope))) → IsOk result }
+        ensures own_sources { T.never_fails sources.old ≡ true → T.sizes sources.old ≡ (S.table self.now.space).sources → IsOk result }
+
+        // It changes no size and no text, nor whether the sources may fail.
+        ensures later { T.failures sources.old ≤ T.failures sources.new }
+        ensures sizes { T.sizes sources.new ≡ T.sizes sources.old }
+        ensures texts { T.texts sources.new ≡ T.texts sources.old }
+        ensures never_fails { T.never_fails sources.new ≡ T.never_fails sources.old }
+    {
+        let Some(span) = find_run(self.space, self.rope, self.place) else {
+            return Ok(0);
+        };
+        let n = span.len.min(buffer.len() as u64) as usize;
+        if n > 0 {
+            fill_part(self.space, sources, span.leaf, span.start, &mut buffer[..n])?;
+        }
+        Ok(n)
+    }
+}

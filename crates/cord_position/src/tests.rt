@@ -1,0 +1,215 @@
+//! Positions in a rope of two parts of sources, a literal and a function.
+
+use crate::Pos;
+use function_leaf::Coded;
+use lazy_file::{AddFault, MemSources, SourceFault, Sources};
+use rope_node::{NodeId, NodeSpace, NodeView, Rope};
+use std::alloc::Global;
+use std::process::Abort;
+use std::test::Fail;
+
+/// Seven nodes: `ab`, `c`, `def` and four bytes of a function, each a leaf, and what puts them together.
+#[derive(Drop)]
+struct Sample;
+
+const LITERAL: &[u8] = b"def";
+
+/// The root of them all.
+const ALL: Rope = Some(NodeId(6));
+
+impl NodeSpace for Sample {
+    ghost use Rattle.cord_position.specs.Sample.{sample};
+
+    ghost table = { λ _. sample };
+
+    #[tactic(auto, using(crate::proofs::Samples::sample_sound, crate::proofs::Samples::sample_true))]
+    fn count(&self) -> u32 {
+        7
+    }
+
+    #[tactic(auto, using(crate::proofs::Samples::sample_sound, crate::proofs::Samples::sample_true))]
+    fn node(&self, id: NodeId) -> NodeView {
+        match id.0 {
+            0 => NodeView::Src { s: 0, a: 0 },
+            1 => NodeView::Src { s: 1, a: 0 },
+            2 => NodeView::Lit { a: 0 },
+            3 => NodeView::Fun,
+            4 => NodeView::Cat {
+                l: NodeId(0),
+                r: NodeId(1),
+            },
+            5 => NodeView::Cat {
+                l: NodeId(2),
+                r: NodeId(3),
+            },
+            6 => NodeView::Cat {
+                l: NodeId(4),
+                r: NodeId(5),
+            },
+            _ => unreachable!(),
+        }
+    }
+
+    #[tactic(auto, using(crate::proofs::Samples::sample_sound, crate::proofs::Samples::sample_true))]
+    fn len(&self, id: NodeId) -> u64 {
+        match id.0 {
+            0 => 2,
+            1 => 1,
+            2 | 4 => 3,
+            3 => 4,
+            5 => 7,
+            6 => 10,
+            _ => unreachable!(),
+        }
+    }
+
+    fn depth(&self, id: NodeId) -> u8 {
+        match id.0 {
+            0 | 1 | 2 | 3 => 0,
+            4 | 5 => 1,
+            6 => 2,
+            _ => unreachable!(),
+        }
+    }
+
+    fn literal(&self, id: NodeId, off: u64) -> &[u8] {
+        match id.0 {
+            2 => &LITERAL[off as usize..],
+            _ => unreachable!(),
+        }
+    }
+
+    fn fun_byte(&self, _id: NodeId, i: u64) -> u8 {
+        (i % 256) as u8
+    }
+
+    fn source_count(&self) -> u32 {
+        2
+    }
+
+    fn source_len(&self, s: u32) -> u64 {
+        match s {
+            0 => 2,
+            1 => 1,
+            _ => unreachable!(),
+        }
+    }
+
+    fn pool_len(&self) -> u64 {
+        3
+    }
+
+    fn pool(&self, a: u64) -> &[u8] {
+        &LITERAL[a as usize..]
+    }
+}
+
+/// The texts of the two sources.
+fn two_texts(rt: &HostRuntime) -> Result<MemSources<'static>, AddFault> {
+    let mut sources = MemSources::new(rt.alloc());
+    sources.add(b"ab")?;
+    sources.add(b"c")?;
+    Ok(sources)
+}
+
+/// The same, made again where memory was refused.
+fn texts(rt: &HostRuntime) -> Result<MemSources<'static>, Fail> {
+    Ok(two_texts(rt).or_else(|_| two_texts(rt))?)
+}
+
+#[test]
+fn a_place_past_the_end_is_the_end(rt: HostRuntime) -> Result<(), Fail> {
+    let mut sources = texts(&rt)?;
+    let mut pos = Pos::set(&Sample, ALL, 11);
+    assert_eq!(rt; pos.index(), 10);
+    assert!(rt; !pos.valid());
+    assert_eq!(rt; pos.fetch(&mut sources), Ok(None));
+    assert_eq!(rt; pos.run_left(), 0);
+    assert!(rt; pos.run_bytes().is_empty());
+    assert!(rt; !pos.next());
+    assert_eq!(rt; pos.index(), 10);
+    Ok(())
+}
+
+#[test]
+fn steps_go_to_both_ends_and_stay(rt: HostRuntime) -> Result<(), Fail> {
+    let mut sources = texts(&rt)?;
+    let mut pos = Pos::set(&Sample, ALL, 0);
+    assert!(rt; !pos.prev());
+    assert_eq!(rt; pos.index(), 0);
+    for byte in *b"abcdef\0\x01\x02\x03" {
+        assert_eq!(rt; pos.fetch(&mut sources), Ok(Some(byte)));
+        assert!(rt; pos.next());
+    }
+    assert!(rt; !pos.next() && pos.prev());
+    assert_eq!(rt; pos.index(), 9);
+    Ok(())
+}
+
+#[test]
+fn a_skip_ends_at_the_end(rt: HostRuntime) {
+    let mut pos = Pos::set(&Sample, ALL, 2);
+    pos.skip(3);
+    assert_eq!(rt; pos.index(), 5);
+    pos.skip(u64::MAX);
+    assert_eq!(rt; (pos.index(), pos.valid()), (10, false));
+    let mut none = Pos::set(&Sample, None, 1);
+    none.skip(1);
+    assert_eq!(rt; (none.index(), none.valid()), (0, false));
+}
+
+#[test]
+fn a_run_ends_with_its_leaf(rt: HostRuntime) {
+    for (i, left, bytes) in [
+        (0, 2, ""),
+        (1, 1, ""),
+        (2, 1, ""),
+        (3, 3, "def"),
+        (4, 2, "ef"),
+        (6, 4, ""),
+        (9, 1, ""),
+    ] {
+        let pos = Pos::set(&Sample, ALL, i);
+        assert_eq!(rt; pos.run_left(), left, "at {i}");
+        assert_eq!(rt; pos.run_bytes(), bytes.as_bytes(), "at {i}");
+    }
+}
+
+#[test]
+fn a_buffer_takes_a_run(rt: HostRuntime) -> Result<(), Fail> {
+    let mut sources = texts(&rt)?;
+    for (i, n, bytes) in [
+        (0, 2, *b"ab..."),
+        (1, 1, *b"b...."),
+        (2, 1, *b"c...."),
+        (4, 2, *b"ef..."),
+        (7, 3, *b"\x01\x02\x03.."),
+        (10, 0, *b"....."),
+    ] {
+        let mut buffer = *b".....";
+        let filled = Pos::set(&Sample, ALL, i).fill(&mut sources, &mut buffer);
+        assert_eq!(rt; filled, Ok(n), "at {i}");
+        assert_eq!(rt; buffer, bytes, "at {i}");
+    }
+    let mut two = *b"..";
+    assert_eq!(rt;
+        Pos::set(&Sample, ALL, 3).fill(&mut sources, &mut two),
+        Ok(2)
+    );
+    assert_eq!(rt; &two, b"de");
+    assert_eq!(rt;
+        Pos::set(&Sample, ALL, 0).fill(&mut sources, &mut []),
+        Ok(0)
+    );
+    Ok(())
+}
+
+#[test]
+fn a_fill_gives_its_sources_fault(rt: HostRuntime) {
+    let mut none = MemSources::new(rt.alloc());
+    let pos = Pos::set(&Sample, ALL, 0);
+    let mut one = *b".";
+    assert_eq!(rt; pos.fill(&mut none, &mut one), Err(SourceFault::BadSource));
+    assert_eq!(rt; pos.fetch(&mut none), Err(SourceFault::BadSource));
+    assert_eq!(rt; pos.fill(&mut none, &mut []), Ok(0));
+}

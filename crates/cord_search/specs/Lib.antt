@@ -1,0 +1,5 @@
+pub mod Order
+pub mod Places
+pub mod Stated
+pub mod Output
+pub mod Faults

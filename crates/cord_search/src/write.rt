@@ -1,0 +1,80 @@
+//! A text written to its end.
+
+ghost use Rattle.std.specs.Prelude.{◌≡◌, ◌≤◌, ◌+◌, ℕ, true, length, take, drop, OnOk, OnErr, IfErr, IsOk};
+ghost use Rattle.std.specs.Io.KnownBytes.{Appends};
+ghost use Rattle.rope_node.specs.Denotes.{rope_cells, IsRope};
+ghost use Rattle.cord_position.specs.Fetched.{IsFaultAmong};
+ghost use Rattle.cord_search.specs.Output.{AppendsPrefix};
+ghost use Rattle.cord_search.specs.Stated.{OfText};
+ghost use Rattle.cord_search.specs.Faults.{IsPutFault};
+ghost use Rattle.cord_search.specs.declared.fault.PutFault.TheVariants.{Write};
+
+use crate::byte::{byte_at, text_len};
+use crate::fault::PutFault;
+use crate::output::write_bytes;
+use lazy_file::{SourceFault, Sources};
+use rope_node::{NodeSpace, Rope};
+use std::io;
+
+/// How many bytes are fetched before they are written.
+const CHUNK: usize = 4096;
+
+/// Fetches the bytes from `start` on into the whole chunk.
+fn fill<S: NodeSpace, T: Sources>(
+    space: &S,
+    sources: &mut T,
+    x: Rope,
+    start: u64,
+    chunk: &mut [u8],
+) -> Result<(), SourceFault>
+    requires { IsRope (S.table space.now) x }
+    ensures length { length chunk.new ≡ length chunk.old }
+    ensures bytes { OnOk result (OfText (S.table space.now) (T.texts sources.old) x (λ t. start + length chunk.old ≤ length t → chunk.new ≡ take (length chunk.old) (drop start t))) }
+    ensures fault { IfErr result (IsFaultAmong (T.sizes sources.old) (T.texts sources.old) (T.failures sources.old) (T.failures sources.new) (rope_cells (S.table space.now) x)) }
+    ensures succeeds { T.never_fails sources.old ≡ true → T.sizes sources.old ≡ (S.table space.now).sources → IsOk result }
+    ensures later { T.failures sources.old ≤ T.failures sources.new }
+    ensures sizes { T.sizes sources.new ≡ T.sizes sources.old }
+    ensures texts { T.texts sources.new ≡ T.texts sources.old }
+    ensures never_fails { T.never_fails sources.new ≡ T.never_fails sources.old }
+{
+    for j in 0..chunk.len() {
+        let found = byte_at(space, sources, x, start, j as u64)?;
+        chunk[j] = found.unwrap_or(0);
+    }
+    Ok(())
+}
+
+/// Writes a rope's text, and nothing else. Where it fails, a prefix of the text was written.
+///
+/// # Errors
+///
+/// `Write`, where the writer failed or took no byte. A source's fault, where a byte is one of that source and the read of it failed.
+pub fn put<S: NodeSpace, T: Sources, W: io::Write>(
+    space: &S,
+    sources: &mut T,
+    x: Rope,
+    writer: &mut W,
+) -> Result<(), PutFault>
+    requires { IsRope (S.table space.now) x }
+    ensures ok { OnOk result (OfText (S.table space.now) (T.texts sources.old) x (Appends (W.contents writer.old) (W.contents writer.new))) }
+    ensures err { OnErr result (OfText (S.table space.now) (T.texts sources.old) x (AppendsPrefix (W.contents writer.old) (W.contents writer.new))) }
+    ensures fault { IfErr result (IsPutFault (T.sizes sources.old) (T.texts sources.old) (T.failures sources.old) (T.failures sources.new) (rope_cells (S.table space.now) x)) }
+    ensures succeeds { T.never_fails sources.old ≡ true → T.sizes sources.old ≡ (S.table space.now).sources → IfErr result (λ e. e ≡ Write) }
+
+    // A write of the text changes no size and no text of a source, nor whether the sources may fail.
+    ensures later { T.failures sources.old ≤ T.failures sources.new }
+    ensures sizes { T.sizes sources.new ≡ T.sizes sources.old }
+    ensures texts { T.texts sources.new ≡ T.texts sources.old }
+    ensures never_fails { T.never_fails sources.new ≡ T.never_fails sources.old }
+{
+    let len = text_len(space, x);
+    let mut chunk = [0; CHUNK];
+    let mut done = 0;
+    while done < len {
+        let count = (len - done).min(CHUNK as u64) as usize;
+        fill(space, sources, x, done, &mut chunk[..count])?;
+        write_bytes(writer, &chunk[..count])?;
+        done += count as u64;
+    }
+    Ok(())
+}

@@ -1,0 +1,163 @@
+-- Ropes of parts of sources, and their texts.
+use Rattle.std.proofs.Common.{◌≡◌, ℕ, zero, suc, ◌+◌, ◌-◌, ◌^◌, ◌<◌, ◌≤◌, List, [], ◌∷◌, ◌++◌, length, map, take, drop, get_or, Option, Some, None, Err, inl, inr, refl, sym, ap, ap₂, subst, ◌∙◌, arith, length-append}
+use Rattle.std.specs.Prelude.{◌⊎◌, IsSome, IsErrOf, min}
+use Rattle.std.specs.List.{range_with_len}
+use Rattle.std.proofs.lemmas.Bool.{cases_lt}
+use Rattle.std.proofs.lemmas.List.{drop_all, take_all, length-drop, get_or-append-add}
+use Rattle.std.proofs.lemmas.List.Elements.{All-get_or, All-map}
+use Rattle.std.proofs.lemmas.List.FromFn.{length-range_with_len, length-map-range_with_len}
+use Rattle.rope_node.specs.declared.node.NodeId.{NodeId}
+use Rattle.rope_node.specs.Table.{Node, Table, no_node}
+use Rattle.rope_node.specs.Denotes.{Place, cells_in, node_cells, rope_cells, text}
+use Rattle.rope_node.specs.Extends.{Extends}
+use Rattle.rope_node.proofs.Parts.{span-map, span-range_with_len}
+use Rattle.node_table.specs.Held.{Held, most_nodes, most_sources, table_of}
+use Rattle.node_table.specs.declared.fault.NodeFault.{NodeFault}
+use Rattle.node_table.specs.declared.fault.NodeFault.TheVariants.{Memory, TooLong, TooDeep, TableFull, PoolFull, BadSpan, TooManySources}
+use Rattle.rope_store.specs.Additions.{after, new_node, source_added}
+use Rattle.rope_store.specs.Refusals.{Refuses}
+use Rattle.rope_store.proofs.Pools.{appended_nothing}
+use Rattle.lazy_file.specs.SourceTexts.{AreSizes, text_at}
+use Rattle.lazy_file.specs.declared.sources.TheConstants.{SOURCE_LIMIT}
+use Rattle.cord_position.specs.Fetched.{AreStated, IsStated}
+use Rattle.cord_search.specs.Stated.{OfText, OfTexts}
+use Rattle.cord_tools.specs.Files.{OfFile, OfFiles, file_bytes}
+use Rattle.cord_tools.specs.Spans.{IsPart, IsSpan, source_leaf}
+
+-- ---- which fault comes
+
+-- a source that may be added wants nothing but memory
+pub add_only_memory : {X : Type 0} (e : NodeFault) (n len : ℕ) → n < most_sources → len ≤ SOURCE_LIMIT → (e ≡ TooManySources) ⊎ ((e ≡ TooLong) ⊎ (e ≡ Memory))
+    → (IsErrOf {T = X} (Err e) TooManySources → n ≡ most_sources) → (IsErrOf {T = X} (Err e) TooLong → (n < most_sources) × (2 ^ 40 ≤ len)) → e ≡ Memory
+add_only_memory e n len few short (inl many) no_more too_long = absurd (omega (arith, few, no_more (ap Err many)))
+add_only_memory e n len few short (inr (inl long)) no_more too_long = absurd (omega (arith, short, (too_long (ap Err long)).1))
+add_only_memory e n len few short (inr (inr memory)) no_more too_long = memory
+
+-- and so does a part of a source, where few nodes are there
+pub part_only_memory : {F : Type 0} (t : Table) (h : Held F) (s a n : ℕ) (e : NodeFault) → Refuses h (source_added {F = F} t s a n) ((length h.sources ≤ s) ⊎ (get_or h.sources s 0 < a + n)) ⊥ (Err e)
+    → s < length h.sources → a + n ≤ get_or h.sources s 0 → length h.nodes < most_nodes → h.pool.bytes ≡ [] → e ≡ Memory
+part_only_memory t h s a n Memory refuses there inside few empty = refl
+part_only_memory t h s a n TooLong refuses there inside few empty = absurd (refuses.too_long.0 refl).1
+part_only_memory t h s a n TooManySources refuses there inside few empty = absurd (refuses.no_other refl)
+part_only_memory t h s a n BadSpan refuses there inside few empty =
+    elim (refuses.bad_span.0 refl) [
+      | inl past ↦ absurd (omega (arith, past, there))
+      | inr past ↦ absurd (omega (arith, past, inside))
+    ]
+part_only_memory t h s a zero TooDeep refuses there inside few empty = absurd (omega (arith, (refuses.too_deep.0 refl).2))
+part_only_memory t h s a (suc n) TooDeep refuses there inside few empty = absurd (omega (arith, (refuses.too_deep.0 refl).2))
+part_only_memory t h s a zero TableFull refuses there inside few empty = absurd (omega (arith, (refuses.table_full.0 refl).3, few))
+part_only_memory t h s a (suc n) TableFull refuses there inside few empty = absurd (omega (arith, (refuses.table_full.0 refl).3, few))
+part_only_memory t h s a zero PoolFull refuses there inside few empty = absurd (omega (arith, (refuses.pool_full.0 refl).4, ap length empty))
+part_only_memory t h s a (suc n) PoolFull refuses there inside few empty = absurd (omega (arith, (refuses.pool_full.0 refl).4, ap length empty))
+
+-- ---- which rope is made
+
+span_made : {F : Type 0} (meaning : F → ℕ → ℕ) (old new : Held F) (s a n : ℕ) (rope : Option NodeId) → new ≡ after old (source_added {F = F} (table_of meaning old) s a n)
+    → rope ≡ (source_added {F = F} (table_of meaning old) s a n).rope → IsSpan (table_of meaning new) s a n rope
+span_made meaning old new s a zero rope table is = subst (IsSpan (table_of meaning new) s a zero) (sym is) refl
+span_made {F} meaning old new s a (suc n) rope table is =
+    let grown = after old (source_added {F = F} (table_of meaning old) s a (suc n)) in
+    let added : List Node = source_leaf s a (suc n) ∷ [] in
+    let there : length old.nodes + 0 < length (old.nodes ++ added) = omega (arith, length-append old.nodes added) in
+    let leaf : get_or (old.nodes ++ added) (length old.nodes + 0) no_node ≡ source_leaf s a (suc n) = get_or-append-add old.nodes added 0 no_node in
+    let made : IsSpan (table_of meaning grown) s a (suc n) (Some (new_node (table_of meaning old) 0)) = (there, leaf) in
+    subst (λ (h : Held F). IsSpan (table_of meaning h) s a (suc n) rope) (sym table) (subst (IsSpan (table_of meaning grown) s a (suc n)) (sym is) made)
+
+pub part_made : {F : Type 0} (meaning : F → ℕ → ℕ) (old new : Held F) (s r start count len a n : ℕ) (rope : Option NodeId) → r ≡ s → len ≡ get_or old.sources r 0 → a ≡ min start len → n ≡ min count (len - a)
+    → new ≡ after old (source_added {F = F} (table_of meaning old) r a n) → rope ≡ (source_added {F = F} (table_of meaning old) r a n).rope → IsPart (table_of meaning new) s start count rope
+part_made {F} meaning old new s r start count len a n rope same_s is_len is_a is_n table is =
+    let made : IsSpan (table_of meaning new) r a n rope = span_made {F = F} meaning old new r a n rope table is in
+    let sizes : old.sources ≡ new.sources = sym (ap (λ (h : Held F). h.sources) table) in
+    rw (is_n, is_a, is_len, same_s, sizes) at made
+
+pub pool_after : {F : Type 0} (meaning : F → ℕ → ℕ) (old new : Held F) (s a n : ℕ) → new ≡ after old (source_added {F = F} (table_of meaning old) s a n) → new.pool ≡ old.pool
+pool_after {F} meaning old new s a zero table = ap (λ (h : Held F). h.pool) table ∙ appended_nothing old.pool
+pool_after {F} meaning old new s a (suc n) table = ap (λ (h : Held F). h.pool) table ∙ appended_nothing old.pool
+
+-- a later table has the same rope
+pub part_kept : (old new : Table) (s start count : ℕ) (rope : Option NodeId) → Extends old new → new.sources ≡ old.sources → IsPart old s start count rope → IsPart new s start count rope
+part_kept old new s start count rope extends same is =
+    subst (λ (sizes : List ℕ). IsSpan new s (min start (get_or sizes s 0)) (min count (get_or sizes s 0 - min start (get_or sizes s 0))) rope) (sym same)
+    (kept (min start (get_or old.sources s 0)) (min count (get_or old.sources s 0 - min start (get_or old.sources s 0))) rope is)
+  where
+    kept : (a n : ℕ) (rope : Option NodeId) → IsSpan old s a n rope → IsSpan new s a n rope
+    kept a n None h = h
+    kept a n (Some id) h = (omega (arith, h.0, extends.more_nodes), extends.nodes id.0 h.0 ∙ h.1)
+
+-- ---- its text
+
+span_cells : (t : Table) (s a n : ℕ) (rope : Option NodeId) → IsSpan t s a n rope → rope_cells t rope ≡ map (Place s) (range_with_len a n)
+span_cells t s a n None none = sym (ap (λ (m : ℕ). map (Place s) (range_with_len a m)) none)
+span_cells t s a n (Some id) is = ap (λ (node : Node). node_cells t (cells_in t id.0) id.0 node.len node.view) is.1
+
+places_text : (source : ℕ → ℕ → ℕ) (s : ℕ) (places : List ℕ) → text source (map (Place s) places) ≡ map (source s) places
+places_text source s [] = refl
+places_text source s (p ∷ places) = ap (λ (bytes : List ℕ). source s p ∷ bytes) (places_text source s places)
+
+range_part : (len start count : ℕ) → take count (drop start (range_with_len 0 len)) ≡ range_with_len (min start len) (min count (len - min start len))
+range_part len start count =
+    elim (cases_lt len start) [
+      | inl past ↦
+          let none : drop start (range_with_len 0 len) ≡ [] = drop_all start (range_with_len 0 len) (omega (arith, past, length-range_with_len 0 len)) in
+          let nil : take count (drop start (range_with_len 0 len)) ≡ [] = ap (take count) none ∙ take_all count [] (omega arith) in
+          let zero_left : min count (len - min start len) ≡ 0 = omega (arith, past) in
+          nil ∙ sym (ap (range_with_len (min start len)) zero_left)
+      | inr inside ↦ inner inside
+    ]
+  where
+    from_start : (n : ℕ) → start ≤ len → n ≤ len - start → n ≡ min count (len - min start len) → take n (drop start (range_with_len 0 len)) ≡ range_with_len (min start len) (min count (len - min start len))
+    from_start n inside fits is = span-range_with_len n start 0 len (omega (arith, inside, fits)) ∙ ap₂ range_with_len (omega (arith, inside)) is
+
+    left : start ≤ len → length (drop start (range_with_len 0 len)) ≤ len - start
+    left inside =
+        omega (arith, inside, length-range_with_len 0 len, length-drop start (range_with_len 0 len))
+
+    inner : start ≤ len → take count (drop start (range_with_len 0 len)) ≡ range_with_len (min start len) (min count (len - min start len))
+    inner inside =
+        elim (cases_lt (len - start) count) [
+          | inl more ↦
+              take_all count (drop start (range_with_len 0 len)) (omega (arith, left inside, more))
+              ∙ sym (take_all (len - start) (drop start (range_with_len 0 len)) (left inside))
+              ∙ from_start (len - start) inside (omega arith) (omega (arith, inside, more))
+          | inr fits ↦ from_start count inside fits (omega (arith, inside, fits))
+        ]
+
+part_text : (t : Table) (source : ℕ → ℕ → ℕ) (s start count : ℕ) (rope : Option NodeId) → IsPart t s start count rope → text source (rope_cells t rope) ≡ take count (drop start (file_bytes t.sources source s))
+part_text t source s start count rope is =
+    let len = get_or t.sources s 0 in
+    let a = min start len in
+    let n = min count (len - min start len) in
+    ap (text source) (span_cells t s a n rope is)
+    ∙ places_text source s (range_with_len a n)
+    ∙ ap (map (source s)) (sym (range_part len start count))
+    ∙ sym (span-map (source s) count start (range_with_len 0 len))
+
+part_stated : (t : Table) (texts : List (Option (List ℕ))) (s start count : ℕ) (rope : Option NodeId) → IsPart t s start count rope → IsSome (text_at texts s) → AreStated texts (rope_cells t rope)
+part_stated t texts s start count rope is stated =
+    let len = get_or t.sources s 0 in
+    let places = range_with_len (min start len) (min count (len - min start len)) in
+    subst (AreStated texts) (sym (span_cells t s (min start len) (min count (len - min start len)) rope is)) (All-map (IsStated texts) (Place s) places (λ k d lt. stated))
+
+-- what is told of the rope's text is told of the part of the file
+pub of_part : (t : Table) (sizes : List ℕ) (texts : List (Option (List ℕ))) (s start count : ℕ) (rope : Option NodeId) (P : List ℕ → Type 0) → t.sources ≡ sizes → IsPart t s start count rope
+    → OfText t texts rope P → OfFile sizes texts s (λ u. P (take count (drop start u)))
+of_part t sizes texts s start count rope P own is told source agrees stated =
+    subst P (part_text t source s start count rope is ∙ ap (λ (ns : List ℕ). take count (drop start (file_bytes ns source s))) own)
+    (told source agrees (part_stated t texts s start count rope is stated))
+
+-- all the bytes of a file
+whole_bytes : (sizes : List ℕ) (source : ℕ → ℕ → ℕ) (s count : ℕ) → AreSizes sizes → s < length sizes → SOURCE_LIMIT ≤ count → take count (drop 0 (file_bytes sizes source s)) ≡ file_bytes sizes source s
+whole_bytes sizes source s count limits there big =
+    take_all count (file_bytes sizes source s) (omega (arith, big, length-map-range_with_len (source s) 0 (get_or sizes s 0), All-get_or (λ n. n ≤ SOURCE_LIMIT) sizes s 0 there limits.each))
+
+pub of_whole : (sizes : List ℕ) (texts : List (Option (List ℕ))) (s count : ℕ) (P : List ℕ → Type 0) → AreSizes sizes → s < length sizes → SOURCE_LIMIT ≤ count → OfFile sizes texts s (λ u. P (take count (drop 0 u))) → OfFile sizes texts s P
+of_whole sizes texts s count P limits there big told source agrees stated = subst P (whole_bytes sizes source s count limits there big) (told source agrees stated)
+
+pub of_files : (t : Table) (sizes : List ℕ) (texts : List (Option (List ℕ))) (s r count : ℕ) (x y : Option NodeId) (P : List ℕ → List ℕ → Type 0) → AreSizes sizes → s < length sizes → r < length sizes → SOURCE_LIMIT ≤ count → t.sources ≡ sizes
+    → IsPart t s 0 count x → IsPart t r 0 count y → OfTexts t texts x y P → OfFiles sizes texts s r P
+of_files t sizes texts s r count x y P limits first second big own is other told source agrees here there =
+    let bytes : (q : ℕ) (rope : Option NodeId) → q < length sizes → IsPart t q 0 count rope → text source (rope_cells t rope) ≡ file_bytes sizes source q =
+    λ q rope lt part. part_text t source q 0 count rope part ∙ ap (λ (ns : List ℕ). take count (drop 0 (file_bytes ns source q))) own ∙ whole_bytes sizes source q count limits lt big in
+    let both = told source agrees (part_stated t texts s 0 count x is here) (part_stated t texts r 0 count y other there) in
+    subst (λ (u : List ℕ). P u (file_bytes sizes source r)) (bytes s x first is) (subst (P (text source (rope_cells t x))) (bytes r y second other) both)

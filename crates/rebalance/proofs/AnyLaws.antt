@@ -1,0 +1,238 @@
+-- From the store's calls and from balancing to the calls for any ropes.
+use Rattle.std.proofs.Common.{◌≡◌, false, ℕ, ◌+◌, ◌*◌, ◌<◌, ◌≤◌, inl, inr, ⊎_elim, List, length, Option, Some, None, Result, Ok, Err, refl, sym, ap, subst, ◌∙◌, arith}
+use Rattle.std.specs.Prelude.{IfOk, IfErr, OnErr, IsErrOf, IsTrue}
+use Rattle.rope_node.specs.declared.node.NodeId.{NodeId}
+use Rattle.rope_node.specs.Table.{Table, depth_at, IsSound, HasTrueRecords}
+use Rattle.rope_node.specs.Denotes.{Cell, rope_cells, rope_len, rope_depth, IsRope}
+use Rattle.rope_node.specs.Extends.{Extends}
+use Rattle.rope_node.proofs.Extensions.{depth_kept}
+use Rattle.rope_node.proofs.Ropes.{rope_cells_kept, rope_kept, extends_through}
+use Rattle.node_table.specs.declared.fault.NodeFault.{NodeFault}
+use Rattle.node_table.specs.declared.fault.NodeFault.TheVariants.{TooLong, TooDeep, TableFull, PoolFull, BadSpan, TooManySources, Memory}
+use Rattle.node_table.specs.Held.{Held, table_of}
+use Rattle.rope_store.specs.Additions.{Addition, Makes}
+use Rattle.rope_store.specs.Refusals.{Refuses, IsTooDeep}
+use Rattle.rope_store.proofs.CallSizes.{IsFew}
+use Rattle.rebalance.specs.declared.fault.BalanceFault.{BalanceFault}
+use Rattle.rebalance.specs.declared.fault.BalanceFault.TheVariants.{TooManyPieces, Node}
+use Rattle.rebalance.specs.AnyForms.{AnyForm, Anew, IsAnewFault, lifted}
+use Rattle.rebalance.specs.Balancing.{IsNearlyBalanced, Rebalances}
+use Rattle.rebalance.specs.Pieces.{rope_pieces, most_pieces}
+use Rattle.rebalance.specs.Steps.{IsStepFault, Grows}
+use Rattle.rebalance.proofs.Fibonacci.{fibonacci_below, sixtieth}
+use Rattle.rebalance.proofs.PieceCounts.{rope_pieces_kept}
+use Rattle.rebalance.proofs.SlotSteps.{rope_length}
+use Rattle.rebalance.proofs.StoreCalls.{made_grows, refused_fault}
+
+abbrev fault_in : {A : Type 0} → Result A BalanceFault → NodeFault
+fault_in (Ok a) = Memory
+fault_in (Err TooManyPieces) = Memory
+fault_in (Err (Node e)) = e
+
+-- a lifted refusal is the store's
+pub lifted_err : {A : Type 0} (plain : Result A NodeFault) (e : NodeFault) → IsErrOf (lifted plain) (Node e) → IsErrOf plain e
+lifted_err (Ok a) e is = absurd cc
+lifted_err (Err k) e is = ap (λ (f : NodeFault). Err f) (ap fault_in is)
+
+pub lifted_back : {A : Type 0} (plain : Result A NodeFault) (e : NodeFault) → IsErrOf plain e → IsErrOf (lifted plain) (Node e)
+lifted_back (Ok a) e is = absurd cc
+lifted_back (Err k) e is = cc
+
+pub lifted_many : {A : Type 0} (plain : Result A NodeFault) → ¬ IsErrOf (lifted plain) TooManyPieces
+lifted_many (Ok a) is = cc
+lifted_many (Err k) is = cc
+
+pub lifted_ok : {A : Type 0} (P : A → Type 0) (plain : Result A NodeFault) → IfOk plain P → IfOk (lifted plain) P
+lifted_ok P (Ok a) h = h
+lifted_ok P (Err k) h = tt
+
+lifted_fault : {A : Type 0} (plain : Result A NodeFault) (nodes bytes : ℕ) → IfErr plain (IsStepFault nodes bytes) → IfErr (lifted plain) (IsAnewFault nodes bytes)
+lifted_fault (Ok a) nodes bytes h = tt
+lifted_fault (Err k) nodes bytes h = h
+
+-- the plain call does it
+pub any_plain_if : {F : Type 0} (meaning : F → ℕ → ℕ) (old new : Held F) (a : Addition F) (wanted : List Cell) (IsLong : Type 0) (p q bytes : ℕ) (plain : Result (Option NodeId) NodeFault) → (¬ IsLong → IsFew a bytes) → Makes meaning old a wanted plain new → Refuses old a ⊥ IsLong plain → ¬ IsErrOf plain TooDeep
+    → AnyForm meaning old a wanted IsLong p q bytes (lifted plain) new
+any_plain_if meaning old new a wanted IsLong p q bytes plain few made refuses shallow = record {
+  is_rope = lifted_ok (λ r. IsRope (table_of meaning new) r) plain made.is_rope;
+  text = lifted_ok (λ r. rope_cells (table_of meaning new) r ≡ wanted) plain made.text;
+  kept = made.kept;
+  sources = (made_grows plain (length old.nodes + length a.records) (length old.pool.bytes + length a.bytes) made (omega arith) (omega arith)).sources;
+  as_plain = λ _. record { plain = plain; same = refl; makes = made; refuses = refuses };
+  too_long = (λ e. (refuses.too_long.0 (lifted_err plain TooLong e)).1, λ long. lifted_back plain TooLong (refuses.too_long.1 ((λ bad. bad), long)));
+  too_many = λ e. absurd (lifted_many plain e);
+  first_many = λ deep short many. absurd (shallow (refuses.too_deep.1 ((λ bad. bad), short, deep)));
+  table_full = λ e.
+      let full = refuses.table_full.0 (lifted_err plain TableFull e) in
+      let size = few full.1 in
+      omega (arith, full.3, size.records);
+  pool_full = λ e.
+      let full = refuses.pool_full.0 (lifted_err plain PoolFull e) in
+      let size = few full.1 in
+      omega (arith, full.4, size.bytes_added);
+  not_deep = λ e. shallow (lifted_err plain TooDeep e);
+  no_bad_span = λ e. refuses.bad_span.0 (lifted_err plain BadSpan e);
+  no_source = λ e. refuses.no_other (lifted_err plain TooManySources e);
+}
+
+pub any_plain : {F : Type 0} (meaning : F → ℕ → ℕ) (old new : Held F) (a : Addition F) (wanted : List Cell) (IsLong : Type 0) (p q bytes : ℕ) (plain : Result (Option NodeId) NodeFault) → IsFew a bytes → Makes meaning old a wanted plain new → Refuses old a ⊥ IsLong plain → ¬ IsErrOf plain TooDeep
+    → AnyForm meaning old a wanted IsLong p q bytes (lifted plain) new
+any_plain meaning old new a wanted IsLong p q bytes plain few made refuses shallow = any_plain_if meaning old new a wanted IsLong p q bytes plain (λ _. few) made refuses shallow
+
+anew_fault : {A : Type 0} (result : Result A BalanceFault) (nodes bytes : ℕ) (e : BalanceFault) → IfErr result (IsAnewFault nodes bytes) → IsErrOf result e → IsAnewFault nodes bytes e
+anew_fault {A = A} result nodes bytes e h is = subst (λ (r : Result A BalanceFault). IfErr r (IsAnewFault nodes bytes)) is h
+
+-- the call does it once the ropes are balanced
+pub any_anew : {F : Type 0} (meaning : F → ℕ → ℕ) (old new : Held F) (a : Addition F) (wanted : List Cell) (IsLong : Type 0) (p q bytes : ℕ) (result : Result (Option NodeId) BalanceFault) → ¬ IsLong → IsTooDeep a → Anew meaning old wanted p q bytes result new
+    → AnyForm meaning old a wanted IsLong p q bytes result new
+any_anew meaning old new a wanted IsLong p q bytes result short deep anew = record {
+  is_rope = anew.is_rope;
+  text = anew.text;
+  kept = anew.kept;
+  sources = anew.sources;
+  as_plain = λ k. absurd (⊎_elim (λ shallow. shallow deep) short k);
+  too_long = (λ e. absurd (anew_fault result _ _ (Node TooLong) anew.fault e), λ long. absurd (short long));
+  too_many = λ e. (deep, short, anew.too_many e);
+  first_many = λ _ _ many. anew.first_many many;
+  table_full = anew_fault result _ _ (Node TableFull) anew.fault;
+  pool_full = anew_fault result _ _ (Node PoolFull) anew.fault;
+  not_deep = anew_fault result _ _ (Node TooDeep) anew.fault;
+  no_bad_span = anew_fault result _ _ (Node BadSpan) anew.fault;
+  no_source = anew_fault result _ _ (Node TooManySources) anew.fault;
+}
+
+-- a rope that is nearly balanced is far from too deep
+pub nearly_shallow : (t : Table) → IsSound t → (rope : Option NodeId) → IsRope t rope → IsNearlyBalanced t rope → rope_depth t rope ≤ 63
+nearly_shallow t s None there near = omega arith
+nearly_shallow t s (Some id) there near =
+    let short = (s.nodes id.0 there).not_long in
+    let below = fibonacci_below (depth_at t id.0 + 1) 60 (omega (arith, near, short, sixtieth)) in
+    omega (arith, below)
+
+pub rope_depth_kept : (old new : Table) → Extends old new → (rope : Option NodeId) → IsRope old rope → rope_depth new rope ≡ rope_depth old rope
+rope_depth_kept old new x None there = refl
+rope_depth_kept old new x (Some id) there = depth_kept old new x id.0 there
+
+-- balancing as a step
+pub balance_grows : {F : Type 0} {meaning : F → ℕ → ℕ} {old new : Held F} {rope : Option NodeId} {result : Result (Option NodeId) BalanceFault} → Rebalances meaning old rope result new
+    → Grows meaning old (length old.nodes + 2 * rope_pieces (table_of meaning old) rope) (length old.pool.bytes + 31 * rope_pieces (table_of meaning old) rope) new
+balance_grows r = record { kept = r.kept; sources = r.sources; few_nodes = r.few_nodes; few_bytes = r.few_bytes }
+
+balance_fault : {F : Type 0} {meaning : F → ℕ → ℕ} {old new : Held F} {rope : Option NodeId} (e : BalanceFault) (nodes bytes : ℕ) → Rebalances meaning old rope (Err e) new → length old.nodes + 2 * rope_pieces (table_of meaning old) rope ≤ nodes
+    → length old.pool.bytes + 31 * rope_pieces (table_of meaning old) rope ≤ bytes → IsAnewFault nodes bytes e
+balance_fault TooManyPieces nodes bytes r n b = tt
+balance_fault (Node TooLong) nodes bytes r n b = absurd (r.not_long refl)
+balance_fault (Node TooDeep) nodes bytes r n b = absurd (r.not_deep refl)
+balance_fault (Node TableFull) nodes bytes r n b = let full = r.table_full refl in omega (arith, full, n)
+balance_fault (Node PoolFull) nodes bytes r n b = let full = r.pool_full refl in omega (arith, full, b)
+balance_fault (Node BadSpan) nodes bytes r n b = absurd (r.no_bad_span refl)
+balance_fault (Node TooManySources) nodes bytes r n b = absurd (r.no_source refl)
+balance_fault (Node Memory) nodes bytes r n b = tt
+
+-- a rope that was balanced has few pieces
+pub few_pieces : {F : Type 0} {meaning : F → ℕ → ℕ} {old new : Held F} {rope balanced : Option NodeId} → Rebalances meaning old rope (Ok balanced) new → ¬ (most_pieces < rope_pieces (table_of meaning old) rope)
+few_pieces r many = let is = r.too_many.1 many in absurd cc
+
+-- the first rope is refused
+pub first_refused : {F : Type 0} (meaning : F → ℕ → ℕ) (old new : Held F) (wanted : List Cell) (rope : Option NodeId) (q bytes : ℕ) (e : BalanceFault) → Rebalances meaning old rope (Err e) new → Anew meaning old wanted (rope_pieces (table_of meaning old) rope) q bytes (Err e) new
+first_refused meaning old new wanted rope q bytes e r = record {
+  is_rope = tt;
+  text = tt;
+  kept = r.kept;
+  sources = r.sources;
+  too_many = λ many. inl (r.too_many.0 many);
+  first_many = r.too_many.1;
+  fault = balance_fault e _ _ r (omega arith) (omega arith);
+}
+
+-- the second rope is refused
+pub second_refused : {F : Type 0} (meaning : F → ℕ → ℕ) (old mid new : Held F) (wanted : List Cell) (l r left : Option NodeId) (bytes : ℕ) (e : BalanceFault) → IsSound (table_of meaning old) → IsRope (table_of meaning old) r → Rebalances meaning old l (Ok left) mid → Rebalances meaning mid r (Err e) new
+    → Anew meaning old wanted (rope_pieces (table_of meaning old) l) (rope_pieces (table_of meaning old) r) bytes (Err e) new
+second_refused meaning old mid new wanted l r left bytes e s there first second =
+    let t = table_of meaning old in
+    let same = rope_pieces_kept t (table_of meaning mid) s first.kept r there in
+    record {
+      is_rope = tt;
+      text = tt;
+      kept = extends_through t (table_of meaning mid) (table_of meaning new) first.kept second.kept;
+      sources = second.sources ∙ first.sources;
+      too_many = λ many. inr (rw same at (second.too_many.0 many));
+      first_many = λ many. absurd (few_pieces first many);
+      fault = balance_fault e _ _ second (omega (arith, first.few_nodes, same)) (omega (arith, first.few_bytes, same));
+    }
+
+-- the call behind the balancing
+pub called_anew : {F : Type 0} (meaning : F → ℕ → ℕ) (old mid new : Held F) (a : Addition F) (wanted cs : List Cell) (IsLong : Type 0) (p q bytes : ℕ) (plain : Result (Option NodeId) NodeFault) → Grows meaning old (length old.nodes + (2 * p + 2 * q)) (length old.pool.bytes + (31 * p + 31 * q)) mid → ¬ (most_pieces < p)
+    → IsFew a bytes → ¬ IsTooDeep a → ¬ IsLong → Makes meaning mid a cs plain new → Refuses mid a ⊥ IsLong plain → cs ≡ wanted → Anew meaning old wanted p q bytes (lifted plain) new
+called_anew {F = F} meaning old mid new a wanted cs IsLong p q bytes plain grows few_p few shallow short made refuses text =
+    let nodes = length old.nodes + (2 * p + 2 * q + 3) in
+    let most = length old.pool.bytes + (31 * p + 31 * q + bytes) in
+    let n : length mid.nodes + length a.records ≤ nodes = omega (arith, grows.few_nodes, few.records) in
+    let b : length mid.pool.bytes + length a.bytes ≤ most = omega (arith, grows.few_bytes, few.bytes_added) in
+    let step = made_grows plain nodes most made n b in
+    let there : IfOk plain (λ r. rope_cells (table_of meaning new) r ≡ wanted) = subst (λ (k : List Cell). IfOk plain (λ r. rope_cells (table_of meaning new) r ≡ k)) text made.text in
+    record {
+      is_rope = lifted_ok (λ r. IsRope (table_of meaning new) r) plain made.is_rope;
+      text = lifted_ok (λ r. rope_cells (table_of meaning new) r ≡ wanted) plain there;
+      kept = extends_through (table_of meaning old) (table_of meaning mid) (table_of meaning new) grows.kept step.kept;
+      sources = step.sources ∙ grows.sources;
+      too_many = λ e. absurd (lifted_many plain e);
+      first_many = λ many. absurd (few_p many);
+      fault = lifted_fault plain nodes most (refused_fault plain nodes most refuses (λ bad. bad) short shallow n b);
+    }
+
+-- a balanced rope stands for the one handed in
+pub record StandsFor (t : Table) (rope : Option NodeId) (t' : Table) (balanced : Option NodeId) : Type 0 where
+  pub is_rope : IsRope t' balanced
+  pub text : rope_cells t' balanced ≡ rope_cells t rope
+  pub len : rope_len t' balanced ≡ rope_len t rope
+  pub shallow : rope_depth t' balanced ≤ 63
+
+pub stands_for : {F : Type 0} (meaning : F → ℕ → ℕ) (old new : Held F) (rope balanced : Option NodeId) → IsSound (table_of meaning old) → HasTrueRecords (table_of meaning old) → IsSound (table_of meaning new) → HasTrueRecords (table_of meaning new) → IsRope (table_of meaning old) rope
+    → Rebalances meaning old rope (Ok balanced) new → StandsFor (table_of meaning old) rope (table_of meaning new) balanced
+stands_for meaning old new rope balanced s h s' h' there r =
+    let t = table_of meaning old in
+    let t' = table_of meaning new in
+    record {
+      is_rope = r.is_rope;
+      text = r.text;
+      len = sym (rope_length t' s' h' balanced r.is_rope) ∙ ap length r.text ∙ rope_length t s h rope there;
+      shallow = nearly_shallow t' s' balanced r.is_rope r.shallow;
+    }
+
+-- and still does where the table goes on, or where it stood for it in a table that went on
+pub stands_later : (t0 t t' : Table) → IsSound t → HasTrueRecords t → IsSound t' → HasTrueRecords t' → Extends t t' → (rope balanced : Option NodeId) → StandsFor t0 rope t balanced → StandsFor t0 rope t' balanced
+stands_later t0 t t' s h s' h' x rope balanced for =
+    let there = rope_kept t t' x balanced for.is_rope in
+    let same = rope_cells_kept t t' s x balanced for.is_rope in
+    record {
+      is_rope = there;
+      text = same ∙ for.text;
+      len = sym (rope_length t' s' h' balanced there) ∙ ap length same ∙ rope_length t s h balanced for.is_rope ∙ for.len;
+      shallow = rw (rope_depth_kept t t' x balanced for.is_rope) for.shallow;
+    }
+
+pub stands_earlier : (t0 t t' : Table) → IsSound t0 → HasTrueRecords t0 → IsSound t' → HasTrueRecords t' → Extends t0 t → (rope balanced : Option NodeId) → IsRope t0 rope → StandsFor t rope t' balanced → StandsFor t0 rope t' balanced
+stands_earlier t0 t t' s h s' h' x rope balanced there for =
+    let same = rope_cells_kept t0 t s x rope there in
+    record {
+      is_rope = for.is_rope;
+      text = for.text ∙ same;
+      len = sym (rope_length t' s' h' balanced for.is_rope) ∙ ap length (for.text ∙ same) ∙ rope_length t0 s h rope there;
+      shallow = for.shallow;
+    }
+
+-- the call that was refused as too deep left the store as it was
+pub unchanged_at : {F : Type 0} {meaning : F → ℕ → ℕ} {old new : Held F} {a : Addition F} {wanted : List Cell} (plain : Result (Option NodeId) NodeFault) (e : NodeFault) → Makes meaning old a wanted plain new → IsErrOf plain e → new ≡ old
+unchanged_at {F = F} {old = old} {new = new} plain e made is = subst (λ (r : Result (Option NodeId) NodeFault). OnErr r (new ≡ old)) is made.unchanged
+
+pub not_true : IsTrue false → ⊥
+not_true h = cc
+
+abbrev plain_of : {A : Type 0} → A → Result A BalanceFault → Result A NodeFault
+plain_of d (Ok a) = Ok a
+plain_of d (Err e) = Ok d
+
+pub lifted_is_ok : {A : Type 0} (plain : Result A NodeFault) (a : A) → lifted plain ≡ Ok a → plain ≡ Ok a
+lifted_is_ok (Ok b) a is = ap (plain_of b) is
+lifted_is_ok (Err e) a is = absurd cc

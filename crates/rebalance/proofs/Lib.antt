@@ -1,0 +1,12 @@
+pub mod Growth
+pub mod Fibonacci
+pub mod SlotLists
+pub mod SlotSteps
+pub mod PieceCounts
+pub mod StepLaws
+pub mod Filling
+pub mod StoreCalls
+pub mod Gathered
+pub mod PieceTexts
+pub mod AnyLaws
+pub mod AnyCalls

@@ -1,0 +1,76 @@
+-- What a call does that balances the ropes handed in where they would make one that is too deep.
+use Rattle.std.specs.Prelude.{◌≡◌, ◌↔◌, ◌⊎◌, ℕ, ◌+◌, ◌*◌, ◌^◌, ◌<◌, ◌≤◌, List, [], ◌∷◌, ◌++◌, map, length, slice_range, Option, Result, Ok, Err, IfOk, IfErr, IsErrOf}
+use Rattle.rope_node.specs.declared.node.NodeId.{NodeId}
+use Rattle.rope_node.specs.Denotes.{Cell, Byte, rope_cells, IsRope}
+use Rattle.rope_node.specs.Extends.{Extends}
+use Rattle.node_table.specs.declared.fault.NodeFault.{NodeFault}
+use Rattle.node_table.specs.declared.fault.NodeFault.TheVariants.{TooLong, TooDeep, TableFull, PoolFull, BadSpan, TooManySources}
+use Rattle.node_table.specs.Held.{Held, table_of, most_nodes}
+use Rattle.rope_store.specs.Additions.{Addition, Makes}
+use Rattle.rope_store.specs.Appending.{IsAppend, IsTooLong}
+use Rattle.rope_store.specs.Refusals.{Refuses, IsTooDeep}
+use Rattle.rebalance.specs.declared.fault.BalanceFault.{BalanceFault}
+use Rattle.rebalance.specs.declared.fault.BalanceFault.TheVariants.{TooManyPieces, Node}
+use Rattle.rebalance.specs.Pieces.{rope_pieces, most_pieces}
+use Rattle.rebalance.specs.Steps.{IsStepFault}
+
+-- a refusal of the store told as one of these calls
+abbrev pub lifted : {A : Type 0} → Result A NodeFault → Result A BalanceFault
+lifted (Ok a) = Ok a
+lifted (Err e) = Err (Node e)
+
+-- this is what the plain call does
+pub record IsPlain {F : Type 0} (meaning : F → ℕ → ℕ) (old : Held F) (a : Addition F) (wanted : List Cell) (IsLong : Type 0) (result : Result (Option NodeId) BalanceFault) (new : Held F) : Type 0 where
+  pub plain : Result (Option NodeId) NodeFault
+  pub same : result ≡ lifted plain
+  pub makes : Makes meaning old a wanted plain new
+  pub refuses : Refuses old a ⊥ IsLong plain
+
+-- where the plain call makes addition a, for ropes of p and q pieces, and adds at most so many bytes
+pub record AnyForm {F : Type 0} (meaning : F → ℕ → ℕ) (old : Held F) (a : Addition F) (wanted : List Cell) (IsLong : Type 0) (p q bytes : ℕ) (result : Result (Option NodeId) BalanceFault) (new : Held F) : Type 0 where
+  pub is_rope : IfOk result (λ r. IsRope (table_of meaning new) r)
+  pub text : IfOk result (λ r. rope_cells (table_of meaning new) r ≡ wanted)
+  pub kept : Extends (table_of meaning old) (table_of meaning new)
+  pub sources : new.sources ≡ old.sources
+  pub as_plain : (¬ IsTooDeep a) ⊎ IsLong → IsPlain meaning old a wanted IsLong result new
+  pub too_long : IsErrOf result (Node TooLong) ↔ IsLong
+  pub too_many : IsErrOf result TooManyPieces → IsTooDeep a × (¬ IsLong) × ((most_pieces < p) ⊎ (most_pieces < q))
+  pub first_many : IsTooDeep a → ¬ IsLong → most_pieces < p → IsErrOf result TooManyPieces
+  pub table_full : IsErrOf result (Node TableFull) → most_nodes < length old.nodes + (2 * p + 2 * q + 3)
+  pub pool_full : IsErrOf result (Node PoolFull) → 2 ^ 32 ≤ length old.pool.bytes + (31 * p + 31 * q + bytes)
+  pub not_deep : ¬ IsErrOf result (Node TooDeep)
+  pub no_bad_span : ¬ IsErrOf result (Node BadSpan)
+  pub no_source : ¬ IsErrOf result (Node TooManySources)
+
+-- what may refuse such a call after which there are at most so many nodes and bytes
+abbrev pub IsAnewFault : ℕ → ℕ → BalanceFault → Type 0
+IsAnewFault nodes bytes TooManyPieces = Unit {0}
+IsAnewFault nodes bytes (Node e) = IsStepFault nodes bytes e
+
+-- the same call once the ropes are balanced
+pub record Anew {F : Type 0} (meaning : F → ℕ → ℕ) (old : Held F) (wanted : List Cell) (p q bytes : ℕ) (result : Result (Option NodeId) BalanceFault) (new : Held F) : Type 0 where
+  pub is_rope : IfOk result (λ r. IsRope (table_of meaning new) r)
+  pub text : IfOk result (λ r. rope_cells (table_of meaning new) r ≡ wanted)
+  pub kept : Extends (table_of meaning old) (table_of meaning new)
+  pub sources : new.sources ≡ old.sources
+  pub too_many : IsErrOf result TooManyPieces → (most_pieces < p) ⊎ (most_pieces < q)
+  pub first_many : most_pieces < p → IsErrOf result TooManyPieces
+  pub fault : IfErr result (IsAnewFault (length old.nodes + (2 * p + 2 * q + 3)) (length old.pool.bytes + (31 * p + 31 * q + bytes)))
+
+-- ---- bytes put behind a rope
+
+-- the rope alone
+abbrev pub ropes_of : Result (Option NodeId × ℕ) BalanceFault → Result (Option NodeId) BalanceFault
+ropes_of (Ok p) = Ok p.0
+ropes_of (Err e) = Err e
+
+-- the bytes stand in the pool from this place on; the place of none is 0
+abbrev pub IsPlaced : List ℕ → ℕ → List ℕ → Type 0
+IsPlaced pool place [] = place ≡ 0
+IsPlaced pool place (b ∷ bs) = slice_range pool place (place + length (b ∷ bs)) ≡ b ∷ bs
+
+-- what the plain call adds, and what this one does
+pub record AppendsAny {F : Type 0} (meaning : F → ℕ → ℕ) (old : Held F) (x : Option NodeId) (bytes : List ℕ) (result : Result (Option NodeId) BalanceFault) (new : Held F) : Type 0 where
+  pub addition : Addition F
+  pub is : ¬ IsTooLong (table_of meaning old) x bytes → IsAppend old.pool (table_of meaning old) x bytes addition
+  pub any : AnyForm meaning old addition (rope_cells (table_of meaning old) x ++ map Byte bytes) (IsTooLong (table_of meaning old) x bytes) (rope_pieces (table_of meaning old) x) 0 (length bytes + 31) result new

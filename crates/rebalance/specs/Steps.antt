@@ -1,0 +1,27 @@
+-- What each step of balancing keeps to.
+use Rattle.std.specs.Prelude.{◌≡◌, ℕ, ◌^◌, ◌<◌, ◌≤◌, length, Result, IfErr}
+use Rattle.rope_node.specs.Extends.{Extends}
+use Rattle.node_table.specs.declared.fault.NodeFault.{NodeFault}
+use Rattle.node_table.specs.declared.fault.NodeFault.TheVariants.{TooLong, TooDeep, TableFull, PoolFull, BadSpan, TooManySources, Memory}
+use Rattle.node_table.specs.Held.{Held, table_of, most_nodes}
+
+-- what may refuse a step after which there are at most so many nodes and bytes
+abbrev pub IsStepFault : ℕ → ℕ → NodeFault → Type 0
+IsStepFault nodes bytes TooLong = ⊥
+IsStepFault nodes bytes TooDeep = ⊥
+IsStepFault nodes bytes TableFull = most_nodes < nodes
+IsStepFault nodes bytes PoolFull = 2 ^ 32 ≤ bytes
+IsStepFault nodes bytes BadSpan = ⊥
+IsStepFault nodes bytes TooManySources = ⊥
+IsStepFault nodes bytes Memory = Unit {0}
+
+-- what was there is kept, and there are at most so many nodes and bytes
+pub record Grows {F : Type 0} (meaning : F → ℕ → ℕ) (old : Held F) (nodes bytes : ℕ) (new : Held F) : Type 0 where
+  pub kept : Extends (table_of meaning old) (table_of meaning new)
+  pub sources : new.sources ≡ old.sources
+  pub few_nodes : length new.nodes ≤ nodes
+  pub few_bytes : length new.pool.bytes ≤ bytes
+
+pub record Steps {F : Type 0} {A : Type 0} (meaning : F → ℕ → ℕ) (old : Held F) (nodes bytes : ℕ) (result : Result A NodeFault) (new : Held F) : Type 0 where
+  pub grows : Grows meaning old nodes bytes new
+  pub fault : IfErr result (IsStepFault nodes bytes)

@@ -1,0 +1,169 @@
+//! The store's calls, for ropes that may be too deep for them.
+
+ghost use Rattle.std.specs.Prelude.{◌≡◌, ◌↔◌, ◌+◌, ◌^◌, ◌<◌, ◌≤◌, ◌++◌, length, map, take, drop, [], IsTrue, IfOk, IsErrOf};
+ghost use Rattle.rope_node.specs.Denotes.{Byte, rope_cells, rope_len, IsRope};
+ghost use Rattle.node_table.specs.Held.{table_of};
+ghost use Rattle.rope_store.specs.Additions.{part_added};
+ghost use Rattle.rope_store.specs.Appending.{IsTooLong};
+ghost use Rattle.rope_store.specs.Joining.{joined};
+ghost use Rattle.rebalance.specs.AnyForms.{AnyForm, Anew, AppendsAny, IsPlaced, lifted, ropes_of};
+ghost use Rattle.rebalance.specs.Pieces.{rope_pieces};
+
+use crate::balancing::balance;
+use crate::fault::BalanceFault;
+use function_leaf::LeafFn;
+use node_table::NodeFault;
+use rope_node::{NodeSpace, Rope};
+use rope_store::Store;
+
+/// Whether the store refused a rope as too deep.
+fn is_too_deep(plain: Result<Rope, NodeFault>) -> bool
+    ensures { IsTrue result ↔ IsErrOf plain NodeFault.TooDeep }
+{
+    match plain {
+        Ok(_) => false,
+        Err(fault) => match fault {
+            NodeFault::TooDeep => true,
+            _ => false,
+        },
+    }
+}
+
+/// What the store answered, with its fault as one of these calls' own.
+fn lift(plain: Result<Rope, NodeFault>) -> Result<Rope, BalanceFault>
+    ensures { result ≡ lifted plain }
+{
+    match plain {
+        Ok(rope) => Ok(rope),
+        Err(fault) => Err(BalanceFault::Node(fault)),
+    }
+}
+
+/// `cat` of the store. Where the node over both would be too deep, `l` and then `r` are balanced first.
+///
+/// # Errors
+///
+/// `TooManyPieces` where a rope that has to be balanced goes through more than 1,048,576 leaf spans; `TooLong`, `TableFull`, `PoolFull`,
+/// `Memory` of the store. Where a rope was balanced the store may then have more nodes and bytes.
+pub fn cat_any<F: LeafFn>(store: &mut Store<F>, l: Rope, r: Rope) -> Result<Rope, BalanceFault>
+    requires left { IsRope (table_of F.meaning store.old) l }
+    requires right { IsRope (table_of F.meaning store.old) r }
+    ensures { AnyForm F.meaning store.old (joined (table_of F.meaning store.old) l r) (rope_cells (table_of F.meaning store.old) l ++ rope_cells (table_of F.meaning store.old) r) (2 ^ 40 ≤ rope_len (table_of F.meaning store.old) l + rope_len (table_of F.meaning store.old) r) (rope_pieces (table_of F.meaning store.old) l) (rope_pieces (table_of F.meaning store.old) r) 31 result store.new }
+{
+    let _count = store.count();
+    let plain = store.cat(l, r);
+    if is_too_deep(plain) {
+        return cat_anew(store, l, r);
+    }
+    lift(plain)
+}
+
+/// `cat` of both ropes once they are balanced.
+fn cat_anew<F: LeafFn>(store: &mut Store<F>, l: Rope, r: Rope) -> Result<Rope, BalanceFault>
+    requires left { IsRope (table_of F.meaning store.old) l }
+    requires right { IsRope (table_of F.meaning store.old) r }
+    requires short { rope_len (table_of F.meaning store.old) l + rope_len (table_of F.meaning store.old) r < 2 ^ 40 }
+    ensures { Anew F.meaning store.old (rope_cells (table_of F.meaning store.old) l ++ rope_cells (table_of F.meaning store.old) r) (rope_pieces (table_of F.meaning store.old) l) (rope_pieces (table_of F.meaning store.old) r) 31 result store.new }
+{
+    let _count = store.count();
+    let left = balance(store, l)?;
+    let _count = store.count();
+    let right = balance(store, r)?;
+    let _count = store.count();
+    Ok(store.cat(left, right)?)
+}
+
+/// `substr` of the store. Where the part would be too deep, `x` is balanced first.
+///
+/// # Errors
+///
+/// `TooManyPieces` where the rope has to be balanced and goes through more than 1,048,576 leaf spans; `TableFull`, `PoolFull`, `Memory`
+/// of the store. Where the rope was balanced the store may then have more nodes and bytes.
+pub fn substr_any<F: LeafFn>(
+    store: &mut Store<F>,
+    x: Rope,
+    i: u64,
+    n: u64,
+) -> Result<Rope, BalanceFault>
+    requires { IsRope (table_of F.meaning store.old) x }
+    ensures { AnyForm F.meaning store.old (part_added (table_of F.meaning store.old) x i n) (take n (drop i (rope_cells (table_of F.meaning store.old) x))) ⊥ (rope_pieces (table_of F.meaning store.old) x) 0 0 result store.new }
+{
+    let _count = store.count();
+    let plain = store.substr(x, i, n);
+    if is_too_deep(plain) {
+        return substr_anew(store, x, i, n);
+    }
+    lift(plain)
+}
+
+/// `substr` of the rope once it is balanced.
+fn substr_anew<F: LeafFn>(
+    store: &mut Store<F>,
+    x: Rope,
+    i: u64,
+    n: u64,
+) -> Result<Rope, BalanceFault>
+    requires { IsRope (table_of F.meaning store.old) x }
+    ensures { Anew F.meaning store.old (take n (drop i (rope_cells (table_of F.meaning store.old) x))) (rope_pieces (table_of F.meaning store.old) x) 0 0 result store.new }
+{
+    let _count = store.count();
+    let rope = balance(store, x)?;
+    let _count = store.count();
+    Ok(store.substr(rope, i, n)?)
+}
+
+/// `append` of the store, and the pool's place where the bytes then stand, 0 for none. Where the node over both would be too deep, `x`
+/// is balanced first.
+///
+/// # Errors
+///
+/// `TooManyPieces` where the rope has to be balanced and goes through more than 1,048,576 leaf spans; `TooLong`, `TableFull`,
+/// `PoolFull`, `Memory` of the store. Where the rope was balanced the store may then have more nodes and bytes.
+pub fn append_any<F: LeafFn>(
+    store: &mut Store<F>,
+    x: Rope,
+    bytes: &[u8],
+) -> Result<(Rope, u64), BalanceFault>
+    requires { IsRope (table_of F.meaning store.old) x }
+    ensures any { AppendsAny F.meaning store.old x bytes.now (ropes_of result) store.new }
+    ensures place { IfOk result (λ p. IsPlaced store.new.pool.bytes p.1 bytes.now) }
+{
+    let _count = store.count();
+    let place = next_place(store, bytes);
+    let plain = store.append(x, bytes);
+    if is_too_deep(plain) {
+        return append_anew(store, x, bytes);
+    }
+    let rope = lift(plain)?;
+    Ok((rope, place))
+}
+
+/// The place that bytes get in the pool, 0 for none.
+fn next_place<F: LeafFn>(store: &Store<F>, bytes: &[u8]) -> u64
+    ensures none { bytes.now ≡ [] → result ≡ 0 }
+    ensures some { 1 ≤ length bytes.now → result ≡ length store.now.pool.bytes }
+{
+    if bytes.is_empty() {
+        return 0;
+    }
+    store.pool_len()
+}
+
+/// `append` to the rope once it is balanced.
+fn append_anew<F: LeafFn>(
+    store: &mut Store<F>,
+    x: Rope,
+    bytes: &[u8],
+) -> Result<(Rope, u64), BalanceFault>
+    requires there { IsRope (table_of F.meaning store.old) x }
+    requires short { ¬ IsTooLong (table_of F.meaning store.old) x bytes.now }
+    ensures anew { Anew F.meaning store.old (rope_cells (table_of F.meaning store.old) x ++ map Byte bytes.now) (rope_pieces (table_of F.meaning store.old) x) 0 (length bytes.now + 31) (ropes_of result) store.new }
+    ensures place { IfOk result (λ p. IsPlaced store.new.pool.bytes p.1 bytes.now) }
+{
+    let _count = store.count();
+    let rope = balance(store, x)?;
+    let _count = store.count();
+    let place = next_place(store, bytes);
+    let longer = store.append(rope, bytes)?;
+    Ok((longer, place))
+}

@@ -1,0 +1,124 @@
+//! Slots for ropes: a longer rope in a slot of a higher number, and more to the left in the text.
+
+ghost use Rattle.std.specs.Prelude.{◌≡◌, ◌+◌, ◌^◌, ◌<◌, ◌≤◌, ◌++◌, length, IfOk};
+ghost use Rattle.rope_node.specs.Balance.{fibonacci};
+ghost use Rattle.rope_node.specs.Denotes.{rope_cells, rope_len, rope_depth, IsRope};
+ghost use Rattle.node_table.specs.Held.{table_of};
+ghost use Rattle.rebalance.specs.Slots.{full_slots, ropes_in, slots_cells, slot_count, AreSlots, AreEmptyBelow, IsCarried, IsGathered, IsJoin, IsPiece, IsSpread};
+ghost use Rattle.rebalance.specs.Steps.{Steps};
+
+use crate::balanced::fibonacci;
+use function_leaf::LeafFn;
+use node_table::NodeFault;
+use rope_node::{NodeSpace, Rope};
+use rope_store::Store;
+
+/// How many slots there are. A text of 2^40 bytes would need one more.
+pub(crate) const SLOTS: u8 = 60;
+
+/// The slot of a rope of this length, in bytes: the Fibonacci number at the slot is the last that is not above it.
+fn slot_for(len: u64) -> u8
+    requires some { 1 ≤ len }
+    requires short { len < 2 ^ 40 }
+    ensures some { 2 ≤ result }
+    ensures last { result < slot_count }
+    ensures long { fibonacci result ≤ len }
+    ensures short { len < fibonacci (result + 1) }
+{
+    let mut slot = 2;
+    while fibonacci(slot + 1) <= len {
+        slot += 1;
+    }
+    slot
+}
+
+/// The text of `l` followed by that of `r`, as one node over both, or one of them where the other is nil.
+fn join<F: LeafFn>(store: &mut Store<F>, l: Rope, r: Rope) -> Result<Rope, NodeFault>
+    requires left { IsRope (table_of F.meaning store.old) l }
+    requires right { IsRope (table_of F.meaning store.old) r }
+    requires left_shallow { rope_depth (table_of F.meaning store.old) l < 64 }
+    requires right_shallow { rope_depth (table_of F.meaning store.old) r < 64 }
+    requires short { rope_len (table_of F.meaning store.old) l + rope_len (table_of F.meaning store.old) r < 2 ^ 40 }
+    ensures steps { Steps F.meaning store.old (length store.old.nodes + (ropes_in l + ropes_in r)) (length store.old.pool.bytes) result store.new }
+    ensures join { IfOk result (λ rope. IsJoin F.meaning store.old l r rope store.new) }
+{
+    let _count = store.count();
+    match (l, r) {
+        (None, _) => Ok(r),
+        (Some(_), None) => Ok(l),
+        (Some(left), Some(right)) => store.cat_plain(left, right),
+    }
+}
+
+/// Empties the slots below `end`, and joins their ropes from the smallest up.
+pub(crate) fn join_below<F: LeafFn>(
+    store: &mut Store<F>,
+    slots: &mut [Rope],
+    end: u8,
+) -> Result<Rope, NodeFault>
+    requires end { end ≤ slot_count }
+    requires slots { AreSlots (table_of F.meaning store.old) slots.old }
+    requires short { length (slots_cells (table_of F.meaning store.old) slots.old) < 2 ^ 40 }
+    ensures steps { Steps F.meaning store.old (length store.old.nodes + full_slots slots.old) (length store.old.pool.bytes) result store.new }
+    ensures gathered { IfOk result (λ rope. IsGathered (table_of F.meaning store.new) end rope) }
+    ensures spread { IfOk result (λ rope. IsSpread (table_of F.meaning store.new) (length store.old.nodes + full_slots slots.old) (slots_cells (table_of F.meaning store.old) slots.old) end slots.new rope) }
+{
+    let mut rope = None;
+    for m in 0..end {
+        let _count = store.count();
+        rope = join(store, slots[usize::from(m)], rope)?;
+        slots[usize::from(m)] = None;
+    }
+    Ok(rope)
+}
+
+/// Puts a rope into the first slot from `first` on that is empty and fits it, behind the ropes of the full ones before that.
+fn settle<F: LeafFn>(
+    store: &mut Store<F>,
+    slots: &mut [Rope],
+    first: u8,
+    carried: Rope,
+) -> Result<(), NodeFault>
+    requires slots { AreSlots (table_of F.meaning store.old) slots.old }
+    requires empty { AreEmptyBelow first slots.old }
+    requires there { IsRope (table_of F.meaning store.old) carried }
+    requires carried { IsCarried (table_of F.meaning store.old) first carried }
+    requires short { length (slots_cells (table_of F.meaning store.old) slots.old ++ rope_cells (table_of F.meaning store.old) carried) < 2 ^ 40 }
+    ensures steps { Steps F.meaning store.old (length store.old.nodes + (full_slots slots.old + ropes_in carried)) (length store.old.pool.bytes) result store.new }
+    ensures spread { IfOk result (λ _. IsSpread (table_of F.meaning store.new) (length store.old.nodes + (full_slots slots.old + ropes_in carried)) (slots_cells (table_of F.meaning store.old) slots.old ++ rope_cells (table_of F.meaning store.old) carried) 0 slots.new None) }
+{
+    let mut slot = first;
+    let mut rope = carried;
+    loop {
+        let _count = store.count();
+        let left = slots[usize::from(slot)];
+        if left.is_none() && store.len(rope) < fibonacci(slot + 1) {
+            slots[usize::from(slot)] = rope;
+            return Ok(());
+        }
+        rope = join(store, left, rope)?;
+        slots[usize::from(slot)] = None;
+        slot += 1;
+    }
+}
+
+/// Puts a piece behind the text of the slots.
+pub(crate) fn insert<F: LeafFn>(
+    store: &mut Store<F>,
+    slots: &mut [Rope],
+    piece: Rope,
+) -> Result<(), NodeFault>
+    requires slots { AreSlots (table_of F.meaning store.old) slots.old }
+    requires piece { IsPiece (table_of F.meaning store.old) piece }
+    requires short { length (slots_cells (table_of F.meaning store.old) slots.old ++ rope_cells (table_of F.meaning store.old) piece) < 2 ^ 40 }
+    ensures steps { Steps F.meaning store.old (length store.old.nodes + (full_slots slots.old + 1)) (length store.old.pool.bytes) result store.new }
+    ensures spread { IfOk result (λ _. IsSpread (table_of F.meaning store.new) (length store.old.nodes + (full_slots slots.old + 1)) (slots_cells (table_of F.meaning store.old) slots.old ++ rope_cells (table_of F.meaning store.old) piece) 0 slots.new None) }
+{
+    let _count = store.count();
+    let first = slot_for(store.len(piece));
+    let lower = join_below(store, slots, first)?;
+    let _count = store.count();
+    let rope = join(store, lower, piece)?;
+    let _count = store.count();
+    settle(store, slots, first, rope)
+}
