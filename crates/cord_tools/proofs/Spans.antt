@@ -91,7 +91,7 @@ span_cells : (t : Table) (s a n : ℕ) (rope : Option NodeId) → IsSpan t s a n
 span_cells t s a n None none = sym (ap (λ (m : ℕ). map (Place s) (range_with_len a m)) none)
 span_cells t s a n (Some id) is = ap (λ (node : Node). node_cells t (cells_in t id.0) id.0 node.len node.view) is.1
 
-places_text : (source : ℕ → ℕ → ℕ) (s : ℕ) (places : List ℕ) → text source (map (Place s) places) ≡ map (source s) places
+pub places_text : (source : ℕ → ℕ → ℕ) (s : ℕ) (places : List ℕ) → text source (map (Place s) places) ≡ map (source s) places
 places_text source s [] = refl
 places_text source s (p ∷ places) = ap (λ (bytes : List ℕ). source s p ∷ bytes) (places_text source s places)
 

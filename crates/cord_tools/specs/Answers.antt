@@ -13,7 +13,7 @@ use Rattle.session_checker.specs.Accepted.{IsFirstFault}
 use Rattle.session_checker.specs.Faithful.{IsFaithful, text_of}
 use Rattle.session_checker.specs.Codes.{fault_code}
 use Rattle.cord_tools.specs.declared.fault.ToolFault.{ToolFault}
-use Rattle.cord_tools.specs.declared.fault.ToolFault.TheVariants.{Memory, Read, Write, Refused, Source, NoRevision, PatternTooLong}
+use Rattle.cord_tools.specs.declared.fault.ToolFault.TheVariants.{Memory, Read, Write, Refused, Source, NoRevision, PatternTooLong, Rope}
 use Rattle.cord_tools.specs.declared.status.Status.{Status}
 use Rattle.cord_tools.specs.declared.status.Status.TheVariants.{Success, Failure}
 use Rattle.cord_tools.specs.Sources.{RefusesSources}
@@ -72,6 +72,7 @@ ChecksInput remaining texts old new (Err (Refused f)) = ⊥
 ChecksInput remaining texts old new (Err (Source f)) = ⊥
 ChecksInput remaining texts old new (Err NoRevision) = ⊥
 ChecksInput remaining texts old new (Err PatternTooLong) = ⊥
+ChecksInput remaining texts old new (Err (Rope f)) = ⊥
 
 -- the bytes read spell a faithful image with sources of these texts
 abbrev pub ReadsFaithful : Option (List ℕ) → List (List ℕ) → ImageValue → Type 0
@@ -91,3 +92,4 @@ ShowsRevision remaining texts k old new (Err (Refused f)) = Keeps old new × ((b
 ShowsRevision remaining texts k old new (Err (Source f)) = Keeps old new × RefusesSources texts (Source f)
 ShowsRevision remaining texts k old new (Err NoRevision) = Keeps old new × ((v : ImageValue) × ReadsFaithful remaining texts v × (length v.revisions ≤ k))
 ShowsRevision remaining texts k old new (Err PatternTooLong) = ⊥
+ShowsRevision remaining texts k old new (Err (Rope f)) = ⊥

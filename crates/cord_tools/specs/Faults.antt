@@ -1,12 +1,17 @@
--- What the faults of reads, writes and searches come to.
+-- What the faults of reads, writes, searches and ropes come to.
+use Rattle.std.specs.Prelude.{⊤}
 use Rattle.lazy_file.specs.declared.faults.SourceFault.{SourceFault}
 use Rattle.lazy_file.specs.declared.faults.SourceFault.TheVariants as Source
+use Rattle.node_table.specs.declared.fault.NodeFault.TheVariants as Node
+use Rattle.rebalance.specs.declared.fault.BalanceFault.{BalanceFault}
+use Rattle.rebalance.specs.declared.fault.BalanceFault.TheVariants as Balance
 use Rattle.cord_search.specs.declared.fault.FindFault.{FindFault}
 use Rattle.cord_search.specs.declared.fault.FindFault.TheVariants as Find
 use Rattle.cord_search.specs.declared.fault.PutFault.{PutFault}
 use Rattle.cord_search.specs.declared.fault.PutFault.TheVariants as Put
 use Rattle.cord_tools.specs.declared.fault.ToolFault.{ToolFault}
-use Rattle.cord_tools.specs.declared.fault.ToolFault.TheVariants.{Memory, Read, Write, PatternTooLong}
+use Rattle.cord_tools.specs.declared.fault.ToolFault.TheVariants as Tool
+use Rattle.cord_tools.specs.declared.fault.ToolFault.TheVariants.{Memory, Read, Write, PatternTooLong, Rope}
 
 abbrev pub read_fault : SourceFault → ToolFault
 read_fault Source.Device = Read
@@ -21,3 +26,35 @@ put_fault Put.Write = Write
 abbrev pub find_fault : FindFault → ToolFault
 find_fault Find.PatternTooLong = PatternTooLong
 find_fault (Find.Source fault) = read_fault fault
+
+abbrev pub rope_fault : BalanceFault → ToolFault
+rope_fault Balance.TooManyPieces = Rope Balance.TooManyPieces
+rope_fault (Balance.Node Node.TooLong) = Rope (Balance.Node Node.TooLong)
+rope_fault (Balance.Node Node.TooDeep) = Rope (Balance.Node Node.TooDeep)
+rope_fault (Balance.Node Node.TableFull) = Rope (Balance.Node Node.TableFull)
+rope_fault (Balance.Node Node.PoolFull) = Rope (Balance.Node Node.PoolFull)
+rope_fault (Balance.Node Node.BadSpan) = Rope (Balance.Node Node.BadSpan)
+rope_fault (Balance.Node Node.TooManySources) = Rope (Balance.Node Node.TooManySources)
+rope_fault (Balance.Node Node.Memory) = Memory
+
+-- the rope over files may be too long, or want more pieces, nodes or bytes than there may be
+abbrev pub RefusesJoin : BalanceFault → Type 0
+RefusesJoin Balance.TooManyPieces = ⊤
+RefusesJoin (Balance.Node Node.TooLong) = ⊤
+RefusesJoin (Balance.Node Node.TooDeep) = ⊥
+RefusesJoin (Balance.Node Node.TableFull) = ⊤
+RefusesJoin (Balance.Node Node.PoolFull) = ⊤
+RefusesJoin (Balance.Node Node.BadSpan) = ⊥
+RefusesJoin (Balance.Node Node.TooManySources) = ⊥
+RefusesJoin (Balance.Node Node.Memory) = ⊥
+
+-- what may end the joining of files
+abbrev pub IsJoinFault : ToolFault → Type 0
+IsJoinFault Memory = ⊤
+IsJoinFault Read = ⊤
+IsJoinFault Write = ⊤
+IsJoinFault (Rope fault) = RefusesJoin fault
+IsJoinFault (Tool.Refused f) = ⊥
+IsJoinFault (Tool.Source f) = ⊥
+IsJoinFault Tool.NoRevision = ⊥
+IsJoinFault PatternTooLong = ⊥

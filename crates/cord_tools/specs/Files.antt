@@ -1,16 +1,17 @@
 -- What the tools say of the bytes of files.
 use Rattle.std.specs.Prelude.{◌≡◌, ℕ, ◌<◌, List, ◌++◌, length, map, get_or, Option, None, Result, Ok, Err, IsSome, codes}
-use Rattle.std.specs.List.{concat, range_with_len}
+use Rattle.std.specs.List.{concat, flat_map, range_with_len}
 use Rattle.std.specs.Fmt.{decimal}
 use Rattle.std.specs.Io.KnownBytes.{Appends, Keeps}
 use Rattle.std.specs.declared.cmp.Ordering.{Ordering}
 use Rattle.std.specs.declared.cmp.Ordering.TheVariants.{Less, Equal, Greater}
 use Rattle.lazy_file.specs.SourceTexts.{Agrees, text_at}
+use Rattle.rope_node.specs.Denotes.{Cell, Place}
 use Rattle.cord_search.specs.Order.{order}
 use Rattle.cord_search.specs.Output.{AppendsPrefix}
 use Rattle.cord_search.specs.Places.{IsFirst, IsFirstPlace}
 use Rattle.cord_tools.specs.declared.fault.ToolFault.{ToolFault}
-use Rattle.cord_tools.specs.declared.fault.ToolFault.TheVariants.{Memory, Read, Write, Refused, Source, NoRevision, PatternTooLong}
+use Rattle.cord_tools.specs.declared.fault.ToolFault.TheVariants.{Memory, Read, Write, Refused, Source, NoRevision, PatternTooLong, Rope}
 use Rattle.cord_tools.specs.declared.status.Status.{Status}
 use Rattle.cord_tools.specs.declared.status.Status.TheVariants.{Success, Failure}
 
@@ -25,6 +26,14 @@ OfFile sizes texts s P = (source : ℕ → ℕ → ℕ) → Agrees texts source 
 -- the same of two
 abbrev pub OfFiles : List ℕ → List (Option (List ℕ)) → ℕ → ℕ → (List ℕ → List ℕ → Type 0) → Type 0
 OfFiles sizes texts s r P = (source : ℕ → ℕ → ℕ) → Agrees texts source → IsSome (text_at texts s) → IsSome (text_at texts r) → P (file_bytes sizes source s) (file_bytes sizes source r)
+
+-- all the cells of source s
+abbrev pub file_cells : List ℕ → ℕ → List Cell
+file_cells sizes s = map (Place s) (range_with_len 0 (get_or sizes s 0))
+
+-- the cells of the first n sources, one behind the other
+abbrev pub cells_of_first : List ℕ → ℕ → List Cell
+cells_of_first sizes n = flat_map (file_cells sizes) (range_with_len 0 n)
 
 -- the bytes of the first n sources, one behind the other
 abbrev pub bytes_of_first : List ℕ → (ℕ → ℕ → ℕ) → ℕ → List ℕ
@@ -49,6 +58,7 @@ FindsPattern sizes texts start pattern old new (Err PatternTooLong) = Keeps old 
 FindsPattern sizes texts start pattern old new (Err (Refused f)) = ⊥
 FindsPattern sizes texts start pattern old new (Err (Source f)) = ⊥
 FindsPattern sizes texts start pattern old new (Err NoRevision) = ⊥
+FindsPattern sizes texts start pattern old new (Err (Rope f)) = ⊥
 
 -- the line that tells an order
 abbrev pub order_line : Ordering → List ℕ
@@ -75,3 +85,4 @@ ComparesFiles sizes texts old new (Err PatternTooLong) = ⊥
 ComparesFiles sizes texts old new (Err (Refused f)) = ⊥
 ComparesFiles sizes texts old new (Err (Source f)) = ⊥
 ComparesFiles sizes texts old new (Err NoRevision) = ⊥
+ComparesFiles sizes texts old new (Err (Rope f)) = ⊥

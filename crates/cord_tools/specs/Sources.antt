@@ -6,7 +6,7 @@ use Rattle.lazy_file.specs.declared.sources.TheConstants.{COUNT_LIMIT, SOURCE_LI
 use Rattle.lazy_file.specs.declared.faults.AddFault.{AddFault}
 use Rattle.lazy_file.specs.declared.faults.AddFault.TheVariants as Add
 use Rattle.cord_tools.specs.declared.fault.ToolFault.{ToolFault}
-use Rattle.cord_tools.specs.declared.fault.ToolFault.TheVariants.{Memory, Read, Write, Refused, Source, NoRevision, PatternTooLong}
+use Rattle.cord_tools.specs.declared.fault.ToolFault.TheVariants.{Memory, Read, Write, Refused, Source, NoRevision, PatternTooLong, Rope}
 
 -- one more byte than the longest source has
 abbrev pub source_limit : ℕ
@@ -32,3 +32,4 @@ RefusesSources texts Write = ⊥
 RefusesSources texts (Refused f) = ⊥
 RefusesSources texts NoRevision = ⊥
 RefusesSources texts PatternTooLong = ⊥
+RefusesSources texts (Rope f) = ⊥

@@ -1,11 +1,13 @@
 //! Why a tool ended without its answer.
 
 ghost use Rattle.std.specs.Prelude.{◌≡◌};
-ghost use Rattle.cord_tools.specs.Faults.{find_fault, put_fault, read_fault};
+ghost use Rattle.cord_tools.specs.Faults.{find_fault, put_fault, read_fault, rope_fault};
 ghost use Rattle.cord_tools.specs.Sources.{source_fault};
 
 use cord_search::{FindFault, PutFault};
 use lazy_file::{AddFault, SourceFault};
+use node_table::NodeFault;
+use rebalance::BalanceFault;
 use session_checker::CheckFault;
 use std::alloc::AllocError;
 use thiserror::Error;
@@ -35,6 +37,9 @@ pub enum ToolFault {
     /// The pattern of a search has more than 4,096 bytes.
     #[error("refused F1")]
     PatternTooLong,
+    /// The rope of a tool is refused: its text is too long, or it is in too many pieces.
+    #[error("refused {0}")]
+    Rope(BalanceFault),
 }
 
 impl From<AddFault> for ToolFault {
@@ -87,6 +92,17 @@ impl From<FindFault> for ToolFault {
         match fault {
             FindFault::PatternTooLong => ToolFault::PatternTooLong,
             FindFault::Source(fault) => ToolFault::from(fault),
+        }
+    }
+}
+
+impl From<BalanceFault> for ToolFault {
+    ghost from_gives = { λ e f. f ≡ rope_fault e };
+
+    fn from(fault: BalanceFault) -> ToolFault {
+        match fault {
+            BalanceFault::Node(NodeFault::Memory) => ToolFault::Memory,
+            _ => ToolFault::Rope(fault),
         }
     }
 }

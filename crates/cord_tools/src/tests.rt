@@ -5,7 +5,9 @@ use crate::{
     run_stdin, sources_of,
 };
 use image_reader::ReadFault;
-use lazy_file::{AddFault, MemSources, Sources};
+use lazy_file::{AddFault, MemSources, SourceFault, Sources};
+use node_table::NodeFault;
+use rebalance::BalanceFault;
 use session_checker::CheckFault;
 use std::alloc::{AllocError, Global};
 use std::io;
@@ -81,7 +83,7 @@ enum End {
 /// Takes `room` bytes, one a write. It may be interrupted once.
 #[derive(Drop)]
 struct Sink {
-    held: [u8; 64],
+    held: [u8; 512],
     count: usize,
     room: usize,
     end: End,
@@ -91,7 +93,7 @@ struct Sink {
 impl Sink {
     fn with_room(room: usize, end: End) -> Sink {
         Sink {
-            held: [0; 64],
+            held: [0; 512],
             count: 0,
             room,
             end,
@@ -381,13 +383,18 @@ fn a_check_with_256_sources_is_refused(rt: HostRuntime) -> Result<(), Fail> {
     Ok(())
 }
 
-/// The texts as sources, each added once more where memory was refused.
+/// Adds a text, once more where memory was refused.
+fn add<'a>(sources: &mut MemSources<'a>, text: &'a [u8]) {
+    if sources.add(text) == Err(AddFault::Memory) {
+        let _ = sources.add(text);
+    }
+}
+
+/// The texts as sources.
 fn files<'a>(rt: &impl AllocGlobal, texts: &[&'a [u8]]) -> MemSources<'a> {
     let mut sources = MemSources::new(rt.alloc());
     for text in texts {
-        if sources.add(*text) == Err(AddFault::Memory) {
-            let _ = sources.add(*text);
-        }
+        add(&mut sources, *text);
     }
     sources
 }
@@ -535,6 +542,86 @@ fn files_are_joined_in_their_order(rt: HostRuntime) {
         assert_eq!(rt; outcome, expected, "at {room}");
         assert_eq!(rt; writer.taken(), &b"abcde"[..room.min(5)], "at {room}");
     }
+}
+
+/// Joins the sources. Where memory was refused, nothing was written, and it runs once more.
+fn join<T: Sources>(
+    rt: &(impl AllocGlobal + Abort),
+    sources: &mut T,
+    writer: &mut Sink,
+) -> Result<(), ToolFault> {
+    let outcome = run_join(rt.alloc(), sources, writer);
+    if outcome != Err(ToolFault::Memory) {
+        return outcome;
+    }
+    assert!(rt; writer.taken().is_empty());
+    run_join(rt.alloc(), sources, writer)
+}
+
+/// As many files would make a chain that is too deep, so their rope is put together anew.
+#[test]
+fn two_hundred_files_are_joined_in_their_order(rt: HostRuntime) {
+    let mut bytes = [0; 300];
+    for i in 0..bytes.len() {
+        bytes[i] = (i % 256) as u8;
+    }
+    let mut sources = MemSources::new(rt.alloc());
+    for three in bytes.chunks(3) {
+        let (one, two) = three.split_at(1);
+        add(&mut sources, one);
+        add(&mut sources, two);
+    }
+    assert_eq!(rt; sources.count(), 200);
+    let mut writer = Sink::with_room(512, End::Fails);
+    assert_eq!(rt; join(&rt, &mut sources, &mut writer), Ok(()));
+    assert_eq!(rt; writer.taken(), bytes.as_slice());
+}
+
+/// Two sources of 2^39 bytes, which state no text.
+#[derive(Drop)]
+struct Halves;
+
+const HALF: u64 = 1 << 39;
+
+impl Sources for Halves {
+    ghost use Rattle.std.specs.Prelude.{[], ◌∷◌, ◌^◌, None, false};
+
+    ghost sizes = { λ _. 2 ^ 39 ∷ 2 ^ 39 ∷ [] };
+
+    ghost texts = { λ _. None ∷ None ∷ [] };
+
+    ghost failures = { λ _. 0 };
+
+    ghost never_fails = { λ _. false };
+
+    fn count(&self) -> u8 {
+        2
+    }
+
+    fn len(&self, _s: u8) -> u64 {
+        HALF
+    }
+
+    fn read(&mut self, s: u8, off: u64, buffer: &mut [u8]) -> Result<(), SourceFault> {
+        if s > 1 || off > HALF || buffer.len() as u64 > HALF - off {
+            return Err(SourceFault::BadSource);
+        }
+        buffer.fill(b'x');
+        Ok(())
+    }
+}
+
+#[test]
+fn files_of_2_to_the_40_bytes_are_refused_before_a_write(rt: HostRuntime) -> Result<(), Fail> {
+    let alloc = rt.alloc();
+    let mut writer = Sink::with_room(64, End::Fails);
+    let outcome = join(&rt, &mut Halves, &mut writer);
+    let refused = ToolFault::Rope(BalanceFault::Node(NodeFault::TooLong));
+    assert_eq!(rt; outcome, Err(refused));
+    assert!(rt; writer.taken().is_empty());
+    let shown = format!(in alloc; "{refused}").or_else(|_| format!(in alloc; "{refused}"))?;
+    assert_eq!(rt; shown.as_str(), "refused N1");
+    Ok(())
 }
 
 #[test]

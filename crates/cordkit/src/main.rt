@@ -118,7 +118,8 @@ fn finish(rt: &HostRuntime, outcome: Result<Status, ToolFault>) -> ExitCode {
                 ToolFault::Refused(_)
                 | ToolFault::Source(_)
                 | ToolFault::NoRevision
-                | ToolFault::PatternTooLong => ExitCode::from(1),
+                | ToolFault::PatternTooLong
+                | ToolFault::Rope(_) => ExitCode::from(1),
                 ToolFault::Memory | ToolFault::Read | ToolFault::Write => ExitCode::from(3),
             }
         }
