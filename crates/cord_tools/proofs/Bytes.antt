@@ -1,9 +1,8 @@
 -- What is known of bytes read up to a limit, and where nothing is written.
-use Rattle.std.proofs.Common.{◌≡◌, ℕ, List, [], ◌++◌, take, Option, Some, None, refl, sym}
+use Rattle.std.proofs.Common.{◌≡◌, ℕ, List, [], ◌++◌, take, Option, Some, None, refl}
 use Rattle.std.specs.Prelude.{IfSome}
 use Rattle.std.specs.Option.{option_map}
-use Rattle.std.specs.Io.KnownBytes.{Appends, Keeps}
-use Rattle.std.proofs.lemmas.List.{append-nil}
+use Rattle.std.specs.Io.KnownBytes.{Keeps}
 
 -- what was read of the first n bytes
 pub read_up_to : {R : Type 0} (remaining : R → Option (List ℕ)) (inner reader : R) (limit n : ℕ) (old bytes : List ℕ) → inner ≡ reader → limit ≡ n → old ≡ []
@@ -18,7 +17,3 @@ read_up_to {R} remaining inner reader limit n old bytes same at none h =
 pub Keeps-same : (o : Option (List ℕ)) → Keeps o o
 Keeps-same None = tt
 Keeps-same (Some xs) = refl
-
-pub Appends-nothing : (o : Option (List ℕ)) → Appends o o []
-Appends-nothing None = tt
-Appends-nothing (Some xs) = sym (append-nil xs)

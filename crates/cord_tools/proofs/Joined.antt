@@ -19,7 +19,7 @@ use Rattle.cord_search.specs.Stated.{OfText}
 use Rattle.cord_tools.specs.Files.{OfAllFiles, cells_of_first, file_bytes, file_cells}
 use Rattle.cord_tools.proofs.Spans.{places_text}
 
-pub one_more : (sizes : List ℕ) (s : ℕ) → cells_of_first sizes (s + 1) ≡ cells_of_first sizes s ++ file_cells sizes s
+one_more : (sizes : List ℕ) (s : ℕ) → cells_of_first sizes (s + 1) ≡ cells_of_first sizes s ++ file_cells sizes s
 one_more sizes s =
     let file = file_cells sizes in
     let ids : (n : ℕ) → map (λ (k : ℕ). k) (range_with_len 0 n) ≡ range_with_len 0 n = λ n. map-id (range_with_len 0 n) in
@@ -27,8 +27,8 @@ one_more sizes s =
     sym (ids (s + 1)) ∙ map-range_with_len_more (λ (k : ℕ). k) 0 s s (omega arith) ∙ ap (λ (ns : List ℕ). ns ++ s ∷ []) (ids s) in
     ap (flat_map file) places ∙ flat_map-append file (range_with_len 0 s) (s ∷ []) ∙ ap (λ (cs : List Cell). cells_of_first sizes s ++ cs) (append-nil (file s))
 
--- they are as many as the sources are long
-pub length_of_first : (sizes : List ℕ) (n : ℕ) → n ≤ length sizes → length (cells_of_first sizes n) ≡ sum (take n sizes)
+-- there are as many as the sources have bytes
+length_of_first : (sizes : List ℕ) (n : ℕ) → n ≤ length sizes → length (cells_of_first sizes n) ≡ sum (take n sizes)
 length_of_first sizes zero within = refl
 length_of_first sizes (suc n) within =
     let next : suc n ≡ n + 1 = omega arith in
