@@ -32,6 +32,22 @@ static uint64_t join_leaves(uint64_t leaves) {
     return text.size();
 }
 
+// chains of a thousand such leaves joined one behind the other
+static uint64_t join_chains(uint64_t chains) {
+    std::string line(64, 'x');
+    crope leaf(line.c_str());
+    auto start = Clock::now();
+    crope text;
+    for (uint64_t k = 0; k < chains; k++) {
+        crope chain;
+        for (uint64_t j = 0; j < 1000; j++)
+            chain = chain + leaf;
+        text = text + chain;
+    }
+    report_of(("a leaf in chains, " + std::to_string(chains * 1000) + " joined").c_str(), start, chains * 1000);
+    return text.size();
+}
+
 // insertions of ten bytes into a text of a megabyte
 static uint64_t insert(crope text, uint64_t edits) {
     auto start = Clock::now();
@@ -76,6 +92,7 @@ int main() {
     }
     for (uint64_t leaves : {1000, 4000, 16000})
         sum += join_leaves(leaves);
+    sum += join_chains(100);
     crope flat(std::string(1 << 20, 'x').c_str());
     for (uint64_t edits : {1000, 2500, 5000})
         sum += insert(flat, edits);

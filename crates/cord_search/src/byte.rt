@@ -1,4 +1,4 @@
-//! The length of a rope's text, and its bytes one by one.
+//! A text's bytes one by one.
 
 ghost use Rattle.std.specs.Prelude.{◌≡◌, ◌<◌, ◌≤◌, ◌+◌, ◌^◌, ℕ, true, length, slice_get, IfOk, IfErr, IsOk};
 ghost use Rattle.rope_node.specs.Denotes.{rope_cells, IsRope};
@@ -7,19 +7,7 @@ ghost use Rattle.cord_search.specs.Stated.{OfText};
 
 use cord_position::fetch_byte;
 use lazy_file::{SourceFault, Sources};
-use rope_node::{NodeSpace, Rope};
-
-/// The length of a rope's text.
-pub fn text_len<S: NodeSpace>(space: &S, rope: Rope) -> u64
-    requires { IsRope (S.table space.now) rope }
-    ensures exact { result ≡ length (rope_cells (S.table space.now) rope) }
-    ensures short { result < 2 ^ 40 }
-{
-    match rope {
-        None => 0,
-        Some(node) => space.len(node),
-    }
-}
+use rope_node::{NodeSpace, Rope, rope_len};
 
 /// The byte `k` behind `start`, if the text goes so far.
 pub fn byte_at<S: NodeSpace, T: Sources>(
@@ -38,7 +26,7 @@ pub fn byte_at<S: NodeSpace, T: Sources>(
     ensures texts { T.texts sources.new ≡ T.texts sources.old }
     ensures never_fails { T.never_fails sources.new ≡ T.never_fails sources.old }
 {
-    let len = text_len(space, rope);
+    let len = rope_len(space, rope);
     if start >= len || k >= len - start {
         return Ok(None);
     }

@@ -6,9 +6,9 @@ ghost use Rattle.cord_search.specs.Order.{order};
 ghost use Rattle.cord_search.specs.Stated.{OfTexts, IsOrderOfParts};
 ghost use Rattle.cord_search.specs.Faults.{IsFaultOfTwo};
 
-use crate::byte::{byte_at, text_len};
+use crate::byte::byte_at;
 use lazy_file::{SourceFault, Sources};
-use rope_node::{NodeSpace, Rope};
+use rope_node::{NodeSpace, Rope, rope_len};
 use std::cmp::Ordering;
 
 /// The order of `n` bytes of one text from `i` on and `n` bytes of another from `j` on, or of as many as there are.
@@ -71,6 +71,6 @@ pub fn cmp<S: NodeSpace, T: Sources>(
     ensures texts { T.texts sources.new ≡ T.texts sources.old }
     ensures never_fails { T.never_fails sources.new ≡ T.never_fails sources.old }
 {
-    let n = text_len(space, x).max(text_len(space, y));
+    let n = rope_len(space, x).max(rope_len(space, y));
     ncmp(space, sources, x, 0, y, 0, n)
 }

@@ -6,9 +6,9 @@ ghost use Rattle.cord_position.specs.Fetched.{IsFaultAmong};
 ghost use Rattle.cord_search.specs.Places.{IsFirst, IsLast};
 ghost use Rattle.cord_search.specs.Stated.{OfText};
 
-use crate::byte::{byte_at, text_len};
+use crate::byte::byte_at;
 use lazy_file::{SourceFault, Sources};
-use rope_node::{NodeSpace, Rope};
+use rope_node::{NodeSpace, Rope, rope_len};
 
 /// The first place of the byte `c` from `i` on.
 ///
@@ -33,7 +33,7 @@ pub fn chr<S: NodeSpace, T: Sources>(
     ensures texts { T.texts sources.new ≡ T.texts sources.old }
     ensures never_fails { T.never_fails sources.new ≡ T.never_fails sources.old }
 {
-    for place in i..text_len(space, x) {
+    for place in i..rope_len(space, x) {
         if byte_at(space, sources, x, place, 0)? == Some(c) {
             return Ok(Some(place));
         }
@@ -62,7 +62,7 @@ pub fn rchr<S: NodeSpace, T: Sources>(
     ensures texts { T.texts sources.new ≡ T.texts sources.old }
     ensures never_fails { T.never_fails sources.new ≡ T.never_fails sources.old }
 {
-    let mut place = text_len(space, x).min(i.saturating_add(1));
+    let mut place = rope_len(space, x).min(i.saturating_add(1));
     while place > 0 {
         place -= 1;
         if byte_at(space, sources, x, place, 0)? == Some(c) {

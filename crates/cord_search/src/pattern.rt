@@ -7,10 +7,10 @@ ghost use Rattle.cord_search.specs.Places.{IsFirst};
 ghost use Rattle.cord_search.specs.Stated.{OfText};
 ghost use Rattle.cord_search.specs.Faults.{IsFindFault};
 
-use crate::byte::{byte_at, text_len};
+use crate::byte::byte_at;
 use crate::fault::FindFault;
 use lazy_file::{SourceFault, Sources};
-use rope_node::{NodeSpace, Rope};
+use rope_node::{NodeSpace, Rope, rope_len};
 
 /// The most bytes in a pattern.
 pub const PATTERN_LIMIT: usize = 4096;
@@ -67,7 +67,7 @@ pub fn find<S: NodeSpace, T: Sources>(
     if pattern.len() > PATTERN_LIMIT {
         return Err(FindFault::PatternTooLong);
     }
-    let places = (text_len(space, x) + 1).saturating_sub(pattern.len() as u64);
+    let places = (rope_len(space, x) + 1).saturating_sub(pattern.len() as u64);
     for place in start..places {
         if stands_at(space, sources, x, place, pattern)? {
             return Ok(Some(place));

@@ -9,11 +9,11 @@ ghost use Rattle.cord_search.specs.Stated.{OfText};
 ghost use Rattle.cord_search.specs.Faults.{IsPutFault};
 ghost use Rattle.cord_search.specs.declared.fault.PutFault.TheVariants.{Write};
 
-use crate::byte::{byte_at, text_len};
+use crate::byte::byte_at;
 use crate::fault::PutFault;
 use crate::output::write_bytes;
 use lazy_file::{SourceFault, Sources};
-use rope_node::{NodeSpace, Rope};
+use rope_node::{NodeSpace, Rope, rope_len};
 use std::io;
 
 /// How many bytes are fetched before they are written.
@@ -67,7 +67,7 @@ pub fn put<S: NodeSpace, T: Sources, W: io::Write>(
     ensures texts { T.texts sources.new ≡ T.texts sources.old }
     ensures never_fails { T.never_fails sources.new ≡ T.never_fails sources.old }
 {
-    let len = text_len(space, x);
+    let len = rope_len(space, x);
     let mut chunk = [0; CHUNK];
     let mut done = 0;
     while done < len {

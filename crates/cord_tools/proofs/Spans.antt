@@ -16,7 +16,7 @@ use Rattle.node_table.specs.declared.fault.NodeFault.{NodeFault}
 use Rattle.node_table.specs.declared.fault.NodeFault.TheVariants.{Memory, TooLong, TooDeep, TableFull, PoolFull, BadSpan, TooManySources}
 use Rattle.rope_store.specs.Additions.{after, new_node, source_added}
 use Rattle.rope_store.specs.Refusals.{Refuses}
-use Rattle.rope_store.proofs.Pools.{appended_nothing}
+use Rattle.leaf_buffer.proofs.Appending.{appended_nothing}
 use Rattle.lazy_file.specs.SourceTexts.{AreSizes, text_at}
 use Rattle.lazy_file.specs.declared.sources.TheConstants.{SOURCE_LIMIT}
 use Rattle.cord_position.specs.Fetched.{AreStated, IsStated}

@@ -1,3 +1,4 @@
+pub mod Appending
 pub mod Consecutive
 pub mod Growth
 pub mod Pieces

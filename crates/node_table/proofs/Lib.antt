@@ -1,2 +1,2 @@
 pub mod Growing
-pub mod Pools
+pub mod LiteralRest

@@ -15,7 +15,7 @@ use Rattle.rope_store.specs.Appending.{Appends, IsTooLong}
 use Rattle.rope_store.specs.Joining.{joined}
 use Rattle.rope_store.specs.Refusals.{Refuses}
 use Rattle.rope_store.proofs.CallSizes.{joined_few, joined_shallow, part_few, part_shallow, sized_append}
-use Rattle.rope_store.proofs.Pools.{appended_bytes}
+use Rattle.leaf_buffer.proofs.Appending.{appended_bytes}
 use Rattle.rebalance.specs.AnyForms.{Anew, AppendsAny, IsPlaced, lifted}
 use Rattle.rebalance.specs.Balancing.{Rebalances}
 use Rattle.rebalance.specs.Pieces.{rope_pieces}

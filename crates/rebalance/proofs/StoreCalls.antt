@@ -14,7 +14,7 @@ use Rattle.node_table.specs.declared.fault.NodeFault.TheVariants.{TooLong, TooDe
 use Rattle.node_table.specs.Held.{Held, table_of, node_of}
 use Rattle.rope_store.specs.Additions.{Addition, Makes, pool_with, new_node, inner_part, node_part, part_added}
 use Rattle.rope_store.specs.Refusals.{Refuses, IsTooDeep, deepest}
-use Rattle.rope_store.proofs.Pools.{appended_bytes}
+use Rattle.leaf_buffer.proofs.Appending.{appended_bytes}
 use Rattle.rope_store.proofs.PartTexts.{some_part}
 use Rattle.rebalance.specs.Slots.{IsPiece}
 use Rattle.rebalance.specs.Steps.{IsStepFault, Grows, Steps}

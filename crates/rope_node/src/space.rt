@@ -1,7 +1,7 @@
 //! What every table of nodes offers.
 
 ghost use Rattle.std.specs.Prelude.{◌≡◌, ◌<◌, ◌≤◌, ◌^◌, ℕ, length, take, drop, get_or};
-ghost use Rattle.rope_node.specs.Denotes.{rope_len, IsRope};
+ghost use Rattle.rope_node.specs.Denotes.{rope_cells, rope_len, IsRope};
 ghost use Rattle.rope_node.specs.Table.{Table, view_at, len_at, depth_at, IsSound, HasTrueRecords, IsLiteral, IsFunction, literal_bytes};
 ghost use Rattle.rope_node.specs.Coded.{AnswersCoded};
 ghost use Rattle.function_leaf.specs.declared.coded.Coded.{Coded};
@@ -87,10 +87,11 @@ pub trait CodedSpace: NodeSpace {
         ensures answers { AnswersCoded (Self.NodeSpace.table self.now) id.0 result };
 }
 
-/// The length of a rope in bytes, 0 for nil.
+/// The length of a rope's text in bytes, 0 for nil.
 pub fn rope_len<S: NodeSpace>(space: &S, rope: Rope) -> u64
     requires { IsRope (S.table space.now) rope }
     ensures exact { result ≡ rope_len (S.table space.now) rope }
+    ensures cells { result ≡ length (rope_cells (S.table space.now) rope) }
     ensures short { result < 2 ^ 40 }
 {
     match rope {

@@ -1,5 +1,5 @@
 -- How much a call of the store adds, and how deep its nodes are.
-use Rattle.std.proofs.Common.{◌≡◌, ℕ, zero, suc, ◌+◌, ◌-◌, ◌<◌, ◌≤◌, min, max, Bool, true, false, if◌then◌else◌, nat_le, nat_eq, List, [], ◌∷◌, ◌++◌, length, take, drop, get_or, inl, inr, Option, Some, None, refl, sym, ap, subst, ◌∙◌, arith, length-append}
+use Rattle.std.proofs.Common.{◌≡◌, ℕ, zero, suc, ◌+◌, ◌-◌, ◌<◌, ◌≤◌, min, Bool, true, false, if◌then◌else◌, nat_le, nat_eq, List, [], ◌∷◌, ◌++◌, length, take, drop, get_or, inl, inr, Option, Some, None, refl, sym, ap, subst, arith, length-append}
 use Rattle.std.proofs.lemmas.Bool.{cases_lt, cases_eq, leb-true, cond_both}
 use Rattle.std.proofs.Math.Seq.{take-length, take-append_seam}
 use Rattle.std.proofs.lemmas.Option.{same_Some}
@@ -10,7 +10,7 @@ use Rattle.rope_node.specs.declared.node.NodeView.TheVariants.{Lit, Src, Fun, Ca
 use Rattle.rope_node.specs.Table.{Table, view_at, len_at, depth_at, depth_of, IsLiteral, IsSound, HasTrueRecords}
 use Rattle.rope_node.specs.Denotes.{rope_depth, IsRope}
 use Rattle.rope_store.specs.declared.endings.Ending.{Ending}
-use Rattle.rope_store.specs.Additions.{Addition, nothing, concatenated, inner_part, node_part, part_added}
+use Rattle.rope_store.specs.Additions.{Addition, nothing, inner_part, node_part, part_added}
 use Rattle.rope_store.specs.Appending.{place_of, grown, merged_after, copied, IsAppendTo, IsAppend}
 use Rattle.rope_store.specs.Joining.{most_merged, ending_of, short_ending, ending_for, piece, merged, nodes_joined, joined, IsShortEnding}
 use Rattle.rope_store.specs.Refusals.{deepest, IsTooDeep}

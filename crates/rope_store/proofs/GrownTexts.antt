@@ -15,7 +15,9 @@ use Rattle.rope_store.specs.Kept.{IsStore}
 use Rattle.rope_store.specs.Additions.{literal_record, concatenation_record, new_node}
 use Rattle.rope_store.specs.Joining.{piece}
 use Rattle.rope_store.specs.Appending.{place_of, grown, merged_after}
-use Rattle.rope_store.proofs.Pools.{grows_itself, grows_extended, grows_appended, appended_bytes, in_one_block_appended, in_one_block_inside, in_one_block_grown, slice_grown, slice_at_end}
+use Rattle.leaf_buffer.proofs.Appending.{appended_bytes, in_one_block_appended}
+use Rattle.leaf_buffer.proofs.Pieces.{in_one_block_part}
+use Rattle.rope_store.proofs.Pools.{grows_itself, grows_extended, grows_appended, in_one_block_grown, slice_grown, slice_at_end}
 use Rattle.rope_store.proofs.Growth.{holds_of, holds_after, sound_of, extends_with}
 use Rattle.rope_store.proofs.Nodes.{IsGood, literal_good, then_good}
 use Rattle.rope_store.proofs.MergedTexts.{good_as, rejoined_good}
@@ -84,10 +86,10 @@ after_good {F = F} meaning h store None xs ys there some more fits short shallow
     let h1 : Held F = with_records h pool (lit1 ∷ []) in
     let t1 = table_of meaning h1 in
     let one : IsGood meaning h pool (lit1 ∷ []) (Some (new_node t 0)) (map Byte (slice_range pool.bytes start (start + length xs))) =
-    literal_good meaning h pool start (length xs) holds grows (in_one_block_inside pool start (length (xs ++ ys)) start (length xs) whole (omega arith) (omega (arith, count))) some (omega (arith, fits)) in
+    literal_good meaning h pool start (length xs) holds grows (in_one_block_part pool start (length (xs ++ ys)) start (length xs) whole (omega arith) (omega (arith, count))) some (omega (arith, fits)) in
     let two : IsGood meaning h1 pool (lit2 ∷ []) (Some (new_node t1 0)) (map Byte (slice_range pool.bytes (start + length xs) (start + length xs + length ys))) =
     literal_good meaning h1 pool (start + length xs) (length ys) (holds_after meaning h pool (lit1 ∷ []) holds grows one.can) (grows_itself pool grows.borders)
-    (in_one_block_inside pool start (length (xs ++ ys)) (start + length xs) (length ys) whole (omega arith) (omega (arith, count))) more (omega (arith, fits)) in
+    (in_one_block_part pool start (length (xs ++ ys)) (start + length xs) (length ys) whole (omega arith) (omega (arith, count))) more (omega (arith, fits)) in
     let many : length h1.nodes ≡ length h.nodes + 1 = length-append h.nodes (node_of lit1 ∷ []) in
     let last : Some (new_node t1 0) ≡ Some (new_node t 1) = ap (λ (n : ℕ). let r : Option NodeId = Some (record { 0 = n }) in r) (omega (arith, many)) in
     good_as meaning h pool (lit1 ∷ lit2 ∷ []) (Some (new_node t1 0)) (Some (new_node t 1)) (map Byte (slice_range pool.bytes (start + length xs) (start + length xs + length ys))) (map Byte ys) last (λ few. ap (map Byte) (second_slice h.pool xs ys))
@@ -108,14 +110,14 @@ after_good {F = F} meaning h store (Some l) xs ys there some more fits short sha
     let llen : len_at t1 l.0 ≡ len_at t l.0 = len_kept t t1 e l.0 there in
     let ldepth : depth_at t1 l.0 ≡ depth_at t l.0 = depth_kept t t1 e l.0 there in
     let one : IsGood meaning h pool (lit1 ∷ []) (Some (new_node t 0)) (map Byte (slice_range pool.bytes start (start + length xs))) =
-    literal_good meaning h pool start (length xs) holds grows (in_one_block_inside pool start (length (xs ++ ys)) start (length xs) whole (omega arith) (omega (arith, count))) some (omega (arith, fits)) in
+    literal_good meaning h pool start (length xs) holds grows (in_one_block_part pool start (length (xs ++ ys)) start (length xs) whole (omega arith) (omega (arith, count))) some (omega (arith, fits)) in
     let many : length h1.nodes ≡ length h.nodes + 1 = length-append h.nodes (node_of lit1 ∷ []) in
     let slice = slice_range pool.bytes (start + length xs) (start + length xs + length ys) in
     let cat1 : Record F = concatenation_record l (new_node t1 0) (len_at t1 l.0 + length ys) (1 + depth_at t1 l.0) in
     let cat : Record F = concatenation_record l (new_node t 1) (len_at t l.0 + length ys) (1 + depth_at t l.0) in
     let two : IsGood meaning h1 pool (lit2 ∷ cat1 ∷ []) (Some (new_node t1 1)) (cells t1 l.0 ++ map Byte slice) =
     rejoined_good meaning h1 pool l (start + length xs) (length ys) (holds_after meaning h pool (lit1 ∷ []) holds grows one.can) (grows_itself pool grows.borders)
-    (in_one_block_inside pool start (length (xs ++ ys)) (start + length xs) (length ys) whole (omega arith) (omega (arith, count))) more (omega (arith, there, many)) (omega (arith, llen, short)) (omega (arith, ldepth, shallow)) in
+    (in_one_block_part pool start (length (xs ++ ys)) (start + length xs) (length ys) whole (omega arith) (omega (arith, count))) more (omega (arith, there, many)) (omega (arith, llen, short)) (omega (arith, ldepth, shallow)) in
     let node : length h1.nodes + 0 ≡ length h.nodes + 1 = omega (arith, many) in
     let same : cat1 ≡ cat = rw (node, llen, ldepth) refl in
     let last : Some (new_node t1 1) ≡ Some (new_node t 2) = ap (λ (n : ℕ). let r : Option NodeId = Some (record { 0 = n }) in r) (omega (arith, many)) in

@@ -1,20 +1,17 @@
 -- A table with more nodes behind its own.
-use Rattle.std.proofs.Common.{◌≡◌, ℕ, ◌+◌, ◌^◌, ◌<◌, ◌≤◌, List, [], ◌∷◌, ◌++◌, length, map, get_or, Option, Some, None, refl, sym, ap, subst, ◌∙◌, arith, length-append, append_assoc, ⊎_elim}
+use Rattle.std.proofs.Common.{◌≡◌, ℕ, ◌+◌, ◌^◌, ◌<◌, ◌≤◌, List, [], ◌∷◌, ◌++◌, length, map, get_or, Option, None, refl, sym, ap, subst, ◌∙◌, arith, length-append, append_assoc, ⊎_elim}
 use Rattle.std.proofs.lemmas.Bool.{cases_lt}
 use Rattle.std.proofs.lemmas.List.{length-map, map-append, get_or_append_left, get_or_push}
-use Rattle.leaf_buffer.specs.Contents.{Contents, KeepsPieces}
-use Rattle.rope_node.specs.declared.node.NodeView.{NodeView}
-use Rattle.rope_node.specs.declared.node.NodeView.TheVariants.{Lit, Src, Fun, Cat, Sub}
+use Rattle.leaf_buffer.specs.Contents.{Contents}
 use Rattle.rope_node.specs.Table.{Node, no_node, node_at, IsSound, IsSoundNode, IsTrueNode, HasTrueRecords}
 use Rattle.rope_node.specs.Denotes.{cells, node_cells}
 use Rattle.rope_node.specs.Extends.{Extends}
 use Rattle.rope_node.proofs.Cells.{cells_at}
-use Rattle.rope_node.proofs.Extensions.{sound_kept, true_kept}
 use Rattle.node_table.specs.declared.record.Record.{Record}
 use Rattle.node_table.specs.Held.{Held, node_of, function_of, table_of, with_records, most_nodes, IsKept, IsKeptNode, IsGoodNode, CanHold}
 use Rattle.node_table.proofs.Growing.{extends_records, good_kept}
 use Rattle.rope_store.specs.Kept.{IsStore}
-use Rattle.rope_store.proofs.Pools.{Grows}
+use Rattle.rope_store.proofs.Pools.{PoolGrows}
 
 -- the rules of a table but for its sizes
 pub record Holds {F : Type 0} (meaning : F → ℕ → ℕ) (h : Held F) : Type 0 where
@@ -32,16 +29,16 @@ pub true_of : {F : Type 0} (meaning : F → ℕ → ℕ) (h : Held F) → Holds 
 true_of meaning h holds = record { nodes = λ id lt. (holds.nodes id lt).true_record }
 
 -- more nodes and a longer pool extend a table
-pub extends_with : {F : Type 0} (meaning : F → ℕ → ℕ) (h : Held F) (pool : Contents) (rs : List (Record F)) → length h.functions ≡ length h.nodes → Grows h.pool pool → Extends (table_of meaning h) (table_of meaning (with_records h pool rs))
+pub extends_with : {F : Type 0} (meaning : F → ℕ → ℕ) (h : Held F) (pool : Contents) (rs : List (Record F)) → length h.functions ≡ length h.nodes → PoolGrows h.pool pool → Extends (table_of meaning h) (table_of meaning (with_records h pool rs))
 extends_with meaning h pool rs same grows = extends_records meaning h pool rs same grows.pieces grows.longer
 
 -- a node keeps its rules
-good_stays : {F : Type 0} (meaning : F → ℕ → ℕ) (h : Held F) (pool : Contents) (rs : List (Record F)) → length h.functions ≡ length h.nodes → Grows h.pool pool → (id : ℕ) → id < length h.nodes → IsGoodNode meaning h id → IsGoodNode meaning (with_records h pool rs) id
+good_stays : {F : Type 0} (meaning : F → ℕ → ℕ) (h : Held F) (pool : Contents) (rs : List (Record F)) → length h.functions ≡ length h.nodes → PoolGrows h.pool pool → (id : ℕ) → id < length h.nodes → IsGoodNode meaning h id → IsGoodNode meaning (with_records h pool rs) id
 good_stays meaning h pool rs same grows id lt good =
     good_kept meaning h (with_records h pool rs) (extends_with meaning h pool rs same grows) grows.pieces id lt
     (get_or_append_left h.functions (map function_of rs) None id (omega arith)) good
 
-pub holds_after : {F : Type 0} (meaning : F → ℕ → ℕ) (h : Held F) (pool : Contents) (rs : List (Record F)) → Holds meaning h → Grows h.pool pool → CanHold meaning h pool rs → Holds meaning (with_records h pool rs)
+pub holds_after : {F : Type 0} (meaning : F → ℕ → ℕ) (h : Held F) (pool : Contents) (rs : List (Record F)) → Holds meaning h → PoolGrows h.pool pool → CanHold meaning h pool rs → Holds meaning (with_records h pool rs)
 holds_after meaning h pool rs holds grows can = record {
   nodes = λ id lt.
       ⊎_elim (λ (below : id < length h.nodes). good_stays meaning h pool rs holds.functions grows id below (holds.nodes id below))
@@ -51,7 +48,7 @@ holds_after meaning h pool rs holds grows can = record {
 }
 
 -- a store stays one
-pub store_after : {F : Type 0} (meaning : F → ℕ → ℕ) (h : Held F) (pool : Contents) (rs : List (Record F)) → IsStore meaning h → Grows h.pool pool → CanHold meaning h pool rs → length h.nodes + length rs ≤ most_nodes → length pool.bytes < 2 ^ 32 → IsStore meaning (with_records h pool rs)
+pub store_after : {F : Type 0} (meaning : F → ℕ → ℕ) (h : Held F) (pool : Contents) (rs : List (Record F)) → IsStore meaning h → PoolGrows h.pool pool → CanHold meaning h pool rs → length h.nodes + length rs ≤ most_nodes → length pool.bytes < 2 ^ 32 → IsStore meaning (with_records h pool rs)
 store_after meaning h pool rs store grows can few short =
     let holds = holds_after meaning h pool rs (holds_of meaning h store.table) grows can in
     record {
@@ -76,7 +73,7 @@ with_records_twice h pool rs ss =
     λ i. record { nodes = nodes i; functions = functions i; pool = pool; sources = h.sources }
 
 -- what is put behind nodes that are put behind others
-pub can_hold_both : {F : Type 0} (meaning : F → ℕ → ℕ) (h : Held F) (pool : Contents) (rs ss : List (Record F)) → Holds meaning h → Grows h.pool pool → CanHold meaning h pool rs → CanHold meaning (with_records h pool rs) pool ss → CanHold meaning h pool (rs ++ ss)
+pub can_hold_both : {F : Type 0} (meaning : F → ℕ → ℕ) (h : Held F) (pool : Contents) (rs ss : List (Record F)) → Holds meaning h → PoolGrows h.pool pool → CanHold meaning h pool rs → CanHold meaning (with_records h pool rs) pool ss → CanHold meaning h pool (rs ++ ss)
 can_hold_both {F = F} meaning h pool rs ss holds grows first second =
     let one = holds_after meaning h pool rs holds grows first in
     let both = holds_after meaning (with_records h pool rs) pool ss one (record { pieces = record { in_one_block = λ a n k. k; bytes = λ a n k. refl }; longer = omega arith; borders = grows.borders }) second in

@@ -15,7 +15,8 @@ use Rattle.node_table.specs.Held.{Held, table_of, most_sources}
 use Rattle.node_table.proofs.Growing.{kept_source}
 use Rattle.rope_store.specs.Kept.{IsStore}
 use Rattle.rope_store.specs.Additions.{Addition, literal_record, source_record, function_record, new_node, one_node, one_literal, bytes_added, function_added, source_added}
-use Rattle.rope_store.proofs.Pools.{grows_appended, appended_bytes, in_one_block_appended, slice_at_end}
+use Rattle.leaf_buffer.proofs.Appending.{appended_bytes, in_one_block_appended}
+use Rattle.rope_store.proofs.Pools.{grows_appended, slice_at_end}
 use Rattle.rope_store.proofs.Growth.{holds_of}
 use Rattle.rope_store.proofs.Nodes.{IsGood, literal_good, source_good, function_good}
 

@@ -15,14 +15,15 @@ use Rattle.node_table.specs.Held.{Held, table_of, with_records, most_nodes}
 use Rattle.rope_store.specs.Kept.{IsStore}
 use Rattle.rope_store.specs.Additions.{Addition, pool_with, after, nothing, Makes}
 use Rattle.rope_store.specs.Refusals.{deepest, IsTooDeep, IsTableFull, IsPoolFull, Refuses}
-use Rattle.rope_store.proofs.Pools.{Grows, grows_extended, grows_appended, appended_nothing}
+use Rattle.leaf_buffer.proofs.Appending.{appended_nothing}
+use Rattle.rope_store.proofs.Pools.{PoolGrows, grows_extended, grows_appended}
 use Rattle.rope_store.proofs.Growth.{extends_with}
 use Rattle.rope_store.proofs.Nodes.{IsGood}
 
 pub after_nothing : {F : Type 0} (h : Held F) (rope : Option NodeId) → after h (nothing rope) ≡ h
 after_nothing h rope = λ i. record { nodes = append-nil h.nodes i; functions = append-nil h.functions i; pool = appended_nothing h.pool i; sources = h.sources }
 
-pub makes : {F : Type 0} (meaning : F → ℕ → ℕ) (h : Held F) (a : Addition F) (wanted : List Cell) → length h.functions ≡ length h.nodes → Grows h.pool (pool_with h.pool a.in_place a.bytes) → IsGood meaning h (pool_with h.pool a.in_place a.bytes) a.records a.rope wanted
+pub makes : {F : Type 0} (meaning : F → ℕ → ℕ) (h : Held F) (a : Addition F) (wanted : List Cell) → length h.functions ≡ length h.nodes → PoolGrows h.pool (pool_with h.pool a.in_place a.bytes) → IsGood meaning h (pool_with h.pool a.in_place a.bytes) a.records a.rope wanted
     → (result : Result (Option NodeId) NodeFault) (new : Held F) → OnOk result (new ≡ after h a) → IfOk result (λ rope. rope ≡ a.rope) → IsStore meaning new → OnErr result (new ≡ h) → Makes meaning h a wanted result new
 makes {F = F} meaning h a wanted same grows good (Ok x) new ok rope stored err =
     let store : IsStore meaning (after h a) = subst (λ (k : Held F). IsStore meaning k) ok stored in

@@ -13,7 +13,8 @@ use Rattle.node_table.specs.Held.{Held, node_of, table_of, with_records}
 use Rattle.rope_store.specs.Kept.{IsStore}
 use Rattle.rope_store.specs.Additions.{literal_record, concatenation_record, new_node}
 use Rattle.rope_store.specs.Joining.{merged}
-use Rattle.rope_store.proofs.Pools.{Grows, grows_itself, grows_appended, appended_bytes, in_one_block_appended, slice_at_end}
+use Rattle.leaf_buffer.proofs.Appending.{appended_bytes, in_one_block_appended}
+use Rattle.rope_store.proofs.Pools.{PoolGrows, grows_itself, grows_appended, slice_at_end}
 use Rattle.rope_store.proofs.Growth.{Holds, holds_of, holds_after, sound_of, extends_with}
 use Rattle.rope_store.proofs.Nodes.{IsGood, literal_good, concatenation_good, then_good}
 use Rattle.rope_store.proofs.LeafTexts.{bytes_good}
@@ -25,7 +26,7 @@ good_as meaning h pool rs rope rope' wanted wanted' same text good =
     record { can = moved.can; is_rope = moved.is_rope; text = λ short. moved.text short ∙ text short }
 
 -- a new literal over a span, and a node over it and what stands before it
-pub rejoined_good : {F : Type 0} (meaning : F → ℕ → ℕ) (h : Held F) (pool : Contents) (l : NodeId) (a k : ℕ) → Holds meaning h → Grows h.pool pool → IsInOneBlock pool a k → 1 ≤ k → l.0 < length h.nodes → len_at (table_of meaning h) l.0 + k < 2 ^ 40 → 1 + depth_at (table_of meaning h) l.0 ≤ 64
+pub rejoined_good : {F : Type 0} (meaning : F → ℕ → ℕ) (h : Held F) (pool : Contents) (l : NodeId) (a k : ℕ) → Holds meaning h → PoolGrows h.pool pool → IsInOneBlock pool a k → 1 ≤ k → l.0 < length h.nodes → len_at (table_of meaning h) l.0 + k < 2 ^ 40 → 1 + depth_at (table_of meaning h) l.0 ≤ 64
     → IsGood meaning h pool (literal_record a k ∷ concatenation_record l (new_node (table_of meaning h) 0) (len_at (table_of meaning h) l.0 + k) (1 + depth_at (table_of meaning h) l.0) ∷ []) (Some (new_node (table_of meaning h) 1)) (cells (table_of meaning h) l.0 ++ map Byte (slice_range pool.bytes a (a + k)))
 rejoined_good {F = F} meaning h pool l a k holds grows span some there short shallow =
     let t = table_of meaning h in

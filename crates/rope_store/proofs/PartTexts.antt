@@ -2,7 +2,7 @@
 use Rattle.std.proofs.Common.{◌≡◌, ℕ, zero, suc, ◌+◌, ◌-◌, ◌<◌, ◌≤◌, min, eqb, List, [], ◌∷◌, length, map, get_or, take, drop, Some, None, refl, sym, ap, subst, ◌∙◌, arith, length-drop}
 use Rattle.std.specs.List.{slice_range, range_with_len}
 use Rattle.std.proofs.lemmas.Bool.{cond_both, eqb-true, eqb-false}
-use Rattle.std.proofs.lemmas.List.{take_min, take-take, drop-take, drop-drop, take-map, drop-map, take_all}
+use Rattle.std.proofs.lemmas.List.{take_min, take-map, drop-map, take_all}
 use Rattle.leaf_buffer.specs.Contents.{Contents, IsInOneBlock, appended}
 use Rattle.rope_node.specs.declared.node.NodeId.{NodeId}
 use Rattle.rope_node.specs.declared.node.NodeView.TheVariants.{Lit, Src, Sub}
@@ -13,7 +13,9 @@ use Rattle.rope_node.proofs.Parts.{span_within, span-range_with_len}
 use Rattle.node_table.specs.Held.{Held, table_of}
 use Rattle.rope_store.specs.Kept.{IsStore}
 use Rattle.rope_store.specs.Additions.{Addition, literal_record, source_record, part_record, new_node, nothing, inner_part, node_part}
-use Rattle.rope_store.proofs.Pools.{grows_appended, appended_nothing, in_one_block_inside}
+use Rattle.leaf_buffer.proofs.Appending.{appended_nothing}
+use Rattle.leaf_buffer.proofs.Pieces.{in_one_block_part}
+use Rattle.rope_store.proofs.Pools.{grows_appended}
 use Rattle.rope_store.proofs.Growth.{holds_of, sound_of}
 use Rattle.rope_store.proofs.Nodes.{IsGood, literal_good, source_good, part_good}
 
@@ -58,7 +60,7 @@ literal_part_good {F = F} meaning h store x a i n there is some inside =
     let sound = sound_of meaning h holds store.table.pool in
     let good = holds.nodes x.0 there in
     let span : IsInOneBlock h.pool a len = rw is at good.kept in
-    let part : IsInOneBlock h.pool (a + i) n = in_one_block_inside h.pool a len (a + i) n span (omega arith) (omega arith) in
+    let part : IsInOneBlock h.pool (a + i) n = in_one_block_part h.pool a len (a + i) n span (omega arith) (omega arith) in
     let same = appended_nothing h.pool in
     let size : a + len - a ≡ len = omega arith in
     let less : a + i + n - (a + i) ≡ n = omega arith in

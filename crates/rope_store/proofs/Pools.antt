@@ -1,38 +1,38 @@
 -- What stays of a pool that grows, and where new bytes lie.
 use Rattle.std.proofs.Common.{◌≡◌, ℕ, ◌+◌, ◌-◌, ◌<◌, ◌≤◌, leb, List, [], ◌++◌, length, take, drop, slice_range, refl, sym, ap, ◌∙◌, arith, length-append, length-drop}
 use Rattle.std.specs.Prelude.{All}
-use Rattle.std.proofs.lemmas.Bool.{cond_both, le-leb, leb-false}
+use Rattle.std.proofs.lemmas.Bool.{cond_both, leb-false}
 use Rattle.std.proofs.lemmas.List.{append-nil, drop-append-le}
 use Rattle.std.proofs.lemmas.List.Elements.{All-push}
 use Rattle.std.proofs.Math.Seq.{take-append_seam, drop-append_seam, take-append-add}
 use Rattle.leaf_buffer.specs.Contents.{Contents, IsInOneBlock, IsLastPiece, KeepsPieces, extended, with_block, appended}
-use Rattle.leaf_buffer.proofs.Pieces.{KeepsPieces-extended, KeepsPieces-with_block, in_one_block_extended, in_one_block_with_block}
+use Rattle.leaf_buffer.proofs.Pieces.{KeepsPieces-extended, KeepsPieces-with_block}
 
 -- no block of the pool is empty
 abbrev pub HasFullBlocks : Contents → Type 0
 HasFullBlocks pool = All (λ border. border < length pool.bytes) pool.borders
 
 -- what is true of a pool and of one that grew out of it
-pub record Grows (old new : Contents) : Type 0 where
+pub record PoolGrows (old new : Contents) : Type 0 where
   pub pieces : KeepsPieces old new
   pub longer : length old.bytes ≤ length new.bytes
   pub borders : HasFullBlocks new
 
-pub grows_itself : (pool : Contents) → HasFullBlocks pool → Grows pool pool
+pub grows_itself : (pool : Contents) → HasFullBlocks pool → PoolGrows pool pool
 grows_itself pool full = record {
   pieces = record { in_one_block = λ a n h. h; bytes = λ a n h. refl };
   longer = omega arith;
   borders = full;
 }
 
-pub grows_extended : (pool : Contents) (bytes : List ℕ) → HasFullBlocks pool → Grows pool (extended pool bytes)
+pub grows_extended : (pool : Contents) (bytes : List ℕ) → HasFullBlocks pool → PoolGrows pool (extended pool bytes)
 grows_extended pool bytes full = record {
   pieces = KeepsPieces-extended pool bytes;
   longer = omega (arith, length-append pool.bytes bytes);
   borders = λ k d there. omega (arith, full k d there, length-append pool.bytes bytes);
 }
 
-grows_with_block : (pool : Contents) (bytes : List ℕ) → HasFullBlocks pool → 0 < length bytes → Grows pool (with_block pool bytes)
+grows_with_block : (pool : Contents) (bytes : List ℕ) → HasFullBlocks pool → 0 < length bytes → PoolGrows pool (with_block pool bytes)
 grows_with_block pool bytes full some = record {
   pieces = KeepsPieces-with_block pool bytes;
   longer = omega (arith, length-append pool.bytes bytes);
@@ -41,33 +41,10 @@ grows_with_block pool bytes full some = record {
       (λ k d there. omega (arith, full k d there, length-append pool.bytes bytes)) (omega (arith, length-append pool.bytes bytes));
 }
 
-pub grows_appended : (pool : Contents) (bytes : List ℕ) → HasFullBlocks pool → Grows pool (appended pool bytes)
+pub grows_appended : (pool : Contents) (bytes : List ℕ) → HasFullBlocks pool → PoolGrows pool (appended pool bytes)
 grows_appended pool bytes full =
-    cond_both (leb (length bytes) pool.room) (extended pool bytes) (with_block pool bytes) (λ new. Grows pool new) (λ e. grows_extended pool bytes full)
+    cond_both (leb (length bytes) pool.room) (extended pool bytes) (with_block pool bytes) (λ new. PoolGrows pool new) (λ e. grows_extended pool bytes full)
     (λ e. let over : pool.room < length bytes = leb-false (length bytes) pool.room e in grows_with_block pool bytes full (omega (arith, over)))
-
-pub appended_bytes : (pool : Contents) (bytes : List ℕ) → (appended pool bytes).bytes ≡ pool.bytes ++ bytes
-appended_bytes pool bytes =
-    cond_both (leb (length bytes) pool.room) (extended pool bytes) (with_block pool bytes) (λ new. new.bytes ≡ pool.bytes ++ bytes) (λ e. refl) (λ e. refl)
-
--- a pool that takes no bytes is as it was
-pub appended_nothing : (pool : Contents) → appended pool [] ≡ pool
-appended_nothing pool =
-    rw (le-leb 0 pool.room (omega arith)) (ap (λ (bytes : List ℕ). let same : Contents = record { bytes = bytes; borders = pool.borders; room = pool.room - 0 } in same) (append-nil pool.bytes)
-    ∙ ap (λ (room : ℕ). let same : Contents = record { bytes = pool.bytes; borders = pool.borders; room = room } in same) (omega arith))
-
--- new bytes lie in one block
-pub in_one_block_appended : (pool : Contents) (bytes : List ℕ) → HasFullBlocks pool → IsInOneBlock (appended pool bytes) (length pool.bytes) (length bytes)
-in_one_block_appended pool bytes full =
-    cond_both (leb (length bytes) pool.room) (extended pool bytes) (with_block pool bytes) (λ new. IsInOneBlock new (length pool.bytes) (length bytes))
-    (λ e. in_one_block_extended pool bytes full) (λ e. in_one_block_with_block pool bytes full)
-
--- a part of a span in one block lies in one block
-pub in_one_block_inside : (pool : Contents) (a n i m : ℕ) → IsInOneBlock pool a n → a ≤ i → i + m ≤ a + n → IsInOneBlock pool i m
-in_one_block_inside pool a n i m span from to = record {
-  inside = omega (arith, span.inside);
-  unbroken = λ k d there over. omega (arith, span.unbroken k d there, over);
-}
 
 -- the last piece, and the bytes by which it grew
 pub in_one_block_grown : (pool : Contents) (a n : ℕ) (bytes : List ℕ) → HasFullBlocks pool → IsLastPiece pool a n → IsInOneBlock (extended pool bytes) a (n + length bytes)

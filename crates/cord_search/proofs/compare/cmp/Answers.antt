@@ -5,4 +5,4 @@ use Rattle.cord_search.proofs.compare.cmp.Goals as goal
 pub returns-clause-order : goal.returns-clause-order
 returns-clause-order g c =
     whole_order (g.S.NodeSpace.table c.args.space.now) (g.T.Sources.texts c.args.sources.now) c.args.x c.args.y c.max-n.result c.ncmp.result
-    (omega (arith, c.max-n.ensures, c.text_len.ensures.exact)) (omega (arith, c.max-n.ensures, c.text_len-2.ensures.exact)) c.ncmp.ensures.order
+    (omega (arith, c.max-n.ensures, c.rope_len.ensures.cells)) (omega (arith, c.max-n.ensures, c.rope_len-2.ensures.cells)) c.ncmp.ensures.order

@@ -40,4 +40,4 @@ pub returns-clause-found : goal.returns-clause-found
 returns-clause-found g c source agrees stated =
     let t = g.S.NodeSpace.table c.args.space.now in
     let u = text source (rope_cells t c.args.x) in
-    none_past (c.args.c ∷ []) u c.args.i c.loop-place.place (c.loop-place.invariant.4 source agrees stated) (omega (arith, text_length t c.args.x source, c.text_len-place-end.ensures.exact, c.loop-place-test.false))
+    none_past (c.args.c ∷ []) u c.args.i c.loop-place.place (c.loop-place.invariant.4 source agrees stated) (omega (arith, text_length t c.args.x source, c.rope_len-place-end.ensures.cells, c.loop-place-test.false))

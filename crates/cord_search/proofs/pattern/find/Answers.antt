@@ -15,7 +15,7 @@ returns-then-branch-clause-found g c source agrees stated =
     record {
       from = c.loop-place.auto.place;
       stands = record {
-        inside = omega (arith, text_length t c.args.x source, c.text_len.ensures.exact, c.saturating_sub-places.ensures, c.loop-place-test.true);
+        inside = omega (arith, text_length t c.args.x source, c.rope_len.ensures.cells, c.saturating_sub-places.ensures, c.loop-place-test.true);
         same = told.0 c.if-branch.true;
       };
       none_before = c.loop-place.invariant.4 source agrees stated;
@@ -42,4 +42,4 @@ returns-clause-found g c source agrees stated =
     let t = g.S.NodeSpace.table c.args.space.now in
     let u = text source (rope_cells t c.args.x) in
     none_past c.args.pattern.now u c.args.start c.loop-place.place (c.loop-place.invariant.4 source agrees stated)
-    (omega (arith, text_length t c.args.x source, c.text_len.ensures.exact, c.saturating_sub-places.ensures, c.loop-place-test.false))
+    (omega (arith, text_length t c.args.x source, c.rope_len.ensures.cells, c.saturating_sub-places.ensures, c.loop-place-test.false))

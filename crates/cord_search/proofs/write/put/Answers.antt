@@ -22,7 +22,7 @@ returns-in_err-write_bytes-clause-err g c =
     let u = text source (rope_cells t c.args.x) in
     let count = c.min-count.result in
     let bytes = told_before t texts (g.T.Sources.texts c.loop-done.sources) c.args.x (λ v. c.loop-done.done + length (take count c.loop-done.chunk) ≤ length v → c.fill.new.chunk ≡ take (length (take count c.loop-done.chunk)) (drop c.loop-done.done v)) c.loop-done.invariant.1 c.in_ok-fill.ensures.bytes source agrees stated in
-    let part = chunk_part u c.loop-done.chunk c.fill.new.chunk c.loop-done.done count (omega (arith, c.min-count.ensures, c.loop-done.invariant.5)) (omega (arith, text_length t c.args.x source, c.text_len-len.ensures.exact, c.min-count.ensures, c.loop-done-test.true)) c.in_ok-fill.ensures.length bytes in
+    let part = chunk_part u c.loop-done.chunk c.fill.new.chunk c.loop-done.done count (omega (arith, c.min-count.ensures, c.loop-done.invariant.5)) (omega (arith, text_length t c.args.x source, c.rope_len-len.ensures.cells, c.min-count.ensures, c.loop-done-test.true)) c.in_ok-fill.ensures.length bytes in
     Appends-then_prefix (g.W.Write.contents c.args.writer.now) (g.W.Write.contents c.loop-done.writer) (g.W.Write.contents c.write_bytes.new.writer) c.loop-done.done count u
     (c.loop-done.invariant.4 source agrees stated) (rw part at c.in_err-write_bytes.ensures.err))
 
@@ -38,7 +38,7 @@ loop-done-preserved g c = (
       let u = text source (rope_cells t c.args.x) in
       let count = c.min-count.result in
       let bytes = told_before t texts (g.T.Sources.texts c.loop-done.sources) c.args.x (λ v. c.loop-done.done + length (take count c.loop-done.chunk) ≤ length v → c.fill.new.chunk ≡ take (length (take count c.loop-done.chunk)) (drop c.loop-done.done v)) c.loop-done.invariant.1 c.in_ok-fill.ensures.bytes source agrees stated in
-      let part = chunk_part u c.loop-done.chunk c.fill.new.chunk c.loop-done.done count (omega (arith, c.min-count.ensures, c.loop-done.invariant.5)) (omega (arith, text_length t c.args.x source, c.text_len-len.ensures.exact, c.min-count.ensures, c.loop-done-test.true)) c.in_ok-fill.ensures.length bytes in
+      let part = chunk_part u c.loop-done.chunk c.fill.new.chunk c.loop-done.done count (omega (arith, c.min-count.ensures, c.loop-done.invariant.5)) (omega (arith, text_length t c.args.x source, c.rope_len-len.ensures.cells, c.min-count.ensures, c.loop-done-test.true)) c.in_ok-fill.ensures.length bytes in
       Appends-then (g.W.Write.contents c.args.writer.now) (g.W.Write.contents c.loop-done.writer) (g.W.Write.contents c.write_bytes.new.writer) c.loop-done.done count u
       (c.loop-done.invariant.4 source agrees stated) (rw part at c.in_ok-write_bytes.ensures.ok),
   (let count = c.min-count.result in
@@ -50,5 +50,5 @@ pub returns-clause-ok : goal.returns-clause-ok
 returns-clause-ok g c source agrees stated =
     let t = g.S.NodeSpace.table c.args.space.now in
     let u = text source (rope_cells t c.args.x) in
-    let whole = take_all c.loop-done.done u (omega (arith, text_length t c.args.x source, c.text_len-len.ensures.exact, c.loop-done-test.false)) in
+    let whole = take_all c.loop-done.done u (omega (arith, text_length t c.args.x source, c.rope_len-len.ensures.cells, c.loop-done-test.false)) in
     subst (Appends (g.W.Write.contents c.args.writer.now) (g.W.Write.contents c.loop-done.writer)) whole (c.loop-done.invariant.4 source agrees stated)

@@ -4,7 +4,7 @@ use Rattle.std.specs.Result.{is_ok}
 use Rattle.leaf_buffer.specs.Contents.{Contents, appended}
 use Rattle.node_table.specs.Held.{Held, CanHold}
 use Rattle.node_table.proofs.Growing.{kept_put}
-use Rattle.node_table.proofs.Pools.{length-appended}
+use Rattle.leaf_buffer.proofs.Appending.{length-appended}
 use Rattle.node_table.proofs.node_table.NodeTable.put.Goals as goal
 
 pub invariant_of-self-2 : goal.invariant_of-self-2

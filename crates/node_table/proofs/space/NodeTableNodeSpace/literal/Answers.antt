@@ -3,7 +3,7 @@ use Rattle.std.proofs.lemmas.List.{length-map}
 use Rattle.rope_node.specs.Table.{Node, len_at}
 use Rattle.node_table.specs.Held.{Held, table_of, node_of}
 use Rattle.node_table.proofs.Growing.{node_of_record}
-use Rattle.node_table.proofs.Pools.{literal_rest}
+use Rattle.node_table.proofs.LiteralRest.{literal_rest}
 use Rattle.node_table.proofs.space.NodeTableNodeSpace.literal.Goals as goal
 
 pub returns : goal.returns

@@ -3,7 +3,8 @@ use Rattle.leaf_buffer.specs.Contents.{appended}
 use Rattle.rope_store.specs.Kept.{IsStore}
 use Rattle.rope_store.specs.NodeLists.{listed}
 use Rattle.rope_store.proofs.Growth.{store_after}
-use Rattle.rope_store.proofs.Pools.{grows_appended, appended_bytes}
+use Rattle.leaf_buffer.proofs.Appending.{appended_bytes}
+use Rattle.rope_store.proofs.Pools.{grows_appended}
 use Rattle.rope_store.proofs.store.Store.make.Goals as goal
 
 pub invariant_of-self-2 : goal.invariant_of-self-2
