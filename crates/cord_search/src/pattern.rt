@@ -3,7 +3,7 @@
 ghost use Rattle.std.specs.Prelude.{◌≡◌, ◌↔◌, ◌<◌, ◌≤◌, ℕ, true, length, take, drop, IfOk, IfErr, IsErrOf, IsOk};
 ghost use Rattle.rope_node.specs.Denotes.{rope_cells, IsRope};
 ghost use Rattle.cord_position.specs.Fetched.{IsFaultAmong};
-ghost use Rattle.cord_search.specs.Places.{IsFirst};
+ghost use Rattle.cord_search.specs.Places.{IsFirst, search_limit};
 ghost use Rattle.cord_search.specs.Stated.{OfText};
 ghost use Rattle.cord_search.specs.Faults.{IsFindFault};
 
@@ -53,10 +53,10 @@ pub fn find<S: NodeSpace, T: Sources>(
     pattern: &[u8],
 ) -> Result<Option<u64>, FindFault>
     requires { IsRope (S.table space.now) x }
-    ensures too_long { IsErrOf result FindFault.PatternTooLong ↔ (PATTERN_LIMIT < length pattern.now) }
+    ensures too_long { IsErrOf result FindFault.PatternTooLong ↔ (search_limit < length pattern.now) }
     ensures found { IfOk result (λ found. OfText (S.table space.now) (T.texts sources.old) x (λ t. IsFirst pattern.now t start found)) }
     ensures fault { IfErr result (IsFindFault (T.sizes sources.old) (T.texts sources.old) (T.failures sources.old) (T.failures sources.new) (rope_cells (S.table space.now) x)) }
-    ensures succeeds { T.never_fails sources.old ≡ true → T.sizes sources.old ≡ (S.table space.now).sources → length pattern.now ≤ PATTERN_LIMIT → IsOk result }
+    ensures succeeds { T.never_fails sources.old ≡ true → T.sizes sources.old ≡ (S.table space.now).sources → length pattern.now ≤ search_limit → IsOk result }
 
     // A search changes no size and no text, nor whether the sources may fail.
     ensures later { T.failures sources.old ≤ T.failures sources.new }

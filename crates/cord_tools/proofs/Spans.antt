@@ -17,8 +17,7 @@ use Rattle.node_table.specs.declared.fault.NodeFault.TheVariants.{Memory, TooLon
 use Rattle.rope_store.specs.Additions.{after, new_node, source_added}
 use Rattle.rope_store.specs.Refusals.{Refuses}
 use Rattle.leaf_buffer.proofs.Appending.{appended_nothing}
-use Rattle.lazy_file.specs.SourceTexts.{AreSizes, text_at}
-use Rattle.lazy_file.specs.declared.sources.TheConstants.{SOURCE_LIMIT}
+use Rattle.lazy_file.specs.SourceTexts.{AreSizes, longest_source, text_at}
 use Rattle.cord_position.specs.Fetched.{AreStated, IsStated}
 use Rattle.cord_search.specs.Stated.{OfText, OfTexts}
 use Rattle.cord_tools.specs.Files.{OfFile, OfFiles, file_bytes}
@@ -27,7 +26,7 @@ use Rattle.cord_tools.specs.Spans.{IsPart, IsSpan, source_leaf}
 -- ---- which fault comes
 
 -- a source that may be added wants nothing but memory
-pub add_only_memory : {X : Type 0} (e : NodeFault) (n len : ℕ) → n < most_sources → len ≤ SOURCE_LIMIT → (e ≡ TooManySources) ⊎ ((e ≡ TooLong) ⊎ (e ≡ Memory))
+pub add_only_memory : {X : Type 0} (e : NodeFault) (n len : ℕ) → n < most_sources → len ≤ longest_source → (e ≡ TooManySources) ⊎ ((e ≡ TooLong) ⊎ (e ≡ Memory))
     → (IsErrOf {T = X} (Err e) TooManySources → n ≡ most_sources) → (IsErrOf {T = X} (Err e) TooLong → (n < most_sources) × (2 ^ 40 ≤ len)) → e ≡ Memory
 add_only_memory e n len few short (inl many) no_more too_long = absurd (omega (arith, few, no_more (ap Err many)))
 add_only_memory e n len few short (inr (inl long)) no_more too_long = absurd (omega (arith, short, (too_long (ap Err long)).1))
@@ -147,14 +146,14 @@ of_part t sizes texts s start count rope P own is told source agrees stated =
     (told source agrees (part_stated t texts s start count rope is stated))
 
 -- all the bytes of a file
-whole_bytes : (sizes : List ℕ) (source : ℕ → ℕ → ℕ) (s count : ℕ) → AreSizes sizes → s < length sizes → SOURCE_LIMIT ≤ count → take count (drop 0 (file_bytes sizes source s)) ≡ file_bytes sizes source s
+whole_bytes : (sizes : List ℕ) (source : ℕ → ℕ → ℕ) (s count : ℕ) → AreSizes sizes → s < length sizes → longest_source ≤ count → take count (drop 0 (file_bytes sizes source s)) ≡ file_bytes sizes source s
 whole_bytes sizes source s count limits there big =
-    take_all count (file_bytes sizes source s) (omega (arith, big, length-map-range_with_len (source s) 0 (get_or sizes s 0), All-get_or (λ n. n ≤ SOURCE_LIMIT) sizes s 0 there limits.each))
+    take_all count (file_bytes sizes source s) (omega (arith, big, length-map-range_with_len (source s) 0 (get_or sizes s 0), All-get_or (λ n. n ≤ longest_source) sizes s 0 there limits.each))
 
-pub of_whole : (sizes : List ℕ) (texts : List (Option (List ℕ))) (s count : ℕ) (P : List ℕ → Type 0) → AreSizes sizes → s < length sizes → SOURCE_LIMIT ≤ count → OfFile sizes texts s (λ u. P (take count (drop 0 u))) → OfFile sizes texts s P
+pub of_whole : (sizes : List ℕ) (texts : List (Option (List ℕ))) (s count : ℕ) (P : List ℕ → Type 0) → AreSizes sizes → s < length sizes → longest_source ≤ count → OfFile sizes texts s (λ u. P (take count (drop 0 u))) → OfFile sizes texts s P
 of_whole sizes texts s count P limits there big told source agrees stated = subst P (whole_bytes sizes source s count limits there big) (told source agrees stated)
 
-pub of_files : (t : Table) (sizes : List ℕ) (texts : List (Option (List ℕ))) (s r count : ℕ) (x y : Option NodeId) (P : List ℕ → List ℕ → Type 0) → AreSizes sizes → s < length sizes → r < length sizes → SOURCE_LIMIT ≤ count → t.sources ≡ sizes
+pub of_files : (t : Table) (sizes : List ℕ) (texts : List (Option (List ℕ))) (s r count : ℕ) (x y : Option NodeId) (P : List ℕ → List ℕ → Type 0) → AreSizes sizes → s < length sizes → r < length sizes → longest_source ≤ count → t.sources ≡ sizes
     → IsPart t s 0 count x → IsPart t r 0 count y → OfTexts t texts x y P → OfFiles sizes texts s r P
 of_files t sizes texts s r count x y P limits first second big own is other told source agrees here there =
     let bytes : (q : ℕ) (rope : Option NodeId) → q < length sizes → IsPart t q 0 count rope → text source (rope_cells t rope) ≡ file_bytes sizes source q =

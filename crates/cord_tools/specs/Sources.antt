@@ -1,8 +1,7 @@
 -- The sources of a session: how much is read of one, and when texts are refused.
 use Rattle.std.specs.Prelude.{ℕ, List, ⊤, ◌<◌, Any, length, map, take}
 use Rattle.std.specs.Global.{Vec}
-use Rattle.lazy_file.specs.SourceTexts.{AreSizes}
-use Rattle.lazy_file.specs.declared.sources.TheConstants.{COUNT_LIMIT, SOURCE_LIMIT}
+use Rattle.lazy_file.specs.SourceTexts.{AreSizes, count_limit, longest_source}
 use Rattle.lazy_file.specs.declared.faults.AddFault.{AddFault}
 use Rattle.lazy_file.specs.declared.faults.AddFault.TheVariants as Add
 use Rattle.cord_tools.specs.declared.fault.ToolFault.{ToolFault}
@@ -24,8 +23,8 @@ source_fault Add.Memory = Memory
 -- The texts are refused by this fault: the first text that cannot be added is one too many, or too long.
 abbrev pub RefusesSources : List (List ℕ) → ToolFault → Type 0
 RefusesSources texts Memory = ⊤
-RefusesSources texts (Source Add.TooManySources) = (COUNT_LIMIT < length texts) × AreSizes (map length (take COUNT_LIMIT texts))
-RefusesSources texts (Source Add.SourceTooLong) = Any (λ text. SOURCE_LIMIT < length text) (take COUNT_LIMIT texts)
+RefusesSources texts (Source Add.TooManySources) = (count_limit < length texts) × AreSizes (map length (take count_limit texts))
+RefusesSources texts (Source Add.SourceTooLong) = Any (λ text. longest_source < length text) (take count_limit texts)
 RefusesSources texts (Source Add.Memory) = ⊥
 RefusesSources texts Read = ⊥
 RefusesSources texts Write = ⊥

@@ -1,7 +1,7 @@
 //! The first place of a pattern in a file.
 
 ghost use Rattle.std.specs.Prelude.{◌≡◌, ◌↔◌, ◌⊎◌, ◌<◌, ◌≤◌, true, length, IfOk, IfErr, IsErrOf, string_bytes};
-ghost use Rattle.cord_search.specs.Places.{IsFirst};
+ghost use Rattle.cord_search.specs.Places.{IsFirst, search_limit};
 ghost use Rattle.cord_tools.specs.Files.{OfFile, FindsPattern, place_line};
 ghost use Rattle.cord_tools.specs.declared.fault.ToolFault.TheVariants.{Memory, PatternTooLong, Read};
 
@@ -29,7 +29,7 @@ fn first_place<T: Sources>(
 ) -> Result<Option<u64>, ToolFault>
     requires { 1 ≤ length (T.sizes sources.old) }
     ensures found { IfOk result (λ found. OfFile (T.sizes sources.old) (T.texts sources.old) 0 (λ t. IsFirst pattern.now t start found)) }
-    ensures too_long { IsErrOf result PatternTooLong ↔ (PATTERN_LIMIT < length pattern.now) }
+    ensures too_long { IsErrOf result PatternTooLong ↔ (search_limit < length pattern.now) }
     ensures fault { IfErr result (λ e. (e ≡ PatternTooLong) ⊎ ((e ≡ Read) ⊎ (e ≡ Memory))) }
     ensures memory { T.never_fails sources.old ≡ true → ¬ IsErrOf result Read }
 {
@@ -57,7 +57,7 @@ pub fn run_find<T: Sources, W: io::Write>(
 ) -> Result<Status, ToolFault>
     requires { 1 ≤ length (T.sizes sources.old) }
     ensures answer { FindsPattern (T.sizes sources.old) (T.texts sources.old) start pattern.now (W.contents writer.old) (W.contents writer.new) result }
-    ensures too_long { IsErrOf result PatternTooLong ↔ (PATTERN_LIMIT < length pattern.now) }
+    ensures too_long { IsErrOf result PatternTooLong ↔ (search_limit < length pattern.now) }
     ensures memory { T.never_fails sources.old ≡ true → ¬ IsErrOf result Read }
 {
     match first_place(alloc, sources, start, pattern)? {

@@ -1,11 +1,18 @@
 use Rattle.std.specs.Prelude.{◌≡◌, ℕ, ◌+◌, ◌<◌, ◌≤◌, Bool, ◌&&◌, nat_lt, nat_le, List, Option, Some, None, length, slice_index, All}
 use Rattle.std.specs.List.{slice_index_or}
-use Rattle.lazy_file.specs.declared.sources.TheConstants.{COUNT_LIMIT, SOURCE_LIMIT}
+
+-- how many sources there may be
+abbrev pub count_limit : ℕ
+count_limit = 255
+
+-- how many bytes a source may have: one less than 2^40
+abbrev pub longest_source : ℕ
+longest_source = 1099511627775
 
 -- the sizes of the sources that there may be
 pub record AreSizes (sizes : List ℕ) : Type 0 where
-  pub count : length sizes ≤ COUNT_LIMIT
-  pub each : All (λ n. n ≤ SOURCE_LIMIT) sizes
+  pub count : length sizes ≤ count_limit
+  pub each : All (λ n. n ≤ longest_source) sizes
 
 -- source s is there, and n bytes from off on lie inside its size
 abbrev pub holds_span : List ℕ → ℕ → ℕ → ℕ → Bool

@@ -1,6 +1,6 @@
 //! Sources in memory.
 ghost use Rattle.std.specs.Prelude.{◌≡◌, ◌↔◌, ◌+◌, ◌<◌, ◌≤◌, ◌++◌, ◌∷◌, [], IfOk, IfSome, IsErrOf, IsSome, OnErr, OnOk, drop, is_some, length, map, slice_index_or, take};
-ghost use Rattle.lazy_file.specs.SourceTexts.{AreSizes, holds_span};
+ghost use Rattle.lazy_file.specs.SourceTexts.{AreSizes, count_limit, holds_span, longest_source};
 
 use crate::faults::{AddFault, SourceFault};
 use crate::sources::{COUNT_LIMIT, SOURCE_LIMIT, Sources};
@@ -38,9 +38,9 @@ impl<'a> MemSources<'a> {
     pub fn add(&mut self, text: &'a [u8]) -> Result<u8, AddFault>
         ensures place { IfOk result (λ s. s ≡ length self.old) }
         ensures ok { OnOk result (self.new ≡ self.old ++ text.now ∷ []) }
-        ensures too_many { IsErrOf result AddFault.TooManySources ↔ (length self.old ≡ COUNT_LIMIT) }
+        ensures too_many { IsErrOf result AddFault.TooManySources ↔ (length self.old ≡ count_limit) }
         ensures too_long { IsErrOf result AddFault.SourceTooLong
-            ↔ ((length self.old < COUNT_LIMIT) × (SOURCE_LIMIT < length text.now)) }
+            ↔ ((length self.old < count_limit) × (longest_source < length text.now)) }
         ensures err { OnErr result (self.new ≡ self.old) }
     {
         let place = self.slices.len();
@@ -57,7 +57,7 @@ impl<'a> MemSources<'a> {
     fn text(&self, s: u8) -> &'a [u8]
         requires { s < length self.now }
         ensures value { result.now ≡ slice_index_or self.now s [] }
-        ensures limit { length result.now ≤ SOURCE_LIMIT }
+        ensures limit { length result.now ≤ longest_source }
     {
         self.slices[s as usize]
     }

@@ -1,6 +1,6 @@
 //! Texts by number, read span by span.
 ghost use Rattle.std.specs.Prelude.{◌≡◌, ◌<◌, ◌≤◌, ℕ, Bool, List, Option, true, drop, length, slice_index, take, IfSome, IsOk, OnOk};
-ghost use Rattle.lazy_file.specs.SourceTexts.{AreSizes, holds_span, text_at};
+ghost use Rattle.lazy_file.specs.SourceTexts.{AreSizes, holds_span, longest_source, text_at};
 ghost use Rattle.lazy_file.specs.ReadFaults.{IsFaultOf};
 
 use crate::faults::SourceFault;
@@ -31,7 +31,7 @@ pub trait Sources {
     fn len(&self, s: u8) -> u64
         requires { s < length (sizes self.now) }
         ensures value { result ≡ slice_index (sizes self.now) s }
-        ensures limit { result ≤ SOURCE_LIMIT };
+        ensures limit { result ≤ longest_source };
 
     /// Reads the bytes of source `s` from place `off` on into the whole of `buffer`. After a fault
     /// the buffer may hold any bytes.

@@ -61,6 +61,7 @@ refuses_span old a IsBad IsLong bad = record {
   table_full = (λ e. absurd cc, λ h. absurd (h.0 bad));
   pool_full = (λ e. absurd cc, λ h. absurd (h.0 bad));
   no_other = λ e. absurd cc;
+  memory = λ e. absurd cc;
 }
 
 pub refuses_length : {F : Type 0} (old : Held F) (a : Addition F) (IsBad IsLong : Type 0) → ¬ IsBad → IsLong → Refuses old a IsBad IsLong (Err TooLong)
@@ -71,6 +72,7 @@ refuses_length old a IsBad IsLong fine long = record {
   table_full = (λ e. absurd cc, λ h. absurd (h.1 long));
   pool_full = (λ e. absurd cc, λ h. absurd (h.1 long));
   no_other = λ e. absurd cc;
+  memory = λ e. absurd cc;
 }
 
 pub refuses_depth : {F : Type 0} (old : Held F) (a : Addition F) (IsBad IsLong : Type 0) → ¬ IsBad → ¬ IsLong → IsTooDeep a → Refuses old a IsBad IsLong (Err TooDeep)
@@ -81,6 +83,7 @@ refuses_depth old a IsBad IsLong fine short deep = record {
   table_full = (λ e. absurd cc, λ h. absurd (h.2 deep));
   pool_full = (λ e. absurd cc, λ h. absurd (h.2 deep));
   no_other = λ e. absurd cc;
+  memory = λ e. absurd cc;
 }
 
 -- a call that makes nothing refuses nothing
@@ -92,6 +95,7 @@ refuses_none old IsBad IsLong rope few small fine short = record {
   table_full = (λ e. absurd cc, λ h. absurd (omega (arith, h.3)));
   pool_full = (λ e. absurd cc, λ h. absurd (omega (arith, h.4)));
   no_other = λ e. absurd cc;
+  memory = λ e. absurd cc;
 }
 
 -- why a table takes nothing
@@ -102,9 +106,9 @@ fault_at : (result : Result (Option NodeId) NodeFault) (e : NodeFault) → IfErr
 fault_at result e faults is = subst (λ (r : Result (Option NodeId) NodeFault). IfErr r IsTableFault) is faults
 
 -- a call that leaves the rest to the table
-pub refuses_rest : {F : Type 0} (old : Held F) (a : Addition F) (IsBad IsLong : Type 0) → ¬ IsBad → ¬ IsLong → ¬ IsTooDeep a → (result : Result (Option NodeId) NodeFault) → (IsErrOf result TableFull ↔ IsTableFull old a)
+pub refuses_rest : {F : Type 0} (old : Held F) (a : Addition F) (IsBad IsLong : Type 0) → ¬ IsBad → ¬ IsLong → ¬ IsTooDeep a → 1 ≤ length a.records → (result : Result (Option NodeId) NodeFault) → (IsErrOf result TableFull ↔ IsTableFull old a)
     → (IsErrOf result PoolFull ↔ ((length old.nodes + length a.records ≤ most_nodes) × IsPoolFull old a)) → IfErr result IsTableFault → Refuses old a IsBad IsLong result
-refuses_rest old a IsBad IsLong fine short shallow result table_full pool_full faults = record {
+refuses_rest old a IsBad IsLong fine short shallow some result table_full pool_full faults = record {
   bad_span = (λ e. other (fault_at result BadSpan faults e) (λ x. cc) (λ x. cc) (λ x. cc), λ h. absurd (fine h));
   too_long = (λ e. other (fault_at result TooLong faults e) (λ x. cc) (λ x. cc) (λ x. cc), λ h. absurd (short h.1));
   too_deep = (λ e. other (fault_at result TooDeep faults e) (λ x. cc) (λ x. cc) (λ x. cc), λ h. absurd (shallow h.2));
@@ -114,6 +118,7 @@ refuses_rest old a IsBad IsLong fine short shallow result table_full pool_full f
     λ h. pool_full.1 (⊎_elim (λ (full : most_nodes < length old.nodes + length a.records). absurd (h.3 full)) (λ (free : length old.nodes + length a.records ≤ most_nodes). free) (cases_lt most_nodes (length old.nodes + length a.records)), h.4),
   );
   no_other = λ e. other (fault_at result TooManySources faults e) (λ x. cc) (λ x. cc) (λ x. cc);
+  memory = λ e. some;
 }
   where
     other : {A : Type 0} {e : NodeFault} → IsTableFault e → ¬ (e ≡ TableFull) → ¬ (e ≡ PoolFull) → ¬ (e ≡ Memory) → A
@@ -129,14 +134,14 @@ put_makes {F = F} meaning h a wanted bytes rs got store is good same result new 
     let rope' : IfOk result (λ rope. rope ≡ Some (record { 0 = length h.nodes + (length rs - 1) })) = subst (λ (xs : List (Record F)). IfOk result (λ rope. rope ≡ Some (record { 0 = length h.nodes + (length xs - 1) }))) same rope in
     subst (λ (b : Addition F). Makes meaning h b wanted result new) (sym is) (makes meaning h put wanted store.table.functions (grows_appended h.pool bytes store.borders) good result new ok' rope' stored err)
 
-pub put_refuses : {F : Type 0} (h : Held F) (a : Addition F) (bytes : List ℕ) (rs got : List (Record F)) (IsBad IsLong : Type 0) → a ≡ record { bytes = bytes; in_place = false; records = rs; rope = Some (record { 0 = length h.nodes + (length rs - 1) }) } → ¬ IsBad → ¬ IsLong → deepest rs ≤ 64 → got ≡ rs
+pub put_refuses : {F : Type 0} (h : Held F) (a : Addition F) (bytes : List ℕ) (rs got : List (Record F)) (IsBad IsLong : Type 0) → a ≡ record { bytes = bytes; in_place = false; records = rs; rope = Some (record { 0 = length h.nodes + (length rs - 1) }) } → ¬ IsBad → ¬ IsLong → 1 ≤ length rs → deepest rs ≤ 64 → got ≡ rs
     → (result : Result (Option NodeId) NodeFault) → (IsErrOf result TableFull ↔ (most_nodes < length h.nodes + length got)) → (IsErrOf result PoolFull ↔ ((length h.nodes + length got ≤ most_nodes) × (2 ^ 32 ≤ length h.pool.bytes + length bytes))) → IfErr result IsTableFault → Refuses h a IsBad IsLong result
-put_refuses {F = F} h a bytes rs got IsBad IsLong is fine short shallow same result table_full pool_full faults =
+put_refuses {F = F} h a bytes rs got IsBad IsLong is fine short some shallow same result table_full pool_full faults =
     let put : Addition F = record { bytes = bytes; in_place = false; records = rs; rope = Some (record { 0 = length h.nodes + (length rs - 1) }) } in
     let table' : IsErrOf result TableFull ↔ (most_nodes < length h.nodes + length rs) = subst (λ (xs : List (Record F)). IsErrOf result TableFull ↔ (most_nodes < length h.nodes + length xs)) same table_full in
     let pool' : IsErrOf result PoolFull ↔ ((length h.nodes + length rs ≤ most_nodes) × (2 ^ 32 ≤ length h.pool.bytes + length bytes)) =
     subst (λ (xs : List (Record F)). IsErrOf result PoolFull ↔ ((length h.nodes + length xs ≤ most_nodes) × (2 ^ 32 ≤ length h.pool.bytes + length bytes))) same pool_full in
-    subst (λ (b : Addition F). Refuses h b IsBad IsLong result) (sym is) (refuses_rest h put IsBad IsLong fine short (λ deep. absurd (omega (arith, deep, shallow))) result table' pool' faults)
+    subst (λ (b : Addition F). Refuses h b IsBad IsLong result) (sym is) (refuses_rest h put IsBad IsLong fine short (λ deep. absurd (omega (arith, deep, shallow))) some result table' pool' faults)
 
 -- the same addition and the same text, written otherwise
 pub makes_as : {F : Type 0} {meaning : F → ℕ → ℕ} {h new : Held F} {a b : Addition F} {w v : List Cell} {result : Result (Option NodeId) NodeFault} → a ≡ b → v ≡ w → Makes meaning h b v result new → Makes meaning h a w result new
@@ -158,6 +163,7 @@ refuses_more short r = record {
     λ k. r.pool_full.1 ((λ bad. bad), (λ long. long), k.2, k.3, k.4),
   );
   no_other = r.no_other;
+  memory = r.memory;
 }
 
 -- why a table takes nothing where a literal grows in place
@@ -182,10 +188,10 @@ never_full : (result : Result (Option NodeId) NodeFault) → IfErr result IsGrow
 never_full result faults is =
     ⊎_elim (λ (x : PoolFull ≡ TableFull). cc) (λ (x : PoolFull ≡ Memory). cc) (subst (λ (r : Result (Option NodeId) NodeFault). IfErr r IsGrowthFault) is faults)
 
-pub grown_refuses : {F : Type 0} (h : Held F) (a : Addition F) (bytes : List ℕ) (rs got : List (Record F)) → a ≡ record { bytes = bytes; in_place = true; records = rs; rope = Some (record { 0 = length h.nodes + (length rs - 1) }) } → deepest rs ≤ 64 → length h.pool.bytes + length bytes < 2 ^ 32 → got ≡ rs
+pub grown_refuses : {F : Type 0} (h : Held F) (a : Addition F) (bytes : List ℕ) (rs got : List (Record F)) → a ≡ record { bytes = bytes; in_place = true; records = rs; rope = Some (record { 0 = length h.nodes + (length rs - 1) }) } → 1 ≤ length rs → deepest rs ≤ 64 → length h.pool.bytes + length bytes < 2 ^ 32 → got ≡ rs
     → (result : Result (Option NodeId) NodeFault) → (IsErrOf result TableFull ↔ (most_nodes < length h.nodes + length got)) → IfErr result IsGrowthFault → Refuses h a ⊥ ⊥ result
-grown_refuses {F = F} h a bytes rs got is shallow limit same result table_full faults =
+grown_refuses {F = F} h a bytes rs got is some shallow limit same result table_full faults =
     let put : Addition F = record { bytes = bytes; in_place = true; records = rs; rope = Some (record { 0 = length h.nodes + (length rs - 1) }) } in
     let table' : IsErrOf result TableFull ↔ (most_nodes < length h.nodes + length rs) = subst (λ (xs : List (Record F)). IsErrOf result TableFull ↔ (most_nodes < length h.nodes + length xs)) same table_full in
     subst (λ (b : Addition F). Refuses h b ⊥ ⊥ result) (sym is)
-    (refuses_rest h put ⊥ ⊥ (λ bad. bad) (λ long. long) (λ deep. absurd (omega (arith, deep, shallow))) result table' (λ e. absurd (never_full result faults e), λ k. absurd (omega (arith, k.1, limit))) (growth_fault result faults))
+    (refuses_rest h put ⊥ ⊥ (λ bad. bad) (λ long. long) (λ deep. absurd (omega (arith, deep, shallow))) some result table' (λ e. absurd (never_full result faults e), λ k. absurd (omega (arith, k.1, limit))) (growth_fault result faults))

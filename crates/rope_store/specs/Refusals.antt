@@ -3,7 +3,7 @@ use Rattle.std.specs.Prelude.{◌↔◌, ℕ, ◌+◌, ◌^◌, ◌<◌, ◌≤�
 use Rattle.rope_node.specs.declared.node.NodeId.{NodeId}
 use Rattle.node_table.specs.declared.record.Record.{Record}
 use Rattle.node_table.specs.declared.fault.NodeFault.{NodeFault}
-use Rattle.node_table.specs.declared.fault.NodeFault.TheVariants.{TooLong, TooDeep, TableFull, PoolFull, BadSpan, TooManySources}
+use Rattle.node_table.specs.declared.fault.NodeFault.TheVariants.{TooLong, TooDeep, TableFull, PoolFull, BadSpan, TooManySources, Memory}
 use Rattle.node_table.specs.Held.{Held, most_nodes}
 use Rattle.rope_store.specs.Additions.{Addition}
 
@@ -22,8 +22,8 @@ IsTableFull h a = most_nodes < length h.nodes + length a.records
 abbrev pub IsPoolFull : {F : Type 0} → Held F → Addition F → Type 0
 IsPoolFull h a = 2 ^ 32 ≤ length h.pool.bytes + length a.bytes
 
--- each refusal comes exactly where its condition is the first that holds, and beside them there is want of memory alone;
--- where the span is bad, and where the result is too long, is the call's own
+-- each refusal comes exactly where its condition is the first that holds, and beside them there is want of memory alone, which a call
+-- that makes no node has not; where the span is bad, and where the result is too long, is the call's own
 pub record Refuses {F : Type 0} (old : Held F) (a : Addition F) (IsBad IsLong : Type 0) (result : Result (Option NodeId) NodeFault) : Type 0 where
   pub bad_span : IsErrOf result BadSpan ↔ IsBad
   pub too_long : IsErrOf result TooLong ↔ ((¬ IsBad) × IsLong)
@@ -31,3 +31,4 @@ pub record Refuses {F : Type 0} (old : Held F) (a : Addition F) (IsBad IsLong : 
   pub table_full : IsErrOf result TableFull ↔ ((¬ IsBad) × (¬ IsLong) × (¬ IsTooDeep a) × IsTableFull old a)
   pub pool_full : IsErrOf result PoolFull ↔ ((¬ IsBad) × (¬ IsLong) × (¬ IsTooDeep a) × (¬ IsTableFull old a) × IsPoolFull old a)
   pub no_other : ¬ IsErrOf result TooManySources
+  pub memory : IsErrOf result Memory → 1 ≤ length a.records

@@ -18,4 +18,4 @@ pub returns-clause-refuses : goal.returns-clause-refuses
 returns-clause-refuses g c =
     let t = table_of g.F.LeafFn.meaning c.args.self.now in
     put_refuses c.args.self.now _ [] (function_record c.args.f c.args.n ∷ []) (c.function.result ∷ []) _ _ (some_function t c.args.f c.args.n (omega arith)) (λ bad. bad) (λ long. absurd (omega (arith, long)))
-    (omega arith) (rw c.function.ensures refl) c.make.result c.make.ensures.table_full c.make.ensures.pool_full c.make.ensures.faults
+    (omega arith) (omega arith) (rw c.function.ensures refl) c.make.result c.make.ensures.table_full c.make.ensures.pool_full c.make.ensures.faults

@@ -24,4 +24,4 @@ pub returns-clause-refuses : goal.returns-clause-refuses
 returns-clause-refuses g c =
     let t = table_of g.F.LeafFn.meaning c.args.self.now in
     put_refuses c.args.self.now _ [] (source_record c.args.s c.args.a c.args.n ∷ []) (c.source.result ∷ []) _ _ (some_source t c.args.s c.args.a c.args.n (omega arith))
-    (λ bad. ⊎_elim (λ b. absurd (omega (arith, b, there g c))) (λ b. absurd (omega (arith, b, inside g c))) bad) (λ long. long) (omega arith) (rw c.source.ensures refl) c.make.result c.make.ensures.table_full c.make.ensures.pool_full c.make.ensures.faults
+    (λ bad. ⊎_elim (λ b. absurd (omega (arith, b, there g c))) (λ b. absurd (omega (arith, b, inside g c))) bad) (λ long. long) (omega arith) (omega arith) (rw c.source.ensures refl) c.make.result c.make.ensures.table_full c.make.ensures.pool_full c.make.ensures.faults

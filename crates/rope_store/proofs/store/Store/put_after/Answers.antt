@@ -114,5 +114,5 @@ returns-in-Some-clause-refuses g c = λ xs ys is len.
     let same = after_three t l c.args.first (length c.args.all.now - c.args.first) (length xs) (length ys) (c.count.result + 1) c.len.result c.depth-depth.result c.literal-one.result c.literal-two.result c.concatenation.result c.literal-one.ensures c.literal-two.ensures c.concatenation.ensures start (sym len) count (ap (λ n. n + 1) last) llen depth in
     let whole : (b : Option NodeId) → Addition g.row.F.Denot = λ b. merged_after t b xs ys in
     refuses_as (ap whole c.in-Some.is)
-    (put_refuses h (whole (Some l)) (xs ++ ys) (whole (Some l)).records (c.literal-one.result ∷ c.literal-two.result ∷ c.concatenation.result ∷ []) ⊥ ⊥ refl (λ bad. bad) (λ long. long) (omega (arith, shallow)) same
+    (put_refuses h (whole (Some l)) (xs ++ ys) (whole (Some l)).records (c.literal-one.result ∷ c.literal-two.result ∷ c.concatenation.result ∷ []) ⊥ ⊥ refl (λ bad. bad) (λ long. long) (omega arith) (omega (arith, shallow)) same
     c.make-in-Some.result c.make-in-Some.ensures.table_full (subst (λ bs. IsErrOf c.make-in-Some.result PoolFull ↔ ((length h.nodes + 3 ≤ most_nodes) × (2 ^ 32 ≤ length h.pool.bytes + length bs))) is c.make-in-Some.ensures.pool_full) c.make-in-Some.ensures.faults)

@@ -77,6 +77,6 @@ returns-in-Some-clause-refuses g c =
     let depth : c.depth-depth.result ≡ depth_at t l.0 = rw c.self.view_is at c.depth-depth.ensures.value in
     let whole : (b : Option NodeId) → Addition g.row.F.Denot = λ b. merged t b c.args.bytes.now in
     refuses_as (ap whole c.in-Some.is)
-    (put_refuses h (merged t (Some l) c.args.bytes.now) c.args.bytes.now (whole (Some l)).records (c.literal-in-Some.result ∷ c.concatenation.result ∷ []) ⊥ ⊥ refl (λ bad. bad) (λ long. long) (omega (arith, shallow))
+    (put_refuses h (merged t (Some l) c.args.bytes.now) c.args.bytes.now (whole (Some l)).records (c.literal-in-Some.result ∷ c.concatenation.result ∷ []) ⊥ ⊥ refl (λ bad. bad) (λ long. long) (omega arith) (omega (arith, shallow))
     (two_records t l c.pool_len-start.result (length c.args.bytes.now) c.count.result c.len.result c.depth-depth.result c.literal-in-Some.result c.concatenation.result c.literal-in-Some.ensures c.concatenation.ensures start first len depth)
     c.make-in-Some.result c.make-in-Some.ensures.table_full c.make-in-Some.ensures.pool_full c.make-in-Some.ensures.faults)
