@@ -6,6 +6,8 @@ mod leaf_fn;
 mod pattern;
 #[cfg(test)]
 mod tests;
+#[cfg(test)]
+mod worked;
 
 pub use coded::Coded;
 pub use leaf_fn::{LeafFn, fill};
