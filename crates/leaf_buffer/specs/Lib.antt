@@ -2,3 +2,4 @@ pub mod Blocks
 pub mod Codes
 pub mod Contents
 pub mod Progress
+pub mod Worked

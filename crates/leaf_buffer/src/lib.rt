@@ -9,6 +9,8 @@ mod pool;
 mod run;
 #[cfg(test)]
 mod tests;
+#[cfg(test)]
+mod worked;
 
 pub use fault::LeafError;
 pub use piece::Piece;
