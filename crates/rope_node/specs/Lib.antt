@@ -5,3 +5,4 @@ pub mod Balance
 pub mod Coded
 pub mod Extends
 pub mod Held
+pub mod Worked
