@@ -33,8 +33,8 @@ tenth : (fibonacci 10 ≡ 55) × (fibonacci 11 ≡ 89)
 unfolding fibonacci
 tenth = (refl, refl)
 
-pub sixtieth : 2 ^ 40 ≤ fibonacci 60
-sixtieth =
+pub fiftieth_and_sixtieth : (fibonacci 50 ≡ 12586269025) × (fibonacci 60 ≡ 1548008755920)
+fiftieth_and_sixtieth =
     let a = tenth.0 in
     let b = tenth.1 in
     let c : fibonacci 20 ≡ 6765 = omega (arith, ten_on 10, a, b) in
@@ -46,7 +46,10 @@ sixtieth =
     let i : fibonacci 50 ≡ 12586269025 = omega (arith, ten_on 40, g, h) in
     let j : fibonacci 51 ≡ 20365011074 = omega (arith, ten_on 41, fibonacci_next 40, g, h) in
     let k : fibonacci 60 ≡ 1548008755920 = omega (arith, ten_on 50, i, j) in
-    omega (arith, k)
+    (i, k)
+
+pub sixtieth : 2 ^ 40 ≤ fibonacci 60
+sixtieth = let numbers = fiftieth_and_sixtieth in omega (arith, numbers.1)
 
 -- a node over two has a balanced depth where each of them leaves room for it
 pub over_both : (a b n : ℕ) → fibonacci (a + 3) ≤ n → fibonacci (b + 3) ≤ n → fibonacci ((1 + max a b) + 2) ≤ n

@@ -9,6 +9,8 @@ mod pieces;
 mod slots;
 #[cfg(test)]
 mod tests;
+#[cfg(test)]
+mod worked;
 
 pub use any::{append_any, cat_any, substr_any};
 pub use balanced::is_balanced;
