@@ -3,3 +3,4 @@ pub mod Spans
 pub mod Describing
 pub mod Covering
 pub mod Verdicts
+pub mod WorkedRows

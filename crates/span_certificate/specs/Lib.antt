@@ -2,3 +2,4 @@ pub mod Commands
 pub mod Parts
 pub mod Leads
 pub mod Covers
+pub mod Worked

@@ -1,0 +1,42 @@
+//! What commands give and which rows fit, on worked examples.
+
+ghost use Rattle.std.specs.Prelude.{◌≡◌, ◌∷◌, [], codes, Some, None};
+ghost use Rattle.rope_node.specs.Worked.{number, part_of_a_part, one_literal};
+ghost use Rattle.span_certificate.specs.declared.edit.Edit.TheVariants.{New, Insert};
+ghost use Rattle.span_certificate.specs.declared.part.Part.TheVariants.{Pool};
+ghost use Rattle.span_certificate.specs.Commands.{IsHistory, result_of};
+ghost use Rattle.span_certificate.specs.Parts.{parts_of};
+ghost use Rattle.span_certificate.specs.Covers.{Fits, Covers, IsFirstBad};
+ghost use Rattle.span_certificate.specs.Worked.{pool_of, leaf_row};
+
+/// An empty text, `a`, and `ab`.
+fn two_insertions_make_a_history()
+    ensures { IsHistory (pool_of (codes "ab")) (New ∷ Insert 0 0 0 1 ∷ Insert 1 1 1 1 ∷ []) ([] ∷ codes "a" ∷ codes "ab" ∷ []) }
+{}
+
+/// `c` put into `ab` between its bytes; an insertion of no bytes, and those past the end of what they name, give nothing.
+fn insertion_in_the_middle_gives_a_text()
+    ensures middle { result_of (pool_of (codes "abc")) ([] ∷ codes "ab" ∷ []) (Insert 1 1 2 1) ≡ Some (codes "acb") }
+    ensures past_the_text { result_of (pool_of (codes "abcx")) ([] ∷ codes "abc" ∷ []) (Insert 1 4 3 1) ≡ None }
+    ensures past_the_texts { result_of (pool_of (codes "abcx")) ([] ∷ codes "abc" ∷ []) (Insert 5 0 3 1) ≡ None }
+    ensures past_the_pool { result_of (pool_of (codes "abcx")) ([] ∷ codes "abc" ∷ []) (Insert 1 0 3 2) ≡ None }
+    ensures no_bytes { result_of (pool_of (codes "abcx")) ([] ∷ codes "abc" ∷ []) (Insert 1 0 0 0) ≡ None }
+{}
+
+/// The root of parts of parts is covered by the row of the leaf that they lead to.
+#[tactic(auto, using(crate::proofs::WorkedRows::part_of_a_part_covered))]
+fn leaf_row_covers_a_part_of_a_part()
+    ensures { Covers part_of_a_part (parts_of (Insert 0 0 2 2)) (Some (number 4)) (leaf_row 2 ∷ []) }
+{}
+
+/// A row of two bytes leaves the third one uncovered; a row behind the end does not fit.
+#[tactic(auto, using(crate::proofs::WorkedRows::third_byte_uncovered, crate::proofs::WorkedRows::row_past_the_end))]
+fn second_row_is_the_first_that_is_bad()
+    ensures uncovered { IsFirstBad one_literal (parts_of (Insert 0 0 0 3)) (Some (number 0)) (leaf_row 2 ∷ []) 1 }
+    ensures past_the_end { IsFirstBad one_literal (parts_of (Insert 0 0 0 3)) (Some (number 0)) (leaf_row 3 ∷ leaf_row 1 ∷ []) 1 }
+{}
+
+/// Bytes of another place of the pool have another description.
+fn row_of_another_place_does_not_fit()
+    ensures { ¬ Fits one_literal (Pool 1 2 ∷ []) (Some (number 0)) 0 (leaf_row 2) }
+{}
