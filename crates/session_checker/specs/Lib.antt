@@ -5,3 +5,4 @@ pub mod NodeRules
 pub mod RevisionRules
 pub mod Accepted
 pub mod Faithful
+pub mod Worked

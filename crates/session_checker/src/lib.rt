@@ -14,3 +14,5 @@ pub use tables::{Tables, check_tables};
 
 #[cfg(test)]
 mod tests;
+#[cfg(test)]
+mod worked;
