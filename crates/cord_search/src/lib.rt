@@ -9,6 +9,8 @@ mod output;
 mod pattern;
 #[cfg(test)]
 mod tests;
+#[cfg(test)]
+mod worked;
 mod write;
 
 pub use compare::{cmp, ncmp};
