@@ -1,5 +1,5 @@
 -- The records of the worked examples: those that keep the rules, and the first ones that do not.
-use Rattle.std.proofs.Common.{ℕ, zero, suc, ◌<◌, ◌≤◌, List, [], ◌∷◌, length, take, true, Some, refl, arith, lit<, lit≤}
+use Rattle.std.proofs.Common.{ℕ, zero, suc, ◌<◌, List, [], ◌∷◌, length, take, true, Some, refl, arith, lit<, lit≤}
 use Rattle.rope_node.specs.Balance.{fibonacci, IsBalanced}
 use Rattle.rope_node.specs.Worked.{number, child_not_earlier, part_of_a_part, part_of_a_part_recorded, too_long_together}
 use Rattle.span_certificate.specs.declared.row.Row.{Row}
