@@ -19,13 +19,13 @@ use cord_search::put;
 use function_leaf::Coded;
 use lazy_file::Sources;
 use node_table::NodeFault;
-use rebalance::{BalanceFault, cat_any};
+use rebalance::{BalanceFault, balance, cat_any};
 use rope_node::{NodeSpace, Rope};
 use rope_store::Store;
 use std::alloc::Global;
 use std::io;
 
-/// The rope of all the store's sources in their order. Where they have 2^40 bytes or more together, it is refused.
+/// The rope of all the store's sources in their order, balanced. Where they have 2^40 bytes or more together, it is refused.
 fn join_sources(store: &mut Store<Coded>) -> Result<Rope, BalanceFault>
     ensures is_rope { IfOk result (IsRope (table_of coded_byte store.new)) }
     ensures text { IfOk result (λ rope. rope_cells (table_of coded_byte store.new) rope ≡ cells_of_first store.old.sources (length store.old.sources)) }
@@ -42,7 +42,8 @@ fn join_sources(store: &mut Store<Coded>) -> Result<Rope, BalanceFault>
         let _count = store.count();
         rope = cat_any(store, rope, file)?;
     }
-    Ok(rope)
+    let _count = store.count();
+    balance(store, rope)
 }
 
 /// Writes the bytes of all the sources in their order, and nothing else. They are one rope before the first of them is written, so
