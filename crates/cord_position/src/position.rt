@@ -1,9 +1,9 @@
 //! Positions in a rope's text.
 
-ghost use Rattle.std.specs.Prelude.{◌≡◌, ◌↔◌, ◌<◌, ◌≤◌, ◌+◌, ◌-◌, ◌^◌, ℕ, min, true, length, map, take, drop, All, IsTrue, IfOk, IfErr, IsOk};
+ghost use Rattle.std.specs.Prelude.{◌≡◌, ◌↔◌, ◌<◌, ◌≤◌, ◌+◌, ◌-◌, ◌^◌, ℕ, min, true, length, map, take, drop, All, IsTrue, IfSome, IfOk, IfErr, IsOk};
 ghost use Rattle.rope_node.specs.Denotes.{Byte, rope_len, rope_cells, IsRope};
 ghost use Rattle.cord_position.specs.Fetched.{IsFetched, IsPlaceFault, IsFaultAmong, HoldsPlace, rope_cell};
-ghost use Rattle.cord_position.specs.Runs.{run_left, run_bytes, AreBytesOf};
+ghost use Rattle.cord_position.specs.Runs.{rope_span, run_left, run_bytes, AreBytesOf, IsRun};
 
 use crate::fetch::fetch_byte;
 use crate::fill::fill_part;
@@ -120,6 +120,7 @@ impl<'a, S: NodeSpace> Pos<'a, S> {
     pub fn run_left(&self) -> u64
         ensures exact { result ≡ run_left (S.table self.now.space) self.now.rope self.now.index }
         ensures inside { self.now.index + result ≤ rope_len (S.table self.now.space) self.now.rope }
+        ensures run { IfSome (rope_span (S.table self.now.space) self.now.rope self.now.index) (IsRun (S.table self.now.space) self.now.rope self.now.index) }
         ensures some { self.now.index < rope_len (S.table self.now.space) self.now.rope → 1 ≤ result }
     {
         match find_run(self.space, self.rope, self.place) {

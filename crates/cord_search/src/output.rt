@@ -1,6 +1,6 @@
 //! Writing.
 
-ghost use Rattle.std.specs.Prelude.{◌≡◌, ◌≤◌, length, take, OnOk, OnErr, IfOk, IfErr};
+ghost use Rattle.std.specs.Prelude.{◌≡◌, ◌≤◌, length, take, [], OnOk, OnErr, IfOk, IfErr, IsOk};
 ghost use Rattle.std.specs.Io.KnownBytes.{Appends, Keeps};
 ghost use Rattle.cord_search.specs.Output.{AppendsPrefix};
 ghost use Rattle.cord_search.specs.declared.fault.PutFault.TheVariants.{Write};
@@ -34,6 +34,7 @@ pub fn write_bytes<W: io::Write>(writer: &mut W, bytes: &[u8]) -> Result<(), Put
     ensures ok { OnOk result (Appends (W.contents writer.old) (W.contents writer.new) bytes.now) }
     ensures err { OnErr result (AppendsPrefix (W.contents writer.old) (W.contents writer.new) bytes.now) }
     ensures fault { IfErr result (λ e. e ≡ Write) }
+    ensures nothing { bytes.now ≡ [] → IsOk result }
 {
     let mut done = 0;
     for _ in 0..u64::MAX {

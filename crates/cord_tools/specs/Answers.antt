@@ -2,14 +2,14 @@
 use Rattle.std.specs.Prelude.{◌≡◌, ◌⊎◌, ℕ, List, ◌++◌, ◌<◌, ◌≤◌, length, map, take, Option, Some, Result, Ok, Err, IfSome, codes}
 use Rattle.std.specs.Fmt.{decimal}
 use Rattle.std.specs.Io.KnownBytes.{Appends, Keeps}
-use Rattle.lazy_file.specs.SourceTexts.{Agrees}
+use Rattle.lazy_file.specs.SourceTexts.{Agrees, AreSizes}
 use Rattle.lazy_file.specs.Faults.{add_fault_code}
 use Rattle.lazy_file.specs.declared.faults.AddFault.{AddFault}
 use Rattle.image_reader.specs.Acceptance.{HasSources}
 use Rattle.image_reader.specs.Value.{ImageValue, IsImage, table_of}
 use Rattle.image_reader.specs.Spelling.{spelling}
 use Rattle.session_checker.specs.declared.fault.CheckFault.{CheckFault}
-use Rattle.session_checker.specs.Accepted.{IsFirstFault}
+use Rattle.session_checker.specs.Accepted.{IsAccepted, IsFirstFault}
 use Rattle.session_checker.specs.Faithful.{IsFaithful, text_of}
 use Rattle.session_checker.specs.Codes.{fault_code}
 use Rattle.cord_tools.specs.declared.fault.ToolFault.{ToolFault}
@@ -41,8 +41,9 @@ AreRead = AreReadUpTo image_limit
 abbrev pub refused_source_line : AddFault → List ℕ
 refused_source_line fault = codes "refused " ++ add_fault_code fault ++ codes "\n"
 
--- the bytes spell a faithful image whose sources are of these lengths
+-- the bytes are accepted with sources of these lengths; they spell this image, which is faithful
 pub record SpellsFaithful (bytes sizes : List ℕ) (v : ImageValue) : Type 0 where
+  pub accepted : IsAccepted bytes sizes
   pub image : IsImage v
   pub spelled : bytes ≡ spelling v
   pub sources : HasSources v sizes
@@ -58,9 +59,9 @@ abbrev pub AnswersSources : List (List ℕ) → List ℕ → Status → Type 0
 AnswersSources texts line Success = ⊥
 AnswersSources texts line Failure = (f : AddFault) × RefusesSources texts (Source f) × (line ≡ refused_source_line f)
 
--- the line and the status that answer for these bytes with sources of these texts
+-- the line and the status that answer for these bytes with sources of these texts, which come before the bytes
 abbrev pub AnswersCheck : List ℕ → List (List ℕ) → List ℕ → Status → Type 0
-AnswersCheck bytes texts line status = AnswersWith bytes (map length texts) line status ⊎ AnswersSources texts line status
+AnswersCheck bytes texts line status = (AreSizes (map length texts) × AnswersWith bytes (map length texts) line status) ⊎ AnswersSources texts line status
 
 -- The line that answers for the bytes read was written; where the writer failed, a prefix of it; where the tool was stopped before, nothing.
 abbrev pub ChecksInput : Option (List ℕ) → List (List ℕ) → Option (List ℕ) → Option (List ℕ) → Result Status ToolFault → Type 0
@@ -88,7 +89,7 @@ ShowsRevision remaining texts k old new (Ok u) = (v : ImageValue) × ReadsFaithf
 ShowsRevision remaining texts k old new (Err Write) = (v : ImageValue) × ReadsFaithful remaining texts v × (k < length v.revisions) × ((source : ℕ → ℕ → ℕ) → AreOf texts source → AppendsPrefix old new (text_of v source k))
 ShowsRevision remaining texts k old new (Err Read) = Keeps old new
 ShowsRevision remaining texts k old new (Err Memory) = Keeps old new
-ShowsRevision remaining texts k old new (Err (Refused f)) = Keeps old new × ((bytes : List ℕ) × AreRead remaining bytes × IsFirstFault bytes (map length texts) f)
+ShowsRevision remaining texts k old new (Err (Refused f)) = Keeps old new × AreSizes (map length texts) × ((bytes : List ℕ) × AreRead remaining bytes × IsFirstFault bytes (map length texts) f)
 ShowsRevision remaining texts k old new (Err (Source f)) = Keeps old new × RefusesSources texts (Source f)
 ShowsRevision remaining texts k old new (Err NoRevision) = Keeps old new × ((v : ImageValue) × ReadsFaithful remaining texts v × (length v.revisions ≤ k))
 ShowsRevision remaining texts k old new (Err PatternTooLong) = ⊥

@@ -40,6 +40,9 @@ fn order_of<T: Sources>(alloc: Global, sources: &mut T) -> Result<Ordering, Tool
     ensures order { IfOk result (IsOrderOfFiles (T.sizes sources.old) (T.texts sources.old)) }
     ensures fault { IfErr result (λ e. (e ≡ Read) ⊎ (e ≡ Memory)) }
     ensures memory { T.never_fails sources.old ≡ true → ¬ IsErrOf result Read }
+    ensures sizes { T.sizes sources.new ≡ T.sizes sources.old }
+    ensures texts { T.texts sources.new ≡ T.texts sources.old }
+    ensures never_fails { T.never_fails sources.new ≡ T.never_fails sources.old }
 {
     let mut store = store_of(alloc, sources)?;
     let first = part(&mut store, 0, 0, u64::MAX)?;
@@ -61,6 +64,9 @@ pub fn run_cmp<T: Sources, W: io::Write>(
     requires { 2 ≤ length (T.sizes sources.old) }
     ensures answer { ComparesFiles (T.sizes sources.old) (T.texts sources.old) (W.contents writer.old) (W.contents writer.new) result }
     ensures memory { T.never_fails sources.old ≡ true → ¬ IsErrOf result Read }
+    ensures sizes { T.sizes sources.new ≡ T.sizes sources.old }
+    ensures texts { T.texts sources.new ≡ T.texts sources.old }
+    ensures never_fails { T.never_fails sources.new ≡ T.never_fails sources.old }
 {
     let order = order_of(alloc, sources)?;
     write_bytes(writer, line_of(order))?;

@@ -30,6 +30,9 @@ pub fn run_cut<T: Sources, W: io::Write>(
     ensures err { OnErr result (OfFile (T.sizes sources.old) (T.texts sources.old) 0 (λ t. AppendsPrefix (W.contents writer.old) (W.contents writer.new) (take count (drop start t)))) }
     ensures fault { IfErr result (λ e. (e ≡ Write) ⊎ ((e ≡ Read) ⊎ (e ≡ Memory))) }
     ensures memory { T.never_fails sources.old ≡ true → ¬ IsErrOf result Read }
+    ensures sizes { T.sizes sources.new ≡ T.sizes sources.old }
+    ensures texts { T.texts sources.new ≡ T.texts sources.old }
+    ensures never_fails { T.never_fails sources.new ≡ T.never_fails sources.old }
 {
     let mut store = store_of(alloc, sources)?;
     put_part(&mut store, sources, 0, start, count, writer)

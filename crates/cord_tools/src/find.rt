@@ -32,6 +32,9 @@ fn first_place<T: Sources>(
     ensures too_long { IsErrOf result PatternTooLong ↔ (search_limit < length pattern.now) }
     ensures fault { IfErr result (λ e. (e ≡ PatternTooLong) ⊎ ((e ≡ Read) ⊎ (e ≡ Memory))) }
     ensures memory { T.never_fails sources.old ≡ true → ¬ IsErrOf result Read }
+    ensures sizes { T.sizes sources.new ≡ T.sizes sources.old }
+    ensures texts { T.texts sources.new ≡ T.texts sources.old }
+    ensures never_fails { T.never_fails sources.new ≡ T.never_fails sources.old }
 {
     if pattern.len() > PATTERN_LIMIT {
         return Err(ToolFault::PatternTooLong);
@@ -59,6 +62,9 @@ pub fn run_find<T: Sources, W: io::Write>(
     ensures answer { FindsPattern (T.sizes sources.old) (T.texts sources.old) start pattern.now (W.contents writer.old) (W.contents writer.new) result }
     ensures too_long { IsErrOf result PatternTooLong ↔ (search_limit < length pattern.now) }
     ensures memory { T.never_fails sources.old ≡ true → ¬ IsErrOf result Read }
+    ensures sizes { T.sizes sources.new ≡ T.sizes sources.old }
+    ensures texts { T.texts sources.new ≡ T.texts sources.old }
+    ensures never_fails { T.never_fails sources.new ≡ T.never_fails sources.old }
 {
     match first_place(alloc, sources, start, pattern)? {
         Some(place) => {

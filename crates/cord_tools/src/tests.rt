@@ -372,6 +372,10 @@ fn a_check_with_256_sources_is_refused(rt: HostRuntime) -> Result<(), Fail> {
     let outcome = check_with(&rt, ONE_INSERT, texts.as_slice(), &mut writer);
     assert_eq!(rt; outcome, Ok(Status::Failure));
     assert_eq!(rt; writer.taken(), b"refused S4\n".as_slice());
+    let mut other = Sink::with_room(64, End::Fails);
+    let outcome = check_with(&rt, b"no image", texts.as_slice(), &mut other);
+    assert_eq!(rt; outcome, Ok(Status::Failure));
+    assert_eq!(rt; other.taken(), b"refused S4\n".as_slice());
     let mut shown = Sink::with_room(64, End::Fails);
     let refused = ToolFault::Source(AddFault::TooManySources);
     let mut outcome = run_show(alloc, whole(ONE_INSERT), texts.as_slice(), 1, &mut shown);

@@ -102,6 +102,7 @@ impl Checked<'_> {
         ensures succeeds { S.never_fails sources.old ≡ true → HasSources self.now (S.sizes sources.old) → IsOk result }
 
         // A fetch changes no size and no text, nor whether the sources may fail.
+        ensures later { S.failures sources.old ≤ S.failures sources.new }
         ensures sizes { S.sizes sources.new ≡ S.sizes sources.old }
         ensures texts { S.texts sources.new ≡ S.texts sources.old }
         ensures never_fails { S.never_fails sources.new ≡ S.never_fails sources.old }

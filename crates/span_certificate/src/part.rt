@@ -56,7 +56,7 @@ impl Model for Parts {
 }
 
 impl Parts {
-    /// The parts of which a command on an empty text makes its text. Parts of length 0 are left out.
+    /// The parts of which a command on an empty text makes its text. A command in range inserts one byte or more, so none is empty.
     pub fn of(edit: &Edit) -> Parts
         ensures { result ≡ parts_of edit.now }
     {

@@ -10,7 +10,7 @@ use Rattle.cord_tools.proofs.show.run_show.Goals as goal
 
 pub returns-in-Err : goal.returns-in-Err
 returns-in-Err g c =
-    (Keeps-same (g.W.Write.contents c.args.writer.now), (c.in_ok-bytes.bytes.items, c.in_ok-bytes.ensures.ok, rw (c.deref.ensures.value, c.in_ok-sources.ensures.ok) at c.in-Err.ensures.refused))
+    (Keeps-same (g.W.Write.contents c.args.writer.now), c.in_ok-sources.ensures.limits, (c.in_ok-bytes.bytes.items, c.in_ok-bytes.ensures.ok, rw (c.deref.ensures.value, c.in_ok-sources.ensures.ok) at c.in-Err.ensures.refused))
 
 pub returns-in_err-put-in-Some : goal.returns-in_err-put-in-Some
 returns-in_err-put-in-Some g c =
@@ -24,6 +24,7 @@ returns-in_err-put-in-Some g c =
         c.in_ok-bytes.bytes.items,
         c.in_ok-bytes.ensures.ok,
         record {
+          accepted = rw (c.deref.ensures.value, c.in_ok-sources.ensures.ok) at (c.in-Ok.ensures.accepted.0 refl);
           image = c.in-Ok.ensures.image.0;
           spelled = sym c.deref.ensures.value ∙ c.in-Ok.ensures.image.1;
           sources = c.in-Ok.ensures.sources ∙ ap (λ (us : List (List ℕ)). map length us) c.in_ok-sources.ensures.ok;
@@ -44,6 +45,7 @@ returns-in-Some g c =
         c.in_ok-bytes.bytes.items,
         c.in_ok-bytes.ensures.ok,
         record {
+          accepted = rw (c.deref.ensures.value, c.in_ok-sources.ensures.ok) at (c.in-Ok.ensures.accepted.0 refl);
           image = c.in-Ok.ensures.image.0;
           spelled = sym c.deref.ensures.value ∙ c.in-Ok.ensures.image.1;
           sources = c.in-Ok.ensures.sources ∙ ap (λ (us : List (List ℕ)). map length us) c.in_ok-sources.ensures.ok;
