@@ -1,5 +1,5 @@
 -- What the faults of reads, writes, searches and ropes come to.
-use Rattle.std.specs.Prelude.{⊤}
+use Rattle.std.specs.Prelude.{◌≡◌, ⊤}
 use Rattle.lazy_file.specs.declared.faults.SourceFault.{SourceFault}
 use Rattle.lazy_file.specs.declared.faults.SourceFault.TheVariants as Source
 use Rattle.node_table.specs.declared.fault.NodeFault.TheVariants as Node
@@ -37,23 +37,12 @@ rope_fault (Balance.Node Node.BadSpan) = Rope (Balance.Node Node.BadSpan)
 rope_fault (Balance.Node Node.TooManySources) = Rope (Balance.Node Node.TooManySources)
 rope_fault (Balance.Node Node.Memory) = Memory
 
--- the rope over files may be too long, or want more pieces, nodes or bytes than there may be
-abbrev pub RefusesJoin : BalanceFault → Type 0
-RefusesJoin Balance.TooManyPieces = ⊤
-RefusesJoin (Balance.Node Node.TooLong) = ⊤
-RefusesJoin (Balance.Node Node.TooDeep) = ⊥
-RefusesJoin (Balance.Node Node.TableFull) = ⊤
-RefusesJoin (Balance.Node Node.PoolFull) = ⊤
-RefusesJoin (Balance.Node Node.BadSpan) = ⊥
-RefusesJoin (Balance.Node Node.TooManySources) = ⊥
-RefusesJoin (Balance.Node Node.Memory) = ⊥
-
--- what may end the joining of files
+-- what may end the joining of files: their rope is refused as too long alone
 abbrev pub IsJoinFault : ToolFault → Type 0
 IsJoinFault Memory = ⊤
 IsJoinFault Read = ⊤
 IsJoinFault Write = ⊤
-IsJoinFault (Rope fault) = RefusesJoin fault
+IsJoinFault (Rope fault) = fault ≡ Balance.Node Node.TooLong
 IsJoinFault (Tool.Refused f) = ⊥
 IsJoinFault (Tool.Source f) = ⊥
 IsJoinFault Tool.NoRevision = ⊥

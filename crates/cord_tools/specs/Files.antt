@@ -31,9 +31,9 @@ OfFiles sizes texts s r P = (source : ℕ → ℕ → ℕ) → Agrees texts sour
 abbrev pub file_cells : List ℕ → ℕ → List Cell
 file_cells sizes s = map (Place s) (range_with_len 0 (get_or sizes s 0))
 
--- the cells of the first n sources, one behind the other
-abbrev pub cells_of_first : List ℕ → ℕ → List Cell
-cells_of_first sizes n = flat_map (file_cells sizes) (range_with_len 0 n)
+-- the cells of n sources from source first on, one behind the other
+abbrev pub cells_of : List ℕ → ℕ → ℕ → List Cell
+cells_of sizes first n = flat_map (file_cells sizes) (range_with_len first n)
 
 -- the bytes of the first n sources, one behind the other
 abbrev pub bytes_of_first : List ℕ → (ℕ → ℕ → ℕ) → ℕ → List ℕ

@@ -37,7 +37,7 @@ pub enum ToolFault {
     /// The pattern of a search has more than 4,096 bytes.
     #[error("refused F1")]
     PatternTooLong,
-    /// The rope of a tool is refused: its text is too long, or it is in too many pieces.
+    /// The rope of joined files is refused: its text is too long.
     #[error("refused {0}")]
     Rope(BalanceFault),
 }

@@ -1,16 +1,17 @@
 //! Files, one behind the other.
 
-ghost use Rattle.std.specs.Prelude.{◌≡◌, ◌⊎◌, ◌<◌, ◌≤◌, ◌^◌, true, length, IfOk, IfErr, OnOk, OnErr, IsOk, IsErrOf};
+ghost use Rattle.std.specs.Prelude.{◌≡◌, ◌⊎◌, ℕ, ◌+◌, ◌*◌, ◌<◌, ◌≤◌, ◌^◌, [], true, length, IfOk, IfErr, OnOk, OnErr, IsOk, IsErrOf};
 ghost use Rattle.std.specs.List.{sum};
 ghost use Rattle.std.specs.Io.KnownBytes.{Appends, Keeps};
 ghost use Rattle.function_leaf.specs.Coded.{coded_byte};
-ghost use Rattle.rope_node.specs.Denotes.{IsRope, rope_cells};
-ghost use Rattle.node_table.specs.Held.{table_of};
+ghost use Rattle.rope_node.specs.Denotes.{IsRope, rope_cells, rope_depth};
+ghost use Rattle.rope_node.specs.Extends.{Extends};
+ghost use Rattle.node_table.specs.Held.{most_sources, table_of};
 ghost use Rattle.rebalance.specs.declared.fault.BalanceFault.{BalanceFault};
 ghost use Rattle.rebalance.specs.declared.fault.BalanceFault.TheVariants.{Node};
 ghost use Rattle.cord_search.specs.Output.{AppendsPrefix};
 ghost use Rattle.cord_tools.specs.Faults.{IsJoinFault, rope_fault};
-ghost use Rattle.cord_tools.specs.Files.{OfAllFiles, cells_of_first};
+ghost use Rattle.cord_tools.specs.Files.{OfAllFiles, cells_of};
 ghost use Rattle.cord_tools.specs.declared.fault.ToolFault.TheVariants.{Read, Rope, Write};
 
 use crate::fault::ToolFault;
@@ -19,31 +20,61 @@ use cord_search::put;
 use function_leaf::Coded;
 use lazy_file::Sources;
 use node_table::NodeFault;
-use rebalance::{BalanceFault, balance, cat_any};
+use rebalance::{BalanceFault, cat_any};
 use rope_node::{NodeSpace, Rope};
 use rope_store::Store;
 use std::alloc::Global;
 use std::io;
 
-/// The rope of all the store's sources in their order, balanced. Where they have 2^40 bytes or more together, it is refused.
-fn join_sources(store: &mut Store<Coded>) -> Result<Rope, BalanceFault>
+/// The rope of `count` sources from source `first` on, in their order. It is made of the ropes of both halves, so it is not deep.
+fn join_range(store: &mut Store<Coded>, first: u32, count: u32) -> Result<Rope, BalanceFault>
+    requires some { 1 ≤ count }
+    requires there { first + count ≤ length store.old.sources }
+    requires few { length store.old.sources ≤ most_sources }
+    requires nodes { length store.old.nodes ≤ 4 * first }
+    requires bytes { length store.old.pool.bytes ≤ 31 * first }
     ensures is_rope { IfOk result (IsRope (table_of coded_byte store.new)) }
-    ensures text { IfOk result (λ rope. rope_cells (table_of coded_byte store.new) rope ≡ cells_of_first store.old.sources (length store.old.sources)) }
+    ensures text { IfOk result (λ rope. rope_cells (table_of coded_byte store.new) rope ≡ cells_of store.old.sources first count) }
+    ensures depth { (levels : ℕ) → count ≤ 2 ^ levels → IfOk result (λ rope. rope_depth (table_of coded_byte store.new) rope ≤ levels) }
+    ensures nodes { OnOk result (length store.new.nodes + 3 ≤ length store.old.nodes + 4 * count) }
+    ensures bytes { OnOk result (length store.new.pool.bytes + 31 ≤ length store.old.pool.bytes + 31 * count) }
+    ensures short { OnOk result (length (cells_of store.old.sources first count) < 2 ^ 40) }
+    ensures too_long { IsErrOf result (Node NodeFault.TooLong) → 2 ^ 40 ≤ length (cells_of store.old.sources first count) }
+    ensures fault { IfErr result (λ e. IsJoinFault (rope_fault e)) }
+    ensures kept { Extends (table_of coded_byte store.old) (table_of coded_byte store.new) }
+    ensures sources { store.new.sources ≡ store.old.sources }
+{
+    let _count = store.count();
+    if count == 1 {
+        let len = store.source_len(first);
+        return Ok(store.from_source(first, 0, len)?);
+    }
+    let half = count / 2;
+    let left = join_range(store, first, half)?;
+    let _count = store.count();
+    let right = join_range(store, first + half, count - half)?;
+    let _count = store.count();
+    cat_any(store, left, right)
+}
+
+/// The rope of all the store's sources in their order. Where they have 2^40 bytes or more together, it is refused, and else only memory
+/// is in the way.
+fn join_sources(store: &mut Store<Coded>) -> Result<Rope, BalanceFault>
+    requires few { length store.old.sources ≤ most_sources }
+    requires no_nodes { store.old.nodes ≡ [] }
+    requires no_bytes { store.old.pool.bytes ≡ [] }
+    ensures is_rope { IfOk result (IsRope (table_of coded_byte store.new)) }
+    ensures text { IfOk result (λ rope. rope_cells (table_of coded_byte store.new) rope ≡ cells_of store.old.sources 0 (length store.old.sources)) }
     ensures short { OnOk result (sum store.old.sources < 2 ^ 40) }
     ensures too_long { IsErrOf result (Node NodeFault.TooLong) → 2 ^ 40 ≤ sum store.old.sources }
     ensures fault { IfErr result (λ e. IsJoinFault (rope_fault e)) }
     ensures sources { store.new.sources ≡ store.old.sources }
 {
-    let mut rope = None;
-    for s in 0..store.source_count() {
-        let _count = store.count();
-        let len = store.source_len(s);
-        let file = store.from_source(s, 0, len)?;
-        let _count = store.count();
-        rope = cat_any(store, rope, file)?;
+    let count = store.source_count();
+    if count == 0 {
+        return Ok(None);
     }
-    let _count = store.count();
-    balance(store, rope)
+    join_range(store, 0, count)
 }
 
 /// Writes the bytes of all the sources in their order, and nothing else. They are one rope before the first of them is written, so
@@ -51,8 +82,8 @@ fn join_sources(store: &mut Store<Coded>) -> Result<Rope, BalanceFault>
 ///
 /// # Errors
 ///
-/// `Rope`, where the rope is refused: `TooLong` for 2^40 bytes or more. `Write`, where the writer failed or took no byte. `Read`, where
-/// a source could not be read. `Memory`.
+/// `Rope` with `TooLong`, and with no other refusal, where they have 2^40 bytes or more together. `Write`, where the writer failed or
+/// took no byte. `Read`, where a source could not be read. `Memory`.
 pub fn run_join<T: Sources, W: io::Write>(
     alloc: Global,
     sources: &mut T,

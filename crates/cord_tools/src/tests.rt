@@ -562,7 +562,7 @@ fn join<T: Sources>(
     run_join(rt.alloc(), sources, writer)
 }
 
-/// As many files would make a chain that is too deep, so their rope is put together anew.
+/// As many files would make a chain that is too deep, so their rope is put together by halves.
 #[test]
 fn two_hundred_files_are_joined_in_their_order(rt: HostRuntime) {
     let mut bytes = [0; 300];
