@@ -97,6 +97,9 @@ pub fn run_join<T: Sources, W: io::Write>(
     ensures short { IsOk result ⊎ (IsErrOf result Write ⊎ IsErrOf result Read) → sum (T.sizes sources.old) < 2 ^ 40 }
     ensures long { 2 ^ 40 ≤ sum (T.sizes sources.old) → Keeps (W.contents writer.old) (W.contents writer.new) }
     ensures memory { T.never_fails sources.old ≡ true → ¬ IsErrOf result Read }
+    ensures sizes { T.sizes sources.new ≡ T.sizes sources.old }
+    ensures texts { T.texts sources.new ≡ T.texts sources.old }
+    ensures never_fails { T.never_fails sources.new ≡ T.never_fails sources.old }
 {
     let mut store = store_of(alloc, sources)?;
     let rope = join_sources(&mut store)?;
