@@ -1,7 +1,7 @@
 //! The byte at a place of a rope, by one descent.
 
-ghost use Rattle.std.specs.Prelude.{◌≡◌, ◌≤◌, ◌+◌, ℕ, true, IfOk, IfErr, IsOk};
-ghost use Rattle.rope_node.specs.Denotes.{rope_depth, IsRope};
+ghost use Rattle.std.specs.Prelude.{◌≡◌, ◌↔◌, ◌<◌, ◌≤◌, ◌+◌, ℕ, true, IfOk, IfErr, IsOk, IsSome};
+ghost use Rattle.rope_node.specs.Denotes.{rope_len, rope_depth, IsRope};
 ghost use Rattle.rope_node.specs.Path.{rope_visits};
 ghost use Rattle.cord_position.specs.Fetched.{IsFetched, IsPlaceFault, HoldsPlace, rope_cell};
 
@@ -23,6 +23,7 @@ pub fn fetch_byte<S: NodeSpace, T: Sources>(
 ) -> Result<(Option<u8>, u32), SourceFault>
     requires { IsRope (S.table space.now) rope }
     ensures byte { IfOk result (λ x. IsFetched (S.table space.now) (T.texts sources.old) rope i x.0) }
+    ensures inside { IfOk result (λ x. IsSome x.0 ↔ i < rope_len (S.table space.now) rope) }
     ensures visits { IfOk result (λ x. x.1 ≡ rope_visits (S.table space.now) rope i) }
     ensures few { IfOk result (λ x. x.1 ≤ rope_depth (S.table space.now) rope + 1) }
     ensures fault { IfErr result (IsPlaceFault (T.sizes sources.old) (T.texts sources.old) (T.failures sources.old) (T.failures sources.new) (rope_cell (S.table space.now) rope i)) }

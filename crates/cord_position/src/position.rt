@@ -1,6 +1,6 @@
 //! Positions in a rope's text.
 
-ghost use Rattle.std.specs.Prelude.{◌≡◌, ◌↔◌, ◌<◌, ◌≤◌, ◌+◌, ◌-◌, ◌^◌, ℕ, min, true, length, map, take, drop, All, IsTrue, IfSome, IfOk, IfErr, IsOk};
+ghost use Rattle.std.specs.Prelude.{◌≡◌, ◌↔◌, ◌<◌, ◌≤◌, ◌+◌, ◌-◌, ◌^◌, ℕ, min, true, length, map, take, drop, All, IsTrue, IsSome, IfSome, IfOk, IfErr, IsOk};
 ghost use Rattle.rope_node.specs.Denotes.{Byte, rope_len, rope_cells, IsRope};
 ghost use Rattle.cord_position.specs.Fetched.{IsFetched, IsPlaceFault, IsFaultAmong, HoldsPlace, rope_cell};
 ghost use Rattle.cord_position.specs.Runs.{rope_span, run_left, run_bytes, AreBytesOf, IsRun};
@@ -64,6 +64,7 @@ impl<'a, S: NodeSpace> Pos<'a, S> {
     /// A source's fault, where the byte is one of that source and the read of it failed.
     pub fn fetch<T: Sources>(&self, sources: &mut T) -> Result<Option<u8>, SourceFault>
         ensures byte { IfOk result (IsFetched (S.table self.now.space) (T.texts sources.old) self.now.rope self.now.index) }
+        ensures inside { IfOk result (λ found. IsSome found ↔ self.now.index < rope_len (S.table self.now.space) self.now.rope) }
         ensures fault { IfErr result (IsPlaceFault (T.sizes sources.old) (T.texts sources.old) (T.failures sources.old) (T.failures sources.new) (rope_cell (S.table self.now.space) self.now.rope self.now.index)) }
         ensures succeeds { T.never_fails sources.old ≡ true → HoldsPlace (T.sizes sources.old) (rope_cell (S.table self.now.space) self.now.rope self.now.index) → IsOk result }
         ensures own_sources { T.never_fails sources.old ≡ true → T.sizes sources.old ≡ (S.table self.now.space).sources → IsOk result }

@@ -1,7 +1,7 @@
 //! Accepted images.
 
-ghost use Rattle.std.specs.Prelude.{◌≡◌, ◌↔◌, ◌<◌, ◌≤◌, ◌+◌, ℕ, true, length, slice_get, None, IfOk, IfErr, IfSome, IsOk};
-ghost use Rattle.rope_node.specs.Denotes.{rope_depth, IsRope};
+ghost use Rattle.std.specs.Prelude.{◌≡◌, ◌↔◌, ◌<◌, ◌≤◌, ◌+◌, ℕ, true, length, slice_get, None, IfOk, IfErr, IfSome, IsOk, IsSome};
+ghost use Rattle.rope_node.specs.Denotes.{rope_len, rope_depth, IsRope};
 ghost use Rattle.cord_position.specs.Fetched.{IsPlaceFault};
 ghost use Rattle.image_reader.specs.Acceptance.{HasSources};
 ghost use Rattle.image_reader.specs.Value.{IsImage, table_of};
@@ -96,6 +96,7 @@ impl Checked<'_> {
         i: u64,
     ) -> Result<(Option<u8>, u32), SourceFault>
         ensures byte { IfOk result (λ x. IsFetchedOf self.now (S.texts sources.old) k i x.0) }
+        ensures inside { IfOk result (λ x. IsSome x.0 ↔ i < rope_len (table_of self.now) (revision_at self.now k).root) }
         ensures visits { IfOk result (λ x. x.1 ≡ fetch_visits self.now k i) }
         ensures few { IfOk result (λ x. x.1 ≤ rope_depth (table_of self.now) (revision_at self.now k).root + 1) }
         ensures fault { IfErr result (IsPlaceFault (S.sizes sources.old) (S.texts sources.old) (S.failures sources.old) (S.failures sources.new) (fetched_cell self.now k i)) }
