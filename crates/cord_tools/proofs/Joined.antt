@@ -1,7 +1,7 @@
 -- The cells of files, one behind the other, and their bytes.
 use Rattle.std.proofs.Common.{◌≡◌, ℕ, zero, suc, ◌+◌, ◌<◌, ◌≤◌, List, [], ◌∷◌, ◌++◌, length, map, take, get_or, Option, refl, sym, ap, ap₂, subst, ◌∙◌, arith, length-append}
 use Rattle.std.specs.Prelude.{IsSome}
-use Rattle.std.specs.List.{concat, flat_map, range_with_len, sum}
+use Rattle.std.specs.List.{flat_map, range_with_len, sum}
 use Rattle.std.proofs.lemmas.List.{append-nil, map-append}
 use Rattle.std.proofs.lemmas.List.Concat.{flat_map-append}
 use Rattle.std.proofs.lemmas.List.Elements.{All-append, All-map, All-nil}
@@ -59,7 +59,7 @@ pub length_of_all : (sizes : List ℕ) → length (cells_of sizes 0 (length size
 length_of_all sizes = length_of_first sizes (length sizes) (omega arith) ∙ ap sum (take-length sizes)
 
 -- they stand for the bytes of the sources
-text_of_files : (sizes : List ℕ) (source : ℕ → ℕ → ℕ) (ss : List ℕ) → text source (flat_map (file_cells sizes) ss) ≡ concat (map (file_bytes sizes source) ss)
+text_of_files : (sizes : List ℕ) (source : ℕ → ℕ → ℕ) (ss : List ℕ) → text source (flat_map (file_cells sizes) ss) ≡ flat_map (file_bytes sizes source) ss
 text_of_files sizes source [] = refl
 text_of_files sizes source (s ∷ ss) =
     map-append (cell_byte source) (file_cells sizes s) (flat_map (file_cells sizes) ss) ∙ ap₂ (λ (xs ys : List ℕ). xs ++ ys) (places_text source s (range_with_len 0 (get_or sizes s 0))) (text_of_files sizes source ss)

@@ -1,6 +1,6 @@
 -- What the tools say of the bytes of files.
 use Rattle.std.specs.Prelude.{◌≡◌, ℕ, ◌<◌, List, ◌++◌, length, map, get_or, Option, None, Result, Ok, Err, IsSome, codes}
-use Rattle.std.specs.List.{concat, flat_map, range_with_len}
+use Rattle.std.specs.List.{flat_map, range_with_len}
 use Rattle.std.specs.Fmt.{decimal}
 use Rattle.std.specs.Io.KnownBytes.{Appends, Keeps}
 use Rattle.std.specs.declared.cmp.Ordering.{Ordering}
@@ -35,13 +35,13 @@ file_cells sizes s = map (Place s) (range_with_len 0 (get_or sizes s 0))
 abbrev pub cells_of : List ℕ → ℕ → ℕ → List Cell
 cells_of sizes first n = flat_map (file_cells sizes) (range_with_len first n)
 
--- the bytes of the first n sources, one behind the other
-abbrev pub bytes_of_first : List ℕ → (ℕ → ℕ → ℕ) → ℕ → List ℕ
-bytes_of_first sizes source n = concat (map (file_bytes sizes source) (range_with_len 0 n))
+-- the bytes of all the sources, one behind the other
+abbrev pub joined_bytes : List ℕ → (ℕ → ℕ → ℕ) → List ℕ
+joined_bytes sizes source = flat_map (file_bytes sizes source) (range_with_len 0 (length sizes))
 
 -- P holds of the bytes of all the sources, where each of them states a text
 abbrev pub OfAllFiles : List ℕ → List (Option (List ℕ)) → (List ℕ → Type 0) → Type 0
-OfAllFiles sizes texts P = (source : ℕ → ℕ → ℕ) → Agrees texts source → ((s : ℕ) → s < length sizes → IsSome (text_at texts s)) → P (bytes_of_first sizes source (length sizes))
+OfAllFiles sizes texts P = (source : ℕ → ℕ → ℕ) → Agrees texts source → ((s : ℕ) → s < length sizes → IsSome (text_at texts s)) → P (joined_bytes sizes source)
 
 -- the line that tells a place
 abbrev pub place_line : ℕ → List ℕ

@@ -1,7 +1,7 @@
 -- The image of the worked examples: an empty text, and `abc` inserted into it.
 use Rattle.std.specs.Prelude.{true, false, List, [], ◌∷◌, length, Some, None, codes}
 use Rattle.rope_node.specs.declared.node.NodeView.TheVariants.{Lit}
-use Rattle.rope_node.specs.Worked.{node_of, number}
+use Rattle.rope_node.specs.Worked.{recorded, number}
 use Rattle.span_certificate.specs.declared.edit.Edit.TheVariants.{New, Insert}
 use Rattle.span_certificate.specs.declared.row.Row.{Row}
 use Rattle.span_certificate.specs.Worked.{leaf_row}
@@ -9,7 +9,7 @@ use Rattle.image_reader.specs.declared.revision.Revision.{Revision}
 use Rattle.image_reader.specs.Value.{ImageNode, ImageValue}
 
 abbrev pub literal : ImageNode
-literal = record { node = node_of (Lit 0) 3 0; function = None }
+literal = record { node = recorded (Lit 0) 3 0; function = None }
 
 abbrev pub empty_text : Revision
 empty_text = record { edit = New; mark = false; root = None; rows = 0 }

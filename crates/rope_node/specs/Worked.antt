@@ -5,8 +5,8 @@ use Rattle.rope_node.specs.declared.node.NodeView.{NodeView}
 use Rattle.rope_node.specs.declared.node.NodeView.TheVariants.{Lit, Src, Fun, Cat, Sub}
 use Rattle.rope_node.specs.Table.{Node, Table}
 
-abbrev pub node_of : NodeView → ℕ → ℕ → Node
-node_of view len depth = record { view = view; len = len; depth = depth }
+abbrev pub recorded : NodeView → ℕ → ℕ → Node
+recorded view len depth = record { view = view; len = len; depth = depth }
 
 abbrev pub number : ℕ → NodeId
 number n = record { 0 = n }
@@ -14,13 +14,13 @@ number n = record { 0 = n }
 -- a left chain of four literals of one byte each; its root is node 6
 abbrev pub chain_of_four : Table
 chain_of_four = record {
-  nodes = node_of (Lit 0) 1 0
-      ∷ node_of (Lit 1) 1 0
-      ∷ node_of (Cat (number 0) (number 1)) 2 1
-      ∷ node_of (Lit 2) 1 0
-      ∷ node_of (Cat (number 2) (number 3)) 3 2
-      ∷ node_of (Lit 3) 1 0
-      ∷ node_of (Cat (number 4) (number 5)) 4 3
+  nodes = recorded (Lit 0) 1 0
+      ∷ recorded (Lit 1) 1 0
+      ∷ recorded (Cat (number 0) (number 1)) 2 1
+      ∷ recorded (Lit 2) 1 0
+      ∷ recorded (Cat (number 2) (number 3)) 3 2
+      ∷ recorded (Lit 3) 1 0
+      ∷ recorded (Cat (number 4) (number 5)) 4 3
       ∷ [];
   pool = codes "abcd";
   sources = [];
@@ -30,7 +30,7 @@ chain_of_four = record {
 -- the literal `abc`
 abbrev pub one_literal : Table
 one_literal = record {
-  nodes = node_of (Lit 0) 3 0 ∷ [];
+  nodes = recorded (Lit 0) 3 0 ∷ [];
   pool = codes "abc";
   sources = [];
   answer = λ id i. 0;
@@ -39,11 +39,11 @@ one_literal = record {
 -- the last two bytes of the last three of `abcd`, with this depth recorded
 abbrev pub part_of_a_part_recorded : ℕ → Table
 part_of_a_part_recorded depth = record {
-  nodes = node_of (Lit 0) 2 0
-      ∷ node_of (Lit 2) 2 0
-      ∷ node_of (Cat (number 0) (number 1)) 4 1
-      ∷ node_of (Sub (number 2) 1) 3 2
-      ∷ node_of (Sub (number 3) 1) 2 depth
+  nodes = recorded (Lit 0) 2 0
+      ∷ recorded (Lit 2) 2 0
+      ∷ recorded (Cat (number 0) (number 1)) 4 1
+      ∷ recorded (Sub (number 2) 1) 3 2
+      ∷ recorded (Sub (number 3) 1) 2 depth
       ∷ [];
   pool = codes "abcd";
   sources = [];
@@ -57,10 +57,10 @@ part_of_a_part = part_of_a_part_recorded 3
 -- the literal `ab`, and behind it the middle three of a source's five bytes
 abbrev pub part_of_a_source : Table
 part_of_a_source = record {
-  nodes = node_of (Lit 0) 2 0
-      ∷ node_of (Src 0 0) 5 0
-      ∷ node_of (Sub (number 1) 1) 3 1
-      ∷ node_of (Cat (number 0) (number 2)) 5 2
+  nodes = recorded (Lit 0) 2 0
+      ∷ recorded (Src 0 0) 5 0
+      ∷ recorded (Sub (number 1) 1) 3 1
+      ∷ recorded (Cat (number 0) (number 2)) 5 2
       ∷ [];
   pool = codes "ab";
   sources = 5 ∷ [];
@@ -70,9 +70,9 @@ part_of_a_source = record {
 -- two functions as long as a text may be, and both together
 abbrev pub too_long_together : Table
 too_long_together = record {
-  nodes = node_of Fun (2 ^ 40 - 1) 0
-      ∷ node_of Fun (2 ^ 40 - 1) 0
-      ∷ node_of (Cat (number 0) (number 1)) (2 ^ 41 - 2) 1
+  nodes = recorded Fun (2 ^ 40 - 1) 0
+      ∷ recorded Fun (2 ^ 40 - 1) 0
+      ∷ recorded (Cat (number 0) (number 1)) (2 ^ 41 - 2) 1
       ∷ [];
   pool = [];
   sources = [];
@@ -82,7 +82,7 @@ too_long_together = record {
 -- a literal, and a concatenation of itself with it
 abbrev pub child_not_earlier : Table
 child_not_earlier = record {
-  nodes = node_of (Lit 0) 1 0 ∷ node_of (Cat (number 1) (number 0)) 2 1 ∷ [];
+  nodes = recorded (Lit 0) 1 0 ∷ recorded (Cat (number 1) (number 0)) 2 1 ∷ [];
   pool = codes "a";
   sources = [];
   answer = λ id i. 0;
