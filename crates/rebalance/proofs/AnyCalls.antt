@@ -45,7 +45,7 @@ cat_called {F = F} meaning old one two new l r left right plain k0 k1 k2 left_th
     let q = rope_pieces t0 r in
     let grows : Grows meaning old (length old.nodes + (2 * p + 2 * q)) (length old.pool.bytes + (31 * p + 31 * q)) two =
     grows_through (balance_grows first) (balance_grows second) (omega (arith, second.few_nodes, first.few_nodes, same)) (omega (arith, second.few_bytes, first.few_bytes, same)) in
-    called_anew meaning old two new (joined t2 left right) (rope_cells t0 l ++ rope_cells t0 r) (rope_cells t2 left ++ rope_cells t2 right) (2 ^ 40 ≤ rope_len t2 left + rope_len t2 right) p q 31 plain grows (few_pieces first)
+    called_anew meaning old two new (joined t2 left right) (rope_cells t0 l ++ rope_cells t0 r) (rope_cells t2 left ++ rope_cells t2 right) (2 ^ 40 ≤ rope_len t2 left + rope_len t2 right) p q 31 plain grows (few_pieces first) (λ many. few_pieces second (omega (arith, many, same)))
     (joined_few t2 k2.sound k2.true_records left right a.is_rope b.is_rope) (joined_shallow F t2 k2.sound k2.true_records left right a.is_rope b.is_rope a.shallow b.shallow)
     (λ long. absurd (omega (arith, long, a.len, b.len, short))) made refuses (rw (a.text, b.text) refl)
 
@@ -58,7 +58,7 @@ substr_called {F = F} meaning old one new x rope i n plain k0 k1 there first mad
     let a = stands_for meaning old one x rope k0.sound k0.true_records k1.sound k1.true_records there first in
     let p = rope_pieces t0 x in
     let grows : Grows meaning old (length old.nodes + (2 * p + 2 * 0)) (length old.pool.bytes + (31 * p + 31 * 0)) one = grows_within (balance_grows first) (omega arith) (omega arith) in
-    called_anew meaning old one new (part_added t1 rope i n) (take n (drop i (rope_cells t0 x))) (take n (drop i (rope_cells t1 rope))) ⊥ p 0 0 plain grows (few_pieces first)
+    called_anew meaning old one new (part_added t1 rope i n) (take n (drop i (rope_cells t0 x))) (take n (drop i (rope_cells t1 rope))) ⊥ p 0 0 plain grows (few_pieces first) (λ many. omega (arith, many))
     (part_few t1 rope i n) (part_shallow F t1 k1.true_records rope i n a.is_rope a.shallow) (λ long. long) made refuses (rw a.text refl)
 
 -- ---- bytes put behind a rope
@@ -107,5 +107,5 @@ append_called {F = F} meaning old one new x rope bytes plain k0 k1 there short f
     let low = sized.shallow a.shallow in
     let p = rope_pieces t0 x in
     let grows : Grows meaning old (length old.nodes + (2 * p + 2 * 0)) (length old.pool.bytes + (31 * p + 31 * 0)) one = grows_within (balance_grows first) (omega arith) (omega arith) in
-    called_anew meaning old one new done.addition (rope_cells t0 x ++ map Byte bytes) (rope_cells t1 rope ++ map Byte bytes) (IsTooLong t1 rope bytes) p 0 (length bytes + 31) plain grows (few_pieces first)
+    called_anew meaning old one new done.addition (rope_cells t0 x ++ map Byte bytes) (rope_cells t1 rope ++ map Byte bytes) (IsTooLong t1 rope bytes) p 0 (length bytes + 31) plain grows (few_pieces first) (λ many. omega (arith, many))
     sized.few (λ deep. omega (arith, deep, low)) still done.makes done.refuses (rw a.text refl)

@@ -62,6 +62,7 @@ any_plain_if meaning old new a wanted IsLong p q bytes plain few made refuses sh
   too_long = (λ e. (refuses.too_long.0 (lifted_err plain TooLong e)).1, λ long. lifted_back plain TooLong (refuses.too_long.1 ((λ bad. bad), long)));
   too_many = λ e. absurd (lifted_many plain e);
   first_many = λ deep short many. absurd (shallow (refuses.too_deep.1 ((λ bad. bad), short, deep)));
+  second_many = λ deep short many. absurd (shallow (refuses.too_deep.1 ((λ bad. bad), short, deep)));
   table_full = λ e.
       let full = refuses.table_full.0 (lifted_err plain TableFull e) in
       let size = few full.1 in
@@ -94,6 +95,7 @@ any_anew meaning old new a wanted IsLong p q bytes result short deep anew = reco
   too_long = (λ e. absurd (anew_fault result _ _ (Node TooLong) anew.fault e), λ long. absurd (short long));
   too_many = λ e. (deep, short, anew.too_many e);
   first_many = λ _ _ many. anew.first_many many;
+  second_many = λ _ _ many. anew.second_many many;
   table_full = anew_fault result _ _ (Node TableFull) anew.fault;
   pool_full = anew_fault result _ _ (Node PoolFull) anew.fault;
   not_deep = anew_fault result _ _ (Node TooDeep) anew.fault;
@@ -142,6 +144,7 @@ first_refused meaning old new wanted rope q bytes e r = record {
   sources = r.sources;
   too_many = λ many. inl (r.too_many.0 many);
   first_many = r.too_many.1;
+  second_many = λ many. refl;
   fault = balance_fault e _ _ r (omega arith) (omega arith);
 }
 
@@ -158,13 +161,14 @@ second_refused meaning old mid new wanted l r left bytes e s there first second 
       sources = second.sources ∙ first.sources;
       too_many = λ many. inr (rw same at (second.too_many.0 many));
       first_many = λ many. absurd (few_pieces first many);
+      second_many = λ many. refl;
       fault = balance_fault e _ _ second (omega (arith, first.few_nodes, same)) (omega (arith, first.few_bytes, same));
     }
 
 -- the call behind the balancing
-pub called_anew : {F : Type 0} (meaning : F → ℕ → ℕ) (old mid new : Held F) (a : Addition F) (wanted cs : List Cell) (IsLong : Type 0) (p q bytes : ℕ) (plain : Result (Option NodeId) NodeFault) → Grows meaning old (length old.nodes + (2 * p + 2 * q)) (length old.pool.bytes + (31 * p + 31 * q)) mid → ¬ (most_pieces < p)
+pub called_anew : {F : Type 0} (meaning : F → ℕ → ℕ) (old mid new : Held F) (a : Addition F) (wanted cs : List Cell) (IsLong : Type 0) (p q bytes : ℕ) (plain : Result (Option NodeId) NodeFault) → Grows meaning old (length old.nodes + (2 * p + 2 * q)) (length old.pool.bytes + (31 * p + 31 * q)) mid → ¬ (most_pieces < p) → ¬ (most_pieces < q)
     → IsFew a bytes → ¬ IsTooDeep a → ¬ IsLong → Makes meaning mid a cs plain new → Refuses mid a ⊥ IsLong plain → cs ≡ wanted → Anew meaning old wanted p q bytes (lifted plain) new
-called_anew {F = F} meaning old mid new a wanted cs IsLong p q bytes plain grows few_p few shallow short made refuses text =
+called_anew {F = F} meaning old mid new a wanted cs IsLong p q bytes plain grows few_p few_q few shallow short made refuses text =
     let nodes = length old.nodes + (2 * p + 2 * q + 3) in
     let most = length old.pool.bytes + (31 * p + 31 * q + bytes) in
     let n : length mid.nodes + length a.records ≤ nodes = omega (arith, grows.few_nodes, few.records) in
@@ -178,6 +182,7 @@ called_anew {F = F} meaning old mid new a wanted cs IsLong p q bytes plain grows
       sources = step.sources ∙ grows.sources;
       too_many = λ e. absurd (lifted_many plain e);
       first_many = λ many. absurd (few_p many);
+      second_many = λ many. absurd (few_q many);
       fault = lifted_fault plain nodes most (refused_fault plain nodes most refuses (λ bad. bad) short shallow n b);
     }
 

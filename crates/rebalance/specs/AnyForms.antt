@@ -1,5 +1,5 @@
 -- What a call does that balances the ropes handed in where they would make one that is too deep.
-use Rattle.std.specs.Prelude.{◌≡◌, ◌↔◌, ◌⊎◌, ℕ, ◌+◌, ◌*◌, ◌^◌, ◌<◌, ◌≤◌, List, [], ◌∷◌, ◌++◌, map, length, slice_range, Option, Result, Ok, Err, IfOk, IfErr, IsErrOf}
+use Rattle.std.specs.Prelude.{◌≡◌, ◌↔◌, ◌⊎◌, ℕ, ◌+◌, ◌*◌, ◌^◌, ◌<◌, ◌≤◌, List, [], ◌∷◌, ◌++◌, map, length, slice_range, Option, Result, Ok, Err, IfOk, IfErr, IsErr, IsErrOf}
 use Rattle.rope_node.specs.declared.node.NodeId.{NodeId}
 use Rattle.rope_node.specs.Denotes.{Cell, Byte, rope_cells, IsRope}
 use Rattle.rope_node.specs.Extends.{Extends}
@@ -36,6 +36,7 @@ pub record AnyForm {F : Type 0} (meaning : F → ℕ → ℕ) (old : Held F) (a 
   pub too_long : IsErrOf result (Node TooLong) ↔ IsLong
   pub too_many : IsErrOf result TooManyPieces → IsTooDeep a × (¬ IsLong) × ((most_pieces < p) ⊎ (most_pieces < q))
   pub first_many : IsTooDeep a → ¬ IsLong → most_pieces < p → IsErrOf result TooManyPieces
+  pub second_many : IsTooDeep a → ¬ IsLong → most_pieces < q → IsErr result
   pub table_full : IsErrOf result (Node TableFull) → most_nodes < length old.nodes + (2 * p + 2 * q + 3)
   pub pool_full : IsErrOf result (Node PoolFull) → 2 ^ 32 ≤ length old.pool.bytes + (31 * p + 31 * q + bytes)
   pub not_deep : ¬ IsErrOf result (Node TooDeep)
@@ -55,6 +56,7 @@ pub record Anew {F : Type 0} (meaning : F → ℕ → ℕ) (old : Held F) (wante
   pub sources : new.sources ≡ old.sources
   pub too_many : IsErrOf result TooManyPieces → (most_pieces < p) ⊎ (most_pieces < q)
   pub first_many : most_pieces < p → IsErrOf result TooManyPieces
+  pub second_many : most_pieces < q → IsErr result
   pub fault : IfErr result (IsAnewFault (length old.nodes + (2 * p + 2 * q + 3)) (length old.pool.bytes + (31 * p + 31 * q + bytes)))
 
 -- ---- bytes put behind a rope
