@@ -3,5 +3,3 @@ pub mod Faults
 pub mod Files
 pub mod Sources
 pub mod Spans
-pub mod Refusals
-pub mod Words

@@ -1,7 +1,6 @@
 //! The program's tools, each over readers and writers.
 #![tactic(auto)]
 
-mod action;
 mod check;
 mod cmp;
 mod cut;
@@ -15,9 +14,7 @@ mod sources;
 mod status;
 #[cfg(test)]
 mod tests;
-pub mod words;
 
-pub use action::Action;
 pub use check::{run_check, run_stdin};
 pub use cmp::run_cmp;
 pub use cut::run_cut;

@@ -3,11 +3,11 @@
 
 ghost use Rattle.std.specs.Prelude.{◌≡◌, IfOk, length};
 
-use cord_tools::words::{WordsFault, words};
 use cord_tools::{
-    Action, Status, ToolFault, read_source, run_check, run_cmp, run_cut, run_find, run_join,
-    run_show, run_stdin, sources_of,
+    Status, ToolFault, read_source, run_check, run_cmp, run_cut, run_find, run_join, run_show,
+    run_stdin, sources_of,
 };
+use cord_words::{Action, WordsFault, words};
 use std::fs::File;
 use std::io::ErrorKind;
 use std::process::ExitCode;

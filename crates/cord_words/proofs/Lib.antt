@@ -1,0 +1,5 @@
+pub mod CommandLemmas
+pub mod GivenLemmas
+pub mod HelpLemmas
+pub mod LineLemmas
+pub mod RefusalLemmas

@@ -1,0 +1,15 @@
+use Rattle.std.proofs.Common.{subst, sym}
+use Rattle.clap.specs.Words.{fault_of}
+use Rattle.clap.proofs.TakesLemmas.{passed_up}
+use Rattle.cord_words.specs.Words.{IsKnown, cordkit_app, line_of}
+use Rattle.cord_words.proofs.LineLemmas.{known_given}
+use Rattle.cord_words.proofs.RefusalLemmas.{fails_first}
+use Rattle.cord_words.proofs.command_line.words.Goals as goal
+
+pub returns-in_err-matches-clause-kinds : goal.returns-in_err-matches-clause-kinds
+returns-in_err-matches-clause-kinds c =
+    passed_up c.from_residual-in_err-matches.result _ _ c.from_residual-in_err-matches.ensures.1
+    (fails_first (fault_of cordkit_app (line_of c.args.words.now)) _ c.in_err-matches.field-0.0 c.in_err-matches.ensures.kinds)
+
+pub action_of-requires : goal.action_of-requires
+action_of-requires c = subst IsKnown (sym c.in_ok-matches.ensures.rows) (known_given (line_of c.args.words.now) c.in_ok-matches.ensures.faultless)

@@ -1,0 +1,21 @@
+-- How a command line is refused.
+use Rattle.std.specs.Prelude.{⊤}
+use Rattle.clap.specs.Words.{IsAmong, Kinds, kind_of}
+use Rattle.clap.specs.declared.error.Error.{Error}
+use Rattle.clap.specs.declared.error.kind.ErrorKind.{ErrorKind}
+use Rattle.clap.specs.declared.error.kind.ErrorKind.TheVariants.{OutOfMemory}
+use Rattle.cord_words.specs.declared.fault.WordsFault.{WordsFault}
+use Rattle.cord_words.specs.declared.fault.WordsFault.TheVariants.{Usage, Memory}
+
+abbrev pub fault_by : ErrorKind → Error → WordsFault
+fault_by OutOfMemory e = Memory
+fault_by _ e = Usage e
+
+-- what an error of `clap` comes to
+abbrev pub fault_from : Error → WordsFault
+fault_from e = fault_by (kind_of e) e
+
+-- memory ran out, or the error for the user has one of these kinds
+abbrev pub FailsAs : Kinds → WordsFault → Type 0
+FailsAs kinds Memory = ⊤
+FailsAs kinds (Usage e) = IsAmong (kind_of e) kinds

@@ -1,0 +1,139 @@
+-- The program's command line, and what an action holds of it.
+use Rattle.std.specs.Prelude.{◌≡◌, ◌⊎◌, ◌∷◌, ⊤, ℕ, true, List, [], Option, Some, None, Ok, codes, map, unwrap_or}
+use Rattle.std.specs.Prelude.{String, string_bytes}
+use Rattle.std.specs.Str.Parse.{ParsesUnsigned}
+use Rattle.std.specs.declared.num.ParseIntError.{ParseIntError}
+use Rattle.clap.specs.Words.{App, Kinds, Row, Rule, Text, all_of, fault_of, first_of, new_app}
+use Rattle.clap.specs.Words.{new_rule, with_rule, with_subcommand}
+use Rattle.clap.specs.Kinds.{or_else}
+use Rattle.clap.specs.declared.builder.action.ArgAction.TheVariants.{Append}
+use Rattle.clap.specs.declared.error.kind.ErrorKind.TheVariants.{ValueValidation}
+use Rattle.cord_words.specs.declared.action.Action.{Action}
+use Rattle.cord_words.specs.declared.action.Action.TheVariants.{CheckInput, Check, Show, Cut, Join, Find, Cmp}
+
+-- ---- the words that the program takes
+
+abbrev pub required_rule : Text → Rule
+required_rule id = record (new_rule id) { required = true }
+
+abbrev pub image_rule : Rule
+image_rule = required_rule (codes "IMAGE")
+
+abbrev pub revision_rule : Rule
+revision_rule = required_rule (codes "REV")
+
+-- any number of values, none of which is required
+abbrev pub sources_rule : Rule
+sources_rule = record (new_rule (codes "SOURCE")) { action = Some Append }
+
+abbrev pub start_rule : Rule
+start_rule = required_rule (codes "START")
+
+abbrev pub file_rule : Rule
+file_rule = required_rule (codes "FILE")
+
+-- one value or more
+abbrev pub files_rule : Rule
+files_rule = record file_rule { action = Some Append }
+
+-- `check IMAGE [SOURCE]...`
+abbrev pub check_app : App
+check_app = with_rule (with_rule (new_app (codes "check")) image_rule) sources_rule
+
+-- `show IMAGE REV [SOURCE]...`
+abbrev pub show_app : App
+show_app = with_rule (with_rule (with_rule (new_app (codes "show")) image_rule) revision_rule)
+    sources_rule
+
+-- `cut START COUNT FILE`
+abbrev pub cut_app : App
+cut_app = with_rule (with_rule (with_rule (new_app (codes "cut")) start_rule)
+    (required_rule (codes "COUNT"))) file_rule
+
+-- `join FILE...`
+abbrev pub join_app : App
+join_app = with_rule (new_app (codes "join")) files_rule
+
+-- `find START PATTERN FILE`
+abbrev pub find_app : App
+find_app = with_rule (with_rule (with_rule (new_app (codes "find")) start_rule)
+    (required_rule (codes "PATTERN"))) file_rule
+
+-- `cmp FILE FILE`
+abbrev pub cmp_app : App
+cmp_app = with_rule (with_rule (new_app (codes "cmp")) (required_rule (codes "FIRST")))
+    (required_rule (codes "SECOND"))
+
+unfoldable pub cordkit_app : App
+cordkit_app = with_subcommand (with_subcommand (with_subcommand (with_subcommand (with_subcommand (with_subcommand
+    (new_app (codes "cordkit")) check_app.top) show_app.top) cut_app.top) join_app.top) find_app.top) cmp_app.top
+
+-- ---- what was given
+
+-- the words of a command line as texts
+abbrev pub line_of : {Z : Type 0} → List (String Z) → List Text
+line_of = map string_bytes
+
+-- the text of an argument, and the empty text where it has none
+abbrev pub text_of : List Row → Text → Text
+text_of rows id = unwrap_or (first_of id rows) []
+
+-- the texts of an argument in their order, and none where it was not given
+abbrev pub texts_of : List Row → Text → List Text
+texts_of rows id = unwrap_or (all_of id rows) []
+
+-- the text reads as this `u64`
+abbrev pub ReadsAs : Text → ℕ → Type 0
+ReadsAs t n = ParsesUnsigned {E = ParseIntError} 64 10 t (Ok n)
+
+abbrev pub IsNumber : Text → Type 0
+IsNumber t = (n : ℕ) × ReadsAs t n
+
+-- this subcommand was given, with such arguments
+abbrev pub Gives : Option (Text × List Row) → Text → (List Row → Type 0) → Type 0
+Gives given name P = (rows : List Row) × (given ≡ Some (name, rows)) × P rows
+
+-- the action is the subcommand that was given, with the texts and the numbers of its arguments
+abbrev pub Holds : Option (Text × List Row) → Action → Type 0
+Holds given CheckInput = given ≡ None
+Holds given (Check image sources) = Gives given (codes "check") (λ rows.
+    (image.now ≡ text_of rows (codes "IMAGE")) × (map (λ s. s.now) sources.items ≡ texts_of rows (codes "SOURCE")))
+Holds given (Show image revision sources) = Gives given (codes "show") (λ rows.
+    (image.now ≡ text_of rows (codes "IMAGE")) × ReadsAs (text_of rows (codes "REV")) revision
+    × (map (λ s. s.now) sources.items ≡ texts_of rows (codes "SOURCE")))
+Holds given (Cut start count file) = Gives given (codes "cut") (λ rows.
+    ReadsAs (text_of rows (codes "START")) start × ReadsAs (text_of rows (codes "COUNT")) count
+    × (file.now ≡ text_of rows (codes "FILE")))
+Holds given (Join files) = Gives given (codes "join") (λ rows. map (λ s. s.now) files.items ≡ texts_of rows (codes "FILE"))
+Holds given (Find start pattern file) = Gives given (codes "find") (λ rows.
+    ReadsAs (text_of rows (codes "START")) start × (pattern.now ≡ text_of rows (codes "PATTERN"))
+    × (file.now ≡ text_of rows (codes "FILE")))
+Holds given (Cmp first second) = Gives given (codes "cmp") (λ rows.
+    (first.now ≡ text_of rows (codes "FIRST")) × (second.now ≡ text_of rows (codes "SECOND")))
+
+abbrev pub IsOneOf : List Text → Text → Type 0
+IsOneOf [] n = ⊥
+IsOneOf (x ∷ xs) n = (n ≡ x) ⊎ IsOneOf xs n
+
+abbrev pub subcommand_names : List Text
+subcommand_names = codes "check" ∷ codes "show" ∷ codes "cut" ∷ codes "join" ∷ codes "find" ∷ codes "cmp" ∷ []
+
+-- the subcommand that was given, if any, is one of the program's own, and not `help`
+abbrev pub IsKnown : Option (Text × List Row) → Type 0
+IsKnown None = ⊤
+IsKnown (Some p) = IsOneOf subcommand_names p.0
+
+-- where this subcommand was given, its arguments are so
+abbrev pub WhereGiven : Option (Text × List Row) → Text → (List Row → Type 0) → Type 0
+WhereGiven given name P = (rows : List Row) → given ≡ Some (name, rows) → P rows
+
+-- each word that stands for a number is one
+pub record NumbersRead (given : Option (Text × List Row)) : Type 0 where
+  pub show : WhereGiven given (codes "show") (λ rows. IsNumber (text_of rows (codes "REV")))
+  pub cut : WhereGiven given (codes "cut") (λ rows.
+      IsNumber (text_of rows (codes "START")) × IsNumber (text_of rows (codes "COUNT")))
+  pub find : WhereGiven given (codes "find") (λ rows. IsNumber (text_of rows (codes "START")))
+
+-- the kinds of a refusal: that of clap's first fault, or that of a number that does not read
+abbrev pub refusal_kinds : List Text → Kinds
+refusal_kinds words = or_else (fault_of cordkit_app words) (ValueValidation ∷ [])

@@ -1,0 +1,95 @@
+//! The command line.
+
+ghost use Rattle.std.specs.Prelude.{◌≡◌, ◌∷◌, [], IfOk, IfErr, OnOk, codes, true};
+ghost use Rattle.clap.specs.Words.{app_of, fault_of, new_app, subcommand_of};
+ghost use Rattle.clap.specs.Words.{subcommand_rows_of, takes};
+ghost use Rattle.clap.specs.declared.error.kind.ErrorKind.TheVariants.{ValueValidation};
+ghost use Rattle.cord_words.specs.Words.{Holds, IsKnown, NumbersRead, cordkit_app, line_of};
+ghost use Rattle.cord_words.specs.Words.{refusal_kinds};
+ghost use Rattle.cord_words.specs.Refusals.{FailsAs};
+
+use crate::action::Action;
+use crate::fault::WordsFault;
+use crate::{check, cmp, cut, find, join, show};
+use clap::{ArgMatches, Command};
+use std::alloc::{AllocError, Global};
+
+/// Reads the words of a command line, of which the first is the program's name, as `env::args`
+/// gives them. The action borrows its texts from the words.
+pub fn words<'a>(alloc: Global, words: &'a [String]) -> Result<Action<'a>, WordsFault>
+    ensures holds { IfOk result (Holds (subcommand_of cordkit_app (line_of words.entry.now))) }
+
+    // An action is read only of words in which `clap` finds no fault, and where it takes them and
+    // each number reads, nothing but memory is in the way.
+    ensures faultless { OnOk result (fault_of cordkit_app (line_of words.entry.now) ≡ []) }
+    ensures only_memory { IfErr result (λ f. takes cordkit_app (line_of words.entry.now) ≡ true
+        → NumbersRead (subcommand_of cordkit_app (line_of words.entry.now))
+        → f ≡ WordsFault.Memory) }
+    ensures kinds { IfErr result (FailsAs (refusal_kinds (line_of words.entry.now))) }
+{
+    let mut command = cordkit(alloc)?;
+    let matches = matches_of(&mut command, words)?;
+    action_of(alloc, &mut command, &matches)
+}
+
+// What `clap` makes of the words.
+fn matches_of<'a>(
+    command: &mut Command<'a>,
+    words: &'a [String],
+) -> Result<ArgMatches<'a>, WordsFault>
+    requires { app_of command.old ≡ cordkit_app }
+    ensures rows { IfOk result (λ m.
+        subcommand_rows_of m ≡ subcommand_of cordkit_app (line_of words.entry.now)) }
+    ensures faultless { OnOk result (fault_of cordkit_app (line_of words.entry.now) ≡ []) }
+    ensures only_memory { IfErr result (λ f.
+        takes cordkit_app (line_of words.entry.now) ≡ true → f ≡ WordsFault.Memory) }
+    ensures kinds { IfErr result (FailsAs (fault_of cordkit_app (line_of words.entry.now))) }
+{
+    Ok(command.try_get_matches_from_mut(words)?)
+}
+
+// The action that the matches ask for.
+fn action_of<'a>(
+    alloc: Global,
+    command: &mut Command<'a>,
+    matches: &ArgMatches<'a>,
+) -> Result<Action<'a>, WordsFault>
+    requires { IsKnown (subcommand_rows_of matches.now) }
+    ensures holds { IfOk result (Holds (subcommand_rows_of matches.now)) }
+    ensures only_memory { IfErr result (λ f.
+        NumbersRead (subcommand_rows_of matches.now) → f ≡ WordsFault.Memory) }
+    ensures kind { IfErr result (FailsAs (ValueValidation ∷ [])) }
+{
+    match matches.subcommand() {
+        None => Ok(Action::CheckInput),
+        Some(("check", given)) => Ok(check::action(alloc, given)?),
+        Some(("show", given)) => show::action(alloc, command, given),
+        Some(("cut", given)) => cut::action(alloc, command, given),
+        Some(("join", given)) => Ok(join::action(alloc, given)?),
+        Some(("find", given)) => find::action(alloc, command, given),
+        Some(("cmp", given)) => Ok(cmp::action(given)),
+        Some(_) => unreachable!(),
+    }
+}
+
+/// The program without its subcommands.
+fn program<'a>(alloc: Global) -> Command<'a>
+    ensures { app_of result ≡ new_app (codes "cordkit") }
+{
+    Command::new(alloc, "cordkit")
+        .about("a text workbench whose saved sessions can be checked")
+        .after_help("With no words, check the session on standard input.")
+}
+
+/// The program, as `clap` is told of it.
+fn cordkit<'a>(alloc: Global) -> Result<Command<'a>, AllocError>
+    ensures { IfOk result (λ c. app_of c ≡ cordkit_app) }
+{
+    program(alloc)
+        .subcommand(check::command(alloc)?)?
+        .subcommand(show::command(alloc)?)?
+        .subcommand(cut::command(alloc)?)?
+        .subcommand(join::command(alloc)?)?
+        .subcommand(find::command(alloc)?)?
+        .subcommand(cmp::command(alloc)?)
+}

@@ -1,0 +1,47 @@
+//! `find START PATTERN FILE`
+
+ghost use Rattle.std.specs.Prelude.{◌≡◌, ◌∷◌, [], IfErr, IfOk, Some, codes, false};
+ghost use Rattle.clap.specs.Words.{app_of, found_of, rows_of};
+ghost use Rattle.clap.specs.declared.builder.command.Command.TheViews.{out-Command as fields_of};
+ghost use Rattle.clap.specs.declared.error.kind.ErrorKind.TheVariants.{ValueValidation};
+ghost use Rattle.cord_words.specs.Refusals.{FailsAs};
+ghost use Rattle.cord_words.specs.Words.{Holds, NumbersRead, find_app};
+
+use crate::action::Action;
+use crate::fault::WordsFault;
+use crate::{args, given};
+use clap::{Arg, ArgMatches, Command};
+use std::alloc::{AllocError, Global};
+
+/// The subcommand, as `clap` is told of it.
+pub fn command<'a>(alloc: Global) -> Result<Command<'a>, AllocError>
+    ensures app { IfOk result (λ c. app_of c ≡ find_app) }
+    ensures local { IfOk result (λ c. (fields_of c).has_globals ≡ false) }
+{
+    let pattern = Arg::new(alloc, "PATTERN")
+        .help("The bytes to search for, at most 4096 of them")
+        .required(true);
+    Command::new(alloc, "find")
+        .about("Print the place at which a pattern first occurs in a file")
+        .arg(args::start(alloc))?
+        .arg(pattern)?
+        .arg(args::file(alloc))
+}
+
+/// The action of what was given. Where a number does not read, the fault is one of `command`.
+pub fn action<'a>(
+    alloc: Global,
+    command: &mut Command<'a>,
+    given: &ArgMatches<'a>,
+) -> Result<Action<'a>, WordsFault>
+    ensures holds { IfOk result (Holds (Some (codes "find", rows_of (found_of given.now)))) }
+    ensures only_memory { IfErr result (λ f.
+        NumbersRead (Some (codes "find", rows_of (found_of given.now))) → f ≡ WordsFault.Memory) }
+    ensures kind { IfErr result (FailsAs (ValueValidation ∷ [])) }
+{
+    Ok(Action::Find {
+        start: given::number(alloc, command, given, "START")?,
+        pattern: given::text(given, "PATTERN"),
+        file: given::text(given, "FILE"),
+    })
+}

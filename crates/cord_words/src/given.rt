@@ -1,0 +1,54 @@
+//! The arguments of a subcommand, as they were given.
+
+ghost use Rattle.std.specs.Prelude.{◌≡◌, ◌∷◌, [], IfOk, IfErr, map};
+ghost use Rattle.clap.specs.Words.{found_of, rows_of};
+ghost use Rattle.clap.specs.declared.error.kind.ErrorKind.TheVariants.{ValueValidation};
+ghost use Rattle.cord_words.specs.Words.{IsNumber, ReadsAs, text_of, texts_of};
+ghost use Rattle.cord_words.specs.Refusals.{FailsAs};
+
+use crate::fault::WordsFault;
+use clap::error::ErrorKind;
+use clap::{ArgMatches, Command};
+use std::alloc::{AllocError, Global};
+
+/// The text of an argument, and the empty text where it has none.
+pub fn text<'a>(given: &ArgMatches<'a>, id: &str) -> &'a str
+    ensures { result.now ≡ text_of (rows_of (found_of given.now)) id.now }
+{
+    given.get_str(id).unwrap_or("")
+}
+
+/// The texts of an argument in their order, and none where it was not given.
+pub fn texts<'a>(
+    alloc: Global,
+    given: &ArgMatches<'a>,
+    id: &str,
+) -> Result<Vec<&'a str>, AllocError>
+    ensures { IfOk result (λ texts.
+        map (λ text. text.now) texts.items ≡ texts_of (rows_of (found_of given.now)) id.now) }
+{
+    Vec::from_slice(alloc, given.get_strs(id).unwrap_or(&[]))
+}
+
+/// The number of an argument. Where its text is none of 64 bits, the fault is one of `command`.
+pub fn number(
+    alloc: Global,
+    command: &mut Command<'_>,
+    given: &ArgMatches<'_>,
+    id: &str,
+) -> Result<u64, WordsFault>
+    ensures reads { IfOk result (ReadsAs (text_of (rows_of (found_of given.now)) id.now)) }
+    ensures only_memory { IfErr result (λ f.
+        IsNumber (text_of (rows_of (found_of given.now)) id.now) → f ≡ WordsFault.Memory) }
+    ensures kind { IfErr result (FailsAs (ValueValidation ∷ [])) }
+{
+    let text = text(given, id);
+    match text.parse::<u64>() {
+        Ok(number) => Ok(number),
+        Err(error) => {
+            let message = format!(in alloc; "invalid value '{text}' for '<{id}>': {error}")?;
+            let error = command.error(ErrorKind::ValueValidation, message.as_str())?;
+            Err(WordsFault::Usage(error))
+        }
+    }
+}

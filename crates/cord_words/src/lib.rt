@@ -1,0 +1,20 @@
+//! The program's command line.
+#![tactic(auto)]
+
+mod action;
+mod args;
+mod check;
+mod cmp;
+mod command_line;
+mod cut;
+mod fault;
+mod find;
+mod given;
+mod join;
+mod show;
+#[cfg(test)]
+mod tests;
+
+pub use action::Action;
+pub use command_line::words;
+pub use fault::WordsFault;
