@@ -50,6 +50,22 @@ lifted_fault : {A : Type 0} (plain : Result A NodeFault) (nodes bytes : ℕ) →
 lifted_fault (Ok a) nodes bytes h = tt
 lifted_fault (Err k) nodes bytes h = h
 
+-- what the plain call adds at most
+any_grows : {F : Type 0} {meaning : F → ℕ → ℕ} {old new : Held F} {a : Addition F} {wanted : List Cell} {IsLong : Type 0} (p q bytes : ℕ) (plain : Result (Option NodeId) NodeFault) → (¬ IsLong → IsFew a bytes) → Makes meaning old a wanted plain new → Refuses old a ⊥ IsLong plain
+    → Grows meaning old (length old.nodes + (2 * p + 2 * q + 3)) (length old.pool.bytes + (31 * p + 31 * q + bytes)) new
+any_grows {old = old} p q bytes (Ok rope) few made refuses =
+    let size = few (λ long. let bad = refuses.too_long.1 ((λ bad. bad), long) in absurd cc) in
+    made_grows (Ok rope) (length old.nodes + (2 * p + 2 * q + 3)) (length old.pool.bytes + (31 * p + 31 * q + bytes)) made (omega (arith, size.records)) (omega (arith, size.bytes_added))
+any_grows {F = F} p q bytes (Err e) few made refuses =
+    let same_nodes = ap (λ (h : Held F). length h.nodes) made.unchanged in
+    let same_bytes = ap (λ (h : Held F). length h.pool.bytes) made.unchanged in
+    record {
+      kept = made.kept;
+      sources = ap (λ (h : Held F). h.sources) made.unchanged;
+      few_nodes = omega (arith, same_nodes);
+      few_bytes = omega (arith, same_bytes);
+    }
+
 -- the plain call does it
 pub any_plain_if : {F : Type 0} (meaning : F → ℕ → ℕ) (old new : Held F) (a : Addition F) (wanted : List Cell) (IsLong : Type 0) (p q bytes : ℕ) (plain : Result (Option NodeId) NodeFault) → (¬ IsLong → IsFew a bytes) → Makes meaning old a wanted plain new → Refuses old a ⊥ IsLong plain → ¬ IsErrOf plain TooDeep
     → AnyForm meaning old a wanted IsLong p q bytes (lifted plain) new
@@ -57,12 +73,15 @@ any_plain_if meaning old new a wanted IsLong p q bytes plain few made refuses sh
   is_rope = lifted_ok (λ r. IsRope (table_of meaning new) r) plain made.is_rope;
   text = lifted_ok (λ r. rope_cells (table_of meaning new) r ≡ wanted) plain made.text;
   kept = made.kept;
-  sources = (made_grows plain (length old.nodes + length a.records) (length old.pool.bytes + length a.bytes) made (omega arith) (omega arith)).sources;
+  sources = (any_grows p q bytes plain few made refuses).sources;
+  few_nodes = (any_grows p q bytes plain few made refuses).few_nodes;
+  few_bytes = (any_grows p q bytes plain few made refuses).few_bytes;
   as_plain = λ _. record { plain = plain; same = refl; makes = made; refuses = refuses };
   too_long = (λ e. (refuses.too_long.0 (lifted_err plain TooLong e)).1, λ long. lifted_back plain TooLong (refuses.too_long.1 ((λ bad. bad), long)));
   too_many = λ e. absurd (lifted_many plain e);
   first_many = λ deep short many. absurd (shallow (refuses.too_deep.1 ((λ bad. bad), short, deep)));
   second_many = λ deep short many. absurd (shallow (refuses.too_deep.1 ((λ bad. bad), short, deep)));
+  unchanged = λ deep short many. absurd (shallow (refuses.too_deep.1 ((λ bad. bad), short, deep)));
   table_full = λ e.
       let full = refuses.table_full.0 (lifted_err plain TableFull e) in
       let size = few full.1 in
@@ -91,11 +110,14 @@ any_anew meaning old new a wanted IsLong p q bytes result short deep anew = reco
   text = anew.text;
   kept = anew.kept;
   sources = anew.sources;
+  few_nodes = anew.few_nodes;
+  few_bytes = anew.few_bytes;
   as_plain = λ k. absurd (⊎_elim (λ shallow. shallow deep) short k);
   too_long = (λ e. absurd (anew_fault result _ _ (Node TooLong) anew.fault e), λ long. absurd (short long));
   too_many = λ e. (deep, short, anew.too_many e);
   first_many = λ _ _ many. anew.first_many many;
   second_many = λ _ _ many. anew.second_many many;
+  unchanged = λ _ _ many. anew.unchanged many;
   table_full = anew_fault result _ _ (Node TableFull) anew.fault;
   pool_full = anew_fault result _ _ (Node PoolFull) anew.fault;
   not_deep = anew_fault result _ _ (Node TooDeep) anew.fault;
@@ -142,9 +164,12 @@ first_refused meaning old new wanted rope q bytes e r = record {
   text = tt;
   kept = r.kept;
   sources = r.sources;
+  few_nodes = omega (arith, r.few_nodes);
+  few_bytes = omega (arith, r.few_bytes);
   too_many = λ many. inl (r.too_many.0 many);
   first_many = r.too_many.1;
   second_many = λ many. refl;
+  unchanged = λ many. r.unchanged (r.too_many.1 many);
   fault = balance_fault e _ _ r (omega arith) (omega arith);
 }
 
@@ -159,9 +184,12 @@ second_refused meaning old mid new wanted l r left bytes e s there first second 
       text = tt;
       kept = extends_through t (table_of meaning mid) (table_of meaning new) first.kept second.kept;
       sources = second.sources ∙ first.sources;
+      few_nodes = omega (arith, second.few_nodes, first.few_nodes, same);
+      few_bytes = omega (arith, second.few_bytes, first.few_bytes, same);
       too_many = λ many. inr (rw same at (second.too_many.0 many));
       first_many = λ many. absurd (few_pieces first many);
       second_many = λ many. refl;
+      unchanged = λ many. absurd (few_pieces first many);
       fault = balance_fault e _ _ second (omega (arith, first.few_nodes, same)) (omega (arith, first.few_bytes, same));
     }
 
@@ -180,9 +208,12 @@ called_anew {F = F} meaning old mid new a wanted cs IsLong p q bytes plain grows
       text = lifted_ok (λ r. rope_cells (table_of meaning new) r ≡ wanted) plain there;
       kept = extends_through (table_of meaning old) (table_of meaning mid) (table_of meaning new) grows.kept step.kept;
       sources = step.sources ∙ grows.sources;
+      few_nodes = step.few_nodes;
+      few_bytes = step.few_bytes;
       too_many = λ e. absurd (lifted_many plain e);
       first_many = λ many. absurd (few_p many);
       second_many = λ many. absurd (few_q many);
+      unchanged = λ many. absurd (few_p many);
       fault = lifted_fault plain nodes most (refused_fault plain nodes most refuses (λ bad. bad) short shallow n b);
     }
 

@@ -32,11 +32,14 @@ pub record AnyForm {F : Type 0} (meaning : F → ℕ → ℕ) (old : Held F) (a 
   pub text : IfOk result (λ r. rope_cells (table_of meaning new) r ≡ wanted)
   pub kept : Extends (table_of meaning old) (table_of meaning new)
   pub sources : new.sources ≡ old.sources
+  pub few_nodes : length new.nodes ≤ length old.nodes + (2 * p + 2 * q + 3)
+  pub few_bytes : length new.pool.bytes ≤ length old.pool.bytes + (31 * p + 31 * q + bytes)
   pub as_plain : (¬ IsTooDeep a) ⊎ IsLong → IsPlain meaning old a wanted IsLong result new
   pub too_long : IsErrOf result (Node TooLong) ↔ IsLong
   pub too_many : IsErrOf result TooManyPieces → IsTooDeep a × (¬ IsLong) × ((most_pieces < p) ⊎ (most_pieces < q))
   pub first_many : IsTooDeep a → ¬ IsLong → most_pieces < p → IsErrOf result TooManyPieces
   pub second_many : IsTooDeep a → ¬ IsLong → most_pieces < q → IsErr result
+  pub unchanged : IsTooDeep a → ¬ IsLong → most_pieces < p → new ≡ old
   pub table_full : IsErrOf result (Node TableFull) → most_nodes < length old.nodes + (2 * p + 2 * q + 3)
   pub pool_full : IsErrOf result (Node PoolFull) → 2 ^ 32 ≤ length old.pool.bytes + (31 * p + 31 * q + bytes)
   pub not_deep : ¬ IsErrOf result (Node TooDeep)
@@ -54,9 +57,12 @@ pub record Anew {F : Type 0} (meaning : F → ℕ → ℕ) (old : Held F) (wante
   pub text : IfOk result (λ r. rope_cells (table_of meaning new) r ≡ wanted)
   pub kept : Extends (table_of meaning old) (table_of meaning new)
   pub sources : new.sources ≡ old.sources
+  pub few_nodes : length new.nodes ≤ length old.nodes + (2 * p + 2 * q + 3)
+  pub few_bytes : length new.pool.bytes ≤ length old.pool.bytes + (31 * p + 31 * q + bytes)
   pub too_many : IsErrOf result TooManyPieces → (most_pieces < p) ⊎ (most_pieces < q)
   pub first_many : most_pieces < p → IsErrOf result TooManyPieces
   pub second_many : most_pieces < q → IsErr result
+  pub unchanged : most_pieces < p → new ≡ old
   pub fault : IfErr result (IsAnewFault (length old.nodes + (2 * p + 2 * q + 3)) (length old.pool.bytes + (31 * p + 31 * q + bytes)))
 
 -- ---- bytes put behind a rope

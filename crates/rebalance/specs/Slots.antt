@@ -47,7 +47,7 @@ pub record IsCarried (t : Table) (m : ℕ) (rope : Option NodeId) : Type 0 where
   pub long : fibonacci m ≤ rope_len t rope
   pub balanced : IsBalanced (rope_len t rope) (rope_depth t rope)
 
--- a leaf, or a long part of one
+-- a leaf, or a rope of depth 1 and of 32 bytes or more
 pub record IsPiece (t : Table) (rope : Option NodeId) : Type 0 where
   pub there : IsRope t rope
   pub some : 1 ≤ rope_len t rope
