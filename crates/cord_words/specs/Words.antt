@@ -59,7 +59,7 @@ abbrev pub find_app : App
 find_app = with_rule (with_rule (with_rule (new_app (codes "find")) start_rule)
     (required_rule (codes "PATTERN"))) file_rule
 
--- `cmp FILE FILE`
+-- `cmp FIRST SECOND`
 abbrev pub cmp_app : App
 cmp_app = with_rule (with_rule (new_app (codes "cmp")) (required_rule (codes "FIRST")))
     (required_rule (codes "SECOND"))

@@ -1,4 +1,4 @@
-//! `cmp FILE FILE`
+//! `cmp FIRST SECOND`
 
 ghost use Rattle.std.specs.Prelude.{◌≡◌, IfOk, Some, codes, false};
 ghost use Rattle.clap.specs.Words.{app_of, found_of, rows_of};

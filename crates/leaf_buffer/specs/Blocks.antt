@@ -41,7 +41,7 @@ pub record IsLast (blocks : List PlacedBlock) (b : PlacedBlock) : Type 0 where
   pub borders : All (λ border. border < length (written blocks)) (contents_of blocks).borders
   pub spans : (a n : ℕ) → 0 < n → a + n ≡ length (written blocks) → (IsInOneBlock (contents_of blocks) a n ↔ (b.start ≤ a))
 
--- a place lies in this block, or behind all of them where it is the last one
+-- a place of the pool lies in this block, and a span from there on in one block exactly as far as this one goes
 pub record IsBlockOf (blocks : List PlacedBlock) (a : ℕ) (b : PlacedBlock) : Type 0 where
   pub begins : b.start ≤ a
   pub reaches : a < length (written blocks) → a < b.start + length b.block

@@ -33,7 +33,7 @@ held_of records pool sources = record { nodes = map node_of records; functions =
 abbrev pub table_of : {F : Type 0} → (F → ℕ → ℕ) → Held F → Table
 table_of meaning h = record { nodes = h.nodes; pool = h.pool.bytes; sources = h.sources; answer = λ id i. answer_of meaning (get_or h.functions id None) i }
 
--- the function of a node, where it is one that an image can hold
+-- the coded function of a node, a fill of zeros where there is none
 abbrev pub coded_at : Held Coded → ℕ → Coded
 coded_at h id = or_fill (get_or h.functions id None)
 
