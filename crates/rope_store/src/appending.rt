@@ -37,9 +37,9 @@ fn copy_three(bytes: &[u8], piece: &[u8], all: &mut [u8])
     requires { length all.old ≡ length bytes.now + (length piece.now + length bytes.now) }
     ensures { all.new ≡ bytes.now ++ (piece.now ++ bytes.now) }
 {
-    let middle = bytes.len();
-    all[..middle].copy_from_slice(bytes);
-    copy_both(piece, bytes, &mut all[middle..]);
+    let (front, back) = all.split_at_mut(bytes.len());
+    front.copy_from_slice(bytes);
+    copy_both(piece, bytes, back);
 }
 
 impl<F: LeafFn> Store<F> {

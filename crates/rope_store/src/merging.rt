@@ -23,9 +23,9 @@ pub(crate) fn copy_both(first: &[u8], second: &[u8], bytes: &mut [u8])
     requires { length bytes.old ≡ length first.now + length second.now }
     ensures { bytes.new ≡ first.now ++ second.now }
 {
-    let middle = first.len();
-    bytes[..middle].copy_from_slice(first);
-    bytes[middle..].copy_from_slice(second);
+    let (front, back) = bytes.split_at_mut(first.len());
+    front.copy_from_slice(first);
+    back.copy_from_slice(second);
 }
 
 /// These bytes one behind the other, in front of zeros.
