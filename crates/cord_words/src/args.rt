@@ -1,20 +1,50 @@
-//! The arguments that subcommands share.
+//! The commands and arguments of which the command line is made.
 
-ghost use Rattle.std.specs.Prelude.{◌≡◌, false};
-ghost use Rattle.clap.specs.Words.{rule_of};
-ghost use Rattle.cord_words.specs.Words.{file_rule, image_rule, sources_rule, start_rule};
+ghost use Rattle.std.specs.Prelude.{◌≡◌, IfOk, false};
+ghost use Rattle.clap.specs.Words.{app_of, new_app, rule_of, with_rule};
+ghost use Rattle.clap.specs.declared.builder.command.Command.TheViews.{out-Command as fields_of};
+ghost use Rattle.cord_words.specs.Words.{file_rule, image_rule, required_rule, sources_rule, start_rule};
 
-use clap::{Arg, ArgAction};
-use std::alloc::Global;
+use clap::{Arg, ArgAction, Command};
+use std::alloc::{AllocError, Global};
+
+/// A command of this name, which the help describes so.
+pub fn command<'a>(alloc: Global, name: &'a str, about: &'a str) -> Command<'a>
+    ensures app { app_of result ≡ new_app name.now }
+    ensures local { (fields_of result).has_globals ≡ false }
+{
+    Command::new(alloc, name).about(about)
+}
+
+/// The command with two more arguments.
+pub fn with_two<'a>(
+    command: Command<'a>,
+    first: Arg<'a>,
+    second: Arg<'a>,
+) -> Result<Command<'a>, AllocError>
+    requires command { (fields_of command).has_globals ≡ false }
+    requires first { first.global ≡ false }
+    requires second { second.global ≡ false }
+    ensures app { IfOk result (λ c. app_of c ≡ with_rule (with_rule (app_of command.entry) (rule_of first.entry)) (rule_of second.entry)) }
+    ensures local { IfOk result (λ c. (fields_of c).has_globals ≡ false) }
+{
+    command.arg(first)?.arg(second)
+}
+
+/// One value, which must be given.
+pub fn required<'a>(alloc: Global, id: &'a str, help: &'a str) -> Arg<'a>
+    ensures rule { rule_of result ≡ required_rule id.now }
+    ensures local { result.global ≡ false }
+{
+    Arg::new(alloc, id).help(help).required(true)
+}
 
 /// `IMAGE`
 pub fn image<'a>(alloc: Global) -> Arg<'a>
     ensures rule { rule_of result ≡ image_rule }
     ensures local { result.global ≡ false }
 {
-    Arg::new(alloc, "IMAGE")
-        .help("The file of the saved session")
-        .required(true)
+    required(alloc, "IMAGE", "The file of the saved session")
 }
 
 /// `[SOURCE]...`
@@ -32,9 +62,11 @@ pub fn start<'a>(alloc: Global) -> Arg<'a>
     ensures rule { rule_of result ≡ start_rule }
     ensures local { result.global ≡ false }
 {
-    Arg::new(alloc, "START")
-        .help("The place of the first byte, counted from 0")
-        .required(true)
+    required(
+        alloc,
+        "START",
+        "The place of the first byte, counted from 0",
+    )
 }
 
 /// `FILE`
@@ -42,5 +74,5 @@ pub fn file<'a>(alloc: Global) -> Arg<'a>
     ensures rule { rule_of result ≡ file_rule }
     ensures local { result.global ≡ false }
 {
-    Arg::new(alloc, "FILE").help("The file").required(true)
+    required(alloc, "FILE", "The file")
 }

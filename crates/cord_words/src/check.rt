@@ -15,10 +15,9 @@ pub fn command<'a>(alloc: Global) -> Result<Command<'a>, AllocError>
     ensures app { IfOk result (λ c. app_of c ≡ check_app) }
     ensures local { IfOk result (λ c. (fields_of c).has_globals ≡ false) }
 {
-    Command::new(alloc, "check")
-        .about("Say whether a saved session is accepted, or by which fault it is refused")
-        .arg(args::image(alloc))?
-        .arg(args::sources(alloc))
+    let about = "Say whether a saved session is accepted, or by which fault it is refused";
+    let command = args::command(alloc, "check", about);
+    args::with_two(command, args::image(alloc), args::sources(alloc))
 }
 
 /// The action of what was given.

@@ -6,8 +6,8 @@ ghost use Rattle.clap.specs.declared.builder.command.Command.TheViews.{out-Comma
 ghost use Rattle.cord_words.specs.Words.{Holds, cmp_app};
 
 use crate::action::Action;
-use crate::given;
-use clap::{Arg, ArgMatches, Command};
+use crate::{args, given};
+use clap::{ArgMatches, Command};
 use std::alloc::{AllocError, Global};
 
 /// The subcommand, as `clap` is told of it.
@@ -15,16 +15,10 @@ pub fn command<'a>(alloc: Global) -> Result<Command<'a>, AllocError>
     ensures app { IfOk result (λ c. app_of c ≡ cmp_app) }
     ensures local { IfOk result (λ c. (fields_of c).has_globals ≡ false) }
 {
-    let first = Arg::new(alloc, "FIRST")
-        .help("The file to compare")
-        .required(true);
-    let second = Arg::new(alloc, "SECOND")
-        .help("The file to compare it with")
-        .required(true);
-    Command::new(alloc, "cmp")
-        .about("Say whether a file is less than another, equal or greater, byte by byte")
-        .arg(first)?
-        .arg(second)
+    let about = "Say whether a file is less than another, equal or greater, byte by byte";
+    let first = args::required(alloc, "FIRST", "The file to compare");
+    let second = args::required(alloc, "SECOND", "The file to compare it with");
+    args::with_two(args::command(alloc, "cmp", about), first, second)
 }
 
 /// The action of what was given.

@@ -10,7 +10,7 @@ ghost use Rattle.cord_words.specs.Refusals.{FailsAs};
 
 use crate::action::Action;
 use crate::fault::WordsFault;
-use crate::{check, cmp, cut, find, join, show};
+use crate::{args, check, cmp, cut, find, join, show};
 use clap::{ArgMatches, Command};
 use std::alloc::{AllocError, Global};
 
@@ -76,9 +76,12 @@ fn action_of<'a>(
 fn program<'a>(alloc: Global) -> Command<'a>
     ensures { app_of result ≡ new_app (codes "cordkit") }
 {
-    Command::new(alloc, "cordkit")
-        .about("a text workbench whose saved sessions can be checked")
-        .after_help("With no words, check the session on standard input.")
+    args::command(
+        alloc,
+        "cordkit",
+        "a text workbench whose saved sessions can be checked",
+    )
+    .after_help("With no words, check the session on standard input.")
 }
 
 /// The program, as `clap` is told of it.

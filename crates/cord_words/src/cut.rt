@@ -10,7 +10,7 @@ ghost use Rattle.cord_words.specs.Words.{Holds, NumbersRead, cut_app};
 use crate::action::Action;
 use crate::fault::WordsFault;
 use crate::{args, given};
-use clap::{Arg, ArgMatches, Command};
+use clap::{ArgMatches, Command};
 use std::alloc::{AllocError, Global};
 
 /// The subcommand, as `clap` is told of it.
@@ -18,14 +18,9 @@ pub fn command<'a>(alloc: Global) -> Result<Command<'a>, AllocError>
     ensures app { IfOk result (λ c. app_of c ≡ cut_app) }
     ensures local { IfOk result (λ c. (fields_of c).has_globals ≡ false) }
 {
-    let count = Arg::new(alloc, "COUNT")
-        .help("The most bytes to write")
-        .required(true);
-    Command::new(alloc, "cut")
-        .about("Write a part of a file")
-        .arg(args::start(alloc))?
-        .arg(count)?
-        .arg(args::file(alloc))
+    let command = args::command(alloc, "cut", "Write a part of a file");
+    let count = args::required(alloc, "COUNT", "The most bytes to write");
+    args::with_two(command, args::start(alloc), count)?.arg(args::file(alloc))
 }
 
 /// The action of what was given. Where a number does not read, the fault is one of `command`.

@@ -10,7 +10,7 @@ ghost use Rattle.cord_words.specs.Words.{Holds, NumbersRead, find_app};
 use crate::action::Action;
 use crate::fault::WordsFault;
 use crate::{args, given};
-use clap::{Arg, ArgMatches, Command};
+use clap::{ArgMatches, Command};
 use std::alloc::{AllocError, Global};
 
 /// The subcommand, as `clap` is told of it.
@@ -18,14 +18,11 @@ pub fn command<'a>(alloc: Global) -> Result<Command<'a>, AllocError>
     ensures app { IfOk result (λ c. app_of c ≡ find_app) }
     ensures local { IfOk result (λ c. (fields_of c).has_globals ≡ false) }
 {
-    let pattern = Arg::new(alloc, "PATTERN")
-        .help("The bytes to search for, at most 4096 of them")
-        .required(true);
-    Command::new(alloc, "find")
-        .about("Print the place at which a pattern first occurs in a file")
-        .arg(args::start(alloc))?
-        .arg(pattern)?
-        .arg(args::file(alloc))
+    let about = "Print the place at which a pattern first occurs in a file";
+    let command = args::command(alloc, "find", about);
+    let help = "The bytes to search for, at most 4096 of them";
+    let pattern = args::required(alloc, "PATTERN", help);
+    args::with_two(command, args::start(alloc), pattern)?.arg(args::file(alloc))
 }
 
 /// The action of what was given. Where a number does not read, the fault is one of `command`.

@@ -6,8 +6,8 @@ ghost use Rattle.clap.specs.declared.builder.command.Command.TheViews.{out-Comma
 ghost use Rattle.cord_words.specs.Words.{Holds, join_app};
 
 use crate::action::Action;
-use crate::given;
-use clap::{Arg, ArgAction, ArgMatches, Command};
+use crate::{args, given};
+use clap::{ArgAction, ArgMatches, Command};
 use std::alloc::{AllocError, Global};
 
 /// The subcommand, as `clap` is told of it.
@@ -15,13 +15,10 @@ pub fn command<'a>(alloc: Global) -> Result<Command<'a>, AllocError>
     ensures app { IfOk result (λ c. app_of c ≡ join_app) }
     ensures local { IfOk result (λ c. (fields_of c).has_globals ≡ false) }
 {
-    let files = Arg::new(alloc, "FILE")
-        .help("The files, in their order")
-        .required(true)
-        .action(ArgAction::Append);
-    Command::new(alloc, "join")
-        .about("Write files, one behind the other")
-        .arg(files)
+    let files = args::required(alloc, "FILE", "The files, in their order").action(
+        ArgAction::Append,
+    );
+    args::command(alloc, "join", "Write files, one behind the other").arg(files)
 }
 
 /// The action of what was given.

@@ -10,7 +10,7 @@ ghost use Rattle.cord_words.specs.Words.{Holds, NumbersRead, show_app};
 use crate::action::Action;
 use crate::fault::WordsFault;
 use crate::{args, given};
-use clap::{Arg, ArgMatches, Command};
+use clap::{ArgMatches, Command};
 use std::alloc::{AllocError, Global};
 
 /// The subcommand, as `clap` is told of it.
@@ -18,14 +18,13 @@ pub fn command<'a>(alloc: Global) -> Result<Command<'a>, AllocError>
     ensures app { IfOk result (λ c. app_of c ≡ show_app) }
     ensures local { IfOk result (λ c. (fields_of c).has_globals ≡ false) }
 {
-    let revision = Arg::new(alloc, "REV")
-        .help("The number of the revision, counted from 0")
-        .required(true);
-    Command::new(alloc, "show")
-        .about("Write the text of one revision of a saved session")
-        .arg(args::image(alloc))?
-        .arg(revision)?
-        .arg(args::sources(alloc))
+    let command = args::command(
+        alloc,
+        "show",
+        "Write the text of one revision of a saved session",
+    );
+    let revision = args::required(alloc, "REV", "The number of the revision, counted from 0");
+    args::with_two(command, args::image(alloc), revision)?.arg(args::sources(alloc))
 }
 
 /// The action of what was given. Where a number does not read, the fault is one of `command`.
