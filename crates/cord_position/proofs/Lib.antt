@@ -1,4 +1,3 @@
 pub mod LeafCells
 pub mod LeafParts
 pub mod RopeBytes
-pub mod Samples

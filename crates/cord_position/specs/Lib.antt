@@ -1,4 +1,3 @@
 pub mod Fetched
 pub mod Position
 pub mod Runs
-pub mod Sample

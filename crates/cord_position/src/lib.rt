@@ -6,8 +6,6 @@ mod fill;
 mod leaf;
 mod position;
 mod run;
-#[cfg(test)]
-mod tests;
 
 pub use fetch::fetch_byte;
 pub use position::Pos;

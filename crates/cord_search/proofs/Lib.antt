@@ -4,4 +4,3 @@ pub mod Options
 pub mod Orders
 pub mod Standing
 pub mod Chunks
-pub mod WorkedPlaces

@@ -7,10 +7,6 @@ mod fault;
 mod letter;
 mod output;
 mod pattern;
-#[cfg(test)]
-mod tests;
-#[cfg(test)]
-mod worked;
 mod write;
 
 pub use compare::{cmp, ncmp};

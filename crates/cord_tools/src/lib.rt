@@ -12,8 +12,6 @@ mod join;
 mod show;
 mod sources;
 mod status;
-#[cfg(test)]
-mod tests;
 
 pub use check::{run_check, run_stdin};
 pub use cmp::run_cmp;

@@ -12,8 +12,6 @@ mod find;
 mod given;
 mod join;
 mod show;
-#[cfg(test)]
-mod tests;
 
 pub use action::Action;
 pub use command_line::words;

@@ -4,10 +4,6 @@
 mod coded;
 mod leaf_fn;
 mod pattern;
-#[cfg(test)]
-mod tests;
-#[cfg(test)]
-mod worked;
 
 pub use coded::Coded;
 pub use leaf_fn::{LeafFn, fill};

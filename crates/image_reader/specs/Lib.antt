@@ -4,4 +4,3 @@ pub mod Value
 pub mod Spelling
 pub mod Reading
 pub mod Acceptance
-pub mod Worked

@@ -10,8 +10,6 @@ mod parts;
 mod revision;
 mod rows;
 mod section;
-#[cfg(test)]
-mod worked;
 
 pub use fault::ReadFault;
 pub use image::Image;

@@ -4,8 +4,6 @@
 mod faults;
 mod mem_sources;
 mod sources;
-#[cfg(test)]
-mod tests;
 
 pub use faults::{AddFault, SourceFault};
 pub use mem_sources::MemSources;

@@ -2,4 +2,3 @@ pub mod Blocks
 pub mod Codes
 pub mod Contents
 pub mod Progress
-pub mod Worked

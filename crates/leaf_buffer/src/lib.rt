@@ -7,10 +7,6 @@ mod piece;
 mod placed;
 mod pool;
 mod run;
-#[cfg(test)]
-mod tests;
-#[cfg(test)]
-mod worked;
 
 pub use fault::LeafError;
 pub use piece::Piece;

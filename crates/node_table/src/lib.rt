@@ -5,8 +5,6 @@ mod fault;
 mod node_table;
 mod record;
 mod space;
-#[cfg(test)]
-mod tests;
 
 pub use fault::NodeFault;
 pub use node_table::NodeTable;

@@ -7,10 +7,6 @@ mod balancing;
 mod fault;
 mod pieces;
 mod slots;
-#[cfg(test)]
-mod tests;
-#[cfg(test)]
-mod worked;
 
 pub use any::{append_any, cat_any, substr_any};
 pub use balanced::is_balanced;

@@ -5,8 +5,6 @@ mod node;
 mod path;
 mod space;
 mod span;
-#[cfg(test)]
-mod worked;
 
 pub use node::{LeafSpan, NodeId, NodeView, Rope};
 pub use path::{LeafPlace, find_leaf};

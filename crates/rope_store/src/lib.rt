@@ -11,7 +11,5 @@ mod parts;
 mod records;
 mod space;
 mod store;
-#[cfg(test)]
-mod tests;
 
 pub use store::Store;

@@ -4,4 +4,3 @@ pub mod GoodRevisions
 pub mod FaithfulImages
 pub mod RevisionTexts
 pub mod SameSources
-pub mod WorkedFaults

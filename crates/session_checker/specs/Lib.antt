@@ -5,4 +5,3 @@ pub mod NodeRules
 pub mod RevisionRules
 pub mod Accepted
 pub mod Faithful
-pub mod Worked

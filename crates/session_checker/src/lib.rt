@@ -11,8 +11,3 @@ mod tables;
 pub use checked::{Checked, check};
 pub use fault::CheckFault;
 pub use tables::{Tables, check_tables};
-
-#[cfg(test)]
-mod tests;
-#[cfg(test)]
-mod worked;

@@ -3,4 +3,3 @@ pub mod Spans
 pub mod Describing
 pub mod Covering
 pub mod Verdicts
-pub mod WorkedRows

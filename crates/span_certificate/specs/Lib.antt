@@ -2,4 +2,3 @@ pub mod Commands
 pub mod Parts
 pub mod Leads
 pub mod Covers
-pub mod Worked

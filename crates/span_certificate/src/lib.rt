@@ -7,8 +7,6 @@ mod describe;
 mod edit;
 mod part;
 mod row;
-#[cfg(test)]
-mod worked;
 
 pub use cover::{Verdict, verify};
 pub use descent::{LeafSpan, leaf_span};

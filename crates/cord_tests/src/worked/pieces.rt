@@ -2,7 +2,7 @@
 
 ghost use Rattle.std.specs.Prelude.{◌≡◌, Some};
 ghost use Rattle.rope_node.specs.Balance.{IsBalanced};
-ghost use Rattle.rope_node.specs.Worked.{number, chain_of_four, part_of_a_part, part_of_a_source};
+ghost use Rattle.cord_tests.specs.Tables.{number, chain_of_four, part_of_a_part, part_of_a_source};
 ghost use Rattle.rebalance.specs.Pieces.{pieces, rope_pieces};
 
 /// Each leaf of a chain is a piece.
@@ -20,14 +20,14 @@ fn part_has_the_pieces_that_it_meets()
 {}
 
 /// The 50th Fibonacci number is enough for depth 48.
-#[tactic(auto, using(crate::proofs::Fibonacci::fiftieth_and_sixtieth))]
+#[tactic(auto, using(rebalance::proofs::Fibonacci::fiftieth_and_sixtieth))]
 fn balance_at_depth_48()
     ensures enough { IsBalanced 12586269025 48 }
     ensures one_less { ¬ IsBalanced 12586269024 48 }
 {}
 
 /// No text is long enough for depth 58.
-#[tactic(auto, using(crate::proofs::Fibonacci::fiftieth_and_sixtieth))]
+#[tactic(auto, using(rebalance::proofs::Fibonacci::fiftieth_and_sixtieth))]
 fn no_balance_at_depth_58()
     ensures { ¬ IsBalanced 1099511627775 58 }
 {}

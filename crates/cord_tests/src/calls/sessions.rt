@@ -1,8 +1,8 @@
 //! Fetches of accepted images.
 
-use crate::check;
 use lazy_file::MemSources;
 use rope_node::NodeId;
+use session_checker::check;
 
 /// The image of one insertion of `abc`: its header, node, two revisions, row and pool.
 const ONE_INSERT: &[u8] = b"CORDSESS\0\0\0\x01\0\0\0\0\0\0\0\x01\0\0\0\x02\

@@ -1,6 +1,6 @@
 //! Comparison, search and a write of texts over several leaves.
 
-use super::*;
+use cord_search::{FindFault, PutFault, chr, cmp, find, ncmp, put, rchr};
 use function_leaf::Coded;
 use lazy_file::{AddFault, MemSources};
 use node_table::NodeFault;
@@ -207,6 +207,16 @@ fn text_is_written(rt: HostRuntime) {
     let mut sink = Sink::with_room(8);
     assert_eq!(rt; put(&store, &mut sources, text, &mut sink), Ok(()));
     assert_eq!(rt; sink.taken(), b"abcde".as_slice());
+}
+
+#[test]
+fn prefix_is_written_where_no_more_is_taken(rt: HostRuntime) {
+    let mut store: Store<Coded> = Store::new(rt.alloc());
+    let mut sources = MemSources::new(rt.alloc());
+    let Some(text) = three_leaves(&rt, &mut store, &mut sources) else {
+        return;
+    };
+    assert!(rt; store.has(text));
     let mut full = Sink::with_room(3);
     let outcome = put(&store, &mut sources, text, &mut full);
     assert_eq!(rt; outcome, Err(PutFault::Write));

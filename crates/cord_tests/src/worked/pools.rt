@@ -2,7 +2,7 @@
 
 ghost use Rattle.std.specs.Prelude.{◌≡◌, ℕ, List, length, codes};
 ghost use Rattle.leaf_buffer.specs.Contents.{IsInOneBlock, appended};
-ghost use Rattle.leaf_buffer.specs.Worked.{no_bytes, three_bytes, five_bytes, two_blocks};
+ghost use Rattle.cord_tests.specs.Pools.{no_bytes, three_bytes, five_bytes, two_blocks};
 
 /// The first bytes open a block, and the next ones go into its room.
 fn bytes_within_the_room_open_no_block()

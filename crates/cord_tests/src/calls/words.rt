@@ -1,5 +1,5 @@
-use crate::{Action, WordsFault, words};
 use clap::error::ErrorKind;
+use cord_words::{Action, WordsFault, words};
 use std::alloc::AllocError;
 use std::test::Fail;
 

@@ -6,7 +6,7 @@ ghost use Rattle.rope_node.specs.Denotes.{Byte, Place, cells, cell_at, text};
 ghost use Rattle.rope_node.specs.Path.{visits, span_at};
 ghost use Rattle.rope_node.specs.Balance.{IsBalanced};
 ghost use Rattle.rope_node.specs.declared.node.NodeView.TheVariants.{Cat};
-ghost use Rattle.rope_node.specs.Worked.{recorded, number, chain_of_four, part_of_a_part, part_of_a_part_recorded, part_of_a_source, too_long_together};
+ghost use Rattle.cord_tests.specs.Tables.{recorded, number, chain_of_four, part_of_a_part, part_of_a_part_recorded, part_of_a_source, too_long_together};
 
 /// The last two of the last three bytes of `abcd` are `cd`.
 fn part_of_a_part_denotes_its_bytes()
@@ -59,7 +59,7 @@ fn place_begins_a_span_of_its_leaf()
 {}
 
 /// Depth 3 asks for 5 bytes, depth 4 for 8.
-#[tactic(auto, unfolding(crate::specs::Balance::fibonacci))]
+#[tactic(auto, unfolding(rope_node::specs::Balance::fibonacci))]
 fn balance_begins_at_fibonacci_numbers()
     ensures three { ¬ IsBalanced 4 3 }
     ensures four { IsBalanced 8 4 }

@@ -1,4 +1,4 @@
-use super::*;
+use lazy_file::{AddFault, MemSources, SOURCE_LIMIT, SourceFault, Sources};
 use std::process::Abort;
 
 /// Adds a text. Where memory is refused nothing has changed, and the next call goes on.
@@ -73,7 +73,7 @@ fn read_after_a_fault_may_succeed(rt: HostRuntime) {
 }
 
 #[test]
-fn texts_in_memory_are_read(rt: HostRuntime) {
+fn texts_in_memory_are_counted(rt: HostRuntime) {
     let mut sources = MemSources::new(rt.alloc());
     assert_eq!(rt; sources.count(), 0);
     assert_eq!(rt; add(&rt, &mut sources, b"abcde"), Ok(0));
@@ -82,7 +82,13 @@ fn texts_in_memory_are_read(rt: HostRuntime) {
     assert_eq!(rt; size_of(&sources, 0), Some(5));
     assert_eq!(rt; size_of(&sources, 1), Some(2));
     assert_eq!(rt; size_of(&sources, 2), None);
+}
 
+#[test]
+fn texts_in_memory_are_read(rt: HostRuntime) {
+    let mut sources = MemSources::new(rt.alloc());
+    assert_eq!(rt; add(&rt, &mut sources, b"abcde"), Ok(0));
+    assert_eq!(rt; add(&rt, &mut sources, b"xy"), Ok(1));
     let mut buffer = *b"...";
     assert_eq!(rt; sources.read(0, 1, &mut buffer), Ok(()));
     assert_eq!(rt; &buffer, b"bcd");

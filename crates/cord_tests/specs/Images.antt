@@ -1,10 +1,11 @@
--- The image of the worked examples: an empty text, and `abc` inserted into it.
-use Rattle.std.specs.Prelude.{true, false, List, [], ◌∷◌, length, Some, None, codes}
+-- The images of the worked examples: an empty text, and `abc` or a chain of four literals inserted into it.
+use Rattle.std.specs.Prelude.{Bool, true, false, List, [], ◌∷◌, length, map, Some, None, codes}
 use Rattle.rope_node.specs.declared.node.NodeView.TheVariants.{Lit}
-use Rattle.rope_node.specs.Worked.{recorded, number}
+use Rattle.rope_node.specs.Table.{Node}
+use Rattle.cord_tests.specs.Tables.{recorded, number, chain_of_four}
 use Rattle.span_certificate.specs.declared.edit.Edit.TheVariants.{New, Insert}
 use Rattle.span_certificate.specs.declared.row.Row.{Row}
-use Rattle.span_certificate.specs.Worked.{leaf_row}
+use Rattle.cord_tests.specs.Commands.{leaf_row}
 use Rattle.image_reader.specs.declared.revision.Revision.{Revision}
 use Rattle.image_reader.specs.Value.{ImageNode, ImageValue}
 
@@ -29,3 +30,17 @@ one_insert_by rows = record {
 
 abbrev pub one_insert : ImageValue
 one_insert = one_insert_by (leaf_row 3 ∷ [])
+
+-- a node that is no function
+abbrev pub plain : Node → ImageNode
+plain n = record { node = n; function = None }
+
+-- an empty text, and `abcd` inserted into it, with this mark
+abbrev pub inserted_chain : Bool → ImageValue
+inserted_chain mark = record {
+  sources = [];
+  nodes = map plain chain_of_four.nodes;
+  revisions = empty_text ∷ record { edit = Insert 0 0 0 4; mark = mark; root = Some (number 6); rows = 4 } ∷ [];
+  rows = leaf_row 1 ∷ leaf_row 1 ∷ leaf_row 1 ∷ leaf_row 1 ∷ [];
+  pool = codes "abcd";
+}

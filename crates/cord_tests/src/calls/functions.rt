@@ -1,4 +1,4 @@
-use super::*;
+use function_leaf::{Coded, LeafFn, fill};
 
 #[test]
 fn cycles_have_1_to_16_bytes(rt: HostRuntime) {

@@ -1,4 +1,4 @@
-use crate::{LeafError, Piece, Pool, Run};
+use leaf_buffer::{LeafError, Piece, Pool, Run};
 use std::process::Abort;
 
 /// Appends. Where memory is refused, nothing has changed, and the call is made again.
@@ -18,10 +18,14 @@ fn piece(start: u32, len: u32) -> Piece {
 }
 
 #[test]
-fn pool_takes_extends_and_refuses(rt: HostRuntime) {
-    let long = [b'x'; 65_537];
-    let mut pool = Pool::new(rt.alloc());
+fn new_pool_is_empty(rt: HostRuntime) {
+    let pool = Pool::new(rt.alloc());
     assert_eq!(&rt; (pool.len(), pool.room()), (0, 0));
+}
+
+#[test]
+fn last_piece_is_extended_within_its_room(rt: HostRuntime) {
+    let mut pool = Pool::new(rt.alloc());
     assert_eq!(&rt; append(&rt, &mut pool, b"abc"), Ok(piece(0, 3)));
     assert_eq!(&rt; pool.room(), 65_533);
     assert!(&rt; pool.can_extend(piece(0, 3), 65_533));
@@ -30,15 +34,26 @@ fn pool_takes_extends_and_refuses(rt: HostRuntime) {
     assert_eq!(&rt; pool.room(), 65_531);
     assert!(&rt; pool.get(piece(0, 3)) == Some(b"abc".as_slice()));
     assert_eq!(&rt; pool.extend_last(piece(0, 3), b"x"), None);
-    assert_eq!(&rt;
-        append(&rt, &mut pool, &long[..65_536]),
-        Ok(piece(5, 65_536))
-    );
+}
+
+#[test]
+fn piece_past_the_room_opens_a_block(rt: HostRuntime) {
+    let full = [b'x'; 65_536];
+    let mut pool = Pool::new(rt.alloc());
+    assert_eq!(&rt; append(&rt, &mut pool, b"abcde"), Ok(piece(0, 5)));
+    assert_eq!(&rt; append(&rt, &mut pool, &full), Ok(piece(5, 65_536)));
     assert_eq!(&rt; pool.room(), 0);
     assert!(&rt; pool.get(piece(4, 2)).is_none());
+}
+
+#[test]
+fn pool_refuses_no_bytes_and_too_many(rt: HostRuntime) {
+    let long = [b'x'; 65_537];
+    let mut pool = Pool::new(rt.alloc());
+    assert_eq!(&rt; append(&rt, &mut pool, b"abcde"), Ok(piece(0, 5)));
     assert_eq!(&rt; append(&rt, &mut pool, b""), Err(LeafError::Empty));
     assert_eq!(&rt; append(&rt, &mut pool, &long), Err(LeafError::TooLong));
-    assert_eq!(&rt; pool.len(), 65_541);
+    assert_eq!(&rt; pool.len(), 5);
 }
 
 #[test]

@@ -4,8 +4,8 @@ ghost use Rattle.std.specs.Prelude.{◌≡◌, ◌∷◌, [], ◌++◌, take, sl
 ghost use Rattle.image_reader.specs.declared.fault.ReadFault.TheVariants.{Truncated, Trailing, Version, Count, NonZeroPad, Kind};
 ghost use Rattle.image_reader.specs.Spelling.{source_spelling, node_spelling, revision_spelling, row_spelling, spelling};
 ghost use Rattle.image_reader.specs.Reading.{image_of, fault_of};
-ghost use Rattle.image_reader.specs.Worked.{literal, insertion, one_insert};
-ghost use Rattle.span_certificate.specs.Worked.{leaf_row};
+ghost use Rattle.cord_tests.specs.Images.{literal, insertion, one_insert};
+ghost use Rattle.cord_tests.specs.Commands.{leaf_row};
 
 /// The image of one insertion of `abc`: its header, node, two revisions, row and pool.
 const ONE_INSERT: &[u8] = b"CORDSESS\0\0\0\x01\0\0\0\0\0\0\0\x01\0\0\0\x02\
@@ -22,7 +22,7 @@ const ONE_INSERT: &[u8] = b"CORDSESS\0\0\0\x01\0\0\0\0\0\0\0\x01\0\0\0\x02\
     abc";
 
 /// Each record's numbers stand in its fields, the highest byte of each first.
-#[tactic(auto, unfolding(crate::specs::Layout::spelled, crate::specs::Spelling::source_spelling, crate::specs::Spelling::view_spelling, crate::specs::Spelling::revision_spelling, crate::specs::Spelling::row_spelling))]
+#[tactic(auto, unfolding(image_reader::specs::Layout::spelled, image_reader::specs::Spelling::source_spelling, image_reader::specs::Spelling::view_spelling, image_reader::specs::Spelling::revision_spelling, image_reader::specs::Spelling::row_spelling))]
 fn records_are_spelled_field_by_field()
     ensures source { source_spelling 5 ≡ 0 ∷ 0 ∷ 0 ∷ 0 ∷ 0 ∷ 0 ∷ 0 ∷ 5 ∷ [] }
     ensures longest_source { source_spelling 1099511627775 ≡ 0 ∷ 0 ∷ 0 ∷ 255 ∷ 255 ∷ 255 ∷ 255 ∷ 255 ∷ [] }
@@ -32,14 +32,14 @@ fn records_are_spelled_field_by_field()
 {}
 
 /// The image's one spelling, and what is read of it.
-#[tactic(auto, unfolding(crate::specs::Layout::spelled, crate::specs::Layout::number_in, crate::specs::Layout::records, crate::specs::Spelling::view_spelling, crate::specs::Spelling::revision_spelling, crate::specs::Spelling::row_spelling, crate::specs::Spelling::spelling, crate::specs::Reading::view_of, crate::specs::Reading::function_of, crate::specs::Reading::edit_of, crate::specs::Reading::revision_of, crate::specs::Reading::row_of, crate::specs::Reading::sections_value))]
+#[tactic(auto, unfolding(image_reader::specs::Layout::spelled, image_reader::specs::Layout::number_in, image_reader::specs::Layout::records, image_reader::specs::Spelling::view_spelling, image_reader::specs::Spelling::revision_spelling, image_reader::specs::Spelling::row_spelling, image_reader::specs::Spelling::spelling, image_reader::specs::Reading::view_of, image_reader::specs::Reading::function_of, image_reader::specs::Reading::edit_of, image_reader::specs::Reading::revision_of, image_reader::specs::Reading::row_of, image_reader::specs::Reading::sections_value))]
 fn one_insertion_is_spelled_and_read()
     ensures spelling { spelling one_insert ≡ ONE_INSERT.now }
     ensures image { image_of ONE_INSERT.now ≡ one_insert }
 {}
 
 /// The first fault of the image cut short, made longer, or with one byte changed.
-#[tactic(auto, unfolding(crate::specs::Layout::number_in, crate::specs::Layout::records, crate::specs::Reading::first_fault, crate::specs::Reading::stated_len, crate::specs::Reading::header_fault, crate::specs::Reading::source_fault, crate::specs::Reading::node_fault, crate::specs::Reading::revision_fault, crate::specs::Reading::row_fault, crate::specs::Reading::revision_of, crate::specs::Reading::edit_of, crate::specs::Reading::counted_rows, crate::specs::Reading::sections_fault, crate::specs::Reading::fault_of))]
+#[tactic(auto, unfolding(image_reader::specs::Layout::number_in, image_reader::specs::Layout::records, image_reader::specs::Reading::first_fault, image_reader::specs::Reading::stated_len, image_reader::specs::Reading::header_fault, image_reader::specs::Reading::source_fault, image_reader::specs::Reading::node_fault, image_reader::specs::Reading::revision_fault, image_reader::specs::Reading::row_fault, image_reader::specs::Reading::revision_of, image_reader::specs::Reading::edit_of, image_reader::specs::Reading::counted_rows, image_reader::specs::Reading::sections_fault, image_reader::specs::Reading::fault_of))]
 fn changed_image_has_a_first_fault()
     ensures none { fault_of ONE_INSERT.now ≡ None }
     ensures cut_short { fault_of (take 210 ONE_INSERT.now) ≡ Some Truncated }

@@ -1,13 +1,13 @@
 -- Rows of the worked examples: those that cover, and those that do not fit.
 use Rattle.std.proofs.Common.{ℕ, zero, suc, ◌<◌, ◌≤◌, List, [], ◌∷◌, Some, refl, arith, lit≤}
 use Rattle.rope_node.specs.Table.{Table}
-use Rattle.rope_node.specs.Worked.{number, part_of_a_part, one_literal}
+use Rattle.cord_tests.specs.Tables.{number, part_of_a_part, one_literal}
 use Rattle.span_certificate.specs.declared.describe.Description.TheVariants.{Pooled}
 use Rattle.span_certificate.specs.declared.row.Row.{Row}
 use Rattle.span_certificate.specs.declared.part.Part.TheVariants.{Pool}
 use Rattle.span_certificate.specs.Leads.{Leads, here, in_right, in_base}
 use Rattle.span_certificate.specs.Covers.{place_of, row_at, Fits, Covers, IsFirstBad}
-use Rattle.span_certificate.specs.Worked.{leaf_row}
+use Rattle.cord_tests.specs.Commands.{leaf_row}
 
 -- two parts down, and into the right child
 lead : Leads part_of_a_part 2 1 0 4 0

@@ -1,7 +1,7 @@
-use super::*;
 use function_leaf::Coded;
 use node_table::NodeFault;
 use rope_node::{CodedSpace, NodeId, NodeSpace, NodeView, Rope};
+use rope_store::Store;
 use std::process::Abort;
 
 // Each of these makes its call, and where memory was refused asserts that nothing changed and makes it again.

@@ -1,6 +1,6 @@
-use super::*;
 use function_leaf::Coded;
 use node_table::NodeFault;
+use rebalance::{BalanceFault, append_any, balance, cat_any, is_balanced, substr_any};
 use rope_node::{NodeSpace, Rope};
 use rope_store::Store;
 use std::process::Abort;
@@ -82,7 +82,6 @@ fn too_deep_is_balanced_first(rt: HostRuntime) {
     let Some(rope) = rope_of(&rt, made) else {
         return;
     };
-    assert_shape(&rt, &store, rope, 65, 64);
     let made = chain(&mut store, 1);
     let Some(leaf) = rope_of(&rt, made) else {
         return;
@@ -97,6 +96,16 @@ fn too_deep_is_balanced_first(rt: HostRuntime) {
         return;
     };
     assert_shape(&rt, &store, both, 66, 8);
+}
+
+#[test]
+fn part_of_the_deepest_is_a_part(rt: HostRuntime) {
+    let mut store: Store<Coded> = Store::new(rt.alloc());
+    let made = chain(&mut store, 65);
+    let Some(rope) = rope_of(&rt, made) else {
+        return;
+    };
+    assert_shape(&rt, &store, rope, 65, 64);
     assert!(rt; store.has(rope));
     let made = substr_any(&mut store, rope, 1, 64);
     let Some(part) = rope_of(&rt, made) else {

@@ -1,21 +1,21 @@
 -- The records of the worked examples: those that keep the rules, and the first ones that do not.
 use Rattle.std.proofs.Common.{ℕ, zero, suc, ◌<◌, List, [], ◌∷◌, length, take, true, Some, refl, arith, lit<, lit≤}
 use Rattle.rope_node.specs.Balance.{fibonacci, IsBalanced}
-use Rattle.rope_node.specs.Worked.{number, child_not_earlier, part_of_a_part, part_of_a_part_recorded, too_long_together}
+use Rattle.cord_tests.specs.Tables.{number, child_not_earlier, part_of_a_part, part_of_a_part_recorded, too_long_together}
 use Rattle.span_certificate.specs.declared.row.Row.{Row}
 use Rattle.span_certificate.specs.declared.part.Part.TheVariants.{Pool}
 use Rattle.span_certificate.specs.Covers.{Fits, IsFirstBad, place_of, row_at}
-use Rattle.span_certificate.specs.Worked.{leaf_row}
-use Rattle.span_certificate.proofs.WorkedRows.{first_row, third_byte_uncovered_beside, row_past_the_end_beside}
+use Rattle.cord_tests.specs.Commands.{leaf_row}
+use Rattle.cord_tests.proofs.WorkedRows.{first_row, third_byte_uncovered_beside, row_past_the_end_beside}
 use Rattle.image_reader.specs.Acceptance.{IsGoodNode, AreGoodNodes}
 use Rattle.image_reader.specs.Value.{ImageNode, table_of}
 use Rattle.image_reader.specs.declared.revision.Revision.{Revision}
-use Rattle.image_reader.specs.Worked.{empty_text, one_insert, one_insert_by}
+use Rattle.cord_tests.specs.Images.{empty_text, one_insert, one_insert_by}
 use Rattle.session_checker.specs.declared.fault.CheckFault.TheVariants as faults
 use Rattle.session_checker.specs.declared.node_rules.NodeRule.TheVariants as rules
 use Rattle.session_checker.specs.NodeRules.{IsFirstNodeFault}
 use Rattle.session_checker.specs.RevisionRules.{IsGoodRevision, AreGoodRevisions, IsFirstRevisionFault}
-use Rattle.session_checker.specs.Worked.{inserted_chain}
+use Rattle.cord_tests.specs.Images.{inserted_chain}
 
 -- a leaf that keeps its rules, at the front of the table
 literal_good : IsGoodNode child_not_earlier 0

@@ -1,6 +1,6 @@
 //! The tools over readers and writers that are interrupted, that fail, and that take no more.
 
-use crate::{
+use cord_tools::{
     Status, ToolFault, read_source, run_check, run_cmp, run_cut, run_find, run_join, run_show,
     run_stdin, sources_of,
 };
@@ -423,6 +423,17 @@ fn cut(
     run_cut(rt.alloc(), &mut sources, start, count, writer)
 }
 
+fn find_once(
+    rt: &(impl AllocGlobal + Abort),
+    sources: &mut MemSources<'_>,
+    start: u64,
+    pattern: &[u8],
+    writer: &mut Sink,
+) -> Result<Status, ToolFault> {
+    assert!(rt; sources.count() >= 1);
+    run_find(rt.alloc(), sources, start, pattern, writer)
+}
+
 /// Searches a text.
 fn find(
     rt: &(impl AllocGlobal + Abort),
@@ -432,14 +443,21 @@ fn find(
     writer: &mut Sink,
 ) -> Result<Status, ToolFault> {
     let mut sources = files(rt, &[text]);
-    assert!(rt; sources.count() >= 1);
-    let outcome = run_find(rt.alloc(), &mut sources, start, pattern, writer);
+    let outcome = find_once(rt, &mut sources, start, pattern, writer);
     if outcome != Err(ToolFault::Memory) {
         return outcome;
     }
     assert!(rt; writer.taken().is_empty());
-    assert!(rt; sources.count() >= 1);
-    run_find(rt.alloc(), &mut sources, start, pattern, writer)
+    find_once(rt, &mut sources, start, pattern, writer)
+}
+
+fn compare_once(
+    rt: &(impl AllocGlobal + Abort),
+    sources: &mut MemSources<'_>,
+    writer: &mut Sink,
+) -> Result<Status, ToolFault> {
+    assert!(rt; sources.count() >= 2);
+    run_cmp(rt.alloc(), sources, writer)
 }
 
 /// Compares two texts.
@@ -450,14 +468,12 @@ fn compare(
     writer: &mut Sink,
 ) -> Result<Status, ToolFault> {
     let mut sources = files(rt, &[first, second]);
-    assert!(rt; sources.count() >= 2);
-    let outcome = run_cmp(rt.alloc(), &mut sources, writer);
+    let outcome = compare_once(rt, &mut sources, writer);
     if outcome != Err(ToolFault::Memory) {
         return outcome;
     }
     assert!(rt; writer.taken().is_empty());
-    assert!(rt; sources.count() >= 2);
-    run_cmp(rt.alloc(), &mut sources, writer)
+    compare_once(rt, &mut sources, writer)
 }
 
 #[test]

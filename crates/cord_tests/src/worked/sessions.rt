@@ -1,15 +1,15 @@
 //! Which records keep the rules, and which break one first, on worked examples.
 
 ghost use Rattle.std.specs.Prelude.{◌∷◌, [], true, false};
-ghost use Rattle.rope_node.specs.Worked.{child_not_earlier, part_of_a_part, part_of_a_part_recorded, too_long_together};
-ghost use Rattle.span_certificate.specs.Worked.{leaf_row};
+ghost use Rattle.cord_tests.specs.Tables.{child_not_earlier, part_of_a_part, part_of_a_part_recorded, too_long_together};
+ghost use Rattle.cord_tests.specs.Commands.{leaf_row};
 ghost use Rattle.image_reader.specs.Value.{table_of};
 ghost use Rattle.image_reader.specs.Acceptance.{AreGoodNodes};
-ghost use Rattle.image_reader.specs.Worked.{empty_text, insertion, one_insert, one_insert_by};
+ghost use Rattle.cord_tests.specs.Images.{empty_text, insertion, one_insert, one_insert_by};
 ghost use Rattle.session_checker.specs.declared.fault.CheckFault.TheVariants.{Reference, Length, Depth, Mark, Rows};
 ghost use Rattle.session_checker.specs.NodeRules.{IsFirstNodeFault};
 ghost use Rattle.session_checker.specs.RevisionRules.{HasGoodMark, AreGoodRevisions, IsFirstRevisionFault, revision_at};
-ghost use Rattle.session_checker.specs.Worked.{inserted_chain};
+ghost use Rattle.cord_tests.specs.Images.{inserted_chain};
 
 /// A child that is its own parent, a sum over the limit, and a depth that is one too small.
 #[tactic(auto, using(crate::proofs::WorkedFaults::own_child, crate::proofs::WorkedFaults::sum_over_the_limit, crate::proofs::WorkedFaults::depth_too_small, crate::proofs::WorkedFaults::part_of_a_part_good))]

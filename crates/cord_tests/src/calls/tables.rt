@@ -1,7 +1,7 @@
 //! What a table refuses by itself. Its nodes are put by the store above, whose tests put them.
 
-use crate::{NodeFault, NodeTable};
 use function_leaf::Coded;
+use node_table::{NodeFault, NodeTable};
 use rope_node::NodeSpace;
 use std::process::Abort;
 

@@ -1,6 +1,6 @@
 //! Positions in a rope of two parts of sources, a literal and a function.
 
-use crate::Pos;
+use cord_position::Pos;
 use function_leaf::Coded;
 use lazy_file::{AddFault, MemSources, SourceFault, Sources};
 use rope_node::{NodeId, NodeSpace, NodeView, Rope};
@@ -18,7 +18,7 @@ const LITERAL: &[u8] = b"def";
 const ALL: Rope = Some(NodeId(6));
 
 impl NodeSpace for Sample {
-    ghost use Rattle.cord_position.specs.Sample.{sample};
+    ghost use Rattle.cord_tests.specs.Sample.{sample};
 
     ghost table = { λ _. sample };
 

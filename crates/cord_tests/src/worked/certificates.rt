@@ -1,13 +1,13 @@
 //! What commands give and which rows fit, on worked examples.
 
 ghost use Rattle.std.specs.Prelude.{◌≡◌, ◌∷◌, [], codes, Some, None};
-ghost use Rattle.rope_node.specs.Worked.{number, part_of_a_part, one_literal};
+ghost use Rattle.cord_tests.specs.Tables.{number, part_of_a_part, one_literal};
 ghost use Rattle.span_certificate.specs.declared.edit.Edit.TheVariants.{New, Insert};
 ghost use Rattle.span_certificate.specs.declared.part.Part.TheVariants.{Pool};
 ghost use Rattle.span_certificate.specs.Commands.{IsHistory, result_of};
 ghost use Rattle.span_certificate.specs.Parts.{parts_of};
 ghost use Rattle.span_certificate.specs.Covers.{Fits, Covers, IsFirstBad};
-ghost use Rattle.span_certificate.specs.Worked.{pool_of, leaf_row};
+ghost use Rattle.cord_tests.specs.Commands.{pool_of, leaf_row};
 
 /// An empty text, `a`, and `ab`.
 fn two_insertions_make_a_history()

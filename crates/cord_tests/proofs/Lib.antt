@@ -1,0 +1,4 @@
+pub mod Samples
+pub mod WorkedPlaces
+pub mod WorkedRows
+pub mod WorkedFaults

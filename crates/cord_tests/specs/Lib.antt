@@ -1,0 +1,5 @@
+pub mod Tables
+pub mod Pools
+pub mod Commands
+pub mod Images
+pub mod Sample

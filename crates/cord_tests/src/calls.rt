@@ -1,0 +1,13 @@
+//! Each public call of a crate, with ample memory and with none.
+
+mod balance;
+mod functions;
+mod pools;
+mod positions;
+mod ropes;
+mod searches;
+mod sessions;
+mod sources;
+mod tables;
+mod tools;
+mod words;
