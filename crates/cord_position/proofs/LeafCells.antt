@@ -45,7 +45,7 @@ source_cell t s id start s' a lt inside e =
 -- sources that are as many and as long as the table says hold each place of a part
 pub source_held : (t : Table) → IsSound t → (id start s' a : ℕ) (sizes : List ℕ) → id < length t.nodes → start < len_at t id → view_at t id ≡ Src s' a → sizes ≡ t.sources → HoldsPlace sizes (Place s' (a + start))
 source_held t s id start s' a sizes lt inside e own =
-    let there = rw e at (s.nodes id lt).children in
+    let there = rw e at (s.nodes id lt).references in
     let held = rw e at (s.nodes id lt).span in
     rw (own, lt-ltb s' (length t.sources) there, le-leb (a + start + 1) (get_or t.sources s' 0) (omega (arith, held, inside))) refl
 

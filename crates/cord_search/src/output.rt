@@ -29,7 +29,11 @@ fn write_some<W: io::Write>(writer: &mut W, bytes: &[u8]) -> Result<usize, PutFa
     }
 }
 
-/// Writes all the bytes. Where it fails, a prefix of them was written. A write of no byte is a failure.
+/// Writes all the bytes.
+///
+/// # Errors
+///
+/// `Write`, where the writer failed or took no byte. A prefix of the bytes was written then.
 pub fn write_bytes<W: io::Write>(writer: &mut W, bytes: &[u8]) -> Result<(), PutFault>
     ensures ok { OnOk result (Appends (W.contents writer.old) (W.contents writer.new) bytes.now) }
     ensures err { OnErr result (AppendsPrefix (W.contents writer.old) (W.contents writer.new) bytes.now) }

@@ -4,13 +4,13 @@ use Rattle.rope_node.specs.Table.{node_at, IsSound, IsSoundNode, HasTrueRecords,
 use Rattle.cord_tests.specs.Sample.{sample}
 
 sound_node : (id : ℕ) → id < 7 → IsSoundNode sample id (node_at sample id)
-sound_node zero lt = record { children = omega arith; not_empty = omega arith; not_long = omega arith; not_deep = omega arith; span = omega arith }
-sound_node (suc zero) lt = record { children = omega arith; not_empty = omega arith; not_long = omega arith; not_deep = omega arith; span = omega arith }
-sound_node (suc (suc zero)) lt = record { children = tt; not_empty = omega arith; not_long = omega arith; not_deep = omega arith; span = omega arith }
-sound_node (suc (suc (suc zero))) lt = record { children = tt; not_empty = omega arith; not_long = omega arith; not_deep = omega arith; span = tt }
-sound_node (suc (suc (suc (suc zero)))) lt = record { children = (omega arith, omega arith); not_empty = omega arith; not_long = omega arith; not_deep = omega arith; span = tt }
-sound_node (suc (suc (suc (suc (suc zero))))) lt = record { children = (omega arith, omega arith); not_empty = omega arith; not_long = omega arith; not_deep = omega arith; span = tt }
-sound_node (suc (suc (suc (suc (suc (suc zero)))))) lt = record { children = (omega arith, omega arith); not_empty = omega arith; not_long = omega arith; not_deep = omega arith; span = tt }
+sound_node zero lt = record { references = omega arith; not_empty = omega arith; not_long = omega arith; not_deep = omega arith; span = omega arith }
+sound_node (suc zero) lt = record { references = omega arith; not_empty = omega arith; not_long = omega arith; not_deep = omega arith; span = omega arith }
+sound_node (suc (suc zero)) lt = record { references = tt; not_empty = omega arith; not_long = omega arith; not_deep = omega arith; span = omega arith }
+sound_node (suc (suc (suc zero))) lt = record { references = tt; not_empty = omega arith; not_long = omega arith; not_deep = omega arith; span = tt }
+sound_node (suc (suc (suc (suc zero)))) lt = record { references = (omega arith, omega arith); not_empty = omega arith; not_long = omega arith; not_deep = omega arith; span = tt }
+sound_node (suc (suc (suc (suc (suc zero))))) lt = record { references = (omega arith, omega arith); not_empty = omega arith; not_long = omega arith; not_deep = omega arith; span = tt }
+sound_node (suc (suc (suc (suc (suc (suc zero)))))) lt = record { references = (omega arith, omega arith); not_empty = omega arith; not_long = omega arith; not_deep = omega arith; span = tt }
 sound_node (suc (suc (suc (suc (suc (suc (suc id))))))) lt = absurd (omega (arith, lt))
 
 true_node : (id : ℕ) → id < 7 → IsTrueNode sample (node_at sample id)

@@ -19,7 +19,7 @@ use Rattle.cord_tests.specs.Images.{inserted_chain}
 
 -- a leaf that keeps its rules, at the front of the table
 literal_good : IsGoodNode child_not_earlier 0
-literal_good = (record { children = tt; not_empty = lit≤ tt; not_long = lit< tt; not_deep = lit≤ tt; span = lit≤ tt }, record { len = tt; depth = refl })
+literal_good = (record { references = tt; not_empty = lit≤ tt; not_long = lit< tt; not_deep = lit≤ tt; span = lit≤ tt }, record { len = tt; depth = refl })
 
 before_child : (id : ℕ) → id < 1 → IsGoodNode child_not_earlier id
 before_child zero lt = literal_good
@@ -36,8 +36,8 @@ own_child = record {
 }
 
 before_sum : (id : ℕ) → id < 2 → IsGoodNode too_long_together id
-before_sum zero lt = (record { children = tt; not_empty = lit≤ tt; not_long = lit< tt; not_deep = lit≤ tt; span = tt }, record { len = tt; depth = refl })
-before_sum (suc zero) lt = (record { children = tt; not_empty = lit≤ tt; not_long = lit< tt; not_deep = lit≤ tt; span = tt }, record { len = tt; depth = refl })
+before_sum zero lt = (record { references = tt; not_empty = lit≤ tt; not_long = lit< tt; not_deep = lit≤ tt; span = tt }, record { len = tt; depth = refl })
+before_sum (suc zero) lt = (record { references = tt; not_empty = lit≤ tt; not_long = lit< tt; not_deep = lit≤ tt; span = tt }, record { len = tt; depth = refl })
 before_sum (suc (suc id)) lt = absurd (omega (arith, lt))
 
 pub sum_over_the_limit : IsFirstNodeFault too_long_together (faults.Length 2)
@@ -52,10 +52,10 @@ sum_over_the_limit = record {
 
 -- whatever depth is recorded with the last node
 before_last : (depth id : ℕ) → id < 4 → IsGoodNode (part_of_a_part_recorded depth) id
-before_last depth zero lt = (record { children = tt; not_empty = lit≤ tt; not_long = lit< tt; not_deep = lit≤ tt; span = lit≤ tt }, record { len = tt; depth = refl })
-before_last depth (suc zero) lt = (record { children = tt; not_empty = lit≤ tt; not_long = lit< tt; not_deep = lit≤ tt; span = lit≤ tt }, record { len = tt; depth = refl })
-before_last depth (suc (suc zero)) lt = (record { children = (lit< tt, lit< tt); not_empty = lit≤ tt; not_long = lit< tt; not_deep = lit≤ tt; span = tt }, record { len = refl; depth = refl })
-before_last depth (suc (suc (suc zero))) lt = (record { children = lit< tt; not_empty = lit≤ tt; not_long = lit< tt; not_deep = lit≤ tt; span = lit≤ tt }, record { len = tt; depth = refl })
+before_last depth zero lt = (record { references = tt; not_empty = lit≤ tt; not_long = lit< tt; not_deep = lit≤ tt; span = lit≤ tt }, record { len = tt; depth = refl })
+before_last depth (suc zero) lt = (record { references = tt; not_empty = lit≤ tt; not_long = lit< tt; not_deep = lit≤ tt; span = lit≤ tt }, record { len = tt; depth = refl })
+before_last depth (suc (suc zero)) lt = (record { references = (lit< tt, lit< tt); not_empty = lit≤ tt; not_long = lit< tt; not_deep = lit≤ tt; span = tt }, record { len = refl; depth = refl })
+before_last depth (suc (suc (suc zero))) lt = (record { references = lit< tt; not_empty = lit≤ tt; not_long = lit< tt; not_deep = lit≤ tt; span = lit≤ tt }, record { len = tt; depth = refl })
 before_last depth (suc (suc (suc (suc id)))) lt = absurd (omega (arith, lt))
 
 pub depth_too_small : IsFirstNodeFault (part_of_a_part_recorded 2) (faults.Depth 4)
@@ -69,7 +69,7 @@ depth_too_small = record {
 }
 
 last_good : IsGoodNode part_of_a_part 4
-last_good = (record { children = lit< tt; not_empty = lit≤ tt; not_long = lit< tt; not_deep = lit≤ tt; span = lit≤ tt }, record { len = tt; depth = refl })
+last_good = (record { references = lit< tt; not_empty = lit≤ tt; not_long = lit< tt; not_deep = lit≤ tt; span = lit≤ tt }, record { len = tt; depth = refl })
 
 pub part_of_a_part_good : AreGoodNodes part_of_a_part
 part_of_a_part_good zero lt = before_last 3 0 (lit< tt)

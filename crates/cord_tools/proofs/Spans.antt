@@ -21,7 +21,7 @@ use Rattle.lazy_file.specs.SourceTexts.{AreSizes, longest_source, text_at}
 use Rattle.cord_position.specs.Fetched.{AreStated, IsStated}
 use Rattle.cord_search.specs.Stated.{OfText, OfTexts}
 use Rattle.cord_tools.specs.Files.{OfFile, OfFiles, file_bytes}
-use Rattle.cord_tools.specs.Spans.{IsPart, IsSpan, source_leaf}
+use Rattle.cord_tools.specs.Spans.{IsSourcePart, IsSpan, source_leaf}
 
 -- ---- which fault comes
 
@@ -64,7 +64,7 @@ span_made {F} meaning old new s a (suc n) rope table is =
     subst (λ (h : Held F). IsSpan (table_of meaning h) s a (suc n) rope) (sym table) (subst (IsSpan (table_of meaning grown) s a (suc n)) (sym is) made)
 
 pub part_made : {F : Type 0} (meaning : F → ℕ → ℕ) (old new : Held F) (s r start count len a n : ℕ) (rope : Option NodeId) → r ≡ s → len ≡ get_or old.sources r 0 → a ≡ min start len → n ≡ min count (len - a)
-    → new ≡ after old (source_added {F = F} (table_of meaning old) r a n) → rope ≡ (source_added {F = F} (table_of meaning old) r a n).rope → IsPart (table_of meaning new) s start count rope
+    → new ≡ after old (source_added {F = F} (table_of meaning old) r a n) → rope ≡ (source_added {F = F} (table_of meaning old) r a n).rope → IsSourcePart (table_of meaning new) s start count rope
 part_made {F} meaning old new s r start count len a n rope same_s is_len is_a is_n table is =
     let made : IsSpan (table_of meaning new) r a n rope = span_made {F = F} meaning old new r a n rope table is in
     let sizes : old.sources ≡ new.sources = sym (ap (λ (h : Held F). h.sources) table) in
@@ -75,7 +75,7 @@ pool_after {F} meaning old new s a zero table = ap (λ (h : Held F). h.pool) tab
 pool_after {F} meaning old new s a (suc n) table = ap (λ (h : Held F). h.pool) table ∙ appended_nothing old.pool
 
 -- a later table has the same rope
-pub part_kept : (old new : Table) (s start count : ℕ) (rope : Option NodeId) → Extends old new → new.sources ≡ old.sources → IsPart old s start count rope → IsPart new s start count rope
+pub part_kept : (old new : Table) (s start count : ℕ) (rope : Option NodeId) → Extends old new → new.sources ≡ old.sources → IsSourcePart old s start count rope → IsSourcePart new s start count rope
 part_kept old new s start count rope extends same is =
     subst (λ (sizes : List ℕ). IsSpan new s (min start (get_or sizes s 0)) (min count (get_or sizes s 0 - min start (get_or sizes s 0))) rope) (sym same)
     (kept (min start (get_or old.sources s 0)) (min count (get_or old.sources s 0 - min start (get_or old.sources s 0))) rope is)
@@ -122,7 +122,7 @@ range_part len start count =
           | inr fits ↦ from_start count inside fits (omega (arith, inside, fits))
         ]
 
-part_text : (t : Table) (source : ℕ → ℕ → ℕ) (s start count : ℕ) (rope : Option NodeId) → IsPart t s start count rope → text source (rope_cells t rope) ≡ take count (drop start (file_bytes t.sources source s))
+part_text : (t : Table) (source : ℕ → ℕ → ℕ) (s start count : ℕ) (rope : Option NodeId) → IsSourcePart t s start count rope → text source (rope_cells t rope) ≡ take count (drop start (file_bytes t.sources source s))
 part_text t source s start count rope is =
     let len = get_or t.sources s 0 in
     let a = min start len in
@@ -132,14 +132,14 @@ part_text t source s start count rope is =
     ∙ ap (map (source s)) (sym (range_part len start count))
     ∙ sym (span-map (source s) count start (range_with_len 0 len))
 
-part_stated : (t : Table) (texts : List (Option (List ℕ))) (s start count : ℕ) (rope : Option NodeId) → IsPart t s start count rope → IsSome (text_at texts s) → AreStated texts (rope_cells t rope)
+part_stated : (t : Table) (texts : List (Option (List ℕ))) (s start count : ℕ) (rope : Option NodeId) → IsSourcePart t s start count rope → IsSome (text_at texts s) → AreStated texts (rope_cells t rope)
 part_stated t texts s start count rope is stated =
     let len = get_or t.sources s 0 in
     let places = range_with_len (min start len) (min count (len - min start len)) in
     subst (AreStated texts) (sym (span_cells t s (min start len) (min count (len - min start len)) rope is)) (All-map (IsStated texts) (Place s) places (λ k d lt. stated))
 
 -- what is told of the rope's text is told of the part of the file
-pub of_part : (t : Table) (sizes : List ℕ) (texts : List (Option (List ℕ))) (s start count : ℕ) (rope : Option NodeId) (P : List ℕ → Type 0) → t.sources ≡ sizes → IsPart t s start count rope
+pub of_part : (t : Table) (sizes : List ℕ) (texts : List (Option (List ℕ))) (s start count : ℕ) (rope : Option NodeId) (P : List ℕ → Type 0) → t.sources ≡ sizes → IsSourcePart t s start count rope
     → OfText t texts rope P → OfFile sizes texts s (λ u. P (take count (drop start u)))
 of_part t sizes texts s start count rope P own is told source agrees stated =
     subst P (part_text t source s start count rope is ∙ ap (λ (ns : List ℕ). take count (drop start (file_bytes ns source s))) own)
@@ -154,9 +154,9 @@ pub of_whole : (sizes : List ℕ) (texts : List (Option (List ℕ))) (s count : 
 of_whole sizes texts s count P limits there big told source agrees stated = subst P (whole_bytes sizes source s count limits there big) (told source agrees stated)
 
 pub of_files : (t : Table) (sizes : List ℕ) (texts : List (Option (List ℕ))) (s r count : ℕ) (x y : Option NodeId) (P : List ℕ → List ℕ → Type 0) → AreSizes sizes → s < length sizes → r < length sizes → longest_source ≤ count → t.sources ≡ sizes
-    → IsPart t s 0 count x → IsPart t r 0 count y → OfTexts t texts x y P → OfFiles sizes texts s r P
+    → IsSourcePart t s 0 count x → IsSourcePart t r 0 count y → OfTexts t texts x y P → OfFiles sizes texts s r P
 of_files t sizes texts s r count x y P limits first second big own is other told source agrees here there =
-    let bytes : (q : ℕ) (rope : Option NodeId) → q < length sizes → IsPart t q 0 count rope → text source (rope_cells t rope) ≡ file_bytes sizes source q =
+    let bytes : (q : ℕ) (rope : Option NodeId) → q < length sizes → IsSourcePart t q 0 count rope → text source (rope_cells t rope) ≡ file_bytes sizes source q =
     λ q rope lt part. part_text t source q 0 count rope part ∙ ap (λ (ns : List ℕ). take count (drop 0 (file_bytes ns source q))) own ∙ whole_bytes sizes source q count limits lt big in
     let both = told source agrees (part_stated t texts s 0 count x is here) (part_stated t texts r 0 count y other there) in
     subst (λ (u : List ℕ). P u (file_bytes sizes source r)) (bytes s x first is) (subst (P (text source (rope_cells t x))) (bytes r y second other) both)

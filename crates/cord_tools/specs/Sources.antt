@@ -1,5 +1,5 @@
 -- The sources of a session: how much is read of one, and when texts are refused.
-use Rattle.std.specs.Prelude.{ℕ, List, ⊤, ◌<◌, Any, length, map, take}
+use Rattle.std.specs.Prelude.{ℕ, ◌+◌, List, ⊤, ◌<◌, Any, length, map, take}
 use Rattle.std.specs.Global.{Vec}
 use Rattle.lazy_file.specs.SourceTexts.{AreSizes, count_limit, longest_source}
 use Rattle.lazy_file.specs.declared.faults.AddFault.{AddFault}
@@ -9,7 +9,7 @@ use Rattle.cord_tools.specs.declared.fault.ToolFault.TheVariants.{Memory, Read, 
 
 -- one more byte than the longest source has
 abbrev pub source_limit : ℕ
-source_limit = 1099511627776
+source_limit = longest_source + 1
 
 abbrev pub texts_in : List (Vec ℕ) → List (List ℕ)
 texts_in = map (λ v. v.items)

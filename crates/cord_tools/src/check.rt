@@ -67,6 +67,11 @@ fn answer(alloc: Global, bytes: &[u8], texts: &[Vec<u8>]) -> Result<(String, Sta
 
 /// Checks the image that the reader gives, with sources of these texts, and writes one line: `accepted R revisions N nodes K rows`
 /// or `refused CODE`.
+///
+/// # Errors
+///
+/// `Read`, where the reader failed, and `Memory`: nothing was written then. `Write`, where the writer failed or took no byte: a
+/// prefix of the line was.
 pub fn run_check<R: io::Read + Drop, W: io::Write>(
     alloc: Global,
     reader: R,
@@ -84,7 +89,11 @@ pub fn run_check<R: io::Read + Drop, W: io::Write>(
     Ok(status)
 }
 
-/// The check of standard input, with no sources.
+/// The check of standard input, with no sources, as `run_check` does it.
+///
+/// # Errors
+///
+/// `Read`, `Memory` and `Write`, as there.
 pub fn run_stdin<R: io::Read + Drop, W: io::Write>(
     alloc: Global,
     reader: R,

@@ -8,7 +8,7 @@ ghost use Rattle.node_table.specs.Held.{held_of, most_nodes, table_of};
 ghost use Rattle.lazy_file.specs.SourceTexts.{AreSizes};
 ghost use Rattle.cord_search.specs.Output.{AppendsPrefix};
 ghost use Rattle.cord_tools.specs.Files.{OfFile};
-ghost use Rattle.cord_tools.specs.Spans.{IsPart};
+ghost use Rattle.cord_tools.specs.Spans.{IsSourcePart};
 ghost use Rattle.cord_tools.specs.declared.fault.ToolFault.TheVariants.{Memory, Read, Write};
 
 use crate::fault::ToolFault;
@@ -50,7 +50,7 @@ pub fn part(store: &mut Store<Coded>, s: u8, start: u64, count: u64) -> Result<R
     requires there { s < length store.old.sources }
     requires few { length store.old.nodes < most_nodes }
     requires empty { store.old.pool.bytes ≡ [] }
-    ensures ok { IfOk result (IsPart (table_of coded_byte store.new) s start count) }
+    ensures ok { IfOk result (IsSourcePart (table_of coded_byte store.new) s start count) }
     ensures fault { IfErr result (λ e. e ≡ Memory) }
     ensures kept { Extends (table_of coded_byte store.old) (table_of coded_byte store.new) }
     ensures sources { store.new.sources ≡ store.old.sources }

@@ -12,8 +12,13 @@ use std::alloc::Global;
 use std::io;
 
 /// Writes the text of revision `revision` of the image that the reader gives, with sources of these texts, and nothing else. The
-/// bytes are fetched one after the other. A refused image is answered by its fault, a text that cannot be a source by `Source`,
-/// and a revision that is not there by `NoRevision`.
+/// bytes are fetched one after the other.
+///
+/// # Errors
+///
+/// `Refused`, with the fault of a refused image. `Source`, for a text that cannot be a source. `NoRevision`, where there is no such
+/// revision. `Read`, where the reader failed. `Memory`. Nothing was written then. `Write`, where the writer failed or took no byte: a
+/// prefix of the text was.
 pub fn run_show<R: io::Read + Drop, W: io::Write>(
     alloc: Global,
     reader: R,

@@ -13,7 +13,11 @@ use std::alloc::Global;
 use std::io;
 
 /// Reads the text of a source, and at most 2^40 bytes of it. That is one more than a source may
-/// have, so a longer one is refused by what was read. The fault is `Memory` or `Read`.
+/// have, so a longer one is refused by what was read.
+///
+/// # Errors
+///
+/// `Read`, where the reader failed. `Memory`.
 pub fn read_source<R: io::Read + Drop>(alloc: Global, reader: R) -> Result<Vec<u8>, ToolFault>
     ensures ok { IfOk result (λ v. AreReadUpTo source_limit (R.remaining reader) v.items) }
     ensures fault { IfErr result (λ e. (e ≡ Memory) ⊎ (e ≡ Read)) }
@@ -22,7 +26,10 @@ pub fn read_source<R: io::Read + Drop>(alloc: Global, reader: R) -> Result<Vec<u
 }
 
 /// The texts as sources, in their order. There may be 255 of them, each of less than 2^40 bytes.
-/// The fault is `Source`, of the first text that cannot be added, or `Memory`.
+///
+/// # Errors
+///
+/// `Source`, of the first text that cannot be added. `Memory`.
 pub fn sources_of<'a>(alloc: Global, texts: &'a [Vec<u8>]) -> Result<MemSources<'a>, ToolFault>
     ensures ok { IfOk result (λ sources. sources ≡ texts_in texts.entry.now) }
     ensures limits { OnOk result (AreSizes (map length (texts_in texts.entry.now))) }

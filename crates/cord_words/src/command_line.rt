@@ -16,6 +16,10 @@ use std::alloc::{AllocError, Global};
 
 /// Reads the words of a command line, of which the first is the program's name, as `env::args`
 /// gives them. The action borrows its texts from the words.
+///
+/// # Errors
+///
+/// `Usage`, where `clap` does not take the words or a number does not read, with the text for the user. `Memory`.
 pub fn words<'a>(alloc: Global, words: &'a [String]) -> Result<Action<'a>, WordsFault>
     ensures holds { IfOk result (Holds (subcommand_of cordkit_app (line_of words.entry.now))) }
 

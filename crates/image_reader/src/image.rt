@@ -77,6 +77,10 @@ impl<'a> Image<'a> {
     }
 
     /// Reads an image from all of the bytes. It takes no memory.
+    ///
+    /// # Errors
+    ///
+    /// The first fault in the order of the format, where the bytes are no image: `I1` to `I7`.
     pub fn read(bytes: &'a [u8]) -> Result<Image<'a>, ReadFault>
         // What is read is spelled so.
         ensures found { IfOk result (λ v. IsImage v × (bytes.now ≡ spelling v)) }

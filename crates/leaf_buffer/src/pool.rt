@@ -3,7 +3,7 @@
 ghost use Rattle.std.specs.Prelude.{◌≡◌, ℕ, ◌+◌, ◌-◌, ◌^◌, ◌<◌, ◌≤◌, ◌↔◌, [], All, length, slice_range, IsSome, IfSome, OnSome, IfNone, IsOk, IfOk, OnOk, OnErr, IsErrOf, IsTrue};
 ghost use Rattle.std.specs.List.{AllWithin};
 ghost use Rattle.leaf_buffer.specs.Contents.{block_size, IsInOneBlock, KeepsPieces, IsLastPiece, Takes, extended, with_block, appended};
-ghost use Rattle.leaf_buffer.specs.Blocks.{AreConsecutive, IsLast, IsBlockOf};
+ghost use Rattle.leaf_buffer.specs.Blocks.{AreConsecutive, IsLastBlock, IsBlockOf};
 
 use crate::block::{BLOCK_SIZE, Block};
 use crate::fault::LeafError;
@@ -39,7 +39,7 @@ impl Model for Pool {
 fn last_of(blocks: &[PlacedBlock]) -> Option<&PlacedBlock>
     requires { AreConsecutive 0 blocks.now }
     ensures none { IfNone result (blocks.now ≡ []) }
-    ensures some { IfSome result (λ last. IsLast blocks.now last.now) }
+    ensures some { IfSome result (λ last. IsLastBlock blocks.now last.now) }
 {
     blocks.last()
 }

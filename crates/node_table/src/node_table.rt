@@ -83,6 +83,10 @@ impl<F: LeafFn> NodeTable<F> {
     }
 
     /// Adds a source of `len` bytes, and answers its number.
+    ///
+    /// # Errors
+    ///
+    /// `TooManySources` where there are 255, `TooLong` for 2^40 bytes or more, `Memory`. The table is then as before.
     pub fn add_source(&mut self, len: u64) -> Result<u8, NodeFault>
         ensures number { IfOk result (λ s. s ≡ length self.old.sources) }
         ensures ok { OnOk result (self.new ≡ record self.old { sources = self.old.sources ++ len ∷ [] }) }

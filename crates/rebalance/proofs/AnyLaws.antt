@@ -6,7 +6,7 @@ use Rattle.rope_node.specs.Table.{Table, depth_at, IsSound, HasTrueRecords}
 use Rattle.rope_node.specs.Denotes.{Cell, rope_cells, rope_len, rope_depth, IsRope}
 use Rattle.rope_node.specs.Extends.{Extends}
 use Rattle.rope_node.proofs.Extensions.{depth_kept}
-use Rattle.rope_node.proofs.Ropes.{rope_cells_kept, rope_kept, extends_through}
+use Rattle.rope_node.proofs.Ropes.{rope_cells_kept, rope_kept}
 use Rattle.node_table.specs.declared.fault.NodeFault.{NodeFault}
 use Rattle.node_table.specs.declared.fault.NodeFault.TheVariants.{TooLong, TooDeep, TableFull, PoolFull, BadSpan, TooManySources, Memory}
 use Rattle.node_table.specs.Held.{Held, table_of}
@@ -22,6 +22,7 @@ use Rattle.rebalance.specs.Steps.{IsStepFault, Grows}
 use Rattle.rebalance.proofs.Fibonacci.{fibonacci_below, sixtieth}
 use Rattle.rebalance.proofs.PieceCounts.{rope_pieces_kept}
 use Rattle.rebalance.proofs.SlotSteps.{rope_length}
+use Rattle.rebalance.proofs.StepLaws.{grows_through, grows_within}
 use Rattle.rebalance.proofs.StoreCalls.{made_grows, refused_fault}
 
 abbrev fault_in : {A : Type 0} → Result A BalanceFault → NodeFault
@@ -70,18 +71,15 @@ any_grows {F = F} p q bytes (Err e) few made refuses =
 pub any_plain_if : {F : Type 0} (meaning : F → ℕ → ℕ) (old new : Held F) (a : Addition F) (wanted : List Cell) (IsLong : Type 0) (p q bytes : ℕ) (plain : Result (Option NodeId) NodeFault) → (¬ IsLong → IsFew a bytes) → Makes meaning old a wanted plain new → Refuses old a ⊥ IsLong plain → ¬ IsErrOf plain TooDeep
     → AnyForm meaning old a wanted IsLong p q bytes (lifted plain) new
 any_plain_if meaning old new a wanted IsLong p q bytes plain few made refuses shallow = record {
-  is_rope = lifted_ok (λ r. IsRope (table_of meaning new) r) plain made.is_rope;
-  text = lifted_ok (λ r. rope_cells (table_of meaning new) r ≡ wanted) plain made.text;
-  kept = made.kept;
-  sources = (any_grows p q bytes plain few made refuses).sources;
-  few_nodes = (any_grows p q bytes plain few made refuses).few_nodes;
-  few_bytes = (any_grows p q bytes plain few made refuses).few_bytes;
+  gives = record {
+    is_rope = lifted_ok (λ r. IsRope (table_of meaning new) r) plain made.is_rope;
+    text = lifted_ok (λ r. rope_cells (table_of meaning new) r ≡ wanted) plain made.text;
+    grows = any_grows p q bytes plain few made refuses;
+  };
   as_plain = λ _. record { plain = plain; same = refl; makes = made; refuses = refuses };
   too_long = (λ e. (refuses.too_long.0 (lifted_err plain TooLong e)).1, λ long. lifted_back plain TooLong (refuses.too_long.1 ((λ bad. bad), long)));
+  anew = λ deep short. absurd (shallow (refuses.too_deep.1 ((λ bad. bad), short, deep)));
   too_many = λ e. absurd (lifted_many plain e);
-  first_many = λ deep short many. absurd (shallow (refuses.too_deep.1 ((λ bad. bad), short, deep)));
-  second_many = λ deep short many. absurd (shallow (refuses.too_deep.1 ((λ bad. bad), short, deep)));
-  unchanged = λ deep short many. absurd (shallow (refuses.too_deep.1 ((λ bad. bad), short, deep)));
   table_full = λ e.
       let full = refuses.table_full.0 (lifted_err plain TableFull e) in
       let size = few full.1 in
@@ -106,18 +104,11 @@ anew_fault {A = A} result nodes bytes e h is = subst (λ (r : Result A BalanceFa
 pub any_anew : {F : Type 0} (meaning : F → ℕ → ℕ) (old new : Held F) (a : Addition F) (wanted : List Cell) (IsLong : Type 0) (p q bytes : ℕ) (result : Result (Option NodeId) BalanceFault) → ¬ IsLong → IsTooDeep a → Anew meaning old wanted p q bytes result new
     → AnyForm meaning old a wanted IsLong p q bytes result new
 any_anew meaning old new a wanted IsLong p q bytes result short deep anew = record {
-  is_rope = anew.is_rope;
-  text = anew.text;
-  kept = anew.kept;
-  sources = anew.sources;
-  few_nodes = anew.few_nodes;
-  few_bytes = anew.few_bytes;
+  gives = anew.gives;
   as_plain = λ k. absurd (⊎_elim (λ shallow. shallow deep) short k);
+  anew = λ _ _. anew;
   too_long = (λ e. absurd (anew_fault result _ _ (Node TooLong) anew.fault e), λ long. absurd (short long));
-  too_many = λ e. (deep, short, anew.too_many e);
-  first_many = λ _ _ many. anew.first_many many;
-  second_many = λ _ _ many. anew.second_many many;
-  unchanged = λ _ _ many. anew.unchanged many;
+  too_many = λ e. (deep, short);
   table_full = anew_fault result _ _ (Node TableFull) anew.fault;
   pool_full = anew_fault result _ _ (Node PoolFull) anew.fault;
   not_deep = anew_fault result _ _ (Node TooDeep) anew.fault;
@@ -160,12 +151,11 @@ few_pieces r many = let is = r.too_many.1 many in absurd cc
 -- the first rope is refused
 pub first_refused : {F : Type 0} (meaning : F → ℕ → ℕ) (old new : Held F) (wanted : List Cell) (rope : Option NodeId) (q bytes : ℕ) (e : BalanceFault) → Rebalances meaning old rope (Err e) new → Anew meaning old wanted (rope_pieces (table_of meaning old) rope) q bytes (Err e) new
 first_refused meaning old new wanted rope q bytes e r = record {
-  is_rope = tt;
-  text = tt;
-  kept = r.kept;
-  sources = r.sources;
-  few_nodes = omega (arith, r.few_nodes);
-  few_bytes = omega (arith, r.few_bytes);
+  gives = record {
+    is_rope = tt;
+    text = tt;
+    grows = grows_within (balance_grows r) (omega arith) (omega arith);
+  };
   too_many = λ many. inl (r.too_many.0 many);
   first_many = r.too_many.1;
   second_many = λ many. refl;
@@ -180,12 +170,11 @@ second_refused meaning old mid new wanted l r left bytes e s there first second 
     let t = table_of meaning old in
     let same = rope_pieces_kept t (table_of meaning mid) s first.kept r there in
     record {
-      is_rope = tt;
-      text = tt;
-      kept = extends_through t (table_of meaning mid) (table_of meaning new) first.kept second.kept;
-      sources = second.sources ∙ first.sources;
-      few_nodes = omega (arith, second.few_nodes, first.few_nodes, same);
-      few_bytes = omega (arith, second.few_bytes, first.few_bytes, same);
+      gives = record {
+        is_rope = tt;
+        text = tt;
+        grows = grows_through (balance_grows first) (balance_grows second) (omega (arith, second.few_nodes, first.few_nodes, same)) (omega (arith, second.few_bytes, first.few_bytes, same));
+      };
       too_many = λ many. inr (rw same at (second.too_many.0 many));
       first_many = λ many. absurd (few_pieces first many);
       second_many = λ many. refl;
@@ -204,12 +193,11 @@ called_anew {F = F} meaning old mid new a wanted cs IsLong p q bytes plain grows
     let step = made_grows plain nodes most made n b in
     let there : IfOk plain (λ r. rope_cells (table_of meaning new) r ≡ wanted) = subst (λ (k : List Cell). IfOk plain (λ r. rope_cells (table_of meaning new) r ≡ k)) text made.text in
     record {
-      is_rope = lifted_ok (λ r. IsRope (table_of meaning new) r) plain made.is_rope;
-      text = lifted_ok (λ r. rope_cells (table_of meaning new) r ≡ wanted) plain there;
-      kept = extends_through (table_of meaning old) (table_of meaning mid) (table_of meaning new) grows.kept step.kept;
-      sources = step.sources ∙ grows.sources;
-      few_nodes = step.few_nodes;
-      few_bytes = step.few_bytes;
+      gives = record {
+        is_rope = lifted_ok (λ r. IsRope (table_of meaning new) r) plain made.is_rope;
+        text = lifted_ok (λ r. rope_cells (table_of meaning new) r ≡ wanted) plain there;
+        grows = grows_through grows step step.few_nodes step.few_bytes;
+      };
       too_many = λ e. absurd (lifted_many plain e);
       first_many = λ many. absurd (few_p many);
       second_many = λ many. absurd (few_q many);

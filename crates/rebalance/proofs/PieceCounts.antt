@@ -5,7 +5,7 @@ use Rattle.rope_node.specs.declared.node.LeafSpan.{LeafSpan}
 use Rattle.rope_node.specs.declared.node.NodeId.{NodeId}
 use Rattle.rope_node.specs.declared.node.NodeView.{NodeView}
 use Rattle.rope_node.specs.declared.node.NodeView.TheVariants.{Lit, Src, Fun, Cat, Sub}
-use Rattle.rope_node.specs.Table.{Node, Table, view_at, len_at, HasEarlierChildren, IsSound, HasTrueRecords}
+use Rattle.rope_node.specs.Table.{Node, Table, view_at, len_at, HasGoodReferences, IsSound, HasTrueRecords}
 use Rattle.rope_node.specs.Denotes.{IsRope}
 use Rattle.rope_node.specs.Extends.{Extends}
 use Rattle.rope_node.specs.Path.{span_at, span_in, node_span, shortened}
@@ -14,7 +14,7 @@ use Rattle.rope_node.proofs.LeafSpans.{begins, span_step}
 use Rattle.rebalance.specs.Pieces.{node_pieces, pieces_in, pieces, rope_pieces}
 
 -- the count at a node depends on its children's alone
-node_pieces_alike : (t : Table) (f g : ℕ → ℕ → ℕ → ℕ) (id i n : ℕ) (v : NodeView) → HasEarlierChildren t id v → ((c j k : ℕ) → c < id → f c j k ≡ g c j k) → node_pieces t f i n v ≡ node_pieces t g i n v
+node_pieces_alike : (t : Table) (f g : ℕ → ℕ → ℕ → ℕ) (id i n : ℕ) (v : NodeView) → HasGoodReferences t id v → ((c j k : ℕ) → c < id → f c j k ≡ g c j k) → node_pieces t f i n v ≡ node_pieces t g i n v
 node_pieces_alike t f g id i zero v s h = refl
 node_pieces_alike t f g id i (suc n) (Lit a) s h = refl
 node_pieces_alike t f g id i (suc n) (Src s' a) s h = refl
@@ -26,13 +26,13 @@ steps_enough : (t : Table) → IsSound t → (m k id i n : ℕ) → id < length 
 steps_enough t s zero k id i n inside a b = absurd (omega arith)
 steps_enough t s (suc m) zero id i n inside a b = absurd (omega arith)
 steps_enough t s (suc m) (suc k) id i n inside a b =
-    node_pieces_alike t (pieces_in t m) (pieces_in t k) id i n (view_at t id) (s.nodes id inside).children
+    node_pieces_alike t (pieces_in t m) (pieces_in t k) id i n (view_at t id) (s.nodes id inside).references
     (λ c j o lt. steps_enough t s m k c j o (omega arith) (omega arith) (omega arith))
 
 -- one step of the count, where it is known what the node is
 pub pieces_step : (t : Table) → IsSound t → (id i n : ℕ) → id < length t.nodes → (v : NodeView) → view_at t id ≡ v → pieces t id i n ≡ node_pieces t (pieces t) i n v
 pieces_step t s id i n inside v is =
-    node_pieces_alike t (pieces_in t id) (pieces t) id i n (view_at t id) (s.nodes id inside).children
+    node_pieces_alike t (pieces_in t id) (pieces t) id i n (view_at t id) (s.nodes id inside).references
     (λ c j o lt. steps_enough t s id (suc c) c j o (omega arith) lt (omega arith))
     ∙ ap (node_pieces t (pieces t) i n) is
 
@@ -116,7 +116,7 @@ goes_at t s h id i n (Lit a) there some fits e below = goes_leaf t id i n (len_a
 goes_at t s h id i n (Src s' a) there some fits e below = goes_leaf t id i n (len_at t id - i) (Src s' a) (leaf_pieces t s id i n there some (Src s' a) e (λ k. refl)) (omega (arith, fits)) some
 goes_at t s h id i n Fun there some fits e below = goes_leaf t id i n (len_at t id - i) Fun (leaf_pieces t s id i n there some Fun e (λ k. refl)) (omega (arith, fits)) some
 goes_at t s h id i n (Cat l r) there some fits e below =
-    let first = rw e at (s.nodes id there).children in
+    let first = rw e at (s.nodes id there).references in
     let len = rw e at (h.nodes id there).len in
     cond_both (ltb i (len_at t l.0)) (span_at t l.0 i) (span_at t r.0 (i - len_at t l.0)) (GoesOn t id i n)
     (λ is.
@@ -127,7 +127,7 @@ goes_at t s h id i n (Cat l r) there some fits e below =
     let past : len_at t l.0 ≤ i = omega (arith, ltb-false i (len_at t l.0)) in
     goes_right t s h id i n there l r e some past (span_at t r.0 (i - len_at t l.0)) (below r.0 (i - len_at t l.0) n first.1 some (omega (arith, past, len, fits))))
 goes_at t s h id i n (Sub b start) there some fits e below =
-    let first = rw e at (s.nodes id there).children in
+    let first = rw e at (s.nodes id there).references in
     let held = rw e at (s.nodes id there).span in
     goes_down t s id i n there b start e fits (span_at t b.0 (start + i)) (below b.0 (start + i) n first some (omega (arith, held, fits)))
 
@@ -144,7 +144,7 @@ pieces_go_on t s h id i n there some fits = goes_by t s h (suc id) id i n there 
 
 -- ---- a table that goes on
 
-node_span_kept : (old new : Table) → Extends old new → (f g : ℕ → ℕ → LeafSpan) (id i n : ℕ) (v : NodeView) → id < length old.nodes → HasEarlierChildren old id v → ((c j : ℕ) → c < id → f c j ≡ g c j) → node_span new f id i n v ≡ node_span old g id i n v
+node_span_kept : (old new : Table) → Extends old new → (f g : ℕ → ℕ → LeafSpan) (id i n : ℕ) (v : NodeView) → id < length old.nodes → HasGoodReferences old id v → ((c j : ℕ) → c < id → f c j ≡ g c j) → node_span new f id i n v ≡ node_span old g id i n v
 node_span_kept old new x f g id i n (Lit a) inside s h = refl
 node_span_kept old new x f g id i n (Src s' a) inside s h = refl
 node_span_kept old new x f g id i n Fun inside s h = refl
@@ -155,14 +155,14 @@ span_in_kept : (old new : Table) → IsSound old → Extends old new → (m id i
 span_in_kept old new s x zero id i inside below = absurd (omega arith)
 span_in_kept old new s x (suc m) id i inside below =
     ap (λ (n : Node). node_span new (span_in new m) id i n.len n.view) (x.nodes id inside)
-    ∙ node_span_kept old new x (span_in new m) (span_in old m) id i (len_at old id) (view_at old id) inside (s.nodes id inside).children
+    ∙ node_span_kept old new x (span_in new m) (span_in old m) id i (len_at old id) (view_at old id) inside (s.nodes id inside).references
     (λ c j lt. span_in_kept old new s x m c j (omega arith) (omega arith))
 
 -- an earlier node keeps its leaf spans
 pub span_kept : (old new : Table) → IsSound old → Extends old new → (id i : ℕ) → id < length old.nodes → span_at new id i ≡ span_at old id i
 span_kept old new s x id i inside = span_in_kept old new s x (suc id) id i inside (omega arith)
 
-node_pieces_kept : (old new : Table) → Extends old new → (f g : ℕ → ℕ → ℕ → ℕ) (id i n : ℕ) (v : NodeView) → id < length old.nodes → HasEarlierChildren old id v → ((c j k : ℕ) → c < id → f c j k ≡ g c j k) → node_pieces new f i n v ≡ node_pieces old g i n v
+node_pieces_kept : (old new : Table) → Extends old new → (f g : ℕ → ℕ → ℕ → ℕ) (id i n : ℕ) (v : NodeView) → id < length old.nodes → HasGoodReferences old id v → ((c j k : ℕ) → c < id → f c j k ≡ g c j k) → node_pieces new f i n v ≡ node_pieces old g i n v
 node_pieces_kept old new x f g id i zero v inside s h = refl
 node_pieces_kept old new x f g id i (suc n) (Lit a) inside s h = refl
 node_pieces_kept old new x f g id i (suc n) (Src s' a) inside s h = refl
@@ -175,7 +175,7 @@ pieces_in_kept : (old new : Table) → IsSound old → Extends old new → (m id
 pieces_in_kept old new s x zero id i n inside below = absurd (omega arith)
 pieces_in_kept old new s x (suc m) id i n inside below =
     ap (λ (node : Node). node_pieces new (pieces_in new m) i n node.view) (x.nodes id inside)
-    ∙ node_pieces_kept old new x (pieces_in new m) (pieces_in old m) id i n (view_at old id) inside (s.nodes id inside).children
+    ∙ node_pieces_kept old new x (pieces_in new m) (pieces_in old m) id i n (view_at old id) inside (s.nodes id inside).references
     (λ c j k lt. pieces_in_kept old new s x m c j k (omega arith) (omega arith))
 
 -- an earlier rope keeps its count

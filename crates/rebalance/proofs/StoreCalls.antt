@@ -90,7 +90,7 @@ whole_piece t s h leaf there v is holds = record { there = there; some = (s.node
     no_depth (Sub b i) k = absurd k
 
 -- what a part of a leaf adds
-pub record IsPart {F : Type 0} (t : Table) (n : ℕ) (a : Addition F) : Type 0 where
+pub record IsLeafPart {F : Type 0} (t : Table) (n : ℕ) (a : Addition F) : Type 0 where
   pub r : Record F
   pub records : a.records ≡ r ∷ []
   pub rope : a.rope ≡ Some (new_node t 0)
@@ -98,7 +98,7 @@ pub record IsPart {F : Type 0} (t : Table) (n : ℕ) (a : Addition F) : Type 0 w
   pub len : r.len ≡ n
   pub shallow : (r.depth ≡ 0) ⊎ ((r.depth ≡ 1) × (32 ≤ n))
 
-part_of : {F : Type 0} (t : Table) → HasTrueRecords t → (leaf : NodeId) (i n : ℕ) (v : NodeView) → leaf.0 < length t.nodes → view_at t leaf.0 ≡ v → IsLeaf v → (v ≡ Fun → 32 ≤ n) → IsPart {F = F} t n (inner_part t leaf i n v)
+part_of : {F : Type 0} (t : Table) → HasTrueRecords t → (leaf : NodeId) (i n : ℕ) (v : NodeView) → leaf.0 < length t.nodes → view_at t leaf.0 ≡ v → IsLeaf v → (v ≡ Fun → 32 ≤ n) → IsLeafPart {F = F} t n (inner_part t leaf i n v)
 part_of t h leaf i n (Lit a) there is holds long = record { r = _; records = refl; rope = refl; bytes = refl; len = refl; shallow = inl refl }
 part_of t h leaf i n (Src s a) there is holds long = record { r = _; records = refl; rope = refl; bytes = refl; len = refl; shallow = inl refl }
 part_of t h leaf i n Fun there is holds long =
@@ -107,14 +107,14 @@ part_of t h leaf i n Fun there is holds long =
 part_of t h leaf i n (Cat l r) there is holds long = absurd holds
 part_of t h leaf i n (Sub b j) there is holds long = absurd holds
 
-pub part_is : {F : Type 0} (t : Table) → HasTrueRecords t → (leaf : NodeId) (i n : ℕ) → leaf.0 < length t.nodes → 1 ≤ n → i + n ≤ len_at t leaf.0 → ¬ (n ≡ len_at t leaf.0) → IsLeaf (view_at t leaf.0) → (view_at t leaf.0 ≡ Fun → 32 ≤ n) → IsPart {F = F} t n (part_added t (Some leaf) i n)
+pub part_is : {F : Type 0} (t : Table) → HasTrueRecords t → (leaf : NodeId) (i n : ℕ) → leaf.0 < length t.nodes → 1 ≤ n → i + n ≤ len_at t leaf.0 → ¬ (n ≡ len_at t leaf.0) → IsLeaf (view_at t leaf.0) → (view_at t leaf.0 ≡ Fun → 32 ≤ n) → IsLeafPart {F = F} t n (part_added t (Some leaf) i n)
 part_is {F = F} t h leaf i n there some fits less holds long =
     let all : min n (len_at t leaf.0 - i) ≡ n = omega (arith, fits) in
-    subst (IsPart {F = F} t n) (sym (ap (λ (k : ℕ). node_part t leaf i k) all ∙ some_part t leaf i n some less))
+    subst (IsLeafPart {F = F} t n) (sym (ap (λ (k : ℕ). node_part t leaf i k) all ∙ some_part t leaf i n some less))
     (part_of t h leaf i n (view_at t leaf.0) there refl holds long)
 
 -- a part of a leaf is a step
-pub part_steps : {F : Type 0} (meaning : F → ℕ → ℕ) (old new : Held F) (n : ℕ) (a : Addition F) (wanted : List Cell) (result : Result (Option NodeId) NodeFault) → IsPart (table_of meaning old) n a → Makes meaning old a wanted result new → Refuses old a ⊥ ⊥ result
+pub part_steps : {F : Type 0} (meaning : F → ℕ → ℕ) (old new : Held F) (n : ℕ) (a : Addition F) (wanted : List Cell) (result : Result (Option NodeId) NodeFault) → IsLeafPart (table_of meaning old) n a → Makes meaning old a wanted result new → Refuses old a ⊥ ⊥ result
     → Steps meaning old (length old.nodes + 1) (length old.pool.bytes + 31) result new
 part_steps {F = F} meaning old new n a wanted result part made refuses =
     let one : length a.records ≡ 1 = ap length part.records in
@@ -129,7 +129,7 @@ part_steps {F = F} meaning old new n a wanted result part made refuses =
       fault = refused_fault result (length old.nodes + 1) (length old.pool.bytes + 31) refuses (λ bad. bad) (λ long. long) shallow (omega (arith, one)) (omega (arith, none));
     }
 
-pub part_piece : {F : Type 0} (meaning : F → ℕ → ℕ) (old new : Held F) (n : ℕ) (a : Addition F) (wanted : List Cell) (result : Result (Option NodeId) NodeFault) → IsPart (table_of meaning old) n a → 1 ≤ n → Makes meaning old a wanted result new
+pub part_piece : {F : Type 0} (meaning : F → ℕ → ℕ) (old new : Held F) (n : ℕ) (a : Addition F) (wanted : List Cell) (result : Result (Option NodeId) NodeFault) → IsLeafPart (table_of meaning old) n a → 1 ≤ n → Makes meaning old a wanted result new
     → IfOk result (λ rope. IsPiece (table_of meaning new) rope)
 part_piece meaning old new n a wanted result part some made =
     one_piece meaning old new a part.r wanted result part.records part.rope (rw part.len some) (rw part.len part.shallow) made

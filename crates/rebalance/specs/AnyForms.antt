@@ -2,7 +2,6 @@
 use Rattle.std.specs.Prelude.{◌≡◌, ◌↔◌, ◌⊎◌, ℕ, ◌+◌, ◌*◌, ◌^◌, ◌<◌, ◌≤◌, List, [], ◌∷◌, ◌++◌, map, length, slice_range, Option, Result, Ok, Err, IfOk, IfErr, IsErr, IsErrOf}
 use Rattle.rope_node.specs.declared.node.NodeId.{NodeId}
 use Rattle.rope_node.specs.Denotes.{Cell, Byte, rope_cells, IsRope}
-use Rattle.rope_node.specs.Extends.{Extends}
 use Rattle.node_table.specs.declared.fault.NodeFault.{NodeFault}
 use Rattle.node_table.specs.declared.fault.NodeFault.TheVariants.{TooLong, TooDeep, TableFull, PoolFull, BadSpan, TooManySources}
 use Rattle.node_table.specs.Held.{Held, table_of, most_nodes}
@@ -12,7 +11,7 @@ use Rattle.rope_store.specs.Refusals.{Refuses, IsTooDeep}
 use Rattle.rebalance.specs.declared.fault.BalanceFault.{BalanceFault}
 use Rattle.rebalance.specs.declared.fault.BalanceFault.TheVariants.{TooManyPieces, Node}
 use Rattle.rebalance.specs.Pieces.{rope_pieces, most_pieces}
-use Rattle.rebalance.specs.Steps.{IsStepFault}
+use Rattle.rebalance.specs.Steps.{Grows, IsStepFault}
 
 -- a refusal of the store told as one of these calls
 abbrev pub lifted : {A : Type 0} → Result A NodeFault → Result A BalanceFault
@@ -26,44 +25,38 @@ pub record IsPlain {F : Type 0} (meaning : F → ℕ → ℕ) (old : Held F) (a 
   pub makes : Makes meaning old a wanted plain new
   pub refuses : Refuses old a ⊥ IsLong plain
 
--- where the plain call makes addition a, for ropes of p and q pieces, and adds at most so many bytes
-pub record AnyForm {F : Type 0} (meaning : F → ℕ → ℕ) (old : Held F) (a : Addition F) (wanted : List Cell) (IsLong : Type 0) (p q bytes : ℕ) (result : Result (Option NodeId) BalanceFault) (new : Held F) : Type 0 where
+-- a rope of the text that is wanted, where what was there is kept, for ropes of p and q pieces and at most so many new bytes of the call's own
+pub record GivesRope {F : Type 0} (meaning : F → ℕ → ℕ) (old : Held F) (wanted : List Cell) (p q bytes : ℕ) (result : Result (Option NodeId) BalanceFault) (new : Held F) : Type 0 where
   pub is_rope : IfOk result (λ r. IsRope (table_of meaning new) r)
   pub text : IfOk result (λ r. rope_cells (table_of meaning new) r ≡ wanted)
-  pub kept : Extends (table_of meaning old) (table_of meaning new)
-  pub sources : new.sources ≡ old.sources
-  pub few_nodes : length new.nodes ≤ length old.nodes + (2 * p + 2 * q + 3)
-  pub few_bytes : length new.pool.bytes ≤ length old.pool.bytes + (31 * p + 31 * q + bytes)
-  pub as_plain : (¬ IsTooDeep a) ⊎ IsLong → IsPlain meaning old a wanted IsLong result new
-  pub too_long : IsErrOf result (Node TooLong) ↔ IsLong
-  pub too_many : IsErrOf result TooManyPieces → IsTooDeep a × (¬ IsLong) × ((most_pieces < p) ⊎ (most_pieces < q))
-  pub first_many : IsTooDeep a → ¬ IsLong → most_pieces < p → IsErrOf result TooManyPieces
-  pub second_many : IsTooDeep a → ¬ IsLong → most_pieces < q → IsErr result
-  pub unchanged : IsTooDeep a → ¬ IsLong → most_pieces < p → new ≡ old
-  pub table_full : IsErrOf result (Node TableFull) → most_nodes < length old.nodes + (2 * p + 2 * q + 3)
-  pub pool_full : IsErrOf result (Node PoolFull) → 2 ^ 32 ≤ length old.pool.bytes + (31 * p + 31 * q + bytes)
-  pub not_deep : ¬ IsErrOf result (Node TooDeep)
-  pub no_bad_span : ¬ IsErrOf result (Node BadSpan)
-  pub no_source : ¬ IsErrOf result (Node TooManySources)
+  pub grows : Grows meaning old (length old.nodes + (2 * p + 2 * q + 3)) (length old.pool.bytes + (31 * p + 31 * q + bytes)) new
 
 -- what may refuse such a call after which there are at most so many nodes and bytes
 abbrev pub IsAnewFault : ℕ → ℕ → BalanceFault → Type 0
 IsAnewFault nodes bytes TooManyPieces = Unit {0}
 IsAnewFault nodes bytes (Node e) = IsStepFault nodes bytes e
 
--- the same call once the ropes are balanced
+-- the call once the ropes of p and q pieces are balanced
 pub record Anew {F : Type 0} (meaning : F → ℕ → ℕ) (old : Held F) (wanted : List Cell) (p q bytes : ℕ) (result : Result (Option NodeId) BalanceFault) (new : Held F) : Type 0 where
-  pub is_rope : IfOk result (λ r. IsRope (table_of meaning new) r)
-  pub text : IfOk result (λ r. rope_cells (table_of meaning new) r ≡ wanted)
-  pub kept : Extends (table_of meaning old) (table_of meaning new)
-  pub sources : new.sources ≡ old.sources
-  pub few_nodes : length new.nodes ≤ length old.nodes + (2 * p + 2 * q + 3)
-  pub few_bytes : length new.pool.bytes ≤ length old.pool.bytes + (31 * p + 31 * q + bytes)
+  pub gives : GivesRope meaning old wanted p q bytes result new
   pub too_many : IsErrOf result TooManyPieces → (most_pieces < p) ⊎ (most_pieces < q)
   pub first_many : most_pieces < p → IsErrOf result TooManyPieces
   pub second_many : most_pieces < q → IsErr result
   pub unchanged : most_pieces < p → new ≡ old
   pub fault : IfErr result (IsAnewFault (length old.nodes + (2 * p + 2 * q + 3)) (length old.pool.bytes + (31 * p + 31 * q + bytes)))
+
+-- the call where the plain one makes addition a
+pub record AnyForm {F : Type 0} (meaning : F → ℕ → ℕ) (old : Held F) (a : Addition F) (wanted : List Cell) (IsLong : Type 0) (p q bytes : ℕ) (result : Result (Option NodeId) BalanceFault) (new : Held F) : Type 0 where
+  pub gives : GivesRope meaning old wanted p q bytes result new
+  pub as_plain : (¬ IsTooDeep a) ⊎ IsLong → IsPlain meaning old a wanted IsLong result new
+  pub anew : IsTooDeep a → ¬ IsLong → Anew meaning old wanted p q bytes result new
+  pub too_long : IsErrOf result (Node TooLong) ↔ IsLong
+  pub too_many : IsErrOf result TooManyPieces → IsTooDeep a × (¬ IsLong)
+  pub table_full : IsErrOf result (Node TableFull) → most_nodes < length old.nodes + (2 * p + 2 * q + 3)
+  pub pool_full : IsErrOf result (Node PoolFull) → 2 ^ 32 ≤ length old.pool.bytes + (31 * p + 31 * q + bytes)
+  pub not_deep : ¬ IsErrOf result (Node TooDeep)
+  pub no_bad_span : ¬ IsErrOf result (Node BadSpan)
+  pub no_source : ¬ IsErrOf result (Node TooManySources)
 
 -- ---- bytes put behind a rope
 

@@ -4,11 +4,11 @@ use Rattle.std.proofs.lemmas.List.{length-append, length-take, length-drop, leng
 use Rattle.std.proofs.lemmas.List.FromFn.{length-map-range_with_len}
 use Rattle.rope_node.specs.declared.node.NodeView.{NodeView}
 use Rattle.rope_node.specs.declared.node.NodeView.TheVariants.{Lit, Src, Fun, Cat, Sub}
-use Rattle.rope_node.specs.Table.{Table, view_at, len_at, HasEarlierChildren, HasSpanInside, IsSound, HasTrueLength, HasTrueRecords}
+use Rattle.rope_node.specs.Table.{Table, view_at, len_at, HasGoodReferences, HasSpanInside, IsSound, HasTrueLength, HasTrueRecords}
 use Rattle.rope_node.specs.Denotes.{Cell, Byte, Place, cells, cells_in, node_cells}
 
 -- a node's cells depend on its children's alone
-node_cells_alike : (t : Table) (f g : ℕ → List Cell) (id n : ℕ) (v : NodeView) → HasEarlierChildren t id v → ((c : ℕ) → c < id → f c ≡ g c) → node_cells t f id n v ≡ node_cells t g id n v
+node_cells_alike : (t : Table) (f g : ℕ → List Cell) (id n : ℕ) (v : NodeView) → HasGoodReferences t id v → ((c : ℕ) → c < id → f c ≡ g c) → node_cells t f id n v ≡ node_cells t g id n v
 node_cells_alike t f g id n (Lit a) s h = refl
 node_cells_alike t f g id n (Src s' a) s h = refl
 node_cells_alike t f g id n Fun s h = refl
@@ -20,17 +20,17 @@ steps_enough : (t : Table) → IsSound t → (m n id : ℕ) → id < length t.no
 steps_enough t s zero n id inside a b = absurd (omega arith)
 steps_enough t s (suc m) zero id inside a b = absurd (omega arith)
 steps_enough t s (suc m) (suc n) id inside a b =
-    node_cells_alike t (cells_in t m) (cells_in t n) id (len_at t id) (view_at t id) (s.nodes id inside).children
+    node_cells_alike t (cells_in t m) (cells_in t n) id (len_at t id) (view_at t id) (s.nodes id inside).references
     (λ c lt. steps_enough t s m n c (omega arith) (omega arith) (omega arith))
 
 -- a node's cells are those of its children, put together
 pub cells_step : (t : Table) → IsSound t → (id : ℕ) → id < length t.nodes → cells t id ≡ node_cells t (cells t) id (len_at t id) (view_at t id)
 cells_step t s id inside =
-    node_cells_alike t (cells_in t id) (cells t) id (len_at t id) (view_at t id) (s.nodes id inside).children
+    node_cells_alike t (cells_in t id) (cells t) id (len_at t id) (view_at t id) (s.nodes id inside).references
     (λ c lt. steps_enough t s id (suc c) c (omega arith) lt (omega arith))
 
 -- the cells of a view are as many as the node is long, where its children's are
-length-node_cells : (t : Table) (below : ℕ → List Cell) (id n : ℕ) (v : NodeView) → HasEarlierChildren t id v → HasSpanInside t n v → HasTrueLength t n v → ((c : ℕ) → c < id → length (below c) ≡ len_at t c) → length (node_cells t below id n v) ≡ n
+length-node_cells : (t : Table) (below : ℕ → List Cell) (id n : ℕ) (v : NodeView) → HasGoodReferences t id v → HasSpanInside t n v → HasTrueLength t n v → ((c : ℕ) → c < id → length (below c) ≡ len_at t c) → length (node_cells t below id n v) ≡ n
 length-node_cells t below id n (Lit a) s p h k = simp (length-map, length-take, length-drop) (omega arith)
 length-node_cells t below id n (Src s' a) s p h k = length-map-range_with_len (Place s') a n
 length-node_cells t below id n Fun s p h k = length-map-range_with_len (λ k. Byte (t.answer id k)) 0 n
@@ -41,7 +41,7 @@ length_by : (t : Table) → IsSound t → HasTrueRecords t → (m id : ℕ) → 
 length_by t s h zero id inside below = absurd (omega arith)
 length_by t s h (suc m) id inside below =
     rw (cells_step t s id inside)
-    (length-node_cells t (cells t) id (len_at t id) (view_at t id) (s.nodes id inside).children (s.nodes id inside).span (h.nodes id inside).len
+    (length-node_cells t (cells t) id (len_at t id) (view_at t id) (s.nodes id inside).references (s.nodes id inside).span (h.nodes id inside).len
     (λ c lt. length_by t s h m c (omega arith) (omega arith)))
 
 -- the recorded length is the number of cells

@@ -6,7 +6,7 @@ use Rattle.std.proofs.lemmas.List.{length-map, length-take, get_or-map, get_or_p
 use Rattle.std.proofs.lemmas.List.FromFn.{length-range_with_len, get_or-range_with_len}
 use Rattle.rope_node.specs.declared.node.NodeView.{NodeView}
 use Rattle.rope_node.specs.declared.node.NodeView.TheVariants.{Lit, Src, Fun, Cat, Sub}
-use Rattle.rope_node.specs.Table.{Table, view_at, len_at, HasEarlierChildren, HasSpanInside, IsSound}
+use Rattle.rope_node.specs.Table.{Table, view_at, len_at, HasGoodReferences, HasSpanInside, IsSound}
 use Rattle.rope_node.specs.Denotes.{Cell, Byte, Place, cells, cell_at, node_cells}
 use Rattle.rope_node.specs.Held.{IsHeldCell}
 use Rattle.rope_node.proofs.Cells.{cells_step}
@@ -22,7 +22,7 @@ held_map t f d xs h i =
       | inr past ↦ subst (IsHeldCell t) (sym (get_or_past (map f xs) i (Byte 0) (rw length-map past))) tt
     ]
 
-node_held : (t : Table) (below : ℕ → List Cell) (id n : ℕ) (v : NodeView) → HasEarlierChildren t id v → HasSpanInside t n v → ((c : ℕ) → c < id → AreHeld t (below c)) → AreHeld t (node_cells t below id n v)
+node_held : (t : Table) (below : ℕ → List Cell) (id n : ℕ) (v : NodeView) → HasGoodReferences t id v → HasSpanInside t n v → ((c : ℕ) → c < id → AreHeld t (below c)) → AreHeld t (node_cells t below id n v)
 node_held t below id n (Lit a) s p h i = held_map t Byte 0 (slice_range t.pool a (a + n)) (λ j lt. tt) i
 node_held t below id n (Src s' a) s p h i =
     held_map t (Place s') 0 (range_with_len a n) (λ j lt.
@@ -44,7 +44,7 @@ held_by : (t : Table) → IsSound t → (m id : ℕ) → id < length t.nodes →
 held_by t s zero id inside below = absurd (omega arith)
 held_by t s (suc m) id inside below =
     subst (AreHeld t) (sym (cells_step t s id inside))
-    (node_held t (cells t) id (len_at t id) (view_at t id) (s.nodes id inside).children (s.nodes id inside).span
+    (node_held t (cells t) id (len_at t id) (view_at t id) (s.nodes id inside).references (s.nodes id inside).span
     (λ c lt. held_by t s m c (omega arith) (omega arith)))
 
 -- the cell at a place of a node

@@ -7,14 +7,14 @@ use Rattle.rope_node.specs.declared.node.LeafSpan.{LeafSpan}
 use Rattle.rope_node.specs.declared.node.NodeId.{NodeId}
 use Rattle.rope_node.specs.declared.node.NodeView.{NodeView}
 use Rattle.rope_node.specs.declared.node.NodeView.TheVariants.{Lit, Src, Fun, Cat, Sub}
-use Rattle.rope_node.specs.Table.{Table, view_at, len_at, HasEarlierChildren, IsLeaf, IsSound, HasTrueRecords}
+use Rattle.rope_node.specs.Table.{Table, view_at, len_at, HasGoodReferences, IsLeaf, IsSound, HasTrueRecords}
 use Rattle.rope_node.specs.Denotes.{cells}
 use Rattle.rope_node.specs.Path.{span_at, span_in, node_span, shortened, rest_of}
 use Rattle.rope_node.proofs.Cells.{cells_at, cells_length}
 use Rattle.rope_node.proofs.Parts.{span_left, span_right, span_within}
 
 -- the span depends on the children's alone
-node_span_alike : (t : Table) (f g : ℕ → ℕ → LeafSpan) (id i n : ℕ) (v : NodeView) → HasEarlierChildren t id v → ((c j : ℕ) → c < id → f c j ≡ g c j) → node_span t f id i n v ≡ node_span t g id i n v
+node_span_alike : (t : Table) (f g : ℕ → ℕ → LeafSpan) (id i n : ℕ) (v : NodeView) → HasGoodReferences t id v → ((c j : ℕ) → c < id → f c j ≡ g c j) → node_span t f id i n v ≡ node_span t g id i n v
 node_span_alike t f g id i n (Lit a) s h = refl
 node_span_alike t f g id i n (Src s' a) s h = refl
 node_span_alike t f g id i n Fun s h = refl
@@ -25,13 +25,13 @@ steps_enough : (t : Table) → IsSound t → (m n id i : ℕ) → id < length t.
 steps_enough t s zero n id i inside a b = absurd (omega arith)
 steps_enough t s (suc m) zero id i inside a b = absurd (omega arith)
 steps_enough t s (suc m) (suc n) id i inside a b =
-    node_span_alike t (span_in t m) (span_in t n) id i (len_at t id) (view_at t id) (s.nodes id inside).children
+    node_span_alike t (span_in t m) (span_in t n) id i (len_at t id) (view_at t id) (s.nodes id inside).references
     (λ c j lt. steps_enough t s m n c j (omega arith) (omega arith) (omega arith))
 
 -- one step of the path, where it is known what the node is
 pub span_step : (t : Table) → IsSound t → (id i : ℕ) → id < length t.nodes → (v : NodeView) → view_at t id ≡ v → span_at t id i ≡ node_span t (span_at t) id i (len_at t id) v
 span_step t s id i inside v is =
-    node_span_alike t (span_in t id) (span_at t) id i (len_at t id) (view_at t id) (s.nodes id inside).children
+    node_span_alike t (span_in t id) (span_at t) id i (len_at t id) (view_at t id) (s.nodes id inside).references
     (λ c j lt. steps_enough t s id (suc c) c j (omega arith) lt (omega arith))
     ∙ ap (node_span t (span_at t) id i (len_at t id)) is
 
@@ -56,7 +56,7 @@ begins_leaf t y q there inside leaf = record {
 
 begins_left : (t : Table) → IsSound t → HasTrueRecords t → (y q : ℕ) (l r : NodeId) (x : LeafSpan) → y < length t.nodes → view_at t y ≡ Cat l r → BeginsWith t l.0 q x → BeginsWith t y q x
 begins_left t s h y q l r x there e below =
-    let first = rw e at (s.nodes y there).children in
+    let first = rw e at (s.nodes y there).references in
     let len = rw e at (h.nodes y there).len in
     let left = cells_length t s h l.0 (omega (arith, first.0)) in
     record {
@@ -70,7 +70,7 @@ begins_left t s h y q l r x there e below =
 
 begins_right : (t : Table) → IsSound t → HasTrueRecords t → (y q : ℕ) (l r : NodeId) (x : LeafSpan) → y < length t.nodes → view_at t y ≡ Cat l r → len_at t l.0 ≤ q → BeginsWith t r.0 (q - len_at t l.0) x → BeginsWith t y q x
 begins_right t s h y q l r x there e past below =
-    let first = rw e at (s.nodes y there).children in
+    let first = rw e at (s.nodes y there).references in
     let len = rw e at (h.nodes y there).len in
     let left : length (cells t l.0) ≡ len_at t l.0 = cells_length t s h l.0 (omega (arith, first.0)) in
     let same : take x.len (drop q (cells t l.0 ++ cells t r.0)) ≡ take x.len (drop (q - len_at t l.0) (cells t r.0)) =
@@ -108,13 +108,13 @@ begins_at t s h m y q (Lit a) there le inside e below = begins_leaf t y q there 
 begins_at t s h m y q (Src s' a) there le inside e below = begins_leaf t y q there inside (subst IsLeaf (sym e) tt)
 begins_at t s h m y q Fun there le inside e below = begins_leaf t y q there inside (subst IsLeaf (sym e) tt)
 begins_at t s h m y q (Cat l r) there le inside e below =
-    let first = rw e at (s.nodes y there).children in
+    let first = rw e at (s.nodes y there).references in
     let len = rw e at (h.nodes y there).len in
     cond_both (ltb q (len_at t l.0)) (span_at t l.0 q) (span_at t r.0 (q - len_at t l.0)) (BeginsWith t y q)
     (λ is. begins_left t s h y q l r (span_at t l.0 q) there e (below l.0 q first.0 (ltb-true q (len_at t l.0) is)))
     (λ is. let past = ltb-false q (len_at t l.0) is in begins_right t s h y q l r (span_at t r.0 (q - len_at t l.0)) there e (omega (arith, past)) (below r.0 (q - len_at t l.0) first.1 (omega (arith, past, len))))
 begins_at t s h m y q (Sub b i) there le inside e below =
-    let first = rw e at (s.nodes y there).children in
+    let first = rw e at (s.nodes y there).references in
     let held = rw e at (s.nodes y there).span in
     begins_below t s y q b i (span_at t b.0 (i + q)) there inside e (below b.0 (i + q) first (omega (arith, held)))
 
@@ -136,7 +136,7 @@ pub record IsOnWay (t : Table) (y q x p room : ℕ) : Type 0 where
 
 pub way_left : (t : Table) → IsSound t → (y q x p room : ℕ) (l r : NodeId) → view_at t x ≡ Cat l r → p < len_at t l.0 → IsOnWay t y q x p room → IsOnWay t y q l.0 p room
 way_left t s y q x p room l r e fits way =
-    let first = rw e at (s.nodes x way.there).children in
+    let first = rw e at (s.nodes x way.there).references in
     let step : span_at t x p ≡ span_at t l.0 p = rw (lt-ltb p (len_at t l.0) fits) at (span_step t s x p way.there (Cat l r) e) in
     record {
       there = omega (arith, first.0, way.there);
@@ -146,7 +146,7 @@ way_left t s y q x p room l r e fits way =
 
 pub way_right : (t : Table) → IsSound t → HasTrueRecords t → (y q x p room : ℕ) (l r : NodeId) → view_at t x ≡ Cat l r → len_at t l.0 ≤ p → IsOnWay t y q x p room → IsOnWay t y q r.0 (p - len_at t l.0) room
 way_right t s h y q x p room l r e past way =
-    let first = rw e at (s.nodes x way.there).children in
+    let first = rw e at (s.nodes x way.there).references in
     let len = rw e at (h.nodes x way.there).len in
     let step : span_at t x p ≡ span_at t r.0 (p - len_at t l.0) = rw (le-ltb p (len_at t l.0) past) at (span_step t s x p way.there (Cat l r) e) in
     record {
@@ -157,7 +157,7 @@ way_right t s h y q x p room l r e past way =
 
 pub way_down : (t : Table) → IsSound t → (y q x p room : ℕ) (b : NodeId) (i : ℕ) → view_at t x ≡ Sub b i → IsOnWay t y q x p room → IsOnWay t y q b.0 (p + i) (min room (len_at t x - p))
 way_down t s y q x p room b i e way =
-    let first = rw e at (s.nodes x way.there).children in
+    let first = rw e at (s.nodes x way.there).references in
     let held = rw e at (s.nodes x way.there).span in
     let swap : i + p ≡ p + i = omega arith in
     let step : span_at t x p ≡ shortened (len_at t x - p) (span_at t b.0 (p + i)) = rw swap at (span_step t s x p way.there (Sub b i) e) in

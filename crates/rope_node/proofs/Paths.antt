@@ -24,7 +24,7 @@ visits_at t s x p inside v is = visits_step t s x p inside ∙ ap (node_visits t
 
 pub goes_left : (t : Table) → IsSound t → HasTrueRecords t → (y q x p seen : ℕ) (l r : NodeId) → view_at t x ≡ Cat l r → p < len_at t l.0 → IsOnPath t y q x p seen → IsOnPath t y q l.0 p (seen + 1)
 goes_left t s h y q x p seen l r e fits path =
-    let below = rw e at (s.nodes x path.there).children in
+    let below = rw e at (s.nodes x path.there).references in
     let there : l.0 < length t.nodes = omega (arith, below.0, path.there) in
     let held : p < length (cells t l.0) = rw (cells_length t s h l.0 there) fits in
     let step : visits t x p ≡ 1 + visits t l.0 p = rw (lt-ltb p (len_at t l.0) fits) at (visits_at t s x p path.there (Cat l r) e) in
@@ -37,7 +37,7 @@ goes_left t s h y q x p seen l r e fits path =
 
 pub goes_right : (t : Table) → IsSound t → HasTrueRecords t → (y q x p seen : ℕ) (l r : NodeId) → view_at t x ≡ Cat l r → len_at t l.0 ≤ p → IsOnPath t y q x p seen → IsOnPath t y q r.0 (p - len_at t l.0) (seen + 1)
 goes_right t s h y q x p seen l r e past path =
-    let below = rw e at (s.nodes x path.there).children in
+    let below = rw e at (s.nodes x path.there).references in
     let len = rw e at (h.nodes x path.there).len in
     let there : l.0 < length t.nodes = omega (arith, below.0, path.there) in
     let left : length (cells t l.0) ≡ len_at t l.0 = cells_length t s h l.0 there in
@@ -52,7 +52,7 @@ goes_right t s h y q x p seen l r e past path =
 
 pub goes_down : (t : Table) → IsSound t → (y q x p seen : ℕ) (b : NodeId) (i : ℕ) → view_at t x ≡ Sub b i → IsOnPath t y q x p seen → IsOnPath t y q b.0 (p + i) (seen + 1)
 goes_down t s y q x p seen b i e path =
-    let below = rw e at (s.nodes x path.there).children in
+    let below = rw e at (s.nodes x path.there).references in
     let held = rw e at (s.nodes x path.there).span in
     let swap : i + p ≡ p + i = omega arith in
     let step : visits t x p ≡ 1 + visits t b.0 (p + i) = rw swap at (visits_at t s x p path.there (Sub b i) e) in

@@ -33,12 +33,12 @@ abbrev pub depth_at : Table → ℕ → ℕ
 depth_at t id = (node_at t id).depth
 
 -- each child is an earlier node, and each source is there
-abbrev pub HasEarlierChildren : Table → ℕ → NodeView → Type 0
-HasEarlierChildren t id (Lit a) = Unit {0}
-HasEarlierChildren t id (Src s a) = s < length t.sources
-HasEarlierChildren t id Fun = Unit {0}
-HasEarlierChildren t id (Cat l r) = (l.0 < id) × (r.0 < id)
-HasEarlierChildren t id (Sub b i) = b.0 < id
+abbrev pub HasGoodReferences : Table → ℕ → NodeView → Type 0
+HasGoodReferences t id (Lit a) = Unit {0}
+HasGoodReferences t id (Src s a) = s < length t.sources
+HasGoodReferences t id Fun = Unit {0}
+HasGoodReferences t id (Cat l r) = (l.0 < id) × (r.0 < id)
+HasGoodReferences t id (Sub b i) = b.0 < id
 
 -- a span lies inside its pool, its source or its base
 abbrev pub HasSpanInside : Table → ℕ → NodeView → Type 0
@@ -49,7 +49,7 @@ HasSpanInside t n (Cat l r) = Unit {0}
 HasSpanInside t n (Sub b i) = i + n ≤ len_at t b.0
 
 pub record IsSoundNode (t : Table) (id : ℕ) (n : Node) : Type 0 where
-  pub children : HasEarlierChildren t id n.view
+  pub references : HasGoodReferences t id n.view
   pub not_empty : 1 ≤ n.len
   pub not_long : n.len < 2 ^ 40
   pub not_deep : n.depth ≤ 64

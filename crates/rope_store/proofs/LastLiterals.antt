@@ -23,7 +23,7 @@ pub record IsEnding (t : Table) (x : NodeId) (e : Ending) : Type 0 where
 
 right_by : (t : Table) → IsSound t → HasTrueRecords t → (x l r : NodeId) → x.0 < length t.nodes → view_at t x.0 ≡ Cat l r → (w : NodeView) → view_at t r.0 ≡ w → (e : Ending) → right_ending l r w ≡ Some e → IsEnding t x e
 right_by t s h x l r there is (Lit a) right e found =
-    let below = rw is at (s.nodes x.0 there).children in
+    let below = rw is at (s.nodes x.0 there).references in
     let len = rw is at (h.nodes x.0 there).len in
     let depth = rw is at (h.nodes x.0 there).depth in
     let ending : Ending = record { before = Some l; literal = r } in

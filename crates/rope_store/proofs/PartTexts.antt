@@ -80,7 +80,7 @@ source_part_good {F = F} meaning h store x s a i n there is some inside =
     let holds = holds_of meaning h store.table in
     let sound = sound_of meaning h holds store.table.pool in
     let good = holds.nodes x.0 there in
-    let source : s < length h.sources = rw is at good.sound.children in
+    let source : s < length h.sources = rw is at good.sound.references in
     let span : a + len ≤ get_or h.sources s 0 = rw is at good.sound.span in
     let text : map (Place s) (range_with_len (a + i) n) ≡ take n (drop i (cells t x.0)) =
     ap (map (Place s)) (sym (span-range_with_len n i a len inside)) ∙ sym (take-map (Place s) n (drop i (range_with_len a len)))
@@ -92,7 +92,7 @@ source_part_good {F = F} meaning h store x s a i n there is some inside =
 pub base_there : {F : Type 0} (meaning : F → ℕ → ℕ) (h : Held F) → IsStore meaning h → (x b : NodeId) (j : ℕ) → x.0 < length h.nodes → view_at (table_of meaning h) x.0 ≡ Sub b j → (b.0 < length h.nodes) × (j + len_at (table_of meaning h) x.0 ≤ len_at (table_of meaning h) b.0)
 base_there meaning h store x b j there is =
     let good = (store.table.nodes x.0 there).sound in
-    let below : b.0 < x.0 = rw is at good.children in
+    let below : b.0 < x.0 = rw is at good.references in
     (omega arith, rw is at good.span)
 
 -- a part of a part is one of its base

@@ -1,7 +1,7 @@
 -- The rules that each node of an image has to keep, in their order, and which one it breaks first.
 use Rattle.std.specs.Prelude.{◌≡◌, ℕ, ◌^◌, ◌<◌, ◌≤◌, length}
 use Rattle.rope_node.specs.declared.node.NodeView.{NodeView}
-use Rattle.rope_node.specs.Table.{Node, Table, node_at, HasEarlierChildren, HasTrueLength, HasSpanInside, depth_of}
+use Rattle.rope_node.specs.Table.{Node, Table, node_at, HasGoodReferences, HasTrueLength, HasSpanInside, depth_of}
 use Rattle.image_reader.specs.Acceptance.{IsGoodNode}
 use Rattle.session_checker.specs.declared.fault.CheckFault.{CheckFault}
 use Rattle.session_checker.specs.declared.fault.CheckFault.TheVariants as faults
@@ -21,10 +21,10 @@ pub record HasGoodDepth (t : Table) (d : ℕ) (v : NodeView) : Type 0 where
 
 -- the first rule that node id breaks
 abbrev pub Breaks : Table → ℕ → Node → NodeRule → Type 0
-Breaks t id n Reference = ¬ HasEarlierChildren t id n.view
-Breaks t id n Length = HasEarlierChildren t id n.view × ¬ HasGoodLength t n.len n.view
-Breaks t id n Depth = HasEarlierChildren t id n.view × HasGoodLength t n.len n.view × ¬ HasGoodDepth t n.depth n.view
-Breaks t id n Span = HasEarlierChildren t id n.view × HasGoodLength t n.len n.view × HasGoodDepth t n.depth n.view × ¬ HasSpanInside t n.len n.view
+Breaks t id n Reference = ¬ HasGoodReferences t id n.view
+Breaks t id n Length = HasGoodReferences t id n.view × ¬ HasGoodLength t n.len n.view
+Breaks t id n Depth = HasGoodReferences t id n.view × HasGoodLength t n.len n.view × ¬ HasGoodDepth t n.depth n.view
+Breaks t id n Span = HasGoodReferences t id n.view × HasGoodLength t n.len n.view × HasGoodDepth t n.depth n.view × ¬ HasSpanInside t n.len n.view
 
 abbrev pub fault_at : NodeRule → ℕ → CheckFault
 fault_at Reference id = faults.Reference id

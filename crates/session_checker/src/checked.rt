@@ -173,6 +173,10 @@ impl CodedSpace for Checked<'_> {
 
 /// Accepts or refuses a session image with its sources. It goes over the bytes section by section, reads no source, and takes no
 /// memory.
+///
+/// # Errors
+///
+/// The first fault of the bytes, the sources, the nodes, and then of each revision: `C1` to `C11`.
 pub fn check<'a, S: Sources>(bytes: &'a [u8], sources: &S) -> Result<Checked<'a>, CheckFault>
     // What is accepted is faithful, it is what the bytes spell, and the sources are its own.
     ensures faithful { IfOk result IsFaithful }

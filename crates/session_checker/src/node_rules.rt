@@ -1,7 +1,7 @@
 //! The rules that each node has to keep, tested by its record and those of its children.
 
 ghost use Rattle.std.specs.Prelude.{◌≡◌, ◌+◌, ◌<◌, ◌≤◌, ◌↔◌, length, IsTrue, IsOk, IfErr};
-ghost use Rattle.rope_node.specs.Table.{node_at, depth_of, HasEarlierChildren, HasSpanInside, IsSoundNode, IsTrueNode};
+ghost use Rattle.rope_node.specs.Table.{node_at, depth_of, HasGoodReferences, HasSpanInside, IsSoundNode, IsTrueNode};
 ghost use Rattle.image_reader.specs.Value.{table_of};
 ghost use Rattle.session_checker.specs.NodeRules.{HasGoodLength, HasGoodDepth, Breaks};
 
@@ -25,8 +25,8 @@ const TEXT_LIMIT: u64 = 1 << 40;
 
 const DEPTH_LIMIT: u32 = 64;
 
-fn has_earlier_children(image: &Image, id: u32, view: NodeView) -> bool
-    ensures { IsTrue result ↔ HasEarlierChildren (table_of image.now) id view }
+fn has_good_references(image: &Image, id: u32, view: NodeView) -> bool
+    ensures { IsTrue result ↔ HasGoodReferences (table_of image.now) id view }
 {
     match view {
         NodeView::Lit { .. } | NodeView::Fun => true,
@@ -38,7 +38,7 @@ fn has_earlier_children(image: &Image, id: u32, view: NodeView) -> bool
 
 fn has_good_length(image: &Image, id: u32, view: NodeView, len: u64) -> bool
     requires id { id < length (table_of image.now).nodes }
-    requires children { HasEarlierChildren (table_of image.now) id view }
+    requires references { HasGoodReferences (table_of image.now) id view }
     ensures { IsTrue result ↔ HasGoodLength (table_of image.now) len view }
 {
     let is_in_range = len >= 1 && len < TEXT_LIMIT;
@@ -52,7 +52,7 @@ fn has_good_length(image: &Image, id: u32, view: NodeView, len: u64) -> bool
 /// The depth that follows from the children's.
 fn depth_of(image: &Image, id: u32, view: NodeView) -> u32
     requires id { id < length (table_of image.now).nodes }
-    requires children { HasEarlierChildren (table_of image.now) id view }
+    requires references { HasGoodReferences (table_of image.now) id view }
     ensures { result ≡ depth_of (table_of image.now) view }
 {
     match view {
@@ -64,7 +64,7 @@ fn depth_of(image: &Image, id: u32, view: NodeView) -> u32
 
 fn has_good_depth(image: &Image, id: u32, view: NodeView, depth: u8) -> bool
     requires id { id < length (table_of image.now).nodes }
-    requires children { HasEarlierChildren (table_of image.now) id view }
+    requires references { HasGoodReferences (table_of image.now) id view }
     ensures { IsTrue result ↔ HasGoodDepth (table_of image.now) depth view }
 {
     depth as u32 == depth_of(image, id, view) && depth as u32 <= DEPTH_LIMIT
@@ -79,7 +79,7 @@ pub fn is_inside(start: u64, len: u64, end: u64) -> bool
 
 fn has_span_inside(image: &Image, id: u32, view: NodeView, len: u64) -> bool
     requires id { id < length (table_of image.now).nodes }
-    requires children { HasEarlierChildren (table_of image.now) id view }
+    requires references { HasGoodReferences (table_of image.now) id view }
     ensures { IsTrue result ↔ HasSpanInside (table_of image.now) len view }
 {
     match view {
@@ -98,7 +98,7 @@ pub fn check_node(image: &Image, id: NodeId) -> Result<(), NodeRule>
 {
     let view = image.node(id);
     let len = image.len(id);
-    if !has_earlier_children(image, id.0, view) {
+    if !has_good_references(image, id.0, view) {
         return Err(NodeRule::Reference);
     }
     if !has_good_length(image, id.0, view, len) {

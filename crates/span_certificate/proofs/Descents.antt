@@ -62,13 +62,13 @@ pub record IsOnTheWay (t : Table) (n y q x p : ℕ) : Type 0 where
 -- what is known of a concatenation, and of a substring, in a sound table with true records
 pub children_of_cat : (t : Table) → IsSound t → HasTrueRecords t → (x : ℕ) → x < length t.nodes → (l r : NodeId) → view_at t x ≡ Cat l r → (l.0 < x) × (r.0 < x) × (len_at t x ≡ len_at t l.0 + len_at t r.0)
 children_of_cat t s h x inside l r e =
-    let children = rw e at (s.nodes x inside).children in
+    let children = rw e at (s.nodes x inside).references in
     let len = rw e at (h.nodes x inside).len in
     (children.0, children.1, len)
 
 pub base_of_sub : (t : Table) → IsSound t → (x : ℕ) → x < length t.nodes → (b : NodeId) (i : ℕ) → view_at t x ≡ Sub b i → (b.0 < x) × (i + len_at t x ≤ len_at t b.0)
 base_of_sub t s x inside b i e =
-    let base = rw e at (s.nodes x inside).children in
+    let base = rw e at (s.nodes x inside).references in
     let held = rw e at (s.nodes x inside).span in
     (base, held)
 

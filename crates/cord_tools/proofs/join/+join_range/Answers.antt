@@ -62,7 +62,7 @@ both t c =
     (c.in_ok-right.ensures.text ∙ ap (λ (ns : List ℕ). cells_of ns (c.args.first + half) (c.args.count - half)) c.in_ok-left.ensures.sources)
 
 pub returns-clause-text : goal.returns-clause-text
-returns-clause-text t c = ok_map c.cat_any.result (λ rope is. is ∙ (both t c).0) c.cat_any.ensures.text
+returns-clause-text t c = ok_map c.cat_any.result (λ rope is. is ∙ (both t c).0) c.cat_any.ensures.gives.text
 
 pub returns-clause-depth : goal.returns-clause-depth
 returns-clause-depth t c levels le =
@@ -87,7 +87,7 @@ pub returns-clause-kept : goal.returns-clause-kept
 returns-clause-kept t c =
     let a = table_of coded_byte c.args.store.now in
     let m = table_of coded_byte c.join_range-2.new.store in
-    extends_through a m (table_of coded_byte c.cat_any.new.store) (extends_through a (table_of coded_byte c.join_range.new.store) m c.in_ok-left.ensures.kept c.in_ok-right.ensures.kept) c.cat_any.ensures.kept
+    extends_through a m (table_of coded_byte c.cat_any.new.store) (extends_through a (table_of coded_byte c.join_range.new.store) m c.in_ok-left.ensures.kept c.in_ok-right.ensures.kept) c.cat_any.ensures.gives.grows.kept
 
 pub returns-clause-short : goal.returns-clause-short
 returns-clause-short t c = on_ok c.cat_any.result (λ rope joins. omega (arith, joins.short, (both t c).1)) (whole t c)
