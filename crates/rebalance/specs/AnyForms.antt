@@ -25,7 +25,8 @@ pub record IsPlain {F : Type 0} (meaning : F → ℕ → ℕ) (old : Held F) (a 
   pub makes : Makes meaning old a wanted plain new
   pub refuses : Refuses old a ⊥ IsLong plain
 
--- a rope of the text that is wanted, where what was there is kept, for ropes of p and q pieces and at most so many new bytes of the call's own
+-- What is answered is a rope of the wanted text. Answered or refused, what was there is kept, and new are at most 2 nodes and 31
+-- bytes for each of the p and q pieces, 3 nodes, and so many bytes.
 pub record GivesRope {F : Type 0} (meaning : F → ℕ → ℕ) (old : Held F) (wanted : List Cell) (p q bytes : ℕ) (result : Result (Option NodeId) BalanceFault) (new : Held F) : Type 0 where
   pub is_rope : IfOk result (λ r. IsRope (table_of meaning new) r)
   pub text : IfOk result (λ r. rope_cells (table_of meaning new) r ≡ wanted)

@@ -11,7 +11,7 @@ use rope_node::{NodeId, NodeView};
 /// A rule of nodes.
 #[derive(Clone, Copy)]
 pub enum NodeRule {
-    /// Each child is below its own node.
+    /// Each child is below its own node, and each source is there.
     Reference,
     /// The length is not 0, not over the limit, and the sum of the children's.
     Length,
