@@ -116,6 +116,20 @@ impl<F: LeafFn> NodeTable<F> {
         self.pool.can_extend(Piece { start: a, len }, count)
     }
 
+    // Whether the table takes `count` nodes more.
+    fn has_room(&self, count: usize) -> bool
+        ensures { IsTrue result ↔ (length self.now.nodes + count ≤ most_nodes) }
+    {
+        count <= MOST_NODES - self.records.len()
+    }
+
+    // Whether the pool takes `count` bytes more.
+    fn has_pool_room(&self, count: usize) -> bool
+        ensures { IsTrue result ↔ (length self.now.pool.bytes + count < 2 ^ 32) }
+    {
+        (count as u64) < POOL_LIMIT - self.pool.len()
+    }
+
     /// Puts these bytes at the pool's end, in one block, and these nodes behind the others: all of it or nothing.
     ///
     /// # Errors
@@ -130,10 +144,10 @@ impl<F: LeafFn> NodeTable<F> {
         ensures faults { IfErr result (λ e. (e ≡ NodeFault.TableFull) ⊎ ((e ≡ NodeFault.PoolFull) ⊎ (e ≡ NodeFault.Memory))) }
         ensures err { OnErr result (self.new ≡ self.old) }
     {
-        if records.len() > MOST_NODES - self.records.len() {
+        if !self.has_room(records.len()) {
             return Err(NodeFault::TableFull);
         }
-        if bytes.len() as u64 >= POOL_LIMIT - self.pool.len() {
+        if !self.has_pool_room(bytes.len()) {
             return Err(NodeFault::PoolFull);
         }
         self.records.reserve(records.len())?;
@@ -164,7 +178,7 @@ impl<F: LeafFn> NodeTable<F> {
         ensures faults { IfErr result (λ e. (e ≡ NodeFault.TableFull) ⊎ (e ≡ NodeFault.Memory)) }
         ensures err { OnErr result (self.new ≡ self.old) }
     {
-        if records.len() > MOST_NODES - self.records.len() {
+        if !self.has_room(records.len()) {
             return Err(NodeFault::TableFull);
         }
         self.records.reserve(records.len())?;

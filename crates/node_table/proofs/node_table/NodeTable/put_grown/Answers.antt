@@ -2,15 +2,15 @@ use Rattle.std.proofs.Common.{◌≡◌, ◌+◌, ◌≤◌, length, sym, ap, su
 use Rattle.std.proofs.lemmas.List.{length-map}
 use Rattle.std.specs.Result.{is_ok}
 use Rattle.leaf_buffer.specs.Contents.{Contents, extended}
-use Rattle.node_table.specs.Held.{Held, CanHold}
+use Rattle.node_table.specs.Held.{Held, CanHold, node_of}
 use Rattle.node_table.proofs.Growing.{kept_put}
 use Rattle.std.proofs.lemmas.List.{length-append}
 use Rattle.node_table.proofs.node_table.NodeTable.put_grown.Goals as goal
 
 pub invariant_of-self-2 : goal.invariant_of-self-2
 invariant_of-self-2 g c =
-    let before : length c.self.inside.records.items ≤ 16777216 = rw length-map at c.self.invariant.few in
-    let few : length c.self.inside.records.items + length c.args.records.now ≤ 16777216 = omega (arith, c.len.ensures, c.if-records-len.false) in
+    let nodes : length c.args.self.now.nodes ≡ length c.self.inside.records.items = sym (ap (λ (h : Held _). length h.nodes) c.self.view_is) ∙ length-map c.self.inside.records.items node_of in
+    let few : length c.self.inside.records.items + length c.args.records.now ≤ 16777216 = omega (arith, nodes, c.has_room.ensures.0 c.if-not-has_room.false) in
     let grown : c.extend.new.pool ≡ extended c.self.inside.pool c.args.bytes.now = c.extend.ensures.new in
     let len : length c.extend.new.pool.bytes ≡ length c.self.inside.pool.bytes + length c.args.bytes.now = rw grown (length-append c.self.inside.pool.bytes c.args.bytes.now) in
     let can = subst (λ (p : Contents). CanHold g.F.LeafFn.meaning c.args.self.now p c.args.records.now) (ap (λ (p : Contents). extended p c.args.bytes.now) (sym (ap (λ (h : Held _). h.pool) c.self.view_is)) ∙ sym grown) c.requires.nodes in
