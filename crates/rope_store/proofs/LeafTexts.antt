@@ -1,5 +1,5 @@
 -- Texts of one leaf, and further sources.
-use Rattle.std.proofs.Common.{◌≡◌, ℕ, zero, suc, ◌+◌, ◌^◌, ◌<◌, ◌≤◌, List, [], ◌∷◌, ◌++◌, length, map, get_or, Some, Result, Ok, Err, refl, sym, subst, arith, length-append, ⊎_elim}
+use Rattle.std.proofs.Common.{◌≡◌, ℕ, zero, suc, ◌+◌, ◌^◌, ◌<◌, ◌≤◌, List, [], ◌∷◌, ◌++◌, length, map, get_or, Some, None, Result, Ok, Err, refl, sym, subst, arith, length-append, ⊎_elim}
 use Rattle.std.specs.Prelude.{◌↔◌, OnOk, OnErr, IsErrOf}
 use Rattle.std.proofs.lemmas.Bool.{cases_lt}
 use Rattle.std.specs.List.{slice_range, range_with_len}
@@ -14,10 +14,12 @@ use Rattle.node_table.specs.declared.fault.NodeFault.TheVariants.{TooManySources
 use Rattle.node_table.specs.Held.{Held, table_of, most_sources}
 use Rattle.node_table.proofs.Growing.{kept_source}
 use Rattle.rope_store.specs.Kept.{IsStore}
-use Rattle.rope_store.specs.Additions.{Addition, literal_record, source_record, function_record, new_node, one_node, one_literal, bytes_added, function_added, source_added}
+use Rattle.rope_store.specs.Additions.{Addition, literal_record, source_record, function_record, new_node, one_node, one_literal, bytes_added, function_added, source_added, Makes}
+use Rattle.rope_store.specs.Refusals.{Refuses}
 use Rattle.leaf_buffer.proofs.Appending.{appended_bytes, in_one_block_appended}
 use Rattle.rope_store.proofs.Pools.{grows_appended, slice_at_end}
 use Rattle.rope_store.proofs.Growth.{holds_of}
+use Rattle.rope_store.proofs.Made.{makes_nothing, refuses_none}
 use Rattle.rope_store.proofs.Nodes.{IsGood, literal_good, source_good, function_good}
 
 pub some_bytes : {F : Type 0} (t : Table) (bytes : List ℕ) → 0 < length bytes → ◌≡◌ {A = Addition F} (bytes_added t bytes) (one_literal t bytes)
@@ -31,6 +33,23 @@ some_function t f (suc n) some = refl
 pub some_source : {F : Type 0} (t : Table) (s a n : ℕ) → 0 < n → ◌≡◌ {A = Addition F} (source_added t s a n) (one_node t (source_record s a n))
 some_source t s a zero some = absurd (omega arith)
 some_source t s a (suc n) some = refl
+
+-- no bytes make nothing
+pub makes_no_bytes : {F : Type 0} (meaning : F → ℕ → ℕ) (h : Held F) (bytes : List ℕ) → length bytes ≡ 0 → Makes meaning h (bytes_added (table_of meaning h) bytes) (map Byte bytes) (Ok None) h
+makes_no_bytes meaning h [] none = makes_nothing meaning h None [] tt refl
+makes_no_bytes meaning h (b ∷ bs) none = absurd (omega arith)
+
+pub refuses_no_bytes : {F : Type 0} (meaning : F → ℕ → ℕ) (h : Held F) → IsStore meaning h → (bytes : List ℕ) → length bytes ≡ 0 → Refuses h (bytes_added (table_of meaning h) bytes) ⊥ (block_size < length bytes) (Ok None)
+refuses_no_bytes meaning h store [] none = refuses_none h ⊥ (block_size < 0) None store.table.few store.table.pool (λ bad. bad) (λ (many : block_size < 0). absurd (omega (arith, many)))
+refuses_no_bytes meaning h store (b ∷ bs) none = absurd (omega arith)
+
+pub makes_no_function : {F : Type 0} (meaning : F → ℕ → ℕ) (h : Held F) (f : F) (n : ℕ) → n ≡ 0 → Makes meaning h (function_added (table_of meaning h) f n) (map (λ k. Byte (meaning f k)) (range_with_len 0 n)) (Ok None) h
+makes_no_function meaning h f zero none = makes_nothing meaning h None [] tt refl
+makes_no_function meaning h f (suc n) none = absurd (omega arith)
+
+pub refuses_no_function : {F : Type 0} (meaning : F → ℕ → ℕ) (h : Held F) → IsStore meaning h → (f : F) (n : ℕ) → n ≡ 0 → Refuses h (function_added (table_of meaning h) f n) ⊥ (2 ^ 40 ≤ n) (Ok None)
+refuses_no_function meaning h store f zero none = refuses_none h ⊥ (2 ^ 40 ≤ 0) None store.table.few store.table.pool (λ bad. bad) (λ (many : 2 ^ 40 ≤ 0). absurd (omega (arith, many)))
+refuses_no_function meaning h store f (suc n) none = absurd (omega arith)
 
 -- bytes that are put are a literal
 pub bytes_good : {F : Type 0} (meaning : F → ℕ → ℕ) (h : Held F) → IsStore meaning h → (bytes : List ℕ) → 0 < length bytes → length bytes ≤ block_size → IsGood meaning h (appended h.pool bytes) (literal_record (length h.pool.bytes) (length bytes) ∷ []) (Some (new_node (table_of meaning h) 0)) (map Byte bytes)

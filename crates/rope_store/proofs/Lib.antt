@@ -6,6 +6,7 @@ pub mod LeafTexts
 pub mod PartTexts
 pub mod Concatenations
 pub mod LastLiterals
+pub mod ShortPieces
 pub mod MergedTexts
 pub mod GrownTexts
 pub mod AppendedTexts

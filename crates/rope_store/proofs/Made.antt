@@ -1,5 +1,5 @@
 -- From what is put into a table to what a call says of it.
-use Rattle.std.proofs.Common.{◌≡◌, ℕ, ◌+◌, ◌-◌, ◌^◌, ◌<◌, ◌≤◌, ◌⊎◌, inl, inr, ⊎_elim, true, false, List, length, Option, Some, Result, Ok, Err, refl, sym, subst, arith}
+use Rattle.std.proofs.Common.{◌≡◌, ℕ, ◌+◌, ◌-◌, ◌^◌, ◌<◌, ◌≤◌, ◌⊎◌, inl, inr, ⊎_elim, true, false, List, [], ◌∷◌, length, Option, Some, Result, Ok, Err, refl, sym, ap, subst, arith}
 use Rattle.std.specs.Prelude.{◌↔◌, OnOk, OnErr, IfOk, IfErr, IsErrOf}
 use Rattle.std.proofs.lemmas.Bool.{cases_lt}
 use Rattle.std.proofs.lemmas.List.{append-nil}
@@ -143,6 +143,19 @@ put_refuses {F = F} h a bytes rs got IsBad IsLong is fine short some shallow sam
     subst (λ (xs : List (Record F)). IsErrOf result PoolFull ↔ ((length h.nodes + length xs ≤ most_nodes) × (2 ^ 32 ≤ length h.pool.bytes + length bytes))) same pool_full in
     subst (λ (b : Addition F). Refuses h b IsBad IsLong result) (sym is) (refuses_rest h put IsBad IsLong fine short (λ deep. absurd (omega (arith, deep, shallow))) some result table' pool' faults)
 
+-- one node that is put
+pub one_refuses : {F : Type 0} (h : Held F) (a : Addition F) (bytes : List ℕ) (r got : Record F) (IsBad IsLong : Type 0) → a ≡ record { bytes = bytes; in_place = false; records = r ∷ []; rope = Some (record { 0 = length h.nodes + 0 }) } → ¬ IsBad → ¬ IsLong → r.depth ≤ 64 → got ≡ r
+    → (result : Result (Option NodeId) NodeFault) → (IsErrOf result TableFull ↔ (most_nodes < length h.nodes + 1)) → (IsErrOf result PoolFull ↔ ((length h.nodes + 1 ≤ most_nodes) × (2 ^ 32 ≤ length h.pool.bytes + length bytes))) → IfErr result IsTableFault → Refuses h a IsBad IsLong result
+one_refuses {F = F} h a bytes r got IsBad IsLong is fine short shallow same result table_full pool_full faults =
+    let listed : got ∷ [] ≡ r ∷ [] = ap (λ (x : Record F). x ∷ []) same in
+    put_refuses h a bytes (r ∷ []) (got ∷ []) IsBad IsLong is fine short (omega arith) (omega (arith, shallow)) listed result table_full pool_full faults
+
+pub leaf_shallow : 0 ≤ 64
+leaf_shallow = omega arith
+
+pub one_deep : {F : Type 0} (r : Record F) → 64 < r.depth → 64 < deepest (r ∷ [])
+one_deep r deep = omega (arith, deep)
+
 -- the same addition and the same text, written otherwise
 pub makes_as : {F : Type 0} {meaning : F → ℕ → ℕ} {h new : Held F} {a b : Addition F} {w v : List Cell} {result : Result (Option NodeId) NodeFault} → a ≡ b → v ≡ w → Makes meaning h b v result new → Makes meaning h a w result new
 makes_as {F = F} {meaning = meaning} {h = h} {new = new} {a = a} {b = b} {w = w} {v = v} {result = result} same text made =
@@ -195,3 +208,12 @@ grown_refuses {F = F} h a bytes rs got is some shallow limit same result table_f
     let table' : IsErrOf result TableFull ↔ (most_nodes < length h.nodes + length rs) = subst (λ (xs : List (Record F)). IsErrOf result TableFull ↔ (most_nodes < length h.nodes + length xs)) same table_full in
     subst (λ (b : Addition F). Refuses h b ⊥ ⊥ result) (sym is)
     (refuses_rest h put ⊥ ⊥ (λ bad. bad) (λ long. long) (λ deep. absurd (omega (arith, deep, shallow))) some result table' (λ e. absurd (never_full result faults e), λ k. absurd (omega (arith, k.1, limit))) (growth_fault result faults))
+
+-- the longer literal, and a node over it
+pub grown_leaf_refuses : {F : Type 0} (h : Held F) (a : Addition F) (bytes : List ℕ) (r got : Record F) → a ≡ record { bytes = bytes; in_place = true; records = r ∷ []; rope = Some (record { 0 = length h.nodes + 0 }) } → r.depth ≡ 0 → length h.pool.bytes + length bytes < 2 ^ 32 → got ∷ [] ≡ r ∷ []
+    → (result : Result (Option NodeId) NodeFault) → (IsErrOf result TableFull ↔ (most_nodes < length h.nodes + 1)) → IfErr result IsGrowthFault → Refuses h a ⊥ ⊥ result
+grown_leaf_refuses h a bytes r got is leaf limit same result table_full faults = grown_refuses h a bytes (r ∷ []) (got ∷ []) is (omega arith) (omega (arith, leaf)) limit same result table_full faults
+
+pub grown_pair_refuses : {F : Type 0} (h : Held F) (a : Addition F) (bytes : List ℕ) (r s got more : Record F) → a ≡ record { bytes = bytes; in_place = true; records = r ∷ s ∷ []; rope = Some (record { 0 = length h.nodes + 1 }) } → r.depth ≡ 0 → s.depth ≤ 64 → length h.pool.bytes + length bytes < 2 ^ 32 → got ∷ more ∷ [] ≡ r ∷ s ∷ []
+    → (result : Result (Option NodeId) NodeFault) → (IsErrOf result TableFull ↔ (most_nodes < length h.nodes + 2)) → IfErr result IsGrowthFault → Refuses h a ⊥ ⊥ result
+grown_pair_refuses h a bytes r s got more is leaf shallow limit same result table_full faults = grown_refuses h a bytes (r ∷ s ∷ []) (got ∷ more ∷ []) is (omega arith) (omega (arith, leaf, shallow)) limit same result table_full faults

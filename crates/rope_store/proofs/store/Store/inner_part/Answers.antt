@@ -3,8 +3,8 @@ use Rattle.rope_node.specs.declared.node.NodeView.TheVariants.{Lit, Src, Sub}
 use Rattle.rope_node.specs.Table.{view_at}
 use Rattle.node_table.specs.Held.{table_of}
 use Rattle.rope_store.specs.Kept.{IsStore}
-use Rattle.rope_store.specs.Additions.{literal_record, source_record}
-use Rattle.rope_store.proofs.Made.{put_makes, makes_as}
+use Rattle.rope_store.specs.Additions.{literal_record, source_record, inner_part}
+use Rattle.rope_store.proofs.Made.{put_makes, makes_as, refuses_as, one_refuses, leaf_shallow}
 use Rattle.rope_store.proofs.PartTexts.{literal_part_good, source_part_good, literal_part_is, source_part_is, part_part_is, base_text}
 use Rattle.rope_store.proofs.store.Store.inner_part.Goals as goal
 
@@ -50,3 +50,17 @@ returns-in-Sub-clause-makes g c =
     let is : Sub c.in-Sub.b c.in-Sub.start ≡ view_at t c.args.x.0 = rw c.self.view_is at c.in-Sub.ensures.view in
     let text = base_text g.F.LeafFn.meaning h store c.args.x c.in-Sub.b c.in-Sub.start c.args.i c.args.n c.requires.there (sym is) c.requires.inside in
     makes_as (part_part_is t c.args.x c.in-Sub.b c.args.i c.args.n c.in-Sub.start (sym is)) text c.part_over.ensures.makes
+
+pub returns-in-Src-clause-refuses : goal.returns-in-Src-clause-refuses
+returns-in-Src-clause-refuses g c =
+    let t = table_of g.F.LeafFn.meaning c.args.self.now in
+    let is : Src c.in-Src.s c.in-Src.a ≡ view_at t c.args.x.0 = rw c.self.view_is at c.in-Src.ensures.view in
+    refuses_as (source_part_is t c.args.x c.args.i c.args.n c.in-Src.s c.in-Src.a (sym is))
+    (one_refuses c.args.self.now (inner_part t c.args.x c.args.i c.args.n (Src c.in-Src.s c.in-Src.a)) [] (source_record c.in-Src.s (c.in-Src.a + c.args.i) c.args.n) c.source.result ⊥ ⊥ refl (λ bad. bad) (λ long. long) leaf_shallow c.source.ensures
+    c.make-in-Src.result c.make-in-Src.ensures.table_full c.make-in-Src.ensures.pool_full c.make-in-Src.ensures.faults)
+
+pub returns-in-Sub-clause-refuses : goal.returns-in-Sub-clause-refuses
+returns-in-Sub-clause-refuses g c =
+    let t = table_of g.F.LeafFn.meaning c.args.self.now in
+    let is : Sub c.in-Sub.b c.in-Sub.start ≡ view_at t c.args.x.0 = rw c.self.view_is at c.in-Sub.ensures.view in
+    refuses_as (part_part_is t c.args.x c.in-Sub.b c.args.i c.args.n c.in-Sub.start (sym is)) c.part_over.ensures.refuses
