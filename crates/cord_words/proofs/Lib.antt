@@ -1,4 +1,3 @@
-pub mod CommandLemmas
 pub mod GivenLemmas
 pub mod HelpLemmas
 pub mod LineLemmas

@@ -1,7 +1,7 @@
 //! The commands and arguments of which the command line is made.
 
 ghost use Rattle.std.specs.Prelude.{◌≡◌, IfOk, false};
-ghost use Rattle.clap.specs.Words.{app_of, new_app, rule_of, with_rule};
+ghost use Rattle.clap.specs.Words.{App, Rule, app_of, new_app, rule_of, with_rule};
 ghost use Rattle.clap.specs.declared.builder.command.Command.TheViews.{out-Command as fields_of};
 ghost use Rattle.cord_words.specs.Words.{file_rule, image_rule, required_rule, sources_rule, start_rule};
 
@@ -16,19 +16,18 @@ pub fn command<'a>(alloc: Global, name: &'a str, about: &'a str) -> Command<'a>
     Command::new(alloc, name).about(about)
 }
 
-/// The command with two more arguments.
-pub fn with_two<'a>(
-    command: Command<'a>,
-    first: Arg<'a>,
-    second: Arg<'a>,
+/// The command with one more argument, where it could be made.
+pub fn with<'a>(
+    command: Result<Command<'a>, AllocError>,
+    argument: Arg<'a>,
 ) -> Result<Command<'a>, AllocError>
-    requires command { (fields_of command).has_globals ≡ false }
-    requires first { first.global ≡ false }
-    requires second { second.global ≡ false }
-    ensures app { IfOk result (λ c. app_of c ≡ with_rule (with_rule (app_of command.entry) (rule_of first.entry)) (rule_of second.entry)) }
+    requires command { IfOk command (λ c. (fields_of c).has_globals ≡ false) }
+    requires argument { argument.global ≡ false }
+    ensures app { (a : App) (r : Rule) → IfOk command.entry (λ c. app_of c ≡ a)
+        → rule_of argument.entry ≡ r → IfOk result (λ c. app_of c ≡ with_rule a r) }
     ensures local { IfOk result (λ c. (fields_of c).has_globals ≡ false) }
 {
-    command.arg(first)?.arg(second)
+    command?.arg(argument)
 }
 
 /// One value, which must be given.

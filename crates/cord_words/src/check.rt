@@ -17,7 +17,8 @@ pub fn command<'a>(alloc: Global) -> Result<Command<'a>, AllocError>
 {
     let about = "Say whether a saved session is accepted, or by which fault it is refused";
     let command = args::command(alloc, "check", about);
-    args::with_two(command, args::image(alloc), args::sources(alloc))
+    let command = args::with(Ok(command), args::image(alloc));
+    args::with(command, args::sources(alloc))
 }
 
 /// The action of what was given.

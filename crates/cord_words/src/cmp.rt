@@ -18,7 +18,8 @@ pub fn command<'a>(alloc: Global) -> Result<Command<'a>, AllocError>
     let about = "Say whether a file is less than another, equal or greater, byte by byte";
     let first = args::required(alloc, "FIRST", "The file to compare");
     let second = args::required(alloc, "SECOND", "The file to compare it with");
-    args::with_two(args::command(alloc, "cmp", about), first, second)
+    let command = args::with(Ok(args::command(alloc, "cmp", about)), first);
+    args::with(command, second)
 }
 
 /// The action of what was given.

@@ -1,8 +1,9 @@
 //! The command line.
 
-ghost use Rattle.std.specs.Prelude.{◌≡◌, ◌∷◌, [], IfOk, IfErr, OnOk, codes, true};
-ghost use Rattle.clap.specs.Words.{app_of, fault_of, new_app, subcommand_of};
-ghost use Rattle.clap.specs.Words.{subcommand_rows_of, takes};
+ghost use Rattle.std.specs.Prelude.{◌≡◌, ◌∷◌, [], IfOk, IfErr, OnOk, codes, false, true};
+ghost use Rattle.clap.specs.Words.{App, app_of, fault_of, new_app, subcommand_of};
+ghost use Rattle.clap.specs.Words.{subcommand_rows_of, takes, with_subcommand};
+ghost use Rattle.clap.specs.declared.builder.command.Command.TheViews.{out-Command as fields_of};
 ghost use Rattle.clap.specs.declared.error.kind.ErrorKind.TheVariants.{ValueValidation};
 ghost use Rattle.cord_words.specs.Words.{Holds, IsKnown, NumbersRead, cordkit_app, line_of};
 ghost use Rattle.cord_words.specs.Words.{refusal_kinds};
@@ -88,15 +89,28 @@ fn program<'a>(alloc: Global) -> Command<'a>
     .after_help("With no words, check the session on standard input.")
 }
 
+/// The command with one more subcommand, where both could be made.
+fn add_subcommand<'a>(
+    command: Result<Command<'a>, AllocError>,
+    subcommand: Result<Command<'a>, AllocError>,
+) -> Result<Command<'a>, AllocError>
+    requires { IfOk subcommand (λ c. (fields_of c).has_globals ≡ false) }
+    ensures { (a s : App) → IfOk command.entry (λ c. app_of c ≡ a)
+        → IfOk subcommand.entry (λ c. app_of c ≡ s)
+        → IfOk result (λ c. app_of c ≡ with_subcommand a s.top) }
+{
+    let command = command?;
+    command.subcommand(subcommand?)
+}
+
 /// The program, as `clap` is told of it.
 fn cordkit<'a>(alloc: Global) -> Result<Command<'a>, AllocError>
     ensures { IfOk result (λ c. app_of c ≡ cordkit_app) }
 {
-    program(alloc)
-        .subcommand(check::command(alloc)?)?
-        .subcommand(show::command(alloc)?)?
-        .subcommand(cut::command(alloc)?)?
-        .subcommand(join::command(alloc)?)?
-        .subcommand(find::command(alloc)?)?
-        .subcommand(cmp::command(alloc)?)
+    let command = add_subcommand(Ok(program(alloc)), check::command(alloc));
+    let command = add_subcommand(command, show::command(alloc));
+    let command = add_subcommand(command, cut::command(alloc));
+    let command = add_subcommand(command, join::command(alloc));
+    let command = add_subcommand(command, find::command(alloc));
+    add_subcommand(command, cmp::command(alloc))
 }

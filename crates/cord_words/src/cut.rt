@@ -20,7 +20,8 @@ pub fn command<'a>(alloc: Global) -> Result<Command<'a>, AllocError>
 {
     let command = args::command(alloc, "cut", "Write a part of a file");
     let count = args::required(alloc, "COUNT", "The most bytes to write");
-    args::with_two(command, args::start(alloc), count)?.arg(args::file(alloc))
+    let command = args::with(Ok(command), args::start(alloc));
+    args::with(args::with(command, count), args::file(alloc))
 }
 
 /// The action of what was given. Where a number does not read, the fault is one of `command`.

@@ -22,7 +22,8 @@ pub fn command<'a>(alloc: Global) -> Result<Command<'a>, AllocError>
     let command = args::command(alloc, "find", about);
     let help = "The bytes to search for, at most 4096 of them";
     let pattern = args::required(alloc, "PATTERN", help);
-    args::with_two(command, args::start(alloc), pattern)?.arg(args::file(alloc))
+    let command = args::with(Ok(command), args::start(alloc));
+    args::with(args::with(command, pattern), args::file(alloc))
 }
 
 /// The action of what was given. Where a number does not read, the fault is one of `command`.

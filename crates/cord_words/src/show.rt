@@ -24,7 +24,8 @@ pub fn command<'a>(alloc: Global) -> Result<Command<'a>, AllocError>
         "Write the text of one revision of a saved session",
     );
     let revision = args::required(alloc, "REV", "The number of the revision, counted from 0");
-    args::with_two(command, args::image(alloc), revision)?.arg(args::sources(alloc))
+    let command = args::with(Ok(command), args::image(alloc));
+    args::with(args::with(command, revision), args::sources(alloc))
 }
 
 /// The action of what was given. Where a number does not read, the fault is one of `command`.
