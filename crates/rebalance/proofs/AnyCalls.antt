@@ -1,27 +1,32 @@
 -- The calls behind the balancing.
-use Rattle.std.proofs.Common.{◌≡◌, ℕ, ◌+◌, ◌*◌, ◌^◌, ◌<◌, ◌≤◌, ◌-◌, ◌++◌, ⊎_elim, inl, inr, Bool, true, false, List, [], ◌∷◌, map, take, drop, length, Option, Result, Ok, Err, ap, ◌∙◌, refl, arith}
+use Rattle.std.proofs.Common.{◌≡◌, ℕ, ◌+◌, ◌*◌, ◌^◌, ◌<◌, ◌≤◌, ◌-◌, ◌++◌, ⊎_elim, inl, inr, Bool, true, false, List, [], ◌∷◌, map, take, drop, length, min, Option, Some, None, Result, Ok, Err, ap, subst, ◌∙◌, refl, arith}
 use Rattle.std.specs.Prelude.{IsErrOf}
 use Rattle.std.proofs.Math.Seq.{drop-append_seam}
 use Rattle.leaf_buffer.specs.Contents.{Contents, block_size}
 use Rattle.rope_node.specs.declared.node.NodeId.{NodeId}
-use Rattle.rope_node.specs.Table.{IsSound, HasTrueRecords}
-use Rattle.rope_node.specs.Denotes.{Byte, rope_cells, rope_len, IsRope}
+use Rattle.rope_node.specs.Table.{Table, len_at, IsSound, HasTrueRecords}
+use Rattle.rope_node.specs.Denotes.{Byte, cells, rope_cells, rope_len, IsRope}
 use Rattle.rope_node.proofs.Ropes.{rope_kept}
 use Rattle.node_table.specs.declared.fault.NodeFault.{NodeFault}
 use Rattle.node_table.specs.declared.fault.NodeFault.TheVariants.{TooLong, TooDeep}
 use Rattle.node_table.specs.Held.{Held, table_of}
-use Rattle.rope_store.specs.Additions.{Makes, part_added, pool_with}
+use Rattle.rope_store.specs.Additions.{Addition, Makes, part_added, pool_with}
 use Rattle.rope_store.specs.Appending.{Appends, IsTooLong}
 use Rattle.rope_store.specs.Joining.{joined}
-use Rattle.rope_store.specs.Refusals.{Refuses}
-use Rattle.rope_store.proofs.CallSizes.{joined_few, joined_shallow, part_few, part_shallow, sized_append}
+use Rattle.rope_store.specs.Refusals.{Refuses, IsTooDeep, deepest}
+use Rattle.rope_node.proofs.Cells.{cells_length}
+use Rattle.rope_store.proofs.PartTexts.{no_part, take_least}
+use Rattle.rope_store.proofs.CallSizes.{joined_few, joined_shallow, part_few, sized_append}
 use Rattle.leaf_buffer.proofs.Appending.{appended_bytes}
-use Rattle.rebalance.specs.AnyForms.{Anew, AppendsAny, IsPlaced, lifted}
-use Rattle.rebalance.specs.Balancing.{Rebalances}
-use Rattle.rebalance.specs.Pieces.{rope_pieces}
+use Rattle.rebalance.specs.AnyForms.{AnyForm, Anew, AppendsAny, IsPlaced, PartsAny, lifted}
+use Rattle.rebalance.specs.declared.fault.BalanceFault.{BalanceFault}
+use Rattle.rebalance.specs.declared.pieces.Span.{Span}
+use Rattle.rebalance.specs.Balancing.{Rebuilds}
+use Rattle.rebalance.specs.Pieces.{kept_pieces, part_pieces, pieces, IsWithin}
 use Rattle.rebalance.specs.Steps.{Grows}
-use Rattle.rebalance.proofs.AnyLaws.{any_plain_if, balance_grows, called_anew, few_pieces, stands_earlier, stands_for, stands_later}
-use Rattle.rebalance.proofs.PieceCounts.{rope_pieces_kept}
+use Rattle.rebalance.proofs.AnyLaws.{any_anew, any_plain, any_plain_if, rebuilt_anew, rebuilt_grows, called_anew, few_pieces, stands_earlier, stands_for, stands_later, unchanged_at}
+use Rattle.rebalance.proofs.Filling.{whole_text}
+use Rattle.rebalance.proofs.PieceCounts.{all_pieces_kept}
 use Rattle.rebalance.proofs.StepLaws.{grows_through, grows_within}
 
 -- a table keeps the rules
@@ -29,37 +34,132 @@ pub record IsRight (F : Type 0) (meaning : F → ℕ → ℕ) (h : Held F) : Typ
   pub sound : IsSound (table_of meaning h)
   pub true_records : HasTrueRecords (table_of meaning h)
 
+-- all of a node's text
+pub all_rebuilt : {F : Type 0} (meaning : F → ℕ → ℕ) (old new : Held F) (keep : Bool) (node : NodeId) (n : ℕ) (result : Result (Option NodeId) BalanceFault) → IsSound (table_of meaning old) → HasTrueRecords (table_of meaning old) → node.0 < length old.nodes → n ≡ len_at (table_of meaning old) node.0
+    → Rebuilds meaning old (take n (drop 0 (cells (table_of meaning old) node.0))) (pieces keep (table_of meaning old) node.0 0 n) result new
+    → Rebuilds meaning old (cells (table_of meaning old) node.0) (pieces keep (table_of meaning old) node.0 0 (len_at (table_of meaning old) node.0)) result new
+all_rebuilt meaning old new keep node n result s h there all built =
+    let t = table_of meaning old in
+    let text = whole_text t s h node.0 n there all in
+    let built' = subst (λ (k : ℕ). Rebuilds meaning old (take n (drop 0 (cells t node.0))) (pieces keep t node.0 0 k) result new) all built in
+    subst (λ cs. Rebuilds meaning old cs (pieces keep t node.0 0 (len_at t node.0)) result new) text built'
+
 pub cat_called : {F : Type 0} (meaning : F → ℕ → ℕ) (old one two new : Held F) (l r left right : Option NodeId) (plain : Result (Option NodeId) NodeFault) → IsRight F meaning old → IsRight F meaning one → IsRight F meaning two → IsRope (table_of meaning old) l → IsRope (table_of meaning old) r
-    → rope_len (table_of meaning old) l + rope_len (table_of meaning old) r < 2 ^ 40 → Rebalances meaning old l (Ok left) one → Rebalances meaning one r (Ok right) two
+    → rope_len (table_of meaning old) l + rope_len (table_of meaning old) r < 2 ^ 40 → Rebuilds meaning old (rope_cells (table_of meaning old) l) (kept_pieces (table_of meaning old) l) (Ok left) one → Rebuilds meaning one (rope_cells (table_of meaning one) r) (kept_pieces (table_of meaning one) r) (Ok right) two
     → Makes meaning two (joined (table_of meaning two) left right) (rope_cells (table_of meaning two) left ++ rope_cells (table_of meaning two) right) plain new → Refuses two (joined (table_of meaning two) left right) ⊥ (2 ^ 40 ≤ rope_len (table_of meaning two) left + rope_len (table_of meaning two) right) plain
-    → Anew meaning old (rope_cells (table_of meaning old) l ++ rope_cells (table_of meaning old) r) (rope_pieces (table_of meaning old) l) (rope_pieces (table_of meaning old) r) 31 (lifted plain) new
+    → Anew meaning old (rope_cells (table_of meaning old) l ++ rope_cells (table_of meaning old) r) (kept_pieces (table_of meaning old) l) (kept_pieces (table_of meaning old) r) 31 (lifted plain) new
 cat_called {F = F} meaning old one two new l r left right plain k0 k1 k2 left_there right_there short first second made refuses =
     let t0 = table_of meaning old in
     let t1 = table_of meaning one in
     let t2 = table_of meaning two in
-    let a = stands_later t0 t1 t2 k1.sound k1.true_records k2.sound k2.true_records second.kept l left (stands_for meaning old one l left k0.sound k0.true_records k1.sound k1.true_records left_there first) in
+    let a = stands_later t0 t1 t2 k1.sound k1.true_records k2.sound k2.true_records second.kept l left (stands_for meaning old one l left _ k0.sound k0.true_records k1.sound k1.true_records left_there first) in
     let there = rope_kept t0 t1 first.kept r right_there in
-    let b = stands_earlier t0 t1 t2 k0.sound k0.true_records k2.sound k2.true_records first.kept r right right_there (stands_for meaning one two r right k1.sound k1.true_records k2.sound k2.true_records there second) in
-    let same = rope_pieces_kept t0 t1 k0.sound first.kept r right_there in
-    let p = rope_pieces t0 l in
-    let q = rope_pieces t0 r in
+    let b = stands_earlier t0 t1 t2 k0.sound k0.true_records k2.sound k2.true_records first.kept r right right_there (stands_for meaning one two r right _ k1.sound k1.true_records k2.sound k2.true_records there second) in
+    let same = all_pieces_kept true t0 t1 k0.sound first.kept r right_there in
+    let p = kept_pieces t0 l in
+    let q = kept_pieces t0 r in
     let grows : Grows meaning old (length old.nodes + (2 * p + 2 * q)) (length old.pool.bytes + (31 * p + 31 * q)) two =
-    grows_through (balance_grows first) (balance_grows second) (omega (arith, second.few_nodes, first.few_nodes, same)) (omega (arith, second.few_bytes, first.few_bytes, same)) in
+    grows_through (rebuilt_grows first) (rebuilt_grows second) (omega (arith, second.few_nodes, first.few_nodes, same)) (omega (arith, second.few_bytes, first.few_bytes, same)) in
     called_anew meaning old two new (joined t2 left right) (rope_cells t0 l ++ rope_cells t0 r) (rope_cells t2 left ++ rope_cells t2 right) (2 ^ 40 ≤ rope_len t2 left + rope_len t2 right) p q 31 plain grows (few_pieces first) (λ many. few_pieces second (omega (arith, many, same)))
     (joined_few t2 k2.sound k2.true_records left right a.is_rope b.is_rope) (joined_shallow F t2 k2.sound k2.true_records left right a.is_rope b.is_rope a.shallow b.shallow)
     (λ long. absurd (omega (arith, long, a.len, b.len, short))) made refuses (rw (a.text, b.text) refl)
 
-pub substr_called : {F : Type 0} (meaning : F → ℕ → ℕ) (old one new : Held F) (x rope : Option NodeId) (i n : ℕ) (plain : Result (Option NodeId) NodeFault) → IsRight F meaning old → IsRight F meaning one → IsRope (table_of meaning old) x → Rebalances meaning old x (Ok rope) one
-    → Makes meaning one (part_added (table_of meaning one) rope i n) (take n (drop i (rope_cells (table_of meaning one) rope))) plain new → Refuses one (part_added (table_of meaning one) rope i n) ⊥ ⊥ plain
-    → Anew meaning old (take n (drop i (rope_cells (table_of meaning old) x))) (rope_pieces (table_of meaning old) x) 0 0 (lifted plain) new
-substr_called {F = F} meaning old one new x rope i n plain k0 k1 there first made refuses =
-    let t0 = table_of meaning old in
-    let t1 = table_of meaning one in
-    let a = stands_for meaning old one x rope k0.sound k0.true_records k1.sound k1.true_records there first in
-    let p = rope_pieces t0 x in
-    let grows : Grows meaning old (length old.nodes + (2 * p + 2 * 0)) (length old.pool.bytes + (31 * p + 31 * 0)) one = grows_within (balance_grows first) (omega arith) (omega arith) in
-    called_anew meaning old one new (part_added t1 rope i n) (take n (drop i (rope_cells t0 x))) (take n (drop i (rope_cells t1 rope))) ⊥ p 0 0 plain grows (few_pieces first) (λ many. omega (arith, many))
-    (part_few t1 rope i n) (part_shallow F t1 k1.true_records rope i n a.is_rope a.shallow) (λ long. long) made refuses (rw a.text refl)
+-- ---- parts
+
+-- the part of a node that is some of it
+part_of : (t : Table) (node : NodeId) (i n : ℕ) → i + n ≤ len_at t node.0 → part_pieces t (Some node) i n ≡ pieces true t node.0 i n
+part_of t node i n fits = let all : min n (len_at t node.0 - i) ≡ n = omega (arith, fits) in ap (λ (k : ℕ). pieces true t node.0 i k) all
+
+-- no bytes are nil
+no_bytes_shallow : (F : Type 0) (t : Table) (x : Option NodeId) (i n : ℕ) → ((node : NodeId) → x ≡ Some node → min n (len_at t node.0 - i) ≡ 0) → ¬ IsTooDeep {F = F} (part_added t x i n)
+no_bytes_shallow F t None i n none deep = omega (arith, deep)
+no_bytes_shallow F t (Some node) i n none deep =
+    let records = ap (λ (a : Addition F). deepest a.records) (no_part {F = F} t node i (min n (len_at t node.0 - i)) (none node refl)) in
+    omega (arith, deep, records)
+
+pub part_none : {F : Type 0} (meaning : F → ℕ → ℕ) (old new : Held F) (x : Option NodeId) (i n : ℕ) (plain : Result (Option NodeId) NodeFault) → IsRope (table_of meaning old) x → ((node : NodeId) → x ≡ Some node → min n (len_at (table_of meaning old) node.0 - i) ≡ 0)
+    → Makes meaning old (part_added (table_of meaning old) x i n) (take n (drop i (rope_cells (table_of meaning old) x))) plain new → Refuses old (part_added (table_of meaning old) x i n) ⊥ ⊥ plain → PartsAny meaning old x i n (lifted plain) new
+part_none {F = F} meaning old new x i n plain there none made refuses =
+    let t = table_of meaning old in
+    let shallow = no_bytes_shallow F t x i n none in
+    record {
+      inner = x;
+      start = i;
+      count = n;
+      there = there;
+      no_deeper = omega arith;
+      any = any_plain meaning old new (part_added t x i n) (take n (drop i (rope_cells t x))) ⊥ (part_pieces t x i n) 0 0 plain (part_few t x i n) made refuses (λ e. shallow (refuses.too_deep.0 e).2);
+      rebuilt = λ deep. absurd (shallow deep);
+    }
+
+-- no more bytes than there are
+pub part_more : {F : Type 0} (meaning : F → ℕ → ℕ) (old new : Held F) (node : NodeId) (i n m : ℕ) (result : Result (Option NodeId) BalanceFault) → IsSound (table_of meaning old) → HasTrueRecords (table_of meaning old) → node.0 < length old.nodes → m ≡ min n (len_at (table_of meaning old) node.0 - i)
+    → PartsAny meaning old (Some node) i m result new → PartsAny meaning old (Some node) i n result new
+part_more {F = F} meaning old new node i n m result s h there least part =
+    let t = table_of meaning old in
+    let few : min m (len_at t node.0 - i) ≡ min n (len_at t node.0 - i) = omega (arith, least) in
+    let count : part_pieces t (Some node) i m ≡ part_pieces t (Some node) i n = ap (λ (k : ℕ). pieces true t node.0 i k) few in
+    let text : take m (drop i (cells t node.0)) ≡ take n (drop i (cells t node.0)) =
+    ap (λ (k : ℕ). take k (drop i (cells t node.0))) least ∙ take_least (cells t node.0) i n (len_at t node.0) (cells_length t s h node.0 there) in
+    let a : Addition F = part_added t part.inner part.start part.count in
+    let one = subst (λ (p : ℕ). AnyForm meaning old a (take m (drop i (cells t node.0))) ⊥ p 0 0 result new) count part.any in
+    record {
+      inner = part.inner;
+      start = part.start;
+      count = part.count;
+      there = part.there;
+      no_deeper = part.no_deeper;
+      any = subst (λ cs. AnyForm meaning old a cs ⊥ (part_pieces t (Some node) i n) 0 0 result new) text one;
+      rebuilt = λ deep.
+          let built = subst (λ (p : ℕ). Rebuilds meaning old (take m (drop i (cells t node.0))) p result new) count (part.rebuilt deep) in
+          subst (λ cs. Rebuilds meaning old cs (part_pieces t (Some node) i n) result new) text built;
+    }
+
+-- the plain call takes the part of a lower node
+pub part_plain : {F : Type 0} (meaning : F → ℕ → ℕ) (old new : Held F) (node : NodeId) (i n : ℕ) (p : Span) (plain : Result (Option NodeId) NodeFault) → IsWithin (table_of meaning old) node.0 i n p
+    → Makes meaning old (part_added (table_of meaning old) (Some p.node) p.start n) (take n (drop p.start (cells (table_of meaning old) p.node.0))) plain new → Refuses old (part_added (table_of meaning old) (Some p.node) p.start n) ⊥ ⊥ plain → ¬ IsErrOf plain TooDeep
+    → PartsAny meaning old (Some node) i n (lifted plain) new
+part_plain {F = F} meaning old new node i n p plain within made refuses shallow =
+    let t = table_of meaning old in
+    let a : Addition F = part_added t (Some p.node) p.start n in
+    let made' : Makes meaning old a (take n (drop i (cells t node.0))) plain new = rw within.cells made in
+    record {
+      inner = Some p.node;
+      start = p.start;
+      count = n;
+      there = within.there;
+      no_deeper = within.shallow;
+      any = any_plain meaning old new a (take n (drop i (cells t node.0))) ⊥ (part_pieces t (Some node) i n) 0 0 plain (part_few t (Some p.node) p.start n) made' refuses shallow;
+      rebuilt = λ deep. absurd (shallow (refuses.too_deep.1 ((λ bad. bad), (λ long. long), deep)));
+    }
+
+-- the part is put together alone
+part_anew : {F : Type 0} (meaning : F → ℕ → ℕ) (old new : Held F) (node : NodeId) (i n : ℕ) (p : Span) (result : Result (Option NodeId) BalanceFault) → IsWithin (table_of meaning old) node.0 i n p → i + n ≤ len_at (table_of meaning old) node.0
+    → IsTooDeep {F = F} (part_added (table_of meaning old) (Some p.node) p.start n) → Rebuilds meaning old (take n (drop i (cells (table_of meaning old) node.0))) (pieces true (table_of meaning old) node.0 i n) result new
+    → PartsAny meaning old (Some node) i n result new
+part_anew {F = F} meaning old new node i n p result within fits deep built =
+    let t = table_of meaning old in
+    let a : Addition F = part_added t (Some p.node) p.start n in
+    let wanted = take n (drop i (cells t node.0)) in
+    let built' : Rebuilds meaning old wanted (part_pieces t (Some node) i n) result new = rw (part_of t node i n fits) built in
+    record {
+      inner = Some p.node;
+      start = p.start;
+      count = n;
+      there = within.there;
+      no_deeper = within.shallow;
+      any = any_anew meaning old new a wanted ⊥ (part_pieces t (Some node) i n) 0 0 result (λ long. long) deep (rebuilt_anew meaning old new wanted (part_pieces t (Some node) i n) result built');
+      rebuilt = λ _. built';
+    }
+
+-- behind a plain call that changed nothing
+pub part_deep : {F : Type 0} (meaning : F → ℕ → ℕ) (old mid new : Held F) (node : NodeId) (i n : ℕ) (p : Span) (plain : Result (Option NodeId) NodeFault) (result : Result (Option NodeId) BalanceFault) → IsWithin (table_of meaning old) node.0 i n p → i + n ≤ len_at (table_of meaning old) node.0
+    → Makes meaning old (part_added (table_of meaning old) (Some p.node) p.start n) (take n (drop p.start (cells (table_of meaning old) p.node.0))) plain mid → Refuses old (part_added (table_of meaning old) (Some p.node) p.start n) ⊥ ⊥ plain → IsErrOf plain TooDeep
+    → Rebuilds meaning mid (take n (drop i (cells (table_of meaning mid) node.0))) (pieces true (table_of meaning mid) node.0 i n) result new → PartsAny meaning old (Some node) i n result new
+part_deep {F = F} meaning old mid new node i n p plain result within fits made refuses deep built =
+    let same = unchanged_at plain TooDeep made deep in
+    let built' = subst (λ (h : Held F). Rebuilds meaning h (take n (drop i (cells (table_of meaning h) node.0))) (pieces true (table_of meaning h) node.0 i n) result new) same built in
+    part_anew meaning old new node i n p result within fits (refuses.too_deep.0 deep).2 built'
 
 -- ---- bytes put behind a rope
 
@@ -91,21 +191,21 @@ append_plain meaning old new x bytes plain k there done shallow =
     record {
       addition = done.addition;
       is = done.is;
-      any = any_plain_if meaning old new done.addition (rope_cells t x ++ map Byte bytes) (IsTooLong t x bytes) (rope_pieces t x) 0 (length bytes + 31) plain
+      any = any_plain_if meaning old new done.addition (rope_cells t x ++ map Byte bytes) (IsTooLong t x bytes) (kept_pieces t x) 0 (length bytes + 31) plain
           (λ short. (sized_append old.pool t k.sound k.true_records x there bytes done.addition (done.is short)).few) done.makes done.refuses shallow;
     }
 
 pub append_called : {F : Type 0} (meaning : F → ℕ → ℕ) (old one new : Held F) (x rope : Option NodeId) (bytes : List ℕ) (plain : Result (Option NodeId) NodeFault) → IsRight F meaning old → IsRight F meaning one → IsRope (table_of meaning old) x → ¬ IsTooLong (table_of meaning old) x bytes
-    → Rebalances meaning old x (Ok rope) one → Appends meaning one rope bytes plain new
-    → Anew meaning old (rope_cells (table_of meaning old) x ++ map Byte bytes) (rope_pieces (table_of meaning old) x) 0 (length bytes + 31) (lifted plain) new
+    → Rebuilds meaning old (rope_cells (table_of meaning old) x) (kept_pieces (table_of meaning old) x) (Ok rope) one → Appends meaning one rope bytes plain new
+    → Anew meaning old (rope_cells (table_of meaning old) x ++ map Byte bytes) (kept_pieces (table_of meaning old) x) 0 (length bytes + 31) (lifted plain) new
 append_called {F = F} meaning old one new x rope bytes plain k0 k1 there short first done =
     let t0 = table_of meaning old in
     let t1 = table_of meaning one in
-    let a = stands_for meaning old one x rope k0.sound k0.true_records k1.sound k1.true_records there first in
+    let a = stands_for meaning old one x rope _ k0.sound k0.true_records k1.sound k1.true_records there first in
     let still : ¬ IsTooLong t1 rope bytes = λ long. ⊎_elim (λ (many : block_size < length bytes). short (inl many)) (λ (far : 2 ^ 40 ≤ rope_len t1 rope + length bytes). short (inr (omega (arith, far, a.len)))) long in
     let sized = sized_append one.pool t1 k1.sound k1.true_records rope a.is_rope bytes done.addition (done.is still) in
     let low = sized.shallow a.shallow in
-    let p = rope_pieces t0 x in
-    let grows : Grows meaning old (length old.nodes + (2 * p + 2 * 0)) (length old.pool.bytes + (31 * p + 31 * 0)) one = grows_within (balance_grows first) (omega arith) (omega arith) in
+    let p = kept_pieces t0 x in
+    let grows : Grows meaning old (length old.nodes + (2 * p + 2 * 0)) (length old.pool.bytes + (31 * p + 31 * 0)) one = grows_within (rebuilt_grows first) (omega arith) (omega arith) in
     called_anew meaning old one new done.addition (rope_cells t0 x ++ map Byte bytes) (rope_cells t1 rope ++ map Byte bytes) (IsTooLong t1 rope bytes) p 0 (length bytes + 31) plain grows (few_pieces first) (λ many. omega (arith, many))
     sized.few (λ deep. omega (arith, deep, low)) still done.makes done.refuses (rw a.text refl)

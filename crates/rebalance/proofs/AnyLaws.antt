@@ -1,5 +1,5 @@
 -- From the store's calls and from balancing to the calls for any ropes.
-use Rattle.std.proofs.Common.{◌≡◌, false, ℕ, ◌+◌, ◌*◌, ◌<◌, ◌≤◌, inl, inr, ⊎_elim, List, length, Option, Some, None, Result, Ok, Err, refl, sym, ap, subst, ◌∙◌, arith}
+use Rattle.std.proofs.Common.{◌≡◌, false, ℕ, ◌+◌, ◌*◌, ◌<◌, ◌≤◌, true, inl, inr, ⊎_elim, List, length, Option, Some, None, Result, Ok, Err, refl, sym, ap, subst, ◌∙◌, arith}
 use Rattle.std.specs.Prelude.{IfOk, IfErr, OnErr, IsErrOf, IsTrue}
 use Rattle.rope_node.specs.declared.node.NodeId.{NodeId}
 use Rattle.rope_node.specs.Table.{Table, depth_at, IsSound, HasTrueRecords}
@@ -16,11 +16,11 @@ use Rattle.rope_store.proofs.CallSizes.{IsFew}
 use Rattle.rebalance.specs.declared.fault.BalanceFault.{BalanceFault}
 use Rattle.rebalance.specs.declared.fault.BalanceFault.TheVariants.{TooManyPieces, Node}
 use Rattle.rebalance.specs.AnyForms.{AnyForm, Anew, IsAnewFault, lifted}
-use Rattle.rebalance.specs.Balancing.{IsNearlyBalanced, Rebalances}
-use Rattle.rebalance.specs.Pieces.{rope_pieces, most_pieces}
+use Rattle.rebalance.specs.Balancing.{IsNearlyBalanced, Rebuilds}
+use Rattle.rebalance.specs.Pieces.{kept_pieces, most_pieces}
 use Rattle.rebalance.specs.Steps.{IsStepFault, Grows}
 use Rattle.rebalance.proofs.Fibonacci.{fibonacci_below, sixtieth}
-use Rattle.rebalance.proofs.PieceCounts.{rope_pieces_kept}
+use Rattle.rebalance.proofs.PieceCounts.{all_pieces_kept}
 use Rattle.rebalance.proofs.SlotSteps.{rope_length}
 use Rattle.rebalance.proofs.StepLaws.{grows_through, grows_within}
 use Rattle.rebalance.proofs.StoreCalls.{made_grows, refused_fault}
@@ -129,57 +129,71 @@ rope_depth_kept old new x None there = refl
 rope_depth_kept old new x (Some id) there = depth_kept old new x id.0 there
 
 -- balancing as a step
-pub balance_grows : {F : Type 0} {meaning : F → ℕ → ℕ} {old new : Held F} {rope : Option NodeId} {result : Result (Option NodeId) BalanceFault} → Rebalances meaning old rope result new
-    → Grows meaning old (length old.nodes + 2 * rope_pieces (table_of meaning old) rope) (length old.pool.bytes + 31 * rope_pieces (table_of meaning old) rope) new
-balance_grows r = record { kept = r.kept; sources = r.sources; few_nodes = r.few_nodes; few_bytes = r.few_bytes }
+pub rebuilt_grows : {F : Type 0} {meaning : F → ℕ → ℕ} {old new : Held F} {wanted : List Cell} {p : ℕ} {result : Result (Option NodeId) BalanceFault} → Rebuilds meaning old wanted p result new → Grows meaning old (length old.nodes + 2 * p) (length old.pool.bytes + 31 * p) new
+rebuilt_grows r = record { kept = r.kept; sources = r.sources; few_nodes = r.few_nodes; few_bytes = r.few_bytes }
 
-balance_fault : {F : Type 0} {meaning : F → ℕ → ℕ} {old new : Held F} {rope : Option NodeId} (e : BalanceFault) (nodes bytes : ℕ) → Rebalances meaning old rope (Err e) new → length old.nodes + 2 * rope_pieces (table_of meaning old) rope ≤ nodes
-    → length old.pool.bytes + 31 * rope_pieces (table_of meaning old) rope ≤ bytes → IsAnewFault nodes bytes e
-balance_fault TooManyPieces nodes bytes r n b = tt
-balance_fault (Node TooLong) nodes bytes r n b = absurd (r.not_long refl)
-balance_fault (Node TooDeep) nodes bytes r n b = absurd (r.not_deep refl)
-balance_fault (Node TableFull) nodes bytes r n b = let full = r.table_full refl in omega (arith, full, n)
-balance_fault (Node PoolFull) nodes bytes r n b = let full = r.pool_full refl in omega (arith, full, b)
-balance_fault (Node BadSpan) nodes bytes r n b = absurd (r.no_bad_span refl)
-balance_fault (Node TooManySources) nodes bytes r n b = absurd (r.no_source refl)
-balance_fault (Node Memory) nodes bytes r n b = tt
+rebuilt_fault : {F : Type 0} {meaning : F → ℕ → ℕ} {old new : Held F} {wanted : List Cell} {p : ℕ} (e : BalanceFault) (nodes bytes : ℕ) → Rebuilds meaning old wanted p (Err e) new → length old.nodes + 2 * p ≤ nodes → length old.pool.bytes + 31 * p ≤ bytes → IsAnewFault nodes bytes e
+rebuilt_fault TooManyPieces nodes bytes r n b = tt
+rebuilt_fault (Node TooLong) nodes bytes r n b = absurd (r.not_long refl)
+rebuilt_fault (Node TooDeep) nodes bytes r n b = absurd (r.not_deep refl)
+rebuilt_fault (Node TableFull) nodes bytes r n b = let full = r.table_full refl in omega (arith, full, n)
+rebuilt_fault (Node PoolFull) nodes bytes r n b = let full = r.pool_full refl in omega (arith, full, b)
+rebuilt_fault (Node BadSpan) nodes bytes r n b = absurd (r.no_bad_span refl)
+rebuilt_fault (Node TooManySources) nodes bytes r n b = absurd (r.no_source refl)
+rebuilt_fault (Node Memory) nodes bytes r n b = tt
 
--- a rope that was balanced has few pieces
-pub few_pieces : {F : Type 0} {meaning : F → ℕ → ℕ} {old new : Held F} {rope balanced : Option NodeId} → Rebalances meaning old rope (Ok balanced) new → ¬ (most_pieces < rope_pieces (table_of meaning old) rope)
+-- what was put together has few pieces
+pub few_pieces : {F : Type 0} {meaning : F → ℕ → ℕ} {old new : Held F} {wanted : List Cell} {p : ℕ} {balanced : Option NodeId} → Rebuilds meaning old wanted p (Ok balanced) new → ¬ (most_pieces < p)
 few_pieces r many = let is = r.too_many.1 many in absurd cc
 
 -- the first rope is refused
-pub first_refused : {F : Type 0} (meaning : F → ℕ → ℕ) (old new : Held F) (wanted : List Cell) (rope : Option NodeId) (q bytes : ℕ) (e : BalanceFault) → Rebalances meaning old rope (Err e) new → Anew meaning old wanted (rope_pieces (table_of meaning old) rope) q bytes (Err e) new
-first_refused meaning old new wanted rope q bytes e r = record {
+pub first_refused : {F : Type 0} (meaning : F → ℕ → ℕ) (old new : Held F) (wanted cs : List Cell) (p q bytes : ℕ) (e : BalanceFault) → Rebuilds meaning old cs p (Err e) new → Anew meaning old wanted p q bytes (Err e) new
+first_refused meaning old new wanted cs p q bytes e r = record {
   gives = record {
     is_rope = tt;
     text = tt;
-    grows = grows_within (balance_grows r) (omega arith) (omega arith);
+    grows = grows_within (rebuilt_grows r) (omega arith) (omega arith);
   };
   too_many = λ many. inl (r.too_many.0 many);
   first_many = r.too_many.1;
   second_many = λ many. refl;
   unchanged = λ many. r.unchanged (r.too_many.1 many);
-  fault = balance_fault e _ _ r (omega arith) (omega arith);
+  fault = rebuilt_fault e _ _ r (omega arith) (omega arith);
+}
+
+-- what is wanted is put together alone
+pub rebuilt_anew : {F : Type 0} (meaning : F → ℕ → ℕ) (old new : Held F) (wanted : List Cell) (p : ℕ) (result : Result (Option NodeId) BalanceFault) → Rebuilds meaning old wanted p result new → Anew meaning old wanted p 0 0 result new
+rebuilt_anew meaning old new wanted p (Err e) r = first_refused meaning old new wanted wanted p 0 0 e r
+rebuilt_anew meaning old new wanted p (Ok rope) r = record {
+  gives = record {
+    is_rope = r.is_rope;
+    text = r.text;
+    grows = grows_within (rebuilt_grows r) (omega arith) (omega arith);
+  };
+  too_many = λ many. absurd cc;
+  first_many = λ many. absurd (few_pieces r many);
+  second_many = λ many. absurd (omega (arith, many));
+  unchanged = λ many. absurd (few_pieces r many);
+  fault = tt;
 }
 
 -- the second rope is refused
-pub second_refused : {F : Type 0} (meaning : F → ℕ → ℕ) (old mid new : Held F) (wanted : List Cell) (l r left : Option NodeId) (bytes : ℕ) (e : BalanceFault) → IsSound (table_of meaning old) → IsRope (table_of meaning old) r → Rebalances meaning old l (Ok left) mid → Rebalances meaning mid r (Err e) new
-    → Anew meaning old wanted (rope_pieces (table_of meaning old) l) (rope_pieces (table_of meaning old) r) bytes (Err e) new
-second_refused meaning old mid new wanted l r left bytes e s there first second =
+pub second_refused : {F : Type 0} (meaning : F → ℕ → ℕ) (old mid new : Held F) (wanted cs ds : List Cell) (p : ℕ) (r left : Option NodeId) (bytes : ℕ) (e : BalanceFault) → IsSound (table_of meaning old) → IsRope (table_of meaning old) r → Rebuilds meaning old cs p (Ok left) mid → Rebuilds meaning mid ds (kept_pieces (table_of meaning mid) r) (Err e) new
+    → Anew meaning old wanted p (kept_pieces (table_of meaning old) r) bytes (Err e) new
+second_refused meaning old mid new wanted cs ds p r left bytes e s there first second =
     let t = table_of meaning old in
-    let same = rope_pieces_kept t (table_of meaning mid) s first.kept r there in
+    let same = all_pieces_kept true t (table_of meaning mid) s first.kept r there in
     record {
       gives = record {
         is_rope = tt;
         text = tt;
-        grows = grows_through (balance_grows first) (balance_grows second) (omega (arith, second.few_nodes, first.few_nodes, same)) (omega (arith, second.few_bytes, first.few_bytes, same));
+        grows = grows_through (rebuilt_grows first) (rebuilt_grows second) (omega (arith, second.few_nodes, first.few_nodes, same)) (omega (arith, second.few_bytes, first.few_bytes, same));
       };
       too_many = λ many. inr (rw same at (second.too_many.0 many));
       first_many = λ many. absurd (few_pieces first many);
       second_many = λ many. refl;
       unchanged = λ many. absurd (few_pieces first many);
-      fault = balance_fault e _ _ second (omega (arith, first.few_nodes, same)) (omega (arith, first.few_bytes, same));
+      fault = rebuilt_fault e _ _ second (omega (arith, first.few_nodes, same)) (omega (arith, first.few_bytes, same));
     }
 
 -- the call behind the balancing
@@ -212,9 +226,9 @@ pub record StandsFor (t : Table) (rope : Option NodeId) (t' : Table) (balanced :
   pub len : rope_len t' balanced ≡ rope_len t rope
   pub shallow : rope_depth t' balanced ≤ 63
 
-pub stands_for : {F : Type 0} (meaning : F → ℕ → ℕ) (old new : Held F) (rope balanced : Option NodeId) → IsSound (table_of meaning old) → HasTrueRecords (table_of meaning old) → IsSound (table_of meaning new) → HasTrueRecords (table_of meaning new) → IsRope (table_of meaning old) rope
-    → Rebalances meaning old rope (Ok balanced) new → StandsFor (table_of meaning old) rope (table_of meaning new) balanced
-stands_for meaning old new rope balanced s h s' h' there r =
+pub stands_for : {F : Type 0} (meaning : F → ℕ → ℕ) (old new : Held F) (rope balanced : Option NodeId) (p : ℕ) → IsSound (table_of meaning old) → HasTrueRecords (table_of meaning old) → IsSound (table_of meaning new) → HasTrueRecords (table_of meaning new) → IsRope (table_of meaning old) rope
+    → Rebuilds meaning old (rope_cells (table_of meaning old) rope) p (Ok balanced) new → StandsFor (table_of meaning old) rope (table_of meaning new) balanced
+stands_for meaning old new rope balanced p s h s' h' there r =
     let t = table_of meaning old in
     let t' = table_of meaning new in
     record {

@@ -12,11 +12,11 @@ at_most_double : (n : ℕ) → fibonacci (suc (suc n)) ≤ 2 * fibonacci (suc n)
 unfolding fibonacci
 at_most_double n = let less = fibonacci_grows n in omega arith
 
-doubles : (n : ℕ) → fibonacci (suc (suc (suc (suc (suc (suc (suc n))))))) ≤ 13 * 2 ^ n
+doubles : (n : ℕ) → fibonacci (suc (suc (suc (suc (suc (suc (suc (suc (suc (suc n)))))))))) ≤ 55 * 2 ^ n
 unfolding fibonacci
 doubles zero = lit≤ tt
 doubles (suc n) =
-    let twice = at_most_double (suc (suc (suc (suc (suc (suc n)))))) in
+    let twice = at_most_double (suc (suc (suc (suc (suc (suc (suc (suc (suc n))))))))) in
     let before = doubles n in
     rw pow-suc (omega (arith, twice, before))
 
@@ -24,13 +24,13 @@ pub up_to : (n k : ℕ) → fibonacci n ≤ fibonacci (k + n)
 up_to n zero = rw zero-add (omega arith)
 up_to n (suc k) = rw suc-add (omega (arith, up_to n k, fibonacci_grows (k + n)))
 
--- those up to the sixty-seventh fit 64 bits
-pub fibonacci_fits : (n : ℕ) → n ≤ 67 → fibonacci n < 2 ^ 64
+-- those up to the sixty-eighth fit 64 bits
+pub fibonacci_fits : (n : ℕ) → n ≤ 68 → fibonacci n < 2 ^ 64
 fibonacci_fits n le =
-    let split : (67 - n) + n ≡ 67 = omega arith in
-    let last : fibonacci 67 ≤ 13 * 2 ^ 60 = doubles 60 in
-    let below = rw split at (up_to n (67 - n)) in
-    let numeral : 13 * 2 ^ 60 < 2 ^ 64 = lit< tt in
+    let split : (68 - n) + n ≡ 68 = omega arith in
+    let last : fibonacci 68 ≤ 55 * 2 ^ 58 = doubles 58 in
+    let below = rw split at (up_to n (68 - n)) in
+    let numeral : 55 * 2 ^ 58 < 2 ^ 64 = lit< tt in
     omega (arith, below, last, numeral)
 
 pub fibonacci_next : (n : ℕ) → fibonacci (n + 1 + 1) ≡ fibonacci n + fibonacci (n + 1)

@@ -3,6 +3,7 @@ pub mod Fibonacci
 pub mod SlotLists
 pub mod SlotSteps
 pub mod PieceCounts
+pub mod PieceWays
 pub mod StepLaws
 pub mod Filling
 pub mod StoreCalls

@@ -179,13 +179,13 @@ first_carry meaning old new m None r joined low piece some long short join =
     let len : rope_len (table_of meaning new) joined ≡ rope_len t r = omega (arith, join.len) in
     let bal : fibonacci (rope_depth t r + 2) ≤ rope_len t r = elim piece.shallow [
       | inl leaf ↦ rw leaf (omega (arith, piece.some, first_ones.1))
-      | inr (one, many) ↦ rw one (omega (arith, many, first_ones.2))
+      | inr fits ↦ let up = fibonacci_up (rope_depth t r + 2) (rope_depth t r + 3) (omega arith) in omega (arith, up, fits)
     ] in
     record {
       some = some;
       shallow = elim piece.shallow [
         | inl leaf ↦ omega (arith, leaf, some, depth)
-        | inr (one, many) ↦ omega (arith, one, some, depth)
+        | inr fits ↦ let below = fibonacci_below (rope_depth t r + 3) (m + 1) (omega (arith, fits, short)) in omega (arith, below, depth)
       ];
       long = omega (arith, long, len);
       balanced = rw (depth, len) bal;
@@ -198,7 +198,7 @@ first_carry meaning old new m (Some l) (Some r) joined low piece some long short
     let n = len_at t l.0 + len_at t r.0 in
     let room : (dr ≡ 0) ⊎ (dr + 3 ≤ m) = elim piece.shallow [
       | inl leaf ↦ inl leaf
-      | inr (one, many) ↦ let above = fibonacci_below 4 (m + 1) (omega (arith, first_ones.3, many, short)) in inr (omega (arith, one, above))
+      | inr fits ↦ let below = fibonacci_below (dr + 3) (m + 1) (omega (arith, fits, short)) in inr (omega (arith, below))
     ] in
     let left : fibonacci (dl + 3) ≤ n =
     let up = fibonacci_up (dl + 2) m low.0 in
@@ -293,6 +293,15 @@ piece_kept old new x (Some id) piece = record {
   some = rw (len_kept old new x id.0 piece.there) piece.some;
   shallow = rw (depth_kept old new x id.0 piece.there, len_kept old new x id.0 piece.there) piece.shallow;
 }
+
+-- a piece is far from too deep
+pub piece_shallow : (t : Table) → IsSound t → (rope : Option NodeId) → IsPiece t rope → rope_depth t rope < 64
+piece_shallow t s rope piece =
+    let short = rope_short t s rope piece.there in
+    elim piece.shallow [
+      | inl leaf ↦ omega (arith, leaf)
+      | inr fits ↦ let below = fibonacci_below (rope_depth t rope + 3) 60 (omega (arith, fits, short, sixtieth)) in omega (arith, below)
+    ]
 
 pub piece_len_kept : (old new : Table) → Extends old new → (rope : Option NodeId) → IsRope old rope → rope_len new rope ≡ rope_len old rope
 piece_len_kept old new x None there = refl

@@ -16,7 +16,11 @@ use Rattle.rope_store.specs.Additions.{Addition, Makes, pool_with, new_node, inn
 use Rattle.rope_store.specs.Refusals.{Refuses, IsTooDeep, deepest}
 use Rattle.leaf_buffer.proofs.Appending.{appended_bytes}
 use Rattle.rope_store.proofs.PartTexts.{some_part}
+use Rattle.rope_node.specs.Balance.{fibonacci}
+use Rattle.rebalance.specs.declared.pieces.Span.{Span}
+use Rattle.rebalance.specs.Pieces.{IsWhole}
 use Rattle.rebalance.specs.Slots.{IsPiece}
+use Rattle.rebalance.proofs.Fibonacci.{first_ones}
 use Rattle.rebalance.specs.Steps.{IsStepFault, Grows, Steps}
 
 pool_grown : (pool : Contents) (in_place : Bool) (bytes : List ℕ) → length (pool_with pool in_place bytes).bytes ≡ length pool.bytes + length bytes
@@ -76,18 +80,29 @@ pub one_piece : {F : Type 0} (meaning : F → ℕ → ℕ) (old new : Held F) (a
 one_piece meaning old new a r wanted (Err e) one is some shallow made = tt
 one_piece meaning old new a r wanted (Ok rope) one is some shallow made =
     let at = one_made meaning old new a r wanted rope one is made in
-    record { there = made.is_rope; some = rw at.0 some; shallow = rw (at.1, at.0) shallow }
+    let fits : (r.depth ≡ 0) ⊎ (fibonacci (r.depth + 3) ≤ r.len) = elim shallow [
+      | inl leaf ↦ inl leaf
+      | inr (one_deep, many) ↦ inr (rw one_deep (omega (arith, first_ones.3, many)))
+    ] in
+    record { there = made.is_rope; some = rw at.0 some; shallow = rw (at.1, at.0) fits }
 
--- a leaf as a whole
-pub whole_piece : (t : Table) → IsSound t → HasTrueRecords t → (leaf : NodeId) → leaf.0 < length t.nodes → (v : NodeView) → v ≡ view_at t leaf.0 → IsLeaf v → IsPiece t (Some leaf)
-whole_piece t s h leaf there v is holds = record { there = there; some = (s.nodes leaf.0 there).not_empty; shallow = inl ((h.nodes leaf.0 there).depth ∙ ap (depth_of t) (sym is) ∙ no_depth v holds) }
-  where
-    no_depth : (w : NodeView) → IsLeaf w → depth_of t w ≡ 0
-    no_depth (Lit a) k = refl
-    no_depth (Src s' a) k = refl
-    no_depth Fun k = refl
-    no_depth (Cat l r) k = absurd k
-    no_depth (Sub b i) k = absurd k
+no_depth : (t : Table) (v : NodeView) → IsLeaf v → depth_of t v ≡ 0
+no_depth t (Lit a) k = refl
+no_depth t (Src s' a) k = refl
+no_depth t Fun k = refl
+no_depth t (Cat l r) k = absurd k
+no_depth t (Sub b i) k = absurd k
+
+-- a node as a whole
+pub whole_piece : (t : Table) → IsSound t → HasTrueRecords t → (p : Span) → p.node.0 < length t.nodes → p.len ≡ len_at t p.node.0 → IsLeaf (view_at t p.node.0) ⊎ IsWhole t p → IsPiece t (Some p.node)
+whole_piece t s h p there all is = record {
+  there = there;
+  some = (s.nodes p.node.0 there).not_empty;
+  shallow = elim is [
+    | inl leaf ↦ inl ((h.nodes p.node.0 there).depth ∙ no_depth t (view_at t p.node.0) leaf)
+    | inr whole ↦ inr (omega (arith, whole.1, all))
+  ];
+}
 
 -- what a part of a leaf adds
 pub record IsLeafPart {F : Type 0} (t : Table) (n : ℕ) (a : Addition F) : Type 0 where

@@ -1,16 +1,17 @@
 -- What a call does that balances the ropes handed in where they would make one that is too deep.
-use Rattle.std.specs.Prelude.{◌≡◌, ◌↔◌, ◌⊎◌, ℕ, ◌+◌, ◌*◌, ◌^◌, ◌<◌, ◌≤◌, List, [], ◌∷◌, ◌++◌, map, length, slice_range, Option, Result, Ok, Err, IfOk, IfErr, IsErr, IsErrOf}
+use Rattle.std.specs.Prelude.{◌≡◌, ◌↔◌, ◌⊎◌, ℕ, ◌+◌, ◌*◌, ◌^◌, ◌<◌, ◌≤◌, List, [], ◌∷◌, ◌++◌, map, length, slice_range, take, drop, Option, Result, Ok, Err, IfOk, IfErr, IsErr, IsErrOf}
 use Rattle.rope_node.specs.declared.node.NodeId.{NodeId}
-use Rattle.rope_node.specs.Denotes.{Cell, Byte, rope_cells, IsRope}
+use Rattle.rope_node.specs.Denotes.{Cell, Byte, rope_cells, rope_depth, IsRope}
 use Rattle.node_table.specs.declared.fault.NodeFault.{NodeFault}
 use Rattle.node_table.specs.declared.fault.NodeFault.TheVariants.{TooLong, TooDeep, TableFull, PoolFull, BadSpan, TooManySources}
 use Rattle.node_table.specs.Held.{Held, table_of, most_nodes}
-use Rattle.rope_store.specs.Additions.{Addition, Makes}
+use Rattle.rope_store.specs.Additions.{Addition, Makes, part_added}
 use Rattle.rope_store.specs.Appending.{IsAppend, IsTooLong}
 use Rattle.rope_store.specs.Refusals.{Refuses, IsTooDeep}
 use Rattle.rebalance.specs.declared.fault.BalanceFault.{BalanceFault}
 use Rattle.rebalance.specs.declared.fault.BalanceFault.TheVariants.{TooManyPieces, Node}
-use Rattle.rebalance.specs.Pieces.{rope_pieces, most_pieces}
+use Rattle.rebalance.specs.Balancing.{Rebuilds}
+use Rattle.rebalance.specs.Pieces.{kept_pieces, part_pieces, most_pieces}
 use Rattle.rebalance.specs.Steps.{Grows, IsStepFault}
 
 -- a refusal of the store told as one of these calls
@@ -59,6 +60,19 @@ pub record AnyForm {F : Type 0} (meaning : F → ℕ → ℕ) (old : Held F) (a 
   pub no_bad_span : ¬ IsErrOf result (Node BadSpan)
   pub no_source : ¬ IsErrOf result (Node TooManySources)
 
+-- ---- a part of a rope
+
+-- The plain call takes these bytes of a node in which all of them lie and that is not deeper: so many, from start on. Where that is too
+-- deep they are put together alone.
+pub record PartsAny {F : Type 0} (meaning : F → ℕ → ℕ) (old : Held F) (x : Option NodeId) (i n : ℕ) (result : Result (Option NodeId) BalanceFault) (new : Held F) : Type 0 where
+  pub inner : Option NodeId
+  pub start : ℕ
+  pub count : ℕ
+  pub there : IsRope (table_of meaning old) inner
+  pub no_deeper : rope_depth (table_of meaning old) inner ≤ rope_depth (table_of meaning old) x
+  pub any : AnyForm meaning old (part_added (table_of meaning old) inner start count) (take n (drop i (rope_cells (table_of meaning old) x))) ⊥ (part_pieces (table_of meaning old) x i n) 0 0 result new
+  pub rebuilt : IsTooDeep (part_added {F = F} (table_of meaning old) inner start count) → Rebuilds meaning old (take n (drop i (rope_cells (table_of meaning old) x))) (part_pieces (table_of meaning old) x i n) result new
+
 -- ---- bytes put behind a rope
 
 -- the rope alone
@@ -75,4 +89,4 @@ IsPlaced pool place (b ∷ bs) = slice_range pool place (place + length (b ∷ b
 pub record AppendsAny {F : Type 0} (meaning : F → ℕ → ℕ) (old : Held F) (x : Option NodeId) (bytes : List ℕ) (result : Result (Option NodeId) BalanceFault) (new : Held F) : Type 0 where
   pub addition : Addition F
   pub is : ¬ IsTooLong (table_of meaning old) x bytes → IsAppend old.pool (table_of meaning old) x bytes addition
-  pub any : AnyForm meaning old addition (rope_cells (table_of meaning old) x ++ map Byte bytes) (IsTooLong (table_of meaning old) x bytes) (rope_pieces (table_of meaning old) x) 0 (length bytes + 31) result new
+  pub any : AnyForm meaning old addition (rope_cells (table_of meaning old) x ++ map Byte bytes) (IsTooLong (table_of meaning old) x bytes) (kept_pieces (table_of meaning old) x) 0 (length bytes + 31) result new

@@ -1,9 +1,9 @@
--- What balancing a rope does.
-use Rattle.std.specs.Prelude.{◌≡◌, ◌↔◌, ℕ, ◌+◌, ◌*◌, ◌^◌, ◌<◌, ◌≤◌, length, Option, Some, None, Result, IfOk, IsErrOf}
+-- What putting a rope together anew does.
+use Rattle.std.specs.Prelude.{◌≡◌, ◌↔◌, ℕ, ◌+◌, ◌*◌, ◌^◌, ◌<◌, ◌≤◌, List, length, Option, Some, None, Result, IfOk, IsErrOf}
 use Rattle.rope_node.specs.declared.node.NodeId.{NodeId}
 use Rattle.rope_node.specs.Balance.{fibonacci}
 use Rattle.rope_node.specs.Table.{Table, len_at, depth_at}
-use Rattle.rope_node.specs.Denotes.{rope_cells, IsRope}
+use Rattle.rope_node.specs.Denotes.{Cell, rope_cells, IsRope}
 use Rattle.rope_node.specs.Extends.{Extends}
 use Rattle.node_table.specs.declared.fault.NodeFault.TheVariants.{TooLong, TooDeep, TableFull, PoolFull, BadSpan, TooManySources}
 use Rattle.node_table.specs.Held.{Held, table_of, most_nodes}
@@ -16,20 +16,24 @@ abbrev pub IsNearlyBalanced : Table → Option NodeId → Type 0
 IsNearlyBalanced t None = Unit {0}
 IsNearlyBalanced t (Some id) = fibonacci (depth_at t id.0 + 1) ≤ len_at t id.0
 
--- a shallow rope of the same text is answered, or why there is none; what was there is kept
-pub record Rebalances {F : Type 0} (meaning : F → ℕ → ℕ) (old : Held F) (rope : Option NodeId) (result : Result (Option NodeId) BalanceFault) (new : Held F) : Type 0 where
+-- a shallow rope of this text is answered, put together from p pieces, or why there is none; what was there is kept
+pub record Rebuilds {F : Type 0} (meaning : F → ℕ → ℕ) (old : Held F) (wanted : List Cell) (p : ℕ) (result : Result (Option NodeId) BalanceFault) (new : Held F) : Type 0 where
   pub is_rope : IfOk result (λ r. IsRope (table_of meaning new) r)
-  pub text : IfOk result (λ r. rope_cells (table_of meaning new) r ≡ rope_cells (table_of meaning old) rope)
+  pub text : IfOk result (λ r. rope_cells (table_of meaning new) r ≡ wanted)
   pub shallow : IfOk result (λ r. IsNearlyBalanced (table_of meaning new) r)
   pub kept : Extends (table_of meaning old) (table_of meaning new)
   pub sources : new.sources ≡ old.sources
-  pub few_nodes : length new.nodes ≤ length old.nodes + 2 * rope_pieces (table_of meaning old) rope
-  pub few_bytes : length new.pool.bytes ≤ length old.pool.bytes + 31 * rope_pieces (table_of meaning old) rope
-  pub too_many : IsErrOf result TooManyPieces ↔ (most_pieces < rope_pieces (table_of meaning old) rope)
+  pub few_nodes : length new.nodes ≤ length old.nodes + 2 * p
+  pub few_bytes : length new.pool.bytes ≤ length old.pool.bytes + 31 * p
+  pub too_many : IsErrOf result TooManyPieces ↔ (most_pieces < p)
   pub unchanged : IsErrOf result TooManyPieces → new ≡ old
-  pub table_full : IsErrOf result (Node TableFull) → most_nodes < length old.nodes + 2 * rope_pieces (table_of meaning old) rope
-  pub pool_full : IsErrOf result (Node PoolFull) → 2 ^ 32 ≤ length old.pool.bytes + 31 * rope_pieces (table_of meaning old) rope
+  pub table_full : IsErrOf result (Node TableFull) → most_nodes < length old.nodes + 2 * p
+  pub pool_full : IsErrOf result (Node PoolFull) → 2 ^ 32 ≤ length old.pool.bytes + 31 * p
   pub not_long : ¬ IsErrOf result (Node TooLong)
   pub not_deep : ¬ IsErrOf result (Node TooDeep)
   pub no_bad_span : ¬ IsErrOf result (Node BadSpan)
   pub no_source : ¬ IsErrOf result (Node TooManySources)
+
+-- a rope put together from its leaf spans
+abbrev pub Rebalances : {F : Type 0} → (F → ℕ → ℕ) → Held F → Option NodeId → Result (Option NodeId) BalanceFault → Held F → Type 0
+Rebalances meaning old rope result new = Rebuilds meaning old (rope_cells (table_of meaning old) rope) (rope_pieces (table_of meaning old) rope) result new

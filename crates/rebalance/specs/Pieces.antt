@@ -1,31 +1,73 @@
--- How many leaf spans a text goes through.
-use Rattle.std.specs.Prelude.{ℕ, zero, suc, ◌+◌, ◌-◌, min, Option, Some, None}
+-- The pieces that a text goes through: spans of leaves and, where nodes are kept, whole nodes that are longer than their depth asks for.
+use Rattle.std.specs.Prelude.{◌≡◌, ◌⊎◌, ℕ, zero, suc, ◌+◌, ◌-◌, ◌<◌, ◌≤◌, min, Bool, true, false, ◌&&◌, nat_eq, nat_le, if◌then◌else◌, length, take, drop, Option, Some, None}
 use Rattle.rope_node.specs.declared.node.NodeId.{NodeId}
 use Rattle.rope_node.specs.declared.node.NodeView.{NodeView}
 use Rattle.rope_node.specs.declared.node.NodeView.TheVariants.{Lit, Src, Fun, Cat, Sub}
-use Rattle.rope_node.specs.Table.{Table, view_at, len_at}
+use Rattle.rope_node.specs.Balance.{fibonacci}
+use Rattle.rope_node.specs.Table.{Table, view_at, len_at, depth_at, IsLeaf}
+use Rattle.rope_node.specs.Denotes.{cells}
+use Rattle.rebalance.specs.declared.pieces.Span.{Span}
 
--- how many leaf spans the n bytes of a node from i on go through, where below counts those of a child
+-- whether the n bytes of a node from i on are a piece: where nodes are kept, all of one whose length is at least the Fibonacci number
+-- at its depth and three
+abbrev pub is_kept : Bool → Table → ℕ → ℕ → ℕ → Bool
+is_kept keep t id i n = keep && (nat_eq i 0 && (nat_eq n (len_at t id) && nat_le (fibonacci (depth_at t id + 3)) n))
+
+-- how many pieces the n bytes of a node from i on go through, where below counts those of a child
 abbrev pub node_pieces : Table → (ℕ → ℕ → ℕ → ℕ) → ℕ → ℕ → NodeView → ℕ
-node_pieces t below i zero v = 0
-node_pieces t below i (suc n) (Lit a) = 1
-node_pieces t below i (suc n) (Src s a) = 1
-node_pieces t below i (suc n) Fun = 1
-node_pieces t below i (suc n) (Cat l r) = below l.0 i (min (suc n) (len_at t l.0 - i)) + below r.0 (i - len_at t l.0) (suc n - (len_at t l.0 - i))
-node_pieces t below i (suc n) (Sub b start) = below b.0 (start + i) (suc n)
+node_pieces t below i n (Lit a) = 1
+node_pieces t below i n (Src s a) = 1
+node_pieces t below i n Fun = 1
+node_pieces t below i n (Cat l r) = below l.0 i (min n (len_at t l.0 - i)) + below r.0 (i - len_at t l.0) (n - (len_at t l.0 - i))
+node_pieces t below i n (Sub b start) = below b.0 (start + i) n
 
-abbrev pub pieces_in : Table → ℕ → ℕ → ℕ → ℕ → ℕ
-pieces_in t zero id i n = 0
-pieces_in t (suc steps) id i n = node_pieces t (pieces_in t steps) i n (view_at t id)
+abbrev pub pieces_in : Bool → Table → ℕ → ℕ → ℕ → ℕ → ℕ
+pieces_in keep t zero id i n = 0
+pieces_in keep t (suc steps) id i zero = 0
+pieces_in keep t (suc steps) id i (suc n) = if is_kept keep t id i (suc n) then 1 else node_pieces t (pieces_in keep t steps) i (suc n) (view_at t id)
 
-abbrev pub pieces : Table → ℕ → ℕ → ℕ → ℕ
-pieces t id i n = pieces_in t (suc id) id i n
+abbrev pub pieces : Bool → Table → ℕ → ℕ → ℕ → ℕ
+pieces keep t id i n = pieces_in keep t (suc id) id i n
 
 -- all of a rope's
+abbrev pub all_pieces : Bool → Table → Option NodeId → ℕ
+all_pieces keep t None = 0
+all_pieces keep t (Some id) = pieces keep t id.0 0 (len_at t id.0)
+
+-- a rope's leaf spans
 abbrev pub rope_pieces : Table → Option NodeId → ℕ
-rope_pieces t None = 0
-rope_pieces t (Some id) = pieces t id.0 0 (len_at t id.0)
+rope_pieces t rope = all_pieces false t rope
+
+-- a rope's pieces where nodes are kept, and those of its bytes from i on, at most n
+abbrev pub kept_pieces : Table → Option NodeId → ℕ
+kept_pieces t rope = all_pieces true t rope
+
+abbrev pub part_pieces : Table → Option NodeId → ℕ → ℕ → ℕ
+part_pieces t None i n = 0
+part_pieces t (Some id) i n = pieces true t id.0 i (min n (len_at t id.0 - i))
 
 -- the most that a rope is put together from
 abbrev pub most_pieces : ℕ
 most_pieces = 1048576
+
+-- all of a node whose length is at least the Fibonacci number at its depth and three, or a span of a leaf
+abbrev pub IsWhole : Table → Span → Type 0
+IsWhole t p = (p.len ≡ len_at t p.node.0) × (fibonacci (depth_at t p.node.0 + 3) ≤ p.len)
+
+-- the first piece of the n bytes of a node from i on
+pub record IsFirst (keep : Bool) (t : Table) (id i n : ℕ) (p : Span) : Type 0 where
+  pub there : p.node.0 < length t.nodes
+  pub is : IsLeaf (view_at t p.node.0) ⊎ IsWhole t p
+  pub some : 1 ≤ p.len
+  pub few : p.len ≤ n
+  pub inside : p.start + p.len ≤ len_at t p.node.0
+  pub cells : take p.len (drop i (cells t id)) ≡ take p.len (drop p.start (cells t p.node.0))
+  pub count : pieces keep t id i n ≡ 1 + pieces keep t id (i + p.len) (n - p.len)
+
+-- these bytes are the same n as those of a node from i on, and are not in a deeper one
+pub record IsWithin (t : Table) (id i n : ℕ) (p : Span) : Type 0 where
+  pub there : p.node.0 < length t.nodes
+  pub inside : p.start + p.len ≤ len_at t p.node.0
+  pub len : p.len ≡ n
+  pub cells : take n (drop i (cells t id)) ≡ take n (drop p.start (cells t p.node.0))
+  pub shallow : depth_at t p.node.0 ≤ depth_at t id

@@ -47,11 +47,11 @@ pub record IsCarried (t : Table) (m : ℕ) (rope : Option NodeId) : Type 0 where
   pub long : fibonacci m ≤ rope_len t rope
   pub balanced : IsBalanced (rope_len t rope) (rope_depth t rope)
 
--- a leaf, or a rope of depth 1 and of 32 bytes or more
+-- a leaf, or a rope whose length is at least the Fibonacci number at its depth and three
 pub record IsPiece (t : Table) (rope : Option NodeId) : Type 0 where
   pub there : IsRope t rope
   pub some : 1 ≤ rope_len t rope
-  pub shallow : (rope_depth t rope ≡ 0) ⊎ ((rope_depth t rope ≡ 1) × (32 ≤ rope_len t rope))
+  pub shallow : (rope_depth t rope ≡ 0) ⊎ (fibonacci (rope_depth t rope + 3) ≤ rope_len t rope)
 
 -- the depth of two ropes put together
 abbrev pub joined_depth : Table → Option NodeId → Option NodeId → ℕ

@@ -1,19 +1,20 @@
 //! The store's calls, for ropes that may be too deep for them.
 
-ghost use Rattle.std.specs.Prelude.{◌≡◌, ◌↔◌, ◌+◌, ◌^◌, ◌<◌, ◌≤◌, ◌++◌, length, map, take, drop, [], IsTrue, IfOk, IsErrOf};
+ghost use Rattle.std.specs.Prelude.{◌≡◌, ◌↔◌, ◌+◌, ◌^◌, ◌<◌, ◌≤◌, ◌++◌, length, map, [], Some, IsTrue, IfOk, IsErrOf};
+ghost use Rattle.rope_node.specs.Table.{len_at};
 ghost use Rattle.rope_node.specs.Denotes.{Byte, rope_cells, rope_len, IsRope};
 ghost use Rattle.node_table.specs.Held.{table_of};
-ghost use Rattle.rope_store.specs.Additions.{part_added};
 ghost use Rattle.rope_store.specs.Appending.{IsTooLong};
 ghost use Rattle.rope_store.specs.Joining.{joined};
-ghost use Rattle.rebalance.specs.AnyForms.{AnyForm, Anew, AppendsAny, IsPlaced, lifted, ropes_of};
-ghost use Rattle.rebalance.specs.Pieces.{rope_pieces};
+ghost use Rattle.rebalance.specs.AnyForms.{AnyForm, Anew, AppendsAny, IsPlaced, PartsAny, lifted, ropes_of};
+ghost use Rattle.rebalance.specs.Pieces.{kept_pieces, IsWithin};
 
-use crate::balancing::balance;
+use crate::balancing::{balance_by, balance_part};
 use crate::fault::BalanceFault;
+use crate::pieces::Span;
 use function_leaf::LeafFn;
 use node_table::NodeFault;
-use rope_node::{NodeSpace, Rope};
+use rope_node::{NodeId, NodeSpace, NodeView, Rope};
 use rope_store::Store;
 
 /// Whether the store refused a rope as too deep.
@@ -39,16 +40,17 @@ fn lift(plain: Result<Rope, NodeFault>) -> Result<Rope, BalanceFault>
     }
 }
 
-/// `cat` of the store. Where the node over both would be too deep, `l` and then `r` are balanced first.
+/// `cat` of the store. Where the node over both would be too deep, `l` and then `r` are balanced first, from leaf spans and from whole
+/// nodes whose length is at least the Fibonacci number at their depth and three.
 ///
 /// # Errors
 ///
-/// `TooManyPieces` where a rope that has to be balanced goes through more than 1,048,576 leaf spans; `TooLong`, `TableFull`, `PoolFull`,
+/// `TooManyPieces` where a rope that has to be balanced goes through more than 1,048,576 such pieces; `TooLong`, `TableFull`, `PoolFull`,
 /// `Memory` of the store. Where a rope was balanced the store may then have more nodes and bytes.
 pub fn cat_any<F: LeafFn>(store: &mut Store<F>, l: Rope, r: Rope) -> Result<Rope, BalanceFault>
     requires left { IsRope (table_of F.meaning store.old) l }
     requires right { IsRope (table_of F.meaning store.old) r }
-    ensures { AnyForm F.meaning store.old (joined (table_of F.meaning store.old) l r) (rope_cells (table_of F.meaning store.old) l ++ rope_cells (table_of F.meaning store.old) r) (2 ^ 40 ≤ rope_len (table_of F.meaning store.old) l + rope_len (table_of F.meaning store.old) r) (rope_pieces (table_of F.meaning store.old) l) (rope_pieces (table_of F.meaning store.old) r) 31 result store.new }
+    ensures { AnyForm F.meaning store.old (joined (table_of F.meaning store.old) l r) (rope_cells (table_of F.meaning store.old) l ++ rope_cells (table_of F.meaning store.old) r) (2 ^ 40 ≤ rope_len (table_of F.meaning store.old) l + rope_len (table_of F.meaning store.old) r) (kept_pieces (table_of F.meaning store.old) l) (kept_pieces (table_of F.meaning store.old) r) 31 result store.new }
 {
     let _count = store.count();
     let plain = store.cat(l, r);
@@ -63,22 +65,23 @@ fn cat_anew<F: LeafFn>(store: &mut Store<F>, l: Rope, r: Rope) -> Result<Rope, B
     requires left { IsRope (table_of F.meaning store.old) l }
     requires right { IsRope (table_of F.meaning store.old) r }
     requires short { rope_len (table_of F.meaning store.old) l + rope_len (table_of F.meaning store.old) r < 2 ^ 40 }
-    ensures { Anew F.meaning store.old (rope_cells (table_of F.meaning store.old) l ++ rope_cells (table_of F.meaning store.old) r) (rope_pieces (table_of F.meaning store.old) l) (rope_pieces (table_of F.meaning store.old) r) 31 result store.new }
+    ensures { Anew F.meaning store.old (rope_cells (table_of F.meaning store.old) l ++ rope_cells (table_of F.meaning store.old) r) (kept_pieces (table_of F.meaning store.old) l) (kept_pieces (table_of F.meaning store.old) r) 31 result store.new }
 {
     let _count = store.count();
-    let left = balance(store, l)?;
+    let left = balance_by(store, l, true)?;
     let _count = store.count();
-    let right = balance(store, r)?;
+    let right = balance_by(store, r, true)?;
     let _count = store.count();
     Ok(store.cat(left, right)?)
 }
 
-/// `substr` of the store. Where the part would be too deep, `x` is balanced first.
+/// `substr` of the store, taken of the lowest node that all the bytes lie in: all of a node gives that node. Where the part would be too
+/// deep, the bytes are balanced alone, from pieces as in `cat_any`.
 ///
 /// # Errors
 ///
-/// `TooManyPieces` where the rope has to be balanced and goes through more than 1,048,576 leaf spans; `TableFull`, `PoolFull`, `Memory`
-/// of the store. Where the rope was balanced the store may then have more nodes and bytes.
+/// `TooManyPieces` where the bytes have to be balanced and go through more than 1,048,576 pieces; `TableFull`, `PoolFull`, `Memory` of
+/// the store. Where they were balanced the store may then have more nodes and bytes.
 pub fn substr_any<F: LeafFn>(
     store: &mut Store<F>,
     x: Rope,
@@ -86,30 +89,87 @@ pub fn substr_any<F: LeafFn>(
     n: u64,
 ) -> Result<Rope, BalanceFault>
     requires { IsRope (table_of F.meaning store.old) x }
-    ensures { AnyForm F.meaning store.old (part_added (table_of F.meaning store.old) x i n) (take n (drop i (rope_cells (table_of F.meaning store.old) x))) ⊥ (rope_pieces (table_of F.meaning store.old) x) 0 0 result store.new }
+    ensures { PartsAny F.meaning store.old x i n result store.new }
 {
     let _count = store.count();
-    let plain = store.substr(x, i, n);
+    if let Some(node) = x {
+        let rest = NodeSpace::len(store, node).saturating_sub(i);
+        let len = n.min(rest);
+        if len > 0 {
+            return part_any(store, node, i, len);
+        }
+    }
+    lift(store.substr(x, i, n))
+}
+
+/// The bytes of a node from `start` on: one or more.
+fn part_any<F: LeafFn>(
+    store: &mut Store<F>,
+    node: NodeId,
+    start: u64,
+    len: u64,
+) -> Result<Rope, BalanceFault>
+    requires there { node.0 < length store.old.nodes }
+    requires some { 1 ≤ len }
+    requires inside { start + len ≤ len_at (table_of F.meaning store.old) node.0 }
+    ensures { PartsAny F.meaning store.old (Some node) start len result store.new }
+{
+    let _count = store.count();
+    let span = lowest(store, node, start, len);
+    let plain = store.substr(Some(span.node), span.start, len);
     if is_too_deep(plain) {
-        return substr_anew(store, x, i, n);
+        return balance_part(store, true, node, start, len);
     }
     lift(plain)
 }
 
-/// `substr` of the rope once it is balanced.
-fn substr_anew<F: LeafFn>(
-    store: &mut Store<F>,
-    x: Rope,
-    i: u64,
-    n: u64,
-) -> Result<Rope, BalanceFault>
-    requires { IsRope (table_of F.meaning store.old) x }
-    ensures { Anew F.meaning store.old (take n (drop i (rope_cells (table_of F.meaning store.old) x))) (rope_pieces (table_of F.meaning store.old) x) 0 0 result store.new }
+/// These bytes of a node in the lowest node that all of them lie in.
+fn lowest<F: LeafFn>(store: &Store<F>, node: NodeId, start: u64, len: u64) -> Span
+    requires there { node.0 < length store.now.nodes }
+    requires some { 1 ≤ len }
+    requires inside { start + len ≤ len_at (table_of F.meaning store.now) node.0 }
+    ensures { IsWithin (table_of F.meaning store.now) node.0 start len result }
 {
     let _count = store.count();
-    let rope = balance(store, x)?;
-    let _count = store.count();
-    Ok(store.substr(rope, i, n)?)
+    let mut below = node;
+    let mut place = start;
+    'down: loop {
+        if len == NodeSpace::len(store, below) {
+            return Span {
+                node: below,
+                start: place,
+                len,
+            };
+        }
+        match store.node(below) {
+            NodeView::Cat { l, r } => {
+                let left = NodeSpace::len(store, l);
+                if left <= place {
+                    below = r;
+                    place -= left;
+                } else if len <= left - place {
+                    below = l;
+                } else {
+                    return Span {
+                        node: below,
+                        start: place,
+                        len,
+                    };
+                }
+            }
+            NodeView::Sub { b, i } => {
+                below = b;
+                place += i;
+            }
+            NodeView::Lit { .. } | NodeView::Src { .. } | NodeView::Fun => {
+                return Span {
+                    node: below,
+                    start: place,
+                    len,
+                };
+            }
+        }
+    }
 }
 
 /// `append` of the store, and the pool's place where the bytes then stand, 0 for none. Where the node over both would be too deep, `x`
@@ -117,7 +177,7 @@ fn substr_anew<F: LeafFn>(
 ///
 /// # Errors
 ///
-/// `TooManyPieces` where the rope has to be balanced and goes through more than 1,048,576 leaf spans; `TooLong`, `TableFull`,
+/// `TooManyPieces` where the rope has to be balanced and goes through more than 1,048,576 such pieces; `TooLong`, `TableFull`,
 /// `PoolFull`, `Memory` of the store. Where the rope was balanced the store may then have more nodes and bytes.
 pub fn append_any<F: LeafFn>(
     store: &mut Store<F>,
@@ -157,11 +217,11 @@ fn append_anew<F: LeafFn>(
 ) -> Result<(Rope, u64), BalanceFault>
     requires there { IsRope (table_of F.meaning store.old) x }
     requires short { ¬ IsTooLong (table_of F.meaning store.old) x bytes.now }
-    ensures anew { Anew F.meaning store.old (rope_cells (table_of F.meaning store.old) x ++ map Byte bytes.now) (rope_pieces (table_of F.meaning store.old) x) 0 (length bytes.now + 31) (ropes_of result) store.new }
+    ensures anew { Anew F.meaning store.old (rope_cells (table_of F.meaning store.old) x ++ map Byte bytes.now) (kept_pieces (table_of F.meaning store.old) x) 0 (length bytes.now + 31) (ropes_of result) store.new }
     ensures place { IfOk result (λ p. IsPlaced store.new.pool.bytes p.1 bytes.now) }
 {
     let _count = store.count();
-    let rope = balance(store, x)?;
+    let rope = balance_by(store, x, true)?;
     let _count = store.count();
     let place = next_place(store, bytes);
     let longer = store.append(rope, bytes)?;

@@ -5,7 +5,7 @@ ghost use Rattle.rope_node.specs.Balance.{fibonacci, IsBalanced};
 
 /// The Fibonacci number at `n`.
 pub(crate) fn fibonacci(n: u8) -> u64
-    requires { n ≤ 66 }
+    requires { n ≤ 67 }
     ensures { result ≡ fibonacci n }
 {
     let mut number: u64 = 0;

@@ -1,20 +1,20 @@
 //! A rope put together anew.
 
-ghost use Rattle.std.specs.Prelude.{◌≡◌, ◌+◌, ◌*◌, ◌<◌, ◌≤◌, [], length, IfOk, None};
+ghost use Rattle.std.specs.Prelude.{◌≡◌, ◌+◌, ◌*◌, ◌<◌, ◌≤◌, [], length, take, drop, IfOk, None};
 ghost use Rattle.rope_node.specs.Table.{len_at};
 ghost use Rattle.rope_node.specs.Denotes.{cells, rope_cells, IsRope};
 ghost use Rattle.node_table.specs.Held.{table_of};
-ghost use Rattle.rebalance.specs.Balancing.{IsNearlyBalanced, Rebalances};
-ghost use Rattle.rebalance.specs.Pieces.{pieces};
+ghost use Rattle.rebalance.specs.Balancing.{IsNearlyBalanced, Rebalances, Rebuilds};
+ghost use Rattle.rebalance.specs.Pieces.{pieces, all_pieces};
 ghost use Rattle.rebalance.specs.Slots.{full_slots, slots_cells, AreSlots, IsSpread};
 ghost use Rattle.rebalance.specs.Steps.{Steps};
 
 use crate::fault::BalanceFault;
-use crate::pieces::{has_few_pieces, piece};
+use crate::pieces::{find_piece, has_few_pieces, piece};
 use crate::slots::{SLOTS, insert, join_below};
 use function_leaf::LeafFn;
 use node_table::NodeFault;
-use rope_node::{NodeId, NodeSpace, Rope, find_span};
+use rope_node::{NodeId, NodeSpace, Rope};
 use rope_store::Store;
 
 /// A rope of the same text that is about as shallow as its length allows: it is at least as long, in bytes, as the Fibonacci number at
@@ -29,48 +29,91 @@ pub fn balance<F: LeafFn>(store: &mut Store<F>, rope: Rope) -> Result<Rope, Bala
     requires { IsRope (table_of F.meaning store.old) rope }
     ensures { Rebalances F.meaning store.old rope result store.new }
 {
+    balance_by(store, rope, false)
+}
+
+/// As `balance`, by leaf spans or, where `keep` says so, with every node kept that is longer than its depth asks for.
+pub(crate) fn balance_by<F: LeafFn>(
+    store: &mut Store<F>,
+    rope: Rope,
+    keep: bool,
+) -> Result<Rope, BalanceFault>
+    requires { IsRope (table_of F.meaning store.old) rope }
+    ensures { Rebuilds F.meaning store.old (rope_cells (table_of F.meaning store.old) rope) (all_pieces keep (table_of F.meaning store.old) rope) result store.new }
+{
     let Some(node) = rope else {
         return Ok(None);
     };
-    if !has_few_pieces(store, node) {
-        return Err(BalanceFault::TooManyPieces);
-    }
-    Ok(rebuild(store, node)?)
+    let len = NodeSpace::len(store, node);
+    balance_part(store, keep, node, 0, len)
 }
 
-/// A node's text put together from its leaf spans.
-fn rebuild<F: LeafFn>(store: &mut Store<F>, node: NodeId) -> Result<Rope, NodeFault>
-    requires { node.0 < length store.old.nodes }
-    ensures steps { Steps F.meaning store.old (length store.old.nodes + 2 * pieces (table_of F.meaning store.old) node.0 0 (len_at (table_of F.meaning store.old) node.0)) (length store.old.pool.bytes + 31 * pieces (table_of F.meaning store.old) node.0 0 (len_at (table_of F.meaning store.old) node.0)) result store.new }
+/// The bytes of a node from `start` on as such a rope.
+pub(crate) fn balance_part<F: LeafFn>(
+    store: &mut Store<F>,
+    keep: bool,
+    node: NodeId,
+    start: u64,
+    len: u64,
+) -> Result<Rope, BalanceFault>
+    requires there { node.0 < length store.old.nodes }
+    requires inside { start + len ≤ len_at (table_of F.meaning store.old) node.0 }
+    ensures { Rebuilds F.meaning store.old (take len (drop start (cells (table_of F.meaning store.old) node.0))) (pieces keep (table_of F.meaning store.old) node.0 start len) result store.new }
+{
+    if !has_few_pieces(store, keep, node, start, len) {
+        return Err(BalanceFault::TooManyPieces);
+    }
+    Ok(rebuild(store, keep, node, start, len)?)
+}
+
+/// The bytes of a node from `start` on put together from their pieces.
+fn rebuild<F: LeafFn>(
+    store: &mut Store<F>,
+    keep: bool,
+    node: NodeId,
+    start: u64,
+    len: u64,
+) -> Result<Rope, NodeFault>
+    requires there { node.0 < length store.old.nodes }
+    requires inside { start + len ≤ len_at (table_of F.meaning store.old) node.0 }
+    ensures steps { Steps F.meaning store.old (length store.old.nodes + 2 * pieces keep (table_of F.meaning store.old) node.0 start len) (length store.old.pool.bytes + 31 * pieces keep (table_of F.meaning store.old) node.0 start len) result store.new }
     ensures is_rope { IfOk result (λ rope. IsRope (table_of F.meaning store.new) rope) }
-    ensures text { IfOk result (λ rope. rope_cells (table_of F.meaning store.new) rope ≡ cells (table_of F.meaning store.old) node.0) }
+    ensures text { IfOk result (λ rope. rope_cells (table_of F.meaning store.new) rope ≡ take len (drop start (cells (table_of F.meaning store.old) node.0))) }
     ensures shallow { IfOk result (λ rope. IsNearlyBalanced (table_of F.meaning store.new) rope) }
 {
     let _count = store.count();
     let mut slots = [None; 60];
-    fill(store, &mut slots, node)?;
+    fill(store, &mut slots, keep, node, start, len)?;
     let _count = store.count();
     join_below(store, &mut slots, SLOTS)
 }
 
-/// Puts the leaf spans of a node into slots, one behind the other.
-fn fill<F: LeafFn>(store: &mut Store<F>, slots: &mut [Rope], node: NodeId) -> Result<(), NodeFault>
+/// Puts the pieces of a node's bytes from `start` on into slots, one behind the other.
+fn fill<F: LeafFn>(
+    store: &mut Store<F>,
+    slots: &mut [Rope],
+    keep: bool,
+    node: NodeId,
+    start: u64,
+    len: u64,
+) -> Result<(), NodeFault>
     requires there { node.0 < length store.old.nodes }
+    requires inside { start + len ≤ len_at (table_of F.meaning store.old) node.0 }
     requires slots { AreSlots (table_of F.meaning store.old) slots.old }
     requires empty { slots_cells (table_of F.meaning store.old) slots.old ≡ [] }
     requires none { full_slots slots.old ≡ 0 }
-    ensures steps { Steps F.meaning store.old (length store.old.nodes + 2 * pieces (table_of F.meaning store.old) node.0 0 (len_at (table_of F.meaning store.old) node.0)) (length store.old.pool.bytes + 31 * pieces (table_of F.meaning store.old) node.0 0 (len_at (table_of F.meaning store.old) node.0)) result store.new }
-    ensures spread { IfOk result (λ _. IsSpread (table_of F.meaning store.new) (length store.old.nodes + 2 * pieces (table_of F.meaning store.old) node.0 0 (len_at (table_of F.meaning store.old) node.0)) (cells (table_of F.meaning store.old) node.0) 0 slots.new None) }
+    ensures steps { Steps F.meaning store.old (length store.old.nodes + 2 * pieces keep (table_of F.meaning store.old) node.0 start len) (length store.old.pool.bytes + 31 * pieces keep (table_of F.meaning store.old) node.0 start len) result store.new }
+    ensures spread { IfOk result (λ _. IsSpread (table_of F.meaning store.new) (length store.old.nodes + 2 * pieces keep (table_of F.meaning store.old) node.0 start len) (take len (drop start (cells (table_of F.meaning store.old) node.0))) 0 slots.new None) }
 {
-    let len = NodeSpace::len(store, node);
-    let mut place = 0;
-    while place < len {
+    let _len = NodeSpace::len(store, node);
+    let mut done = 0;
+    while done < len {
         let _count = store.count();
-        let span = find_span(store, node, place);
+        let span = find_piece(store, keep, node, start + done, len - done);
         let rope = piece(store, span)?;
         let _count = store.count();
         insert(store, slots, rope)?;
-        place += span.len;
+        done += span.len;
     }
     Ok(())
 }

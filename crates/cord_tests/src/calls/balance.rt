@@ -116,6 +116,64 @@ fn part_of_the_deepest_is_a_part(rt: HostRuntime) {
 }
 
 #[test]
+fn part_that_is_a_child_is_that_child(rt: HostRuntime) {
+    let mut store: Store<Coded> = Store::new(rt.alloc());
+    let made = chain(&mut store, 3);
+    let Some(rope) = rope_of(&rt, made) else {
+        return;
+    };
+    let count = store.count();
+    assert!(rt; store.has(rope));
+    let made = substr_any(&mut store, rope, 0, 2);
+    let Some(part) = rope_of(&rt, made) else {
+        return;
+    };
+    assert_shape(&rt, &store, part, 2, 1);
+    assert_eq!(rt; store.count(), count);
+}
+
+// a byte put in at this place
+fn typed(store: &mut Store<Coded>, rope: Rope, place: u64) -> Result<Rope, BalanceFault> {
+    if !store.has(rope) {
+        return Ok(None);
+    }
+    let front = substr_any(store, rope, 0, place)?;
+    if !store.has(front) {
+        return Ok(None);
+    }
+    let (longer, _) = append_any(store, front, b"x")?;
+    if !store.has(rope) {
+        return Ok(None);
+    }
+    let rest = substr_any(store, rope, place, u64::MAX)?;
+    if !store.has(longer) || !store.has(rest) {
+        return Ok(None);
+    }
+    cat_any(store, longer, rest)
+}
+
+#[test]
+fn a_key_in_the_middle_takes_three_nodes(rt: HostRuntime) {
+    let mut store: Store<Coded> = Store::new(rt.alloc());
+    let Ok(source) = store.add_source(1 << 20) else {
+        return;
+    };
+    let Ok(text) = store.from_source(u32::from(source), 0, 1 << 20) else {
+        return;
+    };
+    let mut rope = text;
+    for key in 0..1000 {
+        let made = typed(&mut store, rope, (1 << 19) + key);
+        let Some(longer) = rope_of(&rt, made) else {
+            return;
+        };
+        rope = longer;
+    }
+    assert_shape(&rt, &store, rope, (1 << 20) + 1000, 2);
+    assert!(rt; store.count() <= 3010);
+}
+
+#[test]
 fn most_pieces_are_taken(rt: HostRuntime) {
     let mut store: Store<Coded> = Store::new(rt.alloc());
     let made = doubled(&mut store, 20);

@@ -7,7 +7,7 @@ use Rattle.rebalance.proofs.any.cat_anew.Goals as goal
 pub returns-in_err-right : goal.returns-in_err-right
 returns-in_err-right g c =
     let p = err_from_is_err_and c.from_residual-in_err-right.result c.from_residual-in_err-right.ensures.1 in
-    rw (p.1, p.2) (second_refused g.F.LeafFn.meaning c.args.store.now c.balance.new.store c.balance-2.new.store _ c.args.l c.args.r c.in_ok-left.left 31 c.in_err-right.field-0.0 c.count-count.ensures.sound c.requires.right c.in_ok-left.ensures c.in_err-right.ensures)
+    rw (p.1, p.2) (second_refused g.F.LeafFn.meaning c.args.store.now c.balance_by.new.store c.balance_by-2.new.store _ _ _ _ c.args.r c.in_ok-left.left 31 c.in_err-right.field-0.0 c.count-count.ensures.sound c.requires.right c.in_ok-left.ensures c.in_err-right.ensures)
 
 pub returns-in_err-cat : goal.returns-in_err-cat
 returns-in_err-cat g c =
@@ -15,7 +15,7 @@ returns-in_err-cat g c =
     let first = c.count-count.ensures in
     let second = c.count-count-2.ensures in
     let third = c.count-count-3.ensures in
-    rw (p.1, p.2) (cat_called g.F.LeafFn.meaning c.args.store.now c.balance.new.store c.balance-2.new.store c.cat.new.self c.args.l c.args.r c.in_ok-left.left c.in_ok-right.right (Err c.in_err-cat.field-0.0) (record { sound = first.sound; true_records = first.true_records })
+    rw (p.1, p.2) (cat_called g.F.LeafFn.meaning c.args.store.now c.balance_by.new.store c.balance_by-2.new.store c.cat.new.self c.args.l c.args.r c.in_ok-left.left c.in_ok-right.right (Err c.in_err-cat.field-0.0) (record { sound = first.sound; true_records = first.true_records })
     (record { sound = second.sound; true_records = second.true_records }) (record { sound = third.sound; true_records = third.true_records }) c.requires.left c.requires.right c.requires.short c.in_ok-left.ensures c.in_ok-right.ensures c.in_err-cat.ensures.makes c.in_err-cat.ensures.refuses)
 
 pub returns : goal.returns
@@ -23,5 +23,5 @@ returns g c =
     let first = c.count-count.ensures in
     let second = c.count-count-2.ensures in
     let third = c.count-count-3.ensures in
-    cat_called g.F.LeafFn.meaning c.args.store.now c.balance.new.store c.balance-2.new.store c.cat.new.self c.args.l c.args.r c.in_ok-left.left c.in_ok-right.right (Ok c.in_ok-cat.field-0) (record { sound = first.sound; true_records = first.true_records })
+    cat_called g.F.LeafFn.meaning c.args.store.now c.balance_by.new.store c.balance_by-2.new.store c.cat.new.self c.args.l c.args.r c.in_ok-left.left c.in_ok-right.right (Ok c.in_ok-cat.field-0) (record { sound = first.sound; true_records = first.true_records })
     (record { sound = second.sound; true_records = second.true_records }) (record { sound = third.sound; true_records = third.true_records }) c.requires.left c.requires.right c.requires.short c.in_ok-left.ensures c.in_ok-right.ensures c.in_ok-cat.ensures.makes c.in_ok-cat.ensures.refuses

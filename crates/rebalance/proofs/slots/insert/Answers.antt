@@ -3,7 +3,7 @@ use Rattle.std.proofs.lemmas.Result.{err_from_is_err_and}
 use Rattle.rope_node.specs.Denotes.{rope_cells, rope_len}
 use Rattle.rope_node.proofs.Ropes.{rope_cells_kept, rope_kept}
 use Rattle.node_table.specs.Held.{table_of}
-use Rattle.rebalance.proofs.SlotSteps.{behind_short, first_carry, one_at_most, piece_kept, piece_len_kept, spread_behind, spread_within}
+use Rattle.rebalance.proofs.SlotSteps.{behind_short, first_carry, one_at_most, piece_kept, piece_len_kept, piece_shallow, spread_behind, spread_within}
 use Rattle.rebalance.proofs.StepLaws.{grows_through, ok_map, refused_through, steps_after}
 use Rattle.rebalance.proofs.slots.insert.Goals as goal
 
@@ -14,6 +14,12 @@ join-requires-clause-short g c =
     let kept = c.in_ok-lower.ensures.steps.grows.kept in
     behind_short t c.count-count-2.ensures.sound c.count-count-2.ensures.true_records _ _ (rope_cells t0 c.args.piece) _ _ c.in_ok-lower.lower c.args.piece c.in_ok-lower.ensures.spread (rope_kept t0 t kept c.args.piece c.requires.piece.there)
     (rope_cells_kept t0 t c.count-count.ensures.sound kept c.args.piece c.requires.piece.there) c.requires.short
+
+pub join-requires-clause-right_shallow : goal.join-requires-clause-right_shallow
+join-requires-clause-right_shallow g c =
+    let t0 = table_of g.F.LeafFn.meaning c.args.store.now in
+    let t = table_of g.F.LeafFn.meaning c.join_below.new.store in
+    piece_shallow t c.count-count-2.ensures.sound c.args.piece (piece_kept t0 t c.in_ok-lower.ensures.steps.grows.kept c.args.piece c.requires.piece)
 
 pub returns-in_err-rope-clause-steps : goal.returns-in_err-rope-clause-steps
 returns-in_err-rope-clause-steps g c =
