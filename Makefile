@@ -1,15 +1,19 @@
 # make run     proves and builds the program, and runs it on the stored image
-# make check   the merge gate: every proof from nothing, every test, every edit that must be refused
+# make check   the merge gate: every proof from nothing, every test, every edit that must be refused, and the built program
+# make audit   the edits that must be refused and that the gate has no time for
 # make bench   times the program beside the usual tools, on data that it makes
 # make refuse  refuses each allocation, read and write of a run in turn
 
-.PHONY: run check bench refuse
+.PHONY: run check audit bench refuse
 
 run:
 	cd crates/cordkit && rt run < stdin
 
 check:
-	rt ci
+	rt ci && sh tests/program.sh
+
+audit:
+	sh audit/run.sh
 
 bench:
 	sh bench/check.sh

@@ -1,4 +1,5 @@
-//! Each public call of a crate, with ample memory and with none.
+//! Each public call of a crate, with ample memory: a fault that a test does not expect fails it.
+//! What a call leaves as it was where memory is refused, its contract says.
 
 mod balance;
 mod functions;

@@ -1,6 +1,6 @@
 -- The program's command line, and what an action holds of it.
-use Rattle.std.specs.Prelude.{◌≡◌, ◌⊎◌, ◌∷◌, ⊤, ℕ, true, List, [], Option, Some, None, Ok, codes, map, unwrap_or}
-use Rattle.std.specs.Prelude.{String, string_bytes}
+use Rattle.std.specs.Prelude.{◌≡◌, ◌⊎◌, ◌∷◌, ⊤, ℕ, true, List, [], Option, Some, None, Ok, String}
+use Rattle.std.specs.Prelude.{codes, map, string_bytes, unwrap_or}
 use Rattle.std.specs.Str.Parse.{ParsesUnsigned}
 use Rattle.std.specs.declared.num.ParseIntError.{ParseIntError}
 use Rattle.clap.specs.Words.{App, Kinds, Row, Rule, Text, all_of, fault_of, first_of, new_app}
@@ -65,8 +65,9 @@ cmp_app = with_rule (with_rule (new_app (codes "cmp")) (required_rule (codes "FI
     (required_rule (codes "SECOND"))
 
 unfoldable pub cordkit_app : App
-cordkit_app = with_subcommand (with_subcommand (with_subcommand (with_subcommand (with_subcommand (with_subcommand
-    (new_app (codes "cordkit")) check_app.top) show_app.top) cut_app.top) join_app.top) find_app.top) cmp_app.top
+cordkit_app = with_subcommand (with_subcommand (with_subcommand (with_subcommand (with_subcommand
+    (with_subcommand (new_app (codes "cordkit")) check_app.top) show_app.top) cut_app.top)
+    join_app.top) find_app.top) cmp_app.top
 
 -- ---- what was given
 
@@ -97,14 +98,16 @@ Gives given name P = (rows : List Row) × (given ≡ Some (name, rows)) × P row
 abbrev pub Holds : Option (Text × List Row) → Action → Type 0
 Holds given CheckInput = given ≡ None
 Holds given (Check image sources) = Gives given (codes "check") (λ rows.
-    (image.now ≡ text_of rows (codes "IMAGE")) × (map (λ s. s.now) sources.items ≡ texts_of rows (codes "SOURCE")))
+    (image.now ≡ text_of rows (codes "IMAGE"))
+    × (map (λ s. s.now) sources.items ≡ texts_of rows (codes "SOURCE")))
 Holds given (Show image revision sources) = Gives given (codes "show") (λ rows.
     (image.now ≡ text_of rows (codes "IMAGE")) × ReadsAs (text_of rows (codes "REV")) revision
     × (map (λ s. s.now) sources.items ≡ texts_of rows (codes "SOURCE")))
 Holds given (Cut start count file) = Gives given (codes "cut") (λ rows.
     ReadsAs (text_of rows (codes "START")) start × ReadsAs (text_of rows (codes "COUNT")) count
     × (file.now ≡ text_of rows (codes "FILE")))
-Holds given (Join files) = Gives given (codes "join") (λ rows. map (λ s. s.now) files.items ≡ texts_of rows (codes "FILE"))
+Holds given (Join files) = Gives given (codes "join") (λ rows.
+    map (λ s. s.now) files.items ≡ texts_of rows (codes "FILE"))
 Holds given (Find start pattern file) = Gives given (codes "find") (λ rows.
     ReadsAs (text_of rows (codes "START")) start × (pattern.now ≡ text_of rows (codes "PATTERN"))
     × (file.now ≡ text_of rows (codes "FILE")))
@@ -116,7 +119,8 @@ IsOneOf [] n = ⊥
 IsOneOf (x ∷ xs) n = (n ≡ x) ⊎ IsOneOf xs n
 
 abbrev pub subcommand_names : List Text
-subcommand_names = codes "check" ∷ codes "show" ∷ codes "cut" ∷ codes "join" ∷ codes "find" ∷ codes "cmp" ∷ []
+subcommand_names = codes "check" ∷ codes "show" ∷ codes "cut" ∷ codes "join" ∷ codes "find"
+    ∷ codes "cmp" ∷ []
 
 -- the subcommand that was given, if any, is one of the program's own, and not `help`
 abbrev pub IsKnown : Option (Text × List Row) → Type 0

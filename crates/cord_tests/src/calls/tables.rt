@@ -3,18 +3,7 @@
 use function_leaf::Coded;
 use node_table::{NodeFault, NodeTable};
 use rope_node::NodeSpace;
-use std::process::Abort;
-
-/// Adds a source. Where memory is refused, there is none more, and the call is made again.
-fn add_source(rt: &impl Abort, table: &mut NodeTable<Coded>, len: u64) -> Result<u8, NodeFault> {
-    let count = table.source_count();
-    let first = table.add_source(len);
-    if first != Err(NodeFault::Memory) {
-        return first;
-    }
-    assert_eq!(rt; table.source_count(), count);
-    table.add_source(len)
-}
+use std::test::Fail;
 
 #[test]
 fn a_new_table_is_empty(rt: HostRuntime) {
@@ -26,29 +15,24 @@ fn a_new_table_is_empty(rt: HostRuntime) {
 
 #[test]
 fn a_source_is_shorter_than_2_to_40_bytes(rt: HostRuntime) {
-    let mut table = NodeTable::new(rt.alloc());
-    assert_eq!(&rt; add_source(&rt, &mut table, (1 << 40) - 1), Ok(0));
-    assert_eq!(&rt;
-        add_source(&rt, &mut table, 1 << 40),
-        Err(NodeFault::TooLong)
-    );
+    let mut table = NodeTable::<Coded>::new(rt.alloc());
+    assert_eq!(&rt; table.add_source((1 << 40) - 1), Ok(0));
+    assert_eq!(&rt; table.add_source(1 << 40), Err(NodeFault::TooLong));
     assert_eq!(&rt; table.source_count(), 1);
 }
 
 #[test]
 fn there_are_at_most_255_sources(rt: HostRuntime) {
-    let mut table = NodeTable::new(rt.alloc());
+    let mut table = NodeTable::<Coded>::new(rt.alloc());
     for s in 0..255 {
-        assert_eq!(&rt; add_source(&rt, &mut table, 1), Ok(s));
+        assert_eq!(&rt; table.add_source(1), Ok(s));
     }
-    assert_eq!(&rt;
-        add_source(&rt, &mut table, 1),
-        Err(NodeFault::TooManySources)
-    );
+    assert_eq!(&rt; table.add_source(1), Err(NodeFault::TooManySources));
+    assert_eq!(&rt; table.source_count(), 255);
 }
 
 #[test]
-fn refusals_print_their_codes(rt: HostRuntime) {
+fn refusals_print_their_codes(rt: HostRuntime) -> Result<(), Fail> {
     for (fault, code) in [
         (NodeFault::TooLong, "N1"),
         (NodeFault::TooDeep, "N2"),
@@ -58,8 +42,8 @@ fn refusals_print_their_codes(rt: HostRuntime) {
         (NodeFault::TooManySources, "N6"),
         (NodeFault::Memory, "Memory"),
     ] {
-        if let Ok(text) = format!(in rt.alloc(); "{fault}") {
-            assert_eq!(&rt; text.as_str(), code);
-        }
+        let text = format!(in rt.alloc(); "{fault}")?;
+        assert_eq!(&rt; text.as_str(), code);
     }
+    Ok(())
 }
