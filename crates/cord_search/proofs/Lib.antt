@@ -4,3 +4,4 @@ pub mod Options
 pub mod Orders
 pub mod Standing
 pub mod Chunks
+pub mod TwoSpans

@@ -1,9 +1,8 @@
 //! A text's bytes one by one.
 
-ghost use Rattle.std.specs.Prelude.{◌≡◌, ◌<◌, ◌≤◌, ◌+◌, ◌^◌, ℕ, true, length, slice_get, IfOk, IfErr, IsOk};
-ghost use Rattle.rope_node.specs.Denotes.{rope_cells, IsRope};
-ghost use Rattle.cord_position.specs.Fetched.{IsFaultAmong};
-ghost use Rattle.cord_search.specs.Stated.{OfText};
+ghost use Rattle.std.specs.Prelude.{◌+◌, IfOk};
+ghost use Rattle.rope_node.specs.Denotes.{IsRope};
+ghost use Rattle.cord_position.specs.Fetched.{IsFetched, ReadsSpan, rope_cell};
 
 use cord_position::fetch_byte;
 use lazy_file::{SourceFault, Sources};
@@ -18,13 +17,10 @@ pub fn byte_at<S: NodeSpace, T: Sources>(
     k: u64,
 ) -> Result<Option<u8>, SourceFault>
     requires { IsRope (S.table space.now) rope }
-    ensures byte { IfOk result (λ found. OfText (S.table space.now) (T.texts sources.old) rope (λ t. found ≡ slice_get t (start + k))) }
-    ensures fault { IfErr result (IsFaultAmong (T.sizes sources.old) (T.texts sources.old) (T.failures sources.old) (T.failures sources.new) (rope_cells (S.table space.now) rope)) }
-    ensures succeeds { T.never_fails sources.old ≡ true → T.sizes sources.old ≡ (S.table space.now).sources → IsOk result }
-    ensures later { T.failures sources.old ≤ T.failures sources.new }
-    ensures sizes { T.sizes sources.new ≡ T.sizes sources.old }
-    ensures texts { T.texts sources.new ≡ T.texts sources.old }
-    ensures never_fails { T.never_fails sources.new ≡ T.never_fails sources.old }
+    ensures byte { IfOk result
+        (IsFetched (S.table space.now) (T.stated sources.old) rope (start + k)) }
+    ensures reads { ReadsSpan T.stated T.failures sources.old sources.new
+        (rope_cell (S.table space.now) rope) (start + k) (start + k + 1) result }
 {
     let len = rope_len(space, rope);
     if start >= len || k >= len - start {

@@ -1,10 +1,10 @@
 //! The first and the last place of a byte.
 
-ghost use Rattle.std.specs.Prelude.{◌≡◌, ◌∷◌, [], ◌≤◌, ℕ, true, IfOk, IfErr, IsOk};
-ghost use Rattle.rope_node.specs.Denotes.{rope_cells, IsRope};
-ghost use Rattle.cord_position.specs.Fetched.{IsFaultAmong};
-ghost use Rattle.cord_search.specs.Places.{IsFirst, IsLast};
-ghost use Rattle.cord_search.specs.Stated.{OfText};
+ghost use Rattle.std.specs.Prelude.{◌+◌, ◌∷◌, [], IfOk};
+ghost use Rattle.rope_node.specs.Denotes.{IsRope, rope_len};
+ghost use Rattle.cord_position.specs.Fetched.{ReadsSpan, rope_cell};
+ghost use Rattle.cord_search.specs.Places.{IsFromOn, IsUpTo};
+ghost use Rattle.cord_search.specs.Stated.{FindsFirst, FindsLast};
 
 use crate::byte::byte_at;
 use lazy_file::{SourceFault, Sources};
@@ -23,15 +23,11 @@ pub fn chr<S: NodeSpace, T: Sources>(
     c: u8,
 ) -> Result<Option<u64>, SourceFault>
     requires { IsRope (S.table space.now) x }
-    ensures found { IfOk result (λ found. OfText (S.table space.now) (T.texts sources.old) x (λ t. IsFirst (c ∷ []) t i found)) }
-    ensures fault { IfErr result (IsFaultAmong (T.sizes sources.old) (T.texts sources.old) (T.failures sources.old) (T.failures sources.new) (rope_cells (S.table space.now) x)) }
-    ensures succeeds { T.never_fails sources.old ≡ true → T.sizes sources.old ≡ (S.table space.now).sources → IsOk result }
-
-    // A search changes no size and no text, nor whether the sources may fail.
-    ensures later { T.failures sources.old ≤ T.failures sources.new }
-    ensures sizes { T.sizes sources.new ≡ T.sizes sources.old }
-    ensures texts { T.texts sources.new ≡ T.texts sources.old }
-    ensures never_fails { T.never_fails sources.new ≡ T.never_fails sources.old }
+    ensures inside { IfOk result (IsFromOn (c ∷ []) i (rope_len (S.table space.now) x)) }
+    ensures found { IfOk result
+        (FindsFirst (S.table space.now) (T.stated sources.old) x (c ∷ []) i) }
+    ensures reads { ReadsSpan T.stated T.failures sources.old sources.new
+        (rope_cell (S.table space.now) x) i (rope_len (S.table space.now) x) result }
 {
     for place in i..rope_len(space, x) {
         if byte_at(space, sources, x, place, 0)? == Some(c) {
@@ -54,13 +50,11 @@ pub fn rchr<S: NodeSpace, T: Sources>(
     c: u8,
 ) -> Result<Option<u64>, SourceFault>
     requires { IsRope (S.table space.now) x }
-    ensures found { IfOk result (λ found. OfText (S.table space.now) (T.texts sources.old) x (λ t. IsLast (c ∷ []) t i found)) }
-    ensures fault { IfErr result (IsFaultAmong (T.sizes sources.old) (T.texts sources.old) (T.failures sources.old) (T.failures sources.new) (rope_cells (S.table space.now) x)) }
-    ensures succeeds { T.never_fails sources.old ≡ true → T.sizes sources.old ≡ (S.table space.now).sources → IsOk result }
-    ensures later { T.failures sources.old ≤ T.failures sources.new }
-    ensures sizes { T.sizes sources.new ≡ T.sizes sources.old }
-    ensures texts { T.texts sources.new ≡ T.texts sources.old }
-    ensures never_fails { T.never_fails sources.new ≡ T.never_fails sources.old }
+    ensures inside { IfOk result (IsUpTo (c ∷ []) i (rope_len (S.table space.now) x)) }
+    ensures found { IfOk result
+        (FindsLast (S.table space.now) (T.stated sources.old) x (c ∷ []) i) }
+    ensures reads { ReadsSpan T.stated T.failures sources.old sources.new
+        (rope_cell (S.table space.now) x) 0 (i + 1) result }
 {
     let mut place = rope_len(space, x).min(i.saturating_add(1));
     while place > 0 {

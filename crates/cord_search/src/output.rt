@@ -12,7 +12,8 @@ use std::io::ErrorKind;
 /// One write. It answers 0 where it was interrupted and is to be made again.
 fn write_some<W: io::Write>(writer: &mut W, bytes: &[u8]) -> Result<usize, PutFault>
     ensures count { IfOk result (λ n. n ≤ length bytes.now) }
-    ensures ok { IfOk result (λ n. Appends (W.contents writer.old) (W.contents writer.new) (take n bytes.now)) }
+    ensures ok { IfOk result
+        (λ n. Appends (W.contents writer.old) (W.contents writer.new) (take n bytes.now)) }
     ensures err { OnErr result (Keeps (W.contents writer.old) (W.contents writer.new)) }
     ensures fault { IfErr result (λ e. e ≡ Write) }
 {
@@ -36,7 +37,8 @@ fn write_some<W: io::Write>(writer: &mut W, bytes: &[u8]) -> Result<usize, PutFa
 /// `Write`, where the writer failed or took no byte. A prefix of the bytes was written then.
 pub fn write_bytes<W: io::Write>(writer: &mut W, bytes: &[u8]) -> Result<(), PutFault>
     ensures ok { OnOk result (Appends (W.contents writer.old) (W.contents writer.new) bytes.now) }
-    ensures err { OnErr result (AppendsPrefix (W.contents writer.old) (W.contents writer.new) bytes.now) }
+    ensures err { OnErr result
+        (AppendsPrefix (W.contents writer.old) (W.contents writer.new) bytes.now) }
     ensures fault { IfErr result (λ e. e ≡ Write) }
     ensures nothing { bytes.now ≡ [] → IsOk result }
 {

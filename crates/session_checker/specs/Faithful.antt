@@ -5,7 +5,7 @@ use Rattle.rope_node.specs.Denotes.{Cell, cells, rope_cells, IsRope, text}
 use Rattle.rope_node.specs.Path.{rope_visits}
 use Rattle.span_certificate.specs.declared.edit.Edit.{Edit}
 use Rattle.span_certificate.specs.Commands.{Givens, IsHistory}
-use Rattle.lazy_file.specs.SourceTexts.{Agrees}
+use Rattle.lazy_file.specs.SourceTexts.{Agrees, Stated}
 use Rattle.cord_position.specs.Fetched.{IsStated, rope_cell}
 use Rattle.image_reader.specs.declared.revision.Revision.{Revision}
 use Rattle.image_reader.specs.Value.{ImageValue, table_of}
@@ -31,7 +31,7 @@ abbrev pub fetched_cell : ImageValue → ℕ → ℕ → Cell
 fetched_cell v k i = rope_cell (table_of v) (revision_at v k).root i
 
 -- the byte at i of revision k's text, where the source of its cell, if it has one, states its text
-abbrev pub IsFetchedOf : ImageValue → List (Option (List ℕ)) → ℕ → ℕ → Option ℕ → Type 0
+abbrev pub IsFetchedOf : ImageValue → Stated → ℕ → ℕ → Option ℕ → Type 0
 IsFetchedOf v stated k i found = (source : ℕ → ℕ → ℕ) → Agrees stated source → IsStated stated (fetched_cell v k i) → found ≡ slice_get (text_of v source k) i
 
 -- how many nodes are visited for the byte at i of revision k's text
