@@ -1,4 +1,3 @@
-pub mod Appended
 pub mod Fetches
 pub mod Options
 pub mod Orders

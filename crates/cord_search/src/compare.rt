@@ -6,7 +6,7 @@ ghost use Rattle.cord_position.specs.Fetched.{rope_cell};
 ghost use Rattle.cord_search.specs.Order.{order};
 ghost use Rattle.cord_search.specs.Stated.{OfTexts, OrdersParts, ReadsTwoSpans, longer};
 
-use crate::byte::byte_at;
+use crate::text_bytes::byte_at;
 use lazy_file::{SourceFault, Sources};
 use rope_node::{NodeSpace, Rope, rope_len};
 use std::cmp::Ordering;

@@ -8,7 +8,7 @@ ghost use Rattle.cord_search.specs.Places.{IsFromOn, search_limit};
 ghost use Rattle.cord_search.specs.Stated.{FindsFirst, OfSpan};
 ghost use Rattle.cord_search.specs.Faults.{IsFindFault};
 
-use crate::byte::byte_at;
+use crate::text_bytes::byte_at;
 use crate::fault::FindFault;
 use lazy_file::{SourceFault, Sources};
 use rope_node::{NodeSpace, Rope, rope_len};

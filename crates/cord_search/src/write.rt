@@ -5,14 +5,14 @@ ghost use Rattle.std.specs.Io.KnownBytes.{Appends};
 ghost use Rattle.rope_node.specs.Denotes.{IsRope, rope_len};
 ghost use Rattle.lazy_file.specs.SourceTexts.{Reads};
 ghost use Rattle.cord_position.specs.Fetched.{EachCell, IsReadable, ReadsSpan, rope_cell};
-ghost use Rattle.cord_search.specs.Output.{AppendsPrefix};
+ghost use Rattle.byte_output.specs.Prefix.{AppendsPrefix};
 ghost use Rattle.cord_search.specs.Stated.{OfSpan, OfText};
 ghost use Rattle.cord_search.specs.Faults.{IsPutFault};
 ghost use Rattle.cord_search.specs.declared.fault.PutFault.TheVariants.{Write};
 
-use crate::byte::byte_at;
 use crate::fault::PutFault;
-use crate::output::write_bytes;
+use crate::text_bytes::byte_at;
+use byte_output::write_bytes;
 use lazy_file::{SourceFault, Sources};
 use rope_node::{NodeSpace, Rope, rope_len};
 use std::io;

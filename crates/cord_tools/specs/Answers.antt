@@ -17,7 +17,7 @@ use Rattle.cord_tools.specs.declared.fault.ToolFault.TheVariants.{Memory, Read, 
 use Rattle.cord_tools.specs.declared.status.Status.{Status}
 use Rattle.cord_tools.specs.declared.status.Status.TheVariants.{Success, Failure}
 use Rattle.cord_tools.specs.Sources.{RefusesSources}
-use Rattle.cord_search.specs.Output.{AppendsPrefix}
+use Rattle.byte_output.specs.Prefix.{AppendsPrefix}
 
 -- one more byte than the largest image has
 abbrev pub image_limit : ℕ

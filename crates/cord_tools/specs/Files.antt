@@ -8,7 +8,7 @@ use Rattle.std.specs.declared.cmp.Ordering.TheVariants.{Less, Equal, Greater}
 use Rattle.lazy_file.specs.SourceTexts.{Agrees, text_at}
 use Rattle.rope_node.specs.Denotes.{Cell, Place}
 use Rattle.cord_search.specs.Order.{order}
-use Rattle.cord_search.specs.Output.{AppendsPrefix}
+use Rattle.byte_output.specs.Prefix.{AppendsPrefix}
 use Rattle.cord_search.specs.Places.{IsFirst, IsFirstPlace}
 use Rattle.cord_tools.specs.declared.fault.ToolFault.{ToolFault}
 use Rattle.cord_tools.specs.declared.fault.ToolFault.TheVariants.{Memory, Read, Write, Refused, Source, NoRevision, PatternTooLong, Rope}

@@ -2,7 +2,7 @@
 
 ghost use Rattle.std.specs.Prelude.{◌≡◌, ◌⊎◌, ◌≤◌, true, length, take, drop, OnOk, OnErr, IfErr, IsErrOf};
 ghost use Rattle.std.specs.Io.KnownBytes.{Appends};
-ghost use Rattle.cord_search.specs.Output.{AppendsPrefix};
+ghost use Rattle.byte_output.specs.Prefix.{AppendsPrefix};
 ghost use Rattle.cord_tools.specs.Files.{OfFile};
 ghost use Rattle.cord_tools.specs.declared.fault.ToolFault.TheVariants.{Memory, Read, Write};
 

@@ -6,7 +6,7 @@ ghost use Rattle.function_leaf.specs.Coded.{coded_byte};
 ghost use Rattle.rope_node.specs.Extends.{Extends};
 ghost use Rattle.node_table.specs.Held.{held_of, most_nodes, table_of};
 ghost use Rattle.lazy_file.specs.SourceTexts.{AreSizes};
-ghost use Rattle.cord_search.specs.Output.{AppendsPrefix};
+ghost use Rattle.byte_output.specs.Prefix.{AppendsPrefix};
 ghost use Rattle.cord_tools.specs.Files.{OfFile};
 ghost use Rattle.cord_tools.specs.Spans.{IsSourcePart};
 ghost use Rattle.cord_tools.specs.declared.fault.ToolFault.TheVariants.{Memory, Read, Write};

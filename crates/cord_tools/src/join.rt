@@ -9,7 +9,7 @@ ghost use Rattle.rope_node.specs.Extends.{Extends};
 ghost use Rattle.node_table.specs.Held.{most_sources, table_of};
 ghost use Rattle.rebalance.specs.declared.fault.BalanceFault.{BalanceFault};
 ghost use Rattle.rebalance.specs.declared.fault.BalanceFault.TheVariants.{Node};
-ghost use Rattle.cord_search.specs.Output.{AppendsPrefix};
+ghost use Rattle.byte_output.specs.Prefix.{AppendsPrefix};
 ghost use Rattle.cord_tools.specs.Faults.{IsJoinFault, rope_fault};
 ghost use Rattle.cord_tools.specs.Files.{OfAllFiles, cells_of};
 ghost use Rattle.cord_tools.specs.declared.fault.ToolFault.TheVariants.{Read, Rope, Write};

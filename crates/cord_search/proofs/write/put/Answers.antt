@@ -6,7 +6,7 @@ use Rattle.std.proofs.lemmas.Result.{err_from_is_err_and}
 use Rattle.lazy_file.proofs.LaterReads.{reads_then}
 use Rattle.rope_node.specs.Denotes.{rope_cells, rope_len, text}
 use Rattle.cord_position.proofs.Spans.{failed_in}
-use Rattle.cord_search.proofs.Appended.{Appends-then, Appends-then_prefix}
+use Rattle.byte_output.proofs.Appended.{Appends-then, Appends-then_prefix}
 use Rattle.cord_search.proofs.Chunks.{chunk_part}
 use Rattle.cord_search.proofs.Fetches.{told_before, text_length}
 use Rattle.cord_search.proofs.write.put.Goals as goal

@@ -3,7 +3,7 @@ use Rattle.std.specs.Prelude.{string_bytes}
 use Rattle.std.proofs.lemmas.Result.{err_from_is_err_and}
 use Rattle.cord_tools.specs.Answers.{AnswersCheck}
 use Rattle.cord_tools.specs.Sources.{texts_in}
-use Rattle.cord_search.specs.Output.{AppendsPrefix}
+use Rattle.byte_output.specs.Prefix.{AppendsPrefix}
 use Rattle.cord_tools.proofs.check.run_check.Goals as goal
 
 pub returns-in_err-write_bytes : goal.returns-in_err-write_bytes

@@ -3,7 +3,7 @@ use Rattle.std.specs.Io.KnownBytes.{Appends}
 use Rattle.std.proofs.lemmas.Result.{err_from_is_err_and}
 use Rattle.function_leaf.specs.Coded.{coded_byte}
 use Rattle.node_table.specs.Held.{table_of}
-use Rattle.cord_search.specs.Output.{AppendsPrefix}
+use Rattle.byte_output.specs.Prefix.{AppendsPrefix}
 use Rattle.cord_tools.proofs.Spans.{of_part}
 use Rattle.cord_tools.proofs.files.put_part.Goals as goal
 

@@ -1,7 +1,7 @@
 use Rattle.std.proofs.Common.{List, ℕ, ◌∙◌, subst}
 use Rattle.std.specs.Prelude.{Option}
 use Rattle.std.proofs.lemmas.Result.{err_from_is_err_and}
-use Rattle.cord_search.specs.Output.{AppendsPrefix}
+use Rattle.byte_output.specs.Prefix.{AppendsPrefix}
 use Rattle.cord_search.specs.Places.{IsFirst}
 use Rattle.cord_tools.specs.Files.{OfFile}
 use Rattle.cord_tools.proofs.find.run_find.Goals as goal

@@ -4,7 +4,7 @@ use Rattle.std.proofs.lemmas.Result.{err_from_is_err_and}
 use Rattle.function_leaf.specs.Coded.{coded_byte}
 use Rattle.function_leaf.specs.declared.coded.Coded.{Coded}
 use Rattle.node_table.specs.Held.{Held, table_of}
-use Rattle.cord_search.specs.Output.{AppendsPrefix}
+use Rattle.byte_output.specs.Prefix.{AppendsPrefix}
 use Rattle.cord_tools.specs.Files.{cells_of}
 use Rattle.cord_tools.proofs.Joined.{of_all}
 use Rattle.cord_tools.proofs.join.run_join.Goals as goal

@@ -1,7 +1,7 @@
 use Rattle.std.proofs.Common.{◌≡◌, ◌<◌, ◌∙◌, List, ℕ, ap, arith, length, map, refl, sym}
 use Rattle.std.specs.Io.KnownBytes.{Appends}
 use Rattle.std.proofs.lemmas.Result.{err_from_is_err_and}
-use Rattle.cord_search.specs.Output.{AppendsPrefix}
+use Rattle.byte_output.specs.Prefix.{AppendsPrefix}
 use Rattle.cord_search.specs.declared.fault.PutFault.TheVariants as Put
 use Rattle.cord_tools.specs.Sources.{texts_in}
 use Rattle.cord_tools.proofs.Bytes.{Keeps-same}

@@ -2,8 +2,8 @@ use Rattle.std.proofs.Common.{◌+◌, ◌≤◌, sym, arith}
 use Rattle.std.proofs.lemmas.Option.{slice_get_past}
 use Rattle.rope_node.specs.Denotes.{rope_cells, text}
 use Rattle.cord_search.proofs.Fetches.{text_length}
-use Rattle.cord_search.proofs.byte.byte_at.Goals as goal
-use Rattle.cord_search.proofs.byte.byte_at.Goals.{then-start-len-via-then-start-len, then-start-len-via-else-start-len+then-k-len}
+use Rattle.cord_search.proofs.text_bytes.byte_at.Goals as goal
+use Rattle.cord_search.proofs.text_bytes.byte_at.Goals.{then-start-len-via-then-start-len, then-start-len-via-else-start-len+then-k-len}
 
 pub returns-then-start-len-clause-byte : goal.returns-then-start-len-clause-byte
 returns-then-start-len-clause-byte g c source agrees stated =

@@ -3,7 +3,7 @@ use Rattle.rope_node.specs.Denotes.{rope_len}
 use Rattle.lazy_file.specs.SourceTexts.{Reads}
 use Rattle.cord_search.specs.Stated.{OfSpan}
 use Rattle.cord_search.specs.Places.{StandsAt}
-use Rattle.cord_search.proofs.letter.rchr.Given as goal
+use Rattle.cord_search.proofs.single_bytes.rchr.Given as goal
 
 -- the sources are as they were, but that reads may have failed
 abbrev pub invariant-loop-place : goal.invariant-loop-place

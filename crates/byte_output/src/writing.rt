@@ -1,45 +1,45 @@
-//! Writing.
+//! Writes of all the bytes that are there.
 
-ghost use Rattle.std.specs.Prelude.{◌≡◌, ◌≤◌, length, take, [], OnOk, OnErr, IfOk, IfErr, IsOk};
+ghost use Rattle.std.specs.Prelude.{◌≡◌, ◌≤◌, length, take, [], OnOk, OnErr, IfOk, IsOk};
 ghost use Rattle.std.specs.Io.KnownBytes.{Appends, Keeps};
-ghost use Rattle.cord_search.specs.Output.{AppendsPrefix};
-ghost use Rattle.cord_search.specs.declared.fault.PutFault.TheVariants.{Write};
+ghost use Rattle.byte_output.specs.Prefix.{AppendsPrefix};
 
-use crate::fault::PutFault;
 use std::io;
 use std::io::ErrorKind;
 
+/// The writer failed, or took no byte.
+#[derive(Clone, Copy, Debug, PartialEq, Eq)]
+pub struct WriteFault;
+
 /// One write. It answers 0 where it was interrupted and is to be made again.
-fn write_some<W: io::Write>(writer: &mut W, bytes: &[u8]) -> Result<usize, PutFault>
+fn write_some<W: io::Write>(writer: &mut W, bytes: &[u8]) -> Result<usize, WriteFault>
     ensures count { IfOk result (λ n. n ≤ length bytes.now) }
     ensures ok { IfOk result
         (λ n. Appends (W.contents writer.old) (W.contents writer.new) (take n bytes.now)) }
     ensures err { OnErr result (Keeps (W.contents writer.old) (W.contents writer.new)) }
-    ensures fault { IfErr result (λ e. e ≡ Write) }
 {
     match writer.write(bytes) {
-        Ok(0) => Err(PutFault::Write),
+        Ok(0) => Err(WriteFault),
         Ok(n) => Ok(n),
         Err(error) => {
             if error.kind() == ErrorKind::Interrupted {
                 Ok(0)
             } else {
-                Err(PutFault::Write)
+                Err(WriteFault)
             }
         }
     }
 }
 
-/// Writes all the bytes.
+/// Writes all the bytes. No bytes are written without the writer.
 ///
 /// # Errors
 ///
-/// `Write`, where the writer failed or took no byte. A prefix of the bytes was written then.
-pub fn write_bytes<W: io::Write>(writer: &mut W, bytes: &[u8]) -> Result<(), PutFault>
+/// `WriteFault`, where the writer failed or took no byte. A prefix of the bytes was written then.
+pub fn write_bytes<W: io::Write>(writer: &mut W, bytes: &[u8]) -> Result<(), WriteFault>
     ensures ok { OnOk result (Appends (W.contents writer.old) (W.contents writer.new) bytes.now) }
     ensures err { OnErr result
         (AppendsPrefix (W.contents writer.old) (W.contents writer.new) bytes.now) }
-    ensures fault { IfErr result (λ e. e ≡ Write) }
     ensures nothing { bytes.now ≡ [] → IsOk result }
 {
     let mut done = 0;
@@ -49,5 +49,5 @@ pub fn write_bytes<W: io::Write>(writer: &mut W, bytes: &[u8]) -> Result<(), Put
         }
         done += write_some(writer, &bytes[done..])?;
     }
-    Err(PutFault::Write)
+    Err(WriteFault)
 }

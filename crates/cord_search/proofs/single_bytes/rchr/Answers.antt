@@ -9,7 +9,7 @@ use Rattle.cord_search.specs.Places.{StandsAt}
 use Rattle.cord_search.proofs.Fetches.{fetched_at}
 use Rattle.cord_search.proofs.Options.{same_found, other_found}
 use Rattle.cord_search.proofs.Standing.{byte_stands, byte_read, none_more_down}
-use Rattle.cord_search.proofs.letter.rchr.Goals as goal
+use Rattle.cord_search.proofs.single_bytes.rchr.Goals as goal
 
 pub returns-then-eq-clause-found : goal.returns-then-eq-clause-found
 returns-then-eq-clause-found g c source agrees stated =

@@ -1,20 +1,8 @@
 -- What is known of bytes written one piece after the other.
 use Rattle.std.proofs.Common.{◌≡◌, ℕ, zero, suc, ◌+◌, List, [], ◌∷◌, ◌++◌, take, drop, Option, Some, None, refl, sym, ap, subst, ◌∙◌, append_assoc}
-use Rattle.std.specs.Prelude.{IfSome}
-use Rattle.std.specs.Option.{option_map}
-use Rattle.std.specs.Io.KnownBytes.{Appends, Keeps}
+use Rattle.std.specs.Io.KnownBytes.{Appends}
 use Rattle.std.proofs.Math.Seq.{take-add}
-use Rattle.cord_search.specs.Output.{AppendsPrefix}
-
--- what was read of the first n bytes
-pub read_up_to : {R : Type 0} (remaining : R → Option (List ℕ)) (inner reader : R) (limit n : ℕ) (old bytes : List ℕ) → inner ≡ reader → limit ≡ n → old ≡ []
-    → IfSome (option_map (take limit) (remaining inner)) (λ xs. bytes ≡ old ++ xs) → IfSome (remaining reader) (λ xs. bytes ≡ take n xs)
-read_up_to {R} remaining inner reader limit n old bytes same at none h =
-    known (remaining reader) (rw (same, at, none) at h)
-  where
-    known : (o : Option (List ℕ)) → IfSome (option_map (take n) o) (λ xs. bytes ≡ [] ++ xs) → IfSome o (λ xs. bytes ≡ take n xs)
-    known None k = tt
-    known (Some xs) k = k
+use Rattle.byte_output.specs.Prefix.{AppendsPrefix}
 
 -- two pieces, one after the other
 pub Appends-then : (a b c : Option (List ℕ)) (n m : ℕ) (bs : List ℕ) → Appends a b (take n bs) → Appends b c (take m (drop n bs)) → Appends a c (take (n + m) bs)
@@ -36,7 +24,3 @@ pub Appends-then_prefix : (a b c : Option (List ℕ)) (n m : ℕ) (bs : List ℕ
 Appends-then_prefix a b c n m bs h (k, more) =
     let p = prefix_of_prefix k m (drop n bs) in
     (n + p.0, Appends-then a b c n p.0 bs h (subst (λ (v : List ℕ). Appends b c v) p.1 more))
-
-pub Keeps-same : (o : Option (List ℕ)) → Keeps o o
-Keeps-same None = tt
-Keeps-same (Some xs) = refl

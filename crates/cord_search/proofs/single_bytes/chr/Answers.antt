@@ -10,7 +10,7 @@ use Rattle.cord_search.specs.Places.{StandsAt}
 use Rattle.cord_search.proofs.Fetches.{fetched_at, text_length}
 use Rattle.cord_search.proofs.Options.{same_found, other_found}
 use Rattle.cord_search.proofs.Standing.{byte_stands, byte_read, none_more, none_past}
-use Rattle.cord_search.proofs.letter.chr.Goals as goal
+use Rattle.cord_search.proofs.single_bytes.chr.Goals as goal
 
 pub returns-then-eq-clause-found : goal.returns-then-eq-clause-found
 returns-then-eq-clause-found g c source agrees stated =

@@ -2,7 +2,7 @@ use Rattle.std.proofs.Common.{◌<◌, ◌≤◌, ℕ, ◌∷◌, []}
 use Rattle.lazy_file.specs.SourceTexts.{Reads}
 use Rattle.cord_search.specs.Stated.{OfSpan}
 use Rattle.cord_search.specs.Places.{StandsAt}
-use Rattle.cord_search.proofs.letter.chr.Given as goal
+use Rattle.cord_search.proofs.single_bytes.chr.Given as goal
 
 -- the sources are as they were, but that reads may have failed
 abbrev pub invariant-loop-place : goal.invariant-loop-place

@@ -1,7 +1,7 @@
 use Rattle.std.proofs.Common.{arith}
 use Rattle.std.proofs.lemmas.List.{length-drop, take_rest}
-use Rattle.cord_search.proofs.Appended.{Appends-then}
-use Rattle.cord_search.proofs.output.write_bytes.Goals as goal
+use Rattle.byte_output.proofs.Appended.{Appends-then}
+use Rattle.byte_output.proofs.writing.write_bytes.Goals as goal
 
 pub loop-preserved : goal.loop-preserved
 loop-preserved g c =
