@@ -13,8 +13,8 @@ use Rattle.cord_search.specs.Stated.{OfText}
 use Rattle.image_reader.specs.Value.{ImageValue, table_of}
 use Rattle.image_reader.specs.Acceptance.{HasSources}
 use Rattle.session_checker.specs.RevisionRules.{revision_at}
-use Rattle.session_checker.specs.Faithful.{IsFaithful, text_of}
-use Rattle.session_checker.proofs.RevisionTexts.{text_of_root}
+use Rattle.session_checker.specs.Faithful.{IsFaithful, revision_text}
+use Rattle.session_checker.proofs.RevisionTexts.{root_text}
 use Rattle.cord_tools.specs.Answers.{AreOf}
 
 stated_cell : (t : Table) (texts : List (List ℕ)) → t.sources ≡ map length texts → (cell : Cell) → IsHeldCell t cell → IsStated (map Some texts) cell
@@ -31,9 +31,9 @@ rope_stated t s texts own (Some id) rope =
 -- what is told of a root's text is told of its revision's
 pub root_told : (v : ImageValue) → IsFaithful v → (sources texts : List (List ℕ)) → sources ≡ texts → HasSources v (map length sources) → (k r : ℕ) (root : Option NodeId) (P : List ℕ → Type 0)
     → (k < length v.revisions) × (root ≡ (revision_at v k).root) × IsRope (table_of v) root → k ≡ r → OfText (table_of v) (map Some sources) root P
-    → (source : ℕ → ℕ → ℕ) → AreOf texts source → P (text_of v source r)
+    → (source : ℕ → ℕ → ℕ) → AreOf texts source → P (revision_text v source r)
 root_told v faithful sources texts same own k r root P there at told source agrees =
     let of : AreOf sources source = subst (λ (us : List (List ℕ)). AreOf us source) (sym same) agrees in
-    let is : text source (rope_cells (table_of v) root) ≡ text_of v source r =
-    ap (λ (x : Option NodeId). text source (rope_cells (table_of v) x)) there.1 ∙ sym (text_of_root v source k) ∙ ap (text_of v source) at in
+    let is : text source (rope_cells (table_of v) root) ≡ revision_text v source r =
+    ap (λ (x : Option NodeId). text source (rope_cells (table_of v) x)) there.1 ∙ sym (root_text v source k) ∙ ap (revision_text v source) at in
     subst P is (told source of (rope_stated (table_of v) faithful.sound sources own root there.2))

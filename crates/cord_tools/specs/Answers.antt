@@ -10,7 +10,7 @@ use Rattle.image_reader.specs.Value.{ImageValue, IsImage, table_of}
 use Rattle.image_reader.specs.Spelling.{spelling}
 use Rattle.session_checker.specs.declared.fault.CheckFault.{CheckFault}
 use Rattle.session_checker.specs.Accepted.{IsAccepted, IsFirstFault}
-use Rattle.session_checker.specs.Faithful.{IsFaithful, text_of}
+use Rattle.session_checker.specs.Faithful.{IsFaithful, revision_text}
 use Rattle.session_checker.specs.Codes.{fault_code}
 use Rattle.cord_tools.specs.declared.fault.ToolFault.{ToolFault}
 use Rattle.cord_tools.specs.declared.fault.ToolFault.TheVariants.{Memory, Read, Write, Refused, Source, NoRevision, PatternTooLong, Rope}
@@ -85,8 +85,8 @@ AreOf texts source = Agrees (map Some texts) source
 
 -- The text of the revision over the sources' texts was written; where the writer failed, a prefix of it; otherwise nothing.
 abbrev pub ShowsRevision : Option (List ℕ) → List (List ℕ) → ℕ → Option (List ℕ) → Option (List ℕ) → Result (Unit {0}) ToolFault → Type 0
-ShowsRevision remaining texts k old new (Ok u) = (v : ImageValue) × ReadsFaithful remaining texts v × (k < length v.revisions) × ((source : ℕ → ℕ → ℕ) → AreOf texts source → Appends old new (text_of v source k))
-ShowsRevision remaining texts k old new (Err Write) = (v : ImageValue) × ReadsFaithful remaining texts v × (k < length v.revisions) × ((source : ℕ → ℕ → ℕ) → AreOf texts source → AppendsPrefix old new (text_of v source k))
+ShowsRevision remaining texts k old new (Ok u) = (v : ImageValue) × ReadsFaithful remaining texts v × (k < length v.revisions) × ((source : ℕ → ℕ → ℕ) → AreOf texts source → Appends old new (revision_text v source k))
+ShowsRevision remaining texts k old new (Err Write) = (v : ImageValue) × ReadsFaithful remaining texts v × (k < length v.revisions) × ((source : ℕ → ℕ → ℕ) → AreOf texts source → AppendsPrefix old new (revision_text v source k))
 ShowsRevision remaining texts k old new (Err Read) = Keeps old new
 ShowsRevision remaining texts k old new (Err Memory) = Keeps old new
 ShowsRevision remaining texts k old new (Err (Refused f)) = Keeps old new × AreSizes (map length texts) × ((bytes : List ℕ) × AreRead remaining bytes × IsFirstFault bytes (map length texts) f)
