@@ -1,17 +1,13 @@
 -- The cell at a place of a leaf.
-use Rattle.std.proofs.Common.{◌≡◌, ℕ, ◌+◌, ◌-◌, ◌<◌, ◌≤◌, length, get_or, drop, refl, sym, ap, ◌∙◌, arith}
-use Rattle.std.specs.Prelude.{List, Option, Result, Ok, Err, IfErr}
+use Rattle.std.proofs.Common.{◌≡◌, ℕ, ◌+◌, ◌-◌, ◌<◌, ◌≤◌, length, get_or, drop, sym, ap, ◌∙◌, arith}
 use Rattle.std.specs.List.{slice_range, range_with_len}
 use Rattle.std.proofs.lemmas.List.{length-take, length-drop, get_or-map, get_or-take, get_or-drop}
 use Rattle.std.proofs.lemmas.List.FromFn.{length-range_with_len, get_or-range_with_len}
-use Rattle.std.proofs.lemmas.Bool.{lt-ltb, le-leb}
 use Rattle.rope_node.specs.declared.node.NodeView.{NodeView}
 use Rattle.rope_node.specs.declared.node.NodeView.TheVariants.{Lit, Src, Fun, Cat, Sub}
 use Rattle.rope_node.specs.Table.{Table, view_at, len_at, IsSound, IsLiteral, literal_bytes}
-use Rattle.rope_node.specs.Denotes.{Cell, Byte, Place, cell_at}
+use Rattle.rope_node.specs.Denotes.{Byte, Place, cell_at}
 use Rattle.rope_node.proofs.Cells.{cells_at}
-use Rattle.lazy_file.specs.declared.faults.SourceFault.{SourceFault}
-use Rattle.cord_position.specs.Fetched.{HoldsPlace, IsReadFault, IsPlaceFault}
 
 -- a literal's bytes from a place inside on are some, and the first is that of the place
 pub literal_first : (t : Table) → IsSound t → (id start : ℕ) → id < length t.nodes → start < len_at t id → (w : NodeView) → view_at t id ≡ w → IsLiteral w
@@ -42,13 +38,6 @@ source_cell t s id start s' a lt inside e =
     ∙ get_or-map (Place s') (range_with_len a n) start 0 (Byte 0) (rw length-range_with_len inside)
     ∙ ap (Place s') (get_or-range_with_len a n start 0 inside)
 
--- sources that are as many and as long as the table says hold each place of a part
-pub source_held : (t : Table) → IsSound t → (id start s' a : ℕ) (sizes : List ℕ) → id < length t.nodes → start < len_at t id → view_at t id ≡ Src s' a → sizes ≡ t.sources → HoldsPlace sizes (Place s' (a + start))
-source_held t s id start s' a sizes lt inside e own =
-    let there = rw e at (s.nodes id lt).references in
-    let held = rw e at (s.nodes id lt).span in
-    rw (own, lt-ltb s' (length t.sources) there, le-leb (a + start + 1) (get_or t.sources s' 0) (omega (arith, held, inside))) refl
-
 -- a function answers from its place 0 on
 pub function_cell : (t : Table) → IsSound t → (id start : ℕ) → id < length t.nodes → start < len_at t id → view_at t id ≡ Fun → cell_at t id start ≡ Byte (t.answer id start)
 function_cell t s id start lt inside e =
@@ -56,8 +45,3 @@ function_cell t s id start lt inside e =
     ap (λ cs. get_or cs start (Byte 0)) (cells_at t s id lt Fun e)
     ∙ get_or-map (λ k. Byte (t.answer id k)) (range_with_len 0 n) start 0 (Byte 0) (rw length-range_with_len inside)
     ∙ ap (λ k. Byte (t.answer id k)) (get_or-range_with_len 0 n start 0 inside ∙ omega arith)
-
--- a read that failed at the cell's place
-pub place_fault : {X : Type 0} (sizes : List ℕ) (texts : List (Option (List ℕ))) (before now : ℕ) (cell : Cell) (s p : ℕ) (r : Result X SourceFault) → cell ≡ Place s p → IfErr r (IsReadFault sizes texts before now s p) → IfErr r (IsPlaceFault sizes texts before now cell)
-place_fault sizes texts before now cell s p (Ok x) is h = tt
-place_fault sizes texts before now cell s p (Err e) is h = record { s = s; p = p; is = is; read = h }

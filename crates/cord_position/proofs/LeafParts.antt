@@ -1,8 +1,8 @@
 -- Parts of a leaf: which cells they are, what bytes these stand for, and a read of them that failed.
-use Rattle.std.proofs.Common.{◌≡◌, ℕ, ◌+◌, ◌-◌, ◌<◌, ◌≤◌, List, map, length, take, drop, get_or, sym, ap, subst, ◌∙◌, arith}
-use Rattle.std.specs.Prelude.{true, All, Option, Result, Ok, Err, IfSome, IfErr, IsSome, OnOk}
+use Rattle.std.proofs.Common.{[], Some, None, refl, false, ◌≡◌, ℕ, ◌+◌, ◌-◌, ◌<◌, ◌≤◌, List, map, length, take, drop, get_or, sym, ap, subst, ◌∙◌, arith}
+use Rattle.std.specs.Prelude.{true, Option, Result, Ok, Err, IfSome, IfErr, IsSome, IsOk, OnOk}
 use Rattle.std.specs.List.{slice_range, range_with_len}
-use Rattle.std.proofs.lemmas.List.{get_or-map, map-id, take-take}
+use Rattle.std.proofs.lemmas.List.{get_or-map, get_or-take, get_or-drop, get_or_past, map-id, take-take}
 use Rattle.std.proofs.lemmas.Simd.{map-map}
 use Rattle.std.proofs.lemmas.List.FromFn.{length-range_with_len, get_or-range_with_len, length-map-range_with_len}
 use Rattle.rope_node.specs.declared.node.LeafSpan.{LeafSpan}
@@ -10,14 +10,16 @@ use Rattle.rope_node.specs.declared.node.NodeId.{NodeId}
 use Rattle.rope_node.specs.declared.node.NodeView.{NodeView}
 use Rattle.rope_node.specs.declared.node.NodeView.TheVariants.{Lit, Src, Fun, Cat, Sub}
 use Rattle.rope_node.specs.Table.{Table, view_at, len_at, IsSound, IsLiteral, literal_bytes}
-use Rattle.rope_node.specs.Denotes.{Byte, Place, cells, rope_cells, cell_byte}
+use Rattle.rope_node.specs.Denotes.{Cell, Byte, Place, cell_at, cells, rope_cells, cell_byte}
 use Rattle.rope_node.proofs.Cells.{cells_at}
 use Rattle.rope_node.proofs.Parts.{span_within, span-map, span-range_with_len}
-use Rattle.lazy_file.specs.SourceTexts.{holds_span, text_at}
+use Rattle.lazy_file.specs.SourceTexts.{Reads, Stated, holds_span, text_at}
 use Rattle.lazy_file.specs.ReadFaults.{IsFaultOf}
 use Rattle.lazy_file.specs.declared.faults.SourceFault.{SourceFault}
+use Rattle.lazy_file.specs.declared.faults.SourceFault.TheVariants.{BadSource}
+use Rattle.lazy_file.proofs.ReadOutcomes.{refused_span}
 use Rattle.lazy_file.proofs.AgreedBytes.{agreed_read}
-use Rattle.cord_position.specs.Fetched.{IsFaultAmong, IsStated, HoldsPlace}
+use Rattle.cord_position.specs.Fetched.{EachCell, IsFaultIn, IsReadable, IsStated, ReadsSpan, rope_cell}
 use Rattle.cord_position.specs.Runs.{IsRun, AreBytesOf}
 
 -- a part of a literal, of a source and of a function
@@ -56,55 +58,103 @@ run_part t rope i n x run few =
     sym (take-take n x.len (drop i (rope_cells t rope)) few) ∙ ap (take n) run.cells ∙ take-take n x.len (drop x.start (cells t x.leaf.0)) few
 
 -- bytes stand for themselves
-pub bytes_of_map : (texts : List (Option (List ℕ))) (f : ℕ → ℕ) (xs : List ℕ) → AreBytesOf texts (map (λ k. Byte (f k)) xs) (map f xs)
-bytes_of_map texts f xs source agrees stated = sym (map-map (cell_byte source) (λ k. Byte (f k)) xs)
+pub bytes_of_map : (st : Stated) (f : ℕ → ℕ) (xs : List ℕ) → AreBytesOf st (map (λ k. Byte (f k)) xs) (map f xs)
+bytes_of_map st f xs source agrees stated = sym (map-map (cell_byte source) (λ k. Byte (f k)) xs)
 
-pub bytes_of_bytes : (texts : List (Option (List ℕ))) (xs : List ℕ) → AreBytesOf texts (map Byte xs) xs
-bytes_of_bytes texts xs source agrees stated = sym (map-map (cell_byte source) Byte xs ∙ map-id xs)
+pub bytes_of_bytes : (st : Stated) (xs : List ℕ) → AreBytesOf st (map Byte xs) xs
+bytes_of_bytes st xs source agrees stated = sym (map-map (cell_byte source) Byte xs ∙ map-id xs)
 
 -- what a read gave stands for the places that were read
-pub bytes_of_read : (texts : List (Option (List ℕ))) (s p n : ℕ) (read : List ℕ) → 1 ≤ n → length read ≡ n → IfSome (text_at texts s) (λ t. read ≡ take n (drop p t))
-    → AreBytesOf texts (map (Place s) (range_with_len p n)) read
-bytes_of_read texts s p n read some whole is source agrees stated =
+pub bytes_of_read : (st : Stated) (s p n : ℕ) (read : List ℕ) → 1 ≤ n → length read ≡ n → IfSome (text_at st s) (λ t. read ≡ take n (drop p t))
+    → AreBytesOf st (map (Place s) (range_with_len p n)) read
+bytes_of_read st s p n read some whole is source agrees stated =
     let first : get_or (map (Place s) (range_with_len p n)) 0 (Byte 0) ≡ Place s p =
     get_or-map (Place s) (range_with_len p n) 0 0 (Byte 0) (rw length-range_with_len some) ∙ ap (Place s) (get_or-range_with_len p n 0 0 some ∙ omega arith) in
-    let there : IsSome (text_at texts s) = subst (IsStated texts) first (stated 0 (Byte 0) (rw length-map-range_with_len some)) in
-    agreed_read texts source s p n read agrees there whole is ∙ sym (map-map (cell_byte source) (Place s) (range_with_len p n))
+    let there : IsSome (text_at st s) = subst (IsStated st) first (stated 0 (Byte 0) (rw length-map-range_with_len some)) in
+    agreed_read st source s p n read agrees there whole is ∙ sym (map-map (cell_byte source) (Place s) (range_with_len p n))
 
 -- a read of a part fails as one of its last place would
-pub fault_among : (sizes : List ℕ) (texts : List (Option (List ℕ))) (before now s p n : ℕ) (fault : SourceFault) → 1 ≤ n → IsFaultOf {X = Unit {0}} sizes texts before now s p n (Err fault)
-    → IsFaultAmong sizes texts before now (map (Place s) (range_with_len p n)) fault
-fault_among sizes texts before now s p n fault some h =
-    let last : n - 1 < n = omega arith in
+pub fault_in : {T : Type 0} (stated : T → Stated) (failures : T → ℕ) (old new : T) (s p n : ℕ) (fault : SourceFault) → 1 ≤ n → IsFaultOf {X = Unit {0}} stated failures old new s p n (Err fault)
+    → IsFaultIn stated failures old new (Place s) p (p + n) fault
+fault_in stated failures old new s p n fault some h =
     let end : p + n ≡ (p + (n - 1)) + 1 = omega arith in
     record {
-      place = n - 1;
-      inside = rw length-map-range_with_len last;
-      read = record {
-        s = s;
-        p = p + (n - 1);
-        is = get_or-map (Place s) (range_with_len p n) (n - 1) 0 (Byte 0) (rw length-range_with_len last) ∙ ap (Place s) (get_or-range_with_len p n (n - 1) 0 last);
-        read = record { later = h.later; device = h.device; short = h.short; bad_source = rw end at h.bad_source };
-      };
+      place = p + (n - 1);
+      from = omega arith;
+      until = omega arith;
+      read = record { s = s; p = p + (n - 1); is = refl; read = record { device = h.device; short = h.short; bad_source = rw end at h.bad_source } };
     }
 
 -- the same of a read's outcome
-pub outcome_bytes : {X : Type 0} (texts : List (Option (List ℕ))) (s p n : ℕ) (read : List ℕ) (r : Result X SourceFault) → 1 ≤ n → length read ≡ n → OnOk r (IfSome (text_at texts s) (λ t. read ≡ take n (drop p t)))
-    → OnOk r (AreBytesOf texts (map (Place s) (range_with_len p n)) read)
-outcome_bytes texts s p n read (Ok x) some whole is = bytes_of_read texts s p n read some whole is
-outcome_bytes texts s p n read (Err e) some whole is = tt
+pub outcome_bytes : {X : Type 0} (st : Stated) (s p n : ℕ) (read : List ℕ) (r : Result X SourceFault) → 1 ≤ n → length read ≡ n → OnOk r (IfSome (text_at st s) (λ t. read ≡ take n (drop p t)))
+    → OnOk r (AreBytesOf st (map (Place s) (range_with_len p n)) read)
+outcome_bytes st s p n read (Ok x) some whole is = bytes_of_read st s p n read some whole is
+outcome_bytes st s p n read (Err e) some whole is = tt
 
-pub outcome_fault : (sizes : List ℕ) (texts : List (Option (List ℕ))) (before now s p n : ℕ) (r : Result (Unit {0}) SourceFault) → 1 ≤ n → IsFaultOf sizes texts before now s p n r
-    → IfErr r (IsFaultAmong sizes texts before now (map (Place s) (range_with_len p n)))
-outcome_fault sizes texts before now s p n (Ok x) some h = tt
-outcome_fault sizes texts before now s p n (Err e) some h = fault_among sizes texts before now s p n e some h
+pub outcome_fault : {T : Type 0} (stated : T → Stated) (failures : T → ℕ) (old new : T) (s p n : ℕ) (r : Result (Unit {0}) SourceFault) → 1 ≤ n → IsFaultOf stated failures old new s p n r
+    → IfErr r (IsFaultIn stated failures old new (Place s) p (p + n))
+outcome_fault stated failures old new s p n (Ok x) some h = tt
+outcome_fault stated failures old new s p n (Err e) some h = fault_in stated failures old new s p n e some h
 
--- sources that hold each of these places hold their span
-pub span_held : (sizes : List ℕ) (s p n : ℕ) → 1 ≤ n → All (HoldsPlace sizes) (map (Place s) (range_with_len p n)) → holds_span sizes s p n ≡ true
-span_held sizes s p n some held =
-    let last : n - 1 < n = omega arith in
+-- where each of these places is readable, their span is
+pub span_readable : (st : Stated) (s p n : ℕ) → 1 ≤ n → EachCell (Place s) p (p + n) (IsReadable st) → (st.never_fails ≡ true) × (holds_span st s p n ≡ true)
+span_readable st s p n some held =
     let end : (p + (n - 1)) + 1 ≡ p + n = omega arith in
-    let is : get_or (map (Place s) (range_with_len p n)) (n - 1) (Byte 0) ≡ Place s (p + (n - 1)) =
-    get_or-map (Place s) (range_with_len p n) (n - 1) 0 (Byte 0) (rw length-range_with_len last) ∙ ap (Place s) (get_or-range_with_len p n (n - 1) 0 last) in
-    let here = subst (HoldsPlace sizes) is (held (n - 1) (Byte 0) (rw length-map-range_with_len last)) in
-    rw end at here
+    let here = held (p + (n - 1)) (omega arith) (omega arith) in
+    (here.0, rw end at here.1)
+
+-- what a read of a span of a source does, where it fails and where it is refused at once
+pub read_span : {T : Type 0} (stated : T → Stated) (failures : T → ℕ) (old new : T) (s p n : ℕ) (r : Result (Unit {0}) SourceFault) → 1 ≤ n → Reads stated failures old new
+    → IsFaultOf stated failures old new s p n r → ((stated old).never_fails ≡ true → holds_span (stated old) s p n ≡ true → IsOk r)
+    → ReadsSpan stated failures old new (Place s) p (p + n) r
+read_span stated failures old new s p n r some reads fault succeeds = record {
+  reads = reads;
+  fault = outcome_fault stated failures old new s p n r some fault;
+  succeeds = λ readable. let held = span_readable (stated old) s p n some readable in succeeds held.0 held.1;
+}
+
+pub refuse_span : {T X : Type 0} (stated : T → Stated) (failures : T → ℕ) (old : T) (s p n : ℕ) → 1 ≤ n → holds_span (stated old) s p n ≡ false
+    → ReadsSpan {X = X} stated failures old old (Place s) p (p + n) (Err BadSource)
+refuse_span stated failures old s p n some missing = record {
+  reads = record { same = refl; later = omega arith };
+  fault = fault_in stated failures old old s p n BadSource some (refused_span stated failures old old s p n missing);
+  succeeds = λ readable. let held = span_readable (stated old) s p n some readable in absurd cc;
+}
+
+-- the same cells at other places
+pub moved : {T X : Type 0} (stated : T → Stated) (failures : T → ℕ) (old new : T) (f g : ℕ → Cell) (i j n : ℕ) (r : Result X SourceFault)
+    → ((k : ℕ) → k < n → f (i + k) ≡ g (j + k)) → ReadsSpan stated failures old new g j (j + n) r → ReadsSpan stated failures old new f i (i + n) r
+moved stated failures old new f g i j n r same h = record {
+  reads = h.reads;
+  fault = of_outcome r h.fault;
+  succeeds = λ readable. h.succeeds (λ p above below.
+      let k = p - j in
+      let at : j + k ≡ p = omega (arith, above) in
+      let lt : k < n = omega (arith, above, below) in
+      subst (IsReadable (stated old)) (same k lt ∙ ap g at) (readable (i + k) (omega arith) (omega (arith, lt))));
+}
+  where
+    of_outcome : {X : Type 0} (r : Result X SourceFault) → IfErr r (IsFaultIn stated failures old new g j (j + n)) → IfErr r (IsFaultIn stated failures old new f i (i + n))
+    of_outcome (Ok x) fault = tt
+    of_outcome (Err e) fault =
+        let k = fault.place - j in
+        let at : j + k ≡ fault.place = omega (arith, fault.from) in
+        let lt : k < n = omega (arith, fault.from, fault.until) in
+        record {
+          place = i + k;
+          from = omega arith;
+          until = omega (arith, lt);
+          read = record { s = fault.read.s; p = fault.read.p; is = same k lt ∙ ap g at ∙ fault.read.is; read = fault.read.read };
+        }
+
+-- the cells of a part of a run
+pub run_cells : (t : Table) (rope : Option NodeId) (i : ℕ) (x : LeafSpan) → IsRun t rope i x → (k : ℕ) → k < x.len → rope_cell t rope (i + k) ≡ cell_at t x.leaf.0 (x.start + k)
+run_cells t rope i x run k lt =
+    by_rope rope ∙ sym (at_part (rope_cells t rope) i) ∙ ap (λ cs. get_or cs k (Byte 0)) run.cells ∙ at_part (cells t x.leaf.0) x.start
+  where
+    by_rope : (rope : Option NodeId) → rope_cell t rope (i + k) ≡ get_or (rope_cells t rope) (i + k) (Byte 0)
+    by_rope None = sym (get_or_past [] (i + k) (Byte 0) (omega arith))
+    by_rope (Some id) = refl
+
+    at_part : (cs : List Cell) (o : ℕ) → get_or (take x.len (drop o cs)) k (Byte 0) ≡ get_or cs (o + k) (Byte 0)
+    at_part cs o = get_or-take x.len (drop o cs) k (Byte 0) lt ∙ get_or-drop o cs k (Byte 0)

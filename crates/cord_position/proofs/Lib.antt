@@ -1,3 +1,5 @@
 pub mod LeafCells
 pub mod LeafParts
+pub mod Outcomes
 pub mod RopeBytes
+pub mod Spans

@@ -1,12 +1,12 @@
 -- The run of a rope's bytes from a place to the end of its leaf's span.
-use Rattle.std.specs.Prelude.{◌≡◌, ℕ, ◌+◌, ◌<◌, ◌≤◌, nat_lt, if◌then◌else◌, List, [], length, take, drop, Option, Some, None}
+use Rattle.std.specs.Prelude.{◌≡◌, ℕ, ◌+◌, ◌<◌, ◌≤◌, nat_lt, if◌then◌else◌, List, [], length, take, Option, Some, None}
 use Rattle.rope_node.specs.declared.node.NodeId.{NodeId}
 use Rattle.rope_node.specs.declared.node.LeafSpan.{LeafSpan}
 use Rattle.rope_node.specs.Table.{Table, view_at, len_at, literal_bytes, IsLeaf}
-use Rattle.rope_node.specs.Denotes.{Cell, cells, rope_cells, rope_len, text}
+use Rattle.rope_node.specs.Denotes.{Cell, rope_len, text}
 use Rattle.rope_node.specs.Path.{span_at}
-use Rattle.lazy_file.specs.SourceTexts.{Agrees}
-use Rattle.cord_position.specs.Fetched.{AreStated}
+use Rattle.lazy_file.specs.SourceTexts.{Agrees, Stated}
+use Rattle.cord_position.specs.Fetched.{AreStated, leaf_part, rope_part}
 
 -- the leaf span that a rope's bytes from place i on begin with; at the end and past it, none
 abbrev pub rope_span : Table → Option NodeId → ℕ → Option LeafSpan
@@ -37,8 +37,8 @@ pub record IsRun (t : Table) (rope : Option NodeId) (i : ℕ) (x : LeafSpan) : T
   pub some : 1 ≤ x.len
   pub in_leaf : x.start + x.len ≤ len_at t x.leaf.0
   pub in_rope : i + x.len ≤ rope_len t rope
-  pub cells : take x.len (drop i (rope_cells t rope)) ≡ take x.len (drop x.start (cells t x.leaf.0))
+  pub cells : rope_part t rope i x.len ≡ leaf_part t x.leaf x.start x.len
 
 -- the bytes that stated cells stand for, whatever bytes the sources have that agree with what they state
-abbrev pub AreBytesOf : List (Option (List ℕ)) → List Cell → List ℕ → Type 0
-AreBytesOf texts cs bytes = (source : ℕ → ℕ → ℕ) → Agrees texts source → AreStated texts cs → bytes ≡ text source cs
+abbrev pub AreBytesOf : Stated → List Cell → List ℕ → Type 0
+AreBytesOf st cs bytes = (source : ℕ → ℕ → ℕ) → Agrees st source → AreStated st cs → bytes ≡ text source cs

@@ -1,9 +1,9 @@
 //! The byte at a place of a rope, by one descent.
 
-ghost use Rattle.std.specs.Prelude.{◌≡◌, ◌↔◌, ◌<◌, ◌≤◌, ◌+◌, ℕ, true, IfOk, IfErr, IsOk, IsSome};
+ghost use Rattle.std.specs.Prelude.{◌≡◌, ◌↔◌, ◌<◌, ◌≤◌, ◌+◌, IfOk, IsSome};
 ghost use Rattle.rope_node.specs.Denotes.{rope_len, rope_depth, IsRope};
 ghost use Rattle.rope_node.specs.Path.{rope_visits};
-ghost use Rattle.cord_position.specs.Fetched.{IsFetched, IsPlaceFault, HoldsPlace, rope_cell};
+ghost use Rattle.cord_position.specs.Fetched.{IsFetched, ReadsSpan, rope_cell};
 
 use crate::leaf::leaf_byte;
 use lazy_file::{SourceFault, Sources};
@@ -22,19 +22,13 @@ pub fn fetch_byte<S: NodeSpace, T: Sources>(
     i: u64,
 ) -> Result<(Option<u8>, u32), SourceFault>
     requires { IsRope (S.table space.now) rope }
-    ensures byte { IfOk result (λ x. IsFetched (S.table space.now) (T.texts sources.old) rope i x.0) }
+    ensures byte { IfOk result
+        (λ x. IsFetched (S.table space.now) (T.stated sources.old) rope i x.0) }
     ensures inside { IfOk result (λ x. IsSome x.0 ↔ i < rope_len (S.table space.now) rope) }
     ensures visits { IfOk result (λ x. x.1 ≡ rope_visits (S.table space.now) rope i) }
     ensures few { IfOk result (λ x. x.1 ≤ rope_depth (S.table space.now) rope + 1) }
-    ensures fault { IfErr result (IsPlaceFault (T.sizes sources.old) (T.texts sources.old) (T.failures sources.old) (T.failures sources.new) (rope_cell (S.table space.now) rope i)) }
-    ensures succeeds { T.never_fails sources.old ≡ true → HoldsPlace (T.sizes sources.old) (rope_cell (S.table space.now) rope i) → IsOk result }
-    ensures own_sources { T.never_fails sources.old ≡ true → T.sizes sources.old ≡ (S.table space.now).sources → IsOk result }
-
-    // A fetch changes no size and no text, nor whether the sources may fail.
-    ensures later { T.failures sources.old ≤ T.failures sources.new }
-    ensures sizes { T.sizes sources.new ≡ T.sizes sources.old }
-    ensures texts { T.texts sources.new ≡ T.texts sources.old }
-    ensures never_fails { T.never_fails sources.new ≡ T.never_fails sources.old }
+    ensures reads { ReadsSpan T.stated T.failures sources.old sources.new
+        (rope_cell (S.table space.now) rope) i (i + 1) result }
 {
     match rope {
         Some(node) if i < space.len(node) => {

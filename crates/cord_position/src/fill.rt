@@ -1,11 +1,10 @@
 //! The bytes of a part of a leaf, written into a buffer.
 
-ghost use Rattle.std.specs.Prelude.{◌≡◌, ◌<◌, ◌≤◌, ◌+◌, ℕ, true, length, map, take, drop, All, IfErr, OnOk, IsOk};
+ghost use Rattle.std.specs.Prelude.{◌≡◌, ◌<◌, ◌≤◌, ◌+◌, length, map, OnOk};
 ghost use Rattle.std.specs.List.{range_with_len};
 ghost use Rattle.rope_node.specs.Table.{view_at, len_at, IsLeaf, IsFunction};
-ghost use Rattle.rope_node.specs.Denotes.{Place, cells};
-ghost use Rattle.lazy_file.specs.SourceTexts.{holds_span};
-ghost use Rattle.cord_position.specs.Fetched.{IsFaultAmong, HoldsPlace};
+ghost use Rattle.rope_node.specs.Denotes.{Place, cell_at};
+ghost use Rattle.cord_position.specs.Fetched.{ReadsSpan, leaf_part};
 ghost use Rattle.cord_position.specs.Runs.{AreBytesOf};
 
 use lazy_file::{SourceFault, Sources};
@@ -20,13 +19,10 @@ fn fill_source<T: Sources>(
 ) -> Result<(), SourceFault>
     requires { 1 ≤ length buffer.old }
     ensures length { length buffer.new ≡ length buffer.old }
-    ensures bytes { OnOk result (AreBytesOf (T.texts sources.old) (map (Place s) (range_with_len place (length buffer.old))) buffer.new) }
-    ensures fault { IfErr result (IsFaultAmong (T.sizes sources.old) (T.texts sources.old) (T.failures sources.old) (T.failures sources.new) (map (Place s) (range_with_len place (length buffer.old)))) }
-    ensures succeeds { T.never_fails sources.old ≡ true → holds_span (T.sizes sources.old) s place (length buffer.old) ≡ true → IsOk result }
-    ensures later { T.failures sources.old ≤ T.failures sources.new }
-    ensures sizes { T.sizes sources.new ≡ T.sizes sources.old }
-    ensures texts { T.texts sources.new ≡ T.texts sources.old }
-    ensures never_fails { T.never_fails sources.new ≡ T.never_fails sources.old }
+    ensures bytes { OnOk result (AreBytesOf (T.stated sources.old)
+        (map (Place s) (range_with_len place (length buffer.old))) buffer.new) }
+    ensures reads { ReadsSpan T.stated T.failures sources.old sources.new
+        (Place s) place (place + length buffer.old) result }
 {
     if s >= u32::from(sources.count()) {
         return Err(SourceFault::BadSource);
@@ -39,7 +35,8 @@ fn fill_answers<S: NodeSpace>(space: &S, leaf: NodeId, start: u64, buffer: &mut 
     requires there { leaf.0 < length (S.table space.now).nodes }
     requires function { IsFunction (view_at (S.table space.now) leaf.0) }
     requires inside { start + length buffer.old ≤ len_at (S.table space.now) leaf.0 }
-    ensures { buffer.new ≡ map ((S.table space.now).answer leaf.0) (range_with_len start (length buffer.old)) }
+    ensures { buffer.new
+        ≡ map ((S.table space.now).answer leaf.0) (range_with_len start (length buffer.old)) }
 {
     let _limit = space.len(leaf);
     for k in 0..buffer.len() {
@@ -60,14 +57,10 @@ pub fn fill_part<S: NodeSpace, T: Sources>(
     requires some { 1 ≤ length buffer.old }
     requires inside { start + length buffer.old ≤ len_at (S.table space.now) leaf.0 }
     ensures length { length buffer.new ≡ length buffer.old }
-    ensures bytes { OnOk result (AreBytesOf (T.texts sources.old) (take (length buffer.old) (drop start (cells (S.table space.now) leaf.0))) buffer.new) }
-    ensures fault { IfErr result (IsFaultAmong (T.sizes sources.old) (T.texts sources.old) (T.failures sources.old) (T.failures sources.new) (take (length buffer.old) (drop start (cells (S.table space.now) leaf.0)))) }
-    ensures succeeds { T.never_fails sources.old ≡ true → All (HoldsPlace (T.sizes sources.old)) (take (length buffer.old) (drop start (cells (S.table space.now) leaf.0))) → IsOk result }
-    ensures own_sources { T.never_fails sources.old ≡ true → T.sizes sources.old ≡ (S.table space.now).sources → IsOk result }
-    ensures later { T.failures sources.old ≤ T.failures sources.new }
-    ensures sizes { T.sizes sources.new ≡ T.sizes sources.old }
-    ensures texts { T.texts sources.new ≡ T.texts sources.old }
-    ensures never_fails { T.never_fails sources.new ≡ T.never_fails sources.old }
+    ensures bytes { OnOk result (AreBytesOf (T.stated sources.old)
+        (leaf_part (S.table space.now) leaf start (length buffer.old)) buffer.new) }
+    ensures reads { ReadsSpan T.stated T.failures sources.old sources.new
+        (cell_at (S.table space.now) leaf.0) start (start + length buffer.old) result }
 {
     match space.node(leaf) {
         NodeView::Lit { .. } => {

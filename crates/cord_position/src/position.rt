@@ -1,9 +1,10 @@
 //! Positions in a rope's text.
 
-ghost use Rattle.std.specs.Prelude.{◌≡◌, ◌↔◌, ◌<◌, ◌≤◌, ◌+◌, ◌-◌, ◌^◌, ℕ, min, true, length, map, take, drop, All, IsTrue, IsSome, IfSome, IfOk, IfErr, IsOk};
-ghost use Rattle.rope_node.specs.Denotes.{Byte, rope_len, rope_cells, IsRope};
-ghost use Rattle.cord_position.specs.Fetched.{IsFetched, IsPlaceFault, IsFaultAmong, HoldsPlace, rope_cell};
-ghost use Rattle.cord_position.specs.Runs.{rope_span, run_left, run_bytes, AreBytesOf, IsRun};
+ghost use Rattle.std.specs.Prelude.{◌≡◌, ◌↔◌, ◌<◌, ◌≤◌, ◌+◌, ◌-◌, ◌^◌, min, length, map, take, drop, IsTrue, IsSome, IfSome, IfOk};
+ghost use Rattle.rope_node.specs.Denotes.{Byte, rope_len, IsRope};
+ghost use Rattle.cord_position.specs.Fetched.{IsFetched, ReadsSpan};
+ghost use Rattle.cord_position.specs.Position.{bytes_here, cell_of, cells_here, left_here, text_len};
+ghost use Rattle.cord_position.specs.Runs.{rope_span, AreBytesOf, IsRun};
 
 use crate::fetch::fetch_byte;
 use crate::fill::fill_part;
@@ -44,7 +45,7 @@ impl<'a, S: NodeSpace> Pos<'a, S> {
 
     /// Whether a byte stands here, and not the end.
     pub fn valid(&self) -> bool
-        ensures { IsTrue result ↔ self.now.index < rope_len (S.table self.now.space) self.now.rope }
+        ensures { IsTrue result ↔ self.now.index < text_len S.table self.now }
     {
         self.place < rope_len(self.space, self.rope)
     }
@@ -63,17 +64,12 @@ impl<'a, S: NodeSpace> Pos<'a, S> {
     ///
     /// A source's fault, where the byte is one of that source and the read of it failed.
     pub fn fetch<T: Sources>(&self, sources: &mut T) -> Result<Option<u8>, SourceFault>
-        ensures byte { IfOk result (IsFetched (S.table self.now.space) (T.texts sources.old) self.now.rope self.now.index) }
-        ensures inside { IfOk result (λ found. IsSome found ↔ self.now.index < rope_len (S.table self.now.space) self.now.rope) }
-        ensures fault { IfErr result (IsPlaceFault (T.sizes sources.old) (T.texts sources.old) (T.failures sources.old) (T.failures sources.new) (rope_cell (S.table self.now.space) self.now.rope self.now.index)) }
-        ensures succeeds { T.never_fails sources.old ≡ true → HoldsPlace (T.sizes sources.old) (rope_cell (S.table self.now.space) self.now.rope self.now.index) → IsOk result }
-        ensures own_sources { T.never_fails sources.old ≡ true → T.sizes sources.old ≡ (S.table self.now.space).sources → IsOk result }
-
-        // A fetch changes no size and no text, nor whether the sources may fail.
-        ensures later { T.failures sources.old ≤ T.failures sources.new }
-        ensures sizes { T.sizes sources.new ≡ T.sizes sources.old }
-        ensures texts { T.texts sources.new ≡ T.texts sources.old }
-        ensures never_fails { T.never_fails sources.new ≡ T.never_fails sources.old }
+        ensures byte { IfOk result (IsFetched (S.table self.now.space) (T.stated sources.old)
+            self.now.rope self.now.index) }
+        ensures inside { IfOk result
+            (λ found. IsSome found ↔ self.now.index < text_len S.table self.now) }
+        ensures reads { ReadsSpan T.stated T.failures sources.old sources.new
+            (cell_of S.table self.now) self.now.index (self.now.index + 1) result }
     {
         let (byte, _) = fetch_byte(self.space, sources, self.rope, self.place)?;
         Ok(byte)
@@ -81,8 +77,8 @@ impl<'a, S: NodeSpace> Pos<'a, S> {
 
     /// Moves to the next place, and answers whether it moved: at the end it stays.
     pub fn next(&mut self) -> bool
-        ensures moved { IsTrue result ↔ self.old.index < rope_len (S.table self.old.space) self.old.rope }
-        ensures index { self.new.index ≡ min (self.old.index + 1) (rope_len (S.table self.old.space) self.old.rope) }
+        ensures moved { IsTrue result ↔ self.old.index < text_len S.table self.old }
+        ensures index { self.new.index ≡ min (self.old.index + 1) (text_len S.table self.old) }
         ensures space { self.new.space ≡ self.old.space }
         ensures rope { self.new.rope ≡ self.old.rope }
     {
@@ -109,7 +105,7 @@ impl<'a, S: NodeSpace> Pos<'a, S> {
 
     /// Moves on by `n` places, to the end where there are fewer.
     pub fn skip(&mut self, n: u64)
-        ensures index { self.new.index ≡ min (self.old.index + n) (rope_len (S.table self.old.space) self.old.rope) }
+        ensures index { self.new.index ≡ min (self.old.index + n) (text_len S.table self.old) }
         ensures space { self.new.space ≡ self.old.space }
         ensures rope { self.new.rope ≡ self.old.rope }
     {
@@ -119,10 +115,11 @@ impl<'a, S: NodeSpace> Pos<'a, S> {
 
     /// How many bytes there are from here to the end of the present leaf's span; at the end, 0.
     pub fn run_left(&self) -> u64
-        ensures exact { result ≡ run_left (S.table self.now.space) self.now.rope self.now.index }
-        ensures inside { self.now.index + result ≤ rope_len (S.table self.now.space) self.now.rope }
-        ensures run { IfSome (rope_span (S.table self.now.space) self.now.rope self.now.index) (IsRun (S.table self.now.space) self.now.rope self.now.index) }
-        ensures some { self.now.index < rope_len (S.table self.now.space) self.now.rope → 1 ≤ result }
+        ensures exact { result ≡ left_here S.table self.now }
+        ensures inside { self.now.index + result ≤ text_len S.table self.now }
+        ensures run { IfSome (rope_span (S.table self.now.space) self.now.rope self.now.index)
+            (IsRun (S.table self.now.space) self.now.rope self.now.index) }
+        ensures some { self.now.index < text_len S.table self.now → 1 ≤ result }
     {
         match find_run(self.space, self.rope, self.place) {
             Some(span) => span.len,
@@ -132,8 +129,9 @@ impl<'a, S: NodeSpace> Pos<'a, S> {
 
     /// The bytes from here to the end of the present leaf's span, where the leaf is a literal; elsewhere and at the end, none.
     pub fn run_bytes(&self) -> &[u8]
-        ensures exact { result.now ≡ run_bytes (S.table self.now.space) self.now.rope self.now.index }
-        ensures cells { 1 ≤ length result.now → map Byte result.now ≡ take (run_left (S.table self.now.space) self.now.rope self.now.index) (drop self.now.index (rope_cells (S.table self.now.space) self.now.rope)) }
+        ensures exact { result.now ≡ bytes_here S.table self.now }
+        ensures cells { 1 ≤ length result.now
+            → map Byte result.now ≡ cells_here S.table self.now (left_here S.table self.now) }
     {
         match find_run(self.space, self.rope, self.place) {
             Some(span) => literal_span(self.space, span),
@@ -149,19 +147,16 @@ impl<'a, S: NodeSpace> Pos<'a, S> {
     /// A source's fault, where the leaf is a part of that source and the read of these bytes failed. They may then be any bytes in the
     /// buffer.
     pub fn fill<T: Sources>(&self, sources: &mut T, buffer: &mut [u8]) -> Result<usize, SourceFault>
-        ensures count { IfOk result (λ n. n ≡ min (run_left (S.table self.now.space) self.now.rope self.now.index) (length buffer.old)) }
+        ensures count { IfOk result
+            (λ n. n ≡ min (left_here S.table self.now) (length buffer.old)) }
         ensures length { length buffer.new ≡ length buffer.old }
-        ensures rest { drop (min (run_left (S.table self.now.space) self.now.rope self.now.index) (length buffer.old)) buffer.new ≡ drop (min (run_left (S.table self.now.space) self.now.rope self.now.index) (length buffer.old)) buffer.old }
-        ensures bytes { IfOk result (λ n. AreBytesOf (T.texts sources.old) (take n (drop self.now.index (rope_cells (S.table self.now.space) self.now.rope))) (take n buffer.new)) }
-        ensures fault { IfErr result (IsFaultAmong (T.sizes sources.old) (T.texts sources.old) (T.failures sources.old) (T.failures sources.new) (take (min (run_left (S.table self.now.space) self.now.rope self.now.index) (length buffer.old)) (drop self.now.index (rope_cells (S.table self.now.space) self.now.rope)))) }
-        ensures succeeds { T.never_fails sources.old ≡ true → All (HoldsPlace (T.sizes sources.old)) (take (min (run_left (S.table self.now.space) self.now.rope self.now.index) (length buffer.old)) (drop self.now.index (rope_cells (S.table self.now.space) self.now.rope))) → IsOk result }
-        ensures own_sources { T.never_fails sources.old ≡ true → T.sizes sources.old ≡ (S.table self.now.space).sources → IsOk result }
-
-        // It changes no size and no text, nor whether the sources may fail.
-        ensures later { T.failures sources.old ≤ T.failures sources.new }
-        ensures sizes { T.sizes sources.new ≡ T.sizes sources.old }
-        ensures texts { T.texts sources.new ≡ T.texts sources.old }
-        ensures never_fails { T.never_fails sources.new ≡ T.never_fails sources.old }
+        ensures rest { let n = min (left_here S.table self.now) (length buffer.old) in
+            drop n buffer.new ≡ drop n buffer.old }
+        ensures bytes { IfOk result (λ n. AreBytesOf (T.stated sources.old)
+            (cells_here S.table self.now n) (take n buffer.new)) }
+        ensures reads { let n = min (left_here S.table self.now) (length buffer.old) in
+            ReadsSpan T.stated T.failures sources.old sources.new
+            (cell_of S.table self.now) self.now.index (self.now.index + n) result }
     {
         let Some(span) = find_run(self.space, self.rope, self.place) else {
             return Ok(0);

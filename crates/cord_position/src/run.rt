@@ -1,8 +1,9 @@
 //! The run of a rope's bytes from a place to the end of its leaf's span.
 
-ghost use Rattle.std.specs.Prelude.{◌≡◌, ◌↔◌, ◌<◌, ◌≤◌, ◌+◌, None, map, length, take, drop, IfSome};
+ghost use Rattle.std.specs.Prelude.{◌≡◌, ◌↔◌, ◌<◌, ◌≤◌, ◌+◌, None, map, length, IfSome};
 ghost use Rattle.rope_node.specs.Table.{view_at, len_at};
-ghost use Rattle.rope_node.specs.Denotes.{Byte, cells, rope_len, IsRope};
+ghost use Rattle.rope_node.specs.Denotes.{Byte, rope_len, IsRope};
+ghost use Rattle.cord_position.specs.Fetched.{leaf_part};
 ghost use Rattle.cord_position.specs.Runs.{rope_span, span_bytes, IsRun};
 
 use rope_node::{LeafSpan, NodeSpace, NodeView, Rope, find_span};
@@ -25,7 +26,8 @@ pub fn literal_span<S: NodeSpace>(space: &S, span: LeafSpan) -> &[u8]
     requires there { span.leaf.0 < length (S.table space.now).nodes }
     requires inside { span.start + span.len ≤ len_at (S.table space.now) span.leaf.0 }
     ensures exact { result.now ≡ span_bytes (S.table space.now) (Some span) }
-    ensures cells { 1 ≤ length result.now → map Byte result.now ≡ take span.len (drop span.start (cells (S.table space.now) span.leaf.0)) }
+    ensures cells { 1 ≤ length result.now
+        → map Byte result.now ≡ leaf_part (S.table space.now) span.leaf span.start span.len }
 {
     match space.node(span.leaf) {
         NodeView::Lit { .. } => &space.literal(span.leaf, span.start)[..span.len as usize],

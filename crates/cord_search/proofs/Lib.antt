@@ -1,6 +1,6 @@
-pub mod Appended
 pub mod Fetches
 pub mod Options
 pub mod Orders
 pub mod Standing
 pub mod Chunks
+pub mod TwoSpans

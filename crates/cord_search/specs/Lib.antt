@@ -1,5 +1,4 @@
 pub mod Order
 pub mod Places
 pub mod Stated
-pub mod Output
 pub mod Faults

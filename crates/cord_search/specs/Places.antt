@@ -22,6 +22,16 @@ pub record IsLastPlace (s t : List ℕ) (end k : ℕ) : Type 0 where
   pub stands : StandsAt s t k
   pub none_after : (j : ℕ) → k < j → j ≤ end → ¬ StandsAt s t j
 
+-- an answered place is from start on, and what stands there ends inside a text of this length
+abbrev pub IsFromOn : List ℕ → ℕ → ℕ → Option ℕ → Type 0
+IsFromOn s start len (Some k) = (start ≤ k) × (k + length s ≤ len)
+IsFromOn s start len None = Unit {0}
+
+-- an answered place is up to end, and what stands there ends inside a text of this length
+abbrev pub IsUpTo : List ℕ → ℕ → ℕ → Option ℕ → Type 0
+IsUpTo s end len (Some k) = (k ≤ end) × (k + length s ≤ len)
+IsUpTo s end len None = Unit {0}
+
 -- the first such place from start on, if there is one
 abbrev pub IsFirst : List ℕ → List ℕ → ℕ → Option ℕ → Type 0
 IsFirst s t start (Some k) = IsFirstPlace s t start k

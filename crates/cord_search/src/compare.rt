@@ -1,12 +1,12 @@
 //! The order of texts.
 
-ghost use Rattle.std.specs.Prelude.{◌≡◌, ◌≤◌, ℕ, true, IfOk, IfErr, IsOk};
-ghost use Rattle.rope_node.specs.Denotes.{rope_cells, IsRope};
+ghost use Rattle.std.specs.Prelude.{◌≡◌, IfOk};
+ghost use Rattle.rope_node.specs.Denotes.{IsRope};
+ghost use Rattle.cord_position.specs.Fetched.{rope_cell};
 ghost use Rattle.cord_search.specs.Order.{order};
-ghost use Rattle.cord_search.specs.Stated.{OfTexts, IsOrderOfParts};
-ghost use Rattle.cord_search.specs.Faults.{IsFaultOfTwo};
+ghost use Rattle.cord_search.specs.Stated.{OfTexts, OrdersParts, ReadsTwoSpans, longer};
 
-use crate::byte::byte_at;
+use crate::text_bytes::byte_at;
 use lazy_file::{SourceFault, Sources};
 use rope_node::{NodeSpace, Rope, rope_len};
 use std::cmp::Ordering;
@@ -27,15 +27,11 @@ pub fn ncmp<S: NodeSpace, T: Sources>(
 ) -> Result<Ordering, SourceFault>
     requires first { IsRope (S.table space.now) x }
     requires second { IsRope (S.table space.now) y }
-    ensures order { IfOk result (λ found. OfTexts (S.table space.now) (T.texts sources.old) x y (IsOrderOfParts i j n found)) }
-    ensures fault { IfErr result (IsFaultOfTwo (T.sizes sources.old) (T.texts sources.old) (T.failures sources.old) (T.failures sources.new) (rope_cells (S.table space.now) x) (rope_cells (S.table space.now) y)) }
-    ensures succeeds { T.never_fails sources.old ≡ true → T.sizes sources.old ≡ (S.table space.now).sources → IsOk result }
-
-    // A comparison changes no size and no text, nor whether the sources may fail.
-    ensures later { T.failures sources.old ≤ T.failures sources.new }
-    ensures sizes { T.sizes sources.new ≡ T.sizes sources.old }
-    ensures texts { T.texts sources.new ≡ T.texts sources.old }
-    ensures never_fails { T.never_fails sources.new ≡ T.never_fails sources.old }
+    ensures order { IfOk result
+        (OrdersParts (S.table space.now) (T.stated sources.old) x i y j n) }
+    ensures reads { ReadsTwoSpans T.stated T.failures sources.old sources.new
+        (rope_cell (S.table space.now) x) i
+        (rope_cell (S.table space.now) y) j n result }
 {
     for k in 0..n {
         let a = byte_at(space, sources, x, i, k)?;
@@ -63,13 +59,13 @@ pub fn cmp<S: NodeSpace, T: Sources>(
 ) -> Result<Ordering, SourceFault>
     requires first { IsRope (S.table space.now) x }
     requires second { IsRope (S.table space.now) y }
-    ensures order { IfOk result (λ found. OfTexts (S.table space.now) (T.texts sources.old) x y (λ t u. found ≡ order t u)) }
-    ensures fault { IfErr result (IsFaultOfTwo (T.sizes sources.old) (T.texts sources.old) (T.failures sources.old) (T.failures sources.new) (rope_cells (S.table space.now) x) (rope_cells (S.table space.now) y)) }
-    ensures succeeds { T.never_fails sources.old ≡ true → T.sizes sources.old ≡ (S.table space.now).sources → IsOk result }
-    ensures later { T.failures sources.old ≤ T.failures sources.new }
-    ensures sizes { T.sizes sources.new ≡ T.sizes sources.old }
-    ensures texts { T.texts sources.new ≡ T.texts sources.old }
-    ensures never_fails { T.never_fails sources.new ≡ T.never_fails sources.old }
+    ensures order { IfOk result (λ found.
+        OfTexts (S.table space.now) (T.stated sources.old) x y (λ t u. found ≡ order t u)) }
+    ensures parts { IfOk result (OrdersParts (S.table space.now) (T.stated sources.old)
+        x 0 y 0 (longer (S.table space.now) x y)) }
+    ensures reads { ReadsTwoSpans T.stated T.failures sources.old sources.new
+        (rope_cell (S.table space.now) x) 0 (rope_cell (S.table space.now) y) 0
+        (longer (S.table space.now) x y) result }
 {
     let n = rope_len(space, x).max(rope_len(space, y));
     ncmp(space, sources, x, 0, y, 0, n)

@@ -3,6 +3,7 @@
 ghost use Rattle.std.specs.Prelude.{◌≡◌, Some};
 ghost use Rattle.cord_search.specs.Faults.{find_fault_code};
 
+use byte_output::WriteFault;
 use lazy_file::SourceFault;
 use std::error::Error;
 use std::fmt;
@@ -55,5 +56,15 @@ impl From<SourceFault> for PutFault {
 
     fn from(fault: SourceFault) -> PutFault {
         PutFault::Source(fault)
+    }
+}
+
+impl From<WriteFault> for PutFault {
+    ghost use Rattle.cord_search.specs.declared.fault.PutFault.TheVariants.{Write};
+
+    ghost from_gives = { λ _ f. f ≡ Write };
+
+    fn from(_fault: WriteFault) -> PutFault {
+        PutFault::Write
     }
 }

@@ -1,17 +1,15 @@
 //! Comparison and search of the texts of ropes, and a text written to its end, byte by byte.
 #![tactic(auto)]
 
-mod byte;
 mod compare;
 mod fault;
-mod letter;
-mod output;
 mod pattern;
+mod single_bytes;
+mod text_bytes;
 mod write;
 
 pub use compare::{cmp, ncmp};
 pub use fault::{FindFault, PutFault};
-pub use letter::{chr, rchr};
-pub use output::write_bytes;
 pub use pattern::{PATTERN_LIMIT, find};
+pub use single_bytes::{chr, rchr};
 pub use write::put;

@@ -1,13 +1,14 @@
 //! The first place of a pattern.
 
-ghost use Rattle.std.specs.Prelude.{◌≡◌, ◌↔◌, ◌<◌, ◌≤◌, ℕ, true, length, take, drop, IfOk, IfErr, IsErrOf, IsOk};
-ghost use Rattle.rope_node.specs.Denotes.{rope_cells, IsRope};
-ghost use Rattle.cord_position.specs.Fetched.{IsFaultAmong};
-ghost use Rattle.cord_search.specs.Places.{IsFirst, search_limit};
-ghost use Rattle.cord_search.specs.Stated.{OfText};
+ghost use Rattle.std.specs.Prelude.{◌≡◌, ◌↔◌, ◌<◌, ◌≤◌, ◌+◌, true, length, take, drop, IfOk, IfErr, IsErrOf, IsOk};
+ghost use Rattle.rope_node.specs.Denotes.{IsRope, rope_len};
+ghost use Rattle.lazy_file.specs.SourceTexts.{Reads};
+ghost use Rattle.cord_position.specs.Fetched.{EachCell, IsReadable, ReadsSpan, rope_cell};
+ghost use Rattle.cord_search.specs.Places.{IsFromOn, search_limit};
+ghost use Rattle.cord_search.specs.Stated.{FindsFirst, OfSpan};
 ghost use Rattle.cord_search.specs.Faults.{IsFindFault};
 
-use crate::byte::byte_at;
+use crate::text_bytes::byte_at;
 use crate::fault::FindFault;
 use lazy_file::{SourceFault, Sources};
 use rope_node::{NodeSpace, Rope, rope_len};
@@ -24,13 +25,11 @@ fn stands_at<S: NodeSpace, T: Sources>(
     pattern: &[u8],
 ) -> Result<bool, SourceFault>
     requires { IsRope (S.table space.now) x }
-    ensures stands { IfOk result (λ stands. OfText (S.table space.now) (T.texts sources.old) x (λ t. (stands ≡ true) ↔ (take (length pattern.now) (drop place t) ≡ pattern.now))) }
-    ensures fault { IfErr result (IsFaultAmong (T.sizes sources.old) (T.texts sources.old) (T.failures sources.old) (T.failures sources.new) (rope_cells (S.table space.now) x)) }
-    ensures succeeds { T.never_fails sources.old ≡ true → T.sizes sources.old ≡ (S.table space.now).sources → IsOk result }
-    ensures later { T.failures sources.old ≤ T.failures sources.new }
-    ensures sizes { T.sizes sources.new ≡ T.sizes sources.old }
-    ensures texts { T.texts sources.new ≡ T.texts sources.old }
-    ensures never_fails { T.never_fails sources.new ≡ T.never_fails sources.old }
+    ensures stands { IfOk result (λ stands. OfSpan (S.table space.now) (T.stated sources.old)
+        x place (place + length pattern.now)
+        (λ t. (stands ≡ true) ↔ (take (length pattern.now) (drop place t) ≡ pattern.now))) }
+    ensures reads { ReadsSpan T.stated T.failures sources.old sources.new
+        (rope_cell (S.table space.now) x) place (place + length pattern.now) result }
 {
     for k in 0..pattern.len() {
         if byte_at(space, sources, x, place, k as u64)? != Some(pattern[k]) {
@@ -53,16 +52,17 @@ pub fn find<S: NodeSpace, T: Sources>(
     pattern: &[u8],
 ) -> Result<Option<u64>, FindFault>
     requires { IsRope (S.table space.now) x }
-    ensures too_long { IsErrOf result FindFault.PatternTooLong ↔ (search_limit < length pattern.now) }
-    ensures found { IfOk result (λ found. OfText (S.table space.now) (T.texts sources.old) x (λ t. IsFirst pattern.now t start found)) }
-    ensures fault { IfErr result (IsFindFault (T.sizes sources.old) (T.texts sources.old) (T.failures sources.old) (T.failures sources.new) (rope_cells (S.table space.now) x)) }
-    ensures succeeds { T.never_fails sources.old ≡ true → T.sizes sources.old ≡ (S.table space.now).sources → length pattern.now ≤ search_limit → IsOk result }
-
-    // A search changes no size and no text, nor whether the sources may fail.
-    ensures later { T.failures sources.old ≤ T.failures sources.new }
-    ensures sizes { T.sizes sources.new ≡ T.sizes sources.old }
-    ensures texts { T.texts sources.new ≡ T.texts sources.old }
-    ensures never_fails { T.never_fails sources.new ≡ T.never_fails sources.old }
+    ensures too_long { IsErrOf result FindFault.PatternTooLong
+        ↔ (search_limit < length pattern.now) }
+    ensures inside { IfOk result (IsFromOn pattern.now start (rope_len (S.table space.now) x)) }
+    ensures found { IfOk result
+        (FindsFirst (S.table space.now) (T.stated sources.old) x pattern.now start) }
+    ensures reads { Reads T.stated T.failures sources.old sources.new }
+    ensures fault { IfErr result (IsFindFault T.stated T.failures sources.old sources.new
+        (rope_cell (S.table space.now) x) start (rope_len (S.table space.now) x)) }
+    ensures succeeds { length pattern.now ≤ search_limit
+        → EachCell (rope_cell (S.table space.now) x) start (rope_len (S.table space.now) x)
+        (IsReadable (T.stated sources.old)) → IsOk result }
 {
     if pattern.len() > PATTERN_LIMIT {
         return Err(FindFault::PatternTooLong);

@@ -1,17 +1,18 @@
 //! A text written to its end.
 
-ghost use Rattle.std.specs.Prelude.{◌≡◌, ◌≤◌, ◌+◌, ℕ, true, length, take, drop, OnOk, OnErr, IfErr, IsOk};
+ghost use Rattle.std.specs.Prelude.{◌≡◌, ◌≤◌, ◌+◌, None, length, take, drop, OnOk, OnErr, IfErr, IsOk};
 ghost use Rattle.std.specs.Io.KnownBytes.{Appends};
-ghost use Rattle.rope_node.specs.Denotes.{rope_cells, IsRope};
-ghost use Rattle.cord_position.specs.Fetched.{IsFaultAmong};
-ghost use Rattle.cord_search.specs.Output.{AppendsPrefix};
-ghost use Rattle.cord_search.specs.Stated.{OfText};
+ghost use Rattle.rope_node.specs.Denotes.{IsRope, rope_len};
+ghost use Rattle.lazy_file.specs.SourceTexts.{Reads};
+ghost use Rattle.cord_position.specs.Fetched.{EachCell, IsReadable, ReadsSpan, rope_cell};
+ghost use Rattle.byte_output.specs.Prefix.{AppendsPrefix};
+ghost use Rattle.cord_search.specs.Stated.{OfSpan, OfText};
 ghost use Rattle.cord_search.specs.Faults.{IsPutFault};
 ghost use Rattle.cord_search.specs.declared.fault.PutFault.TheVariants.{Write};
 
-use crate::byte::byte_at;
 use crate::fault::PutFault;
-use crate::output::write_bytes;
+use crate::text_bytes::byte_at;
+use byte_output::write_bytes;
 use lazy_file::{SourceFault, Sources};
 use rope_node::{NodeSpace, Rope, rope_len};
 use std::io;
@@ -29,13 +30,11 @@ fn fill<S: NodeSpace, T: Sources>(
 ) -> Result<(), SourceFault>
     requires { IsRope (S.table space.now) x }
     ensures length { length chunk.new ≡ length chunk.old }
-    ensures bytes { OnOk result (OfText (S.table space.now) (T.texts sources.old) x (λ t. start + length chunk.old ≤ length t → chunk.new ≡ take (length chunk.old) (drop start t))) }
-    ensures fault { IfErr result (IsFaultAmong (T.sizes sources.old) (T.texts sources.old) (T.failures sources.old) (T.failures sources.new) (rope_cells (S.table space.now) x)) }
-    ensures succeeds { T.never_fails sources.old ≡ true → T.sizes sources.old ≡ (S.table space.now).sources → IsOk result }
-    ensures later { T.failures sources.old ≤ T.failures sources.new }
-    ensures sizes { T.sizes sources.new ≡ T.sizes sources.old }
-    ensures texts { T.texts sources.new ≡ T.texts sources.old }
-    ensures never_fails { T.never_fails sources.new ≡ T.never_fails sources.old }
+    ensures bytes { OnOk result (OfSpan (S.table space.now) (T.stated sources.old) x
+        start (start + length chunk.old) (λ t. start + length chunk.old ≤ length t
+        → chunk.new ≡ take (length chunk.old) (drop start t))) }
+    ensures reads { ReadsSpan T.stated T.failures sources.old sources.new
+        (rope_cell (S.table space.now) x) start (start + length chunk.old) result }
 {
     for j in 0..chunk.len() {
         let found = byte_at(space, sources, x, start, j as u64)?;
@@ -56,16 +55,16 @@ pub fn put<S: NodeSpace, T: Sources, W: io::Write>(
     writer: &mut W,
 ) -> Result<(), PutFault>
     requires { IsRope (S.table space.now) x }
-    ensures ok { OnOk result (OfText (S.table space.now) (T.texts sources.old) x (Appends (W.contents writer.old) (W.contents writer.new))) }
-    ensures err { OnErr result (OfText (S.table space.now) (T.texts sources.old) x (AppendsPrefix (W.contents writer.old) (W.contents writer.new))) }
-    ensures fault { IfErr result (IsPutFault (T.sizes sources.old) (T.texts sources.old) (T.failures sources.old) (T.failures sources.new) (rope_cells (S.table space.now) x)) }
-    ensures succeeds { T.never_fails sources.old ≡ true → T.sizes sources.old ≡ (S.table space.now).sources → IfErr result (λ e. e ≡ Write) }
-
-    // A write of the text changes no size and no text of a source, nor whether the sources may fail.
-    ensures later { T.failures sources.old ≤ T.failures sources.new }
-    ensures sizes { T.sizes sources.new ≡ T.sizes sources.old }
-    ensures texts { T.texts sources.new ≡ T.texts sources.old }
-    ensures never_fails { T.never_fails sources.new ≡ T.never_fails sources.old }
+    ensures ok { OnOk result (OfText (S.table space.now) (T.stated sources.old) x
+        (Appends (W.contents writer.old) (W.contents writer.new))) }
+    ensures err { OnErr result (OfText (S.table space.now) (T.stated sources.old) x
+        (AppendsPrefix (W.contents writer.old) (W.contents writer.new))) }
+    ensures nothing { x ≡ None → IsOk result }
+    ensures reads { Reads T.stated T.failures sources.old sources.new }
+    ensures fault { IfErr result (IsPutFault T.stated T.failures sources.old sources.new
+        (rope_cell (S.table space.now) x) 0 (rope_len (S.table space.now) x)) }
+    ensures succeeds { EachCell (rope_cell (S.table space.now) x) 0 (rope_len (S.table space.now) x)
+        (IsReadable (T.stated sources.old)) → IfErr result (λ e. e ≡ Write) }
 {
     let len = rope_len(space, x);
     let mut chunk = [0; CHUNK];

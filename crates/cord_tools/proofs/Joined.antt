@@ -14,10 +14,11 @@ use Rattle.rope_node.specs.Denotes.{Cell, Place, cell_byte, rope_cells, rope_len
 use Rattle.rope_node.specs.Extends.{Extends}
 use Rattle.rope_node.proofs.Ropes.{rope_kept, rope_cells_kept}
 use Rattle.rebalance.proofs.SlotSteps.{rope_length}
-use Rattle.lazy_file.specs.SourceTexts.{text_at}
+use Rattle.lazy_file.specs.SourceTexts.{Stated, text_at}
 use Rattle.cord_position.specs.Fetched.{AreStated, IsStated}
+use Rattle.cord_position.proofs.Spans.{each_cell}
 use Rattle.cord_search.specs.Stated.{OfText}
-use Rattle.cord_tools.specs.Files.{OfAllFiles, cells_of, file_bytes, file_cells}
+use Rattle.cord_tools.specs.Files.{OfAllFiles, all_cells, cells_of, file_bytes, file_cells}
 use Rattle.cord_tools.proofs.Spans.{places_text}
 
 range_in_two : (first m n : ℕ) → range_with_len first (m + n) ≡ range_with_len first m ++ range_with_len (first + m) n
@@ -64,19 +65,19 @@ text_of_files sizes source [] = refl
 text_of_files sizes source (s ∷ ss) =
     map-append (cell_byte source) (file_cells sizes s) (flat_map (file_cells sizes) ss) ∙ ap₂ (λ (xs ys : List ℕ). xs ++ ys) (places_text source s (range_with_len 0 (get_or sizes s 0))) (text_of_files sizes source ss)
 
-first_stated : (sizes : List ℕ) (texts : List (Option (List ℕ))) (n : ℕ) → ((s : ℕ) → s < n → IsSome (text_at texts s)) → AreStated texts (cells_of sizes 0 n)
-first_stated sizes texts zero stated = All-nil (IsStated texts)
-first_stated sizes texts (suc n) stated =
-    let file : AreStated texts (file_cells sizes n) = All-map (IsStated texts) (Place n) (range_with_len 0 (get_or sizes n 0)) (λ k d lt. stated n (omega arith)) in
-    let before : AreStated texts (cells_of sizes 0 n) = first_stated sizes texts n (λ s lt. stated s (omega (arith, lt))) in
-    subst (AreStated texts) (sym (one_more sizes n)) (All-append (IsStated texts) (cells_of sizes 0 n) (file_cells sizes n) before file)
+first_stated : (sizes : List ℕ) (st : Stated) (n : ℕ) → ((s : ℕ) → s < n → IsSome (text_at st s)) → AreStated st (cells_of sizes 0 n)
+first_stated sizes st zero stated = All-nil (IsStated st)
+first_stated sizes st (suc n) stated =
+    let file : AreStated st (file_cells sizes n) = All-map (IsStated st) (Place n) (range_with_len 0 (get_or sizes n 0)) (λ k d lt. stated n (omega arith)) in
+    let before : AreStated st (cells_of sizes 0 n) = first_stated sizes st n (λ s lt. stated s (omega (arith, lt))) in
+    subst (AreStated st) (sym (one_more sizes n)) (All-append (IsStated st) (cells_of sizes 0 n) (file_cells sizes n) before file)
 
 -- what is told of the text of a rope of all the sources is told of all the files
-pub of_all : (t : Table) (sizes : List ℕ) (texts : List (Option (List ℕ))) (rope : Option NodeId) (P : List ℕ → Type 0) → rope_cells t rope ≡ cells_of sizes 0 (length sizes)
-    → OfText t texts rope P → OfAllFiles sizes texts P
-of_all t sizes texts rope P is told source agrees stated =
-    subst P (ap (text source) is ∙ text_of_files sizes source (range_with_len 0 (length sizes)))
-    (told source agrees (subst (AreStated texts) (sym is) (first_stated sizes texts (length sizes) stated)))
+pub of_all : (t : Table) (st : Stated) (rope : Option NodeId) (P : List ℕ → Type 0) → rope_cells t rope ≡ all_cells st.sizes
+    → OfText t st rope P → OfAllFiles st P
+of_all t st rope P is told source agrees stated =
+    subst P (ap (text source) is ∙ text_of_files st.sizes source (range_with_len 0 (length st.sizes)))
+    (told source agrees (each_cell t rope (IsStated st) tt (subst (AreStated st) (sym is) (first_stated st.sizes st (length st.sizes) stated)) 0 (rope_len t rope)))
 
 -- the rope of some sources, and later that of those behind them
 pub two_ranges : (t u : Table) (sizes : List ℕ) (first m n count : ℕ) (left right : Option NodeId) → IsSound t → IsSound u → HasTrueRecords u → Extends t u → m + n ≡ count → IsRope t left → rope_cells t left ≡ cells_of sizes first m → IsRope u right → rope_cells u right ≡ cells_of sizes (first + m) n

@@ -5,7 +5,7 @@ use Rattle.std.proofs.lemmas.List.{get_or-map, get_or-take, length-map, length-t
 use Rattle.lazy_file.specs.SourceTexts.{AreSizes, count_limit, longest_source}
 use Rattle.lazy_file.specs.declared.faults.AddFault.{AddFault}
 use Rattle.lazy_file.specs.declared.faults.AddFault.TheVariants.{TooManySources, SourceTooLong, Memory}
-use Rattle.cord_tools.specs.Sources.{RefusesSources, source_fault, texts_in}
+use Rattle.cord_tools.specs.Sources.{RefusesSources, texts_in}
 
 -- the texts before place i
 before : (texts : List (Vec ℕ)) (i : ℕ) → i < length texts → length (texts_in (take i texts)) ≡ i
@@ -15,7 +15,7 @@ before texts i inside = length-map (take i texts) (λ (v : Vec ℕ). v.items) �
 pub text_refused : (texts : List (Vec ℕ)) (i : ℕ) (item : Vec ℕ) (old : List (List ℕ)) (text : List ℕ) (fault : AddFault) → i < length texts → item ≡ get_or texts i item → text ≡ item.items
     → old ≡ texts_in (take i texts) → AreSizes (map length old)
     → (fault ≡ TooManySources → length old ≡ count_limit) → (fault ≡ SourceTooLong → (length old < count_limit) × (longest_source < length text))
-    → RefusesSources (texts_in texts) (source_fault fault)
+    → RefusesSources (texts_in texts) fault
 text_refused texts i item old text Memory inside at of is sizes many long = tt
 text_refused texts i item old text TooManySources inside at of is sizes many long =
     let full : i ≡ count_limit = sym (before texts i inside) ∙ ap length (sym is) ∙ many refl in

@@ -8,7 +8,7 @@ use Rattle.std.proofs.lemmas.List.Elements.{All-get_or, All-map}
 use Rattle.std.proofs.lemmas.List.FromFn.{length-range_with_len, length-map-range_with_len}
 use Rattle.rope_node.specs.declared.node.NodeId.{NodeId}
 use Rattle.rope_node.specs.Table.{Node, Table, no_node}
-use Rattle.rope_node.specs.Denotes.{Place, cells_in, node_cells, rope_cells, text}
+use Rattle.rope_node.specs.Denotes.{Place, cells_in, node_cells, rope_cells, rope_len, text}
 use Rattle.rope_node.specs.Extends.{Extends}
 use Rattle.rope_node.proofs.Parts.{span-map, span-range_with_len}
 use Rattle.node_table.specs.Held.{Held, most_nodes, most_sources, table_of}
@@ -17,10 +17,11 @@ use Rattle.node_table.specs.declared.fault.NodeFault.TheVariants.{Memory, TooLon
 use Rattle.rope_store.specs.Additions.{after, new_node, source_added}
 use Rattle.rope_store.specs.Refusals.{Refuses}
 use Rattle.leaf_buffer.proofs.Appending.{appended_nothing}
-use Rattle.lazy_file.specs.SourceTexts.{AreSizes, longest_source, text_at}
-use Rattle.cord_position.specs.Fetched.{AreStated, IsStated}
-use Rattle.cord_search.specs.Stated.{OfText, OfTexts}
-use Rattle.cord_tools.specs.Files.{OfFile, OfFiles, file_bytes}
+use Rattle.lazy_file.specs.SourceTexts.{AreSizes, Stated, longest_source, text_at}
+use Rattle.cord_position.specs.Fetched.{AreStated, EachCell, IsStated, rope_cell}
+use Rattle.cord_position.proofs.Spans.{each_cell}
+use Rattle.cord_search.specs.Stated.{OfSpan, OfTexts}
+use Rattle.cord_tools.specs.Files.{OfFile, OfFiles, file_bytes, file_cells}
 use Rattle.cord_tools.specs.Spans.{IsSourcePart, IsSpan, source_leaf}
 
 -- ---- which fault comes
@@ -132,31 +133,50 @@ part_text t source s start count rope is =
     ∙ ap (map (source s)) (sym (range_part len start count))
     ∙ sym (span-map (source s) count start (range_with_len 0 len))
 
-part_stated : (t : Table) (texts : List (Option (List ℕ))) (s start count : ℕ) (rope : Option NodeId) → IsSourcePart t s start count rope → IsSome (text_at texts s) → AreStated texts (rope_cells t rope)
-part_stated t texts s start count rope is stated =
+part_stated : (t : Table) (st : Stated) (s start count : ℕ) (rope : Option NodeId) → IsSourcePart t s start count rope → IsSome (text_at st s) → AreStated st (rope_cells t rope)
+part_stated t st s start count rope is stated =
     let len = get_or t.sources s 0 in
     let places = range_with_len (min start len) (min count (len - min start len)) in
-    subst (AreStated texts) (sym (span_cells t s (min start len) (min count (len - min start len)) rope is)) (All-map (IsStated texts) (Place s) places (λ k d lt. stated))
+    subst (AreStated st) (sym (span_cells t s (min start len) (min count (len - min start len)) rope is)) (All-map (IsStated st) (Place s) places (λ k d lt. stated))
+
+-- where the source states its text, each of the rope's cells is stated
+each_stated : (t : Table) (st : Stated) (s start count : ℕ) (rope : Option NodeId) → IsSourcePart t s start count rope → IsSome (text_at st s) → (i j : ℕ) → EachCell (rope_cell t rope) i j (IsStated st)
+each_stated t st s start count rope is stated i j = each_cell t rope (IsStated st) tt (part_stated t st s start count rope is stated) i j
 
 -- what is told of the rope's text is told of the part of the file
-pub of_part : (t : Table) (sizes : List ℕ) (texts : List (Option (List ℕ))) (s start count : ℕ) (rope : Option NodeId) (P : List ℕ → Type 0) → t.sources ≡ sizes → IsSourcePart t s start count rope
-    → OfText t texts rope P → OfFile sizes texts s (λ u. P (take count (drop start u)))
-of_part t sizes texts s start count rope P own is told source agrees stated =
+pub of_part : (t : Table) (st : Stated) (s start count : ℕ) (rope : Option NodeId) (i j : ℕ) (P : List ℕ → Type 0) → t.sources ≡ st.sizes → IsSourcePart t s start count rope
+    → OfSpan t st rope i j P → OfFile st s (λ u. P (take count (drop start u)))
+of_part t st s start count rope i j P own is told source agrees stated =
     subst P (part_text t source s start count rope is ∙ ap (λ (ns : List ℕ). take count (drop start (file_bytes ns source s))) own)
-    (told source agrees (part_stated t texts s start count rope is stated))
+    (told source agrees (each_stated t st s start count rope is stated i j))
 
 -- all the bytes of a file
 whole_bytes : (sizes : List ℕ) (source : ℕ → ℕ → ℕ) (s count : ℕ) → AreSizes sizes → s < length sizes → longest_source ≤ count → take count (drop 0 (file_bytes sizes source s)) ≡ file_bytes sizes source s
 whole_bytes sizes source s count limits there big =
     take_all count (file_bytes sizes source s) (omega (arith, big, length-map-range_with_len (source s) 0 (get_or sizes s 0), All-get_or (λ n. n ≤ longest_source) sizes s 0 there limits.each))
 
-pub of_whole : (sizes : List ℕ) (texts : List (Option (List ℕ))) (s count : ℕ) (P : List ℕ → Type 0) → AreSizes sizes → s < length sizes → longest_source ≤ count → OfFile sizes texts s (λ u. P (take count (drop 0 u))) → OfFile sizes texts s P
-of_whole sizes texts s count P limits there big told source agrees stated = subst P (whole_bytes sizes source s count limits there big) (told source agrees stated)
+pub of_whole : (st : Stated) (s count : ℕ) (P : List ℕ → Type 0) → AreSizes st.sizes → s < length st.sizes → longest_source ≤ count → OfFile st s (λ u. P (take count (drop 0 u))) → OfFile st s P
+of_whole st s count P limits there big told source agrees stated = subst P (whole_bytes st.sizes source s count limits there big) (told source agrees stated)
 
-pub of_files : (t : Table) (sizes : List ℕ) (texts : List (Option (List ℕ))) (s r count : ℕ) (x y : Option NodeId) (P : List ℕ → List ℕ → Type 0) → AreSizes sizes → s < length sizes → r < length sizes → longest_source ≤ count → t.sources ≡ sizes
-    → IsSourcePart t s 0 count x → IsSourcePart t r 0 count y → OfTexts t texts x y P → OfFiles sizes texts s r P
-of_files t sizes texts s r count x y P limits first second big own is other told source agrees here there =
-    let bytes : (q : ℕ) (rope : Option NodeId) → q < length sizes → IsSourcePart t q 0 count rope → text source (rope_cells t rope) ≡ file_bytes sizes source q =
-    λ q rope lt part. part_text t source q 0 count rope part ∙ ap (λ (ns : List ℕ). take count (drop 0 (file_bytes ns source q))) own ∙ whole_bytes sizes source q count limits lt big in
-    let both = told source agrees (part_stated t texts s 0 count x is here) (part_stated t texts r 0 count y other there) in
-    subst (λ (u : List ℕ). P u (file_bytes sizes source r)) (bytes s x first is) (subst (P (text source (rope_cells t x))) (bytes r y second other) both)
+pub of_files : (t : Table) (st : Stated) (s r count : ℕ) (x y : Option NodeId) (P : List ℕ → List ℕ → Type 0) → AreSizes st.sizes → s < length st.sizes → r < length st.sizes → longest_source ≤ count → t.sources ≡ st.sizes
+    → IsSourcePart t s 0 count x → IsSourcePart t r 0 count y → OfTexts t st x y P → OfFiles st s r P
+of_files t st s r count x y P limits first second big own is other told source agrees here there =
+    let bytes : (q : ℕ) (rope : Option NodeId) → q < length st.sizes → IsSourcePart t q 0 count rope → text source (rope_cells t rope) ≡ file_bytes st.sizes source q =
+    λ q rope lt part. part_text t source q 0 count rope part ∙ ap (λ (ns : List ℕ). take count (drop 0 (file_bytes ns source q))) own ∙ whole_bytes st.sizes source q count limits lt big in
+    let both = told source agrees (each_stated t st s 0 count x is here 0 (rope_len t x)) (each_stated t st r 0 count y other there 0 (rope_len t y)) in
+    subst (λ (u : List ℕ). P u (file_bytes st.sizes source r)) (bytes s x first is) (subst (P (text source (rope_cells t x))) (bytes r y second other) both)
+
+-- ---- its cells
+
+pub part_cells : (t : Table) (sizes : List ℕ) (s start count : ℕ) (rope : Option NodeId) → t.sources ≡ sizes → IsSourcePart t s start count rope → rope_cells t rope ≡ take count (drop start (file_cells sizes s))
+part_cells t sizes s start count rope own is =
+    let len = get_or t.sources s 0 in
+    span_cells t s (min start len) (min count (len - min start len)) rope is
+    ∙ ap (map (Place s)) (sym (range_part len start count))
+    ∙ sym (span-map (Place s) count start (range_with_len 0 len))
+    ∙ ap (λ (ns : List ℕ). take count (drop start (file_cells ns s))) own
+
+pub whole_cells : (t : Table) (sizes : List ℕ) (s count : ℕ) (rope : Option NodeId) → t.sources ≡ sizes → AreSizes sizes → s < length sizes → longest_source ≤ count → IsSourcePart t s 0 count rope → rope_cells t rope ≡ file_cells sizes s
+whole_cells t sizes s count rope own limits there big is =
+    part_cells t sizes s 0 count rope own is
+    ∙ take_all count (file_cells sizes s) (omega (arith, big, length-map-range_with_len (Place s) 0 (get_or sizes s 0), All-get_or (λ n. n ≤ longest_source) sizes s 0 there limits.each))

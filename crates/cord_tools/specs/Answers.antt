@@ -1,23 +1,27 @@
 -- What the tools answer.
-use Rattle.std.specs.Prelude.{◌≡◌, ◌⊎◌, ℕ, List, ◌++◌, ◌<◌, ◌≤◌, length, map, take, Option, Some, Result, Ok, Err, IfSome, codes}
+use Rattle.std.specs.Prelude.{◌≡◌, ◌≢◌, ◌⊎◌, ℕ, List, ◌++◌, ◌<◌, ◌≤◌, length, take, Option, Result, Ok, Err, All, IfSome, codes}
 use Rattle.std.specs.Fmt.{decimal}
 use Rattle.std.specs.Io.KnownBytes.{Appends, Keeps}
-use Rattle.lazy_file.specs.SourceTexts.{Agrees, AreSizes}
+use Rattle.byte_output.specs.Prefix.{AppendsPrefix}
+use Rattle.lazy_file.specs.SourceTexts.{Agrees, Reads, Stated}
 use Rattle.lazy_file.specs.Faults.{add_fault_code}
 use Rattle.lazy_file.specs.declared.faults.AddFault.{AddFault}
+use Rattle.lazy_file.specs.declared.faults.AddFault.TheVariants as Add
+use Rattle.rope_node.specs.Denotes.{Cell, rope_cells}
+use Rattle.cord_position.specs.Fetched.{AreStated, IsReadable}
 use Rattle.image_reader.specs.Acceptance.{HasSources}
 use Rattle.image_reader.specs.Value.{ImageValue, IsImage, table_of}
 use Rattle.image_reader.specs.Spelling.{spelling}
 use Rattle.session_checker.specs.declared.fault.CheckFault.{CheckFault}
 use Rattle.session_checker.specs.Accepted.{IsAccepted, IsFirstFault}
-use Rattle.session_checker.specs.Faithful.{IsFaithful, text_of}
+use Rattle.session_checker.specs.Faithful.{IsFaithful, revision_text}
+use Rattle.session_checker.specs.RevisionRules.{revision_at}
 use Rattle.session_checker.specs.Codes.{fault_code}
+use Rattle.cord_tools.specs.Unread.{IsUnread}
 use Rattle.cord_tools.specs.declared.fault.ToolFault.{ToolFault}
 use Rattle.cord_tools.specs.declared.fault.ToolFault.TheVariants.{Memory, Read, Write, Refused, Source, NoRevision, PatternTooLong, Rope}
 use Rattle.cord_tools.specs.declared.status.Status.{Status}
 use Rattle.cord_tools.specs.declared.status.Status.TheVariants.{Success, Failure}
-use Rattle.cord_tools.specs.Sources.{RefusesSources}
-use Rattle.cord_search.specs.Output.{AppendsPrefix}
 
 -- one more byte than the largest image has
 abbrev pub image_limit : ℕ
@@ -54,43 +58,71 @@ abbrev pub AnswersWith : List ℕ → List ℕ → List ℕ → Status → Type 
 AnswersWith bytes sizes line Success = (v : ImageValue) × SpellsFaithful bytes sizes v × (line ≡ accepted_line v)
 AnswersWith bytes sizes line Failure = (f : CheckFault) × IsFirstFault bytes sizes f × (line ≡ refused_line f)
 
--- one of the texts is refused as a source, and the line says so
-abbrev pub AnswersSources : List (List ℕ) → List ℕ → Status → Type 0
-AnswersSources texts line Success = ⊥
-AnswersSources texts line Failure = (f : AddFault) × RefusesSources texts (Source f) × (line ≡ refused_source_line f)
+-- The line that answers for the bytes read was written; where the writer failed, a prefix of it; where the tool was stopped before,
+-- nothing.
+abbrev pub AnswersCheck : Option (List ℕ) → List ℕ → Option (List ℕ) → Option (List ℕ) → Result Status ToolFault → Type 0
+AnswersCheck remaining sizes before after (Ok status) = (bytes : List ℕ) × (line : List ℕ) × AreRead remaining bytes × AnswersWith bytes sizes line status × Appends before after line
+AnswersCheck remaining sizes before after (Err Write) = (bytes : List ℕ) × (line : List ℕ) × (status : Status) × AreRead remaining bytes × AnswersWith bytes sizes line status × AppendsPrefix before after line
+AnswersCheck remaining sizes before after (Err Read) = Keeps before after
+AnswersCheck remaining sizes before after (Err Memory) = Keeps before after
+AnswersCheck remaining sizes before after (Err (Refused f)) = ⊥
+AnswersCheck remaining sizes before after (Err (Source f)) = ⊥
+AnswersCheck remaining sizes before after (Err NoRevision) = ⊥
+AnswersCheck remaining sizes before after (Err PatternTooLong) = ⊥
+AnswersCheck remaining sizes before after (Err (Rope f)) = ⊥
 
--- the line and the status that answer for these bytes with sources of these texts, which come before the bytes
-abbrev pub AnswersCheck : List ℕ → List (List ℕ) → List ℕ → Status → Type 0
-AnswersCheck bytes texts line status = (AreSizes (map length texts) × AnswersWith bytes (map length texts) line status) ⊎ AnswersSources texts line status
+-- The check reads no source.
+pub record ChecksImage {T : Type 0} (stated : T → Stated) (old new : T) (remaining before after : Option (List ℕ))
+    (outcome : Result Status ToolFault) : Type 0 where
+  pub answer : AnswersCheck remaining (stated old).sizes before after outcome
+  pub untouched : new ≡ old
 
--- The line that answers for the bytes read was written; where the writer failed, a prefix of it; where the tool was stopped before, nothing.
-abbrev pub ChecksInput : Option (List ℕ) → List (List ℕ) → Option (List ℕ) → Option (List ℕ) → Result Status ToolFault → Type 0
-ChecksInput remaining texts old new (Ok status) = (bytes : List ℕ) × (line : List ℕ) × AreRead remaining bytes × AnswersCheck bytes texts line status × Appends old new line
-ChecksInput remaining texts old new (Err Write) = (bytes : List ℕ) × (line : List ℕ) × (status : Status) × AreRead remaining bytes × AnswersCheck bytes texts line status × AppendsPrefix old new line
-ChecksInput remaining texts old new (Err Read) = Keeps old new
-ChecksInput remaining texts old new (Err Memory) = Keeps old new
-ChecksInput remaining texts old new (Err (Refused f)) = ⊥
-ChecksInput remaining texts old new (Err (Source f)) = ⊥
-ChecksInput remaining texts old new (Err NoRevision) = ⊥
-ChecksInput remaining texts old new (Err PatternTooLong) = ⊥
-ChecksInput remaining texts old new (Err (Rope f)) = ⊥
+-- The line that refuses a source was written, and the status tells a refusal; where the writer failed, a prefix of that line. Want of
+-- memory is no refusal, and then nothing was written.
+abbrev pub RefusesCheck : AddFault → Option (List ℕ) → Option (List ℕ) → Result Status ToolFault → Type 0
+RefusesCheck refusal before after (Ok status) = (status ≡ Failure) × (refusal ≢ Add.Memory) × Appends before after (refused_source_line refusal)
+RefusesCheck refusal before after (Err Write) = (refusal ≢ Add.Memory) × AppendsPrefix before after (refused_source_line refusal)
+RefusesCheck refusal before after (Err Memory) = Keeps before after
+RefusesCheck refusal before after (Err Read) = ⊥
+RefusesCheck refusal before after (Err (Refused f)) = ⊥
+RefusesCheck refusal before after (Err (Source f)) = ⊥
+RefusesCheck refusal before after (Err NoRevision) = ⊥
+RefusesCheck refusal before after (Err PatternTooLong) = ⊥
+RefusesCheck refusal before after (Err (Rope f)) = ⊥
 
--- the bytes read spell a faithful image with sources of these texts
-abbrev pub ReadsFaithful : Option (List ℕ) → List (List ℕ) → ImageValue → Type 0
-ReadsFaithful remaining texts v = (bytes : List ℕ) × AreRead remaining bytes × SpellsFaithful bytes (map length texts) v
+-- the cells of revision k
+abbrev pub revision_cells : ImageValue → ℕ → List Cell
+revision_cells v k = rope_cells (table_of v) (revision_at v k).root
 
--- the bytes of the sources agree with these texts
-abbrev pub AreOf : List (List ℕ) → (ℕ → ℕ → ℕ) → Type 0
-AreOf texts source = Agrees (map Some texts) source
+-- P holds of the text of revision k, whatever bytes the sources have that agree with what they state, where its cells are stated
+abbrev pub OfRevision : ImageValue → Stated → ℕ → (List ℕ → Type 0) → Type 0
+OfRevision v st k P = (source : ℕ → ℕ → ℕ) → Agrees st source → AreStated st (revision_cells v k) → P (revision_text v source k)
 
--- The text of the revision over the sources' texts was written; where the writer failed, a prefix of it; otherwise nothing.
-abbrev pub ShowsRevision : Option (List ℕ) → List (List ℕ) → ℕ → Option (List ℕ) → Option (List ℕ) → Result (Unit {0}) ToolFault → Type 0
-ShowsRevision remaining texts k old new (Ok u) = (v : ImageValue) × ReadsFaithful remaining texts v × (k < length v.revisions) × ((source : ℕ → ℕ → ℕ) → AreOf texts source → Appends old new (text_of v source k))
-ShowsRevision remaining texts k old new (Err Write) = (v : ImageValue) × ReadsFaithful remaining texts v × (k < length v.revisions) × ((source : ℕ → ℕ → ℕ) → AreOf texts source → AppendsPrefix old new (text_of v source k))
-ShowsRevision remaining texts k old new (Err Read) = Keeps old new
-ShowsRevision remaining texts k old new (Err Memory) = Keeps old new
-ShowsRevision remaining texts k old new (Err (Refused f)) = Keeps old new × AreSizes (map length texts) × ((bytes : List ℕ) × AreRead remaining bytes × IsFirstFault bytes (map length texts) f)
-ShowsRevision remaining texts k old new (Err (Source f)) = Keeps old new × RefusesSources texts (Source f)
-ShowsRevision remaining texts k old new (Err NoRevision) = Keeps old new × ((v : ImageValue) × ReadsFaithful remaining texts v × (length v.revisions ≤ k))
-ShowsRevision remaining texts k old new (Err PatternTooLong) = ⊥
-ShowsRevision remaining texts k old new (Err (Rope f)) = ⊥
+-- the bytes read spell a faithful image with these sources, and P holds of the text of its revision k
+pub record ReadsRevision (remaining : Option (List ℕ)) (st : Stated) (k : ℕ) (v : ImageValue) (P : List ℕ → Type 0) : Type 0 where
+  pub bytes : List ℕ
+  pub read : AreRead remaining bytes
+  pub spelled : SpellsFaithful bytes st.sizes v
+  pub there : k < length v.revisions
+  pub text : OfRevision v st k P
+
+-- The text of the revision was written; where it ended before, a prefix of it, or nothing. Before the text begins no source is read,
+-- and where each of its cells is readable, it can end for the writer alone.
+abbrev pub AnswersShow : {T : Type 0} → (T → Stated) → (T → ℕ) → T → T → Option (List ℕ) → ℕ → Option (List ℕ) → Option (List ℕ) → Result (Unit {0}) ToolFault → Type 0
+AnswersShow stated failures old new remaining k before after (Ok u) = (v : ImageValue) × ReadsRevision remaining (stated old) k v (Appends before after)
+AnswersShow stated failures old new remaining k before after (Err Write) = (v : ImageValue) × ReadsRevision remaining (stated old) k v (AppendsPrefix before after)
+AnswersShow stated failures old new remaining k before after (Err Read) = (Keeps before after × (new ≡ old))
+    ⊎ ((v : ImageValue) × ReadsRevision remaining (stated old) k v (AppendsPrefix before after) × IsUnread stated failures old new (revision_cells v k))
+AnswersShow stated failures old new remaining k before after (Err Memory) = (Keeps before after × (new ≡ old))
+    ⊎ ((v : ImageValue) × ReadsRevision remaining (stated old) k v (AppendsPrefix before after) × ¬ All (IsReadable (stated old)) (revision_cells v k))
+AnswersShow stated failures old new remaining k before after (Err (Refused f)) = Keeps before after × ((bytes : List ℕ) × AreRead remaining bytes × IsFirstFault bytes (stated old).sizes f)
+AnswersShow stated failures old new remaining k before after (Err NoRevision) = Keeps before after
+    × ((v : ImageValue) × (bytes : List ℕ) × AreRead remaining bytes × SpellsFaithful bytes (stated old).sizes v × (length v.revisions ≤ k))
+AnswersShow stated failures old new remaining k before after (Err (Source f)) = ⊥
+AnswersShow stated failures old new remaining k before after (Err PatternTooLong) = ⊥
+AnswersShow stated failures old new remaining k before after (Err (Rope f)) = ⊥
+
+pub record ShowsRevision {T : Type 0} (stated : T → Stated) (failures : T → ℕ) (old new : T) (remaining : Option (List ℕ)) (k : ℕ)
+    (before after : Option (List ℕ)) (outcome : Result (Unit {0}) ToolFault) : Type 0 where
+  pub reads : Reads stated failures old new
+  pub answer : AnswersShow stated failures old new remaining k before after outcome

@@ -1,5 +1,7 @@
 -- What the faults of reads, writes, searches and ropes come to.
-use Rattle.std.specs.Prelude.{◌≡◌, ⊤}
+use Rattle.std.specs.Prelude.{◌≡◌, ◌⊎◌, ⊤}
+use Rattle.lazy_file.specs.declared.faults.AddFault.{AddFault}
+use Rattle.lazy_file.specs.declared.faults.AddFault.TheVariants as Add
 use Rattle.lazy_file.specs.declared.faults.SourceFault.{SourceFault}
 use Rattle.lazy_file.specs.declared.faults.SourceFault.TheVariants as Source
 use Rattle.node_table.specs.declared.fault.NodeFault.TheVariants as Node
@@ -13,6 +15,13 @@ use Rattle.cord_tools.specs.declared.fault.ToolFault.{ToolFault}
 use Rattle.cord_tools.specs.declared.fault.ToolFault.TheVariants as Tool
 use Rattle.cord_tools.specs.declared.fault.ToolFault.TheVariants.{Memory, Read, Write, PatternTooLong, Rope}
 
+-- what the refusal of a source comes to
+abbrev pub add_fault : AddFault → ToolFault
+add_fault Add.TooManySources = Tool.Source Add.TooManySources
+add_fault Add.SourceTooLong = Tool.Source Add.SourceTooLong
+add_fault Add.Memory = Memory
+
+-- what the fault of a read comes to
 abbrev pub read_fault : SourceFault → ToolFault
 read_fault Source.Device = Read
 read_fault Source.Short = Read
@@ -36,6 +45,10 @@ rope_fault (Balance.Node Node.PoolFull) = Rope (Balance.Node Node.PoolFull)
 rope_fault (Balance.Node Node.BadSpan) = Rope (Balance.Node Node.BadSpan)
 rope_fault (Balance.Node Node.TooManySources) = Rope (Balance.Node Node.TooManySources)
 rope_fault (Balance.Node Node.Memory) = Memory
+
+-- what may stop a tool that asks for nothing that could be refused
+abbrev pub IsStop : ToolFault → Type 0
+IsStop fault = (fault ≡ Write) ⊎ ((fault ≡ Read) ⊎ (fault ≡ Memory))
 
 -- what may end the joining of files: their rope is refused as too long alone
 abbrev pub IsJoinFault : ToolFault → Type 0

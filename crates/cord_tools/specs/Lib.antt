@@ -1,5 +1,7 @@
 pub mod Answers
 pub mod Faults
 pub mod Files
+pub mod Outcomes
 pub mod Sources
 pub mod Spans
+pub mod Unread

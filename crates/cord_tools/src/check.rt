@@ -1,15 +1,14 @@
 //! The check of an image with its sources.
 
 ghost use Rattle.std.specs.Prelude.{◌≡◌, [], IfOk, string_bytes};
-ghost use Rattle.cord_tools.specs.Answers.{accepted_line, refused_line, refused_source_line, AnswersCheck, AnswersWith, ChecksInput};
-ghost use Rattle.cord_tools.specs.Sources.{texts_in};
+ghost use Rattle.cord_tools.specs.Answers.{accepted_line, refused_line, refused_source_line};
+ghost use Rattle.cord_tools.specs.Answers.{AnswersCheck, AnswersWith, ChecksImage, RefusesCheck};
 
 use crate::fault::ToolFault;
 use crate::input::read_image;
-use crate::sources::sources_of;
 use crate::status::Status;
-use cord_search::write_bytes;
-use lazy_file::{AddFault, Sources};
+use byte_output::write_bytes;
+use lazy_file::{AddFault, MemSources, Sources};
 use rope_node::NodeSpace;
 use session_checker::{CheckFault, Checked, check};
 use std::alloc::{AllocError, Global};
@@ -44,7 +43,8 @@ fn answer_with<S: Sources>(
     bytes: &[u8],
     sources: &S,
 ) -> Result<(String, Status), AllocError>
-    ensures { IfOk result (λ x. AnswersWith bytes.now (S.sizes sources.now) (string_bytes x.0) x.1) }
+    ensures { IfOk result
+        (λ x. AnswersWith bytes.now (S.stated sources.now).sizes (string_bytes x.0) x.1) }
 {
     match check(bytes, sources) {
         Ok(image) => Ok((accepted_line(alloc, &image)?, Status::Success)),
@@ -52,39 +52,24 @@ fn answer_with<S: Sources>(
     }
 }
 
-/// The line and the status that answer for an image with sources of these texts.
-fn answer(alloc: Global, bytes: &[u8], texts: &[Vec<u8>]) -> Result<(String, Status), AllocError>
-    ensures { IfOk result (λ x. AnswersCheck bytes.now (texts_in texts.entry.now) (string_bytes x.0) x.1) }
-{
-    match sources_of(alloc, texts) {
-        Ok(sources) => answer_with(alloc, bytes, &sources),
-        Err(ToolFault::Source(refusal)) => {
-            Ok((refused_source_line(alloc, refusal)?, Status::Failure))
-        }
-        Err(_) => Err(AllocError),
-    }
-}
-
-/// Checks the image that the reader gives, with sources of these texts, and writes one line: `accepted R revisions N nodes K rows`
-/// or `refused CODE`.
+/// Checks the image that the reader gives, with these sources, and writes one line: `accepted R revisions N nodes K rows`
+/// or `refused CODE`. It reads no source.
 ///
 /// # Errors
 ///
 /// `Read`, where the reader failed, and `Memory`: nothing was written then. `Write`, where the writer failed or took no byte: a
 /// prefix of the line was.
-pub fn run_check<R: io::Read + Drop, W: io::Write>(
+pub fn run_check<R: io::Read + Drop, S: Sources, W: io::Write>(
     alloc: Global,
     reader: R,
-    texts: &[Vec<u8>],
+    sources: &mut S,
     writer: &mut W,
 ) -> Result<Status, ToolFault>
-    ensures { ChecksInput (R.remaining reader) (texts_in texts.entry.now) (W.contents writer.old) (W.contents writer.new) result }
+    ensures { ChecksImage S.stated sources.old sources.new (R.remaining reader)
+        (W.contents writer.old) (W.contents writer.new) result }
 {
     let bytes = read_image(alloc, reader)?;
-    let (line, status) = match answer(alloc, &bytes, texts) {
-        Ok(answer) => answer,
-        Err(_) => return Err(ToolFault::Memory),
-    };
+    let (line, status) = answer_with(alloc, &bytes, sources)?;
     write_bytes(writer, line.as_bytes())?;
     Ok(status)
 }
@@ -99,7 +84,30 @@ pub fn run_stdin<R: io::Read + Drop, W: io::Write>(
     reader: R,
     writer: &mut W,
 ) -> Result<Status, ToolFault>
-    ensures { ChecksInput (R.remaining reader) [] (W.contents writer.old) (W.contents writer.new) result }
+    ensures { AnswersCheck (R.remaining reader) []
+        (W.contents writer.old) (W.contents writer.new) result }
 {
-    run_check(alloc, reader, &[], writer)
+    run_check(alloc, reader, &mut MemSources::new(alloc), writer)
+}
+
+/// Answers a check whose sources are refused, before the image's bytes are looked at: it writes the line `refused CODE`, and answers
+/// `Failure`.
+///
+/// # Errors
+///
+/// `Memory`, also where that is why a source was not added: nothing was written then. `Write`, where the writer failed or took no
+/// byte: a prefix of the line was.
+pub fn refuse_check<W: io::Write>(
+    alloc: Global,
+    refusal: AddFault,
+    writer: &mut W,
+) -> Result<Status, ToolFault>
+    ensures { RefusesCheck refusal (W.contents writer.old) (W.contents writer.new) result }
+{
+    if refusal == AddFault::Memory {
+        return Err(ToolFault::Memory);
+    }
+    let line = refused_source_line(alloc, refusal)?;
+    write_bytes(writer, line.as_bytes())?;
+    Ok(Status::Failure)
 }

@@ -1,13 +1,15 @@
 //! The order of two files.
 
-ghost use Rattle.std.specs.Prelude.{◌≡◌, ◌⊎◌, ◌≤◌, true, length, IfOk, IfErr, IsErrOf};
-ghost use Rattle.cord_tools.specs.Files.{ComparesFiles, IsOrderOfFiles, order_line, order_status};
+ghost use Rattle.std.specs.Prelude.{◌≡◌, ◌⊎◌, ◌≤◌, ◌++◌, length, IfOk, IfErr};
+ghost use Rattle.cord_tools.specs.Files.{ComparesFiles, IsOrderOfFiles, file_cells, order_line, order_status};
+ghost use Rattle.cord_tools.specs.Unread.{ReadsCells};
 ghost use Rattle.cord_tools.specs.declared.fault.ToolFault.TheVariants.{Memory, Read};
 
 use crate::fault::ToolFault;
 use crate::files::{part, store_of};
 use crate::status::Status;
-use cord_search::{cmp, write_bytes};
+use byte_output::write_bytes;
+use cord_search::cmp;
 use lazy_file::Sources;
 use std::alloc::Global;
 use std::cmp::Ordering;
@@ -25,7 +27,7 @@ fn line_of(order: Ordering) -> &'static [u8]
 }
 
 /// Whether files of this order are equal.
-fn status_of(order: Ordering) -> Status
+fn equality_status(order: Ordering) -> Status
     ensures { result ≡ order_status order }
 {
     match order {
@@ -36,13 +38,11 @@ fn status_of(order: Ordering) -> Status
 
 /// The order of the first two sources. The fault is `Read` or `Memory`.
 fn order_of<T: Sources>(alloc: Global, sources: &mut T) -> Result<Ordering, ToolFault>
-    requires { 2 ≤ length (T.sizes sources.old) }
-    ensures order { IfOk result (IsOrderOfFiles (T.sizes sources.old) (T.texts sources.old)) }
+    requires { 2 ≤ length (T.stated sources.old).sizes }
+    ensures order { IfOk result (IsOrderOfFiles (T.stated sources.old)) }
     ensures fault { IfErr result (λ e. (e ≡ Read) ⊎ (e ≡ Memory)) }
-    ensures memory { T.never_fails sources.old ≡ true → ¬ IsErrOf result Read }
-    ensures sizes { T.sizes sources.new ≡ T.sizes sources.old }
-    ensures texts { T.texts sources.new ≡ T.texts sources.old }
-    ensures never_fails { T.never_fails sources.new ≡ T.never_fails sources.old }
+    ensures reads { ReadsCells T.stated T.failures sources.old sources.new
+        (file_cells (T.stated sources.old).sizes 0 ++ file_cells (T.stated sources.old).sizes 1) result }
 {
     let mut store = store_of(alloc, sources)?;
     let first = part(&mut store, 0, 0, u64::MAX)?;
@@ -61,14 +61,11 @@ pub fn run_cmp<T: Sources, W: io::Write>(
     sources: &mut T,
     writer: &mut W,
 ) -> Result<Status, ToolFault>
-    requires { 2 ≤ length (T.sizes sources.old) }
-    ensures answer { ComparesFiles (T.sizes sources.old) (T.texts sources.old) (W.contents writer.old) (W.contents writer.new) result }
-    ensures memory { T.never_fails sources.old ≡ true → ¬ IsErrOf result Read }
-    ensures sizes { T.sizes sources.new ≡ T.sizes sources.old }
-    ensures texts { T.texts sources.new ≡ T.texts sources.old }
-    ensures never_fails { T.never_fails sources.new ≡ T.never_fails sources.old }
+    requires { 2 ≤ length (T.stated sources.old).sizes }
+    ensures { ComparesFiles T.stated T.failures sources.old sources.new
+        (W.contents writer.old) (W.contents writer.new) result }
 {
     let order = order_of(alloc, sources)?;
     write_bytes(writer, line_of(order))?;
-    Ok(status_of(order))
+    Ok(equality_status(order))
 }

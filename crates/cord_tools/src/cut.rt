@@ -1,13 +1,11 @@
 //! A part of a file.
 
-ghost use Rattle.std.specs.Prelude.{◌≡◌, ◌⊎◌, ◌≤◌, true, length, take, drop, OnOk, OnErr, IfErr, IsErrOf};
-ghost use Rattle.std.specs.Io.KnownBytes.{Appends};
-ghost use Rattle.cord_search.specs.Output.{AppendsPrefix};
-ghost use Rattle.cord_tools.specs.Files.{OfFile};
-ghost use Rattle.cord_tools.specs.declared.fault.ToolFault.TheVariants.{Memory, Read, Write};
+ghost use Rattle.std.specs.Prelude.{◌≤◌, length};
+ghost use Rattle.cord_tools.specs.Files.{CutsFile};
 
 use crate::fault::ToolFault;
-use crate::files::{put_part, store_of};
+use crate::files::{part, store_of};
+use cord_search::put;
 use lazy_file::Sources;
 use std::alloc::Global;
 use std::io;
@@ -25,15 +23,12 @@ pub fn run_cut<T: Sources, W: io::Write>(
     count: u64,
     writer: &mut W,
 ) -> Result<(), ToolFault>
-    requires { 1 ≤ length (T.sizes sources.old) }
-    ensures ok { OnOk result (OfFile (T.sizes sources.old) (T.texts sources.old) 0 (λ t. Appends (W.contents writer.old) (W.contents writer.new) (take count (drop start t)))) }
-    ensures err { OnErr result (OfFile (T.sizes sources.old) (T.texts sources.old) 0 (λ t. AppendsPrefix (W.contents writer.old) (W.contents writer.new) (take count (drop start t)))) }
-    ensures fault { IfErr result (λ e. (e ≡ Write) ⊎ ((e ≡ Read) ⊎ (e ≡ Memory))) }
-    ensures memory { T.never_fails sources.old ≡ true → ¬ IsErrOf result Read }
-    ensures sizes { T.sizes sources.new ≡ T.sizes sources.old }
-    ensures texts { T.texts sources.new ≡ T.texts sources.old }
-    ensures never_fails { T.never_fails sources.new ≡ T.never_fails sources.old }
+    requires { 1 ≤ length (T.stated sources.old).sizes }
+    ensures { CutsFile T.stated T.failures sources.old sources.new start count
+        (W.contents writer.old) (W.contents writer.new) result }
 {
     let mut store = store_of(alloc, sources)?;
-    put_part(&mut store, sources, 0, start, count, writer)
+    let rope = part(&mut store, 0, start, count)?;
+    put(&store, sources, rope, writer)?;
+    Ok(())
 }

@@ -1,9 +1,9 @@
 //! Why a tool ended without its answer.
 
 ghost use Rattle.std.specs.Prelude.{◌≡◌};
-ghost use Rattle.cord_tools.specs.Faults.{find_fault, put_fault, read_fault, rope_fault};
-ghost use Rattle.cord_tools.specs.Sources.{source_fault};
+ghost use Rattle.cord_tools.specs.Faults.{add_fault, find_fault, put_fault, read_fault, rope_fault};
 
+use byte_output::WriteFault;
 use cord_search::{FindFault, PutFault};
 use lazy_file::{AddFault, SourceFault};
 use node_table::NodeFault;
@@ -43,7 +43,7 @@ pub enum ToolFault {
 }
 
 impl From<AddFault> for ToolFault {
-    ghost from_gives = { λ e f. f ≡ source_fault e };
+    ghost from_gives = { λ e f. f ≡ add_fault e };
 
     fn from(fault: AddFault) -> ToolFault {
         match fault {
@@ -60,6 +60,16 @@ impl From<AllocError> for ToolFault {
 
     fn from(_error: AllocError) -> ToolFault {
         ToolFault::Memory
+    }
+}
+
+impl From<WriteFault> for ToolFault {
+    ghost use Rattle.cord_tools.specs.declared.fault.ToolFault.TheVariants.{Write};
+
+    ghost from_gives = { λ _ f. f ≡ Write };
+
+    fn from(_fault: WriteFault) -> ToolFault {
+        ToolFault::Write
     }
 }
 

@@ -1,14 +1,16 @@
 //! The first place of a pattern in a file.
 
-ghost use Rattle.std.specs.Prelude.{◌≡◌, ◌↔◌, ◌⊎◌, ◌<◌, ◌≤◌, true, length, IfOk, IfErr, IsErrOf, string_bytes};
+ghost use Rattle.std.specs.Prelude.{◌≡◌, ◌↔◌, ◌⊎◌, ◌<◌, ◌≤◌, length, drop, IfOk, IfErr, IsErrOf, string_bytes};
 ghost use Rattle.cord_search.specs.Places.{IsFirst, search_limit};
-ghost use Rattle.cord_tools.specs.Files.{OfFile, FindsPattern, place_line};
+ghost use Rattle.cord_tools.specs.Files.{FindsPattern, OfFile, file_cells, place_line};
+ghost use Rattle.cord_tools.specs.Unread.{ReadsCells};
 ghost use Rattle.cord_tools.specs.declared.fault.ToolFault.TheVariants.{Memory, PatternTooLong, Read};
 
 use crate::fault::ToolFault;
 use crate::files::{part, store_of};
 use crate::status::Status;
-use cord_search::{PATTERN_LIMIT, find, write_bytes};
+use byte_output::write_bytes;
+use cord_search::{PATTERN_LIMIT, find};
 use lazy_file::Sources;
 use std::alloc::{AllocError, Global};
 use std::io;
@@ -27,14 +29,13 @@ fn first_place<T: Sources>(
     start: u64,
     pattern: &[u8],
 ) -> Result<Option<u64>, ToolFault>
-    requires { 1 ≤ length (T.sizes sources.old) }
-    ensures found { IfOk result (λ found. OfFile (T.sizes sources.old) (T.texts sources.old) 0 (λ t. IsFirst pattern.now t start found)) }
+    requires { 1 ≤ length (T.stated sources.old).sizes }
+    ensures found { IfOk result
+        (λ found. OfFile (T.stated sources.old) 0 (λ t. IsFirst pattern.now t start found)) }
     ensures too_long { IsErrOf result PatternTooLong ↔ (search_limit < length pattern.now) }
     ensures fault { IfErr result (λ e. (e ≡ PatternTooLong) ⊎ ((e ≡ Read) ⊎ (e ≡ Memory))) }
-    ensures memory { T.never_fails sources.old ≡ true → ¬ IsErrOf result Read }
-    ensures sizes { T.sizes sources.new ≡ T.sizes sources.old }
-    ensures texts { T.texts sources.new ≡ T.texts sources.old }
-    ensures never_fails { T.never_fails sources.new ≡ T.never_fails sources.old }
+    ensures reads { ReadsCells T.stated T.failures sources.old sources.new
+        (drop start (file_cells (T.stated sources.old).sizes 0)) result }
 {
     if pattern.len() > PATTERN_LIMIT {
         return Err(ToolFault::PatternTooLong);
@@ -58,13 +59,9 @@ pub fn run_find<T: Sources, W: io::Write>(
     pattern: &[u8],
     writer: &mut W,
 ) -> Result<Status, ToolFault>
-    requires { 1 ≤ length (T.sizes sources.old) }
-    ensures answer { FindsPattern (T.sizes sources.old) (T.texts sources.old) start pattern.now (W.contents writer.old) (W.contents writer.new) result }
-    ensures too_long { IsErrOf result PatternTooLong ↔ (search_limit < length pattern.now) }
-    ensures memory { T.never_fails sources.old ≡ true → ¬ IsErrOf result Read }
-    ensures sizes { T.sizes sources.new ≡ T.sizes sources.old }
-    ensures texts { T.texts sources.new ≡ T.texts sources.old }
-    ensures never_fails { T.never_fails sources.new ≡ T.never_fails sources.old }
+    requires { 1 ≤ length (T.stated sources.old).sizes }
+    ensures { FindsPattern T.stated T.failures sources.old sources.new start pattern.now
+        (W.contents writer.old) (W.contents writer.new) result }
 {
     match first_place(alloc, sources, start, pattern)? {
         Some(place) => {

@@ -1,18 +1,14 @@
 //! Files, one behind the other.
 
-ghost use Rattle.std.specs.Prelude.{◌≡◌, ◌⊎◌, ℕ, ◌+◌, ◌*◌, ◌<◌, ◌≤◌, ◌^◌, [], true, length, IfOk, IfErr, OnOk, OnErr, IsOk, IsErrOf};
+ghost use Rattle.std.specs.Prelude.{◌≡◌, ℕ, ◌+◌, ◌*◌, ◌<◌, ◌≤◌, ◌^◌, [], length, IfOk, IfErr, OnOk, IsErrOf};
 ghost use Rattle.std.specs.List.{sum};
-ghost use Rattle.std.specs.Io.KnownBytes.{Appends, Keeps};
 ghost use Rattle.function_leaf.specs.Coded.{coded_byte};
 ghost use Rattle.rope_node.specs.Denotes.{IsRope, rope_cells, rope_depth};
 ghost use Rattle.rope_node.specs.Extends.{Extends};
 ghost use Rattle.node_table.specs.Held.{most_sources, table_of};
-ghost use Rattle.rebalance.specs.declared.fault.BalanceFault.{BalanceFault};
 ghost use Rattle.rebalance.specs.declared.fault.BalanceFault.TheVariants.{Node};
-ghost use Rattle.cord_search.specs.Output.{AppendsPrefix};
 ghost use Rattle.cord_tools.specs.Faults.{IsJoinFault, rope_fault};
-ghost use Rattle.cord_tools.specs.Files.{OfAllFiles, cells_of};
-ghost use Rattle.cord_tools.specs.declared.fault.ToolFault.TheVariants.{Read, Rope, Write};
+ghost use Rattle.cord_tools.specs.Files.{JoinsFiles, all_cells, cells_of};
 
 use crate::fault::ToolFault;
 use crate::files::store_of;
@@ -34,12 +30,16 @@ fn join_range(store: &mut Store<Coded>, first: u32, count: u32) -> Result<Rope, 
     requires nodes { length store.old.nodes ≤ 4 * first }
     requires bytes { length store.old.pool.bytes ≤ 31 * first }
     ensures is_rope { IfOk result (IsRope (table_of coded_byte store.new)) }
-    ensures text { IfOk result (λ rope. rope_cells (table_of coded_byte store.new) rope ≡ cells_of store.old.sources first count) }
-    ensures depth { (levels : ℕ) → count ≤ 2 ^ levels → IfOk result (λ rope. rope_depth (table_of coded_byte store.new) rope ≤ levels) }
+    ensures text { IfOk result (λ rope.
+        rope_cells (table_of coded_byte store.new) rope ≡ cells_of store.old.sources first count) }
+    ensures depth { (levels : ℕ) → count ≤ 2 ^ levels
+        → IfOk result (λ rope. rope_depth (table_of coded_byte store.new) rope ≤ levels) }
     ensures nodes { OnOk result (length store.new.nodes + 3 ≤ length store.old.nodes + 4 * count) }
-    ensures bytes { OnOk result (length store.new.pool.bytes + 31 ≤ length store.old.pool.bytes + 31 * count) }
+    ensures bytes { OnOk result
+        (length store.new.pool.bytes + 31 ≤ length store.old.pool.bytes + 31 * count) }
     ensures short { OnOk result (length (cells_of store.old.sources first count) < 2 ^ 40) }
-    ensures too_long { IsErrOf result (Node NodeFault.TooLong) → 2 ^ 40 ≤ length (cells_of store.old.sources first count) }
+    ensures too_long { IsErrOf result (Node NodeFault.TooLong)
+        → 2 ^ 40 ≤ length (cells_of store.old.sources first count) }
     ensures fault { IfErr result (λ e. IsJoinFault (rope_fault e)) }
     ensures kept { Extends (table_of coded_byte store.old) (table_of coded_byte store.new) }
     ensures sources { store.new.sources ≡ store.old.sources }
@@ -64,7 +64,8 @@ fn join_sources(store: &mut Store<Coded>) -> Result<Rope, BalanceFault>
     requires no_nodes { store.old.nodes ≡ [] }
     requires no_bytes { store.old.pool.bytes ≡ [] }
     ensures is_rope { IfOk result (IsRope (table_of coded_byte store.new)) }
-    ensures text { IfOk result (λ rope. rope_cells (table_of coded_byte store.new) rope ≡ cells_of store.old.sources 0 (length store.old.sources)) }
+    ensures text { IfOk result
+        (λ rope. rope_cells (table_of coded_byte store.new) rope ≡ all_cells store.old.sources) }
     ensures short { OnOk result (sum store.old.sources < 2 ^ 40) }
     ensures too_long { IsErrOf result (Node NodeFault.TooLong) → 2 ^ 40 ≤ sum store.old.sources }
     ensures fault { IfErr result (λ e. IsJoinFault (rope_fault e)) }
@@ -89,17 +90,8 @@ pub fn run_join<T: Sources, W: io::Write>(
     sources: &mut T,
     writer: &mut W,
 ) -> Result<(), ToolFault>
-    ensures ok { OnOk result (OfAllFiles (T.sizes sources.old) (T.texts sources.old) (Appends (W.contents writer.old) (W.contents writer.new))) }
-    ensures err { OnErr result (OfAllFiles (T.sizes sources.old) (T.texts sources.old) (AppendsPrefix (W.contents writer.old) (W.contents writer.new))) }
-    ensures fault { IfErr result IsJoinFault }
-    ensures refused { (fault : BalanceFault) → IsErrOf result (Rope fault) → Keeps (W.contents writer.old) (W.contents writer.new) }
-    ensures too_long { IsErrOf result (Rope (Node NodeFault.TooLong)) → 2 ^ 40 ≤ sum (T.sizes sources.old) }
-    ensures short { IsOk result ⊎ (IsErrOf result Write ⊎ IsErrOf result Read) → sum (T.sizes sources.old) < 2 ^ 40 }
-    ensures long { 2 ^ 40 ≤ sum (T.sizes sources.old) → Keeps (W.contents writer.old) (W.contents writer.new) }
-    ensures memory { T.never_fails sources.old ≡ true → ¬ IsErrOf result Read }
-    ensures sizes { T.sizes sources.new ≡ T.sizes sources.old }
-    ensures texts { T.texts sources.new ≡ T.texts sources.old }
-    ensures never_fails { T.never_fails sources.new ≡ T.never_fails sources.old }
+    ensures { JoinsFiles T.stated T.failures sources.old sources.new
+        (W.contents writer.old) (W.contents writer.new) result }
 {
     let mut store = store_of(alloc, sources)?;
     let rope = join_sources(&mut store)?;

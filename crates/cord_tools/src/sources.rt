@@ -8,7 +8,7 @@ ghost use Rattle.lazy_file.specs.SourceTexts.{AreSizes};
 
 use crate::fault::ToolFault;
 use crate::input::read_up_to;
-use lazy_file::{MemSources, SOURCE_LIMIT};
+use lazy_file::{AddFault, MemSources, SOURCE_LIMIT};
 use std::alloc::Global;
 use std::io;
 
@@ -29,8 +29,8 @@ pub fn read_source<R: io::Read + Drop>(alloc: Global, reader: R) -> Result<Vec<u
 ///
 /// # Errors
 ///
-/// `Source`, of the first text that cannot be added. `Memory`.
-pub fn sources_of<'a>(alloc: Global, texts: &'a [Vec<u8>]) -> Result<MemSources<'a>, ToolFault>
+/// `TooManySources` or `SourceTooLong`, of the first text that cannot be added. `Memory`.
+pub fn sources_of<'a>(alloc: Global, texts: &'a [Vec<u8>]) -> Result<MemSources<'a>, AddFault>
     ensures ok { IfOk result (λ sources. sources ≡ texts_in texts.entry.now) }
     ensures limits { OnOk result (AreSizes (map length (texts_in texts.entry.now))) }
     ensures fault { IfErr result (RefusesSources (texts_in texts.entry.now)) }

@@ -4,8 +4,8 @@
 ghost use Rattle.std.specs.Prelude.{◌≡◌, IfOk, length};
 
 use cord_tools::{
-    Status, ToolFault, read_source, run_check, run_cmp, run_cut, run_find, run_join, run_show,
-    run_stdin, sources_of,
+    Outcome, Status, ToolFault, exit_status, read_source, refuse_check, run_check, run_cmp, run_cut,
+    run_find, run_join, run_show, run_stdin, sources_of,
 };
 use cord_words::{Action, WordsFault, words};
 use std::fs::File;
@@ -37,6 +37,37 @@ fn source_texts(rt: &HostRuntime, paths: &[&str]) -> Result<Vec<Vec<u8>>, ToolFa
         texts.push(text).map_err(|_| ToolFault::Memory)?;
     }
     Ok(texts)
+}
+
+/// Checks an image with its sources. Sources that are refused answer for it.
+fn check(rt: &HostRuntime, image: &str, paths: &[&str]) -> Result<Status, ToolFault> {
+    let image = open(rt, image)?;
+    let texts = source_texts(rt, paths)?;
+    let mut writer = io::writer(rt);
+    match sources_of(rt.alloc(), texts.as_slice()) {
+        Ok(mut sources) => run_check(rt.alloc(), image, &mut sources, &mut writer),
+        Err(refusal) => refuse_check(rt.alloc(), refusal, &mut writer),
+    }
+}
+
+/// Writes the text of a revision of an image.
+fn show(
+    rt: &HostRuntime,
+    image: &str,
+    revision: u64,
+    paths: &[&str],
+) -> Result<Status, ToolFault> {
+    let image = open(rt, image)?;
+    let texts = source_texts(rt, paths)?;
+    let mut sources = sources_of(rt.alloc(), texts.as_slice())?;
+    run_show(
+        rt.alloc(),
+        image,
+        &mut sources,
+        revision,
+        &mut io::writer(rt),
+    )?;
+    Ok(Status::Success)
 }
 
 /// Writes a part of a file. Here and below, files are read before anything is written.
@@ -77,24 +108,14 @@ fn compare(rt: &HostRuntime, first: &str, second: &str) -> Result<Status, ToolFa
 
 /// Does what the words ask for. The image is opened and the sources are read before anything is written.
 fn run(rt: &HostRuntime, action: &Action) -> Result<Status, ToolFault> {
-    let mut writer = io::writer(rt);
     match action {
-        Action::CheckInput => run_stdin(rt.alloc(), rt.reader(), &mut writer),
-        Action::Check { image, sources } => {
-            let image = open(rt, image)?;
-            let texts = source_texts(rt, sources.as_slice())?;
-            run_check(rt.alloc(), image, texts.as_slice(), &mut writer)
-        }
+        Action::CheckInput => run_stdin(rt.alloc(), rt.reader(), &mut io::writer(rt)),
+        Action::Check { image, sources } => check(rt, image, sources.as_slice()),
         Action::Show {
             image,
             revision,
             sources,
-        } => {
-            let image = open(rt, image)?;
-            let texts = source_texts(rt, sources.as_slice())?;
-            run_show(rt.alloc(), image, texts.as_slice(), *revision, &mut writer)?;
-            Ok(Status::Success)
-        }
+        } => show(rt, image, *revision, sources.as_slice()),
         Action::Cut { start, count, file } => cut(rt, *start, *count, file),
         Action::Join { files } => join(rt, files.as_slice()),
         Action::Find {
@@ -106,39 +127,36 @@ fn run(rt: &HostRuntime, action: &Action) -> Result<Status, ToolFault> {
     }
 }
 
-/// The status of the program. What ended it without its answer goes to standard error.
-fn finish(rt: &HostRuntime, outcome: Result<Status, ToolFault>) -> ExitCode {
-    match outcome {
-        Ok(Status::Success) => ExitCode::from(0),
-        Ok(Status::Failure) => ExitCode::from(1),
+/// How the program ended. What ended it without its answer goes to standard error.
+fn outcome(rt: &HostRuntime, answer: Result<Status, ToolFault>) -> Outcome {
+    match answer {
+        Ok(status) => Outcome::Answered(status),
         Err(fault) => {
             // There is no other place to tell that standard error is closed.
             let _ = rt.eprintln(fault);
-            match fault {
-                ToolFault::Refused(_)
-                | ToolFault::Source(_)
-                | ToolFault::NoRevision
-                | ToolFault::PatternTooLong
-                | ToolFault::Rope(_) => ExitCode::from(1),
-                ToolFault::Memory | ToolFault::Read | ToolFault::Write => ExitCode::from(3),
-            }
+            Outcome::Ended(fault)
+        }
+    }
+}
+
+/// Does what the words of the command line ask for.
+fn run_words(rt: &HostRuntime) -> Outcome {
+    let Ok(given) = env::args(rt) else {
+        return outcome(rt, Err(ToolFault::Memory));
+    };
+    let Ok(given) = given.collect::<Vec<String>>(rt.alloc()) else {
+        return outcome(rt, Err(ToolFault::Memory));
+    };
+    match words(rt.alloc(), &given) {
+        Ok(action) => outcome(rt, run(rt, &action)),
+        Err(WordsFault::Memory) => outcome(rt, Err(ToolFault::Memory)),
+        Err(WordsFault::Usage(error)) => {
+            let _ = rt.eprint(error);
+            Outcome::Misused
         }
     }
 }
 
 fn main(rt: HostRuntime) -> ExitCode {
-    let Ok(given) = env::args(&rt) else {
-        return finish(&rt, Err(ToolFault::Memory));
-    };
-    let Ok(given) = given.collect::<Vec<String>>(rt.alloc()) else {
-        return finish(&rt, Err(ToolFault::Memory));
-    };
-    match words(rt.alloc(), &given) {
-        Ok(action) => finish(&rt, run(&rt, &action)),
-        Err(WordsFault::Memory) => finish(&rt, Err(ToolFault::Memory)),
-        Err(WordsFault::Usage(error)) => {
-            let _ = rt.eprint(error);
-            ExitCode::from(2)
-        }
-    }
+    ExitCode::from(exit_status(run_words(&rt)))
 }

@@ -1,3 +1,4 @@
 pub mod AgreedBytes
+pub mod LaterReads
 pub mod MemoryTexts
 pub mod ReadOutcomes

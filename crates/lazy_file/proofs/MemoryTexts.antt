@@ -6,14 +6,14 @@ use Rattle.std.proofs.Math.ListN as list
 use Rattle.std.proofs.lemmas.List.{get_or-map, length-map}
 use Rattle.std.proofs.lemmas.List.Elements.{All-get_or}
 use Rattle.lazy_file.proofs.ReadOutcomes.{no_fault, refused_span}
-use Rattle.lazy_file.specs.SourceTexts.{Agrees, AreSizes, longest_source, text_at}
+use Rattle.lazy_file.specs.SourceTexts.{Agrees, AreSizes, longest_source, stated_in_memory, text_at}
 
 -- the size of a source is its text's length
 pub size_of_text : (xs : List (List ℕ)) (s : ℕ) → slice_index (map length xs) s ≡ length (get_or xs s [])
 size_of_text xs s = list.get_or-map length xs s []
 
 -- the text that a source states is its own
-pub stated_text : (xs : List (List ℕ)) (s : ℕ) → s < length xs → text_at (map Some xs) s ≡ Some (get_or xs s [])
+pub stated_text : (xs : List (List ℕ)) (s : ℕ) → s < length xs → text_at (stated_in_memory xs) s ≡ Some (get_or xs s [])
 stated_text xs s h = get_or-map Some xs s [] None h
 
 -- no text is longer than a source may be
@@ -24,7 +24,7 @@ text_in_limit xs s sizes h =
     rw size_of_text at (All-get_or (λ n. n ≤ longest_source) (map length xs) s 0 there sizes.each)
 
 -- the bytes of texts in memory agree with what they state
-pub agrees_in_memory : (xs : List (List ℕ)) → Agrees (map Some xs) (λ s p. get_or (get_or xs s []) p 0)
+pub agrees_in_memory : (xs : List (List ℕ)) → Agrees (stated_in_memory xs) (λ s p. get_or (get_or xs s []) p 0)
 agrees_in_memory [] s p t stated inside = absurd cc
 agrees_in_memory (x ∷ xs) zero p t stated inside = let same : x ≡ t = cc in ap (λ y. get_or y p 0) same
 agrees_in_memory (x ∷ xs) (suc s) p t stated inside = agrees_in_memory xs s p t stated inside

@@ -1,25 +1,23 @@
 -- When the outcome of a read meets `IsFaultOf`.
-use Rattle.std.proofs.Common.{◌≡◌, ℕ, true, false, List, arith, refl}
-use Rattle.std.specs.Prelude.{Option, Ok, Err}
-use Rattle.lazy_file.specs.SourceTexts.{holds_span}
+use Rattle.std.proofs.Common.{◌≡◌, ℕ, true, false, refl}
+use Rattle.std.specs.Prelude.{Ok, Err}
+use Rattle.lazy_file.specs.SourceTexts.{Stated, holds_span}
 use Rattle.lazy_file.specs.ReadFaults.{IsFaultOf}
 use Rattle.lazy_file.specs.declared.faults.SourceFault.TheVariants.{BadSource}
 
 -- a read that succeeds, of a span that is there
-pub no_fault : {X : Type 0} (sizes : List ℕ) (texts : List (Option (List ℕ))) (failures s off n : ℕ) (x : X)
-    → holds_span sizes s off n ≡ true → IsFaultOf sizes texts failures failures s off n (Ok x)
-no_fault sizes texts failures s off n x there = record {
-  later = omega arith;
+pub no_fault : {T X : Type 0} (stated : T → Stated) (failures : T → ℕ) (old new : T) (s off n : ℕ) (x : X)
+    → holds_span (stated old) s off n ≡ true → IsFaultOf stated failures old new s off n (Ok x)
+no_fault stated failures old new s off n x there = record {
   device = λ e. absurd cc;
   short = λ e. absurd cc;
   bad_source = (λ e. absurd cc, λ missing. absurd cc);
 }
 
 -- a read of a span that is not there
-pub refused_span : {X : Type 0} (sizes : List ℕ) (texts : List (Option (List ℕ))) (failures s off n : ℕ)
-    → holds_span sizes s off n ≡ false → IsFaultOf {X = X} sizes texts failures failures s off n (Err BadSource)
-refused_span sizes texts failures s off n missing = record {
-  later = omega arith;
+pub refused_span : {T X : Type 0} (stated : T → Stated) (failures : T → ℕ) (old new : T) (s off n : ℕ)
+    → holds_span (stated old) s off n ≡ false → IsFaultOf {X = X} stated failures old new s off n (Err BadSource)
+refused_span stated failures old new s off n missing = record {
   device = λ e. absurd cc;
   short = λ e. absurd cc;
   bad_source = (λ _. missing, λ _. refl);

@@ -1,4 +1,4 @@
-use Rattle.std.specs.Prelude.{◌≡◌, ℕ, ◌+◌, ◌<◌, ◌≤◌, Bool, ◌&&◌, nat_lt, nat_le, List, Option, Some, None, length, slice_index, All}
+use Rattle.std.specs.Prelude.{◌≡◌, ℕ, ◌+◌, ◌<◌, ◌≤◌, Bool, ◌&&◌, nat_lt, nat_le, true, List, Option, Some, None, length, map, slice_index, All}
 use Rattle.std.specs.List.{slice_index_or}
 
 -- how many sources there may be
@@ -9,19 +9,35 @@ count_limit = 255
 abbrev pub longest_source : ℕ
 longest_source = 1099511627775
 
+-- what sources state: the size of each, the text of each that states one, and whether no read of
+-- what is there ever fails
+pub record Stated : Type 0 where
+  pub sizes : List ℕ
+  pub texts : List (Option (List ℕ))
+  pub never_fails : Bool
+
+-- texts in memory: each its whole text, of its own length
+abbrev pub stated_in_memory : List (List ℕ) → Stated
+stated_in_memory xs = record { sizes = map length xs; texts = map Some xs; never_fails = true }
+
 -- the sizes of the sources that there may be
 pub record AreSizes (sizes : List ℕ) : Type 0 where
   pub count : length sizes ≤ count_limit
   pub each : All (λ n. n ≤ longest_source) sizes
 
 -- source s is there, and n bytes from off on lie inside its size
-abbrev pub holds_span : List ℕ → ℕ → ℕ → ℕ → Bool
-holds_span sizes s off n = nat_lt s (length sizes) && nat_le (off + n) (slice_index sizes s)
+abbrev pub holds_span : Stated → ℕ → ℕ → ℕ → Bool
+holds_span st s off n = nat_lt s (length st.sizes) && nat_le (off + n) (slice_index st.sizes s)
 
 -- the text that source s states
-abbrev pub text_at : List (Option (List ℕ)) → ℕ → Option (List ℕ)
-text_at texts s = slice_index_or texts s None
+abbrev pub text_at : Stated → ℕ → Option (List ℕ)
+text_at st s = slice_index_or st.texts s None
 
 -- one reading of what the sources state: each text, continued by any bytes
-abbrev pub Agrees : List (Option (List ℕ)) → (ℕ → ℕ → ℕ) → Type 0
-Agrees texts source = (s p : ℕ) (t : List ℕ) → text_at texts s ≡ Some t → p < length t → source s p ≡ slice_index t p
+abbrev pub Agrees : Stated → (ℕ → ℕ → ℕ) → Type 0
+Agrees st source = (s p : ℕ) (t : List ℕ) → text_at st s ≡ Some t → p < length t → source s p ≡ slice_index t p
+
+-- what a read may change: the sources state the same, and no fewer reads have failed
+pub record Reads {T : Type 0} (stated : T → Stated) (failures : T → ℕ) (old new : T) : Type 0 where
+  pub same : stated new ≡ stated old
+  pub later : failures old ≤ failures new

@@ -1,6 +1,6 @@
 //! Sources in memory.
 ghost use Rattle.std.specs.Prelude.{◌≡◌, ◌↔◌, ◌+◌, ◌<◌, ◌≤◌, ◌++◌, ◌∷◌, [], IfOk, IfSome, IsErrOf, IsSome, OnErr, OnOk, drop, is_some, length, map, slice_index_or, take};
-ghost use Rattle.lazy_file.specs.SourceTexts.{AreSizes, count_limit, holds_span, longest_source};
+ghost use Rattle.lazy_file.specs.SourceTexts.{count_limit, holds_span, longest_source, stated_in_memory};
 
 use crate::faults::{AddFault, SourceFault};
 use crate::sources::{COUNT_LIMIT, SOURCE_LIMIT, Sources};
@@ -42,7 +42,8 @@ impl<'a> MemSources<'a> {
     pub fn add(&mut self, text: &'a [u8]) -> Result<u8, AddFault>
         ensures place { IfOk result (λ s. s ≡ length self.old) }
         ensures ok { OnOk result (self.new ≡ self.old ++ text.now ∷ []) }
-        ensures too_many { IsErrOf result AddFault.TooManySources ↔ (length self.old ≡ count_limit) }
+        ensures too_many { IsErrOf result AddFault.TooManySources
+            ↔ (length self.old ≡ count_limit) }
         ensures too_long { IsErrOf result AddFault.SourceTooLong
             ↔ ((length self.old < count_limit) × (longest_source < length text.now)) }
         ensures err { OnErr result (self.new ≡ self.old) }
@@ -68,7 +69,7 @@ impl<'a> MemSources<'a> {
 
     #[tactic(auto, using(crate::proofs::MemoryTexts::size_of_text))]
     fn span(&self, s: u8, off: u64, n: usize) -> Option<&'a [u8]>
-        ensures variant { is_some result ≡ holds_span (map length self.now) s off n }
+        ensures variant { is_some result ≡ holds_span (stated_in_memory self.now) s off n }
         ensures value { IfSome result (λ part.
             part.now ≡ take n (drop off (slice_index_or self.now s []))) }
     {
@@ -82,15 +83,9 @@ impl<'a> MemSources<'a> {
 }
 
 impl<'a> Sources for MemSources<'a> {
-    ghost use Rattle.std.specs.Prelude.{Some, true, length, map};
-
-    ghost sizes = { map length };
-
-    ghost texts = { map Some };
+    ghost stated = { stated_in_memory };
 
     ghost failures = { λ _. 0 };
-
-    ghost never_fails = { λ _. true };
 
     fn count(&self) -> u8 {
         self.slices.len() as u8

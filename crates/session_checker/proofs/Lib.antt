@@ -1,4 +1,3 @@
-pub mod Growth
 pub mod SoundTables
 pub mod GoodRevisions
 pub mod FaithfulImages

@@ -1,18 +1,21 @@
 -- The byte at a place of a revision's text is the byte of the leaf that holds the place.
-use Rattle.std.proofs.Common.{Option, ◌≡◌, ℕ, zero, suc, ◌<◌, ◌≤◌, List, [], ◌∷◌, length, map, get_or, Some, None, refl, sym, ap, subst, ◌∙◌}
+use Rattle.std.proofs.Common.{true, Option, ◌≡◌, ℕ, zero, suc, ◌<◌, ◌≤◌, List, [], ◌∷◌, length, map, get_or, Some, None, refl, sym, ap, subst, ◌∙◌}
 use Rattle.std.specs.Prelude.{slice_get, Result, Ok, Err, IfOk}
 use Rattle.std.proofs.lemmas.List.{length-map, get_or_past}
 use Rattle.rope_node.specs.declared.node.NodeId.{NodeId}
 use Rattle.rope_node.specs.Denotes.{rope_len, IsRope, cells, rope_cells, cell_byte, text}
-use Rattle.cord_position.specs.Fetched.{IsFetched}
+use Rattle.lazy_file.specs.SourceTexts.{Stated}
+use Rattle.cord_position.specs.Fetched.{IsFetched, IsReadable}
+use Rattle.cord_position.proofs.Spans.{own_readable}
+use Rattle.image_reader.specs.Acceptance.{HasSources}
 use Rattle.image_reader.specs.declared.revision.Revision.{Revision}
 use Rattle.image_reader.specs.Value.{ImageValue, table_of}
 use Rattle.session_checker.specs.RevisionRules.{no_revision, revision_at}
-use Rattle.session_checker.specs.Faithful.{text_of, IsFetchedOf, IsFaithful}
+use Rattle.session_checker.specs.Faithful.{fetched_cell, revision_text, IsFetchedOf, IsFaithful}
 
 -- the text of a revision is that of its root
-pub text_of_root : (v : ImageValue) (source : ℕ → ℕ → ℕ) (k : ℕ) → text_of v source k ≡ text source (rope_cells (table_of v) (revision_at v k).root)
-text_of_root v source k = by_revisions v.revisions k
+pub root_text : (v : ImageValue) (source : ℕ → ℕ → ℕ) (k : ℕ) → revision_text v source k ≡ text source (rope_cells (table_of v) (revision_at v k).root)
+root_text v source k = by_revisions v.revisions k
   where
     f : Revision → List ℕ
     f r = text source (rope_cells (table_of v) r.root)
@@ -27,16 +30,21 @@ pub no_revision_past : (v : ImageValue) (k : ℕ) → length v.revisions ≤ k �
 no_revision_past v k past = ap (λ (r : Revision). r.root) (get_or_past v.revisions k no_revision past)
 
 -- a revision's text is as long as its root
-pub length-text_of : (v : ImageValue) → IsFaithful v → (source : ℕ → ℕ → ℕ) (k : ℕ) → k < length v.revisions → length (text_of v source k) ≡ rope_len (table_of v) (revision_at v k).root
-length-text_of v faithful source k lt =
-    rw (text_of_root v source k) (by_root (revision_at v k).root (faithful.roots k lt))
+pub length-revision_text : (v : ImageValue) → IsFaithful v → (source : ℕ → ℕ → ℕ) (k : ℕ) → k < length v.revisions → length (revision_text v source k) ≡ rope_len (table_of v) (revision_at v k).root
+length-revision_text v faithful source k lt =
+    rw (root_text v source k) (by_root (revision_at v k).root (faithful.roots k lt))
   where
     by_root : (root : Option NodeId) → IsRope (table_of v) root → length (text source (rope_cells (table_of v) root)) ≡ rope_len (table_of v) root
     by_root None rope = refl
     by_root (Some id) rope = length-map (cells (table_of v) id.0) (cell_byte source) ∙ faithful.lengths id.0 rope
 
+-- each byte of an accepted image is readable over sources that never fail and are as many and as long as it says
+pub readable_of : (v : ImageValue) → IsFaithful v → (st : Stated) → st.never_fails ≡ true → HasSources v st.sizes → (k i : ℕ) → k < length v.revisions → IsReadable st (fetched_cell v k i)
+readable_of v faithful st never own k i lt =
+    own_readable (table_of v) faithful.sound st (record { never_fails = never; sizes = sym own }) (revision_at v k).root (faithful.roots k lt) i
+
 -- what is fetched of a revision's root is fetched of its text
-pub fetched_text : {E : Type 0} (v : ImageValue) (stated : List (Option (List ℕ))) (k i : ℕ) (root : Option NodeId) (r : Result (Option ℕ × ℕ) E) → root ≡ (revision_at v k).root → IfOk r (λ x. IsFetched (table_of v) stated root i x.0) → IfOk r (λ x. IsFetchedOf v stated k i x.0)
+pub fetched_text : {E : Type 0} (v : ImageValue) (stated : Stated) (k i : ℕ) (root : Option NodeId) (r : Result (Option ℕ × ℕ) E) → root ≡ (revision_at v k).root → IfOk r (λ x. IsFetched (table_of v) stated root i x.0) → IfOk r (λ x. IsFetchedOf v stated k i x.0)
 fetched_text v stated k i root (Ok x) is h =
-    λ source agrees held. subst (λ (node : Option NodeId). IsFetched (table_of v) stated node i x.0) is h source agrees held ∙ ap (λ (t : List ℕ). slice_get t i) (sym (text_of_root v source k))
+    λ source agrees held. subst (λ (node : Option NodeId). IsFetched (table_of v) stated node i x.0) is h source agrees held ∙ ap (λ (t : List ℕ). slice_get t i) (sym (root_text v source k))
 fetched_text v stated k i root (Err e) is h = tt

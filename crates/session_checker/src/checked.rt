@@ -1,14 +1,14 @@
 //! Accepted images.
 
 ghost use Rattle.std.specs.Prelude.{◌≡◌, ◌↔◌, ◌<◌, ◌≤◌, ◌+◌, ℕ, true, length, slice_get, None, IfOk, IfErr, IfSome, IsOk, IsSome};
-ghost use Rattle.rope_node.specs.Denotes.{rope_len, rope_depth, IsRope};
-ghost use Rattle.cord_position.specs.Fetched.{IsPlaceFault};
+ghost use Rattle.rope_node.specs.Denotes.{rope_len, rope_depth};
+ghost use Rattle.cord_position.specs.Fetched.{ReadsSpan};
 ghost use Rattle.image_reader.specs.Acceptance.{HasSources};
 ghost use Rattle.image_reader.specs.Value.{IsImage, table_of};
 ghost use Rattle.image_reader.specs.Spelling.{spelling};
 ghost use Rattle.session_checker.specs.Accepted.{IsAccepted, IsFirstFault};
 ghost use Rattle.session_checker.specs.RevisionRules.{revision_at};
-ghost use Rattle.session_checker.specs.Faithful.{IsFaithful, IsFetchedOf, fetch_visits, fetched_cell};
+ghost use Rattle.session_checker.specs.Faithful.{IsFaithful, IsFetchedOf, IsMarkOf, IsRevisionOf, IsRootOf, fetch_visits, fetched_cell};
 
 use crate::fault::CheckFault;
 use crate::revision_rules::check_revisions;
@@ -55,7 +55,7 @@ impl Checked<'_> {
 
     /// Revision `k` as it is recorded, where there is one.
     fn revision(&self, k: u32) -> Option<Revision>
-        ensures there { IfSome result (λ r. (k < length self.now.revisions) × (r ≡ revision_at self.now k) × IsRope (table_of self.now) r.root) }
+        ensures there { IfSome result (IsRevisionOf self.now k) }
         ensures not_there { result ≡ None ↔ length self.now.revisions ≤ k }
     {
         let image = self.tables.image();
@@ -68,7 +68,7 @@ impl Checked<'_> {
 
     /// The root of revision `k`, where there is one.
     pub fn root(&self, k: u32) -> Option<Rope>
-        ensures there { IfSome result (λ root. (k < length self.now.revisions) × (root ≡ (revision_at self.now k).root) × IsRope (table_of self.now) root) }
+        ensures there { IfSome result (IsRootOf self.now k) }
         ensures not_there { result ≡ None ↔ length self.now.revisions ≤ k }
     {
         Some(self.revision(k)?.root)
@@ -76,7 +76,7 @@ impl Checked<'_> {
 
     /// Whether revision `k` is marked as balanced, where there is one.
     pub fn mark(&self, k: u32) -> Option<bool>
-        ensures there { IfSome result (λ mark. (k < length self.now.revisions) × (mark ≡ (revision_at self.now k).mark)) }
+        ensures there { IfSome result (IsMarkOf self.now k) }
         ensures not_there { result ≡ None ↔ length self.now.revisions ≤ k }
     {
         Some(self.revision(k)?.mark)
@@ -87,26 +87,23 @@ impl Checked<'_> {
     ///
     /// # Errors
     ///
-    /// A source's fault, where the byte is one of that source and the read of it failed. Sources that never fail, and are as many
-    /// and as long as the image says, give none.
+    /// A source's fault, where the byte is one of that source and the read of it failed. Sources that never fail, and hold
+    /// the byte's place, give none.
     pub fn fetch<S: Sources>(
         &self,
         sources: &mut S,
         k: u32,
         i: u64,
     ) -> Result<(Option<u8>, u32), SourceFault>
-        ensures byte { IfOk result (λ x. IsFetchedOf self.now (S.texts sources.old) k i x.0) }
-        ensures inside { IfOk result (λ x. IsSome x.0 ↔ i < rope_len (table_of self.now) (revision_at self.now k).root) }
+        ensures byte { IfOk result
+            (λ x. IsFetchedOf self.now (S.stated sources.old) k i x.0) }
+        ensures inside { IfOk result
+            (λ x. IsSome x.0 ↔ i < rope_len (table_of self.now) (revision_at self.now k).root) }
         ensures visits { IfOk result (λ x. x.1 ≡ fetch_visits self.now k i) }
-        ensures few { IfOk result (λ x. x.1 ≤ rope_depth (table_of self.now) (revision_at self.now k).root + 1) }
-        ensures fault { IfErr result (IsPlaceFault (S.sizes sources.old) (S.texts sources.old) (S.failures sources.old) (S.failures sources.new) (fetched_cell self.now k i)) }
-        ensures succeeds { S.never_fails sources.old ≡ true → HasSources self.now (S.sizes sources.old) → IsOk result }
-
-        // A fetch changes no size and no text, nor whether the sources may fail.
-        ensures later { S.failures sources.old ≤ S.failures sources.new }
-        ensures sizes { S.sizes sources.new ≡ S.sizes sources.old }
-        ensures texts { S.texts sources.new ≡ S.texts sources.old }
-        ensures never_fails { S.never_fails sources.new ≡ S.never_fails sources.old }
+        ensures few { IfOk result
+            (λ x. x.1 ≤ rope_depth (table_of self.now) (revision_at self.now k).root + 1) }
+        ensures reads { ReadsSpan S.stated S.failures sources.old sources.new
+            (fetched_cell self.now k) i (i + 1) result }
     {
         match self.root(k) {
             Some(root) => fetch_byte(&self.tables, sources, root, i),
@@ -181,11 +178,11 @@ pub fn check<'a, S: Sources>(bytes: &'a [u8], sources: &S) -> Result<Checked<'a>
     // What is accepted is faithful, it is what the bytes spell, and the sources are its own.
     ensures faithful { IfOk result IsFaithful }
     ensures image { IfOk result (λ v. IsImage v × (bytes.now ≡ spelling v)) }
-    ensures sources { IfOk result (λ v. HasSources v (S.sizes sources.now)) }
+    ensures sources { IfOk result (λ v. HasSources v (S.stated sources.now).sizes) }
     // What is accepted are the bytes and sources that keep the rules.
-    ensures accepted { IsOk result ↔ IsAccepted bytes.now (S.sizes sources.now) }
+    ensures accepted { IsOk result ↔ IsAccepted bytes.now (S.stated sources.now).sizes }
     // A refusal is the first fault.
-    ensures refused { IfErr result (IsFirstFault bytes.now (S.sizes sources.now)) }
+    ensures refused { IfErr result (IsFirstFault bytes.now (S.stated sources.now).sizes) }
 {
     let image = match Image::read(bytes) {
         Ok(image) => image,

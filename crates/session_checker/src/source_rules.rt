@@ -10,8 +10,8 @@ use lazy_file::Sources;
 
 /// Whether the sources are as many and as long as the image says. The fault is the first.
 pub fn check_sources<S: Sources>(image: &Image, sources: &S) -> Result<(), CheckFault>
-    ensures ok { IsOk result ↔ HasSources image.now (S.sizes sources.now) }
-    ensures err { IfErr result (IsFirstSourceFault image.now (S.sizes sources.now)) }
+    ensures ok { IsOk result ↔ HasSources image.now (S.stated sources.now).sizes }
+    ensures err { IfErr result (IsFirstSourceFault image.now (S.stated sources.now).sizes) }
 {
     let count = image.source_count();
     if count != u32::from(sources.count()) {

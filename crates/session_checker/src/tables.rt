@@ -139,9 +139,9 @@ pub fn check_tables<'a, S: Sources>(
     image: &Image<'a>,
     sources: &S,
 ) -> Result<Tables<'a>, CheckFault>
-    ensures ok { IsOk result ↔ HasGoodTables image.now (S.sizes sources.now) }
+    ensures ok { IsOk result ↔ HasGoodTables image.now (S.stated sources.now).sizes }
     ensures value { IfOk result (λ v. v ≡ image.now) }
-    ensures err { IfErr result (IsFirstTableFault image.now (S.sizes sources.now)) }
+    ensures err { IfErr result (IsFirstTableFault image.now (S.stated sources.now).sizes) }
 {
     check_sources(image, sources)?;
     check_nodes(image)?;

@@ -27,13 +27,9 @@ struct FailsOnce {
 impl Sources for FailsOnce {
     ghost use Rattle.std.specs.Prelude.{[], ◌∷◌, None, false, if◌then◌else◌};
 
-    ghost sizes = { λ _. 3 ∷ [] };
-
-    ghost texts = { λ _. None ∷ [] };
+    ghost stated = { λ _. record { sizes = 3 ∷ []; texts = None ∷ []; never_fails = false } };
 
     ghost failures = { λ s. if s.failed then 1 else 0 };
-
-    ghost never_fails = { λ _. false };
 
     fn count(&self) -> u8 {
         1

@@ -1,8 +1,8 @@
 //! The tools over readers and writers that are interrupted, that fail, and that take no more.
 
 use cord_tools::{
-    Status, ToolFault, read_source, run_check, run_cmp, run_cut, run_find, run_join, run_show,
-    run_stdin, sources_of,
+    Outcome, Status, ToolFault, exit_status, read_source, refuse_check, run_check, run_cmp, run_cut,
+    run_find, run_join, run_show, run_stdin, sources_of,
 };
 use image_reader::ReadFault;
 use lazy_file::{AddFault, MemSources, SourceFault, Sources};
@@ -134,17 +134,8 @@ impl Write for Sink {
     }
 }
 
-/// Runs the tool. Where memory was refused, nothing was written, and it runs once more.
-fn run(
-    rt: &(impl AllocGlobal + Abort),
-    reader: Source<'_>,
-    writer: &mut Sink,
-) -> Result<Status, ToolFault> {
-    let outcome = run_stdin(rt.alloc(), reader, writer);
-    if outcome != Err(ToolFault::Memory) {
-        return outcome;
-    }
-    assert!(rt; writer.taken().is_empty());
+/// Checks standard input.
+fn run(rt: &impl AllocGlobal, reader: Source<'_>, writer: &mut Sink) -> Result<Status, ToolFault> {
     run_stdin(rt.alloc(), reader, writer)
 }
 
@@ -199,19 +190,15 @@ fn an_interrupted_read_or_write_is_made_again(rt: HostRuntime) {
     assert_eq!(rt; writer.taken(), ACCEPTED);
 }
 
-/// Shows a revision of the image. Where memory was refused, nothing was written, and it runs once more.
+/// Shows a revision of an image without sources.
 fn show(
-    rt: &(impl AllocGlobal + Abort),
+    rt: &impl AllocGlobal,
     image: &[u8],
     revision: u64,
     writer: &mut Sink,
 ) -> Result<(), ToolFault> {
-    let outcome = run_show(rt.alloc(), whole(image), &[], revision, writer);
-    if outcome != Err(ToolFault::Memory) {
-        return outcome;
-    }
-    assert!(rt; writer.taken().is_empty());
-    run_show(rt.alloc(), whole(image), &[], revision, writer)
+    let mut none = MemSources::new(rt.alloc());
+    run_show(rt.alloc(), whole(image), &mut none, revision, writer)
 }
 
 #[test]
@@ -243,12 +230,9 @@ fn a_prefix_is_shown_where_the_writer_fails(rt: HostRuntime) {
     }
 }
 
-/// Reads a source. Where memory was refused, it is read once more.
+/// Reads a source.
 fn read(rt: &impl AllocGlobal, reader: Source<'_>) -> Result<Vec<u8>, ToolFault> {
-    match read_source(rt.alloc(), reader) {
-        Err(ToolFault::Memory) => read_source(rt.alloc(), reader),
-        outcome => outcome,
-    }
+    read_source(rt.alloc(), reader)
 }
 
 #[test]
@@ -286,19 +270,10 @@ fn small_texts(alloc: Global, count: usize) -> Result<Vec<Vec<u8>>, AllocError> 
     Ok(texts)
 }
 
-/// The texts as sources. Where memory was refused, they are gathered once more.
-fn gather<'a>(rt: &impl AllocGlobal, texts: &'a [Vec<u8>]) -> Result<MemSources<'a>, ToolFault> {
-    match sources_of(rt.alloc(), texts) {
-        Err(ToolFault::Memory) => sources_of(rt.alloc(), texts),
-        outcome => outcome,
-    }
-}
-
 #[test]
 fn texts_are_sources_in_their_order(rt: HostRuntime) -> Result<(), Fail> {
-    let alloc = rt.alloc();
-    let texts = small_texts(alloc, 255).or_else(|_| small_texts(alloc, 255))?;
-    let mut sources = gather(&rt, texts.as_slice()).unwrap_or(MemSources::new(alloc));
+    let texts = small_texts(rt.alloc(), 255)?;
+    let mut sources = sources_of(rt.alloc(), texts.as_slice())?;
     assert_eq!(rt; sources.count(), 255);
     for s in 0..255 {
         let mut byte = [0];
@@ -311,28 +286,23 @@ fn texts_are_sources_in_their_order(rt: HostRuntime) -> Result<(), Fail> {
 #[test]
 fn more_than_255_texts_are_refused(rt: HostRuntime) -> Result<(), Fail> {
     let alloc = rt.alloc();
-    let texts = small_texts(alloc, 256).or_else(|_| small_texts(alloc, 256))?;
-    let refused = ToolFault::Source(AddFault::TooManySources);
-    let outcome = gather(&rt, texts.as_slice());
-    assert!(rt; outcome.is_err_and(|fault| fault == refused));
-    let shown = format!(in alloc; "{refused}").or_else(|_| format!(in alloc; "{refused}"))?;
+    let texts = small_texts(alloc, 256)?;
+    let outcome = sources_of(alloc, texts.as_slice());
+    assert!(rt; outcome.is_err_and(|fault| fault == AddFault::TooManySources));
+    let shown = format!(in alloc; "{}", ToolFault::from(AddFault::TooManySources))?;
     assert_eq!(rt; shown.as_str(), "refused S4");
     Ok(())
 }
 
-/// Checks the image with sources. Where memory was refused, nothing was written, and it runs once more.
+/// Checks an image with sources of these texts.
 fn check_with(
-    rt: &(impl AllocGlobal + Abort),
+    rt: &impl AllocGlobal,
     image: &[u8],
     texts: &[Vec<u8>],
     writer: &mut Sink,
 ) -> Result<Status, ToolFault> {
-    let outcome = run_check(rt.alloc(), whole(image), texts, writer);
-    if outcome != Err(ToolFault::Memory) {
-        return outcome;
-    }
-    assert!(rt; writer.taken().is_empty());
-    run_check(rt.alloc(), whole(image), texts, writer)
+    let mut sources = sources_of(rt.alloc(), texts)?;
+    run_check(rt.alloc(), whole(image), &mut sources, writer)
 }
 
 /// One text.
@@ -351,7 +321,7 @@ fn sources_are_counted_and_measured(rt: HostRuntime) -> Result<(), Fail> {
         (b"ab", b"refused C3(0)\n", Status::Failure),
     ];
     for (text, line, status) in answers {
-        let texts = one_text(alloc, text).or_else(|_| one_text(alloc, text))?;
+        let texts = one_text(alloc, text)?;
         let mut writer = Sink::with_room(64, End::Fails);
         let outcome = check_with(&rt, ONE_SOURCE, texts.as_slice(), &mut writer);
         assert_eq!(rt; outcome, Ok(status));
@@ -365,46 +335,145 @@ fn sources_are_counted_and_measured(rt: HostRuntime) -> Result<(), Fail> {
 }
 
 #[test]
-fn a_check_with_256_sources_is_refused(rt: HostRuntime) -> Result<(), Fail> {
-    let alloc = rt.alloc();
-    let texts = small_texts(alloc, 256).or_else(|_| small_texts(alloc, 256))?;
-    let mut writer = Sink::with_room(64, End::Fails);
-    let outcome = check_with(&rt, ONE_INSERT, texts.as_slice(), &mut writer);
-    assert_eq!(rt; outcome, Ok(Status::Failure));
-    assert_eq!(rt; writer.taken(), b"refused S4\n".as_slice());
-    let mut other = Sink::with_room(64, End::Fails);
-    let outcome = check_with(&rt, b"no image", texts.as_slice(), &mut other);
-    assert_eq!(rt; outcome, Ok(Status::Failure));
-    assert_eq!(rt; other.taken(), b"refused S4\n".as_slice());
-    let mut shown = Sink::with_room(64, End::Fails);
-    let refused = ToolFault::Source(AddFault::TooManySources);
-    let mut outcome = run_show(alloc, whole(ONE_INSERT), texts.as_slice(), 1, &mut shown);
-    if outcome == Err(ToolFault::Memory) {
-        outcome = run_show(alloc, whole(ONE_INSERT), texts.as_slice(), 1, &mut shown);
+fn a_check_with_refused_sources_answers_by_their_code(rt: HostRuntime) {
+    let refusals: [(AddFault, &[u8]); 2] = [
+        (AddFault::TooManySources, b"refused S4\n"),
+        (AddFault::SourceTooLong, b"refused S5\n"),
+    ];
+    for (refusal, line) in refusals {
+        let mut writer = Sink::with_room(64, End::Fails);
+        let outcome = refuse_check(rt.alloc(), refusal, &mut writer);
+        assert_eq!(rt; outcome, Ok(Status::Failure));
+        assert_eq!(rt; writer.taken(), line);
+        let mut full = Sink::with_room(4, End::Fails);
+        let outcome = refuse_check(rt.alloc(), refusal, &mut full);
+        assert_eq!(rt; outcome, Err(ToolFault::Write));
+        assert_eq!(rt; full.taken(), b"refu".as_slice());
     }
-    assert_eq!(rt; outcome, Err(refused));
-    assert!(rt; shown.taken().is_empty());
-    Ok(())
+    let mut untouched = Sink::with_room(64, End::Fails);
+    let outcome = refuse_check(rt.alloc(), AddFault::Memory, &mut untouched);
+    assert_eq!(rt; outcome, Err(ToolFault::Memory));
+    assert!(rt; untouched.taken().is_empty());
 }
 
-/// Adds a text, once more where memory was refused.
-fn add<'a>(sources: &mut MemSources<'a>, text: &'a [u8]) {
-    if sources.add(text) == Err(AddFault::Memory) {
-        let _ = sources.add(text);
+/// One source of three bytes, which states no text. It gives `x` in each place before `broken`, and fails from there on.
+#[derive(Drop)]
+struct Broken {
+    broken: u64,
+    fault: SourceFault,
+    failed: bool,
+}
+
+impl Broken {
+    /// The device fails, or memory is refused, at a place.
+    fn at(broken: u64, fault: SourceFault) -> Broken {
+        Broken {
+            broken,
+            fault,
+            failed: false,
+        }
+    }
+}
+
+impl Sources for Broken {
+    ghost use Rattle.std.specs.Prelude.{[], ◌∷◌, None, false, if◌then◌else◌};
+
+    ghost stated = { λ _. record { sizes = 3 ∷ []; texts = None ∷ []; never_fails = false } };
+
+    ghost failures = { λ s. if s.failed then 1 else 0 };
+
+    fn count(&self) -> u8 {
+        1
+    }
+
+    fn len(&self, _s: u8) -> u64 {
+        3
+    }
+
+    fn read(&mut self, s: u8, off: u64, buffer: &mut [u8]) -> Result<(), SourceFault> {
+        if s > 0 || off > 3 || buffer.len() as u64 > 3 - off {
+            return Err(SourceFault::BadSource);
+        }
+        if self.failed || off + buffer.len() as u64 <= self.broken {
+            buffer.fill(b'x');
+            return Ok(());
+        }
+        if self.fault == SourceFault::Memory {
+            return Err(SourceFault::Memory);
+        }
+        self.failed = true;
+        Err(SourceFault::Device)
+    }
+}
+
+/// The image of one insertion of source 0, of 3 bytes: its header, source, node, two revisions and row.
+const SOURCE_INSERTED: &[u8] = b"";
+
+#[test]
+fn a_check_reads_no_source(rt: HostRuntime) {
+    let mut sources = Broken::at(0, SourceFault::Device);
+    let mut writer = Sink::with_room(64, End::Fails);
+    let outcome = run_check(rt.alloc(), whole(ONE_SOURCE), &mut sources, &mut writer);
+    assert_eq!(rt; outcome, Ok(Status::Success));
+    assert_eq!(rt; writer.taken(), b"accepted 1 revisions 0 nodes 0 rows\n".as_slice());
+    assert!(rt; !sources.failed);
+}
+
+#[test]
+fn a_source_that_fails_ends_the_tools_that_read_it(rt: HostRuntime) {
+    let faults = [
+        (SourceFault::Device, ToolFault::Read),
+        (SourceFault::Memory, ToolFault::Memory),
+    ];
+    for (fault, told) in faults {
+        let mut sources = Broken::at(2, fault);
+        let mut writer = Sink::with_room(64, End::Fails);
+        let outcome = run_cut(rt.alloc(), &mut sources, 0, 2, &mut writer);
+        assert_eq!(rt; outcome, Ok(()));
+        assert_eq!(rt; writer.taken(), b"xx".as_slice());
+        let outcome = run_cut(rt.alloc(), &mut sources, 1, 2, &mut writer);
+        assert_eq!(rt; outcome, Err(told));
+        let mut sources = Broken::at(2, fault);
+        let outcome = run_join(rt.alloc(), &mut sources, &mut writer);
+        assert_eq!(rt; outcome, Err(told));
+        let mut sources = Broken::at(2, fault);
+        let outcome = run_find(rt.alloc(), &mut sources, 1, b"y", &mut writer);
+        assert_eq!(rt; outcome, Err(told));
+        assert_eq!(rt; writer.taken(), b"xx".as_slice());
+    }
+}
+
+#[test]
+fn the_program_ends_with_the_status_of_its_outcome(rt: HostRuntime) {
+    let refused = ToolFault::Refused(CheckFault::Read(ReadFault::Truncated));
+    let too_long = ToolFault::Rope(BalanceFault::Node(NodeFault::TooLong));
+    for (outcome, status) in [
+        (Outcome::Answered(Status::Success), 0),
+        (Outcome::Answered(Status::Failure), 1),
+        (Outcome::Ended(refused), 1),
+        (Outcome::Ended(ToolFault::Source(AddFault::SourceTooLong)), 1),
+        (Outcome::Ended(ToolFault::NoRevision), 1),
+        (Outcome::Ended(ToolFault::PatternTooLong), 1),
+        (Outcome::Ended(too_long), 1),
+        (Outcome::Misused, 2),
+        (Outcome::Ended(ToolFault::Memory), 3),
+        (Outcome::Ended(ToolFault::Read), 3),
+        (Outcome::Ended(ToolFault::Write), 3),
+    ] {
+        assert_eq!(rt; exit_status(outcome), status, "{outcome:?}");
     }
 }
 
 /// The texts as sources.
-fn files<'a>(rt: &impl AllocGlobal, texts: &[&'a [u8]]) -> MemSources<'a> {
+fn files<'a>(rt: &(impl AllocGlobal + Abort), texts: &[&'a [u8]]) -> MemSources<'a> {
     let mut sources = MemSources::new(rt.alloc());
     for text in texts {
-        add(&mut sources, *text);
+        let _ = sources.add(*text).expect(rt, "a source");
     }
     sources
 }
 
-/// Cuts a text. Where memory was refused, nothing was written, and it runs once more. Here and below the counts of sources are what
-/// the tools ask for.
+/// Cuts a text. Here and below the counts of sources are what the tools ask for.
 fn cut(
     rt: &(impl AllocGlobal + Abort),
     text: &[u8],
@@ -414,24 +483,7 @@ fn cut(
 ) -> Result<(), ToolFault> {
     let mut sources = files(rt, &[text]);
     assert!(rt; sources.count() >= 1);
-    let outcome = run_cut(rt.alloc(), &mut sources, start, count, writer);
-    if outcome != Err(ToolFault::Memory) {
-        return outcome;
-    }
-    assert!(rt; writer.taken().is_empty());
-    assert!(rt; sources.count() >= 1);
     run_cut(rt.alloc(), &mut sources, start, count, writer)
-}
-
-fn find_once(
-    rt: &(impl AllocGlobal + Abort),
-    sources: &mut MemSources<'_>,
-    start: u64,
-    pattern: &[u8],
-    writer: &mut Sink,
-) -> Result<Status, ToolFault> {
-    assert!(rt; sources.count() >= 1);
-    run_find(rt.alloc(), sources, start, pattern, writer)
 }
 
 /// Searches a text.
@@ -443,21 +495,8 @@ fn find(
     writer: &mut Sink,
 ) -> Result<Status, ToolFault> {
     let mut sources = files(rt, &[text]);
-    let outcome = find_once(rt, &mut sources, start, pattern, writer);
-    if outcome != Err(ToolFault::Memory) {
-        return outcome;
-    }
-    assert!(rt; writer.taken().is_empty());
-    find_once(rt, &mut sources, start, pattern, writer)
-}
-
-fn compare_once(
-    rt: &(impl AllocGlobal + Abort),
-    sources: &mut MemSources<'_>,
-    writer: &mut Sink,
-) -> Result<Status, ToolFault> {
-    assert!(rt; sources.count() >= 2);
-    run_cmp(rt.alloc(), sources, writer)
+    assert!(rt; sources.count() >= 1);
+    run_find(rt.alloc(), &mut sources, start, pattern, writer)
 }
 
 /// Compares two texts.
@@ -468,12 +507,8 @@ fn compare(
     writer: &mut Sink,
 ) -> Result<Status, ToolFault> {
     let mut sources = files(rt, &[first, second]);
-    let outcome = compare_once(rt, &mut sources, writer);
-    if outcome != Err(ToolFault::Memory) {
-        return outcome;
-    }
-    assert!(rt; writer.taken().is_empty());
-    compare_once(rt, &mut sources, writer)
+    assert!(rt; sources.count() >= 2);
+    run_cmp(rt.alloc(), &mut sources, writer)
 }
 
 #[test]
@@ -539,7 +574,7 @@ fn a_pattern_of_more_than_4096_bytes_is_refused(rt: HostRuntime) -> Result<(), F
     let refused = ToolFault::PatternTooLong;
     assert_eq!(rt; outcome, Err(refused));
     assert!(rt; writer.taken().is_empty());
-    let shown = format!(in alloc; "{refused}").or_else(|_| format!(in alloc; "{refused}"))?;
+    let shown = format!(in alloc; "{refused}")?;
     assert_eq!(rt; shown.as_str(), "refused F1");
     Ok(())
 }
@@ -549,11 +584,7 @@ fn files_are_joined_in_their_order(rt: HostRuntime) {
     for room in 0..6 {
         let mut sources = files(&rt, &[b"ab".as_slice(), b"", b"cde"]);
         let mut writer = Sink::with_room(room, End::Fails);
-        let mut outcome = run_join(rt.alloc(), &mut sources, &mut writer);
-        if outcome == Err(ToolFault::Memory) {
-            writer = Sink::with_room(room, End::Fails);
-            outcome = run_join(rt.alloc(), &mut sources, &mut writer);
-        }
+        let outcome = run_join(rt.alloc(), &mut sources, &mut writer);
         let expected = if room < 5 {
             Err(ToolFault::Write)
         } else {
@@ -562,20 +593,6 @@ fn files_are_joined_in_their_order(rt: HostRuntime) {
         assert_eq!(rt; outcome, expected, "at {room}");
         assert_eq!(rt; writer.taken(), &b"abcde"[..room.min(5)], "at {room}");
     }
-}
-
-/// Joins the sources. Where memory was refused, nothing was written, and it runs once more.
-fn join<T: Sources>(
-    rt: &(impl AllocGlobal + Abort),
-    sources: &mut T,
-    writer: &mut Sink,
-) -> Result<(), ToolFault> {
-    let outcome = run_join(rt.alloc(), sources, writer);
-    if outcome != Err(ToolFault::Memory) {
-        return outcome;
-    }
-    assert!(rt; writer.taken().is_empty());
-    run_join(rt.alloc(), sources, writer)
 }
 
 /// As many files would make a chain that is too deep, so their rope is put together by halves.
@@ -588,12 +605,12 @@ fn two_hundred_files_are_joined_in_their_order(rt: HostRuntime) {
     let mut sources = MemSources::new(rt.alloc());
     for three in bytes.chunks(3) {
         let (one, two) = three.split_at(1);
-        add(&mut sources, one);
-        add(&mut sources, two);
+        let _ = sources.add(one).expect(&rt, "a source");
+        let _ = sources.add(two).expect(&rt, "a source");
     }
     assert_eq!(rt; sources.count(), 200);
     let mut writer = Sink::with_room(512, End::Fails);
-    assert_eq!(rt; join(&rt, &mut sources, &mut writer), Ok(()));
+    assert_eq!(rt; run_join(rt.alloc(), &mut sources, &mut writer), Ok(()));
     assert_eq!(rt; writer.taken(), bytes.as_slice());
 }
 
@@ -606,13 +623,13 @@ const HALF: u64 = 1 << 39;
 impl Sources for Halves {
     ghost use Rattle.std.specs.Prelude.{[], ◌∷◌, ◌^◌, None, false};
 
-    ghost sizes = { λ _. 2 ^ 39 ∷ 2 ^ 39 ∷ [] };
-
-    ghost texts = { λ _. None ∷ None ∷ [] };
+    ghost stated = { λ _. record {
+        sizes = 2 ^ 39 ∷ 2 ^ 39 ∷ [];
+        texts = None ∷ None ∷ [];
+        never_fails = false
+    } };
 
     ghost failures = { λ _. 0 };
-
-    ghost never_fails = { λ _. false };
 
     fn count(&self) -> u8 {
         2
@@ -635,11 +652,11 @@ impl Sources for Halves {
 fn files_of_2_to_the_40_bytes_are_refused_before_a_write(rt: HostRuntime) -> Result<(), Fail> {
     let alloc = rt.alloc();
     let mut writer = Sink::with_room(64, End::Fails);
-    let outcome = join(&rt, &mut Halves, &mut writer);
+    let outcome = run_join(alloc, &mut Halves, &mut writer);
     let refused = ToolFault::Rope(BalanceFault::Node(NodeFault::TooLong));
     assert_eq!(rt; outcome, Err(refused));
     assert!(rt; writer.taken().is_empty());
-    let shown = format!(in alloc; "{refused}").or_else(|_| format!(in alloc; "{refused}"))?;
+    let shown = format!(in alloc; "{refused}")?;
     assert_eq!(rt; shown.as_str(), "refused N1");
     Ok(())
 }

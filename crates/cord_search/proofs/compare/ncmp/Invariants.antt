@@ -1,13 +1,18 @@
-use Rattle.std.proofs.Common.{◌≡◌, ◌≤◌}
-use Rattle.cord_search.specs.Stated.{OfTexts}
+use Rattle.std.proofs.Common.{◌+◌, ◌≤◌, ℕ}
+use Rattle.rope_node.specs.Denotes.{rope_cells, text}
+use Rattle.lazy_file.specs.SourceTexts.{Agrees, Reads}
+use Rattle.cord_position.specs.Fetched.{EachCell, IsStated, rope_cell}
 use Rattle.cord_search.proofs.Orders.{IsOrderOfRest}
 use Rattle.cord_search.proofs.compare.ncmp.Given as goal
 
 -- the sources are as they were, but that reads may have failed
 abbrev pub invariant-loop-k : goal.invariant-loop-k
 invariant-loop-k g l =
-    (g.T.Sources.sizes l.sources ≡ g.T.Sources.sizes l.initial.sources)
-    × (g.T.Sources.texts l.sources ≡ g.T.Sources.texts l.initial.sources)
-    × (g.T.Sources.never_fails l.sources ≡ g.T.Sources.never_fails l.initial.sources)
-    × (g.T.Sources.failures l.initial.sources ≤ g.T.Sources.failures l.sources)
-    × OfTexts (g.S.NodeSpace.table l.space) (g.T.Sources.texts l.initial.sources) l.x l.y (IsOrderOfRest l.i l.j l.n l.k)
+    let t = g.S.NodeSpace.table l.space in
+    let st = g.T.Sources.stated l.initial.sources in
+    record {
+      reads : Reads g.T.Sources.stated g.T.Sources.failures l.initial.sources l.sources;
+      told : (source : ℕ → ℕ → ℕ) → Agrees st source → (m : ℕ) → m ≤ l.n
+          → EachCell (rope_cell t l.x) l.i (l.i + m) (IsStated st) → EachCell (rope_cell t l.y) l.j (l.j + m) (IsStated st)
+          → IsOrderOfRest l.i l.j m l.k (text source (rope_cells t l.x)) (text source (rope_cells t l.y));
+    }

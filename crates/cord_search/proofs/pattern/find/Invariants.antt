@@ -1,13 +1,13 @@
-use Rattle.std.proofs.Common.{◌≡◌, ◌<◌, ◌≤◌, ℕ}
-use Rattle.cord_search.specs.Stated.{OfText}
+use Rattle.std.proofs.Common.{◌+◌, ◌<◌, ◌≤◌, ℕ, length}
+use Rattle.lazy_file.specs.SourceTexts.{Reads}
+use Rattle.cord_search.specs.Stated.{OfSpan}
 use Rattle.cord_search.specs.Places.{StandsAt}
 use Rattle.cord_search.proofs.pattern.find.Given as goal
 
 -- the sources are as they were, but that reads may have failed
 abbrev pub invariant-loop-place : goal.invariant-loop-place
-invariant-loop-place g l =
-    (g.T.Sources.sizes l.sources ≡ g.T.Sources.sizes l.initial.sources)
-    × (g.T.Sources.texts l.sources ≡ g.T.Sources.texts l.initial.sources)
-    × (g.T.Sources.never_fails l.sources ≡ g.T.Sources.never_fails l.initial.sources)
-    × (g.T.Sources.failures l.initial.sources ≤ g.T.Sources.failures l.sources)
-    × OfText (g.S.NodeSpace.table l.space) (g.T.Sources.texts l.initial.sources) l.x (λ t. (j : ℕ) → l.start ≤ j → j < l.place → ¬ StandsAt l.pattern t j)
+invariant-loop-place g l = record {
+  reads : Reads g.T.Sources.stated g.T.Sources.failures l.initial.sources l.sources;
+  told : (end : ℕ) → l.place + length l.pattern ≤ end + 1 → OfSpan (g.S.NodeSpace.table l.space) (g.T.Sources.stated l.initial.sources) l.x l.start end
+      (λ t. (j : ℕ) → l.start ≤ j → j < l.place → ¬ StandsAt l.pattern t j);
+}

@@ -1,12 +1,12 @@
-use Rattle.std.proofs.Common.{◌≡◌, ◌≤◌, take, drop}
-use Rattle.cord_search.specs.Stated.{OfText}
+use Rattle.std.proofs.Common.{◌≡◌, ◌+◌, take, drop}
+use Rattle.lazy_file.specs.SourceTexts.{Reads}
+use Rattle.cord_search.specs.Stated.{OfSpan}
 use Rattle.cord_search.proofs.pattern.stands_at.Given as goal
 
 -- the sources are as they were, but that reads may have failed
 abbrev pub invariant-loop-k : goal.invariant-loop-k
-invariant-loop-k g l =
-    (g.T.Sources.sizes l.sources ≡ g.T.Sources.sizes l.initial.sources)
-    × (g.T.Sources.texts l.sources ≡ g.T.Sources.texts l.initial.sources)
-    × (g.T.Sources.never_fails l.sources ≡ g.T.Sources.never_fails l.initial.sources)
-    × (g.T.Sources.failures l.initial.sources ≤ g.T.Sources.failures l.sources)
-    × OfText (g.S.NodeSpace.table l.space) (g.T.Sources.texts l.initial.sources) l.x (λ t. take l.k (drop l.place t) ≡ take l.k l.pattern)
+invariant-loop-k g l = record {
+  reads : Reads g.T.Sources.stated g.T.Sources.failures l.initial.sources l.sources;
+  told : OfSpan (g.S.NodeSpace.table l.space) (g.T.Sources.stated l.initial.sources) l.x l.place (l.place + l.k)
+      (λ t. take l.k (drop l.place t) ≡ take l.k l.pattern);
+}

@@ -1,17 +1,16 @@
-use Rattle.std.proofs.Common.{◌≡◌, ◌-◌, ◌≤◌, length, take}
+use Rattle.std.proofs.Common.{◌≡◌, ◌-◌, length, take}
+use Rattle.lazy_file.specs.SourceTexts.{Reads}
 use Rattle.cord_search.specs.Stated.{OfText}
 use Rattle.std.specs.Io.KnownBytes.{Appends}
 use Rattle.cord_search.proofs.write.put.Given as goal
 
 -- the sources are as they were, but that reads may have failed
 abbrev pub invariant-loop-done : goal.invariant-loop-done
-invariant-loop-done g l =
-    (g.T.Sources.sizes l.sources ≡ g.T.Sources.sizes l.initial.sources)
-    × (g.T.Sources.texts l.sources ≡ g.T.Sources.texts l.initial.sources)
-    × (g.T.Sources.never_fails l.sources ≡ g.T.Sources.never_fails l.initial.sources)
-    × (g.T.Sources.failures l.initial.sources ≤ g.T.Sources.failures l.sources)
-    × OfText (g.S.NodeSpace.table l.space) (g.T.Sources.texts l.initial.sources) l.x (λ t. Appends (g.W.Write.contents l.initial.writer) (g.W.Write.contents l.writer) (take l.done t))
-    × (length l.chunk ≡ 4096)
+invariant-loop-done g l = record {
+  reads : Reads g.T.Sources.stated g.T.Sources.failures l.initial.sources l.sources;
+  told : OfText (g.S.NodeSpace.table l.space) (g.T.Sources.stated l.initial.sources) l.x (λ t. Appends (g.W.Write.contents l.initial.writer) (g.W.Write.contents l.writer) (take l.done t));
+  chunk : length l.chunk ≡ 4096;
+}
 
 abbrev pub decreases-loop-done : goal.decreases-loop-done
 decreases-loop-done g l = l.len - l.done

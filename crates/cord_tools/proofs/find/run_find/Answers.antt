@@ -1,18 +1,22 @@
 use Rattle.std.proofs.Common.{List, ℕ, ◌∙◌, subst}
 use Rattle.std.specs.Prelude.{Option}
 use Rattle.std.proofs.lemmas.Result.{err_from_is_err_and}
-use Rattle.cord_search.specs.Output.{AppendsPrefix}
+use Rattle.byte_output.specs.Prefix.{AppendsPrefix}
 use Rattle.cord_search.specs.Places.{IsFirst}
 use Rattle.cord_tools.specs.Files.{OfFile}
+use Rattle.cord_tools.proofs.UnreadCells.{not_read}
 use Rattle.cord_tools.proofs.find.run_find.Goals as goal
 
-pub returns-in_err-write_bytes-in-Some-clause-answer : goal.returns-in_err-write_bytes-in-Some-clause-answer
-returns-in_err-write_bytes-in-Some-clause-answer g c =
+pub returns-in_err-write_bytes-in-Some : goal.returns-in_err-write_bytes-in-Some
+returns-in_err-write_bytes-in-Some g c =
     let p = err_from_is_err_and c.from_residual-in_err-write_bytes-in-Some.result c.from_residual-in_err-write_bytes-in-Some.ensures.1 in
-    let sizes = g.T.Sources.sizes c.args.sources.now in
-    let texts = g.T.Sources.texts c.args.sources.now in
-    rw (p.1, p.2, c.in_err-write_bytes-in-Some.ensures.fault) (
-      c.in-Some.place,
-      subst (λ (found : Option ℕ). OfFile sizes texts 0 (λ t. IsFirst c.args.pattern.now t c.args.start found)) c.in-Some.is c.in_ok-place.ensures.found,
-      subst (λ (line : List ℕ). AppendsPrefix (g.W.Write.contents c.args.writer.now) (g.W.Write.contents c.write_bytes.new.writer) line) (c.as_bytes.ensures.value ∙ c.in_ok-line-in-Some.ensures) c.in_err-write_bytes-in-Some.ensures.err,
-    )
+    let st = g.T.Sources.stated c.args.sources.now in
+    rw (p.1, p.2) (record {
+      reads = not_read g.T.Sources.stated g.T.Sources.failures c.args.sources.now c.first_place.new.sources _ _ c.in_ok-place.ensures.reads.reads (λ is. absurd cc);
+      answer = (
+        c.in-Some.place,
+        subst (λ (found : Option ℕ). OfFile st 0 (λ t. IsFirst c.args.pattern.now t c.args.start found)) c.in-Some.is c.in_ok-place.ensures.found,
+        subst (λ (line : List ℕ). AppendsPrefix (g.W.Write.contents c.args.writer.now) (g.W.Write.contents c.write_bytes.new.writer) line) (c.as_bytes.ensures.value ∙ c.in_ok-line-in-Some.ensures) c.in_err-write_bytes-in-Some.ensures.err,
+      );
+      too_long = (λ is. absurd cc, λ long. let is = c.in_ok-place.ensures.too_long.1 long in absurd cc);
+    })

@@ -5,7 +5,8 @@ use Rattle.session_checker.proofs.checked.Checked.fetch.Goals as goal
 
 pub returns-in-Some-clause-byte : goal.returns-in-Some-clause-byte
 returns-in-Some-clause-byte g c =
-    rw (sym c.self.view_is) (fetched_text c.self.inside.tables (g.S.Sources.texts c.args.sources.now) c.args.k c.args.i c.in-Some.root c.fetch_byte.result (rw (sym c.self.view_is) at c.in-Some.ensures.there.1) c.fetch_byte.ensures.byte)
+    rw (sym c.self.view_is) (fetched_text c.self.inside.tables (g.S.Sources.stated c.args.sources.now) c.args.k c.args.i c.in-Some.root c.fetch_byte.result (rw (sym c.self.view_is) at c.in-Some.ensures.there.1) c.fetch_byte.ensures.byte)
 
-pub returns-in-Some-clause-succeeds : goal.returns-in-Some-clause-succeeds
-returns-in-Some-clause-succeeds g c never own = c.fetch_byte.ensures.own_sources never (sym own ∙ sym (ap (λ (v : ImageValue). v.sources) c.self.view_is))
+pub returns-in-Some-clause-reads : goal.returns-in-Some-clause-reads
+returns-in-Some-clause-reads g c =
+    rw (sym c.self.view_is) (rw (rw (sym c.self.view_is) at c.in-Some.ensures.there.1) at c.fetch_byte.ensures.reads)
