@@ -2,3 +2,6 @@ pub mod Commands
 pub mod Parts
 pub mod Leads
 pub mod Covers
+pub mod Steps
+pub mod Runs
+pub mod Verdicts
