@@ -1,6 +1,7 @@
 //! Session images, read in place: the bytes are borrowed, and no memory is taken.
 #![tactic(auto)]
 
+mod command;
 mod fault;
 mod header;
 mod image;
@@ -11,6 +12,7 @@ mod revision;
 mod rows;
 mod section;
 
+pub use command::Numbers;
 pub use fault::ReadFault;
 pub use image::Image;
 pub use revision::Revision;

@@ -3,12 +3,13 @@
 ghost use Rattle.std.specs.Prelude.{◌≡◌, ◌+◌, ◌*◌, ◌≤◌, ◌<◌, ◌^◌, length};
 ghost use Rattle.std.specs.Int.{w8, w32, w64};
 ghost use Rattle.image_reader.specs.Layout.{number_in};
-ghost use Rattle.image_reader.specs.Reading.{source_of, edit_of, root_of, revision_of, row_of, counted_rows};
+ghost use Rattle.image_reader.specs.Reading.{source_of, root_of, revision_of, row_kind_of, row_of, counted_rows};
 
+use crate::command::{edit_by, numbers_in};
 use crate::number::{u8_in, u32_in, u64_in};
 use crate::revision::Revision;
 use rope_node::{NodeId, Rope};
-use span_certificate::{Edit, Row, RowKind};
+use span_certificate::{Row, RowKind};
 
 /// The length of a source.
 #[tactic(auto, unfolding(crate::specs::Reading::source_of))]
@@ -17,23 +18,6 @@ pub fn source_in(bytes: &[u8]) -> u64
     ensures { result ≡ source_of bytes.now }
 {
     u64_in(bytes, 0)
-}
-
-#[tactic(auto, unfolding(crate::specs::Reading::edit_of))]
-fn edit_in(bytes: &[u8]) -> Edit
-    requires { length bytes.now ≡ 56 }
-    ensures { result ≡ edit_of bytes.now }
-{
-    if u8_in(bytes, 0) == 1 {
-        Edit::New
-    } else {
-        Edit::Insert {
-            r: u32_in(bytes, 8),
-            p: u64_in(bytes, 16),
-            a: u64_in(bytes, 32),
-            n: u64_in(bytes, 40),
-        }
-    }
 }
 
 fn root_in(number: u32) -> Rope
@@ -53,10 +37,21 @@ pub fn revision_in(bytes: &[u8]) -> Revision
     ensures { result ≡ revision_of bytes.now }
 {
     Revision {
-        edit: edit_in(bytes),
+        edit: edit_by(u8_in(bytes, 0), numbers_in(bytes)),
         mark: u8_in(bytes, 1) == 1,
         root: root_in(u32_in(bytes, 4)),
         rows: u32_in(bytes, 48),
+    }
+}
+
+fn row_kind_in(bytes: &[u8]) -> RowKind
+    requires { length bytes.now ≡ 24 }
+    ensures { result ≡ row_kind_of bytes.now }
+{
+    match u8_in(bytes, 0) {
+        1 => RowKind::Shared(NodeId(u32_in(bytes, 4)), u64_in(bytes, 16)),
+        2 => RowKind::Leaf,
+        _ => RowKind::Bytes,
     }
 }
 
@@ -68,7 +63,7 @@ pub fn row_in(bytes: &[u8]) -> Row
 {
     Row {
         len: u64_in(bytes, 8),
-        kind: RowKind::Leaf,
+        kind: row_kind_in(bytes),
     }
 }
 

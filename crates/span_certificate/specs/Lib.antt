@@ -1,4 +1,5 @@
 pub mod Commands
+pub mod Fields
 pub mod Parts
 pub mod Leads
 pub mod Covers
