@@ -11,7 +11,7 @@ use Rattle.image_reader.specs.declared.fault.ReadFault.TheVariants.{NonZeroPad}
 use Rattle.image_reader.specs.Layout.{IsBytes, spelled, number_in}
 use Rattle.image_reader.specs.Value.{FitsSource, FitsKind, FitsRow}
 use Rattle.image_reader.specs.Spelling.{source_layout, source_spelling, row_layout, row_numbers, row_spelling}
-use Rattle.image_reader.specs.Reading.{source_of, tag_in, row_kind_of, row_of, any_nonzero, source_fault, unused_in_row, row_fault}
+use Rattle.image_reader.specs.Reading.{source_of, tag_in, row_kind_of, row_of, any_nonzero, source_record_fault, unused_in_row, row_record_fault}
 use Rattle.image_reader.proofs.Faults.{else_none, fault_if_none, are_zero}
 use Rattle.image_reader.proofs.Fields.{AreWide, FitFields, wide8, wide16, wide32, wide64, number_in_small, numbers_from, spelled_whole, numbers_whole, length-spelled}
 
@@ -30,20 +30,20 @@ source_len : (n : ℕ) → FitsSource n → length (source_spelling n) ≡ 8
 unfolding source_spelling
 source_len n fits = length-spelled source_layout source_wide (n ∷ []) (omega arith, tt)
 
-source_back : (cell : List ℕ) → length cell ≡ 8 → IsBytes cell → source_fault cell ≡ None → FitsSource (source_of cell) × (source_spelling (source_of cell) ≡ cell)
-unfolding source_spelling source_of source_fault numbers_from
+source_back : (cell : List ℕ) → length cell ≡ 8 → IsBytes cell → source_record_fault cell ≡ None → FitsSource (source_of cell) × (source_spelling (source_of cell) ≡ cell)
+unfolding source_spelling source_of source_record_fault numbers_from
 source_back cell len bytes none =
     let small : number_in w64 0 cell < 2 ^ 40 = ltb-true _ _ (not-false _ (fault_if_none _ _ none)) in
     (small, spelled_whole source_layout source_wide 8 refl cell bytes len)
 
-source_again : (n : ℕ) → FitsSource n → (source_fault (source_spelling n) ≡ None) × (source_of (source_spelling n) ≡ n)
-unfolding source_spelling source_of source_fault numbers_from
+source_again : (n : ℕ) → FitsSource n → (source_record_fault (source_spelling n) ≡ None) × (source_of (source_spelling n) ≡ n)
+unfolding source_spelling source_of source_record_fault numbers_from
 source_again n fits =
     let e = numbers_whole source_layout source_wide (n ∷ []) (omega arith, tt) in
     let is : number_in w64 0 (spelled source_layout (n ∷ [])) ≡ n = ap (λ (ns : List ℕ). get_or ns 0 0) e in
     (rw (is, lt-ltb n (2 ^ 40) fits) refl, is)
 
-pub source_record : IsRecord source_of source_spelling source_fault FitsSource 8
+pub source_record : IsRecord source_of source_spelling source_record_fault FitsSource 8
 source_record = record { len = source_len; back = source_back; again = source_again }
 
 -- ---- rows
@@ -76,8 +76,8 @@ pub record ReadsRow (cell : List ℕ) (kind : RowKind) : Type 0 where
   pub same : row_numbers (number_in w64 8 cell) kind ≡ numbers_from row_layout 0 cell
   pub fits : FitsKind kind
 
-reads_row : (cell : List ℕ) → IsBytes cell → row_fault cell ≡ None → ReadsRow cell (row_kind_of cell)
-unfolding row_fault numbers_from
+reads_row : (cell : List ℕ) → IsBytes cell → row_record_fault cell ≡ None → ReadsRow cell (row_kind_of cell)
+unfolding row_record_fault numbers_from
 reads_row cell bytes none =
     let parts = else_none _ _ none in
     let kinds = or_parts _ _ (fault_if_none _ _ parts.0) in
@@ -94,14 +94,14 @@ reads_row cell bytes none =
           rw is (record { same = rw (is, z.0, z.1.0, z.1.1.0, z.1.1.1.0) refl; fits = tt })
     ]
 
-row_back : (cell : List ℕ) → length cell ≡ 24 → IsBytes cell → row_fault cell ≡ None → FitsRow (row_of cell) × (row_spelling (row_of cell) ≡ cell)
+row_back : (cell : List ℕ) → length cell ≡ 24 → IsBytes cell → row_record_fault cell ≡ None → FitsRow (row_of cell) × (row_spelling (row_of cell) ≡ cell)
 unfolding row_spelling row_of
 row_back cell len bytes none =
     let reads = reads_row cell bytes none in
     (record { len = number_in_small w64 wide64 8 cell bytes; kind = reads.fits }, ap (spelled row_layout) reads.same ∙ spelled_whole row_layout row_wide 24 refl cell bytes len)
 
-row_again_at : (cell : List ℕ) (len : ℕ) (kind : RowKind) → numbers_from row_layout 0 cell ≡ row_numbers len kind → (row_fault cell ≡ None) × (row_of cell ≡ record { len = len; kind = kind })
-unfolding row_of row_fault numbers_from
+row_again_at : (cell : List ℕ) (len : ℕ) (kind : RowKind) → numbers_from row_layout 0 cell ≡ row_numbers len kind → (row_record_fault cell ≡ None) × (row_of cell ≡ record { len = len; kind = kind })
+unfolding row_of row_record_fault numbers_from
 row_again_at cell len (Shared k o) e =
     let at : (i : ℕ) → get_or (numbers_from row_layout 0 cell) i 0 ≡ get_or (row_numbers len (Shared k o)) i 0 = λ i. ap (λ (ns : List ℕ). get_or ns i 0) e in
     let tag : tag_in cell ≡ 1 = at 0 in
@@ -130,10 +130,10 @@ row_again_at cell len Bytes e =
     let u5 : number_in w64 16 cell ≡ 0 = at 5 in
     (rw (tag, u1, u2, u3, u5) refl, rw (tag, len_is) refl)
 
-row_again : (r : Row) → FitsRow r → (row_fault (row_spelling r) ≡ None) × (row_of (row_spelling r) ≡ r)
+row_again : (r : Row) → FitsRow r → (row_record_fault (row_spelling r) ≡ None) × (row_of (row_spelling r) ≡ r)
 unfolding row_spelling
 row_again r fits =
     row_again_at (row_spelling r) r.len r.kind (numbers_whole row_layout row_wide (row_numbers r.len r.kind) (row_fields r.len r.kind fits.len fits.kind))
 
-pub row_record : IsRecord row_of row_spelling row_fault FitsRow 24
+pub row_record : IsRecord row_of row_spelling row_record_fault FitsRow 24
 row_record = record { len = row_len; back = row_back; again = row_again }

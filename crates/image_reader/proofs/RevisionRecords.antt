@@ -12,7 +12,7 @@ use Rattle.image_reader.specs.Limits.{nil_root}
 use Rattle.image_reader.specs.Layout.{IsBytes, spelled, number_in}
 use Rattle.image_reader.specs.Value.{FitsRoot, FitsRevision}
 use Rattle.image_reader.specs.Spelling.{field_of, numbers_of, mark_number, root_number, revision_layout, revision_numbers, revision_spelling}
-use Rattle.image_reader.specs.Reading.{command_code_in, numbers_in, edit_of, root_of, revision_of, is_unknown_revision, any_nonzero, unused_in_revision, revision_fault}
+use Rattle.image_reader.specs.Reading.{command_code_in, numbers_in, edit_of, root_of, revision_of, is_unknown_revision, any_nonzero, unused_in_revision, revision_record_fault}
 use Rattle.image_reader.proofs.Commands.{edit_again, unused_again, code_small, number_fits, IsOfCode, is_of_code, edit_fits}
 use Rattle.image_reader.proofs.Faults.{else_none, fault_if_none, zero_first}
 use Rattle.image_reader.proofs.Fields.{AreWide, FitFields, wide8, wide16, wide32, wide64, number_in_small, numbers_from, spelled_whole, numbers_whole, length-spelled}
@@ -86,8 +86,8 @@ holds cell code x mark root rows same =
     record { code_is = at 0; mark_is = at 1; zeros = at 2; root_is = at 3; numbers = rw (r, q, p, m, a, n) refl; rows_is = at 10; end = at 11 }
 
 again_at : (cell : List ℕ) (edit : Edit) (mark : Bool) (root : Option NodeId) (rows : ℕ) → FitsRoot root → Holds cell (recorded edit).code (numbers_of edit) (mark_number mark) (root_number root) rows
-    → (revision_fault cell ≡ None) × (revision_of cell ≡ record { edit = edit; mark = mark; root = root; rows = rows })
-unfolding revision_fault revision_of
+    → (revision_record_fault cell ≡ None) × (revision_of cell ≡ record { edit = edit; mark = mark; root = root; rows = rows })
+unfolding revision_record_fault revision_of
 again_at cell edit mark root rows fits h =
     let code = code_small edit in
     let edit_is : edit_of cell ≡ edit = ap (λ (x : Numbers). edit_by (command_code_in cell) (field_of x)) h.numbers ∙ ap (λ (k : ℕ). edit_by k (field_of (numbers_of edit))) h.code_is ∙ edit_again edit in
@@ -100,7 +100,7 @@ again_at cell edit mark root rows fits h =
       rw (edit_is, h.mark_is, (mark_again mark).1, h.root_is, root_again root fits, h.rows_is) refl,
     )
 
-revision_again : (r : Revision) → FitsRevision r → (revision_fault (revision_spelling r) ≡ None) × (revision_of (revision_spelling r) ≡ r)
+revision_again : (r : Revision) → FitsRevision r → (revision_record_fault (revision_spelling r) ≡ None) × (revision_of (revision_spelling r) ≡ r)
 unfolding revision_spelling
 revision_again r fits =
     let fields = revision_fields r.edit r.mark r.root r.rows fits.edit fits.root fits.rows in
@@ -122,8 +122,8 @@ field_small cell bytes M = number_in_small w64 wide64 24 cell bytes
 field_small cell bytes A = number_in_small w64 wide64 32 cell bytes
 field_small cell bytes N = number_in_small w64 wide64 40 cell bytes
 
-edit_back : (cell : List ℕ) → IsBytes cell → revision_fault cell ≡ None → ReadsEdit cell (edit_of cell)
-unfolding revision_fault numbers_from
+edit_back : (cell : List ℕ) → IsBytes cell → revision_record_fault cell ≡ None → ReadsEdit cell (edit_of cell)
+unfolding revision_record_fault numbers_from
 edit_back cell bytes none =
     let parts = else_none _ _ none in
     let kinds = or_parts _ _ (fault_if_none _ _ parts.0) in
@@ -135,8 +135,8 @@ edit_back cell bytes none =
     let is = is_of_code (command_code_in cell) (numbers_in cell) (ltb-false _ _ kinds.0) (ltb-false _ _ last.0) end.1 in
     record { same = ap (λ (x : Numbers). revision_numbers (recorded (edit_of cell)).code x (number_in w8 1 cell) (number_in w32 4 cell) (number_in w32 48 cell)) is.numbers ∙ rw (is.code_is, pad.0, end.0) refl; fits = edit_fits (command_code_in cell) (field_of (numbers_in cell)) (field_small cell bytes) }
 
-revision_back : (cell : List ℕ) → length cell ≡ 56 → IsBytes cell → revision_fault cell ≡ None → FitsRevision (revision_of cell) × (revision_spelling (revision_of cell) ≡ cell)
-unfolding revision_spelling revision_of revision_fault
+revision_back : (cell : List ℕ) → length cell ≡ 56 → IsBytes cell → revision_record_fault cell ≡ None → FitsRevision (revision_of cell) × (revision_spelling (revision_of cell) ≡ cell)
+unfolding revision_spelling revision_of revision_record_fault
 revision_back cell len bytes none =
     let e = edit_back cell bytes none in
     let kinds = or_parts _ _ (fault_if_none _ _ (else_none _ _ none).0) in
@@ -146,5 +146,5 @@ revision_back cell len bytes none =
       rw (mark, root.0) (ap (spelled revision_layout) e.same ∙ spelled_whole revision_layout revision_wide 56 refl cell bytes len),
     )
 
-pub revision_record : IsRecord revision_of revision_spelling revision_fault FitsRevision 56
+pub revision_record : IsRecord revision_of revision_spelling revision_record_fault FitsRevision 56
 revision_record = record { len = revision_len; back = revision_back; again = revision_again }

@@ -60,8 +60,8 @@ coded_of bytes =
 unfoldable pub function_of : List ℕ → Option Coded
 function_of bytes = if kind_in bytes == 3 then Some (coded_of bytes) else None
 
-abbrev pub node_of : List ℕ → ImageNode
-node_of bytes = record { node = record { view = view_of bytes; len = number_in w64 8 bytes; depth = number_in w8 1 bytes }; function = function_of bytes }
+abbrev pub image_node : List ℕ → ImageNode
+image_node bytes = record { node = record { view = view_of bytes; len = number_in w64 8 bytes; depth = number_in w8 1 bytes }; function = function_of bytes }
 
 -- the code of a command, and the numbers that are a command's
 abbrev pub command_code_in : List ℕ → ℕ
@@ -156,7 +156,7 @@ pub record HasRoom (s : ℕ) (sources : List ℕ) (n : ℕ) (nodes : List ℕ) (
 unfoldable pub sections_value : ℕ → List ℕ → ℕ → List ℕ → ℕ → List ℕ → ℕ → List ℕ → List ℕ → ImageValue
 sections_value source_count sources node_count nodes revision_count revisions row_count rows pool = record {
   sources = map source_of (records 8 source_count sources);
-  nodes = map node_of (records 32 node_count nodes);
+  nodes = map image_node (records 32 node_count nodes);
   revisions = map revision_of (records 56 revision_count revisions);
   rows = map row_of (records 24 row_count rows);
   pool = pool;
@@ -200,8 +200,8 @@ header_fault bytes =
     else fault_if (nat_lt (length bytes) (stated_len bytes)) Truncated
     else fault_if (nat_lt (stated_len bytes) (length bytes)) Trailing
 
-unfoldable pub source_fault : List ℕ → Option ReadFault
-source_fault bytes = fault_if (not (nat_lt (number_in w64 0 bytes) 1099511627776)) Count
+unfoldable pub source_record_fault : List ℕ → Option ReadFault
+source_record_fault bytes = fault_if (not (nat_lt (number_in w64 0 bytes) 1099511627776)) Count
 
 -- a function code that stands for none, or a pattern of a length that none may have
 abbrev pub is_unknown_function : List ℕ → Bool
@@ -231,8 +231,8 @@ unused_in_node bytes =
     else (if kind_in bytes == 4 then unused_in_concatenation bytes
     else (if kind_in bytes == 1 then number_in w32 4 bytes ∷ unused_in_span bytes else unused_in_span bytes))
 
-unfoldable pub node_fault : List ℕ → Option ReadFault
-node_fault bytes =
+unfoldable pub node_record_fault : List ℕ → Option ReadFault
+node_record_fault bytes =
     fault_if (is_unknown_node bytes) Kind
     else fault_if (any_nonzero (unused_in_node bytes)) NonZeroPad
 
@@ -245,8 +245,8 @@ abbrev pub is_unknown_revision : List ℕ → Bool
 is_unknown_revision bytes =
     nat_lt (command_code_in bytes) 1 || (nat_lt last_code (command_code_in bytes) || nat_lt 1 (number_in w8 1 bytes))
 
-unfoldable pub revision_fault : List ℕ → Option ReadFault
-revision_fault bytes =
+unfoldable pub revision_record_fault : List ℕ → Option ReadFault
+revision_record_fault bytes =
     fault_if (is_unknown_revision bytes) Kind
     else fault_if (any_nonzero (unused_in_revision bytes)) NonZeroPad
 
@@ -256,8 +256,8 @@ unused_in_row bytes =
     number_in w8 1 bytes ∷ number_in w16 2 bytes
     ∷ (if tag_in bytes == 1 then [] else number_in w32 4 bytes ∷ number_in w64 16 bytes ∷ [])
 
-unfoldable pub row_fault : List ℕ → Option ReadFault
-row_fault bytes =
+unfoldable pub row_record_fault : List ℕ → Option ReadFault
+row_record_fault bytes =
     fault_if (nat_lt (tag_in bytes) 1 || nat_lt 3 (tag_in bytes)) Kind
     else fault_if (any_nonzero (unused_in_row bytes)) NonZeroPad
 
@@ -268,11 +268,11 @@ counted_rows count revisions = sum_by (λ (r : Revision). r.rows) (map revision_
 -- the first fault of sections, each given with its number of records and with the bytes from it on
 unfoldable pub sections_fault : ℕ → List ℕ → ℕ → List ℕ → ℕ → List ℕ → ℕ → List ℕ → Option ReadFault
 sections_fault source_count sources node_count nodes revision_count revisions row_count rows =
-    first_fault source_fault (records 8 source_count sources)
-    else first_fault node_fault (records 32 node_count nodes)
-    else first_fault revision_fault (records 56 revision_count revisions)
+    first_fault source_record_fault (records 8 source_count sources)
+    else first_fault node_record_fault (records 32 node_count nodes)
+    else first_fault revision_record_fault (records 56 revision_count revisions)
     else fault_if (not (counted_rows revision_count revisions == row_count)) Count
-    else first_fault row_fault (records 24 row_count rows)
+    else first_fault row_record_fault (records 24 row_count rows)
 
 -- the first fault of bytes that are no image
 unfoldable pub fault_of : List ℕ → Option ReadFault

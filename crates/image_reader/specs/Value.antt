@@ -4,7 +4,7 @@ use Rattle.std.specs.List.{sum_by, AllByRecursion}
 use Rattle.function_leaf.specs.declared.coded.Coded.{Coded}
 use Rattle.function_leaf.specs.declared.coded.Coded.TheVariants.{Fill, Ramp, Cycle}
 use Rattle.function_leaf.specs.Coded.{coded_byte}
-use Rattle.function_leaf.specs.Optional.{answer_of}
+use Rattle.function_leaf.specs.Optional.{answer_of, or_fill}
 use Rattle.function_leaf.specs.Pattern.{IsPatternLength}
 use Rattle.rope_node.specs.declared.node.NodeId.{NodeId}
 use Rattle.rope_node.specs.declared.node.NodeView.{NodeView}
@@ -40,8 +40,12 @@ abbrev pub function_at : ImageValue → ℕ → Option Coded
 function_at v id = (get_or v.nodes id no_image_node).function
 
 -- the table of an image's nodes
-abbrev pub table_of : ImageValue → Table
-table_of v = record { nodes = map (λ (n : ImageNode). n.node) v.nodes; pool = v.pool; sources = v.sources; answer = λ id k. answer_of coded_byte (function_at v id) k }
+abbrev pub image_table : ImageValue → Table
+image_table v = record { nodes = map (λ (n : ImageNode). n.node) v.nodes; pool = v.pool; sources = v.sources; answer = λ id k. answer_of coded_byte (function_at v id) k }
+
+-- the function at a node, where it is one
+abbrev pub coded_at : ImageValue → ℕ → Coded
+coded_at v id = or_fill (function_at v id)
 
 -- a function's bytes fit, and a pattern has a length that it may have
 abbrev pub FitsFunction : Coded → Type 0

@@ -2,13 +2,14 @@
 #![tactic(auto)]
 
 mod command;
+mod decode;
 mod fault;
 mod header;
 mod image;
 mod node;
 mod number;
-mod parts;
 mod revision;
+mod roots;
 mod rows;
 mod section;
 
@@ -16,4 +17,5 @@ pub use command::Numbers;
 pub use fault::ReadFault;
 pub use image::Image;
 pub use revision::Revision;
+pub use roots::EarlierRoots;
 pub use rows::RevisionRows;

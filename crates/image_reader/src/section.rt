@@ -5,14 +5,14 @@ ghost use Rattle.std.specs.Result.{result_err};
 ghost use Rattle.image_reader.specs.declared.fault.ReadFault.{ReadFault};
 ghost use Rattle.image_reader.specs.Layout.{records, number_in};
 ghost use Rattle.std.specs.Int.{w8};
-ghost use Rattle.image_reader.specs.Reading.{source_fault, node_fault, revision_fault, row_fault, first_fault, any_nonzero, unused_in_revision, unused_in_row, sections_fault};
+ghost use Rattle.image_reader.specs.Reading.{source_record_fault, node_record_fault, revision_record_fault, row_record_fault, first_fault, any_nonzero, unused_in_revision, unused_in_row, sections_fault};
 
 use crate::command::{edit_by, has_unused_number, numbers_in};
 use crate::fault::ReadFault;
 use crate::header::Header;
 use crate::node::{has_unused_node_field, is_unknown_node};
 use crate::number::{u8_in, u16_in, u32_in, u64_in};
-use crate::parts::counted_rows;
+use crate::decode::counted_rows;
 
 /// A kind of record.
 pub trait Records {
@@ -74,9 +74,9 @@ impl Records for SourceRecords {
 
     ghost SIZE = { 8 };
 
-    ghost fault = { source_fault };
+    ghost fault = { source_record_fault };
 
-    #[tactic(auto, unfolding(crate::specs::Reading::source_fault))]
+    #[tactic(auto, unfolding(crate::specs::Reading::source_record_fault))]
     fn check(bytes: &[u8]) -> Result<(), ReadFault> {
         if u64_in(bytes, 0) >= 1 << 40 {
             return Err(ReadFault::Count);
@@ -93,9 +93,9 @@ impl Records for NodeRecords {
 
     ghost SIZE = { 32 };
 
-    ghost fault = { node_fault };
+    ghost fault = { node_record_fault };
 
-    #[tactic(auto, unfolding(crate::specs::Reading::node_fault))]
+    #[tactic(auto, unfolding(crate::specs::Reading::node_record_fault))]
     fn check(bytes: &[u8]) -> Result<(), ReadFault> {
         if is_unknown_node(bytes) {
             return Err(ReadFault::Kind);
@@ -115,9 +115,9 @@ impl Records for RevisionRecords {
 
     ghost SIZE = { 56 };
 
-    ghost fault = { revision_fault };
+    ghost fault = { revision_record_fault };
 
-    #[tactic(auto, unfolding(crate::specs::Reading::revision_fault))]
+    #[tactic(auto, unfolding(crate::specs::Reading::revision_record_fault))]
     fn check(bytes: &[u8]) -> Result<(), ReadFault> {
         let code = u8_in(bytes, 0);
         if code < 1 || code > 11 || u8_in(bytes, 1) > 1 {
@@ -148,9 +148,9 @@ impl Records for RowRecords {
 
     ghost SIZE = { 24 };
 
-    ghost fault = { row_fault };
+    ghost fault = { row_record_fault };
 
-    #[tactic(auto, unfolding(crate::specs::Reading::row_fault))]
+    #[tactic(auto, unfolding(crate::specs::Reading::row_record_fault))]
     fn check(bytes: &[u8]) -> Result<(), ReadFault> {
         let tag = u8_in(bytes, 0);
         if tag < 1 || tag > 3 {

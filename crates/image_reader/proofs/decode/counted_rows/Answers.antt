@@ -2,7 +2,7 @@ use Rattle.std.proofs.Common.{ap, ◌∙◌}
 use Rattle.std.specs.Int.{w32}
 use Rattle.image_reader.specs.Layout.{number_in}
 use Rattle.image_reader.proofs.Counting.{counted_to_more, counted_to_end}
-use Rattle.image_reader.proofs.parts.counted_rows.Goals as goal
+use Rattle.image_reader.proofs.decode.counted_rows.Goals as goal
 
 pub loop-preserved : goal.loop-preserved
 loop-preserved c =
