@@ -3,7 +3,7 @@ use Rattle.std.proofs.Common.{◌≡◌, ℕ, ◌+◌, ◌<◌, ◌≤◌, List,
 use Rattle.std.specs.Prelude.{All, IfOk, true, slice_index}
 use Rattle.std.specs.List.{range_with_len}
 use Rattle.std.proofs.lemmas.Bool.{lt-ltb, le-leb}
-use Rattle.std.proofs.lemmas.List.Elements.{All-append, All-drop, All-from_get_or, All-map, All-replicate, All-take, All-weaker}
+use Rattle.std.proofs.lemmas.List.Elements.{All-append, All-drop, All-from_get_or, All-map, All-nil, All-replicate, All-take, All-weaker}
 use Rattle.std.proofs.lemmas.List.FromFn.{get_or-range_with_len, length-range_with_len}
 use Rattle.function_leaf.specs.declared.coded.Coded.{Coded}
 use Rattle.rope_node.specs.declared.node.NodeId.{NodeId}
@@ -41,16 +41,12 @@ pub no_source_readable : (t : Table) (st : Stated) (parts : List Part) (root : O
 no_source_readable t st parts root rows none j lt = All-weaker IsByte (IsReadable st) (byte_readable st) (row_compares t parts root (place_of rows j) (row_at rows j)) (none j lt)
 
 -- some bytes agree with what sources state
-stated_byte : Option (List ℕ) → ℕ → ℕ
+abbrev stated_byte : Option (List ℕ) → ℕ → ℕ
 stated_byte None p = 0
 stated_byte (Some t) p = slice_index t p
 
 agreeing : (st : Stated) → (source : ℕ → ℕ → ℕ) × Agrees st source
-agreeing st = (λ s p. stated_byte (text_at st s) p, λ s p t is inside. ap (λ o. stated_byte o p) is ∙ of_text t p)
-  where
-    of_text : (t : List ℕ) (p : ℕ) → stated_byte (Some t) p ≡ slice_index t p
-    unfolding stated_byte
-    of_text t p = refl
+agreeing st = (λ s p. stated_byte (text_at st s) p, λ s p t is inside. ap (λ o. stated_byte o p) is)
 
 -- rows that cover whatever the sources hold, and over none, are found good over any sources
 pub made_good : {T : Type 0} (stated : T → Stated) (failures : T → ℕ) (old new : T) (t : Table) (coded : ℕ → Coded) (parts : List Part) (root : Option NodeId) (rows : List Row) (outcome : Result Verdict SourceFault)
@@ -64,7 +60,7 @@ made_good stated failures old new t coded parts root rows (Err e) none covers re
 -- ---- over sources that are as many and as long as the table says, and never fail
 
 rope_readable : (t : Table) → IsSound t → (st : Stated) → AreOwn st t → (rope : Option NodeId) → IsRope t rope → All (IsReadable st) (rope_cells t rope)
-rope_readable t s st own None there k d lt = absurd (omega arith)
+rope_readable t s st own None there = All-nil (IsReadable st)
 rope_readable t s st own (Some id) there = All-from_get_or (IsReadable st) (rope_cells t (Some id)) (Byte 0) (λ p lt. own_readable t s st own (Some id) there p)
 
 part_readable : (t : Table) → IsSound t → (st : Stated) → AreOwn st t → (part : Part) → IsPart t part → All (IsReadable st) (part_cells t part)
@@ -80,7 +76,7 @@ part_readable t s st own (Source r n) is =
 part_readable t s st own (Fill c n) is = All-replicate (IsReadable st) n (Byte c) tt
 
 parts_readable : (t : Table) → IsSound t → (st : Stated) → AreOwn st t → (parts : List Part) → AreParts t parts → All (IsReadable st) (parts_cells t parts)
-parts_readable t s st own [] are k d lt = absurd (omega arith)
+parts_readable t s st own [] are = All-nil (IsReadable st)
 parts_readable t s st own (x ∷ xs) are = All-append (IsReadable st) (part_cells t x) (parts_cells t xs) (part_readable t s st own x are.0) (parts_readable t s st own xs are.1)
 
 pub own_rows_readable : (t : Table) → IsSound t → (st : Stated) → AreOwn st t → (parts : List Part) (root : Option NodeId) (rows : List Row) → AreParts t parts → IsRope t root → AreReadableRows t st parts root rows
