@@ -5,6 +5,7 @@ pub mod Ways
 pub mod Steps
 pub mod Walks
 pub mod NextRows
+pub mod ComparedCells
 pub mod RunLaws
 pub mod Covering
 pub mod Made
@@ -12,3 +13,4 @@ pub mod MappedResults
 pub mod Verdicts
 pub mod Joined
 pub mod Sameness
+pub mod MadeRows

@@ -1,5 +1,5 @@
 -- Rows made one behind the other.
-use Rattle.std.proofs.Common.{◌≡◌, ℕ, ◌+◌, ◌-◌, ◌<◌, ◌≤◌, List, [], ◌∷◌, ◌++◌, length, take, drop, Option, Some, refl, sym, ap, subst, ◌∙◌, arith, inl, inr}
+use Rattle.std.proofs.Common.{All, ◌≡◌, ℕ, ◌+◌, ◌-◌, ◌<◌, ◌≤◌, List, [], ◌∷◌, ◌++◌, length, take, drop, Option, Some, refl, sym, ap, subst, ◌∙◌, arith, inl, inr}
 use Rattle.std.proofs.lemmas.Bool.{cases_lt}
 use Rattle.std.proofs.lemmas.List.{take-append-le, get_or_append_left, length-append}
 use Rattle.std.proofs.lemmas.List.Sums.{sum_by-append}
@@ -10,10 +10,10 @@ use Rattle.rope_node.specs.Table.{Table, len_at, IsSound, HasTrueRecords}
 use Rattle.rope_node.specs.Denotes.{cells, rope_cells, rope_len, IsRope}
 use Rattle.span_certificate.specs.declared.part.Part.{Part}
 use Rattle.span_certificate.specs.declared.row.Row.{Row}
-use Rattle.span_certificate.specs.declared.row.RowKind.TheVariants.{Bytes}
 use Rattle.span_certificate.specs.Parts.{part_len, parts_len, part_cells, parts_cells, IsPart, AreParts, part_at}
-use Rattle.span_certificate.specs.Covers.{row_at, no_row, rows_len, place_of, Fits, AreMade, AreBytes, CoversAlways, rows_limit}
+use Rattle.span_certificate.specs.Covers.{row_at, no_row, rows_len, place_of, row_compares, IsByte, Fits, AreMade, CoversAlways, rows_limit}
 use Rattle.span_certificate.specs.Steps.{IsNext}
+use Rattle.span_certificate.proofs.ComparedCells.{all_compared, each_byte}
 use Rattle.span_certificate.proofs.Covering.{length-parts_cells, length-rope_cells, holds_place, place_of_all}
 
 row_before : (rows : List Row) (row : Row) (j : ℕ) → j < length rows → row_at (rows ++ row ∷ []) j ≡ row_at rows j
@@ -93,12 +93,12 @@ making_more t s h coded parts node rows place off left part row are same e step 
       inside_root = omega (arith, next.few, step.inside_root);
       kind = next.fits source;
     }) in
-    let over : row.kind ≡ Bytes → AreBytes (take row.len (drop (rows_len rows) (parts_cells t parts))) × AreBytes (take row.len (drop (rows_len rows) (rope_cells t (Some node)))) =
-    λ is. rw (← making.stands, same) (next.bytes is, next.bytes is) in
+    let over : All IsByte (row_compares t parts (Some node) (rows_len rows) row) =
+    all_compared IsByte row.kind _ _ (λ is. let bytes = each_byte _ (next.bytes is) in rw (← making.stands, same) (bytes, bytes)) in
     record {
       made = record {
         fit = λ source. each_more (λ i r. Fits t coded source parts (Some node) i r) rows row (making.made.fit source) (fits source);
-        no_source = each_more (λ i r. r.kind ≡ Bytes → AreBytes (take r.len (drop i (parts_cells t parts))) × AreBytes (take r.len (drop i (rope_cells t (Some node))))) rows row making.made.no_source over;
+        no_source = each_more (λ i r. All IsByte (row_compares t parts (Some node) i r)) rows row making.made.no_source over;
         in_root = omega (arith, rows_len_more rows row, next.few, step.inside_root, making.stands);
       };
       stands = ap (λ (i : ℕ). i + row.len) making.stands ∙ sym (rows_len_more rows row);

@@ -16,8 +16,8 @@ use Rattle.span_certificate.specs.declared.row.RowKind.{RowKind}
 use Rattle.span_certificate.specs.declared.row.RowKind.TheVariants.{Shared, Leaf, Bytes}
 use Rattle.span_certificate.specs.Parts.{part_len, part_cells}
 use Rattle.span_certificate.specs.Leads.{PartHasDescription}
-use Rattle.span_certificate.specs.Covers.{AreBytes, KindFits}
-use Rattle.span_certificate.specs.Steps.{SpansFit, IsRowOf, DescribedFits, IsDescribedRow, IsNext}
+use Rattle.span_certificate.specs.Covers.{KindFits}
+use Rattle.span_certificate.specs.Steps.{SpansFit, IsRowOf, DescribedFits, IsDescribedRow, IsNext, AreBytes}
 use Rattle.span_certificate.proofs.Walks.{bytes_take}
 
 bytes_drop : (n : ℕ) (cs : List Cell) → AreBytes cs → AreBytes (drop n cs)

@@ -1,9 +1,8 @@
 -- Runs of parts, and the bytes of descriptions.
-use Rattle.std.proofs.Common.{◌≡◌, ℕ, zero, suc, ◌+◌, ◌-◌, ◌^◌, ◌<◌, ◌≤◌, List, ◌∷◌, ◌++◌, map, take, drop, Option, Some, refl, sym, ap, subst, ◌∙◌, arith, inl, inr, min, get_or}
-use Rattle.std.specs.Prelude.{replicate, ◌↔◌, Bool, true, false, IsTrue}
+use Rattle.std.proofs.Common.{◌≡◌, ℕ, zero, suc, ◌+◌, ◌-◌, ◌^◌, ◌<◌, ◌≤◌, List, ◌∷◌, ◌++◌, map, take, drop, Some, refl, sym, ap, subst, ◌∙◌, arith, min}
+use Rattle.std.specs.Prelude.{replicate, ◌↔◌, Bool, true, false, IsTrue, Err}
 use Rattle.std.specs.List.{range_with_len}
-use Rattle.std.proofs.lemmas.List.{take-replicate, drop-replicate, drop-drop, map-append, length-take, length-drop, get_or-take, get_or-drop}
-use Rattle.std.proofs.lemmas.List.Elements.{All-take, All-drop}
+use Rattle.std.proofs.lemmas.List.{take-replicate, drop-replicate, drop-drop, map-append}
 use Rattle.std.proofs.Math.Seq.{take-add}
 use Rattle.function_leaf.specs.declared.coded.Coded.{Coded}
 use Rattle.function_leaf.specs.declared.coded.Coded.TheVariants as Function
@@ -12,8 +11,8 @@ use Rattle.rope_node.specs.declared.node.NodeId.{NodeId}
 use Rattle.rope_node.specs.Table.{Table, IsSound, HasTrueRecords}
 use Rattle.rope_node.specs.Denotes.{Cell, Byte, Place, cells, cell_byte, text}
 use Rattle.rope_node.proofs.Parts.{span_within, span-map, span-range_with_len}
-use Rattle.lazy_file.specs.SourceTexts.{Agrees}
-use Rattle.cord_position.specs.Fetched.{AreStated, IsStated, IsFaultAmong}
+use Rattle.lazy_file.specs.SourceTexts.{Agrees, Reads, Stated}
+use Rattle.cord_position.specs.Fetched.{AreStated, IsStated}
 use Rattle.lazy_file.specs.declared.faults.SourceFault.{SourceFault}
 use Rattle.span_certificate.specs.declared.bytes.Run.{Run}
 use Rattle.cord_position.specs.Runs.{AreBytesOf}
@@ -26,7 +25,8 @@ use Rattle.span_certificate.specs.declared.walk.Span.{Span}
 use Rattle.span_certificate.specs.Parts.{part_len, part_cells, IsPart}
 use Rattle.span_certificate.specs.Leads.{described_cells, Describes}
 use Rattle.span_certificate.specs.Steps.{IsReached}
-use Rattle.span_certificate.specs.Runs.{IsRunOf, TellsSame, IsFaultOfTwo}
+use Rattle.span_certificate.specs.Runs.{IsRunOf, ReadsCells, TellsSame}
+use Rattle.span_certificate.proofs.ComparedCells.{AreAmong, among_first, among_second, among_span, among_through, among_both, all_among, failed_among}
 use Rattle.span_certificate.proofs.Cells.{leads_cells}
 use Rattle.span_certificate.proofs.NextRows.{fewer_same}
 
@@ -85,22 +85,39 @@ fill_run t part c m off left short is some fits =
       room = λ n le. omega (arith, le, short);
     }
 
-pub pooled_bytes : (t : Table) (texts : List (Option (List ℕ))) (n a : ℕ) (what : Description) (bytes : List ℕ) → what ≡ Pooled a → bytes ≡ take n (drop a t.pool) → AreBytesOf texts (described_cells t n what) bytes
-pooled_bytes t texts n a what bytes is e = rw (is, e) (bytes_of_bytes texts (take n (drop a t.pool)))
+pub pooled_bytes : (t : Table) (st : Stated) (n a : ℕ) (what : Description) (bytes : List ℕ) → what ≡ Pooled a → bytes ≡ take n (drop a t.pool) → AreBytesOf st (described_cells t n what) bytes
+pooled_bytes t st n a what bytes is e = rw (is, e) (bytes_of_bytes st (take n (drop a t.pool)))
 
-pub computed_bytes : (t : Table) (texts : List (Option (List ℕ))) (n i : ℕ) (f : Coded) (what : Description) (bytes : List ℕ) → what ≡ Computed f i → bytes ≡ map (coded_byte f) (range_with_len i n) → AreBytesOf texts (described_cells t n what) bytes
-computed_bytes t texts n i f what bytes is e = rw (is, e) (bytes_of_map texts (coded_byte f) (range_with_len i n))
+pub computed_bytes : (t : Table) (st : Stated) (n i : ℕ) (f : Coded) (what : Description) (bytes : List ℕ) → what ≡ Computed f i → bytes ≡ map (coded_byte f) (range_with_len i n) → AreBytesOf st (described_cells t n what) bytes
+computed_bytes t st n i f what bytes is e = rw (is, e) (bytes_of_map st (coded_byte f) (range_with_len i n))
 
-pub tells_same : (texts : List (Option (List ℕ))) (cells others : List Cell) (bytes more : List ℕ) (answer : Bool) → (IsTrue answer ↔ (bytes ≡ more)) → AreBytesOf texts cells bytes → AreBytesOf texts others more → TellsSame texts cells others answer
-tells_same texts cells others bytes more answer e of_bytes of_more source agrees stated also = (
-  λ yes. sym (of_bytes source agrees stated) ∙ e.0 yes ∙ of_more source agrees also,
-  λ same. e.1 (of_bytes source agrees stated ∙ same ∙ sym (of_more source agrees also)),
-)
+pub tells_same : (st : Stated) (cells others : List Cell) (bytes more : List ℕ) (answer : Bool) → (IsTrue answer ↔ (bytes ≡ more)) → AreBytesOf st cells bytes → AreBytesOf st others more → TellsSame st cells others answer
+tells_same st cells others bytes more answer e of_bytes of_more source agrees stated =
+    let first = of_bytes source agrees (all_among (IsStated st) cells (cells ++ others) (among_first cells others) stated) in
+    let second = of_more source agrees (all_among (IsStated st) others (cells ++ others) (among_second cells others) stated) in
+    (λ yes. sym first ∙ e.0 yes ∙ second, λ same. e.1 (first ∙ same ∙ sym second))
+
+-- where the first of two reads failed, and where the second did
+pub first_failed : {T X Y : Type 0} (stated : T → Stated) (failures : T → ℕ) (old new : T) (cells others : List Cell) (e : SourceFault)
+    → ReadsCells {X = X} stated failures old new cells (Err e) → ReadsCells {X = Y} stated failures old new (cells ++ others) (Err e)
+first_failed stated failures old new cells others e h =
+    failed_among stated failures old old new cells (cells ++ others) e (record { same = refl; later = omega arith }) h (among_first cells others)
+
+pub second_failed : {T X Y : Type 0} (stated : T → Stated) (failures : T → ℕ) (old mid new : T) (cells others : List Cell) (e : SourceFault) → Reads stated failures old mid
+    → ReadsCells {X = X} stated failures mid new others (Err e) → ReadsCells {X = Y} stated failures old new (cells ++ others) (Err e)
+second_failed stated failures old mid new cells others e before h = failed_among stated failures old mid new others (cells ++ others) e before h (among_second cells others)
+
+-- the cells that a row compares, and those of one turn
+abbrev pub both_cells : Table → Part → ℕ → Part → ℕ → ℕ → List Cell
+both_cells t part off other place len = take len (drop off (part_cells t part)) ++ take len (drop place (part_cells t other))
+
+abbrev pub turn_cells : Table → Run → Run → ℕ → List Cell
+turn_cells t a b n = described_cells t n a.what ++ described_cells t n b.what
 
 -- the first `done` bytes are the same, whatever bytes the sources have that agree with what they state
-pub record IsComparing (t : Table) (texts : List (Option (List ℕ))) (part : Part) (off : ℕ) (other : Part) (place len done : ℕ) : Type 0 where
+pub record IsComparing (t : Table) (st : Stated) (part : Part) (off : ℕ) (other : Part) (place len done : ℕ) : Type 0 where
   pub inside : done ≤ len
-  pub same : (source : ℕ → ℕ → ℕ) → Agrees texts source → AreStated texts (take len (drop off (part_cells t part))) → AreStated texts (take len (drop place (part_cells t other)))
+  pub same : (source : ℕ → ℕ → ℕ) → Agrees st source → AreStated st (both_cells t part off other place len)
       → text source (take done (drop off (part_cells t part))) ≡ text source (take done (drop place (part_cells t other)))
 
 -- the runs of one turn, and how many bytes of them are compared
@@ -127,11 +144,20 @@ run_cells : (t : Table) (part : Part) (off len done n : ℕ) (a : Run) → done 
 run_cells t part off len done n a before run le =
     span_within n done len off (part_cells t part) (omega (arith, run.few)) ∙ ap (λ (j : ℕ). take n (drop j (part_cells t part))) (omega arith) ∙ run.cells n le
 
-run_stated : (t : Table) (texts : List (Option (List ℕ))) (part : Part) (off len done n : ℕ) (a : Run) → done < len → IsRunOf t part (off + done) (len - done) a → n ≤ a.len
-    → AreStated texts (take len (drop off (part_cells t part))) → AreStated texts (described_cells t n a.what)
-run_stated t texts part off len done n a before run le stated =
-    subst (AreStated texts) (run_cells t part off len done n a before run le)
-    (All-take (IsStated texts) n (drop done (take len (drop off (part_cells t part)))) (All-drop (IsStated texts) done (take len (drop off (part_cells t part))) stated))
+-- a turn's cells are among those of the whole row
+turn_among : (t : Table) (part : Part) (off : ℕ) (other : Part) (place len done : ℕ) (a b : Run) (n : ℕ) → IsTurn t part off other place len done a b n
+    → AreAmong (turn_cells t a b n) (both_cells t part off other place len)
+turn_among t part off other place len done a b n turn =
+    let cs = take len (drop off (part_cells t part)) in
+    let ds = take len (drop place (part_cells t other)) in
+    among_both (described_cells t n a.what) (described_cells t n b.what) (cs ++ ds)
+    (among_through (described_cells t n a.what) cs (cs ++ ds) (rw (← run_cells t part off len done n a turn.before turn.first turn.few.0) (among_span n done cs)) (among_first cs ds))
+    (among_through (described_cells t n b.what) ds (cs ++ ds) (rw (← run_cells t other place len done n b turn.before turn.second turn.few.1) (among_span n done ds)) (among_second cs ds))
+
+turn_stated : (t : Table) (st : Stated) (part : Part) (off : ℕ) (other : Part) (place len done : ℕ) (a b : Run) (n : ℕ) → IsTurn t part off other place len done a b n
+    → AreStated st (both_cells t part off other place len) → AreStated st (turn_cells t a b n)
+turn_stated t st part off other place len done a b n turn stated =
+    all_among (IsStated st) (turn_cells t a b n) (both_cells t part off other place len) (turn_among t part off other place len done a b n turn) stated
 
 run_text : (t : Table) (source : ℕ → ℕ → ℕ) (part : Part) (off len done n : ℕ) (a : Run) → done < len → IsRunOf t part (off + done) (len - done) a → n ≤ a.len
     → text source (take (done + n) (drop off (part_cells t part))) ≡ text source (take done (drop off (part_cells t part))) ++ text source (described_cells t n a.what)
@@ -141,31 +167,31 @@ run_text t source part off len done n a before run le =
     ∙ ap (λ cs. text source (take done (drop off (part_cells t part))) ++ text source cs)
     (ap (take n) (drop-drop done off (part_cells t part)) ∙ ap (λ (j : ℕ). take n (drop j (part_cells t part))) (omega arith) ∙ run.cells n le)
 
-pub comparing_none : (t : Table) (texts : List (Option (List ℕ))) (part : Part) (off : ℕ) (other : Part) (place len : ℕ) → IsComparing t texts part off other place len 0
-comparing_none t texts part off other place len = record { inside = omega arith; same = λ source agrees stated also. refl }
+pub comparing_none : (t : Table) (st : Stated) (part : Part) (off : ℕ) (other : Part) (place len : ℕ) → IsComparing t st part off other place len 0
+comparing_none t st part off other place len = record { inside = omega arith; same = λ source agrees stated. refl }
 
-pub comparing_more : (t : Table) (texts : List (Option (List ℕ))) (part : Part) (off : ℕ) (other : Part) (place len done : ℕ) (a b : Run) (n : ℕ) → IsTurn t part off other place len done a b n → IsComparing t texts part off other place len done
-    → TellsSame texts (described_cells t n a.what) (described_cells t n b.what) true → IsComparing t texts part off other place len (done + n)
-comparing_more t texts part off other place len done a b n turn so_far tells = record {
+pub comparing_more : (t : Table) (st : Stated) (part : Part) (off : ℕ) (other : Part) (place len done : ℕ) (a b : Run) (n : ℕ) → IsTurn t part off other place len done a b n → IsComparing t st part off other place len done
+    → TellsSame st (described_cells t n a.what) (described_cells t n b.what) true → IsComparing t st part off other place len (done + n)
+comparing_more t st part off other place len done a b n turn so_far tells = record {
   inside = omega (arith, turn.before, turn.few.0, turn.first.few);
-  same = λ source agrees stated also.
+  same = λ source agrees stated.
       run_text t source part off len done n a turn.before turn.first turn.few.0
-      ∙ ap (λ bs. bs ++ text source (described_cells t n a.what)) (so_far.same source agrees stated also)
+      ∙ ap (λ bs. bs ++ text source (described_cells t n a.what)) (so_far.same source agrees stated)
       ∙ ap (λ bs. text source (take done (drop place (part_cells t other))) ++ bs)
-      ((tells source agrees (run_stated t texts part off len done n a turn.before turn.first turn.few.0 stated) (run_stated t texts other place len done n b turn.before turn.second turn.few.1 also)).0 refl)
+      ((tells source agrees (turn_stated t st part off other place len done a b n turn stated)).0 refl)
       ∙ sym (run_text t source other place len done n b turn.before turn.second turn.few.1);
 }
 
-pub comparing_ended : (t : Table) (texts : List (Option (List ℕ))) (part : Part) (off : ℕ) (other : Part) (place len done : ℕ) → len ≤ done → IsComparing t texts part off other place len done
-    → TellsSame texts (take len (drop off (part_cells t part))) (take len (drop place (part_cells t other))) true
-comparing_ended t texts part off other place len done past so_far source agrees stated also =
+pub comparing_ended : (t : Table) (st : Stated) (part : Part) (off : ℕ) (other : Part) (place len done : ℕ) → len ≤ done → IsComparing t st part off other place len done
+    → TellsSame st (take len (drop off (part_cells t part))) (take len (drop place (part_cells t other))) true
+comparing_ended t st part off other place len done past so_far source agrees stated =
     let end : done ≡ len = omega (arith, so_far.inside) in
-    (λ _. rw end at (so_far.same source agrees stated also), λ _. refl)
+    (λ _. rw end at (so_far.same source agrees stated), λ _. refl)
 
-pub comparing_differs : (t : Table) (texts : List (Option (List ℕ))) (part : Part) (off : ℕ) (other : Part) (place len done : ℕ) (a b : Run) (n : ℕ) → IsTurn t part off other place len done a b n
-    → TellsSame texts (described_cells t n a.what) (described_cells t n b.what) false
-    → TellsSame texts (take len (drop off (part_cells t part))) (take len (drop place (part_cells t other))) false
-comparing_differs t texts part off other place len done a b n turn tells source agrees stated also = (
+pub comparing_differs : (t : Table) (st : Stated) (part : Part) (off : ℕ) (other : Part) (place len done : ℕ) (a b : Run) (n : ℕ) → IsTurn t part off other place len done a b n
+    → TellsSame st (described_cells t n a.what) (described_cells t n b.what) false
+    → TellsSame st (take len (drop off (part_cells t part))) (take len (drop place (part_cells t other))) false
+comparing_differs t st part off other place len done a b n turn tells source agrees stated = (
   λ never. absurd cc,
   λ same.
       let run : text source (described_cells t n a.what) ≡ text source (described_cells t n b.what) =
@@ -174,56 +200,12 @@ comparing_differs t texts part off other place len done a b n turn tells source 
       ∙ ap (λ bs. take n (drop done bs)) same
       ∙ span-map (cell_byte source) n done (take len (drop place (part_cells t other)))
       ∙ ap (text source) (run_cells t other place len done n b turn.before turn.second turn.few.1) in
-      (tells source agrees (run_stated t texts part off len done n a turn.before turn.first turn.few.0 stated) (run_stated t texts other place len done n b turn.before turn.second turn.few.1 also)).1 run,
+      (tells source agrees (turn_stated t st part off other place len done a b n turn stated)).1 run,
 )
 
--- a fault among a span's cells is one among all of them, and one since a later count of failures is one since an earlier
-fault_widened : (sizes : List ℕ) (texts : List (Option (List ℕ))) (early before now : ℕ) (n done : ℕ) (cells : List Cell) (fault : SourceFault) → early ≤ before → IsFaultAmong sizes texts before now (take n (drop done cells)) fault → IsFaultAmong sizes texts early now cells fault
-fault_widened sizes texts early before now n done cells fault le f =
-    let inner : f.place < n = omega (arith, f.inside, length-take n (drop done cells)) in
-    let at : get_or (take n (drop done cells)) f.place (Byte 0) ≡ get_or cells (done + f.place) (Byte 0) = get_or-take n (drop done cells) f.place (Byte 0) inner ∙ get_or-drop done cells f.place (Byte 0) in
-    record {
-      place = done + f.place;
-      inside = omega (arith, f.inside, length-take n (drop done cells), length-drop done cells);
-      read = record {
-        s = f.read.s;
-        p = f.read.p;
-        is = sym at ∙ f.read.is;
-        read = record {
-          later = omega (arith, le, f.read.read.later);
-          device = λ e. omega (arith, le, f.read.read.device e);
-          short = f.read.read.short;
-          bad_source = f.read.read.bad_source;
-        };
-      };
-    }
-
-pub turn_fault : (t : Table) (sizes : List ℕ) (texts : List (Option (List ℕ))) (early before now : ℕ) (part : Part) (off : ℕ) (other : Part) (place len done : ℕ) (a b : Run) (n : ℕ) (fault : SourceFault) → IsTurn t part off other place len done a b n → early ≤ before
-    → IsFaultOfTwo sizes texts before now (described_cells t n a.what) (described_cells t n b.what) fault
-    → IsFaultOfTwo sizes texts early now (take len (drop off (part_cells t part))) (take len (drop place (part_cells t other))) fault
-turn_fault t sizes texts early before now part off other place len done a b n fault turn le (inl f) =
-    inl (fault_widened sizes texts early before now n done (take len (drop off (part_cells t part))) fault le (rw (run_cells t part off len done n a turn.before turn.first turn.few.0) f))
-turn_fault t sizes texts early before now part off other place len done a b n fault turn le (inr f) =
-    inr (fault_widened sizes texts early before now n done (take len (drop place (part_cells t other))) fault le (rw (run_cells t other place len done n b turn.before turn.second turn.few.1) f))
-
-earlier_among : (sizes : List ℕ) (texts : List (Option (List ℕ))) (early before now : ℕ) (cells : List Cell) (fault : SourceFault) → early ≤ before → IsFaultAmong sizes texts before now cells fault → IsFaultAmong sizes texts early now cells fault
-earlier_among sizes texts early before now cells fault le f = record {
-  place = f.place;
-  inside = f.inside;
-  read = record {
-    s = f.read.s;
-    p = f.read.p;
-    is = f.read.is;
-    read = record {
-      later = omega (arith, le, f.read.read.later);
-      device = λ e. omega (arith, le, f.read.read.device e);
-      short = f.read.read.short;
-      bad_source = f.read.read.bad_source;
-    };
-  };
-}
-
--- a fault since a later count of failures is one since an earlier
-pub earlier_two : (sizes : List ℕ) (texts : List (Option (List ℕ))) (early before now : ℕ) (cells others : List Cell) (fault : SourceFault) → early ≤ before → IsFaultOfTwo sizes texts before now cells others fault → IsFaultOfTwo sizes texts early now cells others fault
-earlier_two sizes texts early before now cells others fault le (inl f) = inl (earlier_among sizes texts early before now cells fault le f)
-earlier_two sizes texts early before now cells others fault le (inr f) = inr (earlier_among sizes texts early before now others fault le f)
+-- a turn whose read failed
+pub turn_failed : {T X Y : Type 0} (stated : T → Stated) (failures : T → ℕ) (old mid new : T) (t : Table) (part : Part) (off : ℕ) (other : Part) (place len done : ℕ) (a b : Run) (n : ℕ) (e : SourceFault)
+    → IsTurn t part off other place len done a b n → Reads stated failures old mid → ReadsCells {X = X} stated failures mid new (turn_cells t a b n) (Err e)
+    → ReadsCells {X = Y} stated failures old new (both_cells t part off other place len) (Err e)
+turn_failed stated failures old mid new t part off other place len done a b n e turn before h =
+    failed_among stated failures old mid new (turn_cells t a b n) (both_cells t part off other place len) e before h (turn_among t part off other place len done a b n turn)

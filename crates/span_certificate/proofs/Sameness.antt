@@ -1,5 +1,5 @@
 -- Rows that cover show that both sides have one text; and where no row of bytes is over a source, the same cells.
-use Rattle.std.proofs.Common.{◌≡◌, ℕ, zero, suc, ◌+◌, ◌<◌, ◌≤◌, List, map, length, take, drop, Option, Some, None, refl, sym, ap, subst, ◌∙◌, arith, add-one}
+use Rattle.std.proofs.Common.{◌≡◌, ℕ, zero, suc, ◌+◌, ◌<◌, ◌≤◌, List, map, length, take, drop, Option, Some, None, refl, sym, ap, ◌∙◌, arith, add-one}
 use Rattle.std.proofs.lemmas.List.{take_all, length-map, map-id}
 use Rattle.std.proofs.lemmas.Simd.{map-map}
 use Rattle.std.proofs.Math.Seq.{take-add}
@@ -16,7 +16,9 @@ use Rattle.span_certificate.specs.declared.row.RowKind.{RowKind}
 use Rattle.span_certificate.specs.declared.row.RowKind.TheVariants.{Shared, Leaf, Bytes}
 use Rattle.span_certificate.specs.Parts.{part_len, part_cells, parts_cells, IsPart, AreParts}
 use Rattle.span_certificate.specs.Leads.{RopeLeads, PartLeads, RopeHasDescription, PartHasDescription, described_cells, AreAnswered}
-use Rattle.span_certificate.specs.Covers.{row_at, rows_len, place_of, KindFits, Covers, AreBytes, MeetsNoSource}
+use Rattle.span_certificate.specs.Covers.{row_at, rows_len, place_of, IsByte, KindFits, Covers, MeetsNoSource}
+use Rattle.span_certificate.specs.Steps.{AreBytes}
+use Rattle.span_certificate.proofs.ComparedCells.{bytes_of_each, compared_all}
 use Rattle.span_certificate.proofs.Cells.{leads_cells, leads_inside}
 use Rattle.span_certificate.proofs.Describing.{leaf_cells}
 use Rattle.span_certificate.proofs.Covering.{holds_place, length-parts_cells, length-rope_cells, place_of_more, place_of_all}
@@ -120,6 +122,10 @@ covered_cells t s h coded answers source parts root rows are there c none =
     let same = held.same (row_at rows i).len fits.inside_part in
     let both = kind_text t s h coded answers source (row_at rows i).len fits.part fits.off root (place_of rows i) (row_at rows i).kind fits.not_empty held.is_part fits.inside_part there fits.inside_root fits.kind in
     same ∙ kind_cells t s h coded answers source (row_at rows i).len fits.part fits.off root (place_of rows i) (row_at rows i).kind fits.not_empty held.is_part fits.inside_part there fits.inside_root
-    (λ is. bytes_same source (take (row_at rows i).len (drop fits.off (part_cells t fits.part))) (take (row_at rows i).len (drop (place_of rows i) (rope_cells t root))) (subst AreBytes same (none i lt is).0) (none i lt is).1 both)
+    (λ is.
+    let xs = take (row_at rows i).len (drop (place_of rows i) (parts_cells t parts)) in
+    let ys = take (row_at rows i).len (drop (place_of rows i) (rope_cells t root)) in
+    let bytes = compared_all IsByte (row_at rows i).kind xs ys is (none i lt) in
+    sym same ∙ bytes_same source xs ys (bytes_of_each xs bytes.0) (bytes_of_each ys bytes.1) (ap (text source) same ∙ both))
     fits.kind)
     (length-parts_cells t s h parts are ∙ sym c.whole_parts) (length-rope_cells t s h root there ∙ sym c.whole_root)

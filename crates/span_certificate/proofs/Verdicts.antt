@@ -1,6 +1,6 @@
 -- What testing one row tells, what verifying keeps from row to row, and what its answers say.
-use Rattle.std.proofs.Common.{◌≡◌, ℕ, ◌+◌, ◌<◌, ◌≤◌, List, length, take, drop, Option, Some, None, Result, Ok, Err, refl, sym, ap, subst, ◌∙◌, arith, inl, inr, below_more, zero-add}
-use Rattle.std.specs.Prelude.{◌↔◌, Bool, true, false, IsTrue, IfOk, IfErr, slice_get}
+use Rattle.std.proofs.Common.{◌≡◌, ℕ, ◌+◌, ◌<◌, ◌≤◌, List, ◌++◌, length, take, drop, Option, Some, None, Result, Ok, Err, refl, sym, ap, subst, ◌∙◌, arith, inl, inr, below_more, zero-add}
+use Rattle.std.specs.Prelude.{◌↔◌, Bool, true, false, IsTrue, IfOk, slice_get}
 use Rattle.std.proofs.lemmas.Bool.{cases_order}
 use Rattle.std.proofs.lemmas.Option.{get_or_from_slice_get, some_pair_parts}
 use Rattle.function_leaf.specs.declared.coded.Coded.{Coded}
@@ -8,9 +8,9 @@ use Rattle.rope_node.specs.declared.node.NodeId.{NodeId}
 use Rattle.rope_node.specs.Table.{Table, IsSound, HasTrueRecords}
 use Rattle.rope_node.specs.Denotes.{rope_cells, rope_len}
 use Rattle.rope_node.proofs.Parts.{span_within}
-use Rattle.lazy_file.specs.SourceTexts.{Agrees}
+use Rattle.lazy_file.specs.SourceTexts.{Agrees, Reads, Stated}
 use Rattle.lazy_file.specs.declared.faults.SourceFault.{SourceFault}
-use Rattle.cord_position.specs.Fetched.{AreStated}
+use Rattle.cord_position.specs.Fetched.{IsReadable}
 use Rattle.span_certificate.specs.declared.cover.Verdict.{Verdict}
 use Rattle.span_certificate.specs.declared.cover.Verdict.TheVariants.{Good, Bad}
 use Rattle.span_certificate.specs.declared.part.Part.{Part}
@@ -19,10 +19,10 @@ use Rattle.span_certificate.specs.declared.row.Row.{Row}
 use Rattle.span_certificate.specs.declared.row.RowKind.TheVariants.{Shared, Bytes}
 use Rattle.span_certificate.specs.Parts.{part_len, parts_len, part_cells, AreParts, part_at}
 use Rattle.span_certificate.specs.Leads.{PartLeads}
-use Rattle.span_certificate.specs.Covers.{row_at, no_row, rows_len, place_of, bytes_limit, KindFits, Fits, Covers, IsFirstBad}
-use Rattle.span_certificate.specs.Runs.{TellsSame}
-use Rattle.span_certificate.specs.Verdicts.{IsStatedKind, IsStatedRow, AreStatedRows, IsKindFault, IsRowFault, IsVerdictFault, IsVerdict}
-use Rattle.span_certificate.proofs.RunLaws.{earlier_two}
+use Rattle.span_certificate.specs.Covers.{row_at, no_row, rows_len, place_of, bytes_limit, compared, kind_compares, row_compares, KindFits, Fits, Covers, IsFirstBad}
+use Rattle.span_certificate.specs.Runs.{ReadsCells, TellsSame}
+use Rattle.span_certificate.specs.Verdicts.{TellsKind, TellsRow, TellsRows, AreStatedRows, IsVerdict, ReadsRows}
+use Rattle.span_certificate.proofs.ComparedCells.{each_listed, failed_among}
 use Rattle.span_certificate.proofs.Covering.{holds_place, no_part, place_of_more, place_of_all}
 
 -- ---- one row
@@ -35,32 +35,31 @@ shared_fits t coded source part off root place m row node at answer is first sec
 root_cells : (t : Table) (root : Option NodeId) (place m n : ℕ) → place + n ≤ m → take n (drop place (part_cells t (Old root 0 m))) ≡ take n (drop place (rope_cells t root))
 root_cells t root place m n fits = span_within n place m 0 (rope_cells t root) fits ∙ ap (λ (j : ℕ). take n (drop j (rope_cells t root))) (omega arith)
 
--- the answer of a row's kind, over what the sources state
-abbrev pub TellsKind : Table → (ℕ → Coded) → List (Option (List ℕ)) → Part → ℕ → Option NodeId → ℕ → Row → Bool → Type 0
-TellsKind t coded texts part off root place row answer =
-    (source : ℕ → ℕ → ℕ) → Agrees texts source → IsStatedKind t texts part off root place row → IsTrue answer ↔ KindFits t coded source row.len part off root place row.kind
+-- the cells that a row of bytes compares, and the same cells in the parts joined
+pub bytes_compare : (t : Table) (part : Part) (off : ℕ) (root : Option NodeId) (place m : ℕ) (row : Row) → row.kind ≡ Bytes → place + row.len ≤ m
+    → kind_compares t part off root place row ≡ take row.len (drop off (part_cells t part)) ++ take row.len (drop place (part_cells t (Old root 0 m)))
+bytes_compare t part off root place m row is fits = rw (is, root_cells t root place m row.len fits) refl
 
-abbrev pub TellsRow : Table → (ℕ → Coded) → List (Option (List ℕ)) → List Part → Option NodeId → ℕ → Row → Bool → Type 0
-TellsRow t coded texts parts root place row answer =
-    (source : ℕ → ℕ → ℕ) → Agrees texts source → IsStatedRow t texts parts root place row → IsTrue answer ↔ Fits t coded source parts root place row
-
-pub bytes_fits : (t : Table) (coded : ℕ → Coded) (texts : List (Option (List ℕ))) (part : Part) (off : ℕ) (root : Option NodeId) (place m : ℕ) (row : Row) (r : Result Bool SourceFault) → row.kind ≡ Bytes → row.len ≤ bytes_limit → place + row.len ≤ m
-    → IfOk r (TellsSame texts (take row.len (drop off (part_cells t part))) (take row.len (drop place (part_cells t (Old root 0 m)))))
-    → IfOk r (TellsKind t coded texts part off root place row)
-bytes_fits t coded texts part off root place m row (Err e) is short fits tells = tt
-bytes_fits t coded texts part off root place m row (Ok answer) is short fits tells = λ source agrees stated.
-    let same = rw (root_cells t root place m row.len fits) at tells in
-    let both = same source agrees (stated is).0 (stated is).1 in
-    rw is (λ h. (short, both.0 h), λ h. both.1 h.1)
-
-pub row_tells : (t : Table) → IsSound t → HasTrueRecords t → (coded : ℕ → Coded) (texts : List (Option (List ℕ))) (parts : List Part) (root : Option NodeId) (place off : ℕ) (part : Part) (row : Row) (r : Result Bool SourceFault)
-    → AreParts t parts → part_at parts place ≡ Some (part, off) → 1 ≤ row.len → off + row.len ≤ part_len part → place + row.len ≤ rope_len t root
-    → IfOk r (TellsKind t coded texts part off root place row) → IfOk r (TellsRow t coded texts parts root place row)
-row_tells t s h coded texts parts root place off part row (Err e) are at some in_part in_root tells = tt
-row_tells t s h coded texts parts root place off part row (Ok answer) are at some in_part in_root tells = λ source agrees stated.
+pub joined_compare : (t : Table) → IsSound t → HasTrueRecords t → (parts : List Part) (root : Option NodeId) (place off : ℕ) (part : Part) (row : Row) → AreParts t parts → part_at parts place ≡ Some (part, off)
+    → off + row.len ≤ part_len part → row_compares t parts root place row ≡ kind_compares t part off root place row
+joined_compare t s h parts root place off part row are at in_part =
     let held = holds_place t s h parts place part off are at in
-    let same = held.same row.len in_part in
-    let kind = tells source agrees (λ is. (subst (AreStated texts) same (stated is).0, (stated is).1)) in (
+    ap (λ cs. compared row.kind cs (take row.len (drop place (rope_cells t root)))) (held.same row.len in_part)
+
+pub bytes_fits : (t : Table) (coded : ℕ → Coded) (st : Stated) (part : Part) (off : ℕ) (root : Option NodeId) (place m : ℕ) (row : Row) (r : Result Bool SourceFault) → row.kind ≡ Bytes → row.len ≤ bytes_limit → place + row.len ≤ m
+    → IfOk r (TellsSame st (take row.len (drop off (part_cells t part))) (take row.len (drop place (part_cells t (Old root 0 m)))))
+    → IfOk r (TellsKind t coded st part off root place row)
+bytes_fits t coded st part off root place m row (Err e) is short fits tells = tt
+bytes_fits t coded st part off root place m row (Ok answer) is short fits tells = λ source agrees stated.
+    let both = tells source agrees (rw (bytes_compare t part off root place m row is fits) at stated) in
+    rw (is, ← root_cells t root place m row.len fits) (λ h. (short, both.0 h), λ h. both.1 h.1)
+
+pub row_tells : (t : Table) → IsSound t → HasTrueRecords t → (coded : ℕ → Coded) (st : Stated) (parts : List Part) (root : Option NodeId) (place off : ℕ) (part : Part) (row : Row) (r : Result Bool SourceFault)
+    → AreParts t parts → part_at parts place ≡ Some (part, off) → 1 ≤ row.len → off + row.len ≤ part_len part → place + row.len ≤ rope_len t root
+    → IfOk r (TellsKind t coded st part off root place row) → IfOk r (TellsRow t coded st parts root place row)
+row_tells t s h coded st parts root place off part row (Err e) are at some in_part in_root tells = tt
+row_tells t s h coded st parts root place off part row (Ok answer) are at some in_part in_root tells = λ source agrees stated.
+    let kind = tells source agrees (rw (joined_compare t s h parts root place off part row are at in_part) at stated) in (
       λ h. record { part = part; off = off; at_part = at; not_empty = some; inside_part = in_part; inside_root = in_root; kind = kind.0 h },
       λ fits.
           let found : ◌≡◌ {A = Option (Part × ℕ)} (Some (fits.part, fits.off)) (Some (part, off)) = sym fits.at_part ∙ at in
@@ -69,8 +68,8 @@ row_tells t s h coded texts parts root place off part row (Ok answer) are at som
     )
 
 -- a row that stands behind the parts, is empty, or passes an end
-pub row_unfit : (t : Table) (coded : ℕ → Coded) (texts : List (Option (List ℕ))) (parts : List Part) (root : Option NodeId) (place : ℕ) (row : Row) → ((source : ℕ → ℕ → ℕ) → ¬ Fits t coded source parts root place row) → TellsRow t coded texts parts root place row false
-row_unfit t coded texts parts root place row unfit source agrees stated = (λ never. absurd cc, λ fits. absurd (unfit source fits))
+pub row_unfit : (t : Table) (coded : ℕ → Coded) (st : Stated) (parts : List Part) (root : Option NodeId) (place : ℕ) (row : Row) → ((source : ℕ → ℕ → ℕ) → ¬ Fits t coded source parts root place row) → TellsRow t coded st parts root place row false
+row_unfit t coded st parts root place row unfit source agrees stated = (λ never. absurd cc, λ fits. absurd (unfit source fits))
 
 pub behind_parts : (t : Table) (coded : ℕ → Coded) (source : ℕ → ℕ → ℕ) (parts : List Part) (root : Option NodeId) (place : ℕ) (row : Row) → part_at parts place ≡ None → ¬ Fits t coded source parts root place row
 behind_parts t coded source parts root place row none fits =
@@ -87,34 +86,28 @@ passes_part t coded source parts root place off part row at past fits =
 pub row_inside : (t : Table) → IsSound t → HasTrueRecords t → (parts : List Part) (place off : ℕ) (part : Part) (n : ℕ) → AreParts t parts → part_at parts place ≡ Some (part, off) → off + n ≤ part_len part → place + n ≤ parts_len parts
 row_inside t s h parts place off part n are at in_part = let held = holds_place t s h parts place part off are at in omega (arith, held.inside, in_part)
 
-pub row_fault : (t : Table) → IsSound t → HasTrueRecords t → (sizes : List ℕ) (texts : List (Option (List ℕ))) (before now : ℕ) (parts : List Part) (root : Option NodeId) (place off : ℕ) (part : Part) (row : Row) (fault : SourceFault)
-    → AreParts t parts → part_at parts place ≡ Some (part, off) → off + row.len ≤ part_len part → IsKindFault t sizes texts before now part off root place row fault → IsRowFault t sizes texts before now parts root place row fault
-row_fault t s h sizes texts before now parts root place off part row fault are at in_part f =
-    let held = holds_place t s h parts place part off are at in
-    (f.0, rw (held.same row.len in_part) f.1)
-
 -- ---- all rows
 
 -- the rows before j end at place, and fit over what the sources state
-pub record IsVerifying (t : Table) (coded : ℕ → Coded) (texts : List (Option (List ℕ))) (parts : List Part) (root : Option NodeId) (rows : List Row) (j place : ℕ) : Type 0 where
+pub record IsVerifying (t : Table) (coded : ℕ → Coded) (st : Stated) (parts : List Part) (root : Option NodeId) (rows : List Row) (j place : ℕ) : Type 0 where
   pub stands : place ≡ place_of rows j
   pub in_root : place ≤ rope_len t root
   pub in_parts : place ≤ parts_len parts
-  pub fit : (source : ℕ → ℕ → ℕ) → Agrees texts source → AreStatedRows t texts parts root rows → (i : ℕ) → i < j → Fits t coded source parts root (place_of rows i) (row_at rows i)
+  pub fit : (source : ℕ → ℕ → ℕ) → Agrees st source → AreStatedRows t st parts root rows → (i : ℕ) → i < j → Fits t coded source parts root (place_of rows i) (row_at rows i)
 
-pub verifying_none : (t : Table) (coded : ℕ → Coded) (texts : List (Option (List ℕ))) (parts : List Part) (root : Option NodeId) (rows : List Row) → IsVerifying t coded texts parts root rows 0 0
-verifying_none t coded texts parts root rows = record { stands = refl; in_root = omega arith; in_parts = omega arith; fit = λ source agrees stated i lt. absurd (omega arith) }
+pub verifying_none : (t : Table) (coded : ℕ → Coded) (st : Stated) (parts : List Part) (root : Option NodeId) (rows : List Row) → IsVerifying t coded st parts root rows 0 0
+verifying_none t coded st parts root rows = record { stands = refl; in_root = omega arith; in_parts = omega arith; fit = λ source agrees stated i lt. absurd (omega arith) }
 
 -- what the test of the row at place tells of row j
-tells_at : (t : Table) (coded : ℕ → Coded) (texts : List (Option (List ℕ))) (parts : List Part) (root : Option NodeId) (rows : List Row) (j place : ℕ) (row : Row) (answer : Bool) → place ≡ place_of rows j → slice_get rows j ≡ Some row
-    → TellsRow t coded texts parts root place row answer → TellsRow t coded texts parts root (place_of rows j) (row_at rows j) answer
-tells_at t coded texts parts root rows j place row answer stands is tells = rw (get_or_from_slice_get rows j row no_row is, ← stands) tells
+tells_at : (t : Table) (coded : ℕ → Coded) (st : Stated) (parts : List Part) (root : Option NodeId) (rows : List Row) (j place : ℕ) (row : Row) (answer : Bool) → place ≡ place_of rows j → slice_get rows j ≡ Some row
+    → TellsRow t coded st parts root place row answer → TellsRow t coded st parts root (place_of rows j) (row_at rows j) answer
+tells_at t coded st parts root rows j place row answer stands is tells = rw (get_or_from_slice_get rows j row no_row is, ← stands) tells
 
-pub verifying_more : (t : Table) (coded : ℕ → Coded) (texts : List (Option (List ℕ))) (parts : List Part) (root : Option NodeId) (rows : List Row) (j place : ℕ) (row : Row) → j < length rows → slice_get rows j ≡ Some row
-    → IsVerifying t coded texts parts root rows j place → TellsRow t coded texts parts root place row true → (place + row.len ≤ rope_len t root) × (place + row.len ≤ parts_len parts) → IsVerifying t coded texts parts root rows (j + 1) (place + row.len)
-verifying_more t coded texts parts root rows j place row lt is so_far tells inside =
+pub verifying_more : (t : Table) (coded : ℕ → Coded) (st : Stated) (parts : List Part) (root : Option NodeId) (rows : List Row) (j place : ℕ) (row : Row) → j < length rows → slice_get rows j ≡ Some row
+    → IsVerifying t coded st parts root rows j place → TellsRow t coded st parts root place row true → (place + row.len ≤ rope_len t root) × (place + row.len ≤ parts_len parts) → IsVerifying t coded st parts root rows (j + 1) (place + row.len)
+verifying_more t coded st parts root rows j place row lt is so_far tells inside =
     let row-is = get_or_from_slice_get rows j row no_row is in
-    let here = tells_at t coded texts parts root rows j place row true so_far.stands is tells in
+    let here = tells_at t coded st parts root rows j place row true so_far.stands is tells in
     record {
       stands = sym (place_of_more rows j lt ∙ rw (row-is, ← so_far.stands) refl);
       in_root = inside.0;
@@ -151,14 +144,10 @@ verdict_good t coded source parts root rows c = record {
   bad = λ i. (λ e. absurd cc, λ other. absurd (not_both t coded source parts root rows i c other));
 }
 
--- the answer over what the sources state
-abbrev pub Answers : Table → (ℕ → Coded) → List (Option (List ℕ)) → List Part → Option NodeId → List Row → Verdict → Type 0
-Answers t coded texts parts root rows verdict = (source : ℕ → ℕ → ℕ) → Agrees texts source → AreStatedRows t texts parts root rows → IsVerdict t coded source parts root rows verdict
-
-pub answers_unfit : (t : Table) (coded : ℕ → Coded) (texts : List (Option (List ℕ))) (parts : List Part) (root : Option NodeId) (rows : List Row) (j place : ℕ) (row : Row) → j < length rows → slice_get rows j ≡ Some row
-    → IsVerifying t coded texts parts root rows j place → TellsRow t coded texts parts root place row false → Answers t coded texts parts root rows (Bad j)
-answers_unfit t coded texts parts root rows j place row lt is so_far tells source agrees stated =
-    let here = tells_at t coded texts parts root rows j place row false so_far.stands is tells in
+pub answers_unfit : (t : Table) (coded : ℕ → Coded) (st : Stated) (parts : List Part) (root : Option NodeId) (rows : List Row) (j place : ℕ) (row : Row) → j < length rows → slice_get rows j ≡ Some row
+    → IsVerifying t coded st parts root rows j place → TellsRow t coded st parts root place row false → TellsRows t coded st parts root rows (Bad j)
+answers_unfit t coded st parts root rows j place row lt is so_far tells source agrees stated =
+    let here = tells_at t coded st parts root rows j place row false so_far.stands is tells in
     verdict_bad t coded source parts root rows j (record {
       before = so_far.fit source agrees stated;
       at_most = omega arith;
@@ -166,15 +155,15 @@ answers_unfit t coded texts parts root rows j place row lt is so_far tells sourc
       uncovered = λ e. absurd (omega arith);
     })
 
-pub answers_whole : (t : Table) (coded : ℕ → Coded) (texts : List (Option (List ℕ))) (parts : List Part) (root : Option NodeId) (rows : List Row) (j place : ℕ) → j ≡ length rows → IsVerifying t coded texts parts root rows j place
-    → (place ≡ rope_len t root) × (place ≡ parts_len parts) → Answers t coded texts parts root rows Good
-answers_whole t coded texts parts root rows j place e so_far ends source agrees stated =
+pub answers_whole : (t : Table) (coded : ℕ → Coded) (st : Stated) (parts : List Part) (root : Option NodeId) (rows : List Row) (j place : ℕ) → j ≡ length rows → IsVerifying t coded st parts root rows j place
+    → (place ≡ rope_len t root) × (place ≡ parts_len parts) → TellsRows t coded st parts root rows Good
+answers_whole t coded st parts root rows j place e so_far ends source agrees stated =
     let whole : place ≡ rows_len rows = so_far.stands ∙ ap (place_of rows) e ∙ place_of_all rows in
     verdict_good t coded source parts root rows (record { fit = λ i lt. so_far.fit source agrees stated i (omega arith); whole_root = sym whole ∙ ends.0; whole_parts = sym whole ∙ ends.1 })
 
-pub answers_left : (t : Table) (coded : ℕ → Coded) (texts : List (Option (List ℕ))) (parts : List Part) (root : Option NodeId) (rows : List Row) (j place : ℕ) → j ≡ length rows → IsVerifying t coded texts parts root rows j place
-    → ¬ ((place ≡ rope_len t root) × (place ≡ parts_len parts)) → Answers t coded texts parts root rows (Bad j)
-answers_left t coded texts parts root rows j place e so_far missed source agrees stated =
+pub answers_left : (t : Table) (coded : ℕ → Coded) (st : Stated) (parts : List Part) (root : Option NodeId) (rows : List Row) (j place : ℕ) → j ≡ length rows → IsVerifying t coded st parts root rows j place
+    → ¬ ((place ≡ rope_len t root) × (place ≡ parts_len parts)) → TellsRows t coded st parts root rows (Bad j)
+answers_left t coded st parts root rows j place e so_far missed source agrees stated =
     let whole : place ≡ rows_len rows = so_far.stands ∙ ap (place_of rows) e ∙ place_of_all rows in
     verdict_bad t coded source parts root rows j (record {
       before = so_far.fit source agrees stated;
@@ -183,15 +172,24 @@ answers_left t coded texts parts root rows j place e so_far missed source agrees
       uncovered = λ _ both. missed (whole ∙ both.0, whole ∙ both.1);
     })
 
--- a fault at row j
-pub verdict_fault : (t : Table) (coded : ℕ → Coded) (sizes : List ℕ) (texts : List (Option (List ℕ))) (early before now : ℕ) (parts : List Part) (root : Option NodeId) (rows : List Row) (j place : ℕ) (row : Row) (fault : SourceFault) → early ≤ before
-    → j < length rows → slice_get rows j ≡ Some row → IsVerifying t coded texts parts root rows j place → IsRowFault t sizes texts before now parts root place row fault → IsVerdictFault t coded sizes texts early now parts root rows fault
-verdict_fault t coded sizes texts early before now parts root rows j place row fault le lt is so_far f = record {
-  j = j;
-  inside = lt;
-  row = rw (get_or_from_slice_get rows j row no_row is, ← so_far.stands) (f.0, earlier_two sizes texts early before now _ _ fault le f.1);
-  fit = so_far.fit;
-}
+-- the read of row j failed
+pub verdict_failed : {T : Type 0} (stated : T → Stated) (failures : T → ℕ) (old mid new : T) (t : Table) (coded : ℕ → Coded) (parts : List Part) (root : Option NodeId) (rows : List Row) (j place : ℕ) (row : Row) (e : SourceFault)
+    → j < length rows → slice_get rows j ≡ Some row → IsVerifying t coded (stated old) parts root rows j place → Reads stated failures old mid
+    → ReadsCells {X = Bool} stated failures mid new (row_compares t parts root place row) (Err e) → ReadsRows stated failures old new t coded parts root rows (Err e)
+verdict_failed stated failures old mid new t coded parts root rows j place row e lt is so_far before h =
+    let cs = row_compares t parts root (place_of rows j) (row_at rows j) in
+    let here : ReadsCells {X = Bool} stated failures mid new cs (Err e) = rw (get_or_from_slice_get rows j row no_row is, ← so_far.stands) h in
+    let whole = failed_among {X = Bool} {Y = Verdict} stated failures old mid new cs cs e before here (λ k inside. (k, inside, refl)) in
+    record {
+      reads = whole.reads;
+      fault = record { j = j; inside = lt; row = whole.fault; fit = so_far.fit };
+      succeeds = λ readable. let ok = whole.succeeds (each_listed (IsReadable (stated old)) cs (readable j lt)) in absurd cc;
+    }
+
+-- all that was read, was read
+pub verdict_reads : {T : Type 0} (stated : T → Stated) (failures : T → ℕ) (old new : T) (t : Table) (coded : ℕ → Coded) (parts : List Part) (root : Option NodeId) (rows : List Row) (v : Verdict) → Reads stated failures old new
+    → ReadsRows stated failures old new t coded parts root rows (Ok v)
+verdict_reads stated failures old new t coded parts root rows v reads = record { reads = reads; fault = tt; succeeds = λ readable. refl }
 
 -- a place inside the parts that no part holds is their end
 pub at_parts_end : (parts : List Part) (place : ℕ) → place ≤ parts_len parts → part_at parts place ≡ None → place ≡ parts_len parts
@@ -205,7 +203,3 @@ held_before_end t s h parts place off part are e =
 pub inside_both : (r : Result Bool SourceFault) (a b c : ℕ) → a ≤ b → a ≤ c → IfOk r (λ answer. IsTrue answer → (a ≤ b) × (a ≤ c))
 inside_both (Ok answer) a b c le also = λ h. (le, also)
 inside_both (Err e) a b c le also = tt
-
-pub fault_along : (r : Result Bool SourceFault) (P Q : SourceFault → Type 0) → ((fault : SourceFault) → P fault → Q fault) → IfErr r P → IfErr r Q
-fault_along (Ok answer) P Q along h = tt
-fault_along (Err e) P Q along h = along e h

@@ -21,8 +21,8 @@ use Rattle.span_certificate.specs.declared.row.RowKind.{RowKind}
 use Rattle.span_certificate.specs.declared.row.RowKind.TheVariants.{Shared, Leaf, Bytes}
 use Rattle.span_certificate.specs.declared.walk.Span.{Span}
 use Rattle.span_certificate.specs.Leads.{here, leaf_description, coded_description}
-use Rattle.span_certificate.specs.Covers.{bytes_limit, AreBytes}
-use Rattle.span_certificate.specs.Steps.{IsSpan, span_cells, IsReached, IsBelow, SpansFit, IsRowOf, CellsAs, DescribedFits, IsDescribedRow}
+use Rattle.span_certificate.specs.Covers.{bytes_limit}
+use Rattle.span_certificate.specs.Steps.{IsSpan, span_cells, IsReached, IsBelow, SpansFit, IsRowOf, CellsAs, DescribedFits, IsDescribedRow, AreBytes}
 use Rattle.span_certificate.proofs.Steps.{leads_shorter, leads_through, reached_itself, reached_through, reached_shorter}
 use Rattle.span_certificate.proofs.Cells.{leads_cells}
 

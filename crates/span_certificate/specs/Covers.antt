@@ -1,10 +1,10 @@
 -- When rows cover the parts of a command and a root, and which row is the first that does not fit.
-use Rattle.std.specs.Prelude.{◌≡◌, ℕ, ◌+◌, ◌^◌, ◌≤◌, ◌<◌, List, length, map, take, drop, get_or, Option, Some}
+use Rattle.std.specs.Prelude.{◌≡◌, ℕ, ◌+◌, ◌^◌, ◌≤◌, ◌<◌, List, [], ◌++◌, length, take, drop, get_or, Option, Some, All}
 use Rattle.std.specs.List.{sum_by}
 use Rattle.function_leaf.specs.declared.coded.Coded.{Coded}
 use Rattle.rope_node.specs.declared.node.NodeId.{NodeId}
 use Rattle.rope_node.specs.Table.{Table}
-use Rattle.rope_node.specs.Denotes.{Cell, Byte, rope_len, rope_cells, text}
+use Rattle.rope_node.specs.Denotes.{Cell, Byte, Place, rope_len, rope_cells, text}
 use Rattle.span_certificate.specs.declared.describe.Description.{Description}
 use Rattle.span_certificate.specs.declared.part.Part.{Part}
 use Rattle.span_certificate.specs.declared.row.Row.{Row}
@@ -67,15 +67,31 @@ pub record IsFirstBad (t : Table) (coded : ℕ → Coded) (source : ℕ → ℕ 
   pub unfit : j < length rows → ¬ Fits t coded source parts root (place_of rows j) (row_at rows j)
   pub uncovered : j ≡ length rows → ¬ ((rows_len rows ≡ rope_len t root) × (rows_len rows ≡ parts_len parts))
 
--- these cells are bytes, and none is a place of a source
-abbrev pub AreBytes : List Cell → Type 0
-AreBytes cells = (bytes : List ℕ) × (cells ≡ map Byte bytes)
+-- the cells that a row compares: if it is one of bytes those of both sides, and else none
+abbrev pub compared : RowKind → List Cell → List Cell → List Cell
+compared (Shared k o) cells others = []
+compared Leaf cells others = []
+compared Bytes cells others = cells ++ others
+
+-- for a row of the part from off on, and for one that stands at place of the parts joined
+abbrev pub kind_compares : Table → Part → ℕ → Option NodeId → ℕ → Row → List Cell
+kind_compares t part off root place row = compared row.kind (take row.len (drop off (part_cells t part))) (take row.len (drop place (rope_cells t root)))
+
+abbrev pub row_compares : Table → List Part → Option NodeId → ℕ → Row → List Cell
+row_compares t parts root place row = compared row.kind (take row.len (drop place (parts_cells t parts))) (take row.len (drop place (rope_cells t root)))
+
+-- each row compares only such cells
+abbrev pub ComparesOnly : (Cell → Type 0) → Table → List Part → Option NodeId → List Row → Type 0
+ComparesOnly P t parts root rows = (j : ℕ) → j < length rows → All P (row_compares t parts root (place_of rows j) (row_at rows j))
+
+-- a cell that is a byte, and no place of a source
+abbrev pub IsByte : Cell → Type 0
+IsByte (Byte b) = Unit {0}
+IsByte (Place s p) = ⊥
 
 -- no row of bytes stands over a source, in the parts or in the root
 abbrev pub MeetsNoSource : Table → List Part → Option NodeId → List Row → Type 0
-MeetsNoSource t parts root rows =
-    (j : ℕ) → j < length rows → (row_at rows j).kind ≡ Bytes
-    → AreBytes (take (row_at rows j).len (drop (place_of rows j) (parts_cells t parts))) × AreBytes (take (row_at rows j).len (drop (place_of rows j) (rope_cells t root)))
+MeetsNoSource t parts root rows = ComparesOnly IsByte t parts root rows
 
 -- rows for the first bytes of the parts and of the root, over any sources
 pub record AreMade (t : Table) (coded : ℕ → Coded) (parts : List Part) (root : Option NodeId) (rows : List Row) : Type 0 where

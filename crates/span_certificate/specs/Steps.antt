@@ -3,7 +3,7 @@ use Rattle.std.specs.Prelude.{◌≡◌, ℕ, ◌+◌, ◌<◌, ◌≤◌, List,
 use Rattle.std.specs.List.{range_with_len}
 use Rattle.function_leaf.specs.declared.coded.Coded.{Coded}
 use Rattle.rope_node.specs.Table.{Table, len_at}
-use Rattle.rope_node.specs.Denotes.{Cell, Place, cells}
+use Rattle.rope_node.specs.Denotes.{Cell, Byte, Place, cells}
 use Rattle.rope_node.specs.declared.node.NodeId.{NodeId}
 use Rattle.span_certificate.specs.declared.describe.Description.{Description}
 use Rattle.span_certificate.specs.declared.describe.Description.TheVariants.{Pooled, Sourced, Computed}
@@ -13,7 +13,11 @@ use Rattle.span_certificate.specs.declared.row.RowKind.{RowKind}
 use Rattle.span_certificate.specs.declared.row.RowKind.TheVariants.{Shared, Leaf, Bytes}
 use Rattle.span_certificate.specs.declared.walk.Span.{Span}
 use Rattle.span_certificate.specs.Leads.{Leads, HasDescription}
-use Rattle.span_certificate.specs.Covers.{bytes_limit, AreBytes, KindFits}
+use Rattle.span_certificate.specs.Covers.{bytes_limit, KindFits}
+
+-- these cells are bytes
+abbrev pub AreBytes : List Cell → Type 0
+AreBytes cells = (bytes : List ℕ) × (cells ≡ map Byte bytes)
 
 -- a span that is not empty, inside its node
 pub record IsSpan (t : Table) (x : Span) : Type 0 where

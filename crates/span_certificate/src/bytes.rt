@@ -1,12 +1,11 @@
 //! Bytes of both sides, compared run by run.
 
-ghost use Rattle.std.specs.Prelude.{◌≡◌, ◌+◌, ◌<◌, ◌≤◌, ◌↔◌, length, take, drop, IsTrue, IfOk, IfErr, OnOk};
+ghost use Rattle.std.specs.Prelude.{◌≡◌, ◌+◌, ◌<◌, ◌≤◌, ◌↔◌, ◌++◌, length, take, drop, IsTrue, IfOk, OnOk};
 ghost use Rattle.rope_node.specs.Table.{IsSound, HasTrueRecords};
-ghost use Rattle.cord_position.specs.Fetched.{IsFaultAmong};
 ghost use Rattle.cord_position.specs.Runs.{AreBytesOf};
 ghost use Rattle.span_certificate.specs.Parts.{part_len, part_cells, IsPart};
 ghost use Rattle.span_certificate.specs.Leads.{described_cells, HasRoom};
-ghost use Rattle.span_certificate.specs.Runs.{IsRunOf, TellsSame, IsFaultOfTwo};
+ghost use Rattle.span_certificate.specs.Runs.{IsRunOf, ReadsCells, TellsSame};
 
 use crate::describe::{Description, describe_leaf};
 use crate::part::Part;
@@ -92,12 +91,10 @@ fn fill_described<S: NodeSpace, T: Sources>(
     requires some { 1 ≤ length buffer.old }
     requires room { HasRoom (S.table space.now) (length buffer.old) what }
     ensures length { length buffer.new ≡ length buffer.old }
-    ensures bytes { OnOk result (AreBytesOf (T.texts sources.old) (described_cells (S.table space.now) (length buffer.old) what) buffer.new) }
-    ensures fault { IfErr result (IsFaultAmong (T.sizes sources.old) (T.texts sources.old) (T.failures sources.old) (T.failures sources.new) (described_cells (S.table space.now) (length buffer.old) what)) }
-    ensures later { T.failures sources.old ≤ T.failures sources.new }
-    ensures sizes { T.sizes sources.new ≡ T.sizes sources.old }
-    ensures texts { T.texts sources.new ≡ T.texts sources.old }
-    ensures never_fails { T.never_fails sources.new ≡ T.never_fails sources.old }
+    ensures bytes { OnOk result (AreBytesOf (T.stated sources.old)
+        (described_cells (S.table space.now) (length buffer.old) what) buffer.new) }
+    ensures reads { ReadsCells T.stated T.failures sources.old sources.new
+        (described_cells (S.table space.now) (length buffer.old) what) result }
 {
     match what {
         Description::Pooled { a } => {
@@ -132,12 +129,12 @@ fn same_described<S: NodeSpace, T: Sources>(
     requires len { length others.old ≡ length bytes.old }
     requires room { HasRoom (S.table space.now) (length bytes.old) what }
     requires other_room { HasRoom (S.table space.now) (length bytes.old) other }
-    ensures same { IfOk result (TellsSame (T.texts sources.old) (described_cells (S.table space.now) (length bytes.old) what) (described_cells (S.table space.now) (length bytes.old) other)) }
-    ensures fault { IfErr result (IsFaultOfTwo (T.sizes sources.old) (T.texts sources.old) (T.failures sources.old) (T.failures sources.new) (described_cells (S.table space.now) (length bytes.old) what) (described_cells (S.table space.now) (length bytes.old) other)) }
-    ensures later { T.failures sources.old ≤ T.failures sources.new }
-    ensures sizes { T.sizes sources.new ≡ T.sizes sources.old }
-    ensures texts { T.texts sources.new ≡ T.texts sources.old }
-    ensures never_fails { T.never_fails sources.new ≡ T.never_fails sources.old }
+    ensures same { IfOk result (TellsSame (T.stated sources.old)
+        (described_cells (S.table space.now) (length bytes.old) what)
+        (described_cells (S.table space.now) (length bytes.old) other)) }
+    ensures reads { ReadsCells T.stated T.failures sources.old sources.new
+        (described_cells (S.table space.now) (length bytes.old) what
+        ++ described_cells (S.table space.now) (length bytes.old) other) result }
 {
     fill_described(space, sources, what, bytes)?;
     fill_described(space, sources, other, others)?;
@@ -160,12 +157,12 @@ pub fn same_bytes<S: CodedSpace, T: Sources>(
     requires other { IsPart (S.NodeSpace.table space.now) other }
     requires inside { off + len ≤ part_len part }
     requires other_inside { place + len ≤ part_len other }
-    ensures same { IfOk result (TellsSame (T.texts sources.old) (take len (drop off (part_cells (S.NodeSpace.table space.now) part))) (take len (drop place (part_cells (S.NodeSpace.table space.now) other)))) }
-    ensures fault { IfErr result (IsFaultOfTwo (T.sizes sources.old) (T.texts sources.old) (T.failures sources.old) (T.failures sources.new) (take len (drop off (part_cells (S.NodeSpace.table space.now) part))) (take len (drop place (part_cells (S.NodeSpace.table space.now) other)))) }
-    ensures later { T.failures sources.old ≤ T.failures sources.new }
-    ensures sizes { T.sizes sources.new ≡ T.sizes sources.old }
-    ensures texts { T.texts sources.new ≡ T.texts sources.old }
-    ensures never_fails { T.never_fails sources.new ≡ T.never_fails sources.old }
+    ensures same { IfOk result (TellsSame (T.stated sources.old)
+        (take len (drop off (part_cells (S.NodeSpace.table space.now) part)))
+        (take len (drop place (part_cells (S.NodeSpace.table space.now) other)))) }
+    ensures reads { ReadsCells T.stated T.failures sources.old sources.new
+        (take len (drop off (part_cells (S.NodeSpace.table space.now) part))
+        ++ take len (drop place (part_cells (S.NodeSpace.table space.now) other))) result }
 {
     let mut bytes = [0; BUFFER];
     let mut others = [0; BUFFER];

@@ -1,12 +1,12 @@
 //! Rows tested against the parts of a command and its root.
 
-ghost use Rattle.std.specs.Prelude.{◌≡◌, ◌+◌, ◌<◌, ◌≤◌, ◌↔◌, ℕ, length, take, drop, Some, IsTrue, IfOk, IfErr};
+ghost use Rattle.std.specs.Prelude.{◌≡◌, ◌+◌, ◌<◌, ◌≤◌, ◌↔◌, length, Some, IsTrue, IfOk};
 ghost use Rattle.rope_node.specs.Table.{IsSound, HasTrueRecords};
-ghost use Rattle.rope_node.specs.Denotes.{rope_len, rope_cells, IsRope};
-ghost use Rattle.lazy_file.specs.SourceTexts.{Agrees};
-ghost use Rattle.span_certificate.specs.Parts.{part_at, part_len, parts_len, part_cells, parts_cells, IsPart, AreParts};
-ghost use Rattle.span_certificate.specs.Covers.{HaveOneDescription, KindFits, Fits};
-ghost use Rattle.span_certificate.specs.Verdicts.{IsStatedKind, IsStatedRow, AreStatedRows, IsKindFault, IsRowFault, IsVerdictFault, IsVerdict};
+ghost use Rattle.rope_node.specs.Denotes.{rope_len, IsRope};
+ghost use Rattle.span_certificate.specs.Parts.{part_at, part_len, parts_len, IsPart, AreParts};
+ghost use Rattle.span_certificate.specs.Covers.{HaveOneDescription, kind_compares, row_compares};
+ghost use Rattle.span_certificate.specs.Runs.{ReadsCells};
+ghost use Rattle.span_certificate.specs.Verdicts.{ReadsRows, TellsKind, TellsRow, TellsRows};
 
 use crate::bytes::same_bytes;
 use crate::exact::{describe_part, part_leads};
@@ -68,13 +68,10 @@ fn kind_fits<S: CodedSpace, T: Sources>(
     requires root { IsRope (S.NodeSpace.table space.now) root }
     requires inside_root { place + row.len ≤ rope_len (S.NodeSpace.table space.now) root }
     requires not_empty { 1 ≤ row.len }
-    ensures fits { IfOk result (λ yes. (source : ℕ → ℕ → ℕ) → Agrees (T.texts sources.old) source → IsStatedKind (S.NodeSpace.table space.now) (T.texts sources.old) part off root place row
-        → IsTrue yes ↔ KindFits (S.NodeSpace.table space.now) (S.coded space.now) source row.len part off root place row.kind) }
-    ensures fault { IfErr result (IsKindFault (S.NodeSpace.table space.now) (T.sizes sources.old) (T.texts sources.old) (T.failures sources.old) (T.failures sources.new) part off root place row) }
-    ensures later { T.failures sources.old ≤ T.failures sources.new }
-    ensures sizes { T.sizes sources.new ≡ T.sizes sources.old }
-    ensures texts { T.texts sources.new ≡ T.texts sources.old }
-    ensures never_fails { T.never_fails sources.new ≡ T.never_fails sources.old }
+    ensures fits { IfOk result (TellsKind (S.NodeSpace.table space.now) (S.coded space.now)
+        (T.stated sources.old) part off root place row) }
+    ensures reads { ReadsCells T.stated T.failures sources.old sources.new
+        (kind_compares (S.NodeSpace.table space.now) part off root place row) result }
 {
     let other = Part::Old {
         rope: root,
@@ -110,14 +107,13 @@ fn row_fits<S: CodedSpace, T: Sources>(
     requires parts { AreParts (S.NodeSpace.table space.now) parts.now }
     requires root { IsRope (S.NodeSpace.table space.now) root }
     requires place { place ≤ rope_len (S.NodeSpace.table space.now) root }
-    ensures fits { IfOk result (λ yes. (source : ℕ → ℕ → ℕ) → Agrees (T.texts sources.old) source → IsStatedRow (S.NodeSpace.table space.now) (T.texts sources.old) parts.now root place row
-        → IsTrue yes ↔ Fits (S.NodeSpace.table space.now) (S.coded space.now) source parts.now root place row) }
-    ensures inside { IfOk result (λ yes. IsTrue yes → (place + row.len ≤ rope_len (S.NodeSpace.table space.now) root) × (place + row.len ≤ parts_len parts.now)) }
-    ensures fault { IfErr result (IsRowFault (S.NodeSpace.table space.now) (T.sizes sources.old) (T.texts sources.old) (T.failures sources.old) (T.failures sources.new) parts.now root place row) }
-    ensures later { T.failures sources.old ≤ T.failures sources.new }
-    ensures sizes { T.sizes sources.new ≡ T.sizes sources.old }
-    ensures texts { T.texts sources.new ≡ T.texts sources.old }
-    ensures never_fails { T.never_fails sources.new ≡ T.never_fails sources.old }
+    ensures fits { IfOk result (TellsRow (S.NodeSpace.table space.now) (S.coded space.now)
+        (T.stated sources.old) parts.now root place row) }
+    ensures inside { IfOk result (λ yes. IsTrue yes
+        → (place + row.len ≤ rope_len (S.NodeSpace.table space.now) root)
+        × (place + row.len ≤ parts_len parts.now)) }
+    ensures reads { ReadsCells T.stated T.failures sources.old sources.new
+        (row_compares (S.NodeSpace.table space.now) parts.now root place row) result }
 {
     match part_at(parts, place) {
         None => Ok(false),
@@ -161,13 +157,10 @@ pub fn verify<S: CodedSpace, T: Sources, R: Rows>(
 ) -> Result<Verdict, SourceFault>
     requires parts { AreParts (S.NodeSpace.table space.now) parts.now }
     requires root { IsRope (S.NodeSpace.table space.now) root }
-    ensures exact { IfOk result (λ verdict. (source : ℕ → ℕ → ℕ) → Agrees (T.texts sources.old) source → AreStatedRows (S.NodeSpace.table space.now) (T.texts sources.old) parts.now root (R.listed rows.now)
-        → IsVerdict (S.NodeSpace.table space.now) (S.coded space.now) source parts.now root (R.listed rows.now) verdict) }
-    ensures fault { IfErr result (IsVerdictFault (S.NodeSpace.table space.now) (S.coded space.now) (T.sizes sources.old) (T.texts sources.old) (T.failures sources.old) (T.failures sources.new) parts.now root (R.listed rows.now)) }
-    ensures later { T.failures sources.old ≤ T.failures sources.new }
-    ensures sizes { T.sizes sources.new ≡ T.sizes sources.old }
-    ensures texts { T.texts sources.new ≡ T.texts sources.old }
-    ensures never_fails { T.never_fails sources.new ≡ T.never_fails sources.old }
+    ensures exact { IfOk result (TellsRows (S.NodeSpace.table space.now) (S.coded space.now)
+        (T.stated sources.old) parts.now root (R.listed rows.now)) }
+    ensures reads { ReadsRows T.stated T.failures sources.old sources.new
+        (S.NodeSpace.table space.now) (S.coded space.now) parts.now root (R.listed rows.now) result }
 {
     // The space is sound, as each of its calls says.
     let _nodes = space.count();

@@ -10,3 +10,6 @@ returns-in-None-clause-covers g c =
 
 pub returns-in-Some-clause-covers : goal.returns-in-Some-clause-covers
 returns-in-Some-clause-covers g c = rw c.in-Some.is c.make_for.ensures.covers
+
+pub returns-in-Some-clause-no_source : goal.returns-in-Some-clause-no_source
+returns-in-Some-clause-no_source g c = rw c.in-Some.is c.make_for.ensures.no_source
