@@ -11,7 +11,7 @@ use lazy_file::{SourceFault, Sources};
 use rope_node::{NodeId, NodeSpace, NodeView};
 
 /// The bytes of source `s` from `place` on.
-fn fill_source<T: Sources>(
+pub fn fill_source<T: Sources>(
     sources: &mut T,
     s: u32,
     place: u64,

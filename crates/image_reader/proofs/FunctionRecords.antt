@@ -10,7 +10,7 @@ use Rattle.rope_node.specs.declared.node.NodeView.TheVariants.{Fun}
 use Rattle.image_reader.specs.Layout.{IsBytes, spelled, number_in}
 use Rattle.image_reader.specs.Value.{FitsFunction}
 use Rattle.image_reader.specs.Spelling.{function_layout, function_code, pattern_size, payload, function_numbers, function_spelling}
-use Rattle.image_reader.specs.Reading.{kind_in, function_code_in, pattern_size_in, pattern_of, view_of, coded_of, function_of, node_of, any_nonzero, is_unknown_function, unused_in_function, node_fault}
+use Rattle.image_reader.specs.Reading.{kind_in, function_code_in, pattern_size_in, pattern_of, view_of, coded_of, function_of, image_node, any_nonzero, is_unknown_function, unused_in_function, node_record_fault}
 use Rattle.image_reader.proofs.Faults.{zero_first}
 use Rattle.image_reader.proofs.Fields.{AreWide, FitFields, wide8, wide32, wide64, IsBytes-drop, IsBytes-take, number_in_small, numbers_from, spelled_back, spelled_again, length-spelled}
 use Rattle.image_reader.proofs.Payloads.{padded_back, length-padded, take-padded, drop-padded}
@@ -76,8 +76,8 @@ unfolding number_in
 first_again cell b e = ap (from_be_bytes w8) e
 
 again_at : (cell : List ℕ) (depth len : ℕ) (c : Coded) → FitsFunction c → Holds cell depth len c
-    → (node_fault cell ≡ None) × (node_of cell ≡ record { node = record { view = Fun; len = len; depth = depth }; function = Some c })
-unfolding node_fault view_of function_of coded_of
+    → (node_record_fault cell ≡ None) × (image_node cell ≡ record { node = record { view = Fun; len = len; depth = depth }; function = Some c })
+unfolding node_record_fault view_of function_of coded_of
 again_at cell depth len (Fill c) fits h =
     let zeros : any_nonzero (drop 1 (drop 16 cell)) ≡ false = behind_payload cell depth len (Fill c) h in
     let byte = first_again cell c (payload_again cell depth len (Fill c) h) in
@@ -94,7 +94,7 @@ again_at cell depth len (Cycle pattern) fits h =
     (rw (h.kind, h.code, h.size, h.zeros, not_short, not_long, zeros) refl, rw (h.kind, h.depth_is, h.len_is, h.code, h.size, bytes) refl)
 
 pub function_again : (depth len : ℕ) (c : Coded) → depth < 2 ^ 8 → len < 2 ^ 64 → FitsFunction c
-    → (node_fault (function_spelling depth len c) ≡ None) × (node_of (function_spelling depth len c) ≡ record { node = record { view = Fun; len = len; depth = depth }; function = Some c })
+    → (node_record_fault (function_spelling depth len c) ≡ None) × (image_node (function_spelling depth len c) ≡ record { node = record { view = Fun; len = len; depth = depth }; function = Some c })
 function_again depth len c d l fits = again_at (function_spelling depth len c) depth len c fits (holds depth len c d l fits)
 
 -- ---- what has no fault

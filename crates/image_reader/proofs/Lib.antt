@@ -3,6 +3,7 @@ pub mod Counting
 pub mod Cutting
 pub mod Fields
 pub mod Faults
+pub mod Commands
 pub mod Records
 pub mod RevisionRecords
 pub mod Payloads

@@ -9,7 +9,7 @@ use Rattle.image_reader.specs.declared.fault.ReadFault.TheVariants.{Kind, NonZer
 use Rattle.image_reader.specs.Layout.{IsBytes, spelled, number_in}
 use Rattle.image_reader.specs.Value.{ImageNode, FitsView, FitsNode}
 use Rattle.image_reader.specs.Spelling.{span_layout, span_numbers, concatenation_layout, concatenation_numbers, view_spelling, node_spelling}
-use Rattle.image_reader.specs.Reading.{kind_in, view_of, function_of, node_of, any_nonzero, is_unknown_function, is_unknown_node, unused_in_span, unused_in_concatenation, unused_in_node, node_fault}
+use Rattle.image_reader.specs.Reading.{kind_in, view_of, function_of, image_node, any_nonzero, is_unknown_function, is_unknown_node, unused_in_span, unused_in_concatenation, unused_in_node, node_record_fault}
 use Rattle.image_reader.proofs.Faults.{else_none, fault_if_none, zero_first, are_zero}
 use Rattle.image_reader.proofs.Fields.{AreWide, FitFields, wide8, wide32, wide64, number_in_small, numbers_from, spelled_whole, numbers_whole, length-spelled}
 use Rattle.image_reader.proofs.FunctionRecords.{function_len, function_again, function_back}
@@ -66,11 +66,11 @@ holds_span kind depth x len start fields =
 
 -- a node of this view is read from a cell, without a fault
 abbrev IsReadAs : List ℕ → ℕ → ℕ → NodeView → Option Coded → Type 0
-IsReadAs cell depth len v function = (node_fault cell ≡ None) × (node_of cell ≡ record { node = record { view = v; len = len; depth = depth }; function = function })
+IsReadAs cell depth len v function = (node_record_fault cell ≡ None) × (image_node cell ≡ record { node = record { view = v; len = len; depth = depth }; function = function })
 
 concatenation_again : (depth len l r : ℕ) → FitFields concatenation_layout (concatenation_numbers depth len l r)
     → IsReadAs (spelled concatenation_layout (concatenation_numbers depth len l r)) depth len (Cat (record { 0 = l }) (record { 0 = r })) None
-unfolding node_fault view_of function_of numbers_from
+unfolding node_record_fault view_of function_of numbers_from
 concatenation_again depth len l r fields =
     let ns : List ℕ = concatenation_numbers depth len l r in
     let cell : List ℕ = spelled concatenation_layout ns in
@@ -88,7 +88,7 @@ concatenation_again depth len l r fields =
     (rw (kind, z2, z3, z20, z24) refl, rw (kind, depth-is, len-is, l-is, r-is) refl)
 
 view_again : (depth len : ℕ) (v : NodeView) (function : Option Coded) → depth < 2 ^ 8 → len < 2 ^ 64 → FitsView v function → IsReadAs (view_spelling depth len v function) depth len v function
-unfolding view_spelling node_fault view_of function_of
+unfolding view_spelling node_record_fault view_of function_of
 view_again depth len (Lit a) None d l fits =
     let h = holds_span 1 depth 0 len a (span_fields 1 depth 0 len a (lit< tt) d (lit< tt) l fits) in
     (rw (h.kind_is, h.code, h.size, h.x_is, h.end) refl, rw (h.kind_is, h.depth_is, h.len_is, h.start_is) refl)
@@ -106,7 +106,7 @@ view_again depth len (Sub b i) None d l fits =
     (rw (h.kind_is, h.code, h.size, h.end) refl, rw (h.kind_is, h.depth_is, h.len_is, h.x_is, h.start_is) refl)
 view_again depth len (Sub b i) (Some c) d l fits = absurd fits
 
-node_again : (n : ImageNode) → FitsNode n → (node_fault (node_spelling n) ≡ None) × (node_of (node_spelling n) ≡ n)
+node_again : (n : ImageNode) → FitsNode n → (node_record_fault (node_spelling n) ≡ None) × (image_node (node_spelling n) ≡ n)
 node_again n fits = view_again n.node.depth n.node.len n.node.view n.function fits.depth fits.len fits.view
 
 -- ---- what has no fault
@@ -174,8 +174,8 @@ kind_known cell known =
     let high = or_parts (ltb 5 (kind_in cell)) (eqb (kind_in cell) 3 && is_unknown_function cell) low.1 in
     one_to_five (kind_in cell) (ltb-false (kind_in cell) 1 low.0) (ltb-false 5 (kind_in cell) high.0)
 
-node_back : (cell : List ℕ) → length cell ≡ 32 → IsBytes cell → node_fault cell ≡ None → FitsNode (node_of cell) × (node_spelling (node_of cell) ≡ cell)
-unfolding node_fault
+node_back : (cell : List ℕ) → length cell ≡ 32 → IsBytes cell → node_record_fault cell ≡ None → FitsNode (image_node cell) × (node_spelling (image_node cell) ≡ cell)
+unfolding node_record_fault
 node_back cell len bytes none =
     let parts = else_none _ _ none in
     let known : is_unknown_node cell ≡ false = fault_if_none (is_unknown_node cell) Kind parts.0 in
@@ -183,5 +183,5 @@ node_back cell len bytes none =
     let read = kinds_back cell len bytes known unused (kind_known cell known) in
     (record { view = read.fits; len = number_in_small w64 wide64 8 cell bytes; depth = number_in_small w8 wide8 1 cell bytes }, read.same)
 
-pub node_record : IsRecord node_of node_spelling node_fault FitsNode 32
+pub node_record : IsRecord image_node node_spelling node_record_fault FitsNode 32
 node_record = record { len = node_len; back = node_back; again = node_again }

@@ -1,18 +1,20 @@
 -- Records of revisions: one that has no fault fits and is spelled as it was, and one that fits is read again.
 use Rattle.std.proofs.Common.{lit<, ◌≡◌, ◌≢◌, ℕ, zero, suc, ◌^◌, ◌<◌, ◌≤◌, Bool, true, false, eqb, ltb, List, [], ◌∷◌, length, get_or, Option, Some, None, refl, sym, ap, ◌∙◌, arith, inl, inr}
 use Rattle.std.specs.Int.{w8, w16, w32, w64}
-use Rattle.std.proofs.lemmas.Bool.{or_parts, or_cases, not-false, eqb-true, eqb-false, ne_eqb, ltb-false, cases_Bool, both_ways}
+use Rattle.std.proofs.lemmas.Bool.{or_parts, or_from, le-ltb, eqb-true, eqb-false, ne_eqb, ltb-false, cases_Bool}
 use Rattle.rope_node.specs.declared.node.NodeId.{NodeId}
 use Rattle.span_certificate.specs.declared.edit.Edit.{Edit}
-use Rattle.span_certificate.specs.declared.edit.Edit.TheVariants.{New, Insert}
+use Rattle.span_certificate.specs.Fields.{Field, R, Q, P, M, A, N, place_in_record, number_limit, recorded, last_code, edit_by, unused, FitsRecord}
+use Rattle.image_reader.specs.declared.command.Numbers.{Numbers}
 use Rattle.image_reader.specs.declared.fault.ReadFault.TheVariants.{NonZeroPad}
 use Rattle.image_reader.specs.declared.revision.Revision.{Revision}
 use Rattle.image_reader.specs.Limits.{nil_root}
 use Rattle.image_reader.specs.Layout.{IsBytes, spelled, number_in}
-use Rattle.image_reader.specs.Value.{FitsEdit, FitsRoot, FitsRevision}
-use Rattle.image_reader.specs.Spelling.{EditNumbers, edit_numbers, mark_number, root_number, revision_layout, revision_numbers, revision_spelling}
-use Rattle.image_reader.specs.Reading.{edit_of, root_of, revision_of, any_nonzero, unused_in_revision, revision_fault}
-use Rattle.image_reader.proofs.Faults.{else_none, fault_if_none, are_zero}
+use Rattle.image_reader.specs.Value.{FitsRoot, FitsRevision}
+use Rattle.image_reader.specs.Spelling.{field_of, numbers_of, mark_number, root_number, revision_layout, revision_numbers, revision_spelling}
+use Rattle.image_reader.specs.Reading.{command_code_in, numbers_in, edit_of, root_of, revision_of, is_unknown_revision, any_nonzero, unused_in_revision, revision_record_fault}
+use Rattle.image_reader.proofs.Commands.{edit_again, unused_again, code_small, number_fits, IsOfCode, is_of_code, edit_fits}
+use Rattle.image_reader.proofs.Faults.{else_none, fault_if_none, zero_first}
 use Rattle.image_reader.proofs.Fields.{AreWide, FitFields, wide8, wide16, wide32, wide64, number_in_small, numbers_from, spelled_whole, numbers_whole, length-spelled}
 use Rattle.image_reader.proofs.Records.{IsRecord}
 
@@ -51,92 +53,98 @@ root_back n small =
 
 -- ---- what is read again
 
-revision_fields : (edit : Edit) (mark : Bool) (root : Option NodeId) (rows : ℕ) → FitsEdit edit → FitsRoot root → rows < 2 ^ 32 → FitFields revision_layout (revision_numbers (edit_numbers edit) (mark_number mark) (root_number root) rows)
-revision_fields New mark root rows e r n =
-    (lit< tt, (mark_small mark, (lit< tt, (root_small root r, (lit< tt, (lit< tt, (lit< tt, (lit< tt, (lit< tt, (lit< tt, (n, (lit< tt, tt))))))))))))
-revision_fields (Insert r' p a n') mark root rows e r n =
-    (lit< tt, (mark_small mark, (lit< tt, (root_small root r, (e.0, (lit< tt, (e.1, (lit< tt, (e.2, (e.3, (n, (lit< tt, tt))))))))))))
+revision_fields : (edit : Edit) (mark : Bool) (root : Option NodeId) (rows : ℕ) → FitsRecord edit → FitsRoot root → rows < 2 ^ 32
+    → FitFields revision_layout (revision_numbers (recorded edit).code (numbers_of edit) (mark_number mark) (root_number root) rows)
+revision_fields edit mark root rows e r n =
+    let fits = number_fits (recorded edit).uses e in
+    (omega (arith, (code_small edit).1), (mark_small mark, (lit< tt, (root_small root r, (fits R, (fits Q, (fits P, (fits M, (fits A, (fits N, (n, (lit< tt, tt))))))))))))
 
 revision_len : (r : Revision) → FitsRevision r → length (revision_spelling r) ≡ 56
 unfolding revision_spelling
 revision_len r fits = length-spelled revision_layout revision_wide _ (revision_fields r.edit r.mark r.root r.rows fits.edit fits.root fits.rows)
 
 -- the numbers of a cell that spells these
-pub record Holds (cell : List ℕ) (e : EditNumbers) (mark root rows : ℕ) : Type 0 where
-  pub code : number_in w8 0 cell ≡ e.code
+pub record Holds (cell : List ℕ) (code : ℕ) (x : Numbers) (mark root rows : ℕ) : Type 0 where
+  pub code_is : command_code_in cell ≡ code
   pub mark_is : number_in w8 1 cell ≡ mark
   pub zeros : number_in w16 2 cell ≡ 0
   pub root_is : number_in w32 4 cell ≡ root
-  pub r : number_in w32 8 cell ≡ e.r
-  pub q : number_in w32 12 cell ≡ e.q
-  pub p : number_in w64 16 cell ≡ e.p
-  pub m : number_in w64 24 cell ≡ e.m
-  pub a : number_in w64 32 cell ≡ e.a
-  pub n : number_in w64 40 cell ≡ e.n
+  pub numbers : numbers_in cell ≡ x
   pub rows_is : number_in w32 48 cell ≡ rows
   pub end : number_in w32 52 cell ≡ 0
 
-holds : (cell : List ℕ) (e : EditNumbers) (mark root rows : ℕ) → numbers_from revision_layout 0 cell ≡ revision_numbers e mark root rows → Holds cell e mark root rows
+holds : (cell : List ℕ) (code : ℕ) (x : Numbers) (mark root rows : ℕ) → numbers_from revision_layout 0 cell ≡ revision_numbers code x mark root rows → Holds cell code x mark root rows
 unfolding numbers_from
-holds cell e mark root rows same =
-    let at : (k : ℕ) → get_or (numbers_from revision_layout 0 cell) k 0 ≡ get_or (revision_numbers e mark root rows) k 0 = λ k. ap (λ (ns : List ℕ). get_or ns k 0) same in
-    record { code = at 0; mark_is = at 1; zeros = at 2; root_is = at 3; r = at 4; q = at 5; p = at 6; m = at 7; a = at 8; n = at 9; rows_is = at 10; end = at 11 }
+holds cell code x mark root rows same =
+    let at : (k : ℕ) → get_or (numbers_from revision_layout 0 cell) k 0 ≡ get_or (revision_numbers code x mark root rows) k 0 = λ k. ap (λ (ns : List ℕ). get_or ns k 0) same in
+    let r : number_in w32 8 cell ≡ x.r = at 4 in
+    let q : number_in w32 12 cell ≡ x.q = at 5 in
+    let p : number_in w64 16 cell ≡ x.p = at 6 in
+    let m : number_in w64 24 cell ≡ x.m = at 7 in
+    let a : number_in w64 32 cell ≡ x.a = at 8 in
+    let n : number_in w64 40 cell ≡ x.n = at 9 in
+    record { code_is = at 0; mark_is = at 1; zeros = at 2; root_is = at 3; numbers = rw (r, q, p, m, a, n) refl; rows_is = at 10; end = at 11 }
 
-again_at : (cell : List ℕ) (edit : Edit) (mark : Bool) (root : Option NodeId) (rows : ℕ) → FitsRoot root → Holds cell (edit_numbers edit) (mark_number mark) (root_number root) rows
-    → (revision_fault cell ≡ None) × (revision_of cell ≡ record { edit = edit; mark = mark; root = root; rows = rows })
-unfolding revision_fault revision_of edit_of
-again_at cell New mark root rows fits h = (
-  rw (h.code, h.mark_is, (mark_again mark).0, h.zeros, h.r, h.q, h.p, h.m, h.a, h.n, h.end) refl,
-  rw (h.code, h.mark_is, (mark_again mark).1, h.root_is, root_again root fits, h.rows_is) refl,
-)
-again_at cell (Insert r p a n) mark root rows fits h = (
-  rw (h.code, h.mark_is, (mark_again mark).0, h.zeros, h.q, h.m, h.end) refl,
-  rw (h.code, h.mark_is, (mark_again mark).1, h.root_is, root_again root fits, h.r, h.p, h.a, h.n, h.rows_is) refl,
-)
+again_at : (cell : List ℕ) (edit : Edit) (mark : Bool) (root : Option NodeId) (rows : ℕ) → FitsRoot root → Holds cell (recorded edit).code (numbers_of edit) (mark_number mark) (root_number root) rows
+    → (revision_record_fault cell ≡ None) × (revision_of cell ≡ record { edit = edit; mark = mark; root = root; rows = rows })
+unfolding revision_record_fault revision_of
+again_at cell edit mark root rows fits h =
+    let code = code_small edit in
+    let edit_is : edit_of cell ≡ edit = ap (λ (x : Numbers). edit_by (command_code_in cell) (field_of x)) h.numbers ∙ ap (λ (k : ℕ). edit_by k (field_of (numbers_of edit))) h.code_is ∙ edit_again edit in
+    let known : is_unknown_revision cell ≡ false = rw (h.code_is, h.mark_is) (or_from _ _ (le-ltb _ _ code.0) (or_from _ _ (le-ltb _ _ code.1) (mark_again mark).0)) in
+    let none : any_nonzero (unused_in_revision cell) ≡ false =
+    ap (λ (e : Edit). any_nonzero (number_in w16 2 cell ∷ number_in w32 52 cell ∷ unused e (field_of (numbers_in cell)))) edit_is
+    ∙ ap (λ (x : Numbers). any_nonzero (number_in w16 2 cell ∷ number_in w32 52 cell ∷ unused edit (field_of x))) h.numbers
+    ∙ rw (h.zeros, h.end) (unused_again edit) in (
+      rw (known, none) refl,
+      rw (edit_is, h.mark_is, (mark_again mark).1, h.root_is, root_again root fits, h.rows_is) refl,
+    )
 
-revision_again : (r : Revision) → FitsRevision r → (revision_fault (revision_spelling r) ≡ None) × (revision_of (revision_spelling r) ≡ r)
+revision_again : (r : Revision) → FitsRevision r → (revision_record_fault (revision_spelling r) ≡ None) × (revision_of (revision_spelling r) ≡ r)
 unfolding revision_spelling
 revision_again r fits =
     let fields = revision_fields r.edit r.mark r.root r.rows fits.edit fits.root fits.rows in
-    again_at (revision_spelling r) r.edit r.mark r.root r.rows fits.root (holds _ (edit_numbers r.edit) (mark_number r.mark) (root_number r.root) r.rows (numbers_whole revision_layout revision_wide _ fields))
+    again_at (revision_spelling r) r.edit r.mark r.root r.rows fits.root (holds _ (recorded r.edit).code (numbers_of r.edit) (mark_number r.mark) (root_number r.root) r.rows (numbers_whole revision_layout revision_wide _ fields))
 
 -- ---- what has no fault
 
 -- a command reads the numbers that it is spelled with
 pub record ReadsEdit (cell : List ℕ) (edit : Edit) : Type 0 where
-  pub same : revision_numbers (edit_numbers edit) (number_in w8 1 cell) (number_in w32 4 cell) (number_in w32 48 cell) ≡ numbers_from revision_layout 0 cell
-  pub fits : FitsEdit edit
+  pub same : revision_numbers (recorded edit).code (numbers_of edit) (number_in w8 1 cell) (number_in w32 4 cell) (number_in w32 48 cell) ≡ numbers_from revision_layout 0 cell
+  pub fits : FitsRecord edit
 
-edit_back : (cell : List ℕ) → IsBytes cell → revision_fault cell ≡ None → ReadsEdit cell (edit_of cell)
-unfolding revision_fault edit_of numbers_from
+-- a field's number fits it
+field_small : (cell : List ℕ) → IsBytes cell → (f : Field) → field_of (numbers_in cell) f < number_limit (place_in_record f)
+field_small cell bytes R = number_in_small w32 wide32 8 cell bytes
+field_small cell bytes Q = number_in_small w32 wide32 12 cell bytes
+field_small cell bytes P = number_in_small w64 wide64 16 cell bytes
+field_small cell bytes M = number_in_small w64 wide64 24 cell bytes
+field_small cell bytes A = number_in_small w64 wide64 32 cell bytes
+field_small cell bytes N = number_in_small w64 wide64 40 cell bytes
+
+edit_back : (cell : List ℕ) → IsBytes cell → revision_record_fault cell ≡ None → ReadsEdit cell (edit_of cell)
+unfolding revision_record_fault numbers_from
 edit_back cell bytes none =
     let parts = else_none _ _ none in
     let kinds = or_parts _ _ (fault_if_none _ _ parts.0) in
-    let unused : any_nonzero (unused_in_revision cell) ≡ false = fault_if_none (any_nonzero (unused_in_revision cell)) NonZeroPad parts.1 in
-    elim (cases_Bool (eqb (number_in w8 0 cell) 1)) [
-      | inl is ↦
-          let code : number_in w8 0 cell ≡ 1 = eqb-true _ _ is in
-          let z = are_zero (number_in w16 2 cell ∷ number_in w32 12 cell ∷ number_in w64 24 cell ∷ number_in w32 52 cell ∷ number_in w32 8 cell ∷ number_in w64 16 cell ∷ number_in w64 32 cell ∷ number_in w64 40 cell ∷ []) (rw is at unused) in
-          rw is (record { same = rw (code, z.0, z.1.0, z.1.1.0, z.1.1.1.0, z.1.1.1.1.0, z.1.1.1.1.1.0, z.1.1.1.1.1.1.0, z.1.1.1.1.1.1.1.0) refl; fits = tt })
-      | inr isnt ↦
-          let code : number_in w8 0 cell ≡ 3 = elim (or_cases _ _ (not-false _ kinds.0)) [ inl one ↦ absurd (both_ways _ isnt one) | inr three ↦ eqb-true _ _ three ] in
-          let z = are_zero (number_in w16 2 cell ∷ number_in w32 12 cell ∷ number_in w64 24 cell ∷ number_in w32 52 cell ∷ []) (rw isnt at unused) in
-          rw isnt (record {
-            same = rw (code, z.0, z.1.0, z.1.1.0, z.1.1.1.0) refl;
-            fits = (number_in_small w32 wide32 8 cell bytes, number_in_small w64 wide64 16 cell bytes, number_in_small w64 wide64 32 cell bytes, number_in_small w64 wide64 40 cell bytes);
-          })
-    ]
+    let last = or_parts _ _ kinds.1 in
+    let zeros : any_nonzero (unused_in_revision cell) ≡ false = fault_if_none (any_nonzero (unused_in_revision cell)) NonZeroPad parts.1 in
+    let others : List ℕ = unused (edit_of cell) (field_of (numbers_in cell)) in
+    let pad = zero_first (number_in w16 2 cell) (number_in w32 52 cell ∷ others) zeros in
+    let end = zero_first (number_in w32 52 cell) others pad.1 in
+    let is = is_of_code (command_code_in cell) (numbers_in cell) (ltb-false _ _ kinds.0) (ltb-false _ _ last.0) end.1 in
+    record { same = ap (λ (x : Numbers). revision_numbers (recorded (edit_of cell)).code x (number_in w8 1 cell) (number_in w32 4 cell) (number_in w32 48 cell)) is.numbers ∙ rw (is.code_is, pad.0, end.0) refl; fits = edit_fits (command_code_in cell) (field_of (numbers_in cell)) (field_small cell bytes) }
 
-revision_back : (cell : List ℕ) → length cell ≡ 56 → IsBytes cell → revision_fault cell ≡ None → FitsRevision (revision_of cell) × (revision_spelling (revision_of cell) ≡ cell)
-unfolding revision_spelling revision_of revision_fault
+revision_back : (cell : List ℕ) → length cell ≡ 56 → IsBytes cell → revision_record_fault cell ≡ None → FitsRevision (revision_of cell) × (revision_spelling (revision_of cell) ≡ cell)
+unfolding revision_spelling revision_of revision_record_fault
 revision_back cell len bytes none =
     let e = edit_back cell bytes none in
     let kinds = or_parts _ _ (fault_if_none _ _ (else_none _ _ none).0) in
-    let mark = mark_back (number_in w8 1 cell) (ltb-false 1 (number_in w8 1 cell) kinds.1) in
+    let mark = mark_back (number_in w8 1 cell) (ltb-false 1 (number_in w8 1 cell) (or_parts _ _ kinds.1).1) in
     let root = root_back (number_in w32 4 cell) (number_in_small w32 wide32 4 cell bytes) in (
       record { edit = e.fits; root = root.1; rows = number_in_small w32 wide32 48 cell bytes },
       rw (mark, root.0) (ap (spelled revision_layout) e.same ∙ spelled_whole revision_layout revision_wide 56 refl cell bytes len),
     )
 
-pub revision_record : IsRecord revision_of revision_spelling revision_fault FitsRevision 56
+pub revision_record : IsRecord revision_of revision_spelling revision_record_fault FitsRevision 56
 revision_record = record { len = revision_len; back = revision_back; again = revision_again }

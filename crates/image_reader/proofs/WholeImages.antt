@@ -14,7 +14,7 @@ use Rattle.image_reader.specs.Limits.{magic, most_sources, most_nodes, most_revi
 use Rattle.image_reader.specs.Layout.{IsBytes, spelled, number_in, records}
 use Rattle.image_reader.specs.Value.{ImageValue, IsImage, FitsSource, FitsNode, FitsRevision, FitsRow}
 use Rattle.image_reader.specs.Spelling.{header_layout, header_numbers, source_spelling, node_spelling, revision_spelling, row_spelling, spelling}
-use Rattle.image_reader.specs.Reading.{HasHeader, HasRoom, source_of, node_of, revision_of, row_of, source_count, node_count, revision_count, row_count, pool_len, stated_len, is_over_limit, from_sources, from_nodes, from_revisions, from_rows, from_pool, sections_value, image_of, header_fault, source_fault, node_fault, revision_fault, row_fault, counted_rows, first_fault, sections_fault, fault_of}
+use Rattle.image_reader.specs.Reading.{HasHeader, HasRoom, source_of, image_node, revision_of, row_of, source_count, node_count, revision_count, row_count, pool_len, stated_len, is_over_limit, from_sources, from_nodes, from_revisions, from_rows, from_pool, sections_value, image_of, header_fault, source_record_fault, node_record_fault, revision_record_fault, row_record_fault, counted_rows, first_fault, sections_fault, fault_of}
 use Rattle.image_reader.proofs.Faults.{else_none, fault_if_none}
 use Rattle.image_reader.proofs.Cutting.{length-map-records}
 use Rattle.image_reader.proofs.Fields.{AreWide, FitFields, wide32, wide64, IsBytes-drop, numbers_from, spelled_back, spelled_again, length-spelled}
@@ -115,12 +115,12 @@ whole_back bytes h none =
     let h2 = IsBytes-drop (32 * n) b1 h1 in
     let h3 = IsBytes-drop (56 * k) b2 h2 in
     let h4 = IsBytes-drop (24 * j) b3 h3 in
-    let sources = section_back source_of source_spelling source_fault FitsSource 8 source_record s b0 (omega (arith, is.whole)) h0 p1.0 in
-    let nodes = section_back node_of node_spelling node_fault FitsNode 32 node_record n b1 (omega (arith, is.whole)) h1 p2.0 in
-    let revisions = section_back revision_of revision_spelling revision_fault FitsRevision 56 revision_record k b2 (omega (arith, is.whole)) h2 p3.0 in
-    let rows = section_back row_of row_spelling row_fault FitsRow 24 row_record j b3 (omega (arith, is.whole)) h3 p4.1 in
+    let sources = section_back source_of source_spelling source_record_fault FitsSource 8 source_record s b0 (omega (arith, is.whole)) h0 p1.0 in
+    let nodes = section_back image_node node_spelling node_record_fault FitsNode 32 node_record n b1 (omega (arith, is.whole)) h1 p2.0 in
+    let revisions = section_back revision_of revision_spelling revision_record_fault FitsRevision 56 revision_record k b2 (omega (arith, is.whole)) h2 p3.0 in
+    let rows = section_back row_of row_spelling row_record_fault FitsRow 24 row_record j b3 (omega (arith, is.whole)) h3 p4.1 in
     let count_s = length-map-records source_of 8 s b0 in
-    let count_n = length-map-records node_of 32 n b1 in
+    let count_n = length-map-records image_node 32 n b1 in
     let count_k = length-map-records revision_of 56 k b2 in
     let count_j = length-map-records row_of 24 j b3 in
     let pool : length b4 ≡ pool_len bytes = omega (arith, is.whole) in
@@ -143,7 +143,7 @@ whole_back bytes h none =
           ∙ rw (count_s, count_n, count_k, count_j, pool)
           (ap (λ (xs : List ℕ). spelled header_layout (magic ∷ 1 ∷ s ∷ n ∷ k ∷ j ∷ 0 ∷ pool_len bytes ∷ []) ++ xs)
           (sources.1 ∙ ap (λ (xs : List ℕ). flat_map source_spelling (map source_of (records 8 s b0)) ++ xs)
-          (nodes.1 ∙ ap (λ (xs : List ℕ). flat_map node_spelling (map node_of (records 32 n b1)) ++ xs)
+          (nodes.1 ∙ ap (λ (xs : List ℕ). flat_map node_spelling (map image_node (records 32 n b1)) ++ xs)
           (revisions.1 ∙ ap (λ (xs : List ℕ). flat_map revision_spelling (map revision_of (records 56 k b2)) ++ xs)
           rows.1)))),
     )
@@ -181,10 +181,10 @@ whole_again v is =
     let count_j : row_count bytes ≡ length v.rows = at 5 in
     let pool : pool_len bytes ≡ length v.pool = at 7 in
     let header_len : length header ≡ 40 = length-spelled header_layout header_wide (header_numbers v) (header_fields v is) in
-    let sources = section_again source_of source_spelling source_fault FitsSource 8 source_record v.sources (nodes_on v) is.sources in
-    let nodes = section_again node_of node_spelling node_fault FitsNode 32 node_record v.nodes (revisions_on v) is.nodes in
-    let revisions = section_again revision_of revision_spelling revision_fault FitsRevision 56 revision_record v.revisions (rows_on v) is.revisions in
-    let rows = section_again row_of row_spelling row_fault FitsRow 24 row_record v.rows v.pool is.rows in
+    let sources = section_again source_of source_spelling source_record_fault FitsSource 8 source_record v.sources (nodes_on v) is.sources in
+    let nodes = section_again image_node node_spelling node_record_fault FitsNode 32 node_record v.nodes (revisions_on v) is.nodes in
+    let revisions = section_again revision_of revision_spelling revision_record_fault FitsRevision 56 revision_record v.revisions (rows_on v) is.revisions in
+    let rows = section_again row_of row_spelling row_record_fault FitsRow 24 row_record v.rows v.pool is.rows in
     let b0 : drop 40 bytes ≡ sources_on v = drop_at header (sources_on v) 40 header_len in
     let len_s = length-section source_spelling 8 FitsSource source_record.len v.sources is.sources in
     let len_n = length-section node_spelling 32 FitsNode node_record.len v.nodes is.nodes in
@@ -223,12 +223,12 @@ is_only bytes (Err f) fault value v is spelled_so =
 -- what the sections of bytes without a fault are
 pub sections_image : (bytes : List ℕ) (h : Header) (b0 b1 b2 b3 b4 : List ℕ) → IsBytes bytes → HasHeader bytes h → None ≡ header_fault bytes → None ≡ sections_fault h.sources b0 h.nodes b1 h.revisions b2 h.rows b3
     → b0 ≡ drop 40 bytes → b1 ≡ drop (8 * h.sources) b0 → b2 ≡ drop (32 * h.nodes) b1 → b3 ≡ drop (56 * h.revisions) b2 → b4 ≡ drop (24 * h.rows) b3
-    → HasRoom h.sources b0 h.nodes b1 h.revisions b2 h.rows b3 × IsImage (sections_value h.sources b0 h.nodes b1 h.revisions b2 h.rows b3 b4) × (first_fault node_fault (records 32 h.nodes b1) ≡ None)
+    → HasRoom h.sources b0 h.nodes b1 h.revisions b2 h.rows b3 × IsImage (sections_value h.sources b0 h.nodes b1 h.revisions b2 h.rows b3 b4) × (first_fault node_record_fault (records 32 h.nodes b1) ≡ None)
 unfolding fault_of sections_fault
 sections_image bytes h b0 b1 b2 b3 b4 is_bytes header good none e0 e1 e2 e3 e4 =
     let none_of : fault_of bytes ≡ None = rw (← good, ← header.sources, ← header.nodes, ← header.revisions, ← header.rows, ← e0, ← e1, ← e2, ← e3, ← none) refl in
     let image = (whole_back bytes is_bytes none_of).0 in
-    let nodes : first_fault node_fault (records 32 h.nodes b1) ≡ None = (else_none _ _ (else_none _ _ (sym none)).1).0 in
+    let nodes : first_fault node_record_fault (records 32 h.nodes b1) ≡ None = (else_none _ _ (else_none _ _ (sym none)).1).0 in
     let len0 : length b0 ≡ length bytes - 40 = rw e0 (length-drop 40 bytes) in
     let len1 : length b1 ≡ length b0 - 8 * h.sources = rw e1 (length-drop (8 * h.sources) b0) in
     let len2 : length b2 ≡ length b1 - 32 * h.nodes = rw e2 (length-drop (32 * h.nodes) b1) in

@@ -3,4 +3,4 @@ pub mod Layout
 pub mod Value
 pub mod Spelling
 pub mod Reading
-pub mod Acceptance
+pub mod Accepted

@@ -8,9 +8,11 @@ use Rattle.rope_node.specs.declared.node.NodeView.TheVariants.{Lit, Src, Fun, Ca
 use Rattle.function_leaf.specs.declared.coded.Coded.{Coded}
 use Rattle.function_leaf.specs.declared.coded.Coded.TheVariants.{Fill, Ramp, Cycle}
 use Rattle.span_certificate.specs.declared.edit.Edit.{Edit}
-use Rattle.span_certificate.specs.declared.edit.Edit.TheVariants.{New, Insert}
 use Rattle.span_certificate.specs.declared.row.Row.{Row}
-use Rattle.span_certificate.specs.declared.row.RowKind.TheVariants.{Leaf}
+use Rattle.span_certificate.specs.declared.row.RowKind.{RowKind}
+use Rattle.span_certificate.specs.declared.row.RowKind.TheVariants.{Shared, Leaf, Bytes}
+use Rattle.span_certificate.specs.Fields.{last_code, edit_by, unused}
+use Rattle.image_reader.specs.declared.command.Numbers.{Numbers}
 use Rattle.image_reader.specs.declared.fault.ReadFault.{ReadFault}
 use Rattle.image_reader.specs.declared.fault.ReadFault.TheVariants.{Truncated, Trailing, Magic, Version, Count, NonZeroPad, Kind}
 use Rattle.image_reader.specs.declared.header.Header.{Header}
@@ -18,6 +20,7 @@ use Rattle.image_reader.specs.declared.revision.Revision.{Revision}
 use Rattle.image_reader.specs.Layout.{number_in, records}
 use Rattle.image_reader.specs.Limits.{magic, nil_root, most_sources, most_nodes, most_revisions, most_rows, most_pool}
 use Rattle.image_reader.specs.Value.{ImageNode, ImageValue}
+use Rattle.image_reader.specs.Spelling.{field_of}
 
 -- ---- what each record says
 
@@ -57,11 +60,25 @@ coded_of bytes =
 unfoldable pub function_of : List ℕ → Option Coded
 function_of bytes = if kind_in bytes == 3 then Some (coded_of bytes) else None
 
-abbrev pub node_of : List ℕ → ImageNode
-node_of bytes = record { node = record { view = view_of bytes; len = number_in w64 8 bytes; depth = number_in w8 1 bytes }; function = function_of bytes }
+abbrev pub image_node : List ℕ → ImageNode
+image_node bytes = record { node = record { view = view_of bytes; len = number_in w64 8 bytes; depth = number_in w8 1 bytes }; function = function_of bytes }
 
-unfoldable pub edit_of : List ℕ → Edit
-edit_of bytes = if number_in w8 0 bytes == 1 then New else Insert (number_in w32 8 bytes) (number_in w64 16 bytes) (number_in w64 32 bytes) (number_in w64 40 bytes)
+-- the code of a command, and the numbers that are a command's
+abbrev pub command_code_in : List ℕ → ℕ
+command_code_in bytes = number_in w8 0 bytes
+
+abbrev pub numbers_in : List ℕ → Numbers
+numbers_in bytes = record {
+  r = number_in w32 8 bytes;
+  q = number_in w32 12 bytes;
+  p = number_in w64 16 bytes;
+  m = number_in w64 24 bytes;
+  a = number_in w64 32 bytes;
+  n = number_in w64 40 bytes;
+}
+
+abbrev pub edit_of : List ℕ → Edit
+edit_of bytes = edit_by (command_code_in bytes) (field_of (numbers_in bytes))
 
 abbrev pub root_of : ℕ → Option NodeId
 root_of n = if n == nil_root then None else Some (id_of n)
@@ -69,8 +86,17 @@ root_of n = if n == nil_root then None else Some (id_of n)
 unfoldable pub revision_of : List ℕ → Revision
 revision_of bytes = record { edit = edit_of bytes; mark = number_in w8 1 bytes == 1; root = root_of (number_in w32 4 bytes); rows = number_in w32 48 bytes }
 
+-- the tag of a row: 1 shared, 2 a leaf, 3 bytes
+abbrev pub tag_in : List ℕ → ℕ
+tag_in bytes = number_in w8 0 bytes
+
+abbrev pub row_kind_of : List ℕ → RowKind
+row_kind_of bytes =
+    if tag_in bytes == 1 then Shared (id_of (number_in w32 4 bytes)) (number_in w64 16 bytes)
+    else (if tag_in bytes == 2 then Leaf else Bytes)
+
 unfoldable pub row_of : List ℕ → Row
-row_of bytes = record { len = number_in w64 8 bytes; kind = Leaf }
+row_of bytes = record { len = number_in w64 8 bytes; kind = row_kind_of bytes }
 
 -- ---- the numbers of the header
 
@@ -130,7 +156,7 @@ pub record HasRoom (s : ℕ) (sources : List ℕ) (n : ℕ) (nodes : List ℕ) (
 unfoldable pub sections_value : ℕ → List ℕ → ℕ → List ℕ → ℕ → List ℕ → ℕ → List ℕ → List ℕ → ImageValue
 sections_value source_count sources node_count nodes revision_count revisions row_count rows pool = record {
   sources = map source_of (records 8 source_count sources);
-  nodes = map node_of (records 32 node_count nodes);
+  nodes = map image_node (records 32 node_count nodes);
   revisions = map revision_of (records 56 revision_count revisions);
   rows = map row_of (records 24 row_count rows);
   pool = pool;
@@ -174,8 +200,8 @@ header_fault bytes =
     else fault_if (nat_lt (length bytes) (stated_len bytes)) Truncated
     else fault_if (nat_lt (stated_len bytes) (length bytes)) Trailing
 
-unfoldable pub source_fault : List ℕ → Option ReadFault
-source_fault bytes = fault_if (not (nat_lt (number_in w64 0 bytes) 1099511627776)) Count
+unfoldable pub source_record_fault : List ℕ → Option ReadFault
+source_record_fault bytes = fault_if (not (nat_lt (number_in w64 0 bytes) 1099511627776)) Count
 
 -- a function code that stands for none, or a pattern of a length that none may have
 abbrev pub is_unknown_function : List ℕ → Bool
@@ -205,27 +231,35 @@ unused_in_node bytes =
     else (if kind_in bytes == 4 then unused_in_concatenation bytes
     else (if kind_in bytes == 1 then number_in w32 4 bytes ∷ unused_in_span bytes else unused_in_span bytes))
 
-unfoldable pub node_fault : List ℕ → Option ReadFault
-node_fault bytes =
+unfoldable pub node_record_fault : List ℕ → Option ReadFault
+node_record_fault bytes =
     fault_if (is_unknown_node bytes) Kind
     else fault_if (any_nonzero (unused_in_node bytes)) NonZeroPad
 
 -- the fields that no revision uses, and those that a command does not use
 abbrev pub unused_in_revision : List ℕ → List ℕ
 unused_in_revision bytes =
-    if number_in w8 0 bytes == 1
-    then number_in w16 2 bytes ∷ number_in w32 12 bytes ∷ number_in w64 24 bytes ∷ number_in w32 52 bytes ∷ number_in w32 8 bytes ∷ number_in w64 16 bytes ∷ number_in w64 32 bytes ∷ number_in w64 40 bytes ∷ []
-    else number_in w16 2 bytes ∷ number_in w32 12 bytes ∷ number_in w64 24 bytes ∷ number_in w32 52 bytes ∷ []
+    number_in w16 2 bytes ∷ number_in w32 52 bytes ∷ unused (edit_of bytes) (field_of (numbers_in bytes))
 
-unfoldable pub revision_fault : List ℕ → Option ReadFault
-revision_fault bytes =
-    fault_if (not (number_in w8 0 bytes == 1 || number_in w8 0 bytes == 3) || nat_lt 1 (number_in w8 1 bytes)) Kind
+abbrev pub is_unknown_revision : List ℕ → Bool
+is_unknown_revision bytes =
+    nat_lt (command_code_in bytes) 1 || (nat_lt last_code (command_code_in bytes) || nat_lt 1 (number_in w8 1 bytes))
+
+unfoldable pub revision_record_fault : List ℕ → Option ReadFault
+revision_record_fault bytes =
+    fault_if (is_unknown_revision bytes) Kind
     else fault_if (any_nonzero (unused_in_revision bytes)) NonZeroPad
 
-unfoldable pub row_fault : List ℕ → Option ReadFault
-row_fault bytes =
-    fault_if (not (number_in w8 0 bytes == 2)) Kind
-    else fault_if (any_nonzero (number_in w8 1 bytes ∷ number_in w16 2 bytes ∷ number_in w32 4 bytes ∷ number_in w64 16 bytes ∷ [])) NonZeroPad
+-- the fields that no row uses, and those that a row without a node does not use
+abbrev pub unused_in_row : List ℕ → List ℕ
+unused_in_row bytes =
+    number_in w8 1 bytes ∷ number_in w16 2 bytes
+    ∷ (if tag_in bytes == 1 then [] else number_in w32 4 bytes ∷ number_in w64 16 bytes ∷ [])
+
+unfoldable pub row_record_fault : List ℕ → Option ReadFault
+row_record_fault bytes =
+    fault_if (nat_lt (tag_in bytes) 1 || nat_lt 3 (tag_in bytes)) Kind
+    else fault_if (any_nonzero (unused_in_row bytes)) NonZeroPad
 
 -- the rows that revisions have in all
 unfoldable pub counted_rows : ℕ → List ℕ → ℕ
@@ -234,11 +268,11 @@ counted_rows count revisions = sum_by (λ (r : Revision). r.rows) (map revision_
 -- the first fault of sections, each given with its number of records and with the bytes from it on
 unfoldable pub sections_fault : ℕ → List ℕ → ℕ → List ℕ → ℕ → List ℕ → ℕ → List ℕ → Option ReadFault
 sections_fault source_count sources node_count nodes revision_count revisions row_count rows =
-    first_fault source_fault (records 8 source_count sources)
-    else first_fault node_fault (records 32 node_count nodes)
-    else first_fault revision_fault (records 56 revision_count revisions)
+    first_fault source_record_fault (records 8 source_count sources)
+    else first_fault node_record_fault (records 32 node_count nodes)
+    else first_fault revision_record_fault (records 56 revision_count revisions)
     else fault_if (not (counted_rows revision_count revisions == row_count)) Count
-    else first_fault row_fault (records 24 row_count rows)
+    else first_fault row_record_fault (records 24 row_count rows)
 
 -- the first fault of bytes that are no image
 unfoldable pub fault_of : List ℕ → Option ReadFault

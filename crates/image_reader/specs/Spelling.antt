@@ -9,10 +9,11 @@ use Rattle.function_leaf.specs.declared.coded.Coded.{Coded}
 use Rattle.function_leaf.specs.declared.coded.Coded.TheVariants.{Fill, Ramp, Cycle}
 use Rattle.function_leaf.specs.Pattern.{padded}
 use Rattle.span_certificate.specs.declared.edit.Edit.{Edit}
-use Rattle.span_certificate.specs.declared.edit.Edit.TheVariants.{New, Insert}
+use Rattle.span_certificate.specs.Fields.{Field, R, Q, P, M, A, N, recorded, number_for}
+use Rattle.image_reader.specs.declared.command.Numbers.{Numbers}
 use Rattle.span_certificate.specs.declared.row.Row.{Row}
 use Rattle.span_certificate.specs.declared.row.RowKind.{RowKind}
-use Rattle.span_certificate.specs.declared.row.RowKind.TheVariants.{Leaf}
+use Rattle.span_certificate.specs.declared.row.RowKind.TheVariants.{Shared, Leaf, Bytes}
 use Rattle.image_reader.specs.declared.revision.Revision.{Revision}
 use Rattle.image_reader.specs.Layout.{spelled}
 use Rattle.image_reader.specs.Limits.{magic, nil_root}
@@ -85,19 +86,21 @@ view_spelling depth len (Sub b i) function = spelled span_layout (span_numbers 5
 abbrev pub node_spelling : ImageNode → List ℕ
 node_spelling n = view_spelling n.node.depth n.node.len n.node.view n.function
 
--- a command's code, and the numbers that it uses; what it does not use is 0
-pub record EditNumbers : Type 0 where
-  pub code : ℕ
-  pub r : ℕ
-  pub q : ℕ
-  pub p : ℕ
-  pub m : ℕ
-  pub a : ℕ
-  pub n : ℕ
+-- the number of a field
+abbrev pub field_of : Numbers → Field → ℕ
+field_of x R = x.r
+field_of x Q = x.q
+field_of x P = x.p
+field_of x M = x.m
+field_of x A = x.a
+field_of x N = x.n
 
-abbrev pub edit_numbers : Edit → EditNumbers
-edit_numbers New = record { code = 1; r = 0; q = 0; p = 0; m = 0; a = 0; n = 0 }
-edit_numbers (Insert r p a n) = record { code = 3; r = r; q = 0; p = p; m = 0; a = a; n = n }
+-- the numbers of a command: what it does not use is 0
+abbrev pub number_of : Edit → Field → ℕ
+number_of edit f = number_for (recorded edit).uses f
+
+abbrev pub numbers_of : Edit → Numbers
+numbers_of e = record { r = number_of e R; q = number_of e Q; p = number_of e P; m = number_of e M; a = number_of e A; n = number_of e N }
 
 abbrev pub mark_number : Bool → ℕ
 mark_number false = 0
@@ -111,18 +114,20 @@ root_number (Some id) = id.0
 abbrev pub revision_layout : List Width
 revision_layout = w8 ∷ w8 ∷ w16 ∷ w32 ∷ w32 ∷ w32 ∷ w64 ∷ w64 ∷ w64 ∷ w64 ∷ w32 ∷ w32 ∷ []
 
-abbrev pub revision_numbers : EditNumbers → ℕ → ℕ → ℕ → List ℕ
-revision_numbers e mark root rows = e.code ∷ mark ∷ 0 ∷ root ∷ e.r ∷ e.q ∷ e.p ∷ e.m ∷ e.a ∷ e.n ∷ rows ∷ 0 ∷ []
+abbrev pub revision_numbers : ℕ → Numbers → ℕ → ℕ → ℕ → List ℕ
+revision_numbers code x mark root rows = code ∷ mark ∷ 0 ∷ root ∷ x.r ∷ x.q ∷ x.p ∷ x.m ∷ x.a ∷ x.n ∷ rows ∷ 0 ∷ []
 
 unfoldable pub revision_spelling : Revision → List ℕ
-revision_spelling r = spelled revision_layout (revision_numbers (edit_numbers r.edit) (mark_number r.mark) (root_number r.root) r.rows)
+revision_spelling r = spelled revision_layout (revision_numbers (recorded r.edit).code (numbers_of r.edit) (mark_number r.mark) (root_number r.root) r.rows)
 
 -- tag, zeros, node, length, offset
 abbrev pub row_layout : List Width
 row_layout = w8 ∷ w8 ∷ w16 ∷ w32 ∷ w64 ∷ w64 ∷ []
 
 abbrev pub row_numbers : ℕ → RowKind → List ℕ
+row_numbers len (Shared k o) = 1 ∷ 0 ∷ 0 ∷ k.0 ∷ len ∷ o ∷ []
 row_numbers len Leaf = 2 ∷ 0 ∷ 0 ∷ 0 ∷ len ∷ 0 ∷ []
+row_numbers len Bytes = 3 ∷ 0 ∷ 0 ∷ 0 ∷ len ∷ 0 ∷ []
 
 unfoldable pub row_spelling : Row → List ℕ
 row_spelling r = spelled row_layout (row_numbers r.len r.kind)

@@ -4,15 +4,16 @@ use Rattle.std.specs.List.{sum_by, AllByRecursion}
 use Rattle.function_leaf.specs.declared.coded.Coded.{Coded}
 use Rattle.function_leaf.specs.declared.coded.Coded.TheVariants.{Fill, Ramp, Cycle}
 use Rattle.function_leaf.specs.Coded.{coded_byte}
-use Rattle.function_leaf.specs.Optional.{answer_of}
+use Rattle.function_leaf.specs.Optional.{answer_of, or_fill}
 use Rattle.function_leaf.specs.Pattern.{IsPatternLength}
 use Rattle.rope_node.specs.declared.node.NodeId.{NodeId}
 use Rattle.rope_node.specs.declared.node.NodeView.{NodeView}
 use Rattle.rope_node.specs.declared.node.NodeView.TheVariants.{Lit, Src, Fun, Cat, Sub}
 use Rattle.rope_node.specs.Table.{Node, Table, no_node}
-use Rattle.span_certificate.specs.declared.edit.Edit.{Edit}
-use Rattle.span_certificate.specs.declared.edit.Edit.TheVariants.{New, Insert}
 use Rattle.span_certificate.specs.declared.row.Row.{Row}
+use Rattle.span_certificate.specs.declared.row.RowKind.{RowKind}
+use Rattle.span_certificate.specs.declared.row.RowKind.TheVariants.{Shared, Leaf, Bytes}
+use Rattle.span_certificate.specs.Fields.{FitsRecord}
 use Rattle.image_reader.specs.declared.revision.Revision.{Revision}
 use Rattle.image_reader.specs.Layout.{IsBytes}
 use Rattle.image_reader.specs.Limits.{most_sources, most_nodes, most_revisions, most_rows, most_pool, nil_root}
@@ -39,8 +40,12 @@ abbrev pub function_at : ImageValue → ℕ → Option Coded
 function_at v id = (get_or v.nodes id no_image_node).function
 
 -- the table of an image's nodes
-abbrev pub table_of : ImageValue → Table
-table_of v = record { nodes = map (λ (n : ImageNode). n.node) v.nodes; pool = v.pool; sources = v.sources; answer = λ id k. answer_of coded_byte (function_at v id) k }
+abbrev pub image_table : ImageValue → Table
+image_table v = record { nodes = map (λ (n : ImageNode). n.node) v.nodes; pool = v.pool; sources = v.sources; answer = λ id k. answer_of coded_byte (function_at v id) k }
+
+-- the function at a node, where it is one
+abbrev pub coded_at : ImageValue → ℕ → Coded
+coded_at v id = or_fill (function_at v id)
 
 -- a function's bytes fit, and a pattern has a length that it may have
 abbrev pub FitsFunction : Coded → Type 0
@@ -66,21 +71,23 @@ pub record FitsNode (n : ImageNode) : Type 0 where
   pub len : n.node.len < 2 ^ 64
   pub depth : n.node.depth < 2 ^ 8
 
-abbrev pub FitsEdit : Edit → Type 0
-FitsEdit New = Unit {0}
-FitsEdit (Insert r p a n) = (r < 2 ^ 32) × (p < 2 ^ 64) × (a < 2 ^ 64) × (n < 2 ^ 64)
-
 abbrev pub FitsRoot : Option NodeId → Type 0
 FitsRoot None = Unit {0}
 FitsRoot (Some id) = id.0 < nil_root
 
 pub record FitsRevision (r : Revision) : Type 0 where
-  pub edit : FitsEdit r.edit
+  pub edit : FitsRecord r.edit
   pub root : FitsRoot r.root
   pub rows : r.rows < 2 ^ 32
 
-abbrev pub FitsRow : Row → Type 0
-FitsRow r = r.len < 2 ^ 64
+abbrev pub FitsKind : RowKind → Type 0
+FitsKind (Shared k o) = (k.0 < 2 ^ 32) × (o < 2 ^ 64)
+FitsKind Leaf = Unit {0}
+FitsKind Bytes = Unit {0}
+
+pub record FitsRow (r : Row) : Type 0 where
+  pub len : r.len < 2 ^ 64
+  pub kind : FitsKind r.kind
 
 abbrev pub FitsSource : ℕ → Type 0
 FitsSource n = n < 2 ^ 40

@@ -4,7 +4,7 @@ ghost use Rattle.std.specs.Prelude.{◌≡◌, ◌<◌, ◌^◌, length, IfOk, O
 ghost use Rattle.std.specs.Result.{result_err};
 ghost use Rattle.rope_node.specs.declared.node.NodeView.TheVariants.{Fun};
 ghost use Rattle.rope_node.specs.Table.{view_at, len_at, depth_at};
-ghost use Rattle.image_reader.specs.Value.{ImageValue, IsImage, function_at, table_of};
+ghost use Rattle.image_reader.specs.Value.{ImageValue, IsImage, function_at, image_table};
 ghost use Rattle.image_reader.specs.Spelling.{spelling};
 ghost use Rattle.image_reader.specs.Reading.{fault_of, image_of};
 
@@ -12,7 +12,7 @@ use crate::fault::ReadFault;
 use crate::header::read_header;
 use crate::node::{depth_in, function_in, len_in, view_in};
 use crate::number::{bytes_from, cell_at};
-use crate::parts::{revision_in, row_in, source_in};
+use crate::decode::{revision_in, row_in, source_in};
 use crate::revision::Revision;
 use crate::section::check_sections;
 use function_leaf::Coded;
@@ -38,7 +38,7 @@ impl<'a> Model for Image<'a> {
     ghost use Rattle.std.specs.Prelude.{◌≡◌, ◌*◌, ◌≤◌, length, None};
     ghost use Rattle.image_reader.specs.Value.{ImageValue, IsImage};
     ghost use Rattle.image_reader.specs.Layout.{records};
-    ghost use Rattle.image_reader.specs.Reading.{sections_value, HasRoom, first_fault, node_fault};
+    ghost use Rattle.image_reader.specs.Reading.{sections_value, HasRoom, first_fault, node_record_fault};
 
     ghost Value = { ImageValue };
 
@@ -46,7 +46,7 @@ impl<'a> Model for Image<'a> {
 
     ghost invariant = { λ a. HasRoom a.source_count a.sources.now a.node_count a.nodes.now a.revision_count a.revisions.now a.row_count a.rows.now
         × IsImage (sections_value a.source_count a.sources.now a.node_count a.nodes.now a.revision_count a.revisions.now a.row_count a.rows.now a.pool.now)
-        × (first_fault node_fault (records 32 a.node_count a.nodes.now) ≡ None) };
+        × (first_fault node_record_fault (records 32 a.node_count a.nodes.now) ≡ None) };
 }
 
 impl<'a> Image<'a> {
@@ -118,7 +118,7 @@ impl<'a> Image<'a> {
 
     /// How many nodes it has.
     pub fn node_count(&self) -> u32
-        ensures count { result ≡ length (table_of self.now).nodes }
+        ensures count { result ≡ length (image_table self.now).nodes }
         ensures image { IsImage self.now }
     {
         self.node_count
@@ -156,32 +156,32 @@ impl<'a> Image<'a> {
 
     /// What node `id` is.
     pub fn node(&self, id: NodeId) -> NodeView
-        requires { id.0 < length (table_of self.now).nodes }
-        ensures { result ≡ view_at (table_of self.now) id.0 }
+        requires { id.0 < length (image_table self.now).nodes }
+        ensures { result ≡ view_at (image_table self.now) id.0 }
     {
         view_in(cell_at(self.nodes, 32, id.0 as usize))
     }
 
     /// The length that is recorded with node `id`, in bytes.
     pub fn len(&self, id: NodeId) -> u64
-        requires { id.0 < length (table_of self.now).nodes }
-        ensures { result ≡ len_at (table_of self.now) id.0 }
+        requires { id.0 < length (image_table self.now).nodes }
+        ensures { result ≡ len_at (image_table self.now) id.0 }
     {
         len_in(cell_at(self.nodes, 32, id.0 as usize))
     }
 
     /// The depth that is recorded with node `id`.
     pub fn depth(&self, id: NodeId) -> u8
-        requires { id.0 < length (table_of self.now).nodes }
-        ensures { result ≡ depth_at (table_of self.now) id.0 }
+        requires { id.0 < length (image_table self.now).nodes }
+        ensures { result ≡ depth_at (image_table self.now) id.0 }
     {
         depth_in(cell_at(self.nodes, 32, id.0 as usize))
     }
 
     /// The function that node `id` holds.
     pub fn coded(&self, id: NodeId) -> Coded
-        requires there { id.0 < length (table_of self.now).nodes }
-        requires function { view_at (table_of self.now) id.0 ≡ Fun }
+        requires there { id.0 < length (image_table self.now).nodes }
+        requires function { view_at (image_table self.now) id.0 ≡ Fun }
         ensures { function_at self.now id.0 ≡ Some result }
     {
         function_in(cell_at(self.nodes, 32, id.0 as usize))

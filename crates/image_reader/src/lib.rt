@@ -1,17 +1,21 @@
 //! Session images, read in place: the bytes are borrowed, and no memory is taken.
 #![tactic(auto)]
 
+mod command;
+mod decode;
 mod fault;
 mod header;
 mod image;
 mod node;
 mod number;
-mod parts;
 mod revision;
+mod roots;
 mod rows;
 mod section;
 
+pub use command::Numbers;
 pub use fault::ReadFault;
 pub use image::Image;
 pub use revision::Revision;
+pub use roots::EarlierRoots;
 pub use rows::RevisionRows;

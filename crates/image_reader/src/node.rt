@@ -2,7 +2,7 @@
 
 ghost use Rattle.std.specs.Prelude.{◌≡◌, length, drop, false, None, Some};
 ghost use Rattle.function_leaf.specs.Pattern.{IsPatternLength};
-ghost use Rattle.image_reader.specs.Reading.{node_of, view_of, kind_in, pattern_size_in, pattern_of, coded_of, function_of, any_nonzero, is_unknown_function, is_unknown_node, unused_in_span, unused_in_concatenation, unused_in_function, unused_in_node, node_fault};
+ghost use Rattle.image_reader.specs.Reading.{image_node, view_of, kind_in, pattern_size_in, pattern_of, coded_of, function_of, any_nonzero, is_unknown_function, is_unknown_node, unused_in_span, unused_in_concatenation, unused_in_function, unused_in_node, node_record_fault};
 
 use crate::number::{bytes_from, u8_in, u32_in, u64_in};
 use function_leaf::Coded;
@@ -11,7 +11,7 @@ use rope_node::{NodeId, NodeView};
 /// The length of a node.
 pub fn len_in(bytes: &[u8]) -> u64
     requires { length bytes.now ≡ 32 }
-    ensures { result ≡ (node_of bytes.now).node.len }
+    ensures { result ≡ (image_node bytes.now).node.len }
 {
     u64_in(bytes, 8)
 }
@@ -19,7 +19,7 @@ pub fn len_in(bytes: &[u8]) -> u64
 /// The depth of a node.
 pub fn depth_in(bytes: &[u8]) -> u8
     requires { length bytes.now ≡ 32 }
-    ensures { result ≡ (node_of bytes.now).node.depth }
+    ensures { result ≡ (image_node bytes.now).node.depth }
 {
     u8_in(bytes, 1)
 }
@@ -65,11 +65,11 @@ fn cycle_in(bytes: &[u8]) -> Coded
 }
 
 /// The function that a node of kind 3 holds.
-#[tactic(auto, unfolding(crate::specs::Reading::function_of, crate::specs::Reading::coded_of, crate::specs::Reading::node_fault))]
+#[tactic(auto, unfolding(crate::specs::Reading::function_of, crate::specs::Reading::coded_of, crate::specs::Reading::node_record_fault))]
 pub fn function_in(bytes: &[u8]) -> Coded
     requires len { length bytes.now ≡ 32 }
     requires kind { kind_in bytes.now ≡ 3 }
-    requires sound { node_fault bytes.now ≡ None }
+    requires sound { node_record_fault bytes.now ≡ None }
     ensures { function_of bytes.now ≡ Some result }
 {
     match u8_in(bytes, 2) {

@@ -5,13 +5,14 @@ ghost use Rattle.std.specs.Result.{result_err};
 ghost use Rattle.image_reader.specs.declared.fault.ReadFault.{ReadFault};
 ghost use Rattle.image_reader.specs.Layout.{records, number_in};
 ghost use Rattle.std.specs.Int.{w8};
-ghost use Rattle.image_reader.specs.Reading.{source_fault, node_fault, revision_fault, row_fault, first_fault, any_nonzero, unused_in_revision, sections_fault};
+ghost use Rattle.image_reader.specs.Reading.{source_record_fault, node_record_fault, revision_record_fault, row_record_fault, first_fault, any_nonzero, unused_in_revision, unused_in_row, sections_fault};
 
+use crate::command::{edit_by, has_unused_number, numbers_in};
 use crate::fault::ReadFault;
 use crate::header::Header;
 use crate::node::{has_unused_node_field, is_unknown_node};
 use crate::number::{u8_in, u16_in, u32_in, u64_in};
-use crate::parts::counted_rows;
+use crate::decode::counted_rows;
 
 /// A kind of record.
 pub trait Records {
@@ -73,9 +74,9 @@ impl Records for SourceRecords {
 
     ghost SIZE = { 8 };
 
-    ghost fault = { source_fault };
+    ghost fault = { source_record_fault };
 
-    #[tactic(auto, unfolding(crate::specs::Reading::source_fault))]
+    #[tactic(auto, unfolding(crate::specs::Reading::source_record_fault))]
     fn check(bytes: &[u8]) -> Result<(), ReadFault> {
         if u64_in(bytes, 0) >= 1 << 40 {
             return Err(ReadFault::Count);
@@ -92,9 +93,9 @@ impl Records for NodeRecords {
 
     ghost SIZE = { 32 };
 
-    ghost fault = { node_fault };
+    ghost fault = { node_record_fault };
 
-    #[tactic(auto, unfolding(crate::specs::Reading::node_fault))]
+    #[tactic(auto, unfolding(crate::specs::Reading::node_record_fault))]
     fn check(bytes: &[u8]) -> Result<(), ReadFault> {
         if is_unknown_node(bytes) {
             return Err(ReadFault::Kind);
@@ -114,15 +115,15 @@ impl Records for RevisionRecords {
 
     ghost SIZE = { 56 };
 
-    ghost fault = { revision_fault };
+    ghost fault = { revision_record_fault };
 
-    #[tactic(auto, unfolding(crate::specs::Reading::revision_fault))]
+    #[tactic(auto, unfolding(crate::specs::Reading::revision_record_fault))]
     fn check(bytes: &[u8]) -> Result<(), ReadFault> {
         let code = u8_in(bytes, 0);
-        if (code != 1 && code != 3) || u8_in(bytes, 1) > 1 {
+        if code < 1 || code > 11 || u8_in(bytes, 1) > 1 {
             return Err(ReadFault::Kind);
         }
-        if has_unused_revision_field(code, bytes) {
+        if has_unused_revision_field(bytes) {
             return Err(ReadFault::NonZeroPad);
         }
         Ok(())
@@ -130,23 +131,13 @@ impl Records for RevisionRecords {
 }
 
 /// Whether a field that this command does not use, or no revision, is not zero.
-fn has_unused_revision_field(code: u8, bytes: &[u8]) -> bool
-    requires code { code ≡ number_in w8 0 bytes.now }
-    requires len { length bytes.now ≡ 56 }
+fn has_unused_revision_field(bytes: &[u8]) -> bool
+    requires { length bytes.now ≡ 56 }
     ensures { result ≡ any_nonzero (unused_in_revision bytes.now) }
 {
-    if u16_in(bytes, 2) != 0
-        || u32_in(bytes, 12) != 0
-        || u64_in(bytes, 24) != 0
-        || u32_in(bytes, 52) != 0
-    {
-        return true;
-    }
-    code == 1
-        && (u32_in(bytes, 8) != 0
-            || u64_in(bytes, 16) != 0
-            || u64_in(bytes, 32) != 0
-            || u64_in(bytes, 40) != 0)
+    let numbers = numbers_in(bytes);
+    let edit = edit_by(u8_in(bytes, 0), numbers);
+    u16_in(bytes, 2) != 0 || u32_in(bytes, 52) != 0 || has_unused_number(edit, numbers)
 }
 
 /// The records of certificate rows.
@@ -157,20 +148,28 @@ impl Records for RowRecords {
 
     ghost SIZE = { 24 };
 
-    ghost fault = { row_fault };
+    ghost fault = { row_record_fault };
 
-    #[tactic(auto, unfolding(crate::specs::Reading::row_fault))]
+    #[tactic(auto, unfolding(crate::specs::Reading::row_record_fault))]
     fn check(bytes: &[u8]) -> Result<(), ReadFault> {
-        if u8_in(bytes, 0) != 2 {
+        let tag = u8_in(bytes, 0);
+        if tag < 1 || tag > 3 {
             return Err(ReadFault::Kind);
         }
-        if u8_in(bytes, 1) != 0
-            || u16_in(bytes, 2) != 0
-            || u32_in(bytes, 4) != 0
-            || u64_in(bytes, 16) != 0
-        {
+        if has_unused_row_field(bytes) {
             return Err(ReadFault::NonZeroPad);
         }
         Ok(())
     }
+}
+
+/// Whether a field that a row of this tag does not use, or no row, is not zero.
+fn has_unused_row_field(bytes: &[u8]) -> bool
+    requires { length bytes.now ≡ 24 }
+    ensures { result ≡ any_nonzero (unused_in_row bytes.now) }
+{
+    if u8_in(bytes, 1) != 0 || u16_in(bytes, 2) != 0 {
+        return true;
+    }
+    u8_in(bytes, 0) != 1 && (u32_in(bytes, 4) != 0 || u64_in(bytes, 16) != 0)
 }

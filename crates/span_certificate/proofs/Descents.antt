@@ -8,14 +8,14 @@ use Rattle.span_certificate.specs.declared.descent.LeafSpan.{LeafSpan}
 use Rattle.span_certificate.specs.Leads.{Leads, here, in_left, in_right, in_base, LeadsToLeaf}
 
 -- a concatenation is no leaf
-not_leaf_cat : (v : NodeView) (l r : NodeId) → v ≡ Cat l r → IsLeaf v → ⊥
+pub not_leaf_cat : (v : NodeView) (l r : NodeId) → v ≡ Cat l r → IsLeaf v → ⊥
 not_leaf_cat (Cat l' r') l r e h = h
 not_leaf_cat (Lit a) l r e h = absurd cc
 not_leaf_cat (Src s a) l r e h = absurd cc
 not_leaf_cat Fun l r e h = absurd cc
 not_leaf_cat (Sub b i) l r e h = h
 
-not_leaf_sub : (v : NodeView) (b : NodeId) (i : ℕ) → v ≡ Sub b i → IsLeaf v → ⊥
+pub not_leaf_sub : (v : NodeView) (b : NodeId) (i : ℕ) → v ≡ Sub b i → IsLeaf v → ⊥
 not_leaf_sub (Sub b' i') b i e h = h
 not_leaf_sub (Lit a) b i e h = absurd cc
 not_leaf_sub (Src s a) b i e h = absurd cc

@@ -1,5 +1,16 @@
 pub mod Descents
-pub mod Spans
+pub mod Cells
 pub mod Describing
+pub mod Ways
+pub mod Steps
+pub mod Walks
+pub mod NextRows
+pub mod ComparedCells
+pub mod RunLaws
 pub mod Covering
+pub mod Made
+pub mod MappedResults
 pub mod Verdicts
+pub mod Joined
+pub mod Sameness
+pub mod MadeRows

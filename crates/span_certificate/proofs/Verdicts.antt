@@ -1,123 +1,205 @@
--- What verifying keeps from row to row, and what its two answers say.
-use Rattle.std.proofs.Common.{◌≡◌, ℕ, ◌+◌, ◌<◌, ◌≤◌, List, length, Option, Some, None, refl, sym, ap, subst, ◌∙◌, arith, inl, inr, below_more}
-use Rattle.std.specs.Prelude.{◌↔◌, slice_get}
+-- What testing one row tells, what verifying keeps from row to row, and what its answers say.
+use Rattle.std.proofs.Common.{◌≡◌, ℕ, ◌+◌, ◌<◌, ◌≤◌, List, ◌++◌, length, take, drop, Option, Some, None, Result, Ok, Err, refl, sym, ap, subst, ◌∙◌, arith, inl, inr, below_more, zero-add}
+use Rattle.std.specs.Prelude.{◌↔◌, Bool, true, false, IsTrue, IfOk, slice_get}
 use Rattle.std.proofs.lemmas.Bool.{cases_order}
-use Rattle.std.proofs.lemmas.Option.{get_or_from_slice_get}
+use Rattle.std.proofs.lemmas.Option.{get_or_from_slice_get, some_pair_parts}
+use Rattle.function_leaf.specs.declared.coded.Coded.{Coded}
 use Rattle.rope_node.specs.declared.node.NodeId.{NodeId}
 use Rattle.rope_node.specs.Table.{Table, IsSound, HasTrueRecords}
-use Rattle.rope_node.specs.Denotes.{rope_cells, rope_len, IsRope}
+use Rattle.rope_node.specs.Denotes.{rope_cells, rope_len}
+use Rattle.rope_node.proofs.Parts.{span_within}
+use Rattle.lazy_file.specs.SourceTexts.{Agrees, Reads, Stated}
+use Rattle.lazy_file.specs.declared.faults.SourceFault.{SourceFault}
+use Rattle.cord_position.specs.Fetched.{IsReadable}
 use Rattle.span_certificate.specs.declared.cover.Verdict.{Verdict}
 use Rattle.span_certificate.specs.declared.cover.Verdict.TheVariants.{Good, Bad}
 use Rattle.span_certificate.specs.declared.part.Part.{Part}
+use Rattle.span_certificate.specs.declared.part.Part.TheVariants.{Old}
 use Rattle.span_certificate.specs.declared.row.Row.{Row}
-use Rattle.span_certificate.specs.Parts.{parts_len, parts_cells, AreParts, part_at}
-use Rattle.span_certificate.specs.Covers.{row_at, no_row, rows_len, place_of, Fits, Covers, IsFirstBad}
-use Rattle.span_certificate.proofs.Covering.{holds_place, no_part, place_of_more, place_of_all, covered_cells}
+use Rattle.span_certificate.specs.declared.row.RowKind.TheVariants.{Shared, Bytes}
+use Rattle.span_certificate.specs.Parts.{part_len, parts_len, part_cells, AreParts, part_at}
+use Rattle.span_certificate.specs.Leads.{PartLeads}
+use Rattle.span_certificate.specs.Covers.{row_at, no_row, rows_len, place_of, bytes_limit, compared, kind_compares, row_compares, KindFits, Fits, Covers, IsFirstBad}
+use Rattle.span_certificate.specs.Runs.{ReadsCells, TellsSame}
+use Rattle.span_certificate.specs.Verdicts.{TellsKind, TellsRow, TellsRows, AreStatedRows, IsVerdict, ReadsRows}
+use Rattle.span_certificate.proofs.ComparedCells.{each_listed, failed_among}
+use Rattle.span_certificate.proofs.Covering.{holds_place, no_part, place_of_more, place_of_all}
 
--- the rows before j fit and end at place
-pub record IsCoveredTo (t : Table) (parts : List Part) (root : Option NodeId) (rows : List Row) (j place : ℕ) : Type 0 where
+-- ---- one row
+
+pub shared_fits : (t : Table) (coded : ℕ → Coded) (source : ℕ → ℕ → ℕ) (part : Part) (off : ℕ) (root : Option NodeId) (place m : ℕ) (row : Row) (node : NodeId) (at : ℕ) (answer : Bool) → row.kind ≡ Shared node at
+    → PartLeads t row.len node.0 at part off → IsTrue answer ↔ PartLeads t row.len node.0 at (Old root 0 m) place → IsTrue answer ↔ KindFits t coded source row.len part off root place row.kind
+shared_fits t coded source part off root place m row node at answer is first second =
+    rw (is, ← zero-add place) (λ h. (first, second.0 h), λ h. second.1 h.1)
+
+root_cells : (t : Table) (root : Option NodeId) (place m n : ℕ) → place + n ≤ m → take n (drop place (part_cells t (Old root 0 m))) ≡ take n (drop place (rope_cells t root))
+root_cells t root place m n fits = span_within n place m 0 (rope_cells t root) fits ∙ ap (λ (j : ℕ). take n (drop j (rope_cells t root))) (omega arith)
+
+-- the cells that a row of bytes compares, and the same cells in the parts joined
+pub bytes_compare : (t : Table) (part : Part) (off : ℕ) (root : Option NodeId) (place m : ℕ) (row : Row) → row.kind ≡ Bytes → place + row.len ≤ m
+    → kind_compares t part off root place row ≡ take row.len (drop off (part_cells t part)) ++ take row.len (drop place (part_cells t (Old root 0 m)))
+bytes_compare t part off root place m row is fits = rw (is, root_cells t root place m row.len fits) refl
+
+pub joined_compare : (t : Table) → IsSound t → HasTrueRecords t → (parts : List Part) (root : Option NodeId) (place off : ℕ) (part : Part) (row : Row) → AreParts t parts → part_at parts place ≡ Some (part, off)
+    → off + row.len ≤ part_len part → row_compares t parts root place row ≡ kind_compares t part off root place row
+joined_compare t s h parts root place off part row are at in_part =
+    let held = holds_place t s h parts place part off are at in
+    ap (λ cs. compared row.kind cs (take row.len (drop place (rope_cells t root)))) (held.same row.len in_part)
+
+pub bytes_fits : (t : Table) (coded : ℕ → Coded) (st : Stated) (part : Part) (off : ℕ) (root : Option NodeId) (place m : ℕ) (row : Row) (r : Result Bool SourceFault) → row.kind ≡ Bytes → row.len ≤ bytes_limit → place + row.len ≤ m
+    → IfOk r (TellsSame st (take row.len (drop off (part_cells t part))) (take row.len (drop place (part_cells t (Old root 0 m)))))
+    → IfOk r (TellsKind t coded st part off root place row)
+bytes_fits t coded st part off root place m row (Err e) is short fits tells = tt
+bytes_fits t coded st part off root place m row (Ok answer) is short fits tells = λ source agrees stated.
+    let both = tells source agrees (rw (bytes_compare t part off root place m row is fits) at stated) in
+    rw (is, ← root_cells t root place m row.len fits) (λ h. (short, both.0 h), λ h. both.1 h.1)
+
+pub row_tells : (t : Table) → IsSound t → HasTrueRecords t → (coded : ℕ → Coded) (st : Stated) (parts : List Part) (root : Option NodeId) (place off : ℕ) (part : Part) (row : Row) (r : Result Bool SourceFault)
+    → AreParts t parts → part_at parts place ≡ Some (part, off) → 1 ≤ row.len → off + row.len ≤ part_len part → place + row.len ≤ rope_len t root
+    → IfOk r (TellsKind t coded st part off root place row) → IfOk r (TellsRow t coded st parts root place row)
+row_tells t s h coded st parts root place off part row (Err e) are at some in_part in_root tells = tt
+row_tells t s h coded st parts root place off part row (Ok answer) are at some in_part in_root tells = λ source agrees stated.
+    let kind = tells source agrees (rw (joined_compare t s h parts root place off part row are at in_part) at stated) in (
+      λ h. record { part = part; off = off; at_part = at; not_empty = some; inside_part = in_part; inside_root = in_root; kind = kind.0 h },
+      λ fits.
+          let found : ◌≡◌ {A = Option (Part × ℕ)} (Some (fits.part, fits.off)) (Some (part, off)) = sym fits.at_part ∙ at in
+          let one = some_pair_parts fits.part part fits.off off found in
+          kind.1 (subst (λ (o : ℕ). KindFits t coded source row.len part o root place row.kind) one.1 (subst (λ (q : Part). KindFits t coded source row.len q fits.off root place row.kind) one.0 fits.kind)),
+    )
+
+-- a row that stands behind the parts, is empty, or passes an end
+pub row_unfit : (t : Table) (coded : ℕ → Coded) (st : Stated) (parts : List Part) (root : Option NodeId) (place : ℕ) (row : Row) → ((source : ℕ → ℕ → ℕ) → ¬ Fits t coded source parts root place row) → TellsRow t coded st parts root place row false
+row_unfit t coded st parts root place row unfit source agrees stated = (λ never. absurd cc, λ fits. absurd (unfit source fits))
+
+pub behind_parts : (t : Table) (coded : ℕ → Coded) (source : ℕ → ℕ → ℕ) (parts : List Part) (root : Option NodeId) (place : ℕ) (row : Row) → part_at parts place ≡ None → ¬ Fits t coded source parts root place row
+behind_parts t coded source parts root place row none fits =
+    let bad : ◌≡◌ {A = Option (Part × ℕ)} None (Some (fits.part, fits.off)) = sym none ∙ fits.at_part in absurd cc
+
+pub passes_part : (t : Table) (coded : ℕ → Coded) (source : ℕ → ℕ → ℕ) (parts : List Part) (root : Option NodeId) (place off : ℕ) (part : Part) (row : Row) → part_at parts place ≡ Some (part, off) → part_len part < off + row.len → ¬ Fits t coded source parts root place row
+passes_part t coded source parts root place off part row at past fits =
+    let found : ◌≡◌ {A = Option (Part × ℕ)} (Some (fits.part, fits.off)) (Some (part, off)) = sym fits.at_part ∙ at in
+    let one = some_pair_parts fits.part part fits.off off found in
+    let len : part_len fits.part ≡ part_len part = ap part_len one.0 in
+    omega (arith, fits.inside_part, one.1, len, past)
+
+-- what a row that fits leaves inside
+pub row_inside : (t : Table) → IsSound t → HasTrueRecords t → (parts : List Part) (place off : ℕ) (part : Part) (n : ℕ) → AreParts t parts → part_at parts place ≡ Some (part, off) → off + n ≤ part_len part → place + n ≤ parts_len parts
+row_inside t s h parts place off part n are at in_part = let held = holds_place t s h parts place part off are at in omega (arith, held.inside, in_part)
+
+-- ---- all rows
+
+-- the rows before j end at place, and fit over what the sources state
+pub record IsVerifying (t : Table) (coded : ℕ → Coded) (st : Stated) (parts : List Part) (root : Option NodeId) (rows : List Row) (j place : ℕ) : Type 0 where
   pub stands : place ≡ place_of rows j
-  pub fit : (i : ℕ) → i < j → Fits t parts root (place_of rows i) (row_at rows i)
   pub in_root : place ≤ rope_len t root
   pub in_parts : place ≤ parts_len parts
+  pub fit : (source : ℕ → ℕ → ℕ) → Agrees st source → AreStatedRows t st parts root rows → (i : ℕ) → i < j → Fits t coded source parts root (place_of rows i) (row_at rows i)
 
-pub covered_to_none : (t : Table) (parts : List Part) (root : Option NodeId) (rows : List Row) → IsCoveredTo t parts root rows 0 0
-covered_to_none t parts root rows = record { stands = refl; fit = λ i lt. absurd (omega arith); in_root = omega arith; in_parts = omega arith }
+pub verifying_none : (t : Table) (coded : ℕ → Coded) (st : Stated) (parts : List Part) (root : Option NodeId) (rows : List Row) → IsVerifying t coded st parts root rows 0 0
+verifying_none t coded st parts root rows = record { stands = refl; in_root = omega arith; in_parts = omega arith; fit = λ source agrees stated i lt. absurd (omega arith) }
 
-fits_at : (t : Table) (parts : List Part) (root : Option NodeId) (rows : List Row) (j place : ℕ) (row : Row) → IsCoveredTo t parts root rows j place → slice_get rows j ≡ Some row
-    → Fits t parts root place row → Fits t parts root (place_of rows j) (row_at rows j)
-fits_at t parts root rows j place row so_far is fits = rw (get_or_from_slice_get rows j row no_row is, ← so_far.stands) fits
+-- what the test of the row at place tells of row j
+tells_at : (t : Table) (coded : ℕ → Coded) (st : Stated) (parts : List Part) (root : Option NodeId) (rows : List Row) (j place : ℕ) (row : Row) (answer : Bool) → place ≡ place_of rows j → slice_get rows j ≡ Some row
+    → TellsRow t coded st parts root place row answer → TellsRow t coded st parts root (place_of rows j) (row_at rows j) answer
+tells_at t coded st parts root rows j place row answer stands is tells = rw (get_or_from_slice_get rows j row no_row is, ← stands) tells
 
-fits_of : (t : Table) (parts : List Part) (root : Option NodeId) (rows : List Row) (j place : ℕ) (row : Row) → IsCoveredTo t parts root rows j place → slice_get rows j ≡ Some row
-    → Fits t parts root (place_of rows j) (row_at rows j) → Fits t parts root place row
-fits_of t parts root rows j place row so_far is fits = rw (get_or_from_slice_get rows j row no_row is, ← so_far.stands) at fits
-
-in_parts_of : (t : Table) (parts : List Part) (root : Option NodeId) (place : ℕ) (row : Row) → AreParts t parts → Fits t parts root place row → place + row.len ≤ parts_len parts
-in_parts_of t parts root place row are fits =
-    let held = holds_place t parts place fits.part fits.off are fits.at_part in
-    omega (arith, held.inside, fits.inside_part)
-
-pub covered_to_more : (t : Table) (parts : List Part) (root : Option NodeId) (rows : List Row) (j place : ℕ) (row : Row) → AreParts t parts → j < length rows → IsCoveredTo t parts root rows j place → slice_get rows j ≡ Some row
-    → Fits t parts root place row → IsCoveredTo t parts root rows (j + 1) (place + row.len)
-covered_to_more t parts root rows j place row are lt so_far is fits =
+pub verifying_more : (t : Table) (coded : ℕ → Coded) (st : Stated) (parts : List Part) (root : Option NodeId) (rows : List Row) (j place : ℕ) (row : Row) → j < length rows → slice_get rows j ≡ Some row
+    → IsVerifying t coded st parts root rows j place → TellsRow t coded st parts root place row true → (place + row.len ≤ rope_len t root) × (place + row.len ≤ parts_len parts) → IsVerifying t coded st parts root rows (j + 1) (place + row.len)
+verifying_more t coded st parts root rows j place row lt is so_far tells inside =
     let row-is = get_or_from_slice_get rows j row no_row is in
+    let here = tells_at t coded st parts root rows j place row true so_far.stands is tells in
     record {
       stands = sym (place_of_more rows j lt ∙ rw (row-is, ← so_far.stands) refl);
-      fit = below_more _ _ so_far.fit (fits_at t parts root rows j place row so_far is fits);
-      in_root = fits.inside_root;
-      in_parts = in_parts_of t parts root place row are fits;
+      in_root = inside.0;
+      in_parts = inside.1;
+      fit = λ source agrees stated. below_more _ _ (so_far.fit source agrees stated) ((here source agrees (stated j lt)).0 refl);
     }
-
-pub unfit_row : (t : Table) (parts : List Part) (root : Option NodeId) (rows : List Row) (j place : ℕ) (row : Row) → j < length rows → IsCoveredTo t parts root rows j place → slice_get rows j ≡ Some row
-    → ¬ Fits t parts root place row → IsFirstBad t parts root rows j
-unfit_row t parts root rows j place row lt so_far is unfit = record {
-  before = so_far.fit;
-  at_most = omega arith;
-  unfit = λ _ fits. unfit (fits_of t parts root rows j place row so_far is fits);
-  uncovered = λ e. absurd (omega arith);
-}
-
-stands_at_end : (t : Table) (parts : List Part) (root : Option NodeId) (rows : List Row) (j place : ℕ) → j ≡ length rows → IsCoveredTo t parts root rows j place → place ≡ rows_len rows
-stands_at_end t parts root rows j place e so_far = so_far.stands ∙ ap (place_of rows) e ∙ place_of_all rows
-
-pub left_uncovered : (t : Table) (parts : List Part) (root : Option NodeId) (rows : List Row) (j place : ℕ) → j ≡ length rows → IsCoveredTo t parts root rows j place → ¬ ((place ≡ rope_len t root) × (place ≡ parts_len parts)) → IsFirstBad t parts root rows j
-left_uncovered t parts root rows j place e so_far missed =
-    let whole = stands_at_end t parts root rows j place e so_far in
-    record {
-      before = so_far.fit;
-      at_most = omega arith;
-      unfit = λ lt. absurd (omega arith);
-      uncovered = λ _ both. missed (whole ∙ both.0, whole ∙ both.1);
-    }
-
-pub held_before_end : (t : Table) (parts : List Part) (place off : ℕ) (part : Part) → AreParts t parts → part_at parts place ≡ Some (part, off) → place < parts_len parts
-held_before_end t parts place off part are e =
-    let held = holds_place t parts place part off are e in
-    omega (arith, held.before_end, held.inside)
 
 -- rows that cover have no first bad one, and there is at most one
-pub not_both : (t : Table) (parts : List Part) (root : Option NodeId) (rows : List Row) (j : ℕ) → Covers t parts root rows → IsFirstBad t parts root rows j → ⊥
-not_both t parts root rows j c bad =
+not_both : (t : Table) (coded : ℕ → Coded) (source : ℕ → ℕ → ℕ) (parts : List Part) (root : Option NodeId) (rows : List Row) (j : ℕ) → Covers t coded source parts root rows → IsFirstBad t coded source parts root rows j → ⊥
+not_both t coded source parts root rows j c bad =
     elim (cases_order j (length rows)) [
       | inl e ↦ bad.uncovered e (c.whole_root, c.whole_parts)
       | inr (inl lt) ↦ bad.unfit lt (c.fit j lt)
       | inr (inr gt) ↦ absurd (omega (arith, bad.at_most))
     ]
 
-one_first : (t : Table) (parts : List Part) (root : Option NodeId) (rows : List Row) (i j : ℕ) → IsFirstBad t parts root rows i → IsFirstBad t parts root rows j → i ≡ j
-one_first t parts root rows i j a b =
+one_first : (t : Table) (coded : ℕ → Coded) (source : ℕ → ℕ → ℕ) (parts : List Part) (root : Option NodeId) (rows : List Row) (i j : ℕ) → IsFirstBad t coded source parts root rows i → IsFirstBad t coded source parts root rows j → i ≡ j
+one_first t coded source parts root rows i j a b =
     elim (cases_order i j) [
       | inl e ↦ e
       | inr (inl lt) ↦ absurd (a.unfit (omega (arith, b.at_most)) (b.before i lt))
       | inr (inr gt) ↦ absurd (b.unfit (omega (arith, a.at_most)) (a.before j gt))
     ]
 
--- what verify ensures of an answer
-pub record IsAnswer (t : Table) (parts : List Part) (root : Option NodeId) (rows : List Row) (v : Verdict) : Type 0 where
-  pub good : (v ≡ Good) ↔ Covers t parts root rows
-  pub bad : (j : ℕ) → (v ≡ Bad j) ↔ IsFirstBad t parts root rows j
-  pub same : v ≡ Good → parts_cells t parts ≡ rope_cells t root
-
-pub answer_bad : (t : Table) (parts : List Part) (root : Option NodeId) (rows : List Row) (j : ℕ) → IsFirstBad t parts root rows j → IsAnswer t parts root rows (Bad j)
-answer_bad t parts root rows j h = record {
-  good = (λ e. absurd cc, λ c. absurd (not_both t parts root rows j c h));
-  bad = λ i. (λ e. let same : j ≡ i = cc in subst (IsFirstBad t parts root rows) same h, λ other. ap Bad (one_first t parts root rows j i h other));
-  same = λ e. absurd cc;
+verdict_bad : (t : Table) (coded : ℕ → Coded) (source : ℕ → ℕ → ℕ) (parts : List Part) (root : Option NodeId) (rows : List Row) (j : ℕ) → IsFirstBad t coded source parts root rows j → IsVerdict t coded source parts root rows (Bad j)
+verdict_bad t coded source parts root rows j h = record {
+  good = (λ e. absurd cc, λ c. absurd (not_both t coded source parts root rows j c h));
+  bad = λ i. (λ e. let same : j ≡ i = cc in subst (IsFirstBad t coded source parts root rows) same h, λ other. ap Bad (one_first t coded source parts root rows j i h other));
 }
 
-pub answer_good : (t : Table) → IsSound t → HasTrueRecords t → (parts : List Part) (root : Option NodeId) (rows : List Row) → AreParts t parts → IsRope t root → Covers t parts root rows → IsAnswer t parts root rows Good
-answer_good t s h parts root rows are there c = record {
+verdict_good : (t : Table) (coded : ℕ → Coded) (source : ℕ → ℕ → ℕ) (parts : List Part) (root : Option NodeId) (rows : List Row) → Covers t coded source parts root rows → IsVerdict t coded source parts root rows Good
+verdict_good t coded source parts root rows c = record {
   good = (λ _. c, λ _. refl);
-  bad = λ i. (λ e. absurd cc, λ other. absurd (not_both t parts root rows i c other));
-  same = λ _. covered_cells t s h parts root rows are there c;
+  bad = λ i. (λ e. absurd cc, λ other. absurd (not_both t coded source parts root rows i c other));
 }
+
+pub answers_unfit : (t : Table) (coded : ℕ → Coded) (st : Stated) (parts : List Part) (root : Option NodeId) (rows : List Row) (j place : ℕ) (row : Row) → j < length rows → slice_get rows j ≡ Some row
+    → IsVerifying t coded st parts root rows j place → TellsRow t coded st parts root place row false → TellsRows t coded st parts root rows (Bad j)
+answers_unfit t coded st parts root rows j place row lt is so_far tells source agrees stated =
+    let here = tells_at t coded st parts root rows j place row false so_far.stands is tells in
+    verdict_bad t coded source parts root rows j (record {
+      before = so_far.fit source agrees stated;
+      at_most = omega arith;
+      unfit = λ _ fits. let never : false ≡ true = (here source agrees (stated j lt)).1 fits in absurd cc;
+      uncovered = λ e. absurd (omega arith);
+    })
+
+pub answers_whole : (t : Table) (coded : ℕ → Coded) (st : Stated) (parts : List Part) (root : Option NodeId) (rows : List Row) (j place : ℕ) → j ≡ length rows → IsVerifying t coded st parts root rows j place
+    → (place ≡ rope_len t root) × (place ≡ parts_len parts) → TellsRows t coded st parts root rows Good
+answers_whole t coded st parts root rows j place e so_far ends source agrees stated =
+    let whole : place ≡ rows_len rows = so_far.stands ∙ ap (place_of rows) e ∙ place_of_all rows in
+    verdict_good t coded source parts root rows (record { fit = λ i lt. so_far.fit source agrees stated i (omega arith); whole_root = sym whole ∙ ends.0; whole_parts = sym whole ∙ ends.1 })
+
+pub answers_left : (t : Table) (coded : ℕ → Coded) (st : Stated) (parts : List Part) (root : Option NodeId) (rows : List Row) (j place : ℕ) → j ≡ length rows → IsVerifying t coded st parts root rows j place
+    → ¬ ((place ≡ rope_len t root) × (place ≡ parts_len parts)) → TellsRows t coded st parts root rows (Bad j)
+answers_left t coded st parts root rows j place e so_far missed source agrees stated =
+    let whole : place ≡ rows_len rows = so_far.stands ∙ ap (place_of rows) e ∙ place_of_all rows in
+    verdict_bad t coded source parts root rows j (record {
+      before = so_far.fit source agrees stated;
+      at_most = omega arith;
+      unfit = λ lt. absurd (omega arith);
+      uncovered = λ _ both. missed (whole ∙ both.0, whole ∙ both.1);
+    })
+
+-- the read of row j failed
+pub verdict_failed : {T : Type 0} (stated : T → Stated) (failures : T → ℕ) (old mid new : T) (t : Table) (coded : ℕ → Coded) (parts : List Part) (root : Option NodeId) (rows : List Row) (j place : ℕ) (row : Row) (e : SourceFault)
+    → j < length rows → slice_get rows j ≡ Some row → IsVerifying t coded (stated old) parts root rows j place → Reads stated failures old mid
+    → ReadsCells {X = Bool} stated failures mid new (row_compares t parts root place row) (Err e) → ReadsRows stated failures old new t coded parts root rows (Err e)
+verdict_failed stated failures old mid new t coded parts root rows j place row e lt is so_far before h =
+    let cs = row_compares t parts root (place_of rows j) (row_at rows j) in
+    let here : ReadsCells {X = Bool} stated failures mid new cs (Err e) = rw (get_or_from_slice_get rows j row no_row is, ← so_far.stands) h in
+    let whole = failed_among {X = Bool} {Y = Verdict} stated failures old mid new cs cs e before here (λ k inside. (k, inside, refl)) in
+    record {
+      reads = whole.reads;
+      fault = record { j = j; inside = lt; row = whole.fault; fit = so_far.fit };
+      succeeds = λ readable. let ok = whole.succeeds (each_listed (IsReadable (stated old)) cs (readable j lt)) in absurd cc;
+    }
+
+-- all that was read, was read
+pub verdict_reads : {T : Type 0} (stated : T → Stated) (failures : T → ℕ) (old new : T) (t : Table) (coded : ℕ → Coded) (parts : List Part) (root : Option NodeId) (rows : List Row) (v : Verdict) → Reads stated failures old new
+    → ReadsRows stated failures old new t coded parts root rows (Ok v)
+verdict_reads stated failures old new t coded parts root rows v reads = record { reads = reads; fault = tt; succeeds = λ readable. refl }
 
 -- a place inside the parts that no part holds is their end
 pub at_parts_end : (parts : List Part) (place : ℕ) → place ≤ parts_len parts → part_at parts place ≡ None → place ≡ parts_len parts
 at_parts_end parts place le none = let past = no_part parts place none in omega arith
 
--- rows that all fit and leave nothing uncovered
-pub whole_covered : (t : Table) (parts : List Part) (root : Option NodeId) (rows : List Row) (j place : ℕ) → j ≡ length rows → IsCoveredTo t parts root rows j place → (place ≡ rope_len t root) × (place ≡ parts_len parts) → Covers t parts root rows
-whole_covered t parts root rows j place e so_far ends =
-    let whole = stands_at_end t parts root rows j place e so_far in
-    record { fit = λ i lt. so_far.fit i (omega arith); whole_root = sym whole ∙ ends.0; whole_parts = sym whole ∙ ends.1 }
+pub held_before_end : (t : Table) → IsSound t → HasTrueRecords t → (parts : List Part) (place off : ℕ) (part : Part) → AreParts t parts → part_at parts place ≡ Some (part, off) → place < parts_len parts
+held_before_end t s h parts place off part are e =
+    let held = holds_place t s h parts place part off are e in
+    omega (arith, held.before_end, held.inside)
+
+pub inside_both : (r : Result Bool SourceFault) (a b c : ℕ) → a ≤ b → a ≤ c → IfOk r (λ answer. IsTrue answer → (a ≤ b) × (a ≤ c))
+inside_both (Ok answer) a b c le also = λ h. (le, also)
+inside_both (Err e) a b c le also = tt

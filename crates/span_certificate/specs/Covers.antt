@@ -1,16 +1,17 @@
 -- When rows cover the parts of a command and a root, and which row is the first that does not fit.
-use Rattle.std.specs.Prelude.{◌≡◌, ℕ, ◌+◌, ◌≤◌, ◌<◌, List, length, take, get_or, Option, Some}
+use Rattle.std.specs.Prelude.{◌≡◌, ℕ, ◌+◌, ◌^◌, ◌≤◌, ◌<◌, List, [], ◌++◌, length, take, drop, get_or, Option, Some, All}
 use Rattle.std.specs.List.{sum_by}
+use Rattle.function_leaf.specs.declared.coded.Coded.{Coded}
 use Rattle.rope_node.specs.declared.node.NodeId.{NodeId}
 use Rattle.rope_node.specs.Table.{Table}
-use Rattle.rope_node.specs.Denotes.{rope_len}
+use Rattle.rope_node.specs.Denotes.{Cell, Byte, Place, rope_len, rope_cells, text}
 use Rattle.span_certificate.specs.declared.describe.Description.{Description}
 use Rattle.span_certificate.specs.declared.part.Part.{Part}
 use Rattle.span_certificate.specs.declared.row.Row.{Row}
 use Rattle.span_certificate.specs.declared.row.RowKind.{RowKind}
-use Rattle.span_certificate.specs.declared.row.RowKind.TheVariants.{Leaf}
-use Rattle.span_certificate.specs.Parts.{part_at, part_len, parts_len}
-use Rattle.span_certificate.specs.Leads.{RopeHasDescription, part_description}
+use Rattle.span_certificate.specs.declared.row.RowKind.TheVariants.{Shared, Leaf, Bytes}
+use Rattle.span_certificate.specs.Parts.{part_at, part_len, parts_len, part_cells, parts_cells}
+use Rattle.span_certificate.specs.Leads.{RopeLeads, PartLeads, RopeHasDescription, PartHasDescription}
 
 abbrev pub no_row : Row
 no_row = record { len = 0; kind = Leaf }
@@ -25,28 +26,83 @@ rows_len rows = sum_by (λ (r : Row). r.len) rows
 abbrev pub place_of : List Row → ℕ → ℕ
 place_of rows j = rows_len (take j rows)
 
--- the n bytes of the part from off on and those of the root from place on are the same by what the kind of row says
-abbrev pub KindFits : Table → ℕ → Part → ℕ → Option NodeId → ℕ → RowKind → Type 0
-KindFits t n part off root place Leaf = (d : Description) × RopeHasDescription t n root place d × (part_description off part ≡ Some d)
+-- the most bytes of a row that compares bytes
+abbrev pub bytes_limit : ℕ
+bytes_limit = 4096
+
+-- n bytes of two parts lead to leaf spans of one description
+abbrev pub HaveOneDescription : Table → (ℕ → Coded) → ℕ → Part → ℕ → Part → ℕ → Type 0
+HaveOneDescription t coded n part off other place = (d : Description) × PartHasDescription t coded n part off d × PartHasDescription t coded n other place d
+
+-- The n bytes of the part from off on and those of the root from place on are the same by what the kind of row says. The
+-- sources' bytes are those that source gives.
+abbrev pub KindFits : Table → (ℕ → Coded) → (ℕ → ℕ → ℕ) → ℕ → Part → ℕ → Option NodeId → ℕ → RowKind → Type 0
+KindFits t coded source n part off root place (Shared k o) = PartLeads t n k.0 o part off × RopeLeads t n k.0 o root place
+KindFits t coded source n part off root place Leaf = (d : Description) × PartHasDescription t coded n part off d × RopeHasDescription t coded n root place d
+KindFits t coded source n part off root place Bytes = (n ≤ bytes_limit) × (text source (take n (drop off (part_cells t part))) ≡ text source (take n (drop place (rope_cells t root))))
 
 -- a row that stands at place is not empty, lies inside one part and inside the root, and fits by its kind
-pub record Fits (t : Table) (parts : List Part) (root : Option NodeId) (place : ℕ) (row : Row) : Type 0 where
+pub record Fits (t : Table) (coded : ℕ → Coded) (source : ℕ → ℕ → ℕ) (parts : List Part) (root : Option NodeId) (place : ℕ) (row : Row) : Type 0 where
   pub part : Part
   pub off : ℕ
   pub at_part : part_at parts place ≡ Some (part, off)
   pub not_empty : 1 ≤ row.len
   pub inside_part : off + row.len ≤ part_len part
   pub inside_root : place + row.len ≤ rope_len t root
-  pub kind : KindFits t row.len part off root place row.kind
+  pub kind : KindFits t coded source row.len part off root place row.kind
 
-pub record Covers (t : Table) (parts : List Part) (root : Option NodeId) (rows : List Row) : Type 0 where
-  pub fit : (j : ℕ) → j < length rows → Fits t parts root (place_of rows j) (row_at rows j)
+pub record Covers (t : Table) (coded : ℕ → Coded) (source : ℕ → ℕ → ℕ) (parts : List Part) (root : Option NodeId) (rows : List Row) : Type 0 where
+  pub fit : (j : ℕ) → j < length rows → Fits t coded source parts root (place_of rows j) (row_at rows j)
   pub whole_root : rows_len rows ≡ rope_len t root
   pub whole_parts : rows_len rows ≡ parts_len parts
 
+-- whatever bytes the sources hold
+abbrev pub CoversAlways : Table → (ℕ → Coded) → List Part → Option NodeId → List Row → Type 0
+CoversAlways t coded parts root rows = (source : ℕ → ℕ → ℕ) → Covers t coded source parts root rows
+
 -- j is the first row that does not fit, or the number of rows where they leave something uncovered
-pub record IsFirstBad (t : Table) (parts : List Part) (root : Option NodeId) (rows : List Row) (j : ℕ) : Type 0 where
-  pub before : (i : ℕ) → i < j → Fits t parts root (place_of rows i) (row_at rows i)
+pub record IsFirstBad (t : Table) (coded : ℕ → Coded) (source : ℕ → ℕ → ℕ) (parts : List Part) (root : Option NodeId) (rows : List Row) (j : ℕ) : Type 0 where
+  pub before : (i : ℕ) → i < j → Fits t coded source parts root (place_of rows i) (row_at rows i)
   pub at_most : j ≤ length rows
-  pub unfit : j < length rows → ¬ Fits t parts root (place_of rows j) (row_at rows j)
+  pub unfit : j < length rows → ¬ Fits t coded source parts root (place_of rows j) (row_at rows j)
   pub uncovered : j ≡ length rows → ¬ ((rows_len rows ≡ rope_len t root) × (rows_len rows ≡ parts_len parts))
+
+-- the cells that a row compares: if it is one of bytes those of both sides, and else none
+abbrev pub compared : RowKind → List Cell → List Cell → List Cell
+compared (Shared k o) cells others = []
+compared Leaf cells others = []
+compared Bytes cells others = cells ++ others
+
+-- for a row of the part from off on, and for one that stands at place of the parts joined
+abbrev pub kind_compares : Table → Part → ℕ → Option NodeId → ℕ → Row → List Cell
+kind_compares t part off root place row = compared row.kind (take row.len (drop off (part_cells t part))) (take row.len (drop place (rope_cells t root)))
+
+abbrev pub row_compares : Table → List Part → Option NodeId → ℕ → Row → List Cell
+row_compares t parts root place row = compared row.kind (take row.len (drop place (parts_cells t parts))) (take row.len (drop place (rope_cells t root)))
+
+-- each row compares only such cells
+abbrev pub ComparesOnly : (Cell → Type 0) → Table → List Part → Option NodeId → List Row → Type 0
+ComparesOnly P t parts root rows = (j : ℕ) → j < length rows → All P (row_compares t parts root (place_of rows j) (row_at rows j))
+
+-- a cell that is a byte, and no place of a source
+abbrev pub IsByte : Cell → Type 0
+IsByte (Byte b) = Unit {0}
+IsByte (Place s p) = ⊥
+
+-- no row of bytes stands over a source, in the parts or in the root
+abbrev pub MeetsNoSource : Table → List Part → Option NodeId → List Row → Type 0
+MeetsNoSource t parts root rows = ComparesOnly IsByte t parts root rows
+
+-- rows for the first bytes of the parts and of the root, over any sources
+pub record AreMade (t : Table) (coded : ℕ → Coded) (parts : List Part) (root : Option NodeId) (rows : List Row) : Type 0 where
+  pub fit : (source : ℕ → ℕ → ℕ) (j : ℕ) → j < length rows → Fits t coded source parts root (place_of rows j) (row_at rows j)
+  pub no_source : MeetsNoSource t parts root rows
+  pub in_root : rows_len rows ≤ rope_len t root
+
+-- the most rows of an image
+abbrev pub rows_limit : ℕ
+rows_limit = 2 ^ 24
+
+-- as many rows as there may be, and text is left
+abbrev pub IsCutShort : Table → (ℕ → Coded) → List Part → Option NodeId → Type 0
+IsCutShort t coded parts root = (rows : List Row) × AreMade t coded parts root rows × (length rows ≡ rows_limit) × (rows_len rows < rope_len t root)

@@ -1,13 +1,11 @@
 //! What a span of a leaf is, told apart from the leaf.
 
-ghost use Rattle.std.specs.Prelude.{◌≡◌, ◌+◌, ◌<◌, ◌≤◌, ◌^◌, ◌↔◌, length, Some, IsTrue};
-ghost use Rattle.rope_node.specs.Table.{len_at};
-ghost use Rattle.rope_node.specs.Denotes.{rope_len, IsRope};
-ghost use Rattle.span_certificate.specs.Leads.{leaf_place, leaf_description, HasDescription, RopeHasDescription};
-ghost use Rattle.span_certificate.specs.declared.describe.Description.{Description};
+ghost use Rattle.std.specs.Prelude.{◌≡◌, ◌+◌, ◌<◌, ◌≤◌, ◌^◌, ◌↔◌, length, IfSome, IsTrue};
+ghost use Rattle.rope_node.specs.Table.{view_at, len_at};
+ghost use Rattle.span_certificate.specs.Leads.{coded_description, leaf_description, Describes};
 
-use crate::descent::leaf_span;
-use rope_node::{NodeId, NodeSpace, NodeView, Rope};
+use function_leaf::{Coded, LeafFn};
+use rope_node::{CodedSpace, NodeId, NodeView};
 
 /// Two leaf spans of one length and one description have the same bytes.
 #[derive(Clone, Copy, Debug, PartialEq, Eq)]
@@ -16,6 +14,9 @@ pub enum Description {
     Pooled { a: u64 },
     /// The bytes of source `s` from `a` on.
     Sourced { s: u32, a: u64 },
+    /// The bytes of a function from its place `i` on: a fill and a ramp from 0 on, the ramp beginning with the span's first byte, and a
+    /// cycle from a place inside its pattern on.
+    Computed { f: Coded, i: u64 },
 }
 
 impl Description {
@@ -27,55 +28,41 @@ impl Description {
             (Description::Pooled { a }, Description::Pooled { a: b }) => a == b,
             (Description::Sourced { s, a }, Description::Sourced { s: r, a: b }) => s == r
                 && a == b,
+            (Description::Computed { f, i }, Description::Computed { f: g, i: j }) => f.is_same(&g)
+                && i == j,
             _ => false,
         }
     }
 }
 
-/// What the span of a leaf from `start` on is.
-fn describe_leaf(view: NodeView, start: u64) -> Option<Description>
-    requires { leaf_place view + start < 2 ^ 64 }
-    ensures { result ≡ leaf_description start view }
+/// What a function is from its place `start` on.
+fn describe_function(f: Coded, start: u64) -> Description
+    ensures { result ≡ coded_description start f }
 {
-    match view {
+    match f {
+        Coded::Fill(_) => Description::Computed { f, i: 0 },
+        Coded::Ramp(_) => Description::Computed {
+            f: Coded::ramp(f.byte(start)),
+            i: 0,
+        },
+        Coded::Cycle(pattern) => Description::Computed {
+            f,
+            i: start % pattern.as_slice().len() as u64,
+        },
+    }
+}
+
+/// What the span of a leaf from `start` on is; of no leaf, nothing.
+pub fn describe_leaf<S: CodedSpace>(space: &S, leaf: NodeId, start: u64) -> Option<Description>
+    requires there { leaf.0 < length (S.NodeSpace.table space.now).nodes }
+    requires inside { start ≤ len_at (S.NodeSpace.table space.now) leaf.0 }
+    ensures value { result ≡ leaf_description (S.coded space.now leaf.0) start (view_at (S.NodeSpace.table space.now) leaf.0) }
+    ensures describes { IfSome result (Describes (S.NodeSpace.table space.now) leaf.0 start) }
+{
+    match space.node(leaf) {
         NodeView::Lit { a } => Some(Description::Pooled { a: a + start }),
         NodeView::Src { s, a } => Some(Description::Sourced { s, a: a + start }),
-        _ => None,
-    }
-}
-
-/// The description of the leaf span that the `len` bytes of `node` from `place` on lead to, or nothing where they lead to none.
-pub fn describe_node<S: NodeSpace>(
-    space: &S,
-    node: NodeId,
-    place: u64,
-    len: u64,
-) -> Option<Description>
-    requires there { node.0 < length (S.table space.now).nodes }
-    requires not_empty { 1 ≤ len }
-    requires inside { place + len ≤ len_at (S.table space.now) node.0 }
-    ensures { (d : Description) → (result ≡ Some d) ↔ HasDescription (S.table space.now) len node.0 place d }
-{
-    match leaf_span(space, node, place, len) {
-        None => None,
-        Some(span) => describe_leaf(space.node(span.leaf), span.start),
-    }
-}
-
-/// The same of a rope.
-pub fn describe_rope<S: NodeSpace>(
-    space: &S,
-    root: Rope,
-    place: u64,
-    len: u64,
-) -> Option<Description>
-    requires there { IsRope (S.table space.now) root }
-    requires not_empty { 1 ≤ len }
-    requires inside { place + len ≤ rope_len (S.table space.now) root }
-    ensures { (d : Description) → (result ≡ Some d) ↔ RopeHasDescription (S.table space.now) len root place d }
-{
-    match root {
-        None => None,
-        Some(node) => describe_node(space, node, place, len),
+        NodeView::Fun => Some(describe_function(space.coded(leaf), start)),
+        NodeView::Cat { .. } | NodeView::Sub { .. } => None,
     }
 }

@@ -1,18 +1,25 @@
 //! The parts of which a command makes its text.
 
-ghost use Rattle.std.specs.Prelude.{◌≡◌, ◌<◌, ◌≤◌, ◌^◌, [], ◌∷◌, ◌++◌, length};
-ghost use Rattle.span_certificate.specs.Parts.{part_len, part_end, parts_of};
-ghost use Rattle.span_certificate.specs.Leads.{part_description};
+ghost use Rattle.std.specs.Prelude.{◌≡◌, ◌+◌, ◌<◌, ◌≤◌, [], ◌∷◌, ◌++◌, length, filter, nat_lt};
+ghost use Rattle.rope_node.specs.Denotes.{rope_len, IsRope};
+ghost use Rattle.span_certificate.specs.Parts.{part_len, part_at, parts_of, front, rest, whole, IsInRange, AreRopes, AreParts};
 
-use crate::describe::Description;
 use crate::edit::Edit;
+use crate::roots::Roots;
+use rope_node::{NodeSpace, Rope, rope_len};
 use std::marker::Model;
 
 /// A piece of a command's text.
 #[derive(Clone, Copy, Debug, PartialEq, Eq)]
 pub enum Part {
+    /// The `n` bytes of an earlier text from `i` on.
+    Old { rope: Rope, i: u64, n: u64 },
     /// The `n` bytes of the pool from `a` on.
     Pool { a: u64, n: u64 },
+    /// The first `n` bytes of source `s`.
+    Source { s: u32, n: u64 },
+    /// `n` bytes `c`.
+    Fill { c: u8, n: u64 },
 }
 
 impl Part {
@@ -21,23 +28,29 @@ impl Part {
         ensures { result ≡ part_len self }
     {
         match self {
-            Part::Pool { a: _, n } => n,
-        }
-    }
-
-    /// What the bytes from `off` on are.
-    pub fn description(self, off: u64) -> Option<Description>
-        requires inside { off ≤ part_len self }
-        requires short { part_end self < 2 ^ 64 }
-        ensures { result ≡ part_description off self }
-    {
-        match self {
-            Part::Pool { a, n: _ } => Some(Description::Pooled { a: a + off }),
+            Part::Old { n, .. }
+            | Part::Pool { n, .. }
+            | Part::Source { n, .. }
+            | Part::Fill { n, .. } => n,
         }
     }
 }
 
-/// The parts of a command in their order, at most three.
+/// The part that holds a place of the parts joined, and the place inside it.
+pub fn part_at(parts: &[Part], place: u64) -> Option<(Part, u64)>
+    ensures { result ≡ part_at parts.now place }
+{
+    let mut off = place;
+    for part in parts {
+        if off < part.len() {
+            return Some((*part, off));
+        }
+        off -= part.len();
+    }
+    None
+}
+
+/// The parts of a command in their order, at most three, none of them empty.
 #[derive(Drop)]
 pub struct Parts {
     parts: [Part; 3],
@@ -56,14 +69,65 @@ impl Model for Parts {
 }
 
 impl Parts {
-    /// The parts of which a command on an empty text makes its text. A command in range inserts one byte or more, so none is empty.
-    pub fn of(edit: &Edit) -> Parts
-        ensures { result ≡ parts_of edit.now }
+    /// The parts of a command in range.
+    pub fn of<S: NodeSpace, R: Roots>(space: &S, roots: &R, edit: &Edit) -> Parts
+        requires ropes { AreRopes (S.table space.now) (R.roots roots.now) }
+        requires in_range { IsInRange (S.table space.now) (R.roots roots.now) edit.now }
+        ensures exact { result ≡ parts_of (S.table space.now) (R.roots roots.now) edit.now }
+        ensures are_parts { AreParts (S.table space.now) result }
     {
         let mut parts = Parts::new();
         match *edit {
             Edit::New => {}
-            Edit::Insert { r: _, p: _, a, n } => parts.push(Part::Pool { a, n }),
+            Edit::Open { s } => parts.push(Part::Source {
+                s,
+                n: space.source_len(s),
+            }),
+            Edit::Insert { r, p, a, n } => {
+                let rope = roots.root(r);
+                parts.push(front(rope, p));
+                parts.push(Part::Pool { a, n });
+                parts.push(rest(space, rope, p, 0));
+            }
+            Edit::Delete { r, p, n } => {
+                let rope = roots.root(r);
+                parts.push(front(rope, p));
+                parts.push(rest(space, rope, p, n));
+            }
+            Edit::Replace { r, p, m, a, n } => {
+                let rope = roots.root(r);
+                parts.push(front(rope, p));
+                parts.push(Part::Pool { a, n });
+                parts.push(rest(space, rope, p, m));
+            }
+            Edit::Paste { r, p, q, i, n } => {
+                let rope = roots.root(r);
+                parts.push(front(rope, p));
+                parts.push(Part::Old {
+                    rope: roots.root(q),
+                    i,
+                    n,
+                });
+                parts.push(rest(space, rope, p, 0));
+            }
+            Edit::Join { r, q } => {
+                parts.push(whole(space, roots.root(r)));
+                parts.push(whole(space, roots.root(q)));
+            }
+            Edit::Cut { r, i, n } => parts.push(Part::Old {
+                rope: roots.root(r),
+                i,
+                n,
+            }),
+            Edit::Fill { r, p, c, n } => {
+                let rope = roots.root(r);
+                parts.push(front(rope, p));
+                parts.push(Part::Fill { c: c as u8, n });
+                parts.push(rest(space, rope, p, 0));
+            }
+            Edit::Back { r } | Edit::Balance { r } => {
+                parts.push(whole(space, roots.root(r)));
+            }
         }
         parts
     }
@@ -78,13 +142,15 @@ impl Parts {
         }
     }
 
-    /// Puts a part at the end.
+    /// Puts a part at the end, where it is not empty.
     fn push(&mut self, part: Part)
         requires { length self.old < 3 }
-        ensures { self.new ≡ self.old ++ part ∷ [] }
+        ensures { self.new ≡ self.old ++ filter (λ p. nat_lt 0 (part_len p)) (part ∷ []) }
     {
-        self.parts[self.count] = part;
-        self.count += 1;
+        if part.len() > 0 {
+            self.parts[self.count] = part;
+            self.count += 1;
+        }
     }
 
     /// The parts as a slice.
@@ -92,5 +158,38 @@ impl Parts {
         ensures { result.now ≡ self.now }
     {
         &self.parts[..self.count]
+    }
+}
+
+/// A rope up to place `p`.
+fn front(rope: Rope, p: u64) -> Part
+    ensures { result ≡ front rope p }
+{
+    Part::Old { rope, i: 0, n: p }
+}
+
+/// A rope from the end of its `m` bytes at place `p` on.
+fn rest<S: NodeSpace>(space: &S, rope: Rope, p: u64, m: u64) -> Part
+    requires there { IsRope (S.table space.now) rope }
+    requires inside { p + m ≤ rope_len (S.table space.now) rope }
+    ensures { result ≡ rest (S.table space.now) rope (p + m) }
+{
+    let len = rope_len(space, rope);
+    Part::Old {
+        rope,
+        i: p + m,
+        n: len - (p + m),
+    }
+}
+
+/// The whole of a rope.
+fn whole<S: NodeSpace>(space: &S, rope: Rope) -> Part
+    requires { IsRope (S.table space.now) rope }
+    ensures { result ≡ whole (S.table space.now) rope }
+{
+    Part::Old {
+        rope,
+        i: 0,
+        n: rope_len(space, rope),
     }
 }

@@ -3,6 +3,8 @@
 ghost use Rattle.std.specs.Prelude.{◌≡◌, ◌<◌, List, length, slice_get, Some};
 ghost use Rattle.span_certificate.specs.declared.row.Row.{Row};
 
+use rope_node::NodeId;
+
 /// A row says of its next `len` bytes why they are the same in the parts and in the root.
 #[derive(Clone, Copy, Debug, PartialEq, Eq)]
 pub struct Row {
@@ -13,8 +15,12 @@ pub struct Row {
 /// Why the bytes of a row are the same on both sides.
 #[derive(Clone, Copy, Debug, PartialEq, Eq)]
 pub enum RowKind {
+    /// Both lead to this node, to its bytes from this place on.
+    Shared(NodeId, u64),
     /// Both lie in one leaf, and the two leaf spans have one description.
     Leaf,
+    /// They are at most 4,096, and equal.
+    Bytes,
 }
 
 /// The rows of one revision, by their places.

@@ -1,17 +1,26 @@
-use Rattle.std.proofs.Common.{arith}
-use Rattle.std.proofs.Common.{◌≡◌, length}
-use Rattle.span_certificate.proofs.Verdicts.{covered_to_more, whole_covered, answer_good}
+use Rattle.std.proofs.Common.{◌<◌, length, arith}
+use Rattle.lazy_file.proofs.LaterReads.{reads_then}
+use Rattle.span_certificate.proofs.Verdicts.{verifying_more, answers_unfit, verdict_failed}
 use Rattle.span_certificate.proofs.cover.verify.Goals as goal
+
+pub returns-in-Err-clause-reads : goal.returns-in-Err-clause-reads
+returns-in-Err-clause-reads g c =
+    let lt : c.loop-j.j < length (g.R.Rows.listed c.args.rows.now) = omega (arith, c.count-j-end.ensures) in
+    verdict_failed g.T.Sources.stated g.T.Sources.failures c.args.sources.now c.loop-j.sources c.row_fits.new.sources (g.S.NodeSpace.table c.args.space.now) (g.S.CodedSpace.coded c.args.space.now)
+    c.args.parts.now c.args.root (g.R.Rows.listed c.args.rows.now) c.loop-j.j c.loop-j.place c.row-row.result c.in-Err.fault
+    lt c.row-row.ensures c.loop-j.invariant.verifying c.loop-j.invariant.reads c.in-Err.ensures.reads
+
+pub returns-in-Ok-false-clause-exact : goal.returns-in-Ok-false-clause-exact
+returns-in-Ok-false-clause-exact g c =
+    let lt : c.loop-j.j < length (g.R.Rows.listed c.args.rows.now) = omega (arith, c.count-j-end.ensures) in
+    answers_unfit (g.S.NodeSpace.table c.args.space.now) (g.S.CodedSpace.coded c.args.space.now) (g.T.Sources.stated c.args.sources.now) c.args.parts.now c.args.root (g.R.Rows.listed c.args.rows.now) c.loop-j.j c.loop-j.place c.row-row.result
+    lt c.row-row.ensures c.loop-j.invariant.verifying (rw (c.loop-j.invariant.reads.same, c.in-Ok-false.field-0-test) at c.in-Ok-false.ensures.fits)
 
 pub loop-j-preserved : goal.loop-j-preserved
 loop-j-preserved g c =
-    covered_to_more (g.S.NodeSpace.table c.args.space.now) c.args.parts.now c.args.root (g.R.Rows.listed c.args.rows.now) c.loop-j.j c.loop-j.place c.row-row.result
-    c.requires.parts (omega (arith, c.count-j-end.ensures)) c.loop-j.invariant c.row-row.ensures (c.row_fits.ensures.0 c.if-not-row_fits.false)
-
-pub returns-then-is_whole-clause-same : goal.returns-then-is_whole-clause-same
-returns-then-is_whole-clause-same g c =
-    let t = g.S.NodeSpace.table c.args.space.now in
-    let rows = g.R.Rows.listed c.args.rows.now in
-    let end : c.loop-j.j ≡ length rows = omega (arith, c.count-j-end.ensures) in
-    (answer_good t c.count-nodes.ensures.sound c.count-nodes.ensures.true_records c.args.parts.now c.args.root rows c.requires.parts c.requires.root
-    (whole_covered t c.args.parts.now c.args.root rows c.loop-j.j c.loop-j.place end c.loop-j.invariant (c.is_whole.ensures.0 c.if-is_whole.true))).same
+    let lt : c.loop-j.j < length (g.R.Rows.listed c.args.rows.now) = omega (arith, c.count-j-end.ensures) in
+    record {
+      verifying = verifying_more (g.S.NodeSpace.table c.args.space.now) (g.S.CodedSpace.coded c.args.space.now) (g.T.Sources.stated c.args.sources.now) c.args.parts.now c.args.root (g.R.Rows.listed c.args.rows.now) c.loop-j.j c.loop-j.place c.row-row.result
+          lt c.row-row.ensures c.loop-j.invariant.verifying (rw (c.loop-j.invariant.reads.same, c.in-Ok-true.field-0-test) at c.in-Ok-true.ensures.fits) (c.in-Ok-true.ensures.inside c.in-Ok-true.field-0-test);
+      reads = reads_then c.loop-j.invariant.reads c.row_fits.ensures.reads.reads;
+    }

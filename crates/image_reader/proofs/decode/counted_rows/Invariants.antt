@@ -1,0 +1,5 @@
+use Rattle.image_reader.proofs.Counting.{IsCountedTo}
+use Rattle.image_reader.proofs.decode.counted_rows.Given as goal
+
+abbrev pub invariant-loop : goal.invariant-loop
+invariant-loop l = IsCountedTo l.count l.counter l.rest l.bytes l.sum

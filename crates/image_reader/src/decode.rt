@@ -1,0 +1,83 @@
+//! What single records of sources, revisions and rows say.
+
+ghost use Rattle.std.specs.Prelude.{◌≡◌, ◌+◌, ◌*◌, ◌≤◌, ◌<◌, ◌^◌, length};
+ghost use Rattle.std.specs.Int.{w8, w32, w64};
+ghost use Rattle.image_reader.specs.Layout.{number_in};
+ghost use Rattle.image_reader.specs.Reading.{source_of, root_of, revision_of, row_kind_of, row_of, counted_rows};
+
+use crate::command::{edit_by, numbers_in};
+use crate::number::{u8_in, u32_in, u64_in};
+use crate::revision::Revision;
+use rope_node::{NodeId, Rope};
+use span_certificate::{Row, RowKind};
+
+/// The length of a source.
+#[tactic(auto, unfolding(crate::specs::Reading::source_of))]
+pub fn source_in(bytes: &[u8]) -> u64
+    requires { length bytes.now ≡ 8 }
+    ensures { result ≡ source_of bytes.now }
+{
+    u64_in(bytes, 0)
+}
+
+fn root_in(number: u32) -> Rope
+    ensures { result ≡ root_of number }
+{
+    if number == u32::MAX {
+        None
+    } else {
+        Some(NodeId(number))
+    }
+}
+
+/// What a revision is.
+#[tactic(auto, unfolding(crate::specs::Reading::revision_of))]
+pub fn revision_in(bytes: &[u8]) -> Revision
+    requires { length bytes.now ≡ 56 }
+    ensures { result ≡ revision_of bytes.now }
+{
+    Revision {
+        edit: edit_by(u8_in(bytes, 0), numbers_in(bytes)),
+        mark: u8_in(bytes, 1) == 1,
+        root: root_in(u32_in(bytes, 4)),
+        rows: u32_in(bytes, 48),
+    }
+}
+
+fn row_kind_in(bytes: &[u8]) -> RowKind
+    requires { length bytes.now ≡ 24 }
+    ensures { result ≡ row_kind_of bytes.now }
+{
+    match u8_in(bytes, 0) {
+        1 => RowKind::Shared(NodeId(u32_in(bytes, 4)), u64_in(bytes, 16)),
+        2 => RowKind::Leaf,
+        _ => RowKind::Bytes,
+    }
+}
+
+/// What a row is.
+#[tactic(auto, unfolding(crate::specs::Reading::row_of))]
+pub fn row_in(bytes: &[u8]) -> Row
+    requires { length bytes.now ≡ 24 }
+    ensures { result ≡ row_of bytes.now }
+{
+    Row {
+        len: u64_in(bytes, 8),
+        kind: row_kind_in(bytes),
+    }
+}
+
+/// The rows that `count` revisions have in all.
+pub fn counted_rows(count: u32, bytes: &[u8]) -> u64
+    requires { 56 * count ≤ length bytes.now }
+    ensures { result ≡ counted_rows count bytes.now }
+{
+    let mut rest = bytes;
+    let mut sum: u64 = 0;
+    for _ in 0..count {
+        let (front, after) = rest.split_at(56);
+        sum += u32_in(front, 48) as u64;
+        rest = after;
+    }
+    sum
+}

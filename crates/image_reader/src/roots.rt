@@ -1,0 +1,28 @@
+//! The roots of the revisions before one.
+
+ghost use Rattle.std.specs.Prelude.{◌≡◌, ◌<◌, ◌≤◌, length};
+ghost use Rattle.image_reader.specs.Accepted.{roots_before};
+
+use crate::image::Image;
+use rope_node::Rope;
+use span_certificate::Roots;
+
+/// The roots of an image's revisions before revision `k`.
+#[derive(Drop)]
+pub struct EarlierRoots<'i, 'a> {
+    pub image: &'i Image<'a>,
+    pub k: u32,
+    ghost inside: { k ≤ length image.now.revisions },
+}
+
+impl Roots for EarlierRoots<'_, '_> {
+    ghost roots = { λ r. roots_before r.image.now r.k };
+
+    fn count(&self) -> u32 {
+        self.k
+    }
+
+    fn root(&self, r: u32) -> Rope {
+        self.image.revision(r).root
+    }
+}

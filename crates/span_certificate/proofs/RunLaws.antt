@@ -1,0 +1,211 @@
+-- Runs of parts, and the bytes of descriptions.
+use Rattle.std.proofs.Common.{◌≡◌, ℕ, zero, suc, ◌+◌, ◌-◌, ◌^◌, ◌<◌, ◌≤◌, List, ◌∷◌, ◌++◌, map, take, drop, Some, refl, sym, ap, subst, ◌∙◌, arith, min}
+use Rattle.std.specs.Prelude.{replicate, ◌↔◌, Bool, true, false, IsTrue, Err}
+use Rattle.std.specs.List.{range_with_len}
+use Rattle.std.proofs.lemmas.List.{take-replicate, drop-replicate, drop-drop, map-append}
+use Rattle.std.proofs.Math.Seq.{take-add}
+use Rattle.function_leaf.specs.declared.coded.Coded.{Coded}
+use Rattle.function_leaf.specs.declared.coded.Coded.TheVariants as Function
+use Rattle.function_leaf.specs.Coded.{coded_byte}
+use Rattle.rope_node.specs.declared.node.NodeId.{NodeId}
+use Rattle.rope_node.specs.Table.{Table, IsSound, HasTrueRecords}
+use Rattle.rope_node.specs.Denotes.{Cell, Byte, Place, cells, cell_byte, text}
+use Rattle.rope_node.proofs.Parts.{span_within, span-map, span-range_with_len}
+use Rattle.lazy_file.specs.SourceTexts.{Agrees, Reads, Stated}
+use Rattle.cord_position.specs.Fetched.{AreStated, IsStated}
+use Rattle.lazy_file.specs.declared.faults.SourceFault.{SourceFault}
+use Rattle.span_certificate.specs.declared.bytes.Run.{Run}
+use Rattle.cord_position.specs.Runs.{AreBytesOf}
+use Rattle.cord_position.proofs.LeafParts.{bytes_of_bytes, bytes_of_map}
+use Rattle.span_certificate.specs.declared.describe.Description.{Description}
+use Rattle.span_certificate.specs.declared.describe.Description.TheVariants.{Pooled, Sourced, Computed}
+use Rattle.span_certificate.specs.declared.part.Part.{Part}
+use Rattle.span_certificate.specs.declared.part.Part.TheVariants.{Old, Pool, Source, Fill}
+use Rattle.span_certificate.specs.declared.walk.Span.{Span}
+use Rattle.span_certificate.specs.Parts.{part_len, part_cells, IsPart}
+use Rattle.span_certificate.specs.Leads.{described_cells, Describes}
+use Rattle.span_certificate.specs.Steps.{IsReached}
+use Rattle.span_certificate.specs.Runs.{IsRunOf, ReadsCells, TellsSame}
+use Rattle.span_certificate.proofs.ComparedCells.{AreAmong, among_first, among_second, among_span, among_through, among_both, all_among, failed_among}
+use Rattle.span_certificate.proofs.Cells.{leads_cells}
+use Rattle.span_certificate.proofs.NextRows.{fewer_same}
+
+pub old_run : (t : Table) → IsSound t → HasTrueRecords t → (part : Part) (node : NodeId) (i m off left : ℕ) (z : Span) (what : Description) → part ≡ Old (Some node) i m → IsPart t part → 1 ≤ left → off + left ≤ part_len part
+    → IsReached t (record { node = node; start = i + off; len = left }) z → Describes t z.node.0 z.start what → IsRunOf t part off left (record { what = what; len = z.len })
+old_run t s h part node i m off left z what is is_part some fits reached d =
+    let held : IsPart t (Old (Some node) i m) = subst (IsPart t) is is_part in
+    let fits' : off + left ≤ m = rw is at fits in
+    let same = leads_cells t s h reached.is_span.some reached.leads held.1.0 (omega (arith, held.1.1, fits', reached.few)) in
+    record {
+      some = reached.is_span.some;
+      few = reached.few;
+      cells = λ n le.
+          rw is (span_within n off m i (cells t node.0) (omega (arith, le, reached.few, fits')) ∙ ap (λ (j : ℕ). take n (drop j (cells t node.0))) (omega arith)
+          ∙ fewer_same n z.len (i + off) z.start (cells t node.0) (cells t z.node.0) le same
+          ∙ d.cells n (omega (arith, le, reached.is_span.inside)));
+      room = λ n le. d.room n (omega (arith, le, reached.is_span.inside));
+    }
+
+pub pool_run : (t : Table) → IsSound t → (part : Part) (a m off left : ℕ) → part ≡ Pool a m → IsPart t part → 1 ≤ left → off + left ≤ part_len part → IsRunOf t part off left (record { what = Pooled (a + off); len = left })
+pool_run t s part a m off left is is_part some fits =
+    let held : IsPart t (Pool a m) = subst (IsPart t) is is_part in
+    let fits' : off + left ≤ m = rw is at fits in
+    record {
+      some = some;
+      few = omega arith;
+      cells = λ n le. rw is (span-map Byte n off (take m (drop a t.pool)) ∙ ap (map Byte) (span_within n off m a t.pool (omega (arith, le, fits')) ∙ ap (λ (j : ℕ). take n (drop j t.pool)) (omega arith)));
+      room = λ n le. omega (arith, held.1, le, fits');
+    }
+
+pub source_run : (t : Table) → IsSound t → (part : Part) (r m off left : ℕ) → part ≡ Source r m → IsPart t part → 1 ≤ left → off + left ≤ part_len part → IsRunOf t part off left (record { what = Sourced r off; len = left })
+source_run t s part r m off left is is_part some fits =
+    let held : IsPart t (Source r m) = subst (IsPart t) is is_part in
+    let fits' : off + left ≤ m = rw is at fits in
+    record {
+      some = some;
+      few = omega arith;
+      cells = λ n le. rw is (span-map (Place r) n off (range_with_len 0 m) ∙ ap (map (Place r)) (span-range_with_len n off 0 m (omega (arith, le, fits')) ∙ ap (λ (j : ℕ). range_with_len j n) (omega arith)));
+      room = λ n le. omega (arith, held.1.1, s.sources r, le, fits');
+    }
+
+constant : (y : Cell) (n a : ℕ) → replicate n y ≡ map (λ k. y) (range_with_len a n)
+constant y zero a = refl
+constant y (suc n) a = ap (λ l. y ∷ l) (constant y n (a + 1))
+
+pub fill_cells : (t : Table) (c m off n : ℕ) → off + n ≤ m → take n (drop off (part_cells t (Fill c m))) ≡ described_cells t n (Computed (Function.Fill c) 0)
+fill_cells t c m off n fits = ap (take n) (drop-replicate off m (Byte c)) ∙ take-replicate n (m - off) (Byte c) (omega arith) ∙ constant (Byte c) n 0
+
+pub fill_run : (t : Table) (part : Part) (c m off left : ℕ) → left < 2 ^ 64 → part ≡ Fill c m → 1 ≤ left → off + left ≤ part_len part → IsRunOf t part off left (record { what = Computed (Function.Fill c) 0; len = left })
+fill_run t part c m off left short is some fits =
+    let fits' : off + left ≤ m = rw is at fits in
+    record {
+      some = some;
+      few = omega arith;
+      cells = λ n le. rw is (fill_cells t c m off n (omega (arith, le, fits')));
+      room = λ n le. omega (arith, le, short);
+    }
+
+pub pooled_bytes : (t : Table) (st : Stated) (n a : ℕ) (what : Description) (bytes : List ℕ) → what ≡ Pooled a → bytes ≡ take n (drop a t.pool) → AreBytesOf st (described_cells t n what) bytes
+pooled_bytes t st n a what bytes is e = rw (is, e) (bytes_of_bytes st (take n (drop a t.pool)))
+
+pub computed_bytes : (t : Table) (st : Stated) (n i : ℕ) (f : Coded) (what : Description) (bytes : List ℕ) → what ≡ Computed f i → bytes ≡ map (coded_byte f) (range_with_len i n) → AreBytesOf st (described_cells t n what) bytes
+computed_bytes t st n i f what bytes is e = rw (is, e) (bytes_of_map st (coded_byte f) (range_with_len i n))
+
+pub tells_same : (st : Stated) (cells others : List Cell) (bytes more : List ℕ) (answer : Bool) → (IsTrue answer ↔ (bytes ≡ more)) → AreBytesOf st cells bytes → AreBytesOf st others more → TellsSame st cells others answer
+tells_same st cells others bytes more answer e of_bytes of_more source agrees stated =
+    let first = of_bytes source agrees (all_among (IsStated st) cells (cells ++ others) (among_first cells others) stated) in
+    let second = of_more source agrees (all_among (IsStated st) others (cells ++ others) (among_second cells others) stated) in
+    (λ yes. sym first ∙ e.0 yes ∙ second, λ same. e.1 (first ∙ same ∙ sym second))
+
+-- where the first of two reads failed, and where the second did
+pub first_failed : {T X Y : Type 0} (stated : T → Stated) (failures : T → ℕ) (old new : T) (cells others : List Cell) (e : SourceFault)
+    → ReadsCells {X = X} stated failures old new cells (Err e) → ReadsCells {X = Y} stated failures old new (cells ++ others) (Err e)
+first_failed stated failures old new cells others e h =
+    failed_among stated failures old old new cells (cells ++ others) e (record { same = refl; later = omega arith }) h (among_first cells others)
+
+pub second_failed : {T X Y : Type 0} (stated : T → Stated) (failures : T → ℕ) (old mid new : T) (cells others : List Cell) (e : SourceFault) → Reads stated failures old mid
+    → ReadsCells {X = X} stated failures mid new others (Err e) → ReadsCells {X = Y} stated failures old new (cells ++ others) (Err e)
+second_failed stated failures old mid new cells others e before h = failed_among stated failures old mid new others (cells ++ others) e before h (among_second cells others)
+
+-- the cells that a row compares, and those of one turn
+abbrev pub both_cells : Table → Part → ℕ → Part → ℕ → ℕ → List Cell
+both_cells t part off other place len = take len (drop off (part_cells t part)) ++ take len (drop place (part_cells t other))
+
+abbrev pub turn_cells : Table → Run → Run → ℕ → List Cell
+turn_cells t a b n = described_cells t n a.what ++ described_cells t n b.what
+
+-- the first `done` bytes are the same, whatever bytes the sources have that agree with what they state
+pub record IsComparing (t : Table) (st : Stated) (part : Part) (off : ℕ) (other : Part) (place len done : ℕ) : Type 0 where
+  pub inside : done ≤ len
+  pub same : (source : ℕ → ℕ → ℕ) → Agrees st source → AreStated st (both_cells t part off other place len)
+      → text source (take done (drop off (part_cells t part))) ≡ text source (take done (drop place (part_cells t other)))
+
+-- the runs of one turn, and how many bytes of them are compared
+pub record IsTurn (t : Table) (part : Part) (off : ℕ) (other : Part) (place len done : ℕ) (a b : Run) (n : ℕ) : Type 0 where
+  pub before : done < len
+  pub first : IsRunOf t part (off + done) (len - done) a
+  pub second : IsRunOf t other (place + done) (len - done) b
+  pub some : 1 ≤ n
+  pub few : (n ≤ a.len) × (n ≤ b.len)
+
+pub turn_of : (t : Table) (part : Part) (off : ℕ) (other : Part) (place len done : ℕ) (a b : Run) (n : ℕ) → done < len → IsRunOf t part (off + done) (len - done) a → IsRunOf t other (place + done) (len - done) b → n ≡ min (min a.len b.len) 256
+    → IsTurn t part off other place len done a b n
+turn_of t part off other place len done a b n before first second e = record {
+  before = before;
+  first = first;
+  second = second;
+  some = omega (arith, first.some, second.some);
+  few = (omega arith, omega arith);
+}
+
+-- a run's cells among those of the whole row
+run_cells : (t : Table) (part : Part) (off len done n : ℕ) (a : Run) → done < len → IsRunOf t part (off + done) (len - done) a → n ≤ a.len
+    → take n (drop done (take len (drop off (part_cells t part)))) ≡ described_cells t n a.what
+run_cells t part off len done n a before run le =
+    span_within n done len off (part_cells t part) (omega (arith, run.few)) ∙ ap (λ (j : ℕ). take n (drop j (part_cells t part))) (omega arith) ∙ run.cells n le
+
+-- a turn's cells are among those of the whole row
+turn_among : (t : Table) (part : Part) (off : ℕ) (other : Part) (place len done : ℕ) (a b : Run) (n : ℕ) → IsTurn t part off other place len done a b n
+    → AreAmong (turn_cells t a b n) (both_cells t part off other place len)
+turn_among t part off other place len done a b n turn =
+    let cs = take len (drop off (part_cells t part)) in
+    let ds = take len (drop place (part_cells t other)) in
+    among_both (described_cells t n a.what) (described_cells t n b.what) (cs ++ ds)
+    (among_through (described_cells t n a.what) cs (cs ++ ds) (rw (← run_cells t part off len done n a turn.before turn.first turn.few.0) (among_span n done cs)) (among_first cs ds))
+    (among_through (described_cells t n b.what) ds (cs ++ ds) (rw (← run_cells t other place len done n b turn.before turn.second turn.few.1) (among_span n done ds)) (among_second cs ds))
+
+turn_stated : (t : Table) (st : Stated) (part : Part) (off : ℕ) (other : Part) (place len done : ℕ) (a b : Run) (n : ℕ) → IsTurn t part off other place len done a b n
+    → AreStated st (both_cells t part off other place len) → AreStated st (turn_cells t a b n)
+turn_stated t st part off other place len done a b n turn stated =
+    all_among (IsStated st) (turn_cells t a b n) (both_cells t part off other place len) (turn_among t part off other place len done a b n turn) stated
+
+run_text : (t : Table) (source : ℕ → ℕ → ℕ) (part : Part) (off len done n : ℕ) (a : Run) → done < len → IsRunOf t part (off + done) (len - done) a → n ≤ a.len
+    → text source (take (done + n) (drop off (part_cells t part))) ≡ text source (take done (drop off (part_cells t part))) ++ text source (described_cells t n a.what)
+run_text t source part off len done n a before run le =
+    ap (text source) (take-add done n (drop off (part_cells t part)))
+    ∙ map-append (cell_byte source) (take done (drop off (part_cells t part))) (take n (drop done (drop off (part_cells t part))))
+    ∙ ap (λ cs. text source (take done (drop off (part_cells t part))) ++ text source cs)
+    (ap (take n) (drop-drop done off (part_cells t part)) ∙ ap (λ (j : ℕ). take n (drop j (part_cells t part))) (omega arith) ∙ run.cells n le)
+
+pub comparing_none : (t : Table) (st : Stated) (part : Part) (off : ℕ) (other : Part) (place len : ℕ) → IsComparing t st part off other place len 0
+comparing_none t st part off other place len = record { inside = omega arith; same = λ source agrees stated. refl }
+
+pub comparing_more : (t : Table) (st : Stated) (part : Part) (off : ℕ) (other : Part) (place len done : ℕ) (a b : Run) (n : ℕ) → IsTurn t part off other place len done a b n → IsComparing t st part off other place len done
+    → TellsSame st (described_cells t n a.what) (described_cells t n b.what) true → IsComparing t st part off other place len (done + n)
+comparing_more t st part off other place len done a b n turn so_far tells = record {
+  inside = omega (arith, turn.before, turn.few.0, turn.first.few);
+  same = λ source agrees stated.
+      run_text t source part off len done n a turn.before turn.first turn.few.0
+      ∙ ap (λ bs. bs ++ text source (described_cells t n a.what)) (so_far.same source agrees stated)
+      ∙ ap (λ bs. text source (take done (drop place (part_cells t other))) ++ bs)
+      ((tells source agrees (turn_stated t st part off other place len done a b n turn stated)).0 refl)
+      ∙ sym (run_text t source other place len done n b turn.before turn.second turn.few.1);
+}
+
+pub comparing_ended : (t : Table) (st : Stated) (part : Part) (off : ℕ) (other : Part) (place len done : ℕ) → len ≤ done → IsComparing t st part off other place len done
+    → TellsSame st (take len (drop off (part_cells t part))) (take len (drop place (part_cells t other))) true
+comparing_ended t st part off other place len done past so_far source agrees stated =
+    let end : done ≡ len = omega (arith, so_far.inside) in
+    (λ _. rw end at (so_far.same source agrees stated), λ _. refl)
+
+pub comparing_differs : (t : Table) (st : Stated) (part : Part) (off : ℕ) (other : Part) (place len done : ℕ) (a b : Run) (n : ℕ) → IsTurn t part off other place len done a b n
+    → TellsSame st (described_cells t n a.what) (described_cells t n b.what) false
+    → TellsSame st (take len (drop off (part_cells t part))) (take len (drop place (part_cells t other))) false
+comparing_differs t st part off other place len done a b n turn tells source agrees stated = (
+  λ never. absurd cc,
+  λ same.
+      let run : text source (described_cells t n a.what) ≡ text source (described_cells t n b.what) =
+      ap (text source) (sym (run_cells t part off len done n a turn.before turn.first turn.few.0))
+      ∙ sym (span-map (cell_byte source) n done (take len (drop off (part_cells t part))))
+      ∙ ap (λ bs. take n (drop done bs)) same
+      ∙ span-map (cell_byte source) n done (take len (drop place (part_cells t other)))
+      ∙ ap (text source) (run_cells t other place len done n b turn.before turn.second turn.few.1) in
+      (tells source agrees (turn_stated t st part off other place len done a b n turn stated)).1 run,
+)
+
+-- a turn whose read failed
+pub turn_failed : {T X Y : Type 0} (stated : T → Stated) (failures : T → ℕ) (old mid new : T) (t : Table) (part : Part) (off : ℕ) (other : Part) (place len done : ℕ) (a b : Run) (n : ℕ) (e : SourceFault)
+    → IsTurn t part off other place len done a b n → Reads stated failures old mid → ReadsCells {X = X} stated failures mid new (turn_cells t a b n) (Err e)
+    → ReadsCells {X = Y} stated failures old new (both_cells t part off other place len) (Err e)
+turn_failed stated failures old mid new t part off other place len done a b n e turn before h =
+    failed_among stated failures old mid new (turn_cells t a b n) (both_cells t part off other place len) e before h (turn_among t part off other place len done a b n turn)

@@ -1,0 +1,131 @@
+-- Rows that cover show that both sides have one text; and where no row of bytes is over a source, the same cells.
+use Rattle.std.proofs.Common.{◌≡◌, ℕ, zero, suc, ◌+◌, ◌<◌, ◌≤◌, List, map, length, take, drop, Option, Some, None, refl, sym, ap, ◌∙◌, arith, add-one}
+use Rattle.std.proofs.lemmas.List.{take_all, length-map, map-id}
+use Rattle.std.proofs.lemmas.Simd.{map-map}
+use Rattle.std.proofs.Math.Seq.{take-add}
+use Rattle.function_leaf.specs.declared.coded.Coded.{Coded}
+use Rattle.rope_node.specs.declared.node.NodeId.{NodeId}
+use Rattle.rope_node.specs.Table.{Table, view_at, IsSound, HasTrueRecords}
+use Rattle.rope_node.specs.Denotes.{Cell, Byte, cells, cell_byte, rope_cells, rope_len, IsRope, text}
+use Rattle.rope_node.proofs.Parts.{span_within, span-map}
+use Rattle.span_certificate.specs.declared.describe.Description.{Description}
+use Rattle.span_certificate.specs.declared.part.Part.{Part}
+use Rattle.span_certificate.specs.declared.part.Part.TheVariants.{Old, Pool, Source, Fill}
+use Rattle.span_certificate.specs.declared.row.Row.{Row}
+use Rattle.span_certificate.specs.declared.row.RowKind.{RowKind}
+use Rattle.span_certificate.specs.declared.row.RowKind.TheVariants.{Shared, Leaf, Bytes}
+use Rattle.span_certificate.specs.Parts.{part_len, part_cells, parts_cells, IsPart, AreParts}
+use Rattle.span_certificate.specs.Leads.{RopeLeads, PartLeads, RopeHasDescription, PartHasDescription, described_cells, AreAnswered}
+use Rattle.span_certificate.specs.Covers.{row_at, rows_len, place_of, IsByte, KindFits, Covers, MeetsNoSource}
+use Rattle.span_certificate.specs.Steps.{AreBytes}
+use Rattle.span_certificate.proofs.ComparedCells.{bytes_of_each, compared_all}
+use Rattle.span_certificate.proofs.Cells.{leads_cells, leads_inside}
+use Rattle.span_certificate.proofs.Describing.{leaf_cells}
+use Rattle.span_certificate.proofs.Covering.{holds_place, length-parts_cells, length-rope_cells, place_of_more, place_of_all}
+use Rattle.span_certificate.proofs.RunLaws.{pool_run, source_run, fill_cells}
+
+-- ---- one row
+
+rope_leads_cells : (t : Table) → IsSound t → HasTrueRecords t → (n k o : ℕ) (rope : Option NodeId) (p : ℕ) → 1 ≤ n → IsRope t rope → p + n ≤ rope_len t rope → RopeLeads t n k o rope p → take n (drop p (rope_cells t rope)) ≡ take n (drop o (cells t k))
+rope_leads_cells t s h n k o None p some there inside lead = absurd lead
+rope_leads_cells t s h n k o (Some x) p some there inside lead = leads_cells t s h some lead there inside
+
+rope_described : (t : Table) → IsSound t → HasTrueRecords t → (coded : ℕ → Coded) → AreAnswered t coded → (n : ℕ) (rope : Option NodeId) (p : ℕ) (d : Description) → 1 ≤ n → IsRope t rope → p + n ≤ rope_len t rope → RopeHasDescription t coded n rope p d
+    → take n (drop p (rope_cells t rope)) ≡ described_cells t n d
+rope_described t s h coded answers n None p d some there inside is = absurd is
+rope_described t s h coded answers n (Some x) p d some there inside (k, o, lead, is) =
+    let end = leads_inside t s h some lead.0 there inside in
+    leads_cells t s h some lead.0 there inside ∙ leaf_cells t s (coded k) k o n end.0 end.1 (view_at t k) refl (answers k) d is
+
+-- a span of an old part is one of its rope
+old_cells : (t : Table) (rope : Option NodeId) (i m off n : ℕ) → off + n ≤ m → take n (drop off (part_cells t (Old rope i m))) ≡ take n (drop (i + off) (rope_cells t rope))
+old_cells t rope i m off n fits = span_within n off m i (rope_cells t rope) fits ∙ ap (λ (j : ℕ). take n (drop j (rope_cells t rope))) (omega arith)
+
+part_leads_cells : (t : Table) → IsSound t → HasTrueRecords t → (n k o : ℕ) (part : Part) (off : ℕ) → 1 ≤ n → IsPart t part → off + n ≤ part_len part → PartLeads t n k o part off → take n (drop off (part_cells t part)) ≡ take n (drop o (cells t k))
+part_leads_cells t s h n k o (Old rope i m) off some is fits lead = old_cells t rope i m off n fits ∙ rope_leads_cells t s h n k o rope (i + off) some is.1.0 (omega (arith, is.1.1, fits)) lead
+part_leads_cells t s h n k o (Pool a m) off some is fits lead = absurd lead
+part_leads_cells t s h n k o (Source r m) off some is fits lead = absurd lead
+part_leads_cells t s h n k o (Fill c m) off some is fits lead = absurd lead
+
+part_described : (t : Table) → IsSound t → HasTrueRecords t → (coded : ℕ → Coded) → AreAnswered t coded → (n : ℕ) (part : Part) (off : ℕ) (d : Description) → 1 ≤ n → IsPart t part → off + n ≤ part_len part → PartHasDescription t coded n part off d
+    → take n (drop off (part_cells t part)) ≡ described_cells t n d
+part_described t s h coded answers n (Old rope i m) off d some is fits of_part = old_cells t rope i m off n fits ∙ rope_described t s h coded answers n rope (i + off) d some is.1.0 (omega (arith, is.1.1, fits)) of_part
+part_described t s h coded answers n (Pool a m) off d some is fits of_part = (pool_run t s (Pool a m) a m off n refl is some fits).cells n (omega arith) ∙ ap (described_cells t n) of_part
+part_described t s h coded answers n (Source r m) off d some is fits of_part = (source_run t s (Source r m) r m off n refl is some fits).cells n (omega arith) ∙ ap (described_cells t n) of_part
+part_described t s h coded answers n (Fill c m) off d some is fits of_part = fill_cells t c m off n fits ∙ ap (described_cells t n) of_part
+
+kind_cells : (t : Table) → IsSound t → HasTrueRecords t → (coded : ℕ → Coded) → AreAnswered t coded → (source : ℕ → ℕ → ℕ) (n : ℕ) (part : Part) (off : ℕ) (root : Option NodeId) (place : ℕ) (kind : RowKind)
+    → 1 ≤ n → IsPart t part → off + n ≤ part_len part → IsRope t root → place + n ≤ rope_len t root → (kind ≡ Bytes → take n (drop off (part_cells t part)) ≡ take n (drop place (rope_cells t root)))
+    → KindFits t coded source n part off root place kind → take n (drop off (part_cells t part)) ≡ take n (drop place (rope_cells t root))
+kind_cells t s h coded answers source n part off root place (Shared k o) some is in_part there in_root bytes fits =
+    part_leads_cells t s h n k.0 o part off some is in_part fits.0 ∙ sym (rope_leads_cells t s h n k.0 o root place some there in_root fits.1)
+kind_cells t s h coded answers source n part off root place Leaf some is in_part there in_root bytes (d, of_part, of_root) =
+    part_described t s h coded answers n part off d some is in_part of_part ∙ sym (rope_described t s h coded answers n root place d some there in_root of_root)
+kind_cells t s h coded answers source n part off root place Bytes some is in_part there in_root bytes fits = bytes refl
+
+kind_text : (t : Table) → IsSound t → HasTrueRecords t → (coded : ℕ → Coded) → AreAnswered t coded → (source : ℕ → ℕ → ℕ) (n : ℕ) (part : Part) (off : ℕ) (root : Option NodeId) (place : ℕ) (kind : RowKind)
+    → 1 ≤ n → IsPart t part → off + n ≤ part_len part → IsRope t root → place + n ≤ rope_len t root → KindFits t coded source n part off root place kind
+    → text source (take n (drop off (part_cells t part))) ≡ text source (take n (drop place (rope_cells t root)))
+kind_text t s h coded answers source n part off root place (Shared k o) some is in_part there in_root fits =
+    ap (text source) (kind_cells t s h coded answers source n part off root place (Shared k o) some is in_part there in_root (λ e. absurd cc) fits)
+kind_text t s h coded answers source n part off root place Leaf some is in_part there in_root fits =
+    ap (text source) (kind_cells t s h coded answers source n part off root place Leaf some is in_part there in_root (λ e. absurd cc) fits)
+kind_text t s h coded answers source n part off root place Bytes some is in_part there in_root fits = fits.1
+
+-- bytes of one text are one list of cells
+bytes_same : (source : ℕ → ℕ → ℕ) (xs ys : List Cell) → AreBytes xs → AreBytes ys → text source xs ≡ text source ys → xs ≡ ys
+bytes_same source xs ys (av, e) (bs, f) same =
+    let of_as : text source xs ≡ av = ap (text source) e ∙ map-map (cell_byte source) Byte av ∙ map-id av in
+    let of_bs : text source ys ≡ bs = ap (text source) f ∙ map-map (cell_byte source) Byte bs ∙ map-id bs in
+    e ∙ ap (map Byte) (sym of_as ∙ same ∙ of_bs) ∙ sym f
+
+-- ---- all rows
+
+same_before : {X : Type 0} (xs ys : List X) (rows : List Row) → ((i : ℕ) → i < length rows → take (row_at rows i).len (drop (place_of rows i) xs) ≡ take (row_at rows i).len (drop (place_of rows i) ys)) → (j : ℕ) → j ≤ length rows
+    → take (place_of rows j) xs ≡ take (place_of rows j) ys
+same_before xs ys rows each zero le = refl
+same_before xs ys rows each (suc j) le =
+    let lt : j < length rows = omega arith in
+    let step : place_of rows (suc j) ≡ place_of rows j + (row_at rows j).len = rw (← add-one j) (place_of_more rows j lt) in
+    rw (step, take-add (place_of rows j) (row_at rows j).len xs, take-add (place_of rows j) (row_at rows j).len ys)
+    (rw (same_before xs ys rows each j (omega arith), each j lt) refl)
+
+same_whole : {X : Type 0} (xs ys : List X) (rows : List Row) → ((i : ℕ) → i < length rows → take (row_at rows i).len (drop (place_of rows i) xs) ≡ take (row_at rows i).len (drop (place_of rows i) ys)) → length xs ≡ rows_len rows → length ys ≡ rows_len rows → xs ≡ ys
+same_whole xs ys rows each a b =
+    let whole = place_of_all rows in
+    sym (take_all (place_of rows (length rows)) xs (omega (arith, a, whole))) ∙ same_before xs ys rows each (length rows) (omega arith) ∙ take_all (place_of rows (length rows)) ys (omega (arith, b, whole))
+
+-- rows that cover over these bytes of the sources show that both sides have one text over them
+pub covered_text : (t : Table) → IsSound t → HasTrueRecords t → (coded : ℕ → Coded) → AreAnswered t coded → (source : ℕ → ℕ → ℕ) (parts : List Part) (root : Option NodeId) (rows : List Row) → AreParts t parts → IsRope t root → Covers t coded source parts root rows
+    → text source (parts_cells t parts) ≡ text source (rope_cells t root)
+covered_text t s h coded answers source parts root rows are there c =
+    let len_p : length (text source (parts_cells t parts)) ≡ rows_len rows = length-map (parts_cells t parts) (cell_byte source) ∙ length-parts_cells t s h parts are ∙ sym c.whole_parts in
+    let len_r : length (text source (rope_cells t root)) ≡ rows_len rows = length-map (rope_cells t root) (cell_byte source) ∙ length-rope_cells t s h root there ∙ sym c.whole_root in
+    same_whole (text source (parts_cells t parts)) (text source (rope_cells t root)) rows
+    (λ i lt.
+    let fits = c.fit i lt in
+    let held = holds_place t s h parts (place_of rows i) fits.part fits.off are fits.at_part in
+    span-map (cell_byte source) (row_at rows i).len (place_of rows i) (parts_cells t parts)
+    ∙ ap (text source) (held.same (row_at rows i).len fits.inside_part)
+    ∙ kind_text t s h coded answers source (row_at rows i).len fits.part fits.off root (place_of rows i) (row_at rows i).kind fits.not_empty held.is_part fits.inside_part there fits.inside_root fits.kind
+    ∙ sym (span-map (cell_byte source) (row_at rows i).len (place_of rows i) (rope_cells t root)))
+    len_p len_r
+
+-- where besides no row of bytes is over a source, they have the same cells
+pub covered_cells : (t : Table) → IsSound t → HasTrueRecords t → (coded : ℕ → Coded) → AreAnswered t coded → (source : ℕ → ℕ → ℕ) (parts : List Part) (root : Option NodeId) (rows : List Row) → AreParts t parts → IsRope t root → Covers t coded source parts root rows
+    → MeetsNoSource t parts root rows → parts_cells t parts ≡ rope_cells t root
+covered_cells t s h coded answers source parts root rows are there c none =
+    same_whole (parts_cells t parts) (rope_cells t root) rows
+    (λ i lt.
+    let fits = c.fit i lt in
+    let held = holds_place t s h parts (place_of rows i) fits.part fits.off are fits.at_part in
+    let same = held.same (row_at rows i).len fits.inside_part in
+    let both = kind_text t s h coded answers source (row_at rows i).len fits.part fits.off root (place_of rows i) (row_at rows i).kind fits.not_empty held.is_part fits.inside_part there fits.inside_root fits.kind in
+    same ∙ kind_cells t s h coded answers source (row_at rows i).len fits.part fits.off root (place_of rows i) (row_at rows i).kind fits.not_empty held.is_part fits.inside_part there fits.inside_root
+    (λ is.
+    let xs = take (row_at rows i).len (drop (place_of rows i) (parts_cells t parts)) in
+    let ys = take (row_at rows i).len (drop (place_of rows i) (rope_cells t root)) in
+    let bytes = compared_all IsByte (row_at rows i).kind xs ys is (none i lt) in
+    sym same ∙ bytes_same source xs ys (bytes_of_each xs bytes.0) (bytes_of_each ys bytes.1) (ap (text source) same ∙ both))
+    fits.kind)
+    (length-parts_cells t s h parts are ∙ sym c.whole_parts) (length-rope_cells t s h root there ∙ sym c.whole_root)

@@ -1,0 +1,10 @@
+use Rattle.std.proofs.Common.{◌-◌, Some}
+use Rattle.rope_node.specs.Table.{len_at}
+use Rattle.span_certificate.proofs.Made.{IsMaking}
+use Rattle.span_certificate.proofs.making.make_for.Given as goal
+
+abbrev pub invariant-loop-place : goal.invariant-loop-place
+invariant-loop-place g l = IsMaking (g.S.NodeSpace.table l.space) (g.S.CodedSpace.coded l.space) l.parts (Some l.root) l.rows.items l.place
+
+abbrev pub decreases-loop-place : goal.decreases-loop-place
+decreases-loop-place g l = len_at (g.S.NodeSpace.table l.space) l.root.0 - l.place

@@ -1,0 +1,30 @@
+use Rattle.span_certificate.proofs.Walks.{are_reached_none, first_below, second_below, reached_same, row_through}
+use Rattle.span_certificate.proofs.walk.next_old.Goals as goal
+
+pub down-init : goal.down-init
+down-init g c = are_reached_none (g.S.NodeSpace.table c.args.space.now) c.args.x c.args.y c.requires.x c.requires.y c.requires.len
+
+pub leaf_row-requires-clause-same : goal.leaf_row-requires-clause-same
+leaf_row-requires-clause-same g c =
+    reached_same (g.S.NodeSpace.table c.args.space.now) c.requires.sound c.requires.true_records c.args.x c.args.y c.down.a c.down.b c.requires.x c.requires.y c.down.invariant c.requires.same
+
+pub returns-in-None-None : goal.returns-in-None-None
+returns-in-None-None g c =
+    row_through (g.S.NodeSpace.table c.args.space.now) c.requires.sound c.requires.true_records (g.S.CodedSpace.coded c.args.space.now) c.args.x c.args.y c.down.a c.down.b c.leaf_row.result
+    c.requires.y c.down.invariant c.leaf_row.ensures
+
+pub down-preserved-in-None-Some : goal.down-preserved-in-None-Some
+down-preserved-in-None-Some g c =
+    rw c.shortened-a.ensures (second_below (g.S.NodeSpace.table c.args.space.now) c.args.x c.args.y c.down.a c.down.b c.in-None-Some.z c.down.invariant c.in-None-Some.ensures.below)
+
+pub down-preserved-in-Some-None : goal.down-preserved-in-Some-None
+down-preserved-in-Some-None g c =
+    rw c.shortened-b.ensures (first_below (g.S.NodeSpace.table c.args.space.now) c.args.x c.args.y c.down.a c.down.b c.in-Some-None.z c.down.invariant c.in-Some-None.ensures.below)
+
+pub down-preserved-then-a-b-3 : goal.down-preserved-then-a-b-3
+down-preserved-then-a-b-3 g c =
+    rw c.shortened-b-then-a-b-3.ensures (first_below (g.S.NodeSpace.table c.args.space.now) c.args.x c.args.y c.down.a c.down.b c.in-Some-Some.z c.down.invariant c.in-Some-Some.ensures.below)
+
+pub down-preserved : goal.down-preserved
+down-preserved g c =
+    rw c.shortened-a-else-a-b-3.ensures (second_below (g.S.NodeSpace.table c.args.space.now) c.args.x c.args.y c.down.a c.down.b c.in-Some-Some.w c.down.invariant c.in-Some-Some.ensures'.below)

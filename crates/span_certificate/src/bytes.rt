@@ -1,0 +1,188 @@
+//! Bytes of both sides, compared run by run.
+
+ghost use Rattle.std.specs.Prelude.{◌≡◌, ◌+◌, ◌<◌, ◌≤◌, ◌↔◌, ◌++◌, length, take, drop, IsTrue, IfOk, OnOk};
+ghost use Rattle.rope_node.specs.Table.{IsSound, HasTrueRecords};
+ghost use Rattle.cord_position.specs.Runs.{AreBytesOf};
+ghost use Rattle.span_certificate.specs.Parts.{part_len, part_cells, IsPart};
+ghost use Rattle.span_certificate.specs.Leads.{described_cells, HasRoom};
+ghost use Rattle.span_certificate.specs.Runs.{IsRunOf, ReadsCells, TellsSame};
+
+use crate::describe::{Description, describe_leaf};
+use crate::part::Part;
+use crate::walk::{Span, leaf_of};
+use cord_position::fill_source;
+use function_leaf::{Coded, fill};
+use lazy_file::{SourceFault, Sources};
+use rope_node::{CodedSpace, NodeSpace};
+
+/// The most bytes that are compared at once.
+const BUFFER: usize = 256;
+
+/// Bytes of one description.
+#[derive(Clone, Copy, Debug, PartialEq, Eq)]
+pub struct Run {
+    pub what: Description,
+    pub len: u64,
+}
+
+/// The run that the next `left` bytes of a part begin with.
+fn run_of<S: CodedSpace>(space: &S, part: Part, off: u64, left: u64) -> Run
+    requires sound { IsSound (S.NodeSpace.table space.now) }
+    requires true_records { HasTrueRecords (S.NodeSpace.table space.now) }
+    requires part { IsPart (S.NodeSpace.table space.now) part }
+    requires some { 1 ≤ left }
+    requires inside { off + left ≤ part_len part }
+    ensures { IsRunOf (S.NodeSpace.table space.now) part off left result }
+{
+    match part {
+        Part::Old { rope, i, n: _ } => match rope {
+            None => unreachable!(),
+            Some(node) => {
+                let z = leaf_of(
+                    space,
+                    Span {
+                        node,
+                        start: i + off,
+                        len: left,
+                    },
+                );
+                match describe_leaf(space, z.node, z.start) {
+                    None => unreachable!(),
+                    Some(what) => Run { what, len: z.len },
+                }
+            }
+        },
+        Part::Pool { a, n: _ } => Run {
+            what: Description::Pooled { a: a + off },
+            len: left,
+        },
+        Part::Source { s, n: _ } => Run {
+            what: Description::Sourced { s, a: off },
+            len: left,
+        },
+        Part::Fill { c, n: _ } => Run {
+            what: Description::Computed {
+                f: Coded::Fill(c),
+                i: 0,
+            },
+            len: left,
+        },
+    }
+}
+
+/// The bytes of the pool from place `a` on.
+fn fill_pool<S: NodeSpace>(space: &S, a: u64, buffer: &mut [u8])
+    requires { a + length buffer.old ≤ length (S.table space.now).pool }
+    ensures { buffer.new ≡ take (length buffer.old) (drop a (S.table space.now).pool) }
+{
+    let _limit = space.pool_len();
+    for k in 0..buffer.len() {
+        buffer[k] = space.pool(a + k as u64)[0];
+    }
+}
+
+/// The bytes of a description.
+fn fill_described<S: NodeSpace, T: Sources>(
+    space: &S,
+    sources: &mut T,
+    what: Description,
+    buffer: &mut [u8],
+) -> Result<(), SourceFault>
+    requires some { 1 ≤ length buffer.old }
+    requires room { HasRoom (S.table space.now) (length buffer.old) what }
+    ensures length { length buffer.new ≡ length buffer.old }
+    ensures bytes { OnOk result (AreBytesOf (T.stated sources.old)
+        (described_cells (S.table space.now) (length buffer.old) what) buffer.new) }
+    ensures reads { ReadsCells T.stated T.failures sources.old sources.new
+        (described_cells (S.table space.now) (length buffer.old) what) result }
+{
+    match what {
+        Description::Pooled { a } => {
+            fill_pool(space, a, buffer);
+            Ok(())
+        }
+        Description::Sourced { s, a } => fill_source(sources, s, a, buffer),
+        Description::Computed { f, i } => {
+            fill(&f, i, buffer);
+            Ok(())
+        }
+    }
+}
+
+/// Whether the bytes are the same.
+fn is_same(bytes: &[u8], others: &[u8]) -> bool
+    ensures { IsTrue result ↔ (bytes.now ≡ others.now) }
+{
+    bytes == others
+}
+
+/// Whether bytes of two descriptions are the same, as many as both buffers take.
+fn same_described<S: NodeSpace, T: Sources>(
+    space: &S,
+    sources: &mut T,
+    what: Description,
+    other: Description,
+    bytes: &mut [u8],
+    others: &mut [u8],
+) -> Result<bool, SourceFault>
+    requires some { 1 ≤ length bytes.old }
+    requires len { length others.old ≡ length bytes.old }
+    requires room { HasRoom (S.table space.now) (length bytes.old) what }
+    requires other_room { HasRoom (S.table space.now) (length bytes.old) other }
+    ensures same { IfOk result (TellsSame (T.stated sources.old)
+        (described_cells (S.table space.now) (length bytes.old) what)
+        (described_cells (S.table space.now) (length bytes.old) other)) }
+    ensures reads { ReadsCells T.stated T.failures sources.old sources.new
+        (described_cells (S.table space.now) (length bytes.old) what
+        ++ described_cells (S.table space.now) (length bytes.old) other) result }
+{
+    fill_described(space, sources, what, bytes)?;
+    fill_described(space, sources, other, others)?;
+    Ok(is_same(bytes, others))
+}
+
+/// Whether `len` bytes of two parts are the same: in turns, one descent at each side.
+pub fn same_bytes<S: CodedSpace, T: Sources>(
+    space: &S,
+    sources: &mut T,
+    part: Part,
+    off: u64,
+    other: Part,
+    place: u64,
+    len: u64,
+) -> Result<bool, SourceFault>
+    requires sound { IsSound (S.NodeSpace.table space.now) }
+    requires true_records { HasTrueRecords (S.NodeSpace.table space.now) }
+    requires part { IsPart (S.NodeSpace.table space.now) part }
+    requires other { IsPart (S.NodeSpace.table space.now) other }
+    requires inside { off + len ≤ part_len part }
+    requires other_inside { place + len ≤ part_len other }
+    ensures same { IfOk result (TellsSame (T.stated sources.old)
+        (take len (drop off (part_cells (S.NodeSpace.table space.now) part)))
+        (take len (drop place (part_cells (S.NodeSpace.table space.now) other)))) }
+    ensures reads { ReadsCells T.stated T.failures sources.old sources.new
+        (take len (drop off (part_cells (S.NodeSpace.table space.now) part))
+        ++ take len (drop place (part_cells (S.NodeSpace.table space.now) other))) result }
+{
+    let mut bytes = [0; BUFFER];
+    let mut others = [0; BUFFER];
+    let mut done = 0;
+    while done < len {
+        let a = run_of(space, part, off + done, len - done);
+        let b = run_of(space, other, place + done, len - done);
+        let n = a.len.min(b.len).min(BUFFER as u64) as usize;
+        match same_described(
+            space,
+            sources,
+            a.what,
+            b.what,
+            &mut bytes[..n],
+            &mut others[..n],
+        ) {
+            Err(fault) => return Err(fault),
+            Ok(false) => return Ok(false),
+            Ok(true) => done += n as u64,
+        }
+    }
+    Ok(true)
+}

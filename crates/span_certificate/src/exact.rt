@@ -1,0 +1,125 @@
+//! Whether spans lead to one node, and what the leaf spans are that they lead to.
+
+ghost use Rattle.std.specs.Prelude.{◌≡◌, ◌↔◌, ◌+◌, ◌<◌, ◌≤◌, length, Some, IsTrue};
+ghost use Rattle.rope_node.specs.Table.{len_at, IsSound};
+ghost use Rattle.span_certificate.specs.Parts.{part_len, IsPart};
+ghost use Rattle.span_certificate.specs.Leads.{Leads, PartLeads, HasDescription, PartHasDescription};
+ghost use Rattle.span_certificate.specs.Steps.{IsSpan};
+ghost use Rattle.span_certificate.specs.declared.describe.Description.{Description};
+
+use crate::descent::leaf_span;
+use crate::describe::{Description, describe_leaf};
+use crate::part::Part;
+use crate::walk::Span;
+use function_leaf::Coded;
+use rope_node::{CodedSpace, NodeId, NodeSpace, NodeView};
+
+/// Whether a span leads to the bytes of a node from a place on.
+fn leads_to<S: NodeSpace>(space: &S, x: Span, node: NodeId, at: u64) -> bool
+    requires { IsSpan (S.table space.now) x }
+    ensures { IsTrue result ↔ Leads (S.table space.now) x.len node.0 at x.node.0 x.start }
+{
+    let mut here = x.node;
+    let mut start = x.start;
+    'down: loop {
+        if here.0 == node.0 && start == at {
+            return true;
+        }
+        match space.node(here) {
+            NodeView::Cat { l, r } => {
+                let left = space.len(l);
+                if left <= start {
+                    here = r;
+                    start -= left;
+                } else if x.len <= left - start {
+                    here = l;
+                } else {
+                    return false;
+                }
+            }
+            NodeView::Sub { b, i } => {
+                here = b;
+                start += i;
+            }
+            NodeView::Lit { .. } | NodeView::Src { .. } | NodeView::Fun => return false,
+        }
+    }
+}
+
+/// The same of the `len` bytes of a part from `off` on.
+pub fn part_leads<S: NodeSpace>(
+    space: &S,
+    part: Part,
+    off: u64,
+    len: u64,
+    node: NodeId,
+    at: u64,
+) -> bool
+    requires sound { IsSound (S.table space.now) }
+    requires part { IsPart (S.table space.now) part }
+    requires some { 1 ≤ len }
+    requires inside { off + len ≤ part_len part }
+    ensures { IsTrue result ↔ PartLeads (S.table space.now) len node.0 at part off }
+{
+    match part {
+        Part::Old { rope, i, n: _ } => match rope {
+            Some(of) => leads_to(
+                space,
+                Span {
+                    node: of,
+                    start: i + off,
+                    len,
+                },
+                node,
+                at,
+            ),
+            None => false,
+        },
+        Part::Pool { .. } | Part::Source { .. } | Part::Fill { .. } => false,
+    }
+}
+
+/// The description of the leaf span that the `len` bytes of `node` from `place` on lead to, or nothing where they lead to none.
+fn describe_node<S: CodedSpace>(
+    space: &S,
+    node: NodeId,
+    place: u64,
+    len: u64,
+) -> Option<Description>
+    requires there { node.0 < length (S.NodeSpace.table space.now).nodes }
+    requires not_empty { 1 ≤ len }
+    requires inside { place + len ≤ len_at (S.NodeSpace.table space.now) node.0 }
+    ensures { (d : Description) → (result ≡ Some d) ↔ HasDescription (S.NodeSpace.table space.now) (S.coded space.now) len node.0 place d }
+{
+    match leaf_span(space, node, place, len) {
+        None => None,
+        Some(span) => describe_leaf(space, span.leaf, span.start),
+    }
+}
+
+/// The same of the `len` bytes of a part from `off` on.
+pub fn describe_part<S: CodedSpace>(
+    space: &S,
+    part: Part,
+    off: u64,
+    len: u64,
+) -> Option<Description>
+    requires sound { IsSound (S.NodeSpace.table space.now) }
+    requires part { IsPart (S.NodeSpace.table space.now) part }
+    requires not_empty { 1 ≤ len }
+    requires inside { off + len ≤ part_len part }
+    ensures { (d : Description) → (result ≡ Some d) ↔ PartHasDescription (S.NodeSpace.table space.now) (S.coded space.now) len part off d }
+{
+    match part {
+        Part::Old { rope, i, n: _ } => match rope {
+            None => None,
+            Some(node) => describe_node(space, node, i + off, len),
+        },
+        Part::Pool { a, n: _ } => Some(Description::Pooled { a: a + off }),
+        Part::Source { s, n: _ } => Some(Description::Sourced { s, a: off }),
+        Part::Fill { c, n: _ } => Some(Description::Computed {
+            f: Coded::Fill(c),
+            i: 0,
+        }),
+    }
+}

@@ -1,0 +1,140 @@
+//! Rows made for the parts of a command and its root.
+
+ghost use Rattle.std.specs.Prelude.{◌≡◌, ◌+◌, ◌<◌, ◌≤◌, ℕ, length, take, drop, Some, IfOk, IsErrOf};
+ghost use Rattle.rope_node.specs.Table.{len_at, IsSound, HasTrueRecords};
+ghost use Rattle.rope_node.specs.Denotes.{cells, rope_cells, IsRope};
+ghost use Rattle.span_certificate.specs.Parts.{part_at, part_len, part_cells, parts_cells, IsPart, AreParts};
+ghost use Rattle.span_certificate.specs.Covers.{CoversAlways, MeetsNoSource, IsCutShort, rows_limit};
+ghost use Rattle.span_certificate.specs.Steps.{IsNext};
+
+use crate::describe::Description;
+use crate::part::{Part, part_at};
+use crate::row::Row;
+use crate::walk::{Span, next_leaf, next_old};
+use function_leaf::Coded;
+use rope_node::{CodedSpace, NodeId, NodeSpace, Rope};
+use std::alloc::Global;
+
+/// The most rows of an image.
+pub const ROWS_LIMIT: usize = 1 << 24;
+
+/// Why no rows were made.
+#[derive(Clone, Copy, Debug, PartialEq, Eq)]
+pub enum MakeFault {
+    /// More than 16,777,216 rows are needed.
+    TooManyRows,
+    /// Memory was refused.
+    Memory,
+}
+
+/// A row for the first of the next `left` bytes, where they have the same cells on both sides.
+fn next_row<S: CodedSpace>(
+    space: &S,
+    part: Part,
+    off: u64,
+    root: NodeId,
+    place: u64,
+    left: u64,
+) -> Row
+    requires sound { IsSound (S.NodeSpace.table space.now) }
+    requires true_records { HasTrueRecords (S.NodeSpace.table space.now) }
+    requires part { IsPart (S.NodeSpace.table space.now) part }
+    requires some { 1 ≤ left }
+    requires inside_part { off + left ≤ part_len part }
+    requires there { root.0 < length (S.NodeSpace.table space.now).nodes }
+    requires inside_root { place + left ≤ len_at (S.NodeSpace.table space.now) root.0 }
+    requires same { take left (drop off (part_cells (S.NodeSpace.table space.now) part)) ≡ take left (drop place (cells (S.NodeSpace.table space.now) root.0)) }
+    ensures { IsNext (S.NodeSpace.table space.now) (S.coded space.now) part off root place left result }
+{
+    let y = Span {
+        node: root,
+        start: place,
+        len: left,
+    };
+    match part {
+        Part::Old { rope, i, n: _ } => match rope {
+            Some(node) => {
+                let x = Span {
+                    node,
+                    start: i + off,
+                    len: left,
+                };
+                next_old(space, x, y)
+            }
+            None => unreachable!(),
+        },
+        Part::Pool { a, n: _ } => next_leaf(space, Description::Pooled { a: a + off }, y),
+        Part::Source { s, n: _ } => next_leaf(space, Description::Sourced { s, a: off }, y),
+        Part::Fill { c, n: _ } => next_leaf(
+            space,
+            Description::Computed {
+                f: Coded::Fill(c),
+                i: 0,
+            },
+            y,
+        ),
+    }
+}
+
+/// The rows for a root that is not nil.
+fn make_for<S: CodedSpace>(
+    alloc: Global,
+    space: &S,
+    parts: &[Part],
+    root: NodeId,
+) -> Result<Vec<Row>, MakeFault>
+    requires sound { IsSound (S.NodeSpace.table space.now) }
+    requires true_records { HasTrueRecords (S.NodeSpace.table space.now) }
+    requires parts { AreParts (S.NodeSpace.table space.now) parts.now }
+    requires root { root.0 < length (S.NodeSpace.table space.now).nodes }
+    requires same { parts_cells (S.NodeSpace.table space.now) parts.now ≡ cells (S.NodeSpace.table space.now) root.0 }
+    ensures covers { IfOk result (λ rows. CoversAlways (S.NodeSpace.table space.now) (S.coded space.now) parts.now (Some root) rows.items) }
+    ensures no_source { IfOk result (λ rows. MeetsNoSource (S.NodeSpace.table space.now) parts.now (Some root) rows.items) }
+    ensures few { IfOk result (λ rows. length rows.items ≤ rows_limit) }
+    ensures too_many { IsErrOf result MakeFault.TooManyRows → IsCutShort (S.NodeSpace.table space.now) (S.coded space.now) parts.now (Some root) }
+{
+    let mut rows = Vec::new(alloc);
+    let mut place = 0;
+    let end = space.len(root);
+    while place < end {
+        if rows.len() >= ROWS_LIMIT {
+            return Err(MakeFault::TooManyRows);
+        }
+        match part_at(parts, place) {
+            None => unreachable!(),
+            Some((part, off)) => {
+                let row = next_row(space, part, off, root, place, part.len() - off);
+                rows.push(row).map_err(|_| MakeFault::Memory)?;
+                place += row.len;
+            }
+        }
+    }
+    Ok(rows)
+}
+
+/// Rows that show that the parts and the root have one text, whatever the sources hold. No source is read, and no row of bytes is over one.
+///
+/// # Errors
+///
+/// `TooManyRows` where 16,777,216 rows do not reach the end, and `Memory`.
+pub fn make<S: CodedSpace>(
+    alloc: Global,
+    space: &S,
+    parts: &[Part],
+    root: Rope,
+) -> Result<Vec<Row>, MakeFault>
+    requires parts { AreParts (S.NodeSpace.table space.now) parts.now }
+    requires root { IsRope (S.NodeSpace.table space.now) root }
+    requires same { parts_cells (S.NodeSpace.table space.now) parts.now ≡ rope_cells (S.NodeSpace.table space.now) root }
+    ensures covers { IfOk result (λ rows. CoversAlways (S.NodeSpace.table space.now) (S.coded space.now) parts.now root rows.items) }
+    ensures no_source { IfOk result (λ rows. MeetsNoSource (S.NodeSpace.table space.now) parts.now root rows.items) }
+    ensures few { IfOk result (λ rows. length rows.items ≤ rows_limit) }
+    ensures too_many { IsErrOf result MakeFault.TooManyRows → IsCutShort (S.NodeSpace.table space.now) (S.coded space.now) parts.now root }
+{
+    // The space is sound, as each of its calls says.
+    let _nodes = space.count();
+    match root {
+        None => Ok(Vec::new(alloc)),
+        Some(node) => make_for(alloc, space, parts, node),
+    }
+}

@@ -1,0 +1,179 @@
+//! The longest row that fits at a place.
+
+ghost use Rattle.std.specs.Prelude.{◌≡◌, ℕ, min, None, IfSome};
+ghost use Rattle.rope_node.specs.Table.{view_at, IsLeaf, IsSound, HasTrueRecords};
+ghost use Rattle.span_certificate.specs.Steps.{IsSpan, IsReached, IsBelow, span_cells, CellsAs, IsRowOf, IsDescribedRow};
+ghost use Rattle.span_certificate.specs.Covers.{bytes_limit};
+ghost use Rattle.rope_node.specs.declared.node.NodeId.{NodeId};
+
+use crate::describe::{Description, describe_leaf};
+use crate::row::{Row, RowKind};
+use rope_node::{CodedSpace, NodeId, NodeSpace, NodeView};
+
+/// The most bytes of a row that compares bytes.
+pub const BYTES_LIMIT: u64 = 4096;
+
+/// Some bytes of a node.
+#[derive(Clone, Copy, Debug, PartialEq, Eq)]
+pub struct Span {
+    pub node: NodeId,
+    /// The first of them, counted from the node's.
+    pub start: u64,
+    pub len: u64,
+}
+
+impl Span {
+    /// Its first `n` bytes.
+    pub fn shortened(self, n: u64) -> Span
+        ensures { result ≡ record self { len = n } }
+    {
+        Span {
+            node: self.node,
+            start: self.start,
+            len: n,
+        }
+    }
+}
+
+/// Where the first bytes of a span lie in a child or a base of its node: as many of them as lie in one. A leaf has none.
+pub fn down<S: NodeSpace>(space: &S, x: Span) -> Option<Span>
+    requires { IsSpan (S.table space.now) x }
+    ensures leaf { result ≡ None → IsLeaf (view_at (S.table space.now) x.node.0) }
+    ensures below { IfSome result (IsBelow (S.table space.now) x) }
+{
+    match space.node(x.node) {
+        NodeView::Cat { l, r } => {
+            let left = space.len(l);
+            if left <= x.start {
+                Some(Span {
+                    node: r,
+                    start: x.start - left,
+                    len: x.len,
+                })
+            } else {
+                Some(Span {
+                    node: l,
+                    start: x.start,
+                    len: x.len.min(left - x.start),
+                })
+            }
+        }
+        NodeView::Sub { b, i } => Some(Span {
+            node: b,
+            start: x.start + i,
+            len: x.len,
+        }),
+        NodeView::Lit { .. } | NodeView::Src { .. } | NodeView::Fun => None,
+    }
+}
+
+/// The leaf span that a span begins with, as far as it goes.
+pub fn leaf_of<S: NodeSpace>(space: &S, x: Span) -> Span
+    requires { IsSpan (S.table space.now) x }
+    ensures leaf { IsLeaf (view_at (S.table space.now) result.node.0) }
+    ensures reached { IsReached (S.table space.now) x result }
+{
+    let mut at = x;
+    'down: loop {
+        match down(space, at) {
+            None => return at,
+            Some(below) => at = below,
+        }
+    }
+}
+
+/// The row for two leaf spans of one length and the same cells.
+fn leaf_row<S: CodedSpace>(space: &S, x: Span, y: Span) -> Row
+    requires sound { IsSound (S.NodeSpace.table space.now) }
+    requires x { IsSpan (S.NodeSpace.table space.now) x }
+    requires y { IsSpan (S.NodeSpace.table space.now) y }
+    requires len { y.len ≡ x.len }
+    requires leaf_x { IsLeaf (view_at (S.NodeSpace.table space.now) x.node.0) }
+    requires leaf_y { IsLeaf (view_at (S.NodeSpace.table space.now) y.node.0) }
+    requires same { span_cells (S.NodeSpace.table space.now) x ≡ span_cells (S.NodeSpace.table space.now) y }
+    ensures { IsRowOf (S.NodeSpace.table space.now) (S.coded space.now) x y result }
+{
+    match (
+        describe_leaf(space, x.node, x.start),
+        describe_leaf(space, y.node, y.start),
+    ) {
+        (Some(d), Some(e)) => described_row(d, e, x.len),
+        _ => unreachable!(),
+    }
+}
+
+/// The row for two leaf spans of these descriptions and one length.
+fn described_row(d: Description, e: Description, len: u64) -> Row
+    ensures leaf { result.kind ≡ RowKind.Leaf → (d ≡ e) × (result.len ≡ len) }
+    ensures bytes { result.kind ≡ RowKind.Bytes → ¬ (d ≡ e) × (result.len ≡ min len bytes_limit) }
+    ensures kind { (k : NodeId) → (o : ℕ) → ¬ (result.kind ≡ RowKind.Shared k o) }
+{
+    if d.is_same(e) {
+        Row {
+            len,
+            kind: RowKind::Leaf,
+        }
+    } else {
+        Row {
+            len: len.min(BYTES_LIMIT),
+            kind: RowKind::Bytes,
+        }
+    }
+}
+
+/// A row for the first bytes of two spans of the same cells: over the first node that both lead to at one place, or over two leaf spans.
+pub fn next_old<S: CodedSpace>(space: &S, x: Span, y: Span) -> Row
+    requires sound { IsSound (S.NodeSpace.table space.now) }
+    requires true_records { HasTrueRecords (S.NodeSpace.table space.now) }
+    requires x { IsSpan (S.NodeSpace.table space.now) x }
+    requires y { IsSpan (S.NodeSpace.table space.now) y }
+    requires len { y.len ≡ x.len }
+    requires same { span_cells (S.NodeSpace.table space.now) x ≡ span_cells (S.NodeSpace.table space.now) y }
+    ensures { IsRowOf (S.NodeSpace.table space.now) (S.coded space.now) x y result }
+{
+    let mut a = x;
+    let mut b = y;
+    'down: loop {
+        if a.node.0 == b.node.0 && a.start == b.start {
+            return Row {
+                len: a.len,
+                kind: RowKind::Shared(a.node, a.start),
+            };
+        }
+        match (down(space, a), down(space, b)) {
+            (None, None) => return leaf_row(space, a, b),
+            (Some(z), None) => {
+                a = z;
+                b = b.shortened(z.len);
+            }
+            (None, Some(z)) => {
+                a = a.shortened(z.len);
+                b = z;
+            }
+            (Some(z), Some(w)) => {
+                if a.node.0 >= b.node.0 {
+                    a = z;
+                    b = b.shortened(z.len);
+                } else {
+                    a = a.shortened(w.len);
+                    b = w;
+                }
+            }
+        }
+    }
+}
+
+/// A row for the first bytes of a leaf span of this description and of a span of the same cells.
+pub fn next_leaf<S: CodedSpace>(space: &S, d: Description, y: Span) -> Row
+    requires sound { IsSound (S.NodeSpace.table space.now) }
+    requires true_records { HasTrueRecords (S.NodeSpace.table space.now) }
+    requires y { IsSpan (S.NodeSpace.table space.now) y }
+    requires same { CellsAs y.len d (span_cells (S.NodeSpace.table space.now) y) }
+    ensures { IsDescribedRow (S.NodeSpace.table space.now) (S.coded space.now) d y result }
+{
+    let z = leaf_of(space, y);
+    match describe_leaf(space, z.node, z.start) {
+        Some(e) => described_row(d, e, z.len),
+        None => unreachable!(),
+    }
+}
