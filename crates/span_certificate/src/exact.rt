@@ -86,6 +86,7 @@ fn describe_node<S: CodedSpace>(
     place: u64,
     len: u64,
 ) -> Option<Description>
+    requires sound { IsSound (S.NodeSpace.table space.now) }
     requires there { node.0 < length (S.NodeSpace.table space.now).nodes }
     requires not_empty { 1 ≤ len }
     requires inside { place + len ≤ len_at (S.NodeSpace.table space.now) node.0 }
@@ -93,7 +94,7 @@ fn describe_node<S: CodedSpace>(
 {
     match leaf_span(space, node, place, len) {
         None => None,
-        Some(span) => describe_leaf(space, span.leaf, span.start),
+        Some(span) => describe_leaf(space, span.leaf, span.view, span.start),
     }
 }
 
