@@ -17,7 +17,8 @@ pub struct LeafSpan {
     pub view: NodeView,
 }
 
-/// The leaf span to which the `len` bytes of `node` from `place` on lead, or nothing where they lie in no one leaf.
+/// The leaf span to which the `len` bytes of `node` from `place` on lead, or nothing where they lie in
+/// no one leaf.
 pub fn leaf_span<S: NodeSpace>(space: &S, node: NodeId, place: u64, len: u64) -> Option<LeafSpan>
     requires there { node.0 < length (S.table space.now).nodes }
     requires not_empty { 1 ≤ len }

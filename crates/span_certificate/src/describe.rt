@@ -14,8 +14,8 @@ pub enum Description {
     Pooled { a: u64 },
     /// The bytes of source `s` from `a` on.
     Sourced { s: u32, a: u64 },
-    /// The bytes of a function from its place `i` on: a fill and a ramp from 0 on, the ramp beginning with the span's first byte, and a
-    /// cycle from a place inside its pattern on.
+    /// The bytes of a function from its place `i` on: a fill and a ramp from 0 on, the ramp beginning
+    /// with the span's first byte, and a cycle from a place inside its pattern on.
     Computed { f: Coded, i: u64 },
 }
 

@@ -43,8 +43,8 @@ pub struct Reached {
     pub view: NodeView,
 }
 
-/// Where the first bytes of a span lie in a child or a base of its node, which is `view`: as many of them as lie in one. A leaf
-/// has none.
+/// Where the first bytes of a span lie in a child or a base of its node, which is `view`: as many of
+/// them as lie in one. A leaf has none.
 pub fn down<S: NodeSpace>(space: &S, x: Span, view: NodeView) -> Option<Span>
     requires sound { IsSound (S.table space.now) }
     requires true_records { HasTrueRecords (S.table space.now) }
@@ -132,14 +132,16 @@ fn described_row(d: Description, e: Description, len: u64) -> Row
     }
 }
 
-/// A row for the first bytes of two spans of the same cells: over the first node that both lead to at one place, or over two leaf spans.
+/// A row for the first bytes of two spans of the same cells: over the first node that both lead to at
+/// one place, or over two leaf spans.
 pub fn next_old<S: CodedSpace>(space: &S, x: Span, y: Span) -> Row
     requires sound { IsSound (S.NodeSpace.table space.now) }
     requires true_records { HasTrueRecords (S.NodeSpace.table space.now) }
     requires x { IsSpan (S.NodeSpace.table space.now) x }
     requires y { IsSpan (S.NodeSpace.table space.now) y }
     requires len { y.len ≡ x.len }
-    requires same { span_cells (S.NodeSpace.table space.now) x ≡ span_cells (S.NodeSpace.table space.now) y }
+    requires same { span_cells (S.NodeSpace.table space.now) x
+        ≡ span_cells (S.NodeSpace.table space.now) y }
     ensures { IsRowOf (S.NodeSpace.table space.now) (S.coded space.now) x y result }
 {
     let mut a = x;
