@@ -46,9 +46,12 @@ fn run_of<S: CodedSpace>(space: &S, part: Part, off: u64, left: u64) -> Run
                         len: left,
                     },
                 );
-                match describe_leaf(space, z.node, z.start) {
+                match describe_leaf(space, z.span.node, z.view, z.span.start) {
                     None => unreachable!(),
-                    Some(what) => Run { what, len: z.len },
+                    Some(what) => Run {
+                        what,
+                        len: z.span.len,
+                    },
                 }
             }
         },
