@@ -1,13 +1,12 @@
 //! A block of the pool: memory that is taken once, written from the front, and never moved.
 
 ghost use Rattle.std.specs.Prelude.{◌≡◌, ◌+◌, ◌<◌, ◌≤◌, ◌++◌, length, IfOk};
-ghost use Rattle.leaf_buffer.specs.Contents.{block_size};
 
 use std::alloc::{AllocError, Global};
 use std::marker::Model;
 
 /// How many bytes a block takes.
-pub(crate) const BLOCK_SIZE: usize = 65_536;
+pub const BLOCK_SIZE: usize = 65_536;
 
 /// A block, seen as the bytes that were written into it.
 #[derive(Drop)]
@@ -20,17 +19,17 @@ impl Model for Block {
 
     ghost Value = { List ℕ };
 
-    ghost use Rattle.leaf_buffer.specs.Contents.{block_size};
+    ghost use Rattle.leaf_buffer.specs.declared.block.TheConstants.{BLOCK_SIZE};
 
     ghost view = { λ b. b.bytes.items };
 
-    ghost invariant = { λ b. block_size ≤ vec_capacity b.bytes };
+    ghost invariant = { λ b. BLOCK_SIZE ≤ vec_capacity b.bytes };
 }
 
 impl Block {
     /// A new block that begins with these bytes.
     pub(crate) fn with(alloc: Global, bytes: &[u8]) -> Result<Block, AllocError>
-        requires { length bytes.now ≤ block_size }
+        requires { length bytes.now ≤ BLOCK_SIZE }
         ensures { IfOk result (λ block. block ≡ bytes.now) }
     {
         let mut block = Block {
@@ -42,7 +41,7 @@ impl Block {
 
     /// Writes these bytes behind those that are there.
     pub(crate) fn append(&mut self, bytes: &[u8])
-        requires { length self.old + length bytes.now ≤ block_size }
+        requires { length self.old + length bytes.now ≤ BLOCK_SIZE }
         ensures { self.new ≡ self.old ++ bytes.now }
     {
         let done = self.bytes.extend_from_slice(bytes);

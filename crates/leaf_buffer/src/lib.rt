@@ -8,7 +8,8 @@ mod placed;
 mod pool;
 mod run;
 
-pub use fault::LeafError;
+pub use block::BLOCK_SIZE;
+pub use fault::LeafFault;
 pub use piece::Piece;
-pub use pool::Pool;
+pub use pool::{POOL_LIMIT, Pool};
 pub use run::Run;

@@ -1,19 +1,19 @@
 //! The pool.
 
-ghost use Rattle.std.specs.Prelude.{◌≡◌, ℕ, ◌+◌, ◌-◌, ◌^◌, ◌<◌, ◌≤◌, ◌↔◌, [], All, length, slice_range, IsSome, IfSome, OnSome, IfNone, IsOk, IfOk, OnOk, OnErr, IsErrOf, IsTrue};
+ghost use Rattle.std.specs.Prelude.{◌≡◌, ℕ, ◌+◌, ◌-◌, ◌^◌, ◌<◌, ◌≤◌, ◌↔◌, [], All, length, slice_range, IsSome, IfSome, OnSome, IfNone, IsOk, IfOk, OnOk, OnErr, IsErr, IsErrOf, IsTrue};
 ghost use Rattle.std.specs.List.{AllWithin};
-ghost use Rattle.leaf_buffer.specs.Contents.{block_size, IsInOneBlock, KeepsPieces, IsLastPiece, Takes, extended, with_block, appended};
+ghost use Rattle.leaf_buffer.specs.Contents.{IsInOneBlock, KeepsPieces, IsLastPiece, Takes, CanExtend, IsPoolFull, extended, with_block, appended};
 ghost use Rattle.leaf_buffer.specs.Blocks.{AreConsecutive, IsLastBlock, IsBlockOf};
 
 use crate::block::{BLOCK_SIZE, Block};
-use crate::fault::LeafError;
+use crate::fault::LeafFault;
 use crate::piece::Piece;
 use crate::placed::PlacedBlock;
 use std::alloc::{AllocError, Global};
 use std::marker::Model;
 
-/// The greatest length of a pool.
-const MAX_LEN: u64 = u32::MAX as u64;
+/// The length that a pool stays below, in bytes.
+pub const POOL_LIMIT: u64 = 1 << 32;
 
 /// One list of bytes that only grows. It lies in blocks of 65,536 bytes, which never move, and
 /// what one call appends lies in one block.
@@ -78,8 +78,9 @@ impl Pool {
     /// How many bytes the pool holds.
     pub fn len(&self) -> u64
         ensures len { result ≡ length self.now.bytes }
-        ensures limit { result < 2 ^ 32 }
+        ensures limit { result < POOL_LIMIT }
         ensures borders { All (λ border. border < result) self.now.borders }
+        ensures room { self.now.room ≤ BLOCK_SIZE }
     {
         match last_of(&self.blocks) {
             Some(last) => u64::from(last.start) + last.block.len() as u64,
@@ -90,7 +91,7 @@ impl Pool {
     /// How many bytes the last block still takes.
     pub fn room(&self) -> usize
         ensures room { result ≡ self.now.room }
-        ensures limit { result ≤ block_size }
+        ensures limit { result ≤ BLOCK_SIZE }
     {
         match last_of(&self.blocks) {
             Some(last) => BLOCK_SIZE - last.block.len(),
@@ -106,31 +107,50 @@ impl Pool {
     ///
     /// `Empty` where there are no bytes, `TooLong` for more than 65,536 of them, `PoolFull` where
     /// the pool would be longer than 2^32 - 1 bytes, `Memory` where none was given for a new block.
-    pub fn append(&mut self, bytes: &[u8]) -> Result<Piece, LeafError>
+    pub fn append(&mut self, bytes: &[u8]) -> Result<Piece, LeafFault>
         ensures piece { IfOk result (λ p. p ≡ record { start = length self.old.bytes; len = length bytes.now }) }
         ensures ok { OnOk result (self.new ≡ appended self.old bytes.now) }
 
-        ensures empty { IsErrOf result LeafError.Empty ↔ (length bytes.now ≡ 0) }
-        ensures too_long { IsErrOf result LeafError.TooLong ↔ (block_size < length bytes.now) }
-        ensures full { IsErrOf result LeafError.PoolFull ↔ ((0 < length bytes.now)
-            × (length bytes.now ≤ block_size) × (2 ^ 32 ≤ length self.old.bytes + length bytes.now)) }
-        ensures memory { IsErrOf result LeafError.Memory → self.old.room < length bytes.now }
+        ensures empty { IsErrOf result LeafFault.Empty ↔ (length bytes.now ≡ 0) }
+        ensures too_long { IsErrOf result LeafFault.TooLong ↔ (BLOCK_SIZE < length bytes.now) }
+        ensures full { IsErrOf result LeafFault.PoolFull ↔ IsPoolFull self.old (length bytes.now) }
+        ensures memory { IsErrOf result LeafFault.Memory → self.old.room < length bytes.now }
         ensures succeeds { Takes self.old (length bytes.now) → IsOk result }
         ensures err { OnErr result (self.new ≡ self.old) }
 
         ensures in_one_block { IfOk result (λ p. IsInOneBlock self.new p.start p.len) }
         ensures keeps { KeepsPieces self.old self.new }
     {
-        let (start, room) = (self.len(), self.room());
+        let len = self.len();
         if bytes.is_empty() {
-            return Err(LeafError::Empty);
+            return Err(LeafFault::Empty);
         }
         if bytes.len() > BLOCK_SIZE {
-            return Err(LeafError::TooLong);
+            return Err(LeafFault::TooLong);
         }
-        if start + bytes.len() as u64 > MAX_LEN {
-            return Err(LeafError::PoolFull);
+        if len + bytes.len() as u64 >= POOL_LIMIT {
+            return Err(LeafFault::PoolFull);
         }
+        Ok(self.put(bytes)?)
+    }
+
+    /// Puts these bytes at the pool's end, in one block, and gives their place. Bytes that fit `room` take no memory.
+    ///
+    /// # Errors
+    ///
+    /// `AllocError` where no memory was given for a new block. The pool is then as before.
+    pub fn put(&mut self, bytes: &[u8]) -> Result<Piece, AllocError>
+        requires some { 0 < length bytes.now }
+        requires fits { length bytes.now ≤ BLOCK_SIZE }
+        requires limit { length self.old.bytes + length bytes.now < POOL_LIMIT }
+        ensures piece { IfOk result (λ p. p ≡ record { start = length self.old.bytes; len = length bytes.now }) }
+        ensures ok { OnOk result (self.new ≡ appended self.old bytes.now) }
+        ensures memory { IsErr result → self.old.room < length bytes.now }
+        ensures err { OnErr result (self.new ≡ self.old) }
+        ensures in_one_block { IfOk result (λ p. IsInOneBlock self.new p.start p.len) }
+        ensures keeps { KeepsPieces self.old self.new }
+    {
+        let (start, room) = (self.len(), self.room());
         if bytes.len() <= room {
             self.extend(bytes);
         } else {
@@ -145,7 +165,7 @@ impl Pool {
     /// Puts these bytes behind a piece that ends at the pool's end, where they fit its block, and
     /// gives the longer piece. Otherwise nothing changes. It takes no memory.
     pub fn extend_last(&mut self, piece: Piece, bytes: &[u8]) -> Option<Piece>
-        ensures found { IsSome result ↔ (IsLastPiece self.old piece.start piece.len × Takes self.old (length bytes.now)) }
+        ensures found { IsSome result ↔ CanExtend self.old piece (length bytes.now) }
         ensures longer { IfSome result (λ p. p ≡ record { start = piece.start; len = piece.len + length bytes.now }) }
         ensures some { OnSome result (self.new ≡ extended self.old bytes.now) }
         ensures none { IfNone result (self.new ≡ self.old) }
@@ -165,7 +185,7 @@ impl Pool {
 
     /// Whether `extend_last` would put this many bytes behind the piece.
     pub fn can_extend(&self, piece: Piece, count: usize) -> bool
-        ensures { IsTrue result ↔ (IsLastPiece self.now piece.start piece.len × Takes self.now count) }
+        ensures { IsTrue result ↔ CanExtend self.now piece count }
     {
         self.ends_with(piece) && self.takes(count)
     }
@@ -215,13 +235,14 @@ impl Pool {
     fn takes(&self, count: usize) -> bool
         ensures { IsTrue result ↔ Takes self.now count }
     {
-        count > 0 && count <= self.room() && count as u64 <= MAX_LEN - self.len()
+        count > 0 && count <= self.room() && (count as u64) < POOL_LIMIT - self.len()
     }
 
-    /// Writes these bytes into the room of the last block.
-    fn extend(&mut self, bytes: &[u8])
+    /// Writes these bytes into the room of the last block, behind those that are there. It takes no memory.
+    pub fn extend(&mut self, bytes: &[u8])
         requires { Takes self.old (length bytes.now) }
         ensures new { self.new ≡ extended self.old bytes.now }
+        ensures keeps { KeepsPieces self.old self.new }
         ensures borders { All (λ border. border < length self.old.bytes) self.old.borders }
     {
         let last = self.blocks.len() - 1;
@@ -231,8 +252,8 @@ impl Pool {
     /// Opens a block for these bytes.
     fn open_block(&mut self, bytes: &[u8]) -> Result<(), AllocError>
         requires some { 0 < length bytes.now }
-        requires fits { length bytes.now ≤ block_size }
-        requires limit { length self.old.bytes + length bytes.now < 2 ^ 32 }
+        requires fits { length bytes.now ≤ BLOCK_SIZE }
+        requires limit { length self.old.bytes + length bytes.now < POOL_LIMIT }
         ensures ok { OnOk result (self.new ≡ with_block self.old bytes.now) }
         ensures err { OnErr result (self.new ≡ self.old) }
     {

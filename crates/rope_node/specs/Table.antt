@@ -1,5 +1,7 @@
 -- A table of nodes: what each node is, which tables are sound, and which records are true.
 use Rattle.std.specs.Prelude.{◌≡◌, ℕ, ◌+◌, ◌^◌, ◌<◌, ◌≤◌, max, List, [], length, get_or, slice_range}
+use Rattle.leaf_buffer.specs.declared.pool.TheConstants.{POOL_LIMIT}
+use Rattle.rope_node.specs.declared.limits.TheConstants.{MOST_DEPTH, TEXT_LIMIT}
 use Rattle.rope_node.specs.declared.node.NodeView.{NodeView}
 use Rattle.rope_node.specs.declared.node.NodeView.TheVariants.{Lit, Src, Fun, Cat, Sub}
 
@@ -51,14 +53,14 @@ HasSpanInside t n (Sub b i) = i + n ≤ len_at t b.0
 pub record IsSoundNode (t : Table) (id : ℕ) (n : Node) : Type 0 where
   pub references : HasGoodReferences t id n.view
   pub not_empty : 1 ≤ n.len
-  pub not_long : n.len < 2 ^ 40
-  pub not_deep : n.depth ≤ 64
+  pub not_long : n.len < TEXT_LIMIT
+  pub not_deep : n.depth ≤ MOST_DEPTH
   pub span : HasSpanInside t n.len n.view
 
 pub record IsSound (t : Table) : Type 0 where
   pub nodes : (id : ℕ) → id < length t.nodes → IsSoundNode t id (node_at t id)
-  pub pool : length t.pool < 2 ^ 32
-  pub sources : (s : ℕ) → get_or t.sources s 0 < 2 ^ 40
+  pub pool : length t.pool < POOL_LIMIT
+  pub sources : (s : ℕ) → get_or t.sources s 0 < TEXT_LIMIT
 
 -- a concatenation is as long as its children together
 abbrev pub HasTrueLength : Table → ℕ → NodeView → Type 0
@@ -97,6 +99,10 @@ literal_bytes t off n (Src s a) = []
 literal_bytes t off n Fun = []
 literal_bytes t off n (Cat l r) = []
 literal_bytes t off n (Sub b i) = []
+
+-- the bytes of a literal from its byte off on
+abbrev pub literal_from : Table → ℕ → ℕ → List ℕ
+literal_from t id off = literal_bytes t off (len_at t id) (view_at t id)
 
 abbrev pub IsFunction : NodeView → Type 0
 IsFunction (Lit a) = ⊥

@@ -1,8 +1,10 @@
 //! What every table of nodes offers.
 
 ghost use Rattle.std.specs.Prelude.{◌≡◌, ◌<◌, ◌≤◌, ◌^◌, ℕ, length, take, drop, get_or};
+ghost use Rattle.leaf_buffer.specs.declared.pool.TheConstants.{POOL_LIMIT};
+ghost use Rattle.rope_node.specs.declared.limits.TheConstants.{MOST_DEPTH, TEXT_LIMIT};
 ghost use Rattle.rope_node.specs.Denotes.{rope_cells, rope_len, IsRope};
-ghost use Rattle.rope_node.specs.Table.{Table, view_at, len_at, depth_at, IsSound, HasTrueRecords, IsLiteral, IsFunction, literal_bytes};
+ghost use Rattle.rope_node.specs.Table.{Table, view_at, len_at, depth_at, IsSound, HasTrueRecords, IsLiteral, IsFunction, literal_from};
 ghost use Rattle.rope_node.specs.Coded.{AnswersCoded};
 ghost use Rattle.function_leaf.specs.declared.coded.Coded.{Coded};
 
@@ -30,7 +32,7 @@ pub trait NodeSpace {
     fn len(&self, id: NodeId) -> u64
         requires { id.0 < length (table self.now).nodes }
         ensures value { result ≡ len_at (table self.now) id.0 }
-        ensures limit { result < 2 ^ 40 }
+        ensures limit { result < TEXT_LIMIT }
         ensures sound { IsSound (table self.now) }
         ensures true_records { HasTrueRecords (table self.now) };
 
@@ -38,14 +40,14 @@ pub trait NodeSpace {
     fn depth(&self, id: NodeId) -> u8
         requires { id.0 < length (table self.now).nodes }
         ensures value { result ≡ depth_at (table self.now) id.0 }
-        ensures limit { result ≤ 64 };
+        ensures limit { result ≤ MOST_DEPTH };
 
     /// A literal's bytes from its byte `off` on.
     fn literal(&self, id: NodeId, off: u64) -> &[u8]
         requires there { id.0 < length (table self.now).nodes }
         requires literal { IsLiteral (view_at (table self.now) id.0) }
         requires inside { off ≤ len_at (table self.now) id.0 }
-        ensures { result.now ≡ literal_bytes (table self.now) off (len_at (table self.now) id.0) (view_at (table self.now) id.0) };
+        ensures { result.now ≡ literal_from (table self.now) id.0 off };
 
     /// The byte that the function at a node answers at place `i`.
     fn fun_byte(&self, id: NodeId, i: u64) -> u8
@@ -61,12 +63,12 @@ pub trait NodeSpace {
     fn source_len(&self, s: u32) -> u64
         requires { s < length (table self.now).sources }
         ensures value { result ≡ get_or (table self.now).sources s 0 }
-        ensures limit { result < 2 ^ 40 };
+        ensures limit { result < TEXT_LIMIT };
 
     /// The length of the pool, in bytes.
     fn pool_len(&self) -> u64
         ensures value { result ≡ length (table self.now).pool }
-        ensures limit { result < 2 ^ 32 };
+        ensures limit { result < POOL_LIMIT };
 
     /// Bytes of the pool from place `a` on: one or more of them.
     fn pool(&self, a: u64) -> &[u8]
@@ -92,7 +94,7 @@ pub fn rope_len<S: NodeSpace>(space: &S, rope: Rope) -> u64
     requires { IsRope (S.table space.now) rope }
     ensures exact { result ≡ rope_len (S.table space.now) rope }
     ensures cells { result ≡ length (rope_cells (S.table space.now) rope) }
-    ensures short { result < 2 ^ 40 }
+    ensures short { result < TEXT_LIMIT }
 {
     match rope {
         None => 0,

@@ -1,9 +1,8 @@
 //! The span of one leaf that a place of a node begins.
 
-ghost use Rattle.std.specs.Prelude.{◌≡◌, ◌<◌, ◌≤◌, ◌+◌, length, take, drop};
+ghost use Rattle.std.specs.Prelude.{◌≡◌, ◌<◌, ◌≤◌, ◌+◌, length};
 ghost use Rattle.rope_node.specs.Table.{view_at, len_at, IsLeaf};
-ghost use Rattle.rope_node.specs.Denotes.{cells};
-ghost use Rattle.rope_node.specs.Path.{span_at};
+ghost use Rattle.rope_node.specs.Path.{span_at, BeginsWith};
 
 use crate::node::{LeafSpan, NodeId, NodeView};
 use crate::space::NodeSpace;
@@ -18,7 +17,7 @@ pub fn find_span<S: NodeSpace>(space: &S, node: NodeId, place: u64) -> LeafSpan
     ensures some { 1 ≤ result.len }
     ensures in_leaf { result.start + result.len ≤ len_at (S.table space.now) result.leaf.0 }
     ensures in_node { place + result.len ≤ len_at (S.table space.now) node.0 }
-    ensures cells { take result.len (drop place (cells (S.table space.now) node.0)) ≡ take result.len (drop result.start (cells (S.table space.now) result.leaf.0)) }
+    ensures cells { BeginsWith (S.table space.now) node.0 place result }
 {
     let mut leaf = node;
     let mut start = place;
