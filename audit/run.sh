@@ -41,11 +41,7 @@ done
 
 cd "$room" || exit 1
 git init -q .
-# What stands below is built once, before several crates want it.
-rt must-fail "$1" > "said/$1" 2>&1
-cat "said/$1"
-shift
-[ $# = 0 ] || printf '%s\n' "$@" | xargs -n 1 -P "${AUDIT_JOBS:-$(nproc)}" sh -c 'rt must-fail "$0" > "said/$0" 2>&1; cat "said/$0"'
+printf '%s\n' "$@" | xargs -n 1 -P "${AUDIT_JOBS:-$(nproc)}" sh -c 'rt must-fail "$0" > "said/$0" 2>&1; cat "said/$0"'
 passed=$(cat said/* | grep -c '^rt: must-fail .*: refused, as it must be')
 echo "$passed passed, $((count - passed)) failed"
 [ "$passed" = "$count" ]
