@@ -2,11 +2,11 @@
 
 ghost use Rattle.std.specs.Prelude.{◌≡◌, ◌↔◌, ◌==◌, [], not, filter, take, Ok, IfOk, IsTrue, string_bytes};
 ghost use Rattle.hex.specs.Hex.{decode_of};
-ghost use Rattle.cord_tools.specs.Answers.{image_limit, AnswersCheck};
+ghost use Rattle.cord_tools.specs.Answers.{AnswersWith, image_limit};
 ghost use Rattle.cord_tools.specs.declared.status.Status.TheVariants.{Failure};
 
 use anyhow::Result;
-use cord_tools::{Status, run_stdin};
+use cord_tools::{Outcome, Status, exit_status, run_stdin};
 use std::alloc::Global;
 use std::rt::Files;
 use std::{fmt, fs};
@@ -41,7 +41,8 @@ pub struct Answer {
 impl Answer {
     /// The answer to an image.
     pub fn of(alloc: Global, image: &[u8]) -> Result<Answer>
-        ensures { IfOk result (λ answer. AnswersCheck (take image_limit image.now) [] (string_bytes answer.line) answer.status) }
+        ensures { IfOk result (λ answer. AnswersWith
+            (take image_limit image.now) [] (string_bytes answer.line) answer.status) }
     {
         let mut written = Vec::new(alloc);
         let status = run_stdin(alloc, image, &mut written)?;
@@ -51,7 +52,8 @@ impl Answer {
 
     /// Whether the image was refused in this line.
     pub fn is_refusal(&self, line: &str) -> bool
-        ensures { IsTrue result ↔ ((self.now.status ≡ Failure) × (string_bytes self.now.line ≡ line.now)) }
+        ensures { IsTrue result
+            ↔ ((self.now.status ≡ Failure) × (string_bytes self.now.line ≡ line.now)) }
     {
         self.status == Status::Failure && self.line.as_str() == line
     }
@@ -59,10 +61,7 @@ impl Answer {
 
 impl fmt::Display for Answer {
     fn fmt<W: fmt::Write>(&self, f: &mut fmt::Formatter<W>) -> fmt::Result {
-        let number = match self.status {
-            Status::Success => 0,
-            Status::Failure => 1,
-        };
+        let number = exit_status(Outcome::Answered(self.status));
         write!(f, "{}, {number}", self.line.trim_end())
     }
 }

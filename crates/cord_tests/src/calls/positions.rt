@@ -2,11 +2,10 @@
 
 use cord_position::Pos;
 use function_leaf::Coded;
-use lazy_file::{AddFault, MemSources, SourceFault, Sources};
+use lazy_file::{MemSources, SourceFault, Sources};
 use rope_node::{NodeId, NodeSpace, NodeView, Rope};
 use std::alloc::Global;
 use std::process::Abort;
-use std::test::Fail;
 
 /// Seven nodes: `ab`, `c`, `def` and four bytes of a function, each a leaf, and what puts them together.
 #[derive(Drop)]
@@ -105,21 +104,17 @@ impl NodeSpace for Sample {
 }
 
 /// The texts of the two sources.
-fn two_texts(rt: &HostRuntime) -> Result<MemSources<'static>, AddFault> {
+fn texts(rt: &(impl AllocGlobal + Abort)) -> MemSources<'static> {
     let mut sources = MemSources::new(rt.alloc());
-    sources.add(b"ab")?;
-    sources.add(b"c")?;
-    Ok(sources)
-}
-
-/// The same, made again where memory was refused.
-fn texts(rt: &HostRuntime) -> Result<MemSources<'static>, Fail> {
-    Ok(two_texts(rt).or_else(|_| two_texts(rt))?)
+    for text in [&b"ab"[..], b"c"] {
+        let _ = sources.add(text).expect(rt, "a source");
+    }
+    sources
 }
 
 #[test]
-fn a_place_past_the_end_is_the_end(rt: HostRuntime) -> Result<(), Fail> {
-    let mut sources = texts(&rt)?;
+fn a_place_past_the_end_is_the_end(rt: HostRuntime) {
+    let mut sources = texts(&rt);
     let mut pos = Pos::set(&Sample, ALL, 11);
     assert_eq!(rt; pos.index(), 10);
     assert!(rt; !pos.valid());
@@ -128,12 +123,11 @@ fn a_place_past_the_end_is_the_end(rt: HostRuntime) -> Result<(), Fail> {
     assert!(rt; pos.run_bytes().is_empty());
     assert!(rt; !pos.next());
     assert_eq!(rt; pos.index(), 10);
-    Ok(())
 }
 
 #[test]
-fn steps_go_to_both_ends_and_stay(rt: HostRuntime) -> Result<(), Fail> {
-    let mut sources = texts(&rt)?;
+fn steps_go_to_both_ends_and_stay(rt: HostRuntime) {
+    let mut sources = texts(&rt);
     let mut pos = Pos::set(&Sample, ALL, 0);
     assert!(rt; !pos.prev());
     assert_eq!(rt; pos.index(), 0);
@@ -143,7 +137,6 @@ fn steps_go_to_both_ends_and_stay(rt: HostRuntime) -> Result<(), Fail> {
     }
     assert!(rt; !pos.next() && pos.prev());
     assert_eq!(rt; pos.index(), 9);
-    Ok(())
 }
 
 #[test]
@@ -176,8 +169,8 @@ fn a_run_ends_with_its_leaf(rt: HostRuntime) {
 }
 
 #[test]
-fn a_buffer_takes_a_run(rt: HostRuntime) -> Result<(), Fail> {
-    let mut sources = texts(&rt)?;
+fn a_buffer_takes_a_run(rt: HostRuntime) {
+    let mut sources = texts(&rt);
     for (i, n, bytes) in [
         (0, 2, *b"ab..."),
         (1, 1, *b"b...."),
@@ -201,7 +194,6 @@ fn a_buffer_takes_a_run(rt: HostRuntime) -> Result<(), Fail> {
         Pos::set(&Sample, ALL, 0).fill(&mut sources, &mut []),
         Ok(0)
     );
-    Ok(())
 }
 
 #[test]

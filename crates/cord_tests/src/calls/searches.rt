@@ -2,8 +2,7 @@
 
 use cord_search::{FindFault, PutFault, chr, cmp, find, ncmp, put, rchr};
 use function_leaf::Coded;
-use lazy_file::{AddFault, MemSources};
-use node_table::NodeFault;
+use lazy_file::MemSources;
 use rope_node::Rope;
 use rope_store::Store;
 use std::alloc::AllocGlobal;
@@ -11,35 +10,23 @@ use std::cmp::Ordering;
 use std::io;
 use std::process::Abort;
 
-/// The rope, or none where memory was refused, and then the test ends.
-fn unless_memory(rt: &impl Abort, made: Result<Rope, NodeFault>) -> Option<Rope> {
-    match made {
-        Err(NodeFault::Memory) => None,
-        other => Some(other.expect(rt, "a rope")),
-    }
-}
-
 /// A text that is a source of its own, as one leaf.
 fn source_leaf<'a>(
     rt: &impl Abort,
     store: &mut Store<Coded>,
     sources: &mut MemSources<'a>,
     text: &'a [u8],
-) -> Option<Rope> {
-    let s = match store.add_source(text.len() as u64) {
-        Err(NodeFault::Memory) => return None,
-        other => u32::from(other.expect(rt, "a source")),
-    };
-    match sources.add(text) {
-        Err(AddFault::Memory) => return None,
-        other => assert_eq!(rt; other.map(u32::from), Ok(s)),
-    }
-    unless_memory(rt, store.from_source(s, 0, text.len() as u64))
+) -> Rope {
+    let s = u32::from(store.add_source(text.len() as u64).expect(rt, "a source"));
+    assert_eq!(rt; sources.add(text).map(u32::from), Ok(s));
+    store
+        .from_source(s, 0, text.len() as u64)
+        .expect(rt, "a leaf")
 }
 
-fn joined(rt: &impl Abort, store: &mut Store<Coded>, l: Rope, r: Rope) -> Option<Rope> {
+fn joined(rt: &impl Abort, store: &mut Store<Coded>, l: Rope, r: Rope) -> Rope {
     assert!(rt; store.has(l) && store.has(r));
-    unless_memory(rt, store.cat(l, r))
+    store.cat(l, r).expect(rt, "a rope")
 }
 
 /// `abcde`, over three leaves.
@@ -47,11 +34,11 @@ fn three_leaves<'a>(
     rt: &impl Abort,
     store: &mut Store<Coded>,
     sources: &mut MemSources<'a>,
-) -> Option<Rope> {
-    let ab = source_leaf(rt, store, sources, b"ab")?;
-    let c = source_leaf(rt, store, sources, b"c")?;
-    let de = source_leaf(rt, store, sources, b"de")?;
-    let abc = joined(rt, store, ab, c)?;
+) -> Rope {
+    let ab = source_leaf(rt, store, sources, b"ab");
+    let c = source_leaf(rt, store, sources, b"c");
+    let de = source_leaf(rt, store, sources, b"de");
+    let abc = joined(rt, store, ab, c);
     joined(rt, store, abc, de)
 }
 
@@ -59,9 +46,7 @@ fn three_leaves<'a>(
 fn patterns_stand_across_leaves(rt: HostRuntime) {
     let mut store: Store<Coded> = Store::new(rt.alloc());
     let mut sources = MemSources::new(rt.alloc());
-    let Some(text) = three_leaves(&rt, &mut store, &mut sources) else {
-        return;
-    };
+    let text = three_leaves(&rt, &mut store, &mut sources);
     assert!(rt; store.has(text));
     for (start, pattern, found) in [
         (0, &b"bcd"[..], Some(1)),
@@ -92,17 +77,17 @@ fn order_of(
     rt: &(impl AllocGlobal + Abort),
     texts: [&[u8]; 2],
     part: Option<(u64, u64, u64)>,
-) -> Option<Ordering> {
+) -> Ordering {
     let mut store: Store<Coded> = Store::new(rt.alloc());
     let mut sources = MemSources::new(rt.alloc());
-    let x = unless_memory(rt, store.from_bytes(texts[0]))?;
-    let y = unless_memory(rt, store.from_bytes(texts[1]))?;
+    let x = store.from_bytes(texts[0]).expect(rt, "a rope");
+    let y = store.from_bytes(texts[1]).expect(rt, "a rope");
     assert!(rt; store.has(x) && store.has(y));
     let order = match part {
         Some((i, j, n)) => ncmp(&store, &mut sources, x, i, y, j, n),
         None => cmp(&store, &mut sources, x, y),
     };
-    Some(order.expect(rt, "an order"))
+    order.expect(rt, "an order")
 }
 
 #[test]
@@ -114,10 +99,8 @@ fn parts_are_compared(rt: HostRuntime) {
         ((2, 1, 1), Ordering::Greater),
         ((9, u64::MAX, u64::MAX), Ordering::Equal),
     ] {
-        match order_of(&rt, [b"abc", b"xbd"], Some(part)) {
-            Some(order) => assert_eq!(rt; order, want, "{part:?}"),
-            None => return,
-        }
+        let order = order_of(&rt, [b"abc", b"xbd"], Some(part));
+        assert_eq!(rt; order, want, "{part:?}");
     }
 }
 
@@ -129,10 +112,8 @@ fn texts_are_compared(rt: HostRuntime) {
         (b"\x7f", b"\x80", Ordering::Less),
         (b"", b"", Ordering::Equal),
     ] {
-        match order_of(&rt, [x, y], None) {
-            Some(order) => assert_eq!(rt; order, want, "{x:?}"),
-            None => return,
-        }
+        let order = order_of(&rt, [x, y], None);
+        assert_eq!(rt; order, want, "{x:?}");
     }
 }
 
@@ -140,9 +121,7 @@ fn texts_are_compared(rt: HostRuntime) {
 fn bytes_have_a_first_and_a_last_place(rt: HostRuntime) {
     let mut store: Store<Coded> = Store::new(rt.alloc());
     let mut sources = MemSources::new(rt.alloc());
-    let Some(text) = unless_memory(&rt, store.from_bytes(b"abab")) else {
-        return;
-    };
+    let text = store.from_bytes(b"abab").expect(&rt, "a rope");
     assert!(rt; store.has(text));
     for (i, first, last) in [
         (0, Some(0), Some(0)),
@@ -200,9 +179,7 @@ impl io::Write for Sink {
 fn text_is_written(rt: HostRuntime) {
     let mut store: Store<Coded> = Store::new(rt.alloc());
     let mut sources = MemSources::new(rt.alloc());
-    let Some(text) = three_leaves(&rt, &mut store, &mut sources) else {
-        return;
-    };
+    let text = three_leaves(&rt, &mut store, &mut sources);
     assert!(rt; store.has(text));
     let mut sink = Sink::with_room(8);
     assert_eq!(rt; put(&store, &mut sources, text, &mut sink), Ok(()));
@@ -213,9 +190,7 @@ fn text_is_written(rt: HostRuntime) {
 fn prefix_is_written_where_no_more_is_taken(rt: HostRuntime) {
     let mut store: Store<Coded> = Store::new(rt.alloc());
     let mut sources = MemSources::new(rt.alloc());
-    let Some(text) = three_leaves(&rt, &mut store, &mut sources) else {
-        return;
-    };
+    let text = three_leaves(&rt, &mut store, &mut sources);
     assert!(rt; store.has(text));
     let mut full = Sink::with_room(3);
     let outcome = put(&store, &mut sources, text, &mut full);
@@ -227,14 +202,9 @@ fn prefix_is_written_where_no_more_is_taken(rt: HostRuntime) {
 fn text_is_written_to_memory(rt: HostRuntime) {
     let mut store: Store<Coded> = Store::new(rt.alloc());
     let mut sources = MemSources::new(rt.alloc());
-    let Some(text) = three_leaves(&rt, &mut store, &mut sources) else {
-        return;
-    };
+    let text = three_leaves(&rt, &mut store, &mut sources);
     assert!(rt; store.has(text));
     let mut bytes: Vec<u8> = Vec::new(rt.alloc());
-    match put(&store, &mut sources, text, &mut bytes) {
-        Err(PutFault::Write) => return,
-        outcome => assert_eq!(rt; outcome, Ok(())),
-    }
+    assert_eq!(rt; put(&store, &mut sources, text, &mut bytes), Ok(()));
     assert_eq!(rt; bytes.as_slice(), b"abcde".as_slice());
 }

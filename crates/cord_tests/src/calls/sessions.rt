@@ -1,8 +1,10 @@
-//! Fetches of accepted images.
+//! Fetches of accepted images, and of their tables.
 
+use cord_position::fetch_byte;
+use image_reader::Image;
 use lazy_file::MemSources;
-use rope_node::NodeId;
-use session_checker::check;
+use rope_node::{NodeId, NodeSpace};
+use session_checker::{CheckFault, check, check_tables};
 
 /// The image of one insertion of `abc`: its header, node, two revisions, row and pool.
 const ONE_INSERT: &[u8] = b"CORDSESS\0\0\0\x01\0\0\0\0\0\0\0\x01\0\0\0\x02\
@@ -73,4 +75,26 @@ fn a_revision_has_its_root_and_its_mark(rt: HostRuntime) {
         (Some(Some(NodeId(0))), Some(true))
     );
     assert_eq!(rt; (image.root(2), image.mark(2)), (None, None));
+}
+
+#[test]
+fn a_table_that_passed_is_fetched_from(rt: HostRuntime) {
+    let mut sources = MemSources::new(rt.alloc());
+    let image = Image::read(SUBSTRINGS).expect(&rt, "an image");
+    let tables = check_tables(&image, &sources).expect(&rt, "the table is good");
+    assert_eq!(rt; tables.count(), 5);
+    let root = Some(NodeId(4));
+    for (i, found) in [(0, (Some(b'c'), 4)), (1, (Some(b'd'), 4)), (2, (None, 0))] {
+        let fetched = fetch_byte(&tables, &mut sources, root, i);
+        assert_eq!(rt; fetched, Ok(found), "at {i}");
+    }
+}
+
+#[test]
+fn a_table_with_other_sources_is_refused(rt: HostRuntime) {
+    let mut sources = MemSources::new(rt.alloc());
+    assert_eq!(rt; sources.add(b"abc"), Ok(0));
+    let image = Image::read(SUBSTRINGS).expect(&rt, "an image");
+    let refused = check_tables(&image, &sources).map(|tables| tables.count());
+    assert_eq!(rt; refused, Err(CheckFault::SourceCount));
 }

@@ -1,17 +1,4 @@
 use lazy_file::{AddFault, MemSources, SOURCE_LIMIT, SourceFault, Sources};
-use std::process::Abort;
-
-/// Adds a text. Where memory is refused nothing has changed, and the next call goes on.
-fn add<'a>(rt: &impl Abort, sources: &mut MemSources<'a>, text: &'a [u8]) -> Result<u8, AddFault> {
-    let before = sources.count();
-    match sources.add(text) {
-        Err(AddFault::Memory) => {
-            assert_eq!(rt; sources.count(), before);
-            sources.add(text)
-        }
-        outcome => outcome,
-    }
-}
 
 /// The size of source `s`, where there is one.
 fn size_of<S: Sources>(sources: &S, s: u8) -> Option<u64> {
@@ -72,8 +59,8 @@ fn read_after_a_fault_may_succeed(rt: HostRuntime) {
 fn texts_in_memory_are_counted(rt: HostRuntime) {
     let mut sources = MemSources::new(rt.alloc());
     assert_eq!(rt; sources.count(), 0);
-    assert_eq!(rt; add(&rt, &mut sources, b"abcde"), Ok(0));
-    assert_eq!(rt; add(&rt, &mut sources, b"xy"), Ok(1));
+    assert_eq!(rt; sources.add(b"abcde"), Ok(0));
+    assert_eq!(rt; sources.add(b"xy"), Ok(1));
     assert_eq!(rt; sources.count(), 2);
     assert_eq!(rt; size_of(&sources, 0), Some(5));
     assert_eq!(rt; size_of(&sources, 1), Some(2));
@@ -83,8 +70,8 @@ fn texts_in_memory_are_counted(rt: HostRuntime) {
 #[test]
 fn texts_in_memory_are_read(rt: HostRuntime) {
     let mut sources = MemSources::new(rt.alloc());
-    assert_eq!(rt; add(&rt, &mut sources, b"abcde"), Ok(0));
-    assert_eq!(rt; add(&rt, &mut sources, b"xy"), Ok(1));
+    assert_eq!(rt; sources.add(b"abcde"), Ok(0));
+    assert_eq!(rt; sources.add(b"xy"), Ok(1));
     let mut buffer = *b"...";
     assert_eq!(rt; sources.read(0, 1, &mut buffer), Ok(()));
     assert_eq!(rt; &buffer, b"bcd");
@@ -98,7 +85,7 @@ fn texts_in_memory_are_read(rt: HostRuntime) {
 #[test]
 fn spans_outside_are_refused(rt: HostRuntime) {
     let mut sources = MemSources::new(rt.alloc());
-    assert_eq!(rt; add(&rt, &mut sources, b"abcde"), Ok(0));
+    assert_eq!(rt; sources.add(b"abcde"), Ok(0));
     let mut two = [0; 2];
     for (s, off) in [(0, 4), (0, 5), (0, u64::MAX), (1, 0)] {
         let outcome = sources.read(s, off, &mut two);
@@ -114,9 +101,9 @@ fn spans_outside_are_refused(rt: HostRuntime) {
 fn at_most_255_sources(rt: HostRuntime) {
     let mut sources = MemSources::new(rt.alloc());
     for s in 0..255 {
-        assert_eq!(rt; add(&rt, &mut sources, b"a"), Ok(s));
+        assert_eq!(rt; sources.add(b"a"), Ok(s));
     }
-    assert_eq!(rt; add(&rt, &mut sources, b""), Err(AddFault::TooManySources));
+    assert_eq!(rt; sources.add(b""), Err(AddFault::TooManySources));
     assert_eq!(rt; sources.count(), 255);
 }
 
@@ -128,20 +115,15 @@ fn faults_print_their_codes(rt: HostRuntime) {
         (SourceFault::BadSource, "S3"),
         (SourceFault::Memory, "Memory"),
     ] {
-        // A refusal of memory: the next call goes on.
-        let printed = fault
-            .to_string(rt.alloc())
-            .or_else(|_| fault.to_string(rt.alloc()));
-        assert!(rt; printed.is_ok_and(|text| text.as_str() == code), "{code}");
+        let printed = fault.to_string(rt.alloc()).expect(&rt, "memory");
+        assert_eq!(rt; printed.as_str(), code);
     }
     for (fault, code) in [
         (AddFault::TooManySources, "S4"),
         (AddFault::SourceTooLong, "S5"),
         (AddFault::Memory, "Memory"),
     ] {
-        let printed = fault
-            .to_string(rt.alloc())
-            .or_else(|_| fault.to_string(rt.alloc()));
-        assert!(rt; printed.is_ok_and(|text| text.as_str() == code), "{code}");
+        let printed = fault.to_string(rt.alloc()).expect(&rt, "memory");
+        assert_eq!(rt; printed.as_str(), code);
     }
 }

@@ -1,8 +1,8 @@
 //! The tools over readers and writers that are interrupted, that fail, and that take no more.
 
 use cord_tools::{
-    Outcome, Status, ToolFault, exit_status, read_source, refuse_check, run_check, run_cmp, run_cut,
-    run_find, run_join, run_show, run_stdin, sources_of,
+    Outcome, Status, ToolFault, exit_status, read_source, refuse_check, run_check, run_cmp,
+    run_cut, run_find, run_join, run_show, run_stdin, sources_of,
 };
 use image_reader::ReadFault;
 use lazy_file::{AddFault, MemSources, SourceFault, Sources};
@@ -36,6 +36,19 @@ const ONE_SOURCE: &[u8] = b"CORDSESS\0\0\0\x01\0\0\0\x01\0\0\0\0\0\0\0\x01\
     \x01\0\0\0\xff\xff\xff\xff\0\0\0\0\0\0\0\0\0\0\0\0\0\0\0\0\
     \0\0\0\0\0\0\0\0\0\0\0\0\0\0\0\0\0\0\0\0\0\0\0\0\
     \0\0\0\0\0\0\0\0";
+
+/// The same insertion of `abc` beside a source of 3 bytes.
+const INSERT_BESIDE_A_SOURCE: &[u8] = b"CORDSESS\0\0\0\x01\0\0\0\x01\0\0\0\x01\0\0\0\x02\
+    \0\0\0\x01\0\0\0\0\0\0\0\0\0\0\0\x03\
+    \0\0\0\0\0\0\0\x03\
+    \x01\0\0\0\0\0\0\0\0\0\0\0\0\0\0\x03\
+    \0\0\0\0\0\0\0\0\0\0\0\0\0\0\0\0\
+    \x01\0\0\0\xff\xff\xff\xff\0\0\0\0\0\0\0\0\0\0\0\0\0\0\0\0\
+    \0\0\0\0\0\0\0\0\0\0\0\0\0\0\0\0\0\0\0\0\0\0\0\0\0\0\0\0\0\0\0\0\
+    \x03\x01\0\0\0\0\0\0\0\0\0\0\0\0\0\0\0\0\0\0\0\0\0\0\
+    \0\0\0\0\0\0\0\0\0\0\0\0\0\0\0\0\0\0\0\0\0\0\0\x03\0\0\0\x01\0\0\0\0\
+    \x02\0\0\0\0\0\0\0\0\0\0\0\0\0\0\x03\0\0\0\0\0\0\0\0\
+    abc";
 
 const ACCEPTED: &[u8] = b"accepted 2 revisions 1 nodes 1 rows\n";
 
@@ -406,17 +419,42 @@ impl Sources for Broken {
     }
 }
 
-/// The image of one insertion of source 0, of 3 bytes: its header, source, node, two revisions and row.
-const SOURCE_INSERTED: &[u8] = b"";
-
 #[test]
-fn a_check_reads_no_source(rt: HostRuntime) {
+fn a_session_without_the_sources_bytes_is_read_without_them(rt: HostRuntime) {
     let mut sources = Broken::at(0, SourceFault::Device);
     let mut writer = Sink::with_room(64, End::Fails);
-    let outcome = run_check(rt.alloc(), whole(ONE_SOURCE), &mut sources, &mut writer);
+    let outcome = run_check(
+        rt.alloc(),
+        whole(INSERT_BESIDE_A_SOURCE),
+        &mut sources,
+        &mut writer,
+    );
     assert_eq!(rt; outcome, Ok(Status::Success));
-    assert_eq!(rt; writer.taken(), b"accepted 1 revisions 0 nodes 0 rows\n".as_slice());
+    assert_eq!(rt; writer.taken(), ACCEPTED);
+    let mut shown = Sink::with_room(64, End::Fails);
+    let outcome = run_show(
+        rt.alloc(),
+        whole(INSERT_BESIDE_A_SOURCE),
+        &mut sources,
+        1,
+        &mut shown,
+    );
+    assert_eq!(rt; outcome, Ok(()));
+    assert_eq!(rt; shown.taken(), b"abc".as_slice());
     assert!(rt; !sources.failed);
+}
+
+#[test]
+fn sources_of_other_lengths_are_refused_without_a_read(rt: HostRuntime) {
+    let mut sources = Broken::at(0, SourceFault::Device);
+    let mut writer = Sink::with_room(64, End::Fails);
+    let outcome = run_check(rt.alloc(), whole(ONE_INSERT), &mut sources, &mut writer);
+    assert_eq!(rt; outcome, Ok(Status::Failure));
+    assert_eq!(rt; writer.taken(), b"refused C2\n".as_slice());
+    let mut shown = Sink::with_room(64, End::Fails);
+    let outcome = run_show(rt.alloc(), whole(ONE_INSERT), &mut sources, 1, &mut shown);
+    assert_eq!(rt; outcome, Err(ToolFault::Refused(CheckFault::SourceCount)));
+    assert!(rt; shown.taken().is_empty() && !sources.failed);
 }
 
 #[test]
@@ -451,7 +489,10 @@ fn the_program_ends_with_the_status_of_its_outcome(rt: HostRuntime) {
         (Outcome::Answered(Status::Success), 0),
         (Outcome::Answered(Status::Failure), 1),
         (Outcome::Ended(refused), 1),
-        (Outcome::Ended(ToolFault::Source(AddFault::SourceTooLong)), 1),
+        (
+            Outcome::Ended(ToolFault::Source(AddFault::SourceTooLong)),
+            1,
+        ),
         (Outcome::Ended(ToolFault::NoRevision), 1),
         (Outcome::Ended(ToolFault::PatternTooLong), 1),
         (Outcome::Ended(too_long), 1),
@@ -624,9 +665,9 @@ impl Sources for Halves {
     ghost use Rattle.std.specs.Prelude.{[], ◌∷◌, ◌^◌, None, false};
 
     ghost stated = { λ _. record {
-        sizes = 2 ^ 39 ∷ 2 ^ 39 ∷ [];
-        texts = None ∷ None ∷ [];
-        never_fails = false
+      sizes = 2 ^ 39 ∷ 2 ^ 39 ∷ [];
+      texts = None ∷ None ∷ [];
+      never_fails = false;
     } };
 
     ghost failures = { λ _. 0 };

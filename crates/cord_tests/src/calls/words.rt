@@ -3,7 +3,8 @@ use cord_words::{Action, WordsFault, words};
 use std::alloc::AllocError;
 use std::test::Fail;
 
-fn split(rt: &HostRuntime, text: &str) -> Result<Vec<String>, AllocError> {
+// The words of a line, which stand one space apart.
+fn line(rt: &HostRuntime, text: &str) -> Result<Vec<String>, AllocError> {
     let alloc = rt.alloc();
     let mut words = Vec::new(alloc);
     for word in text.split(' ') {
@@ -12,17 +13,8 @@ fn split(rt: &HostRuntime, text: &str) -> Result<Vec<String>, AllocError> {
     Ok(words)
 }
 
-// The words of a line, which stand one space apart. Here and below a call that is refused memory
-// is made again.
-fn line(rt: &HostRuntime, text: &str) -> Result<Vec<String>, AllocError> {
-    split(rt, text).or_else(|_| split(rt, text))
-}
-
 fn read<'a>(rt: &HostRuntime, line: &'a [String]) -> Result<Action<'a>, WordsFault> {
-    match words(rt.alloc(), line) {
-        Err(WordsFault::Memory) => words(rt.alloc(), line),
-        outcome => outcome,
-    }
+    words(rt.alloc(), line)
 }
 
 // The kind of the usage fault that a line is refused with, and its text.
@@ -32,7 +24,7 @@ fn usage_of(rt: &HostRuntime, text: &str) -> Result<Option<(ErrorKind, String)>,
         return Ok(None);
     };
     let alloc = rt.alloc();
-    let shown = format!(in alloc; "{error}").or_else(|_| format!(in alloc; "{error}"))?;
+    let shown = format!(in alloc; "{error}")?;
     Ok(Some((error.kind(), shown)))
 }
 

@@ -1,7 +1,7 @@
 use Rattle.std.proofs.Common.{◌≡◌, List, ℕ, ◌++◌, ◌∙◌, ap, subst, sym, []}
 use Rattle.std.specs.Prelude.{string_bytes}
 use Rattle.std.specs.Global.{Vec}
-use Rattle.cord_tools.specs.Answers.{AnswersCheck}
+use Rattle.cord_tools.specs.Answers.{AnswersWith}
 use Rattle.cord_vectors.proofs.image.Answer.of.Goals as goal
 
 pub returns : goal.returns
@@ -9,5 +9,5 @@ returns c =
     let told = c.in_ok-status.ensures in
     let line : told.1 ≡ string_bytes c.in_ok-line.line =
     sym (ap (λ (xs : List ℕ). xs ++ told.1) c.new-written.ensures.items) ∙ sym told.4 ∙ sym (ap (λ (v : Vec ℕ). v.items) c.in_ok-line.ensures.ok) in
-    subst (λ (xs : List ℕ). AnswersCheck xs [] (string_bytes c.in_ok-line.line) c.in_ok-status.status) told.2
-    (subst (λ (xs : List ℕ). AnswersCheck told.0 [] xs c.in_ok-status.status) line told.3)
+    subst (λ (xs : List ℕ). AnswersWith xs [] (string_bytes c.in_ok-line.line) c.in_ok-status.status) told.2
+    (subst (λ (xs : List ℕ). AnswersWith told.0 [] xs c.in_ok-status.status) line told.3)
