@@ -1,5 +1,5 @@
 -- A command is in range exactly where it has a result over the cells of the earlier texts.
-use Rattle.std.proofs.Common.{◌≡◌, ◌↔◌, ℕ, ◌+◌, ◌-◌, ◌^◌, ◌<◌, ◌≤◌, leb, ltb, List, [], ◌++◌, map, length, take, drop, Option, Some, None, refl, sym, ap, subst, ◌∙◌, arith, inl, inr, add-zero}
+use Rattle.std.proofs.Common.{◌≡◌, ◌↔◌, ℕ, ◌+◌, ◌^◌, ◌<◌, ◌≤◌, leb, ltb, List, [], ◌++◌, map, length, take, drop, Option, Some, None, refl, arith, inl, inr}
 use Rattle.std.specs.Prelude.{Bool, true, false, IsSome, slice_get, get_or, replicate, nat_le, if◌then◌else◌}
 use Rattle.std.specs.List.{range_with_len}
 use Rattle.std.proofs.lemmas.Bool.{cases_lt, leb-true, ltb-true}
@@ -8,11 +8,11 @@ use Rattle.std.proofs.lemmas.List.FromFn.{length-range_with_len}
 use Rattle.std.proofs.lemmas.Option.{slice_get_past}
 use Rattle.rope_node.specs.declared.node.NodeId.{NodeId}
 use Rattle.rope_node.specs.Table.{Table, IsSound, HasTrueRecords}
-use Rattle.rope_node.specs.Denotes.{Cell, Byte, Place, rope_cells, rope_len}
+use Rattle.rope_node.specs.Denotes.{Cell, Byte, Place, rope_cells}
 use Rattle.span_certificate.specs.declared.edit.Edit.{Edit}
 use Rattle.span_certificate.specs.declared.edit.Edit.TheVariants as Command
 use Rattle.span_certificate.specs.Commands.{◌>>=◌, span, bounded, replaced, spliced, result_of}
-use Rattle.span_certificate.specs.Parts.{root_at, AreRopes, IsInRange, len_of, givens_of}
+use Rattle.span_certificate.specs.Parts.{root_at, AreRopes, IsInRange, givens_of}
 use Rattle.span_certificate.proofs.Covering.{length-rope_cells}
 use Rattle.span_certificate.proofs.Joined.{text_at, terms_joined}
 

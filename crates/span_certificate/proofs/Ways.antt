@@ -7,7 +7,7 @@ use Rattle.rope_node.specs.declared.node.NodeView.TheVariants.{Cat, Sub}
 use Rattle.rope_node.specs.Table.{Table, view_at, len_at, IsLeaf, IsSound, HasTrueRecords}
 use Rattle.span_certificate.specs.declared.describe.Description.{Description}
 use Rattle.span_certificate.specs.declared.descent.LeafSpan.{LeafSpan}
-use Rattle.span_certificate.specs.Leads.{Leads, here, in_left, in_right, in_base, LeadsToLeaf, leaf_description, HasDescription}
+use Rattle.span_certificate.specs.Leads.{Leads, here, in_left, in_right, in_base, leaf_description, HasDescription}
 use Rattle.span_certificate.specs.Descents.{LeadsToSpan}
 use Rattle.span_certificate.proofs.Descents.{children_of_cat, base_of_sub, not_leaf_cat, not_leaf_sub}
 

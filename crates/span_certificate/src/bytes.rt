@@ -79,8 +79,12 @@ fn fill_pool<S: NodeSpace>(space: &S, a: u64, buffer: &mut [u8])
     ensures { buffer.new ≡ take (length buffer.old) (drop a (S.table space.now).pool) }
 {
     let _limit = space.pool_len();
-    for k in 0..buffer.len() {
-        buffer[k] = space.pool(a + k as u64)[0];
+    let mut done = 0;
+    while done < buffer.len() {
+        let piece = space.pool(a + done as u64);
+        let n = piece.len().min(buffer.len() - done);
+        buffer[done..done + n].copy_from_slice(&piece[..n]);
+        done += n;
     }
 }
 

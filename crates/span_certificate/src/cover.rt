@@ -1,12 +1,12 @@
 //! Rows tested against the parts of a command and its root.
 
-ghost use Rattle.std.specs.Prelude.{◌≡◌, ◌+◌, ◌<◌, ◌≤◌, ◌↔◌, length, Some, IsTrue, IfOk};
+ghost use Rattle.std.specs.Prelude.{◌≡◌, ◌+◌, ◌<◌, ◌≤◌, ◌↔◌, length, Some, Ok, IsTrue, IfOk};
 ghost use Rattle.rope_node.specs.Table.{IsSound, HasTrueRecords};
 ghost use Rattle.rope_node.specs.Denotes.{rope_len, IsRope};
 ghost use Rattle.span_certificate.specs.Parts.{part_at, part_len, parts_len, IsPart, AreParts};
 ghost use Rattle.span_certificate.specs.Covers.{HaveOneDescription, kind_compares, row_compares};
 ghost use Rattle.span_certificate.specs.Runs.{ReadsCells};
-ghost use Rattle.span_certificate.specs.Verdicts.{ReadsRows, TellsKind, TellsRow, TellsRows};
+ghost use Rattle.span_certificate.specs.Verdicts.{ReadsRows, ShowsSame, TellsKind, TellsRow, TellsRows};
 
 use crate::bytes::same_bytes;
 use crate::exact::{describe_part, part_leads};
@@ -165,6 +165,8 @@ pub fn verify<S: CodedSpace, T: Sources, R: Rows>(
     requires root { IsRope (S.NodeSpace.table space.now) root }
     ensures exact { IfOk result (TellsRows (S.NodeSpace.table space.now) (S.coded space.now)
         (T.stated sources.old) parts.now root (R.listed rows.now)) }
+    ensures shows { result ≡ Ok Verdict.Good → ShowsSame
+        (S.NodeSpace.table space.now) (T.stated sources.old) parts.now root (R.listed rows.now) }
     ensures reads { ReadsRows T.stated T.failures sources.old sources.new
         (S.NodeSpace.table space.now) (S.coded space.now)
         parts.now root (R.listed rows.now) result }

@@ -1,7 +1,6 @@
-use Rattle.std.proofs.Common.{◌≡◌, ℕ, ◌^◌, ◌<◌, Some, refl, sym, ap, subst, ◌∙◌, arith}
+use Rattle.std.proofs.Common.{◌≡◌, ◌^◌, ◌<◌, Some, refl, sym, ap, subst, ◌∙◌, arith}
 use Rattle.rope_node.specs.Table.{len_at, IsLeaf}
 use Rattle.rope_node.proofs.Paths.{is_leaf_of}
-use Rattle.span_certificate.specs.declared.descent.LeafSpan.{LeafSpan}
 use Rattle.span_certificate.specs.Leads.{here}
 use Rattle.span_certificate.specs.Descents.{LeadsToSpan}
 use Rattle.span_certificate.proofs.Descents.{goes_left, goes_right, goes_down, over_border, same_span, base_of_sub}
