@@ -2,7 +2,7 @@
 use Rattle.std.specs.Prelude.{◌≡◌, ℕ, ◌^◌, ◌<◌, ◌≤◌, length}
 use Rattle.rope_node.specs.declared.node.NodeView.{NodeView}
 use Rattle.rope_node.specs.Table.{Node, Table, node_at, HasGoodReferences, HasTrueLength, HasSpanInside, depth_of}
-use Rattle.image_reader.specs.Acceptance.{IsGoodNode}
+use Rattle.image_reader.specs.Accepted.{IsGoodNode}
 use Rattle.session_checker.specs.declared.fault.CheckFault.{CheckFault}
 use Rattle.session_checker.specs.declared.fault.CheckFault.TheVariants as faults
 use Rattle.session_checker.specs.declared.node_rules.NodeRule.{NodeRule}
