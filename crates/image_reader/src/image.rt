@@ -43,10 +43,13 @@ impl<'a> Model for Image<'a> {
 
     ghost Value = { ImageValue };
 
-    ghost view = { λ a. sections_value a.source_count a.sources.now a.node_count a.nodes.now a.revision_count a.revisions.now a.row_count a.rows.now a.pool.now };
+    ghost view = { λ a. sections_value a.source_count a.sources.now a.node_count a.nodes.now
+        a.revision_count a.revisions.now a.row_count a.rows.now a.pool.now };
 
-    ghost invariant = { λ a. HasRoom a.source_count a.sources.now a.node_count a.nodes.now a.revision_count a.revisions.now a.row_count a.rows.now
-        × IsImage (sections_value a.source_count a.sources.now a.node_count a.nodes.now a.revision_count a.revisions.now a.row_count a.rows.now a.pool.now)
+    ghost invariant = { λ a. HasRoom a.source_count a.sources.now a.node_count a.nodes.now
+        a.revision_count a.revisions.now a.row_count a.rows.now
+        × IsImage (sections_value a.source_count a.sources.now a.node_count a.nodes.now
+        a.revision_count a.revisions.now a.row_count a.rows.now a.pool.now)
         × (first_fault node_record_fault (records 32 a.node_count a.nodes.now) ≡ None) };
 }
 

@@ -55,7 +55,8 @@ pub fn check_sections(
     requires nodes { 32 * header.now.nodes ≤ length nodes.now }
     requires revisions { 56 * header.now.revisions ≤ length revisions.now }
     requires rows { 24 * header.now.rows ≤ length rows.now }
-    ensures { result_err result ≡ sections_fault header.now.sources sources.now header.now.nodes nodes.now header.now.revisions revisions.now header.now.rows rows.now }
+    ensures { result_err result ≡ sections_fault header.now.sources sources.now header.now.nodes nodes.now
+        header.now.revisions revisions.now header.now.rows rows.now }
 {
     check_each::<SourceRecords>(header.sources, sources)?;
     check_each::<NodeRecords>(header.nodes, nodes)?;

@@ -1,6 +1,7 @@
 -- What an accepted image is: each revision's root denotes the text that the commands give, and each record is true.
-use Rattle.std.specs.Prelude.{◌≡◌, ℕ, ◌<◌, List, [], length, map, get_or, slice_get, Option}
+use Rattle.std.specs.Prelude.{◌≡◌, ℕ, ◌<◌, Bool, List, [], length, map, get_or, slice_get, Option}
 use Rattle.std.specs.List.{range_with_len}
+use Rattle.rope_node.specs.declared.node.NodeId.{NodeId}
 use Rattle.rope_node.specs.Table.{len_at, IsSound, HasTrueRecords}
 use Rattle.rope_node.specs.Denotes.{Cell, cells, rope_cells, IsRope, text}
 use Rattle.rope_node.specs.Path.{rope_visits}
@@ -39,6 +40,16 @@ texts v source = map (λ (r : Revision). text source (rope_cells (image_table v)
 -- the text of revision k, where there is one
 abbrev pub revision_text : ImageValue → (ℕ → ℕ → ℕ) → ℕ → List ℕ
 revision_text v source k = get_or (texts v source) k []
+
+-- what is recorded of revision k, which is there and whose root is nil or a node; its root; its mark
+abbrev pub IsRevisionOf : ImageValue → ℕ → Revision → Type 0
+IsRevisionOf v k r = (k < length v.revisions) × (r ≡ revision_at v k) × IsRope (image_table v) r.root
+
+abbrev pub IsRootOf : ImageValue → ℕ → Option NodeId → Type 0
+IsRootOf v k root = (k < length v.revisions) × (root ≡ (revision_at v k).root) × IsRope (image_table v) root
+
+abbrev pub IsMarkOf : ImageValue → ℕ → Bool → Type 0
+IsMarkOf v k mark = (k < length v.revisions) × (mark ≡ (revision_at v k).mark)
 
 -- the cell at i of revision k's root
 abbrev pub fetched_cell : ImageValue → ℕ → ℕ → Cell

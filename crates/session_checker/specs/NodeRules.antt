@@ -26,6 +26,9 @@ Breaks t id n Length = HasGoodReferences t id n.view × ¬ HasGoodLength t n.len
 Breaks t id n Depth = HasGoodReferences t id n.view × HasGoodLength t n.len n.view × ¬ HasGoodDepth t n.depth n.view
 Breaks t id n Span = HasGoodReferences t id n.view × HasGoodLength t n.len n.view × HasGoodDepth t n.depth n.view × ¬ HasSpanInside t n.len n.view
 
+abbrev pub BreaksFirst : Table → ℕ → NodeRule → Type 0
+BreaksFirst t id rule = Breaks t id (node_at t id) rule
+
 abbrev pub fault_at : NodeRule → ℕ → CheckFault
 fault_at Reference id = faults.Reference id
 fault_at Length id = faults.Length id
@@ -38,5 +41,5 @@ pub record IsFirstNodeFault (t : Table) (f : CheckFault) : Type 0 where
   pub there : id < length t.nodes
   pub earlier : (c : ℕ) → c < id → IsGoodNode t c
   pub rule : NodeRule
-  pub breaks : Breaks t id (node_at t id) rule
+  pub breaks : BreaksFirst t id rule
   pub is : f ≡ fault_at rule id

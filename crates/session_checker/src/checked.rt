@@ -1,14 +1,14 @@
 //! Accepted images.
 
 ghost use Rattle.std.specs.Prelude.{◌≡◌, ◌↔◌, ◌<◌, ◌≤◌, ◌+◌, ℕ, true, length, slice_get, None, IfOk, IfErr, IfSome, IsOk, IsSome};
-ghost use Rattle.rope_node.specs.Denotes.{rope_len, rope_depth, IsRope};
+ghost use Rattle.rope_node.specs.Denotes.{rope_len, rope_depth};
 ghost use Rattle.cord_position.specs.Fetched.{ReadsSpan};
 ghost use Rattle.image_reader.specs.Accepted.{HasSources, revision_at};
 ghost use Rattle.image_reader.specs.Value.{IsImage, image_table};
 ghost use Rattle.image_reader.specs.Spelling.{spelling};
 ghost use Rattle.lazy_file.specs.SourceTexts.{Reads};
 ghost use Rattle.session_checker.specs.Accepted.{StatesAll, IsAccepted, IsFirstFault};
-ghost use Rattle.session_checker.specs.Faithful.{IsFaithful, HasTrueRecordsOf, IsFetchedOf, fetch_visits, fetched_cell};
+ghost use Rattle.session_checker.specs.Faithful.{IsFaithful, HasTrueRecordsOf, IsRevisionOf, IsRootOf, IsMarkOf, IsFetchedOf, fetch_visits, fetched_cell};
 
 use crate::fault::CheckFault;
 use crate::revision_rules::check_revisions;
@@ -55,7 +55,7 @@ impl Checked<'_> {
 
     /// Revision `k` as it is recorded, where there is one.
     fn revision(&self, k: u32) -> Option<Revision>
-        ensures there { IfSome result (λ r. (k < length self.now.revisions) × (r ≡ revision_at self.now k) × IsRope (image_table self.now) r.root) }
+        ensures there { IfSome result (IsRevisionOf self.now k) }
         ensures not_there { result ≡ None ↔ length self.now.revisions ≤ k }
     {
         if k < self.tables.image().revision_count() {
@@ -67,7 +67,7 @@ impl Checked<'_> {
 
     /// The root of revision `k`, where there is one.
     pub fn root(&self, k: u32) -> Option<Rope>
-        ensures there { IfSome result (λ root. (k < length self.now.revisions) × (root ≡ (revision_at self.now k).root) × IsRope (image_table self.now) root) }
+        ensures there { IfSome result (IsRootOf self.now k) }
         ensures not_there { result ≡ None ↔ length self.now.revisions ≤ k }
     {
         Some(self.revision(k)?.root)
@@ -75,7 +75,7 @@ impl Checked<'_> {
 
     /// Whether revision `k` is marked as balanced, where there is one.
     pub fn mark(&self, k: u32) -> Option<bool>
-        ensures there { IfSome result (λ mark. (k < length self.now.revisions) × (mark ≡ (revision_at self.now k).mark)) }
+        ensures there { IfSome result (IsMarkOf self.now k) }
         ensures not_there { result ≡ None ↔ length self.now.revisions ≤ k }
     {
         Some(self.revision(k)?.mark)

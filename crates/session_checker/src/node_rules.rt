@@ -1,9 +1,10 @@
 //! The rules that each node has to keep, tested by its record and those of its children.
 
 ghost use Rattle.std.specs.Prelude.{◌≡◌, ◌+◌, ◌<◌, ◌≤◌, ◌↔◌, length, IsTrue, IsOk, IfErr};
-ghost use Rattle.rope_node.specs.Table.{node_at, depth_of, HasGoodReferences, HasSpanInside, IsSoundNode, IsTrueNode};
+ghost use Rattle.rope_node.specs.Table.{depth_of, HasGoodReferences, HasSpanInside};
 ghost use Rattle.image_reader.specs.Value.{image_table};
-ghost use Rattle.session_checker.specs.NodeRules.{HasGoodLength, HasGoodDepth, Breaks};
+ghost use Rattle.image_reader.specs.Accepted.{IsGoodNode};
+ghost use Rattle.session_checker.specs.NodeRules.{HasGoodLength, HasGoodDepth, BreaksFirst};
 
 use image_reader::Image;
 use rope_node::{NodeId, NodeView};
@@ -94,8 +95,8 @@ fn has_span_inside(image: &Image, id: u32, view: NodeView, len: u64) -> bool
 /// Tests the rules of node `id` in their order, and answers the first that it breaks.
 pub fn check_node(image: &Image, id: NodeId) -> Result<(), NodeRule>
     requires { id.0 < length (image_table image.now).nodes }
-    ensures ok { IsOk result ↔ (IsSoundNode (image_table image.now) id.0 (node_at (image_table image.now) id.0) × IsTrueNode (image_table image.now) (node_at (image_table image.now) id.0)) }
-    ensures err { IfErr result (Breaks (image_table image.now) id.0 (node_at (image_table image.now) id.0)) }
+    ensures ok { IsOk result ↔ IsGoodNode (image_table image.now) id.0 }
+    ensures err { IfErr result (BreaksFirst (image_table image.now) id.0) }
 {
     let view = image.node(id);
     let len = image.len(id);
