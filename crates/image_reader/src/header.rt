@@ -75,7 +75,9 @@ impl Header {
 
     /// Whether a number is over its limit.
     fn is_over_limit(&self) -> bool
-        ensures { result ≡ (nat_lt most_sources self.now.sources || (nat_lt most_nodes self.now.nodes || (nat_lt most_revisions self.now.revisions || (nat_lt most_rows self.now.rows || nat_lt most_pool self.now.pool)))) }
+        ensures { result ≡ (nat_lt most_sources self.now.sources || (nat_lt most_nodes self.now.nodes
+            || (nat_lt most_revisions self.now.revisions || (nat_lt most_rows self.now.rows
+            || nat_lt most_pool self.now.pool)))) }
     {
         self.sources > MOST_SOURCES
             || self.nodes > MOST_NODES
@@ -87,7 +89,8 @@ impl Header {
     /// The length of the whole image, in bytes.
     fn stated_len(&self) -> u64
         requires { self.now.pool < 2 ^ 32 }
-        ensures { result ≡ 40 + 8 * self.now.sources + 32 * self.now.nodes + 56 * self.now.revisions + 24 * self.now.rows + self.now.pool }
+        ensures { result ≡ 40 + 8 * self.now.sources + 32 * self.now.nodes
+            + 56 * self.now.revisions + 24 * self.now.rows + self.now.pool }
     {
         40 + 8 * self.sources as u64
             + 32 * self.nodes as u64

@@ -5,14 +5,15 @@ ghost use Rattle.std.specs.Result.{result_err};
 ghost use Rattle.rope_node.specs.declared.node.NodeView.TheVariants.{Fun};
 ghost use Rattle.rope_node.specs.Table.{view_at, len_at, depth_at};
 ghost use Rattle.image_reader.specs.Value.{ImageValue, IsImage, function_at, image_table};
+ghost use Rattle.image_reader.specs.Accepted.{revision_at};
 ghost use Rattle.image_reader.specs.Spelling.{spelling};
 ghost use Rattle.image_reader.specs.Reading.{fault_of, image_of};
 
+use crate::decode::{revision_in, row_in, source_in};
 use crate::fault::ReadFault;
 use crate::header::read_header;
 use crate::node::{depth_in, function_in, len_in, view_in};
 use crate::number::{bytes_from, cell_at};
-use crate::decode::{revision_in, row_in, source_in};
 use crate::revision::Revision;
 use crate::section::check_sections;
 use function_leaf::Coded;
@@ -42,10 +43,13 @@ impl<'a> Model for Image<'a> {
 
     ghost Value = { ImageValue };
 
-    ghost view = { λ a. sections_value a.source_count a.sources.now a.node_count a.nodes.now a.revision_count a.revisions.now a.row_count a.rows.now a.pool.now };
+    ghost view = { λ a. sections_value a.source_count a.sources.now a.node_count a.nodes.now
+        a.revision_count a.revisions.now a.row_count a.rows.now a.pool.now };
 
-    ghost invariant = { λ a. HasRoom a.source_count a.sources.now a.node_count a.nodes.now a.revision_count a.revisions.now a.row_count a.rows.now
-        × IsImage (sections_value a.source_count a.sources.now a.node_count a.nodes.now a.revision_count a.revisions.now a.row_count a.rows.now a.pool.now)
+    ghost invariant = { λ a. HasRoom a.source_count a.sources.now a.node_count a.nodes.now
+        a.revision_count a.revisions.now a.row_count a.rows.now
+        × IsImage (sections_value a.source_count a.sources.now a.node_count a.nodes.now
+        a.revision_count a.revisions.now a.row_count a.rows.now a.pool.now)
         × (first_fault node_record_fault (records 32 a.node_count a.nodes.now) ≡ None) };
 }
 
@@ -190,7 +194,8 @@ impl<'a> Image<'a> {
     /// Revision `k`.
     pub fn revision(&self, k: u32) -> Revision
         requires { k < length self.now.revisions }
-        ensures { slice_get self.now.revisions k ≡ Some result }
+        ensures value { slice_get self.now.revisions k ≡ Some result }
+        ensures at { result ≡ revision_at self.now k }
     {
         revision_in(cell_at(self.revisions, 56, k as usize))
     }

@@ -8,11 +8,11 @@ ghost use Rattle.std.specs.Int.{w8};
 ghost use Rattle.image_reader.specs.Reading.{source_record_fault, node_record_fault, revision_record_fault, row_record_fault, first_fault, any_nonzero, unused_in_revision, unused_in_row, sections_fault};
 
 use crate::command::{edit_by, has_unused_number, numbers_in};
+use crate::decode::counted_rows;
 use crate::fault::ReadFault;
 use crate::header::Header;
 use crate::node::{has_unused_node_field, is_unknown_node};
 use crate::number::{u8_in, u16_in, u32_in, u64_in};
-use crate::decode::counted_rows;
 
 /// A kind of record.
 pub trait Records {
@@ -55,7 +55,8 @@ pub fn check_sections(
     requires nodes { 32 * header.now.nodes ≤ length nodes.now }
     requires revisions { 56 * header.now.revisions ≤ length revisions.now }
     requires rows { 24 * header.now.rows ≤ length rows.now }
-    ensures { result_err result ≡ sections_fault header.now.sources sources.now header.now.nodes nodes.now header.now.revisions revisions.now header.now.rows rows.now }
+    ensures { result_err result ≡ sections_fault header.now.sources sources.now header.now.nodes nodes.now
+        header.now.revisions revisions.now header.now.rows rows.now }
 {
     check_each::<SourceRecords>(header.sources, sources)?;
     check_each::<NodeRecords>(header.nodes, nodes)?;

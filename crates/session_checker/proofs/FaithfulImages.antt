@@ -1,101 +1,171 @@
 -- Rules on single records imply that the whole image is faithful.
-use Rattle.std.proofs.Common.{◌≡◌, ℕ, zero, suc, ◌+◌, ◌^◌, ◌<◌, true, ltb, leb, List, [], ◌∷◌, ◌++◌, length, map, take, drop, Option, Some, None, refl, sym, ap, ◌∙◌, arith}
-use Rattle.std.specs.Prelude.{slice_get}
+use Rattle.std.proofs.Common.{◌≡◌, ℕ, ◌<◌, ◌≤◌, List, [], ◌∷◌, length, map, take, Option, Some, None, refl, sym, ap, subst, ◌∙◌, arith}
+use Rattle.std.specs.Prelude.{slice_get, slice_index}
 use Rattle.std.specs.Option.{option_map}
-use Rattle.std.specs.List.{slice_range}
-use Rattle.std.proofs.lemmas.Bool.{lt-ltb, le-leb}
-use Rattle.std.proofs.lemmas.List.{append-nil, length-map, length-take, length-drop}
+use Rattle.std.specs.List.{range_with_len}
+use Rattle.std.proofs.lemmas.List.{length-map, take-map, map-id}
+use Rattle.std.proofs.lemmas.Simd.{map-map}
 use Rattle.std.proofs.lemmas.Option.{slice_get_within, slice_get-map, slice_get-get_or, same_Some}
+use Rattle.function_leaf.specs.declared.coded.Coded.{Coded}
+use Rattle.function_leaf.specs.Coded.{coded_byte}
+use Rattle.function_leaf.specs.Optional.{answer_of, or_fill}
 use Rattle.rope_node.specs.declared.node.NodeId.{NodeId}
 use Rattle.rope_node.specs.Table.{IsSound, HasTrueRecords}
-use Rattle.rope_node.specs.Denotes.{Cell, Byte, rope_cells, text}
+use Rattle.rope_node.specs.Denotes.{Cell, Byte, Place, cell_byte, rope_cells, IsRope, text}
 use Rattle.rope_node.proofs.Cells.{cells_length}
+use Rattle.lazy_file.specs.SourceTexts.{Agrees, Stated, text_at}
 use Rattle.span_certificate.specs.declared.edit.Edit.{Edit}
-use Rattle.span_certificate.specs.declared.edit.Edit.TheVariants.{New, Insert}
-use Rattle.span_certificate.specs.Commands.{result_of, IsHistory}
-use Rattle.span_certificate.specs.Parts.{parts_of, parts_cells}
-use Rattle.span_certificate.proofs.Covering.{covered_cells}
+use Rattle.span_certificate.specs.Commands.{Givens, result_of, IsHistory}
+use Rattle.span_certificate.specs.Parts.{parts_cells, AreRopes, AreParts, givens_of}
+use Rattle.span_certificate.specs.Leads.{AreAnswered}
+use Rattle.span_certificate.proofs.Joined.{parts_joined}
+use Rattle.span_certificate.proofs.MappedResults.{mapped_givens, result_mapped}
+use Rattle.span_certificate.proofs.Sameness.{covered_text, covered_cells}
+use Rattle.span_certificate.proofs.MadeRows.{no_source_stated}
 use Rattle.image_reader.specs.declared.revision.Revision.{Revision}
-use Rattle.image_reader.specs.Value.{ImageValue, IsImage, table_of}
-use Rattle.image_reader.specs.Acceptance.{AreGoodNodes}
-use Rattle.session_checker.specs.RevisionRules.{no_revision, revision_at, IsInRange, AreGoodRevisions}
-use Rattle.session_checker.specs.Faithful.{givens, commands, texts, IsFaithful}
+use Rattle.image_reader.specs.Value.{ImageValue, IsImage, image_table, function_at, coded_at}
+use Rattle.image_reader.specs.Accepted.{AreGoodNodes, no_revision, revision_at, roots_before, parts_at, rows_at, KeepsRules}
+use Rattle.session_checker.specs.RevisionRules.{HasStatedRows, HasRowsOverNoSource, IsGoodOver, AreGoodOver}
+use Rattle.session_checker.specs.Faithful.{source_text, givens, commands, texts_cells, texts, HasTrueRecordsOf, EachRevision, IsFaithful}
 use Rattle.session_checker.proofs.SoundTables.{sound_table, true_table}
-use Rattle.session_checker.proofs.GoodRevisions.{parts_in_range}
+use Rattle.session_checker.proofs.EarlierRevisions.{earlier_ropes}
+use Rattle.session_checker.proofs.PartsInRange.{parts_in_range}
 
--- the text of bytes is the bytes
-text-bytes : (source : ℕ → ℕ → ℕ) (bs : List ℕ) → text source (map Byte bs) ≡ bs
-text-bytes source [] = refl
-text-bytes source (b ∷ bs) = ap (λ (xs : List ℕ). b ∷ xs) (text-bytes source bs)
+-- the functions at an image's nodes answer as they are coded
+pub answered : (v : ImageValue) → AreAnswered (image_table v) (coded_at v)
+answered v k is i = by_function (function_at v k)
+  where
+    by_function : (f : Option Coded) → answer_of coded_byte f i ≡ coded_byte (or_fill f) i
+    by_function None = refl
+    by_function (Some f) = refl
 
--- the text of revision k
-unfoldable text_at : ImageValue → (ℕ → ℕ → ℕ) → ℕ → List ℕ
-text_at v source k = text source (rope_cells (table_of v) (revision_at v k).root)
+-- some bytes agree with what sources state
+abbrev stated_byte : Option (List ℕ) → ℕ → ℕ
+stated_byte None p = 0
+stated_byte (Some t) p = slice_index t p
 
-slice_get-texts : (v : ImageValue) (source : ℕ → ℕ → ℕ) (k : ℕ) → k < length v.revisions → slice_get (texts v source) k ≡ Some (text_at v source k)
-unfolding text_at
-slice_get-texts v source k lt =
-    let f : Revision → List ℕ = λ (r : Revision). text source (rope_cells (table_of v) r.root) in
-    slice_get-map f v.revisions k ∙ ap (option_map f) (slice_get-get_or v.revisions k no_revision lt)
+pub agreeing : (st : Stated) → (source : ℕ → ℕ → ℕ) × Agrees st source
+agreeing st = (λ s p. stated_byte (text_at st s) p, λ s p t is inside. ap (λ o. stated_byte o p) is)
 
--- the command of revision k
+-- ---- lists
+
+map_alike : {A B : Type 0} (f g : A → B) → ((x : A) → f x ≡ g x) → (xs : List A) → map f xs ≡ map g xs
+map_alike f g same [] = refl
+map_alike f g same (x ∷ xs) = rw (same x, map_alike f g same xs) refl
+
+-- what stands at a revision's place, and the command there
+at_revision : {X : Type 0} (v : ImageValue) (f : Revision → X) (k : ℕ) → k < length v.revisions → slice_get (map f v.revisions) k ≡ Some (f (revision_at v k))
+at_revision v f k lt = slice_get-map f v.revisions k ∙ ap (option_map f) (slice_get-get_or v.revisions k no_revision lt)
+
 command_is : (v : ImageValue) (k : ℕ) (e : Edit) → slice_get (commands v) k ≡ Some e → (k < length v.revisions) × ((revision_at v k).edit ≡ e)
 command_is v k e at =
     let f : Revision → Edit = λ (r : Revision). r.edit in
     let lt : k < length v.revisions = omega (arith, slice_get_within (commands v) k e at, length-map v.revisions f) in
-    let found : Some (revision_at v k).edit ≡ Some e = sym (ap (option_map f) (slice_get-get_or v.revisions k no_revision lt)) ∙ sym (slice_get-map f v.revisions k) ∙ at in
-    (lt, same_Some (revision_at v k).edit e found)
+    (lt, same_Some (revision_at v k).edit e (sym (at_revision v f k lt) ∙ at))
 
-slice_get-take : {X : Type 0} (n j : ℕ) (xs : List X) → j < n → slice_get (take n xs) j ≡ slice_get xs j
-slice_get-take zero j xs lt = absurd (omega arith)
-slice_get-take (suc n) j [] lt = refl
-slice_get-take (suc n) zero (x ∷ xs) lt = refl
-slice_get-take (suc n) (suc j) (x ∷ xs) lt = slice_get-take n j xs (omega arith)
+-- the cells of the roots before k, and their texts
+cells_before : (v : ImageValue) (k : ℕ) → take k (texts_cells v) ≡ map (rope_cells (image_table v)) (roots_before v k)
+cells_before v k =
+    take-map (λ (r : Revision). rope_cells (image_table v) r.root) k v.revisions
+    ∙ sym (map-map (rope_cells (image_table v)) (λ (r : Revision). r.root) (take k v.revisions))
 
--- a command in range gives what its parts denote
-result_of_parts : (v : ImageValue) (source : ℕ → ℕ → ℕ) → IsImage v → (k : ℕ) → k < length v.revisions → (e : Edit) → IsInRange v k e → result_of (givens v) (take k (texts v source)) e ≡ Some (text source (parts_cells (table_of v) (parts_of e)))
-unfolding text_at
-result_of_parts v source is k lt New h = refl
-result_of_parts v source is k lt (Insert r p a n) h =
-    let before : slice_get (take k (texts v source)) r ≡ Some [] =
-    slice_get-take k r (texts v source) h.earlier ∙ slice_get-texts v source r (omega (arith, h.earlier)) ∙ ap Some (nil_text v source r h.into_nil) in
-    let inside : leb (a + n) (length v.pool) ≡ true = le-leb _ _ h.inside in
-    let some : leb 1 n ≡ true = le-leb _ _ h.not_empty in
-    let x : List ℕ = take n (drop a v.pool) in
-    let len : length x ≡ n = omega (arith, length-take n (drop a v.pool), length-drop a v.pool, h.inside) in
-    let short : ltb (length (x ++ [])) (2 ^ 40) ≡ true = lt-ltb _ _ (rw (append-nil, len) (omega (arith, is.small_pool, h.inside))) in
-    let bytes : text source (parts_cells (table_of v) (parts_of (Insert r p a n))) ≡ x =
-    ap (text source) (append-nil (map Byte (slice_range v.pool a (a + n)))) ∙ text-bytes source (slice_range v.pool a (a + n)) ∙ ap (λ (m : ℕ). take m (drop a v.pool)) (omega arith) in
-    rw (before, h.place, inside, some, short, append-nil x) (ap Some (sym bytes))
-  where
-    nil_text : (v : ImageValue) (source : ℕ → ℕ → ℕ) (r : ℕ) → (revision_at v r).root ≡ None → text_at v source r ≡ []
-    nil_text v source r nil = ap (λ (root : Option NodeId). text source (rope_cells (table_of v) root)) nil
+texts_before : (v : ImageValue) (source : ℕ → ℕ → ℕ) (k : ℕ) → take k (texts v source) ≡ map (text source) (map (rope_cells (image_table v)) (roots_before v k))
+texts_before v source k =
+    take-map (λ (r : Revision). text source (rope_cells (image_table v) r.root)) k v.revisions
+    ∙ sym (map-map (text source) (λ (r : Revision). rope_cells (image_table v) r.root) (take k v.revisions))
+    ∙ ap (map (text source)) (sym (map-map (rope_cells (image_table v)) (λ (r : Revision). r.root) (take k v.revisions)))
 
-pub history : (v : ImageValue) (source : ℕ → ℕ → ℕ) → IsImage v → IsSound (table_of v) → HasTrueRecords (table_of v) → AreGoodRevisions v → IsHistory (givens v) (commands v) (texts v source)
-unfolding text_at
-history v source is sound true_records good = record {
-  whole = length-map v.revisions (λ (r : Revision). text source (rope_cells (table_of v) r.root)) ∙ sym (length-map v.revisions (λ (r : Revision). r.edit));
+-- what commands take from outside, as bytes and as cells
+givens_mapped : (v : ImageValue) (source : ℕ → ℕ → ℕ) → givens v source ≡ mapped_givens (cell_byte source) (givens_of (image_table v))
+givens_mapped v source =
+    let pool : v.pool ≡ map (cell_byte source) (map Byte v.pool) = sym (map-map (cell_byte source) Byte v.pool ∙ map-id v.pool) in
+    let cells : ℕ → List Cell = λ s. map (Place s) (range_with_len 0 (slice_index v.sources s)) in
+    let one : (s : ℕ) → source_text v source s ≡ map (cell_byte source) (cells s) = λ s. sym (map-map (cell_byte source) (Place s) (range_with_len 0 (slice_index v.sources s))) in
+    let all : map (source_text v source) (range_with_len 0 (length v.sources)) ≡ map (map (cell_byte source)) (map cells (range_with_len 0 (length v.sources))) =
+    map_alike (source_text v source) (λ s. map (cell_byte source) (cells s)) one (range_with_len 0 (length v.sources)) ∙ sym (map-map (map (cell_byte source)) cells (range_with_len 0 (length v.sources))) in
+    ap (λ (p : List ℕ). record { pool = p; sources = map (source_text v source) (range_with_len 0 (length v.sources)); byte = λ (b : ℕ). b }) pool
+    ∙ ap (λ (s : List (List ℕ)). record { pool = map (cell_byte source) (map Byte v.pool); sources = s; byte = λ (b : ℕ). b }) all
+
+-- ---- revisions that keep the rules
+
+-- the roots before k are ropes, and the parts of its command lie inside
+pub record IsReady (v : ImageValue) (k : ℕ) : Type 0 where
+  pub ropes : AreRopes (image_table v) (roots_before v k)
+  pub parts : AreParts (image_table v) (parts_at v k)
+
+pub ready : (v : ImageValue) (k : ℕ) → ((c : ℕ) → c < k → KeepsRules v c) → KeepsRules v k → IsReady v k
+ready v k earlier rules =
+    let ropes = earlier_ropes v k (λ c lt. (earlier c lt).root.0) in
+    record { ropes = ropes; parts = parts_in_range (image_table v) (roots_before v k) (revision_at v k).edit ropes rules.command }
+
+pub ready_of : (v : ImageValue) (st : Stated) → AreGoodOver v st → (k : ℕ) → k < length v.revisions → IsReady v k
+ready_of v st good k lt = ready v k (λ c below. (good c (omega arith)).rules) (good k lt).rules
+
+-- the cells of the parts of revision k are what its command gives of the cells before it
+joined : (v : ImageValue) → IsSound (image_table v) → HasTrueRecords (image_table v) → (k : ℕ) → IsReady v k → KeepsRules v k
+    → result_of (givens_of (image_table v)) (map (rope_cells (image_table v)) (roots_before v k)) (revision_at v k).edit ≡ Some (parts_cells (image_table v) (parts_at v k))
+joined v s h k is rules = parts_joined (image_table v) s h (roots_before v k) (revision_at v k).edit is.ropes rules.command
+
+history : (v : ImageValue) (st : Stated) → IsSound (image_table v) → HasTrueRecords (image_table v) → AreGoodOver v st → (source : ℕ → ℕ → ℕ) → Agrees st source → EachRevision v (HasStatedRows v st)
+    → IsHistory (givens v source) (commands v) (texts v source)
+history v st s h good source agrees stated = record {
+  whole = length-map v.revisions (λ (r : Revision). text source (rope_cells (image_table v) r.root)) ∙ sym (length-map v.revisions (λ (r : Revision). r.edit));
   each = λ k e at.
       let c = command_is v k e at in
       let g = good k c.0 in
-      let parts = parts_in_range v k (revision_at v k).edit g.command in
-      let covered = covered_cells (table_of v) sound true_records (parts_of (revision_at v k).edit) (revision_at v k).root _ parts g.root.0 g.rows in
-      slice_get-texts v source k c.0
-      ∙ ap (λ (cs : List Cell). Some (text source cs)) (sym covered)
-      ∙ sym (result_of_parts v source is k c.0 (revision_at v k).edit g.command)
-      ∙ ap (result_of (givens v) (take k (texts v source))) c.1;
+      let is = ready_of v st good k c.0 in
+      let before = map (rope_cells (image_table v)) (roots_before v k) in
+      let same = covered_text (image_table v) s h (coded_at v) (answered v) source (parts_at v k) (revision_at v k).root (rows_at v k) is.parts g.rules.root.0 (g.rows source agrees (stated k c.0)) in
+      let result : result_of (givens v source) (take k (texts v source)) (revision_at v k).edit ≡ Some (text source (rope_cells (image_table v) (revision_at v k).root)) =
+      ap (λ (x : Givens ℕ). result_of x (take k (texts v source)) (revision_at v k).edit) (givens_mapped v source)
+      ∙ ap (λ (xs : List (List ℕ)). result_of (mapped_givens (cell_byte source) (givens_of (image_table v))) xs (revision_at v k).edit) (texts_before v source k)
+      ∙ result_mapped (cell_byte source) (givens_of (image_table v)) before (revision_at v k).edit
+      ∙ ap (option_map (text source)) (joined v s h k is g.rules)
+      ∙ ap Some same in
+      at_revision v (λ (r : Revision). text source (rope_cells (image_table v) r.root)) k c.0
+      ∙ sym result
+      ∙ ap (result_of (givens v source) (take k (texts v source))) c.1;
 }
 
--- an image whose nodes and revisions keep their rules is faithful
-pub faithful : (v : ImageValue) → IsImage v → AreGoodNodes (table_of v) → AreGoodRevisions v → IsFaithful v
-faithful v is nodes revisions =
+history_of_cells : (v : ImageValue) (st : Stated) → IsSound (image_table v) → HasTrueRecords (image_table v) → AreGoodOver v st → EachRevision v (HasRowsOverNoSource v) → IsHistory (givens_of (image_table v)) (commands v) (texts_cells v)
+history_of_cells v st s h good none = record {
+  whole = length-map v.revisions (λ (r : Revision). rope_cells (image_table v) r.root) ∙ sym (length-map v.revisions (λ (r : Revision). r.edit));
+  each = λ k e at.
+      let c = command_is v k e at in
+      let g = good k c.0 in
+      let is = ready_of v st good k c.0 in
+      let some = agreeing st in
+      let covers = g.rows some.0 some.1 (no_source_stated (image_table v) st (parts_at v k) (revision_at v k).root (rows_at v k) (none k c.0)) in
+      let same = covered_cells (image_table v) s h (coded_at v) (answered v) some.0 (parts_at v k) (revision_at v k).root (rows_at v k) is.parts g.rules.root.0 covers (none k c.0) in
+      let result : result_of (givens_of (image_table v)) (take k (texts_cells v)) (revision_at v k).edit ≡ Some (rope_cells (image_table v) (revision_at v k).root) =
+      ap (λ (xs : List (List Cell)). result_of (givens_of (image_table v)) xs (revision_at v k).edit) (cells_before v k)
+      ∙ joined v s h k is g.rules
+      ∙ ap Some same in
+      at_revision v (λ (r : Revision). rope_cells (image_table v) r.root) k c.0
+      ∙ sym result
+      ∙ ap (result_of (givens_of (image_table v)) (take k (texts_cells v))) c.1;
+}
+
+-- ---- an image whose nodes and revisions keep their rules
+
+pub true_records_of : (v : ImageValue) (st : Stated) → IsImage v → AreGoodNodes (image_table v) → AreGoodOver v st → HasTrueRecordsOf v
+true_records_of v st is nodes revisions =
     let sound = sound_table v is nodes in
     let true_records = true_table v nodes in
     record {
       sound = sound;
       true_records = true_records;
-      lengths = λ id lt. cells_length (table_of v) sound true_records id lt;
-      roots = λ k lt. (revisions k lt).root.0;
-      history = λ source. history v source is sound true_records revisions;
-      marks = λ k lt. (revisions k lt).mark;
+      lengths = λ id lt. cells_length (image_table v) sound true_records id lt;
+      roots = λ k lt. (revisions k lt).rules.root.0;
+      marks = λ k lt. (revisions k lt).rules.mark;
+    }
+
+-- it is faithful
+pub faithful : (v : ImageValue) (st : Stated) → IsImage v → AreGoodNodes (image_table v) → AreGoodOver v st → IsFaithful v st
+faithful v st is nodes revisions =
+    let table = true_records_of v st is nodes revisions in
+    record {
+      true_records = table;
+      history = λ source agrees stated. history v st table.sound table.true_records revisions source agrees stated;
+      cells = history_of_cells v st table.sound table.true_records revisions;
     }

@@ -1,5 +1,8 @@
 pub mod SoundTables
-pub mod GoodRevisions
+pub mod EarlierRevisions
+pub mod PartsInRange
+pub mod RevisionFaults
 pub mod FaithfulImages
+pub mod ExactAnswers
 pub mod RevisionTexts
 pub mod SameSources

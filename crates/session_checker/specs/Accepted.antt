@@ -1,40 +1,47 @@
 -- Which bytes are accepted with which sources, by local rules on records, and which fault the others have first.
-use Rattle.std.specs.Prelude.{◌≡◌, ℕ, List, ◌⊎◌, Some}
-use Rattle.image_reader.specs.Value.{ImageValue, IsImage, table_of}
+use Rattle.std.specs.Prelude.{◌≡◌, ℕ, ◌<◌, true, List, length, ◌⊎◌, Some, IsSome}
+use Rattle.lazy_file.specs.SourceTexts.{Stated, text_at}
+use Rattle.image_reader.specs.Value.{ImageValue, IsImage, image_table}
 use Rattle.image_reader.specs.Spelling.{spelling}
 use Rattle.image_reader.specs.Reading.{fault_of}
 use Rattle.image_reader.specs.declared.fault.ReadFault.{ReadFault}
+use Rattle.image_reader.specs.Accepted.{HasSources, AreGoodNodes}
 use Rattle.session_checker.specs.declared.fault.CheckFault.{CheckFault}
 use Rattle.session_checker.specs.declared.fault.CheckFault.TheVariants.{Read}
-use Rattle.image_reader.specs.Acceptance.{HasSources, AreGoodNodes}
 use Rattle.session_checker.specs.SourceRules.{IsFirstSourceFault}
 use Rattle.session_checker.specs.NodeRules.{IsFirstNodeFault}
-use Rattle.session_checker.specs.RevisionRules.{AreGoodRevisions, IsFirstRevisionFault}
+use Rattle.session_checker.specs.RevisionRules.{AreGoodOver, IsFirstRevisionFault}
+
+-- every source states its text, and no read of what is there fails, as over texts in memory
+pub record StatesAll (st : Stated) : Type 0 where
+  pub never_fails : st.never_fails ≡ true
+  pub texts : (s : ℕ) → s < length st.sizes → IsSome (text_at st s)
 
 -- the sources handed in are the image's, and its nodes keep their rules
 abbrev pub HasGoodTables : ImageValue → List ℕ → Type 0
-HasGoodTables v sizes = HasSources v sizes × AreGoodNodes (table_of v)
+HasGoodTables v sizes = HasSources v sizes × AreGoodNodes (image_table v)
 
 -- the first fault of sources and nodes
 abbrev pub IsFirstTableFault : ImageValue → List ℕ → CheckFault → Type 0
-IsFirstTableFault v sizes f = IsFirstSourceFault v sizes f ⊎ (HasSources v sizes × IsFirstNodeFault (table_of v) f)
+IsFirstTableFault v sizes f = IsFirstSourceFault v sizes f ⊎ (HasSources v sizes × IsFirstNodeFault (image_table v) f)
 
--- the bytes spell an image whose sources are of these sizes, and whose nodes and revisions keep their rules
-pub record IsAccepted (bytes sizes : List ℕ) : Type 0 where
+-- the bytes spell an image whose sources, nodes and revisions keep their rules over what the sources state
+pub record IsAccepted (bytes : List ℕ) (st : Stated) : Type 0 where
   pub v : ImageValue
   pub image : IsImage v
   pub spelled : bytes ≡ spelling v
-  pub sources : HasSources v sizes
-  pub nodes : AreGoodNodes (table_of v)
-  pub revisions : AreGoodRevisions v
+  pub tables : HasGoodTables v st.sizes
+  pub revisions : AreGoodOver v st
 
 -- the bytes spell an image in which this fault is the first
-pub record IsRefused (bytes sizes : List ℕ) (f : CheckFault) : Type 0 where
+pub record IsRefused {T : Type 0} (stated : T → Stated) (failures : T → ℕ) (old new : T) (bytes : List ℕ) (f : CheckFault) : Type 0 where
   pub v : ImageValue
   pub image : IsImage v
   pub spelled : bytes ≡ spelling v
-  pub fault : IsFirstTableFault v sizes f ⊎ (HasGoodTables v sizes × IsFirstRevisionFault v f)
+  pub fault : IsFirstTableFault v (stated old).sizes f
+      ⊎ (HasGoodTables v (stated old).sizes × IsFirstRevisionFault stated failures old new v f)
 
 -- the first fault of bytes that are not accepted
-abbrev pub IsFirstFault : List ℕ → List ℕ → CheckFault → Type 0
-IsFirstFault bytes sizes f = ((e : ReadFault) × (fault_of bytes ≡ Some e) × (f ≡ Read e)) ⊎ IsRefused bytes sizes f
+abbrev pub IsFirstFault : {T : Type 0} → (T → Stated) → (T → ℕ) → T → T → List ℕ → CheckFault → Type 0
+IsFirstFault stated failures old new bytes f =
+    ((e : ReadFault) × (fault_of bytes ≡ Some e) × (f ≡ Read e)) ⊎ IsRefused stated failures old new bytes f

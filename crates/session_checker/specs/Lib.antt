@@ -1,5 +1,4 @@
 pub mod Codes
-pub mod Functions
 pub mod SourceRules
 pub mod NodeRules
 pub mod RevisionRules

@@ -2,7 +2,7 @@
 use Rattle.std.specs.Prelude.{◌≡◌, ℕ, ◌^◌, ◌<◌, ◌≤◌, length}
 use Rattle.rope_node.specs.declared.node.NodeView.{NodeView}
 use Rattle.rope_node.specs.Table.{Node, Table, node_at, HasGoodReferences, HasTrueLength, HasSpanInside, depth_of}
-use Rattle.image_reader.specs.Acceptance.{IsGoodNode}
+use Rattle.image_reader.specs.Accepted.{IsGoodNode}
 use Rattle.session_checker.specs.declared.fault.CheckFault.{CheckFault}
 use Rattle.session_checker.specs.declared.fault.CheckFault.TheVariants as faults
 use Rattle.session_checker.specs.declared.node_rules.NodeRule.{NodeRule}
@@ -26,6 +26,9 @@ Breaks t id n Length = HasGoodReferences t id n.view × ¬ HasGoodLength t n.len
 Breaks t id n Depth = HasGoodReferences t id n.view × HasGoodLength t n.len n.view × ¬ HasGoodDepth t n.depth n.view
 Breaks t id n Span = HasGoodReferences t id n.view × HasGoodLength t n.len n.view × HasGoodDepth t n.depth n.view × ¬ HasSpanInside t n.len n.view
 
+abbrev pub BreaksFirst : Table → ℕ → NodeRule → Type 0
+BreaksFirst t id rule = Breaks t id (node_at t id) rule
+
 abbrev pub fault_at : NodeRule → ℕ → CheckFault
 fault_at Reference id = faults.Reference id
 fault_at Length id = faults.Length id
@@ -38,5 +41,5 @@ pub record IsFirstNodeFault (t : Table) (f : CheckFault) : Type 0 where
   pub there : id < length t.nodes
   pub earlier : (c : ℕ) → c < id → IsGoodNode t c
   pub rule : NodeRule
-  pub breaks : Breaks t id (node_at t id) rule
+  pub breaks : BreaksFirst t id rule
   pub is : f ≡ fault_at rule id

@@ -1,91 +1,80 @@
--- The rules that each revision of an image has to keep, in their order, and which one it breaks first.
-use Rattle.std.specs.Prelude.{◌≡◌, ℕ, ◌+◌, ◌<◌, ◌≤◌, true, false, List, length, take, drop, get_or, Option, Some, None}
-use Rattle.std.specs.List.{sum_by}
-use Rattle.rope_node.specs.declared.node.NodeId.{NodeId}
-use Rattle.rope_node.specs.Table.{Table, len_at, depth_at}
-use Rattle.rope_node.specs.Denotes.{rope_len, IsRope}
-use Rattle.rope_node.specs.Balance.{IsBalanced}
-use Rattle.span_certificate.specs.declared.edit.Edit.{Edit}
-use Rattle.span_certificate.specs.declared.edit.Edit.TheVariants.{New, Insert}
-use Rattle.span_certificate.specs.declared.row.Row.{Row}
-use Rattle.span_certificate.specs.Parts.{parts_of}
-use Rattle.span_certificate.specs.Covers.{Covers, IsFirstBad}
-use Rattle.image_reader.specs.declared.revision.Revision.{Revision}
-use Rattle.image_reader.specs.Value.{ImageValue, table_of}
+-- Which rule a revision breaks first, in the order of the rules, and when a source's fault keeps its rows from being compared.
+use Rattle.std.specs.Prelude.{◌≡◌, ◌⊎◌, ℕ, ◌<◌, length}
+use Rattle.lazy_file.specs.SourceTexts.{Agrees, Stated}
+use Rattle.lazy_file.specs.declared.faults.SourceFault.{SourceFault}
+use Rattle.span_certificate.specs.Parts.{parts_len, IsInRange}
+use Rattle.span_certificate.specs.Covers.{IsFirstBad, MeetsNoSource}
+use Rattle.span_certificate.specs.Verdicts.{AreStatedRows, AreReadableRows, IsVerdictFault}
+use Rattle.image_reader.specs.Value.{ImageValue, image_table, coded_at}
+use Rattle.image_reader.specs.Accepted.{revision_at, roots_before, parts_at, rows_at, HasGoodRoot, HasGoodMark, KeepsRules, HasGoodRows}
 use Rattle.session_checker.specs.declared.fault.CheckFault.{CheckFault}
-use Rattle.session_checker.specs.declared.fault.CheckFault.TheVariants.{Read, SourceCount, SourceLength, Reference, Length, Depth, Span, Command, Root, Mark, Rows}
+use Rattle.session_checker.specs.declared.fault.CheckFault.TheVariants.{Command, Root, Mark, Rows, Source}
 
--- what is read past the end
-abbrev pub no_revision : Revision
-no_revision = record { edit = New; mark = false; root = None; rows = 0 }
+-- ---- rows of bytes, and what sources state
 
-abbrev pub revision_at : ImageValue → ℕ → Revision
-revision_at v k = get_or v.revisions k no_revision
+-- each row of bytes of revision k is over cells that the sources state
+abbrev pub HasStatedRows : ImageValue → Stated → ℕ → Type 0
+HasStatedRows v st k = AreStatedRows (image_table v) st (parts_at v k) (revision_at v k).root (rows_at v k)
 
--- how many rows the revisions before k have, and the rows of a revision from a place on
-abbrev pub rows_before : ImageValue → ℕ → ℕ
-rows_before v k = sum_by (λ (r : Revision). r.rows) (take k v.revisions)
+-- or over cells that no read of fails
+abbrev pub HasReadableRows : ImageValue → Stated → ℕ → Type 0
+HasReadableRows v st k = AreReadableRows (image_table v) st (parts_at v k) (revision_at v k).root (rows_at v k)
 
-abbrev pub rows_from : ImageValue → Revision → ℕ → List Row
-rows_from v r from = take r.rows (drop from v.rows)
+-- or over bytes alone, and no source
+abbrev pub HasRowsOverNoSource : ImageValue → ℕ → Type 0
+HasRowsOverNoSource v k = MeetsNoSource (image_table v) (parts_at v k) (revision_at v k).root (rows_at v k)
 
--- An insertion is into an earlier text, which is nil so far, of some bytes of the pool.
-pub record IsInsertion (v : ImageValue) (k r p a n : ℕ) : Type 0 where
-  pub earlier : r < k
-  pub into_nil : (revision_at v r).root ≡ None
-  pub place : p ≡ 0
-  pub not_empty : 1 ≤ n
-  pub inside : a + n ≤ length v.pool
+-- its rows cover over any bytes that agree with what the sources state
+abbrev pub CoversStated : ImageValue → Stated → ℕ → Type 0
+CoversStated v st k = (source : ℕ → ℕ → ℕ) → Agrees st source → HasStatedRows v st k → HasGoodRows v source k
 
-abbrev pub IsInRange : ImageValue → ℕ → Edit → Type 0
-IsInRange v k New = Unit {0}
-IsInRange v k (Insert r p a n) = IsInsertion v k r p a n
+-- a revision that breaks no rule over what the sources state
+pub record IsGoodOver (v : ImageValue) (st : Stated) (k : ℕ) : Type 0 where
+  pub rules : KeepsRules v k
+  pub rows : CoversStated v st k
 
--- how long the text of a command in range is
-abbrev pub result_len : Edit → ℕ
-result_len New = 0
-result_len (Insert r p a n) = n
+abbrev pub AreGoodOver : ImageValue → Stated → Type 0
+AreGoodOver v st = (k : ℕ) → k < length v.revisions → IsGoodOver v st k
 
--- the root is nil or a node, and as long as the command's text
-abbrev pub HasGoodRoot : Table → Option NodeId → ℕ → Type 0
-HasGoodRoot t root len = IsRope t root × (rope_len t root ≡ len)
+-- ---- faults
 
--- a marked root is not nil, and balanced
-abbrev pub IsBalancedRope : Table → Option NodeId → Type 0
-IsBalancedRope t None = ⊥
-IsBalancedRope t (Some id) = IsBalanced (len_at t id.0) (depth_at t id.0)
+abbrev pub IsCommandInRange : ImageValue → ℕ → Type 0
+IsCommandInRange v k = IsInRange (image_table v) (roots_before v k) (revision_at v k).edit
 
-abbrev pub HasGoodMark : Table → Revision → Type 0
-HasGoodMark t r = r.mark ≡ true → IsBalancedRope t r.root
+abbrev pub HasRootOfParts : ImageValue → ℕ → Type 0
+HasRootOfParts v k = HasGoodRoot (image_table v) (revision_at v k).root (parts_len (parts_at v k))
 
--- a revision that breaks no rule
-pub record IsGoodRevision (v : ImageValue) (k : ℕ) : Type 0 where
-  pub command : IsInRange v k (revision_at v k).edit
-  pub root : HasGoodRoot (table_of v) (revision_at v k).root (result_len (revision_at v k).edit)
-  pub mark : HasGoodMark (table_of v) (revision_at v k)
-  pub rows : Covers (table_of v) (parts_of (revision_at v k).edit) (revision_at v k).root (rows_from v (revision_at v k) (rows_before v k))
+-- the first rule that revision k breaks, but for its rows
+abbrev pub BreaksRule : ImageValue → ℕ → CheckFault → Type 0
+BreaksRule v k (Command x) = (x ≡ k) × ¬ IsCommandInRange v k
+BreaksRule v k (Root x) = (x ≡ k) × IsCommandInRange v k × ¬ HasRootOfParts v k
+BreaksRule v k (Mark x) = (x ≡ k) × IsCommandInRange v k × HasRootOfParts v k × ¬ HasGoodMark (image_table v) (revision_at v k)
+BreaksRule v k other = ⊥
 
-abbrev pub AreGoodRevisions : ImageValue → Type 0
-AreGoodRevisions v = (k : ℕ) → k < length v.revisions → IsGoodRevision v k
+-- j is the first row of revision k that does not fit, over any bytes that agree with what the sources state
+abbrev pub IsFirstBadRow : ImageValue → Stated → ℕ → ℕ → Type 0
+IsFirstBadRow v st k j =
+    (source : ℕ → ℕ → ℕ) → Agrees st source → HasStatedRows v st k
+    → IsFirstBad (image_table v) (coded_at v) source (parts_at v k) (revision_at v k).root (rows_at v k) j
 
--- the first rule that revision k breaks
-abbrev pub BreaksAt : ImageValue → ℕ → CheckFault → Type 0
-BreaksAt v k (Read f) = ⊥
-BreaksAt v k SourceCount = ⊥
-BreaksAt v k (SourceLength s) = ⊥
-BreaksAt v k (Reference id) = ⊥
-BreaksAt v k (Length id) = ⊥
-BreaksAt v k (Depth id) = ⊥
-BreaksAt v k (Span id) = ⊥
-BreaksAt v k (Command x) = (x ≡ k) × ¬ IsInRange v k (revision_at v k).edit
-BreaksAt v k (Root x) = (x ≡ k) × IsInRange v k (revision_at v k).edit × ¬ HasGoodRoot (table_of v) (revision_at v k).root (result_len (revision_at v k).edit)
-BreaksAt v k (Mark x) = (x ≡ k) × IsInRange v k (revision_at v k).edit × HasGoodRoot (table_of v) (revision_at v k).root (result_len (revision_at v k).edit) × ¬ HasGoodMark (table_of v) (revision_at v k)
-BreaksAt v k (Rows x j) = (x ≡ k) × IsInRange v k (revision_at v k).edit × HasGoodRoot (table_of v) (revision_at v k).root (result_len (revision_at v k).edit) × HasGoodMark (table_of v) (revision_at v k)
-    × IsFirstBad (table_of v) (parts_of (revision_at v k).edit) (revision_at v k).root (rows_from v (revision_at v k) (rows_before v k)) j
+-- a read for a row of bytes of revision k failed so, and the rows before it fit
+pub record IsUnread {T : Type 0} (stated : T → Stated) (failures : T → ℕ) (old new : T) (v : ImageValue) (k : ℕ) (fault : SourceFault) : Type 0 where
+  pub failed : IsVerdictFault stated failures old new (image_table v) (coded_at v) (parts_at v k) (revision_at v k).root (rows_at v k) fault
+  pub unreadable : ¬ HasReadableRows v (stated old) k
+
+-- what is wrong with the rows of revision k
+abbrev pub BreaksRows : {T : Type 0} → (T → Stated) → (T → ℕ) → T → T → ImageValue → ℕ → CheckFault → Type 0
+BreaksRows stated failures old new v k (Rows x j) = (x ≡ k) × IsFirstBadRow v (stated old) k j
+BreaksRows stated failures old new v k (Source fault) = IsUnread stated failures old new v k fault
+BreaksRows stated failures old new v k other = ⊥
+
+-- the first rule that revision k breaks, or the fault of its rows
+abbrev pub BreaksAt : {T : Type 0} → (T → Stated) → (T → ℕ) → T → T → ImageValue → ℕ → CheckFault → Type 0
+BreaksAt stated failures old new v k f = BreaksRule v k f ⊎ (KeepsRules v k × BreaksRows stated failures old new v k f)
 
 -- the first revision that breaks a rule, and the first rule that it breaks
-pub record IsFirstRevisionFault (v : ImageValue) (f : CheckFault) : Type 0 where
+pub record IsFirstRevisionFault {T : Type 0} (stated : T → Stated) (failures : T → ℕ) (old new : T) (v : ImageValue) (f : CheckFault) : Type 0 where
   pub k : ℕ
   pub there : k < length v.revisions
-  pub earlier : (c : ℕ) → c < k → IsGoodRevision v c
-  pub breaks : BreaksAt v k f
+  pub earlier : (c : ℕ) → c < k → IsGoodOver v (stated old) c
+  pub breaks : BreaksAt stated failures old new v k f

@@ -3,12 +3,12 @@
 ghost use Rattle.std.specs.Prelude.{◌≡◌, ◌↔◌, ◌<◌, ◌≤◌, ◌+◌, ℕ, true, length, slice_get, None, IfOk, IfErr, IfSome, IsOk, IsSome};
 ghost use Rattle.rope_node.specs.Denotes.{rope_len, rope_depth};
 ghost use Rattle.cord_position.specs.Fetched.{ReadsSpan};
-ghost use Rattle.image_reader.specs.Acceptance.{HasSources};
-ghost use Rattle.image_reader.specs.Value.{IsImage, table_of};
+ghost use Rattle.image_reader.specs.Accepted.{HasSources, revision_at};
+ghost use Rattle.image_reader.specs.Value.{IsImage, image_table};
 ghost use Rattle.image_reader.specs.Spelling.{spelling};
-ghost use Rattle.session_checker.specs.Accepted.{IsAccepted, IsFirstFault};
-ghost use Rattle.session_checker.specs.RevisionRules.{revision_at};
-ghost use Rattle.session_checker.specs.Faithful.{IsFaithful, IsFetchedOf, IsMarkOf, IsRevisionOf, IsRootOf, fetch_visits, fetched_cell};
+ghost use Rattle.lazy_file.specs.SourceTexts.{Reads};
+ghost use Rattle.session_checker.specs.Accepted.{StatesAll, IsAccepted, IsFirstFault};
+ghost use Rattle.session_checker.specs.Faithful.{IsFaithful, HasTrueRecordsOf, IsRevisionOf, IsRootOf, IsMarkOf, IsFetchedOf, fetch_visits, fetched_cell};
 
 use crate::fault::CheckFault;
 use crate::revision_rules::check_revisions;
@@ -28,20 +28,20 @@ pub struct Checked<'a> {
 
 impl<'a> Model for Checked<'a> {
     ghost use Rattle.image_reader.specs.Value.{ImageValue, IsImage};
-    ghost use Rattle.session_checker.specs.Faithful.{IsFaithful};
+    ghost use Rattle.session_checker.specs.Faithful.{HasTrueRecordsOf};
 
     ghost Value = { ImageValue };
 
     ghost view = { λ a. a.tables };
 
-    ghost invariant = { λ a. IsImage a.tables × IsFaithful a.tables };
+    ghost invariant = { λ a. IsImage a.tables × HasTrueRecordsOf a.tables };
 }
 
 impl Checked<'_> {
     /// How many revisions the image has.
     pub fn revisions(&self) -> u32
         ensures count { result ≡ length self.now.revisions }
-        ensures faithful { IsFaithful self.now }
+        ensures true_records { HasTrueRecordsOf self.now }
     {
         self.tables.image().revision_count()
     }
@@ -58,9 +58,8 @@ impl Checked<'_> {
         ensures there { IfSome result (IsRevisionOf self.now k) }
         ensures not_there { result ≡ None ↔ length self.now.revisions ≤ k }
     {
-        let image = self.tables.image();
-        if k < image.revision_count() {
-            Some(image.revision(k))
+        if k < self.tables.image().revision_count() {
+            Some(self.tables.revision(k))
         } else {
             None
         }
@@ -98,10 +97,10 @@ impl Checked<'_> {
         ensures byte { IfOk result
             (λ x. IsFetchedOf self.now (S.stated sources.old) k i x.0) }
         ensures inside { IfOk result
-            (λ x. IsSome x.0 ↔ i < rope_len (table_of self.now) (revision_at self.now k).root) }
+            (λ x. IsSome x.0 ↔ i < rope_len (image_table self.now) (revision_at self.now k).root) }
         ensures visits { IfOk result (λ x. x.1 ≡ fetch_visits self.now k i) }
         ensures few { IfOk result
-            (λ x. x.1 ≤ rope_depth (table_of self.now) (revision_at self.now k).root + 1) }
+            (λ x. x.1 ≤ rope_depth (image_table self.now) (revision_at self.now k).root + 1) }
         ensures reads { ReadsSpan S.stated S.failures sources.old sources.new
             (fetched_cell self.now k) i (i + 1) result }
     {
@@ -113,9 +112,9 @@ impl Checked<'_> {
 }
 
 impl NodeSpace for Checked<'_> {
-    ghost use Rattle.image_reader.specs.Value.{table_of};
+    ghost use Rattle.image_reader.specs.Value.{image_table};
 
-    ghost table = { table_of };
+    ghost table = { image_table };
 
     fn count(&self) -> u32 {
         self.tables.count()
@@ -159,9 +158,8 @@ impl NodeSpace for Checked<'_> {
 }
 
 impl CodedSpace for Checked<'_> {
-    ghost use Rattle.image_reader.specs.Value.{function_at};
     ghost use Rattle.rope_node.specs.Coded.{answers_as_filled};
-    ghost use Rattle.session_checker.specs.Functions.{coded_at};
+    ghost use Rattle.image_reader.specs.Value.{coded_at, function_at};
 
     ghost coded = { coded_at };
 
@@ -172,21 +170,27 @@ impl CodedSpace for Checked<'_> {
     }
 }
 
-/// Accepts or refuses a session image with its sources. It goes over the bytes section by section, reads no source, and takes no
-/// memory.
+/// Accepts or refuses a session image with its sources. It goes over the bytes section by section, reads of the sources what rows of
+/// bytes compare, and takes no memory of its own.
 ///
 /// # Errors
 ///
-/// The first fault of the bytes, the sources, the nodes, and then of each revision: `C1` to `C11`.
-pub fn check<'a, S: Sources>(bytes: &'a [u8], sources: &S) -> Result<Checked<'a>, CheckFault>
+/// The first fault of the bytes, the sources, the nodes, and then of each revision: `C1` to `C11`. `C12` where a read for a row of
+/// bytes over a source failed, and all before that row is as accepted.
+pub fn check<'a, S: Sources>(bytes: &'a [u8], sources: &mut S) -> Result<Checked<'a>, CheckFault>
     // What is accepted is faithful, it is what the bytes spell, and the sources are its own.
-    ensures faithful { IfOk result IsFaithful }
+    ensures faithful { IfOk result (λ v. IsFaithful v (S.stated sources.old)) }
     ensures image { IfOk result (λ v. IsImage v × (bytes.now ≡ spelling v)) }
-    ensures sources { IfOk result (λ v. HasSources v (S.stated sources.now).sizes) }
-    // What is accepted are the bytes and sources that keep the rules.
-    ensures accepted { IsOk result ↔ IsAccepted bytes.now (S.stated sources.now).sizes }
+    ensures sources { IfOk result (λ v. HasSources v (S.stated sources.old).sizes) }
+    // What is accepted keeps the rules over what the sources state.
+    ensures accepted { IsOk result → IsAccepted bytes.now (S.stated sources.old) }
+    // Over texts in memory all that keeps the rules is accepted.
+    ensures exact { StatesAll (S.stated sources.old) → IsAccepted bytes.now (S.stated sources.old)
+        → IsOk result }
     // A refusal is the first fault.
-    ensures refused { IfErr result (IsFirstFault bytes.now (S.stated sources.now).sizes) }
+    ensures refused { IfErr result
+        (IsFirstFault S.stated S.failures sources.old sources.new bytes.now) }
+    ensures reads { Reads S.stated S.failures sources.old sources.new }
 {
     let image = match Image::read(bytes) {
         Ok(image) => image,

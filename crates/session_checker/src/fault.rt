@@ -4,6 +4,7 @@ ghost use Rattle.std.specs.Prelude.{Some};
 ghost use Rattle.session_checker.specs.Codes.{fault_code};
 
 use image_reader::ReadFault;
+use lazy_file::SourceFault;
 use std::fmt;
 
 /// The first fault of an image that is not accepted, printed as its code.
@@ -31,6 +32,8 @@ pub enum CheckFault {
     Mark(u32),
     /// `C11(revision,row)`: the first row that does not fit, or the number of rows where text is left uncovered.
     Rows(u32, usize),
+    /// `C12(S)`: a source's fault, where a read for a row of bytes failed.
+    Source(SourceFault),
 }
 
 impl fmt::Display for CheckFault {
@@ -49,6 +52,7 @@ impl fmt::Display for CheckFault {
             CheckFault::Root(revision) => write!(f, "C9({revision})"),
             CheckFault::Mark(revision) => write!(f, "C10({revision})"),
             CheckFault::Rows(revision, row) => write!(f, "C11({revision},{row})"),
+            CheckFault::Source(fault) => write!(f, "C12({fault})"),
         }
     }
 }

@@ -2,6 +2,7 @@
 #![tactic(auto)]
 
 mod checked;
+mod command_rules;
 mod fault;
 mod node_rules;
 mod revision_rules;

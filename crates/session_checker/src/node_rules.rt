@@ -1,9 +1,10 @@
 //! The rules that each node has to keep, tested by its record and those of its children.
 
 ghost use Rattle.std.specs.Prelude.{◌≡◌, ◌+◌, ◌<◌, ◌≤◌, ◌↔◌, length, IsTrue, IsOk, IfErr};
-ghost use Rattle.rope_node.specs.Table.{node_at, depth_of, HasGoodReferences, HasSpanInside, IsSoundNode, IsTrueNode};
-ghost use Rattle.image_reader.specs.Value.{table_of};
-ghost use Rattle.session_checker.specs.NodeRules.{HasGoodLength, HasGoodDepth, Breaks};
+ghost use Rattle.rope_node.specs.Table.{depth_of, HasGoodReferences, HasSpanInside};
+ghost use Rattle.image_reader.specs.Value.{image_table};
+ghost use Rattle.image_reader.specs.Accepted.{IsGoodNode};
+ghost use Rattle.session_checker.specs.NodeRules.{HasGoodLength, HasGoodDepth, BreaksFirst};
 
 use image_reader::Image;
 use rope_node::{NodeId, NodeView};
@@ -21,12 +22,13 @@ pub enum NodeRule {
     Span,
 }
 
-const TEXT_LIMIT: u64 = 1 << 40;
+/// The first length, in bytes, that is over the limit.
+pub const TEXT_LIMIT: u64 = 1 << 40;
 
 const DEPTH_LIMIT: u32 = 64;
 
 fn has_good_references(image: &Image, id: u32, view: NodeView) -> bool
-    ensures { IsTrue result ↔ HasGoodReferences (table_of image.now) id view }
+    ensures { IsTrue result ↔ HasGoodReferences (image_table image.now) id view }
 {
     match view {
         NodeView::Lit { .. } | NodeView::Fun => true,
@@ -37,9 +39,9 @@ fn has_good_references(image: &Image, id: u32, view: NodeView) -> bool
 }
 
 fn has_good_length(image: &Image, id: u32, view: NodeView, len: u64) -> bool
-    requires id { id < length (table_of image.now).nodes }
-    requires references { HasGoodReferences (table_of image.now) id view }
-    ensures { IsTrue result ↔ HasGoodLength (table_of image.now) len view }
+    requires id { id < length (image_table image.now).nodes }
+    requires references { HasGoodReferences (image_table image.now) id view }
+    ensures { IsTrue result ↔ HasGoodLength (image_table image.now) len view }
 {
     let is_in_range = len >= 1 && len < TEXT_LIMIT;
     match view {
@@ -51,9 +53,9 @@ fn has_good_length(image: &Image, id: u32, view: NodeView, len: u64) -> bool
 
 /// The depth that follows from the children's.
 fn depth_of(image: &Image, id: u32, view: NodeView) -> u32
-    requires id { id < length (table_of image.now).nodes }
-    requires references { HasGoodReferences (table_of image.now) id view }
-    ensures { result ≡ depth_of (table_of image.now) view }
+    requires id { id < length (image_table image.now).nodes }
+    requires references { HasGoodReferences (image_table image.now) id view }
+    ensures { result ≡ depth_of (image_table image.now) view }
 {
     match view {
         NodeView::Lit { .. } | NodeView::Src { .. } | NodeView::Fun => 0,
@@ -63,9 +65,9 @@ fn depth_of(image: &Image, id: u32, view: NodeView) -> u32
 }
 
 fn has_good_depth(image: &Image, id: u32, view: NodeView, depth: u8) -> bool
-    requires id { id < length (table_of image.now).nodes }
-    requires references { HasGoodReferences (table_of image.now) id view }
-    ensures { IsTrue result ↔ HasGoodDepth (table_of image.now) depth view }
+    requires id { id < length (image_table image.now).nodes }
+    requires references { HasGoodReferences (image_table image.now) id view }
+    ensures { IsTrue result ↔ HasGoodDepth (image_table image.now) depth view }
 {
     depth as u32 == depth_of(image, id, view) && depth as u32 <= DEPTH_LIMIT
 }
@@ -78,9 +80,9 @@ pub fn is_inside(start: u64, len: u64, end: u64) -> bool
 }
 
 fn has_span_inside(image: &Image, id: u32, view: NodeView, len: u64) -> bool
-    requires id { id < length (table_of image.now).nodes }
-    requires references { HasGoodReferences (table_of image.now) id view }
-    ensures { IsTrue result ↔ HasSpanInside (table_of image.now) len view }
+    requires id { id < length (image_table image.now).nodes }
+    requires references { HasGoodReferences (image_table image.now) id view }
+    ensures { IsTrue result ↔ HasSpanInside (image_table image.now) len view }
 {
     match view {
         NodeView::Lit { a } => is_inside(a, len, image.pool().len() as u64),
@@ -92,9 +94,9 @@ fn has_span_inside(image: &Image, id: u32, view: NodeView, len: u64) -> bool
 
 /// Tests the rules of node `id` in their order, and answers the first that it breaks.
 pub fn check_node(image: &Image, id: NodeId) -> Result<(), NodeRule>
-    requires { id.0 < length (table_of image.now).nodes }
-    ensures ok { IsOk result ↔ (IsSoundNode (table_of image.now) id.0 (node_at (table_of image.now) id.0) × IsTrueNode (table_of image.now) (node_at (table_of image.now) id.0)) }
-    ensures err { IfErr result (Breaks (table_of image.now) id.0 (node_at (table_of image.now) id.0)) }
+    requires { id.0 < length (image_table image.now).nodes }
+    ensures ok { IsOk result ↔ IsGoodNode (image_table image.now) id.0 }
+    ensures err { IfErr result (BreaksFirst (image_table image.now) id.0) }
 {
     let view = image.node(id);
     let len = image.len(id);

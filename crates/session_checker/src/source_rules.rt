@@ -1,7 +1,7 @@
 //! The sources handed in, beside those that the image says.
 
 ghost use Rattle.std.specs.Prelude.{◌↔◌, IsOk, IfErr};
-ghost use Rattle.image_reader.specs.Acceptance.{HasSources};
+ghost use Rattle.image_reader.specs.Accepted.{HasSources};
 ghost use Rattle.session_checker.specs.SourceRules.{IsFirstSourceFault};
 
 use crate::fault::CheckFault;

@@ -2,8 +2,8 @@
 
 ghost use Rattle.std.specs.Prelude.{◌≡◌, ◌<◌, ◌↔◌, ℕ, length, IfOk, IfErr, IsOk};
 ghost use Rattle.rope_node.specs.Table.{IsSound, HasTrueRecords};
-ghost use Rattle.image_reader.specs.Value.{IsImage, table_of};
-ghost use Rattle.image_reader.specs.Acceptance.{AreGoodNodes};
+ghost use Rattle.image_reader.specs.Value.{IsImage, image_table};
+ghost use Rattle.image_reader.specs.Accepted.{AreGoodNodes, revision_at};
 ghost use Rattle.session_checker.specs.NodeRules.{IsFirstNodeFault, fault_at};
 ghost use Rattle.session_checker.specs.Accepted.{HasGoodTables, IsFirstTableFault};
 
@@ -11,7 +11,7 @@ use crate::fault::CheckFault;
 use crate::node_rules::{NodeRule, check_node};
 use crate::source_rules::check_sources;
 use function_leaf::{Coded, LeafFn};
-use image_reader::Image;
+use image_reader::{Image, Revision};
 use lazy_file::Sources;
 use rope_node::{CodedSpace, NodeId, NodeSpace, NodeView};
 use std::marker::Model;
@@ -23,14 +23,14 @@ pub struct Tables<'a> {
 }
 
 impl<'a> Model for Tables<'a> {
-    ghost use Rattle.image_reader.specs.Value.{ImageValue, IsImage, table_of};
+    ghost use Rattle.image_reader.specs.Value.{ImageValue, IsImage, image_table};
     ghost use Rattle.rope_node.specs.Table.{IsSound, HasTrueRecords};
 
     ghost Value = { ImageValue };
 
     ghost view = { λ a. a.image };
 
-    ghost invariant = { λ a. IsImage a.image × IsSound (table_of a.image) × HasTrueRecords (table_of a.image) };
+    ghost invariant = { λ a. IsImage a.image × IsSound (image_table a.image) × HasTrueRecords (image_table a.image) };
 }
 
 impl<'a> Tables<'a> {
@@ -38,15 +38,23 @@ impl<'a> Tables<'a> {
     pub fn image(&self) -> &Image<'a>
         ensures image { result.now ≡ self.now }
         ensures is_image { IsImage self.now }
-        ensures sound { IsSound (table_of self.now) }
-        ensures true_records { HasTrueRecords (table_of self.now) }
+        ensures sound { IsSound (image_table self.now) }
+        ensures true_records { HasTrueRecords (image_table self.now) }
     {
         &self.image
+    }
+
+    /// Revision `k` as it is recorded.
+    pub fn revision(&self, k: u32) -> Revision
+        requires { k < length self.now.revisions }
+        ensures { result ≡ revision_at self.now k }
+    {
+        self.image.revision(k)
     }
 }
 
 impl NodeSpace for Tables<'_> {
-    ghost table = { table_of };
+    ghost table = { image_table };
 
     fn count(&self) -> u32 {
         self.image.node_count()
@@ -96,9 +104,8 @@ impl NodeSpace for Tables<'_> {
 }
 
 impl CodedSpace for Tables<'_> {
-    ghost use Rattle.image_reader.specs.Value.{function_at};
     ghost use Rattle.rope_node.specs.Coded.{answers_as_filled};
-    ghost use Rattle.session_checker.specs.Functions.{coded_at};
+    ghost use Rattle.image_reader.specs.Value.{coded_at, function_at};
 
     ghost coded = { coded_at };
 
@@ -123,8 +130,8 @@ fn fault_of(rule: NodeRule, id: u32) -> CheckFault
 
 /// Tests node by node.
 fn check_nodes(image: &Image) -> Result<(), CheckFault>
-    ensures ok { IsOk result ↔ AreGoodNodes (table_of image.now) }
-    ensures err { IfErr result (IsFirstNodeFault (table_of image.now)) }
+    ensures ok { IsOk result ↔ AreGoodNodes (image_table image.now) }
+    ensures err { IfErr result (IsFirstNodeFault (image_table image.now)) }
 {
     for id in 0..image.node_count() {
         if let Err(rule) = check_node(image, NodeId(id)) {

@@ -1,19 +1,38 @@
-use Rattle.std.proofs.Common.{◌≡◌, ◌+◌, Some, refl, sym, ap, subst, ◌∙◌, arith, below_more}
-use Rattle.std.specs.Prelude.{slice_get}
+use Rattle.std.proofs.Common.{◌≡◌, ◌+◌, ◌<◌, length, refl, ap, subst, sym, ◌∙◌, arith, below_more}
+use Rattle.std.proofs.lemmas.Result.{err_from_is_err_and}
+use Rattle.lazy_file.specs.SourceTexts.{Stated}
+use Rattle.lazy_file.proofs.LaterReads.{reads_then}
+use Rattle.image_reader.specs.declared.revision.Revision.{Revision}
 use Rattle.image_reader.specs.Value.{ImageValue}
-use Rattle.session_checker.proofs.GoodRevisions.{rows_inside, rows_before_more}
+use Rattle.image_reader.specs.Accepted.{revision_at}
+use Rattle.session_checker.specs.RevisionRules.{IsGoodOver}
+use Rattle.session_checker.proofs.EarlierRevisions.{earlier_ropes, rows_inside, rows_before_more}
+use Rattle.session_checker.proofs.RevisionFaults.{later_break}
 use Rattle.session_checker.proofs.revision_rules.check_revisions.Goals as goal
 
-pub overflow_add-from : goal.overflow_add-from
-overflow_add-from g c =
+pub check_revision-requires-clause-earlier : goal.check_revision-requires-clause-earlier
+check_revision-requires-clause-earlier g c = earlier_ropes c.args.tables.now c.loop-k.k (λ d below. (c.loop-k.invariant.1 d below).rules.root.0)
+
+pub returns-in_err-check_revision-clause-err : goal.returns-in_err-check_revision-clause-err
+returns-in_err-check_revision-clause-err g c =
+    let p = err_from_is_err_and c.from_residual.result c.from_residual.ensures.1 in
     let v = c.args.tables.now in
-    let r = c.revision-from.result in
-    let at : slice_get v.revisions c.loop-k.k ≡ Some r = subst (λ (w : ImageValue). slice_get w.revisions c.loop-k.k ≡ Some r) c.image-image.ensures.image c.revision-from.ensures in
-    omega (arith, c.loop-k.invariant.0, rows_inside v c.image-image.ensures.is_image c.loop-k.k r at, c.image-image.ensures.is_image.few_rows)
+    let count : length c.image.result.now.revisions ≡ length v.revisions = ap (λ (w : ImageValue). length w.revisions) c.image.ensures.image in
+    let there : c.loop-k.k < length v.revisions = omega arith in
+    rw (p.1, p.2) (record {
+      k = c.loop-k.k;
+      there = there;
+      earlier = c.loop-k.invariant.1;
+      breaks = later_break g.S.Sources.stated g.S.Sources.failures c.args.sources.now c.loop-k.sources c.check_revision.new.sources v c.loop-k.k c.in_err-check_revision.field-0.0 c.loop-k.invariant.2 c.in_err-check_revision.ensures.err;
+    })
 
 pub loop-k-preserved : goal.loop-k-preserved
 loop-k-preserved g c =
     let v = c.args.tables.now in
-    let r = c.revision-from.result in
-    let at : slice_get v.revisions c.loop-k.k ≡ Some r = subst (λ (w : ImageValue). slice_get w.revisions c.loop-k.k ≡ Some r) c.image-image.ensures.image c.revision-from.ensures in
-    (ap (λ n. n + r.rows) c.loop-k.invariant.0 ∙ sym (rows_before_more v c.loop-k.k r at), below_more _ _ c.loop-k.invariant.1 (c.in_ok-check_revision.ensures.ok.0 refl))
+    let count : length c.image.result.now.revisions ≡ length v.revisions = ap (λ (w : ImageValue). length w.revisions) c.image.ensures.image in
+    let there : c.loop-k.k < length v.revisions = omega arith in
+    let good = subst (λ (st : Stated). IsGoodOver v st c.loop-k.k) c.loop-k.invariant.2.same (c.in_ok-check_revision.ensures.ok refl) in (
+      ap (λ (r : Revision). c.loop-k.from + r.rows) c.revision-from.ensures ∙ ap (λ n. n + (revision_at v c.loop-k.k).rows) c.loop-k.invariant.0 ∙ sym (rows_before_more v c.loop-k.k there),
+      below_more _ _ c.loop-k.invariant.1 good,
+      reads_then c.loop-k.invariant.2 c.in_ok-check_revision.ensures.reads,
+    )
