@@ -28,32 +28,38 @@ static uint64_t join_leaves(uint64_t leaves) {
     crope text;
     for (uint64_t k = 0; k < leaves; k++)
         text = text + leaf;
-    report_of(("a leaf, " + std::to_string(leaves) + " joined").c_str(), start, leaves);
+    report_of(("a leaf joined, " + std::to_string(leaves) + " of them").c_str(), start, leaves);
     return text.size();
 }
 
-// chains of a thousand such leaves joined one behind the other
-static uint64_t join_chains(uint64_t chains) {
-    std::string line(64, 'x');
-    crope leaf(line.c_str());
+// keys typed one behind the other from the middle of a megabyte on
+static uint64_t type_keys(crope text, uint64_t keys) {
+    uint64_t middle = text.size() / 2;
     auto start = Clock::now();
-    crope text;
-    for (uint64_t k = 0; k < chains; k++) {
-        crope chain;
-        for (uint64_t j = 0; j < 1000; j++)
-            chain = chain + leaf;
-        text = text + chain;
-    }
-    report_of(("a leaf in chains, " + std::to_string(chains * 1000) + " joined").c_str(), start, chains * 1000);
+    for (uint64_t k = 0; k < keys; k++)
+        text.insert(middle + k, "x", 1);
+    report_of("a key in the middle", start, keys);
     return text.size();
 }
 
-// insertions of ten bytes into a text of a megabyte
+// bursts of twenty keys at random places
+static uint64_t type_bursts(crope text, uint64_t bursts) {
+    auto start = Clock::now();
+    for (uint64_t k = 0; k < bursts; k++) {
+        uint64_t from = place(k, text.size());
+        for (uint64_t j = 0; j < 20; j++)
+            text.insert(from + j, "x", 1);
+    }
+    report_of("a key in bursts of 20", start, bursts * 20);
+    return text.size();
+}
+
+// insertions of ten bytes at random places
 static uint64_t insert(crope text, uint64_t edits) {
     auto start = Clock::now();
     for (uint64_t k = 0; k < edits; k++)
         text.insert(place(k, text.size()), "0123456789", 10);
-    report_of(("an insertion, " + std::to_string(edits) + " made").c_str(), start, edits);
+    report_of("ten bytes at a random place", start, edits);
     return text.size();
 }
 
@@ -90,11 +96,11 @@ int main() {
             sum += text[place(k, text.size())];
         report("a fetch in a megabyte", start);
     }
-    for (uint64_t leaves : {1000, 4000, 16000})
+    for (uint64_t leaves : {1000, 10000, 100000})
         sum += join_leaves(leaves);
-    sum += join_chains(100);
     crope flat(std::string(1 << 20, 'x').c_str());
-    for (uint64_t edits : {1000, 2500, 5000})
-        sum += insert(flat, edits);
+    sum += type_keys(flat, count);
+    sum += type_bursts(flat, count / 20);
+    sum += insert(flat, 600000);
     return sum == 0;
 }

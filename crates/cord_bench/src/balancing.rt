@@ -1,6 +1,6 @@
 //! Ropes that are put together anew where they grow too deep.
 
-ghost use Rattle.std.specs.Prelude.{◌≡◌, ◌<◌, IfOk};
+ghost use Rattle.std.specs.Prelude.{◌≡◌, ◌+◌, ◌^◌, ◌<◌, IfOk};
 ghost use Rattle.function_leaf.specs.Coded.{coded_byte};
 ghost use Rattle.rope_node.specs.Denotes.{IsRope};
 ghost use Rattle.rope_node.specs.Extends.{Extends};
@@ -9,22 +9,23 @@ ghost use Rattle.node_table.specs.Held.{table_of};
 use crate::ropes::{LINE, MEGABYTE, place};
 use anyhow::Result;
 use function_leaf::Coded;
+use node_table::NodeFault;
 use rebalance::{BalanceFault, append_any, cat_any, substr_any};
 use rope_node::{NodeSpace, Rope};
 use rope_store::Store;
 use std::time::Instant;
 
 /// As many leaves as this are joined one behind the other.
-const LEAVES: [u32; 3] = [1000, 4000, 16_000];
+const LEAVES: [u32; 3] = [1000, 10_000, 100_000];
 
-/// A hundred thousand leaves are joined as so many chains, each of `CHAIN` leaves.
-const CHAINS: u32 = 100;
+/// So many keys are typed.
+const KEYS: u32 = 1_000_000;
 
-/// How many leaves a chain has.
-const CHAIN: u32 = 1000;
+/// So many keys are typed at one place before the next.
+const BURST: u32 = 20;
 
-/// So many insertions are made.
-const EDITS: [u32; 3] = [1000, 2500, 5000];
+/// So many insertions are made at random places.
+const INSERTIONS: u32 = 600_000;
 
 /// What an insertion puts in.
 const INSERTED: &[u8] = b"0123456789";
@@ -42,25 +43,18 @@ fn join_leaves(store: &mut Store<Coded>, leaf: Rope, leaves: u32) -> Result<Rope
     Ok(text)
 }
 
-/// So many chains of leaves joined one behind the other.
-fn join_chains(store: &mut Store<Coded>, leaf: Rope, chains: u32) -> Result<Rope, BalanceFault>
-    requires { IsRope (table_of coded_byte store.old) leaf }
-{
-    let mut text = None;
-    for _ in 0..chains {
-        let chain = join_leaves(store, leaf, CHAIN)?;
-        text = cat_any(store, text, chain)?;
-    }
-    Ok(text)
-}
-
-/// The text with ten bytes put in at a place.
-fn insert(store: &mut Store<Coded>, text: Rope, place: u64) -> Result<Rope, BalanceFault>
+/// The text with bytes put in at a place.
+fn insert(
+    store: &mut Store<Coded>,
+    text: Rope,
+    place: u64,
+    bytes: &[u8],
+) -> Result<Rope, BalanceFault>
     requires { IsRope (table_of coded_byte store.old) text }
     ensures { IfOk result (IsRope (table_of coded_byte store.new)) }
 {
     let before = substr_any(store, text, 0, place)?;
-    let (longer, _) = append_any(store, before, INSERTED)?;
+    let (longer, _) = append_any(store, before, bytes)?;
     let behind = substr_any(store, text, place, u64::MAX)?;
     cat_any(store, longer, behind)
 }
@@ -72,7 +66,37 @@ fn insert_often(store: &mut Store<Coded>, text: Rope, edits: u32) -> Result<Rope
     let mut text = text;
     for k in 0..edits {
         let end = store.len(text).max(1);
-        text = insert(store, text, place(k, end))?;
+        text = insert(store, text, place(k, end), INSERTED)?;
+    }
+    Ok(text)
+}
+
+/// So many keys typed into a text, one behind the other, from this place on.
+fn type_keys(
+    store: &mut Store<Coded>,
+    text: Rope,
+    place: u64,
+    keys: u32,
+) -> Result<Rope, BalanceFault>
+    requires there { IsRope (table_of coded_byte store.old) text }
+    requires fits { place + keys < 2 ^ 64 }
+    ensures { IfOk result (IsRope (table_of coded_byte store.new)) }
+{
+    let mut text = text;
+    for k in 0..keys {
+        text = insert(store, text, place + k as u64, b"x")?;
+    }
+    Ok(text)
+}
+
+/// So many bursts of keys typed into a text, at random places.
+fn type_bursts(store: &mut Store<Coded>, text: Rope, bursts: u32) -> Result<Rope, BalanceFault>
+    requires { IsRope (table_of coded_byte store.old) text }
+{
+    let mut text = text;
+    for k in 0..bursts {
+        let end = store.len(text).max(1);
+        text = type_keys(store, text, place(k, end), BURST)?;
     }
     Ok(text)
 }
@@ -80,8 +104,16 @@ fn insert_often(store: &mut Store<Coded>, text: Rope, edits: u32) -> Result<Rope
 /// Prints how long each of so many took, and how many nodes there are.
 fn report(rt: &HostRuntime, work: &str, times: u32, start: Instant, nodes: u32) -> Result<()> {
     let taken = start.elapsed(rt)?.as_nanos() / times.max(1) as u128;
-    eprintln!(rt; "  {work:<18} {times:>6} made {taken:>10} ns, {nodes} nodes")?;
+    eprintln!(rt; "  {work:<34} {taken:>6} ns, {times:>7} made {nodes:>8} nodes")?;
     Ok(())
+}
+
+/// A text of a megabyte of a source.
+fn open(store: &mut Store<Coded>) -> Result<Rope, NodeFault>
+    ensures { IfOk result (IsRope (table_of coded_byte store.new)) }
+{
+    let source = store.add_source(MEGABYTE)?;
+    store.from_source(u32::from(source), 0, MEGABYTE)
 }
 
 fn time_leaves(rt: &HostRuntime, leaves: u32) -> Result<()> {
@@ -89,40 +121,45 @@ fn time_leaves(rt: &HostRuntime, leaves: u32) -> Result<()> {
     let leaf = store.from_bytes(LINE)?;
     let start = Instant::now(rt)?;
     join_leaves(&mut store, leaf, leaves)?;
-    report(rt, "a leaf joined,", leaves, start, store.count())
+    report(rt, "a leaf joined", leaves, start, store.count())
 }
 
-fn time_chains(rt: &HostRuntime) -> Result<()> {
+fn time_typing(rt: &HostRuntime) -> Result<()> {
     let mut store = Store::new(rt.alloc());
-    let leaf = store.from_bytes(LINE)?;
+    let text = open(&mut store)?;
     let start = Instant::now(rt)?;
-    join_chains(&mut store, leaf, CHAINS)?;
+    type_keys(&mut store, text, MEGABYTE / 2, KEYS)?;
+    report(rt, "a key in the middle", KEYS, start, store.count())
+}
+
+fn time_bursts(rt: &HostRuntime) -> Result<()> {
+    let mut store = Store::new(rt.alloc());
+    let text = open(&mut store)?;
+    let start = Instant::now(rt)?;
+    type_bursts(&mut store, text, KEYS / BURST)?;
+    report(rt, "a key in bursts of 20", KEYS, start, store.count())
+}
+
+fn time_insertions(rt: &HostRuntime) -> Result<()> {
+    let mut store = Store::new(rt.alloc());
+    let text = open(&mut store)?;
+    let start = Instant::now(rt)?;
+    insert_often(&mut store, text, INSERTIONS)?;
     report(
         rt,
-        "a leaf in chains,",
-        CHAINS * CHAIN,
+        "ten bytes at a random place",
+        INSERTIONS,
         start,
         store.count(),
     )
 }
 
-fn time_insertions(rt: &HostRuntime, edits: u32) -> Result<()> {
-    let mut store = Store::new(rt.alloc());
-    let source = store.add_source(MEGABYTE)?;
-    let text = store.from_source(u32::from(source), 0, MEGABYTE)?;
-    let start = Instant::now(rt)?;
-    insert_often(&mut store, text, edits)?;
-    report(rt, "an insertion,", edits, start, store.count())
-}
-
-/// Times joins and insertions that put ropes together anew, for more and more of them.
+/// Times what an editor does most, on a text of a megabyte, and leaves joined one behind the other.
 pub fn time(rt: &HostRuntime) -> Result<()> {
     for leaves in LEAVES {
         time_leaves(rt, leaves)?;
     }
-    time_chains(rt)?;
-    for edits in EDITS {
-        time_insertions(rt, edits)?;
-    }
-    Ok(())
+    time_typing(rt)?;
+    time_bursts(rt)?;
+    time_insertions(rt)
 }

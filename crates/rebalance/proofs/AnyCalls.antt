@@ -4,7 +4,7 @@ use Rattle.std.specs.Prelude.{IsErrOf}
 use Rattle.std.proofs.Math.Seq.{drop-append_seam}
 use Rattle.leaf_buffer.specs.Contents.{Contents, block_size}
 use Rattle.rope_node.specs.declared.node.NodeId.{NodeId}
-use Rattle.rope_node.specs.Table.{Table, len_at, IsSound, HasTrueRecords}
+use Rattle.rope_node.specs.Table.{Table, len_at, depth_at, view_at, IsSound, HasTrueRecords}
 use Rattle.rope_node.specs.Denotes.{Byte, cells, rope_cells, rope_len, IsRope}
 use Rattle.rope_node.proofs.Ropes.{rope_kept}
 use Rattle.node_table.specs.declared.fault.NodeFault.{NodeFault}
@@ -18,11 +18,11 @@ use Rattle.rope_node.proofs.Cells.{cells_length}
 use Rattle.rope_store.proofs.PartTexts.{no_part, take_least}
 use Rattle.rope_store.proofs.CallSizes.{joined_few, joined_shallow, part_few, sized_append}
 use Rattle.leaf_buffer.proofs.Appending.{appended_bytes}
-use Rattle.rebalance.specs.AnyForms.{AnyForm, Anew, AppendsAny, IsPlaced, PartsAny, lifted}
+use Rattle.rebalance.specs.AnyForms.{AnyForm, Anew, AppendsAny, IsPlaced, LiesLower, PartsAny, lifted}
 use Rattle.rebalance.specs.declared.fault.BalanceFault.{BalanceFault}
 use Rattle.rebalance.specs.declared.pieces.Span.{Span}
 use Rattle.rebalance.specs.Balancing.{Rebuilds}
-use Rattle.rebalance.specs.Pieces.{kept_pieces, part_pieces, pieces, IsWithin}
+use Rattle.rebalance.specs.Pieces.{kept_pieces, part_pieces, pieces, IsWithin, LiesInChild}
 use Rattle.rebalance.specs.Steps.{Grows}
 use Rattle.rebalance.proofs.AnyLaws.{any_anew, any_plain, any_plain_if, rebuilt_anew, rebuilt_grows, called_anew, few_pieces, stands_earlier, stands_for, stands_later, unchanged_at}
 use Rattle.rebalance.proofs.Filling.{whole_text}
@@ -77,6 +77,22 @@ no_bytes_shallow F t (Some node) i n none deep =
     let records = ap (λ (a : Addition F). deepest a.records) (no_part {F = F} t node i (min n (len_at t node.0 - i)) (none node refl)) in
     omega (arith, deep, records)
 
+no_bytes_lie : (t : Table) (x : Option NodeId) (i n : ℕ) → ((node : NodeId) → x ≡ Some node → min n (len_at t node.0 - i) ≡ 0) → ¬ LiesLower t x i n
+no_bytes_lie t None i n none lies = lies
+no_bytes_lie t (Some node) i n none lies = omega (arith, none node refl, lies.0)
+
+-- bytes that are all there
+lies_lower : (t : Table) (node : NodeId) (i n : ℕ) → i + n ≤ len_at t node.0 → LiesLower t (Some node) i n → (n < len_at t node.0) × LiesInChild t i n (view_at t node.0)
+lies_lower t node i n fits lies =
+    let all : min n (len_at t node.0 - i) ≡ n = omega (arith, fits) in (omega (arith, lies.1, all), subst (λ (k : ℕ). LiesInChild t i k (view_at t node.0)) all lies.2)
+
+part_lowest : (t : Table) (node : NodeId) (i n : ℕ) (p : Span) → IsWithin t node.0 i n p → ¬ LiesLower t (Some p.node) p.start n
+part_lowest t node i n p within lies =
+    let lower = lies_lower t p.node p.start n (omega (arith, within.inside, within.len)) lies in within.lowest lower.0 lower.1
+
+part_below : (t : Table) (node : NodeId) (i n : ℕ) (p : Span) → IsWithin t node.0 i n p → i + n ≤ len_at t node.0 → LiesLower t (Some node) i n → depth_at t p.node.0 < depth_at t node.0
+part_below t node i n p within fits lies = let lower = lies_lower t node i n fits lies in within.below lower.0 lower.1
+
 pub part_none : {F : Type 0} (meaning : F → ℕ → ℕ) (old new : Held F) (x : Option NodeId) (i n : ℕ) (plain : Result (Option NodeId) NodeFault) → IsRope (table_of meaning old) x → ((node : NodeId) → x ≡ Some node → min n (len_at (table_of meaning old) node.0 - i) ≡ 0)
     → Makes meaning old (part_added (table_of meaning old) x i n) (take n (drop i (rope_cells (table_of meaning old) x))) plain new → Refuses old (part_added (table_of meaning old) x i n) ⊥ ⊥ plain → PartsAny meaning old x i n (lifted plain) new
 part_none {F = F} meaning old new x i n plain there none made refuses =
@@ -88,9 +104,16 @@ part_none {F = F} meaning old new x i n plain there none made refuses =
       count = n;
       there = there;
       no_deeper = omega arith;
+      lowest = no_bytes_lie t x i n none;
+      below = λ lies. absurd (no_bytes_lie t x i n none lies);
       any = any_plain meaning old new (part_added t x i n) (take n (drop i (rope_cells t x))) ⊥ (part_pieces t x i n) 0 0 plain (part_few t x i n) made refuses (λ e. shallow (refuses.too_deep.0 e).2);
       rebuilt = λ deep. absurd (shallow deep);
     }
+
+least_lies : (t : Table) (node : NodeId) (i n m : ℕ) → m ≡ min n (len_at t node.0 - i) → LiesLower t (Some node) i n → LiesLower t (Some node) i m
+least_lies t node i n m least lies =
+    let few : min n (len_at t node.0 - i) ≡ min m (len_at t node.0 - i) = omega (arith, least) in
+    subst (λ (k : ℕ). (1 ≤ k) × (k < len_at t node.0) × LiesInChild t i k (view_at t node.0)) few lies
 
 -- no more bytes than there are
 pub part_more : {F : Type 0} (meaning : F → ℕ → ℕ) (old new : Held F) (node : NodeId) (i n m : ℕ) (result : Result (Option NodeId) BalanceFault) → IsSound (table_of meaning old) → HasTrueRecords (table_of meaning old) → node.0 < length old.nodes → m ≡ min n (len_at (table_of meaning old) node.0 - i)
@@ -109,6 +132,8 @@ part_more {F = F} meaning old new node i n m result s h there least part =
       count = part.count;
       there = part.there;
       no_deeper = part.no_deeper;
+      lowest = part.lowest;
+      below = λ lies. part.below (least_lies t node i n m least lies);
       any = subst (λ cs. AnyForm meaning old a cs ⊥ (part_pieces t (Some node) i n) 0 0 result new) text one;
       rebuilt = λ deep.
           let built = subst (λ (p : ℕ). Rebuilds meaning old (take m (drop i (cells t node.0))) p result new) count (part.rebuilt deep) in
@@ -116,10 +141,10 @@ part_more {F = F} meaning old new node i n m result s h there least part =
     }
 
 -- the plain call takes the part of a lower node
-pub part_plain : {F : Type 0} (meaning : F → ℕ → ℕ) (old new : Held F) (node : NodeId) (i n : ℕ) (p : Span) (plain : Result (Option NodeId) NodeFault) → IsWithin (table_of meaning old) node.0 i n p
+pub part_plain : {F : Type 0} (meaning : F → ℕ → ℕ) (old new : Held F) (node : NodeId) (i n : ℕ) (p : Span) (plain : Result (Option NodeId) NodeFault) → IsWithin (table_of meaning old) node.0 i n p → i + n ≤ len_at (table_of meaning old) node.0
     → Makes meaning old (part_added (table_of meaning old) (Some p.node) p.start n) (take n (drop p.start (cells (table_of meaning old) p.node.0))) plain new → Refuses old (part_added (table_of meaning old) (Some p.node) p.start n) ⊥ ⊥ plain → ¬ IsErrOf plain TooDeep
     → PartsAny meaning old (Some node) i n (lifted plain) new
-part_plain {F = F} meaning old new node i n p plain within made refuses shallow =
+part_plain {F = F} meaning old new node i n p plain within fits made refuses shallow =
     let t = table_of meaning old in
     let a : Addition F = part_added t (Some p.node) p.start n in
     let made' : Makes meaning old a (take n (drop i (cells t node.0))) plain new = rw within.cells made in
@@ -129,6 +154,8 @@ part_plain {F = F} meaning old new node i n p plain within made refuses shallow 
       count = n;
       there = within.there;
       no_deeper = within.shallow;
+      lowest = part_lowest t node i n p within;
+      below = part_below t node i n p within fits;
       any = any_plain meaning old new a (take n (drop i (cells t node.0))) ⊥ (part_pieces t (Some node) i n) 0 0 plain (part_few t (Some p.node) p.start n) made' refuses shallow;
       rebuilt = λ deep. absurd (shallow (refuses.too_deep.1 ((λ bad. bad), (λ long. long), deep)));
     }
@@ -148,6 +175,8 @@ part_anew {F = F} meaning old new node i n p result within fits deep built =
       count = n;
       there = within.there;
       no_deeper = within.shallow;
+      lowest = part_lowest t node i n p within;
+      below = part_below t node i n p within fits;
       any = any_anew meaning old new a wanted ⊥ (part_pieces t (Some node) i n) 0 0 result (λ long. long) deep (rebuilt_anew meaning old new wanted (part_pieces t (Some node) i n) result built');
       rebuilt = λ _. built';
     }

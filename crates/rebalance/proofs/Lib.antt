@@ -1,5 +1,6 @@
 pub mod Growth
 pub mod Fibonacci
+pub mod FibonacciList
 pub mod SlotLists
 pub mod SlotSteps
 pub mod PieceCounts

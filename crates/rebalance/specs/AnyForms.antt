@@ -1,6 +1,7 @@
 -- What a call does that balances the ropes handed in where they would make one that is too deep.
-use Rattle.std.specs.Prelude.{◌≡◌, ◌↔◌, ◌⊎◌, ℕ, ◌+◌, ◌*◌, ◌^◌, ◌<◌, ◌≤◌, List, [], ◌∷◌, ◌++◌, map, length, slice_range, take, drop, Option, Result, Ok, Err, IfOk, IfErr, IsErr, IsErrOf}
+use Rattle.std.specs.Prelude.{◌≡◌, ◌↔◌, ◌⊎◌, ℕ, ◌+◌, ◌-◌, ◌*◌, ◌^◌, ◌<◌, ◌≤◌, min, List, [], ◌∷◌, ◌++◌, map, length, slice_range, take, drop, Option, None, Some, Result, Ok, Err, IfOk, IfErr, IsErr, IsErrOf}
 use Rattle.rope_node.specs.declared.node.NodeId.{NodeId}
+use Rattle.rope_node.specs.Table.{Table, len_at, view_at}
 use Rattle.rope_node.specs.Denotes.{Cell, Byte, rope_cells, rope_depth, IsRope}
 use Rattle.node_table.specs.declared.fault.NodeFault.{NodeFault}
 use Rattle.node_table.specs.declared.fault.NodeFault.TheVariants.{TooLong, TooDeep, TableFull, PoolFull, BadSpan, TooManySources}
@@ -11,7 +12,7 @@ use Rattle.rope_store.specs.Refusals.{Refuses, IsTooDeep}
 use Rattle.rebalance.specs.declared.fault.BalanceFault.{BalanceFault}
 use Rattle.rebalance.specs.declared.fault.BalanceFault.TheVariants.{TooManyPieces, Node}
 use Rattle.rebalance.specs.Balancing.{Rebuilds}
-use Rattle.rebalance.specs.Pieces.{kept_pieces, part_pieces, most_pieces}
+use Rattle.rebalance.specs.Pieces.{kept_pieces, part_pieces, most_pieces, LiesInChild}
 use Rattle.rebalance.specs.Steps.{Grows, IsStepFault}
 
 -- a refusal of the store told as one of these calls
@@ -62,14 +63,22 @@ pub record AnyForm {F : Type 0} (meaning : F → ℕ → ℕ) (old : Held F) (a 
 
 -- ---- a part of a rope
 
--- The plain call takes these bytes of a node in which all of them lie and that is not deeper: so many, from start on. Where that is too
--- deep they are put together alone.
+-- bytes of a rope, at most n from i on, that are there, are not all of it and lie in one child
+abbrev pub LiesLower : Table → Option NodeId → ℕ → ℕ → Type 0
+LiesLower t None i n = ⊥
+LiesLower t (Some id) i n =
+    let m = min n (len_at t id.0 - i) in (1 ≤ m) × (m < len_at t id.0) × LiesInChild t i m (view_at t id.0)
+
+-- The plain call takes these bytes of the lowest node in which all of them lie: so many, from start on. It is less deep than the rope
+-- where they lie in one child. Where the part is too deep they are put together alone.
 pub record PartsAny {F : Type 0} (meaning : F → ℕ → ℕ) (old : Held F) (x : Option NodeId) (i n : ℕ) (result : Result (Option NodeId) BalanceFault) (new : Held F) : Type 0 where
   pub inner : Option NodeId
   pub start : ℕ
   pub count : ℕ
   pub there : IsRope (table_of meaning old) inner
   pub no_deeper : rope_depth (table_of meaning old) inner ≤ rope_depth (table_of meaning old) x
+  pub lowest : ¬ LiesLower (table_of meaning old) inner start count
+  pub below : LiesLower (table_of meaning old) x i n → rope_depth (table_of meaning old) inner < rope_depth (table_of meaning old) x
   pub any : AnyForm meaning old (part_added (table_of meaning old) inner start count) (take n (drop i (rope_cells (table_of meaning old) x))) ⊥ (part_pieces (table_of meaning old) x i n) 0 0 result new
   pub rebuilt : IsTooDeep (part_added {F = F} (table_of meaning old) inner start count) → Rebuilds meaning old (take n (drop i (rope_cells (table_of meaning old) x))) (part_pieces (table_of meaning old) x i n) result new
 

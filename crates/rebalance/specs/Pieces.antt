@@ -64,10 +64,20 @@ pub record IsFirst (keep : Bool) (t : Table) (id i n : ℕ) (p : Span) : Type 0 
   pub cells : take p.len (drop i (cells t id)) ≡ take p.len (drop p.start (cells t p.node.0))
   pub count : pieces keep t id i n ≡ 1 + pieces keep t id (i + p.len) (n - p.len)
 
--- these bytes are the same n as those of a node from i on, and are not in a deeper one
+-- the n bytes from i on of a node of this view lie in one child of it
+abbrev pub LiesInChild : Table → ℕ → ℕ → NodeView → Type 0
+LiesInChild t i n (Lit a) = ⊥
+LiesInChild t i n (Src s a) = ⊥
+LiesInChild t i n Fun = ⊥
+LiesInChild t i n (Cat l r) = (i + n ≤ len_at t l.0) ⊎ (len_at t l.0 ≤ i)
+LiesInChild t i n (Sub b start) = Unit {0}
+
+-- these bytes are the same n as those of a node from i on; no child holds them, and where one held those, this node is less deep
 pub record IsWithin (t : Table) (id i n : ℕ) (p : Span) : Type 0 where
   pub there : p.node.0 < length t.nodes
   pub inside : p.start + p.len ≤ len_at t p.node.0
   pub len : p.len ≡ n
   pub cells : take n (drop i (cells t id)) ≡ take n (drop p.start (cells t p.node.0))
   pub shallow : depth_at t p.node.0 ≤ depth_at t id
+  pub lowest : n < len_at t p.node.0 → ¬ LiesInChild t p.start n (view_at t p.node.0)
+  pub below : n < len_at t id → LiesInChild t i n (view_at t id) → depth_at t p.node.0 < depth_at t id

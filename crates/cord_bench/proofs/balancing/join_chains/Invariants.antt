@@ -1,7 +1,0 @@
-use Rattle.function_leaf.specs.Coded.{coded_byte}
-use Rattle.rope_node.specs.Denotes.{IsRope}
-use Rattle.node_table.specs.Held.{table_of}
-use Rattle.cord_bench.proofs.balancing.join_chains.Given as goal
-
-abbrev pub invariant-loop : goal.invariant-loop
-invariant-loop l = IsRope (table_of coded_byte l.store) l.text × IsRope (table_of coded_byte l.store) l.leaf
