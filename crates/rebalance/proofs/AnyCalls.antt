@@ -1,8 +1,9 @@
 -- The calls behind the balancing.
 use Rattle.std.proofs.Common.{◌≡◌, ℕ, ◌+◌, ◌*◌, ◌^◌, ◌<◌, ◌≤◌, ◌-◌, ◌++◌, ⊎_elim, inl, inr, Bool, true, false, List, [], ◌∷◌, map, take, drop, length, min, Option, Some, None, Result, Ok, Err, ap, subst, ◌∙◌, refl, arith}
+use Rattle.leaf_buffer.specs.declared.block.TheConstants.{BLOCK_SIZE}
 use Rattle.std.specs.Prelude.{IsErrOf}
 use Rattle.std.proofs.Math.Seq.{drop-append_seam}
-use Rattle.leaf_buffer.specs.Contents.{Contents, block_size}
+use Rattle.leaf_buffer.specs.Contents.{Contents}
 use Rattle.rope_node.specs.declared.node.NodeId.{NodeId}
 use Rattle.rope_node.specs.Table.{Table, len_at, depth_at, view_at, IsSound, HasTrueRecords}
 use Rattle.rope_node.specs.Denotes.{Byte, cells, rope_cells, rope_len, IsRope}
@@ -231,7 +232,7 @@ append_called {F = F} meaning old one new x rope bytes plain k0 k1 there short f
     let t0 = table_of meaning old in
     let t1 = table_of meaning one in
     let a = stands_for meaning old one x rope _ k0.sound k0.true_records k1.sound k1.true_records there first in
-    let still : ¬ IsTooLong t1 rope bytes = λ long. ⊎_elim (λ (many : block_size < length bytes). short (inl many)) (λ (far : 2 ^ 40 ≤ rope_len t1 rope + length bytes). short (inr (omega (arith, far, a.len)))) long in
+    let still : ¬ IsTooLong t1 rope bytes = λ long. ⊎_elim (λ (many : BLOCK_SIZE < length bytes). short (inl many)) (λ (far : 2 ^ 40 ≤ rope_len t1 rope + length bytes). short (inr (omega (arith, far, a.len)))) long in
     let sized = sized_append one.pool t1 k1.sound k1.true_records rope a.is_rope bytes done.addition (done.is still) in
     let low = sized.shallow a.shallow in
     let p = kept_pieces t0 x in

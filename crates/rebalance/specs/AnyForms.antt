@@ -1,11 +1,13 @@
 -- What a call does that balances the ropes handed in where they would make one that is too deep.
 use Rattle.std.specs.Prelude.{◌≡◌, ◌↔◌, ◌⊎◌, ℕ, ◌+◌, ◌-◌, ◌*◌, ◌^◌, ◌<◌, ◌≤◌, min, List, [], ◌∷◌, ◌++◌, map, length, slice_range, take, drop, Option, None, Some, Result, Ok, Err, IfOk, IfErr, IsErr, IsErrOf}
+use Rattle.leaf_buffer.specs.declared.pool.TheConstants.{POOL_LIMIT}
+use Rattle.rope_node.specs.declared.limits.TheConstants.{MOST_NODES}
 use Rattle.rope_node.specs.declared.node.NodeId.{NodeId}
 use Rattle.rope_node.specs.Table.{Table, len_at, view_at}
 use Rattle.rope_node.specs.Denotes.{Cell, Byte, rope_cells, rope_depth, IsRope}
 use Rattle.node_table.specs.declared.fault.NodeFault.{NodeFault}
 use Rattle.node_table.specs.declared.fault.NodeFault.TheVariants.{TooLong, TooDeep, TableFull, PoolFull, BadSpan, TooManySources}
-use Rattle.node_table.specs.Held.{Held, table_of, most_nodes}
+use Rattle.node_table.specs.Held.{Held, table_of}
 use Rattle.rope_store.specs.Additions.{Addition, Makes, part_added}
 use Rattle.rope_store.specs.Appending.{IsAppend, IsTooLong}
 use Rattle.rope_store.specs.Refusals.{Refuses, IsTooDeep}
@@ -55,8 +57,8 @@ pub record AnyForm {F : Type 0} (meaning : F → ℕ → ℕ) (old : Held F) (a 
   pub anew : IsTooDeep a → ¬ IsLong → Anew meaning old wanted p q bytes result new
   pub too_long : IsErrOf result (Node TooLong) ↔ IsLong
   pub too_many : IsErrOf result TooManyPieces → IsTooDeep a × (¬ IsLong)
-  pub table_full : IsErrOf result (Node TableFull) → most_nodes < length old.nodes + (2 * p + 2 * q + 3)
-  pub pool_full : IsErrOf result (Node PoolFull) → 2 ^ 32 ≤ length old.pool.bytes + (31 * p + 31 * q + bytes)
+  pub table_full : IsErrOf result (Node TableFull) → MOST_NODES < length old.nodes + (2 * p + 2 * q + 3)
+  pub pool_full : IsErrOf result (Node PoolFull) → POOL_LIMIT ≤ length old.pool.bytes + (31 * p + 31 * q + bytes)
   pub not_deep : ¬ IsErrOf result (Node TooDeep)
   pub no_bad_span : ¬ IsErrOf result (Node BadSpan)
   pub no_source : ¬ IsErrOf result (Node TooManySources)

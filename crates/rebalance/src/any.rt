@@ -1,6 +1,7 @@
 //! The store's calls, for ropes that may be too deep for them.
 
 ghost use Rattle.std.specs.Prelude.{◌≡◌, ◌↔◌, ◌+◌, ◌^◌, ◌<◌, ◌≤◌, ◌++◌, length, map, [], Some, IsTrue, IfOk, IsErrOf};
+ghost use Rattle.rope_node.specs.declared.limits.TheConstants.{TEXT_LIMIT};
 ghost use Rattle.rope_node.specs.Table.{len_at};
 ghost use Rattle.rope_node.specs.Denotes.{Byte, rope_cells, rope_len, IsRope};
 ghost use Rattle.node_table.specs.Held.{table_of};
@@ -50,7 +51,7 @@ fn lift(plain: Result<Rope, NodeFault>) -> Result<Rope, BalanceFault>
 pub fn cat_any<F: LeafFn>(store: &mut Store<F>, l: Rope, r: Rope) -> Result<Rope, BalanceFault>
     requires left { IsRope (table_of F.meaning store.old) l }
     requires right { IsRope (table_of F.meaning store.old) r }
-    ensures { AnyForm F.meaning store.old (joined (table_of F.meaning store.old) l r) (rope_cells (table_of F.meaning store.old) l ++ rope_cells (table_of F.meaning store.old) r) (2 ^ 40 ≤ rope_len (table_of F.meaning store.old) l + rope_len (table_of F.meaning store.old) r) (kept_pieces (table_of F.meaning store.old) l) (kept_pieces (table_of F.meaning store.old) r) 31 result store.new }
+    ensures { AnyForm F.meaning store.old (joined (table_of F.meaning store.old) l r) (rope_cells (table_of F.meaning store.old) l ++ rope_cells (table_of F.meaning store.old) r) (TEXT_LIMIT ≤ rope_len (table_of F.meaning store.old) l + rope_len (table_of F.meaning store.old) r) (kept_pieces (table_of F.meaning store.old) l) (kept_pieces (table_of F.meaning store.old) r) 31 result store.new }
 {
     let _count = store.count();
     let plain = store.cat(l, r);
@@ -64,7 +65,7 @@ pub fn cat_any<F: LeafFn>(store: &mut Store<F>, l: Rope, r: Rope) -> Result<Rope
 fn cat_anew<F: LeafFn>(store: &mut Store<F>, l: Rope, r: Rope) -> Result<Rope, BalanceFault>
     requires left { IsRope (table_of F.meaning store.old) l }
     requires right { IsRope (table_of F.meaning store.old) r }
-    requires short { rope_len (table_of F.meaning store.old) l + rope_len (table_of F.meaning store.old) r < 2 ^ 40 }
+    requires short { rope_len (table_of F.meaning store.old) l + rope_len (table_of F.meaning store.old) r < TEXT_LIMIT }
     ensures { Anew F.meaning store.old (rope_cells (table_of F.meaning store.old) l ++ rope_cells (table_of F.meaning store.old) r) (kept_pieces (table_of F.meaning store.old) l) (kept_pieces (table_of F.meaning store.old) r) 31 result store.new }
 {
     let _count = store.count();
