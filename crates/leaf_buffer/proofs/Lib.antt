@@ -3,3 +3,4 @@ pub mod Consecutive
 pub mod Growth
 pub mod Pieces
 pub mod Spans
+pub mod PoolGrowth

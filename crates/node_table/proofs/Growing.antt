@@ -1,16 +1,23 @@
 -- A table that grows keeps its rules.
-use Rattle.std.proofs.Common.{◌≡◌, ℕ, zero, suc, ◌+◌, ◌-◌, ◌^◌, ◌<◌, ◌≤◌, inl, inr, Bool, true, false, if◌then◌else◌, List, [], ◌∷◌, ◌++◌, map, length, get_or, Option, Some, None, refl, sym, ap, subst, ◌∙◌, arith}
+use Rattle.std.proofs.Common.{◌≡◌, ℕ, zero, suc, ◌+◌, ◌-◌, ◌^◌, ◌<◌, ◌≤◌, inl, inr, Bool, true, false, if◌then◌else◌, List, [], ◌∷◌, ◌++◌, map, length, get_or, Option, Some, None, Result, Ok, Err, refl, sym, ap, subst, ◌∙◌, arith}
+use Rattle.std.specs.Prelude.{OnOk, OnErr}
 use Rattle.std.proofs.lemmas.Bool.{cases_lt}
 use Rattle.std.proofs.lemmas.List.{length-append, length-map, get_or_append_left, get_or-append_right, get_or-map, map-append}
 use Rattle.function_leaf.specs.Optional.{answer_of}
+use Rattle.leaf_buffer.specs.declared.pool.TheConstants.{POOL_LIMIT}
 use Rattle.leaf_buffer.specs.Contents.{Contents, KeepsPieces}
+use Rattle.leaf_buffer.proofs.PoolGrowth.{PoolGrows}
+use Rattle.rope_node.specs.declared.limits.TheConstants.{MOST_NODES, MOST_SOURCES, TEXT_LIMIT}
+use Rattle.rope_node.specs.declared.node.NodeId.{NodeId}
 use Rattle.rope_node.specs.declared.node.NodeView.{NodeView}
 use Rattle.rope_node.specs.declared.node.NodeView.TheVariants.{Lit, Src, Fun, Cat, Sub}
 use Rattle.rope_node.specs.Table.{Node, node_at, no_node, IsSoundNode, IsTrueNode, IsSound, HasTrueRecords}
 use Rattle.rope_node.specs.Extends.{Extends}
 use Rattle.rope_node.proofs.Extensions.{sound_kept, true_kept}
+use Rattle.rope_node.proofs.Ropes.{extends_itself}
 use Rattle.node_table.specs.declared.record.Record.{Record}
-use Rattle.node_table.specs.Held.{Held, IsKept, IsGoodNode, IsKeptNode, CanHold, table_of, with_records, held_of, node_of, function_of, most_nodes, most_sources}
+use Rattle.node_table.specs.declared.fault.NodeFault.{NodeFault}
+use Rattle.node_table.specs.Held.{Held, IsKept, IsGoodNode, IsKeptNode, CanHold, table_of, with_records, held_of, node_of, function_of}
 
 -- ---- the table of a store that was kept
 
@@ -54,18 +61,19 @@ good_kept {F} meaning old new x keeps id inside f g =
     }
 
 -- nodes that can be held are held
-pub kept_records : {F : Type 0} (meaning : F → ℕ → ℕ) (h : Held F) (pool : Contents) (records : List (Record F)) → IsKept meaning h → CanHold meaning h pool records → KeepsPieces h.pool pool → length h.pool.bytes ≤ length pool.bytes → length pool.bytes < 2 ^ 32 → length h.nodes + length records ≤ most_nodes → IsKept meaning (with_records h pool records)
-kept_records {F} meaning h pool records k can keeps longer limit few =
+pub kept_records : {F : Type 0} (meaning : F → ℕ → ℕ) (h : Held F) (pool : Contents) (records : List (Record F)) → IsKept meaning h → CanHold meaning h pool records → PoolGrows h.pool pool → length pool.bytes < POOL_LIMIT → length h.nodes + length records ≤ MOST_NODES → IsKept meaning (with_records h pool records)
+kept_records {F} meaning h pool records k can grows limit few =
     let whole : length (h.nodes ++ map node_of records) ≡ length h.nodes + length records = rw (length-append, length-map) refl in
     let functions : length (h.functions ++ map function_of records) ≡ length h.functions + length records = rw (length-append, length-map) refl in
     record {
       nodes = λ id lt. elim (cases_lt id (length h.nodes)) [
-        | inl old ↦ good_kept meaning h (with_records h pool records) (extends_records meaning h pool records k.functions keeps longer) keeps id old (get_or_append_left h.functions (map function_of records) None id (omega (arith, k.functions))) (k.nodes id old)
+        | inl old ↦ good_kept meaning h (with_records h pool records) (extends_records meaning h pool records k.functions grows.pieces grows.longer) grows.pieces id old (get_or_append_left h.functions (map function_of records) None id (omega (arith, k.functions))) (k.nodes id old)
         | inr new ↦ can.nodes id new (omega (arith, whole))
       ];
       functions = omega (arith, whole, functions, k.functions);
       few = omega (arith, whole);
       pool = limit;
+      borders = grows.borders;
       few_sources = k.few_sources;
       sources = k.sources;
     }
@@ -76,42 +84,63 @@ get_or_one : (n k limit : ℕ) → n < limit → get_or (n ∷ []) k 0 < limit
 get_or_one n zero limit lt = lt
 get_or_one n (suc k) limit lt = omega arith
 
-pub kept_source : {F : Type 0} (meaning : F → ℕ → ℕ) (h : Held F) (len : ℕ) → IsKept meaning h → length h.sources < most_sources → len < 2 ^ 40 → IsKept meaning (record h { sources = h.sources ++ len ∷ [] })
+extends_source : {F : Type 0} (meaning : F → ℕ → ℕ) (h : Held F) (len : ℕ) → Extends (table_of meaning h) (table_of meaning (record h { sources = h.sources ++ len ∷ [] }))
+extends_source meaning h len = record {
+  nodes = λ id lt. refl;
+  more_nodes = omega arith;
+  pool = λ a n fits. refl;
+  more_pool = omega arith;
+  sources = λ s lt. get_or_append_left h.sources (len ∷ []) 0 s lt;
+  more_sources = omega (arith, length-append h.sources (len ∷ []));
+  answer = λ id lt. refl;
+}
+
+pub source_extends : {F : Type 0} (meaning : F → ℕ → ℕ) (h : Held F) (len : ℕ) (result : Result ℕ NodeFault) (new : Held F) → OnOk result (new ≡ record h { sources = h.sources ++ len ∷ [] }) → OnErr result (new ≡ h) → Extends (table_of meaning h) (table_of meaning new)
+source_extends {F = F} meaning h len (Ok s) new ok err = subst (λ (k : Held F). Extends (table_of meaning h) (table_of meaning k)) (sym ok) (extends_source meaning h len)
+source_extends {F = F} meaning h len (Err e) new ok err = subst (λ (k : Held F). Extends (table_of meaning h) (table_of meaning k)) (sym err) (extends_itself (table_of meaning h))
+
+pub kept_source : {F : Type 0} (meaning : F → ℕ → ℕ) (h : Held F) (len : ℕ) → IsKept meaning h → length h.sources < MOST_SOURCES → len < TEXT_LIMIT → IsKept meaning (record h { sources = h.sources ++ len ∷ [] })
 kept_source {F} meaning h len k few short =
-    let x : Extends (table_of meaning h) (table_of meaning (record h { sources = h.sources ++ len ∷ [] })) = record {
-      nodes = λ id lt. refl;
-      more_nodes = omega arith;
-      pool = λ a n fits. refl;
-      more_pool = omega arith;
-      sources = λ s lt. get_or_append_left h.sources (len ∷ []) 0 s lt;
-      more_sources = omega (arith, length-append h.sources (len ∷ []));
-      answer = λ id lt. refl;
-    } in
+    let x = extends_source meaning h len in
     record {
       nodes = λ id lt. good_kept meaning h (record h { sources = h.sources ++ len ∷ [] }) x (record { in_one_block = λ a n c. c; bytes = λ a n c. refl }) id lt refl (k.nodes id lt);
       functions = k.functions;
       few = k.few;
       pool = k.pool;
+      borders = k.borders;
       few_sources = omega (arith, length-append h.sources (len ∷ []));
       sources = λ s. elim (cases_lt s (length h.sources)) [
         | inl old ↦ rw (get_or_append_left h.sources (len ∷ []) 0 s old) (k.sources s)
-        | inr new ↦ rw (get_or-append_right h.sources (len ∷ []) (length h.sources) s 0 refl new) (get_or_one len (s - length h.sources) (2 ^ 40) short)
+        | inr new ↦ rw (get_or-append_right h.sources (len ∷ []) (length h.sources) s 0 refl new) (get_or_one len (s - length h.sources) (TEXT_LIMIT) short)
       ];
     }
 
-pub kept_push : {F : Type 0} (meaning : F → ℕ → ℕ) (records : List (Record F)) (pool : Contents) (sources : List ℕ) (len : ℕ) (b : Bool) (pushed : List ℕ) → IsKept meaning (held_of records pool sources) → length sources < most_sources → len < 2 ^ 40 → pushed ≡ (if b then sources ++ len ∷ [] else sources) → IsKept meaning (held_of records pool pushed)
+pub kept_push : {F : Type 0} (meaning : F → ℕ → ℕ) (records : List (Record F)) (pool : Contents) (sources : List ℕ) (len : ℕ) (b : Bool) (pushed : List ℕ) → IsKept meaning (held_of records pool sources) → length sources < MOST_SOURCES → len < TEXT_LIMIT → pushed ≡ (if b then sources ++ len ∷ [] else sources) → IsKept meaning (held_of records pool pushed)
 kept_push meaning records pool sources len true pushed k few short is = rw is (kept_source meaning (held_of records pool sources) len k few short)
 kept_push meaning records pool sources len false pushed k few short is = rw is k
 
+pub held_push : {F : Type 0} (h : Held F) (records : List (Record F)) (pool : Contents) (sources pushed : List ℕ) (len : ℕ) (b : Bool) → held_of records pool sources ≡ h → b ≡ true → pushed ≡ (if b then sources ++ len ∷ [] else sources) → held_of records pool pushed ≡ record h { sources = h.sources ++ len ∷ [] }
+held_push {F} h records pool sources pushed len false view took is = absurd cc
+held_push {F} h records pool sources pushed len true view took is = rw is (ap (λ (k : Held F). let more : Held F = record k { sources = k.sources ++ len ∷ [] } in more) view)
+
 -- ---- further records
 
-pub kept_put : {F : Type 0} (meaning : F → ℕ → ℕ) (h : Held F) (before : List (Record F)) (old pool : Contents) (sources : List ℕ) (put : List (Record F)) (b : Bool) (reserved after : List (Record F)) → held_of before old sources ≡ h → IsKept meaning (held_of before old sources) → CanHold meaning h pool put → KeepsPieces old pool → length old.bytes ≤ length pool.bytes → length pool.bytes < 2 ^ 32 → length before + length put ≤ most_nodes → reserved ≡ before → b ≡ true → after ≡ (if b then reserved ++ put else reserved) → IsKept meaning (held_of after pool sources)
-kept_put {F} meaning h before old pool sources put false reserved after view k can keeps longer limit few e isnt is = absurd cc
-kept_put {F} meaning h before old pool sources put true reserved after view k can keeps longer limit few e took is =
-    let whole : after ≡ before ++ put = is ∙ ap (λ (rs : List (Record F)). rs ++ put) e in
-    let counted : length (map (node_of {F = F}) before) + length put ≤ most_nodes = rw length-map few in
-    let held : IsKept meaning (with_records (held_of before old sources) pool put) = kept_records meaning (held_of before old sources) pool put k (subst (λ (x : Held F). CanHold meaning x pool put) (sym view) can) keeps longer limit counted in
+pub kept_put : {F : Type 0} (meaning : F → ℕ → ℕ) (h : Held F) (before : List (Record F)) (old pool : Contents) (sources : List ℕ) (put reserved after : List (Record F)) → held_of before old sources ≡ h → IsKept meaning (held_of before old sources) → CanHold meaning h pool put → PoolGrows old pool → length pool.bytes < POOL_LIMIT → length before + length put ≤ MOST_NODES → reserved ≡ before → after ≡ reserved ++ put → IsKept meaning (held_of after pool sources)
+kept_put {F} meaning h before old pool sources put reserved after view k can grows limit few same is =
+    let whole : after ≡ before ++ put = is ∙ ap (λ (rs : List (Record F)). rs ++ put) same in
+    let counted : length (map (node_of {F = F}) before) + length put ≤ MOST_NODES = rw length-map few in
+    let held : IsKept meaning (with_records (held_of before old sources) pool put) = kept_records meaning (held_of before old sources) pool put k (subst (λ (x : Held F). CanHold meaning x pool put) (sym view) can) grows limit counted in
     rw (whole, map-append node_of before put, map-append function_of before put) held
+
+-- the last of them
+pub last_put : {F : Type 0} (h : Held F) (put : List (Record F)) (last : ℕ) → last ≡ length h.nodes + (length put - 1) → ◌≡◌ {A = Option NodeId} (Some (record { 0 = last })) (Some (record { 0 = length h.nodes + (length put - 1) }))
+last_put h put last is = ap (λ (k : ℕ). let node : NodeId = record { 0 = k } in let rope : Option NodeId = Some node in rope) is
+
+-- what is held once records are put
+pub held_put : {F : Type 0} (h : Held F) (before : List (Record F)) (old pool : Contents) (sources : List ℕ) (put reserved after : List (Record F)) → held_of before old sources ≡ h → reserved ≡ before → after ≡ reserved ++ put → held_of after pool sources ≡ with_records h pool put
+held_put {F} h before old pool sources put reserved after view same is =
+    let whole : after ≡ before ++ put = is ∙ ap (λ (rs : List (Record F)). rs ++ put) same in
+    rw (whole, map-append node_of before put, map-append function_of before put) (ap (λ (x : Held F). with_records x pool put) view)
 
 -- ---- the record of a node
 

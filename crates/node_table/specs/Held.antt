@@ -1,18 +1,14 @@
 -- What a table holds, and what may be put into it.
-use Rattle.std.specs.Prelude.{◌≡◌, ℕ, ◌+◌, ◌^◌, ◌<◌, ◌≤◌, List, length, map, get_or, ◌++◌, Option, Some, None}
+use Rattle.std.specs.Prelude.{◌≡◌, ℕ, ◌+◌, ◌^◌, ◌<◌, ◌≤◌, List, All, length, map, get_or, ◌++◌, Option, Some, None}
 use Rattle.function_leaf.specs.declared.coded.Coded.{Coded}
 use Rattle.function_leaf.specs.Optional.{answer_of, or_fill}
 use Rattle.leaf_buffer.specs.Contents.{Contents, IsInOneBlock}
+use Rattle.leaf_buffer.specs.declared.pool.TheConstants.{POOL_LIMIT}
+use Rattle.rope_node.specs.declared.limits.TheConstants.{MOST_NODES, MOST_SOURCES, TEXT_LIMIT}
 use Rattle.rope_node.specs.declared.node.NodeView.{NodeView}
 use Rattle.rope_node.specs.declared.node.NodeView.TheVariants.{Lit, Src, Fun, Cat, Sub}
 use Rattle.rope_node.specs.Table.{Node, Table, node_at, IsSoundNode, IsTrueNode}
 use Rattle.node_table.specs.declared.record.Record.{Record}
-
-abbrev pub most_nodes : ℕ
-most_nodes = 16777216
-
-abbrev pub most_sources : ℕ
-most_sources = 255
 
 -- the nodes, the function of each that is one, the pool, and the sources' lengths
 pub record Held (F : Type 0) : Type 0 where
@@ -56,14 +52,15 @@ pub record IsGoodNode {F : Type 0} (meaning : F → ℕ → ℕ) (h : Held F) (i
   pub true_record : IsTrueNode (table_of meaning h) (node_at (table_of meaning h) id)
   pub kept : IsKeptNode h.pool (node_at (table_of meaning h) id).len (node_at (table_of meaning h) id).view (get_or h.functions id None)
 
--- what a table keeps to
+-- what a table keeps to; each block of its pool begins before the pool's end
 pub record IsKept {F : Type 0} (meaning : F → ℕ → ℕ) (h : Held F) : Type 0 where
   pub nodes : (id : ℕ) → id < length h.nodes → IsGoodNode meaning h id
   pub functions : length h.functions ≡ length h.nodes
-  pub few : length h.nodes ≤ most_nodes
-  pub pool : length h.pool.bytes < 2 ^ 32
-  pub few_sources : length h.sources ≤ most_sources
-  pub sources : (s : ℕ) → get_or h.sources s 0 < 2 ^ 40
+  pub few : length h.nodes ≤ MOST_NODES
+  pub pool : length h.pool.bytes < POOL_LIMIT
+  pub borders : All (λ border. border < length h.pool.bytes) h.pool.borders
+  pub few_sources : length h.sources ≤ MOST_SOURCES
+  pub sources : (s : ℕ) → get_or h.sources s 0 < TEXT_LIMIT
 
 -- each of these nodes keeps every rule, once it stands behind the table's own
 pub record CanHold {F : Type 0} (meaning : F → ℕ → ℕ) (h : Held F) (pool : Contents) (records : List (Record F)) : Type 0 where

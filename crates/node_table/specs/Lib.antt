@@ -1,2 +1,5 @@
 pub mod Codes
 pub mod Held
+pub mod NodeLists
+pub mod Puts
+pub mod Records

@@ -2,10 +2,12 @@
 #![tactic(auto)]
 
 mod fault;
+mod new_nodes;
 mod node_table;
 mod record;
 mod space;
 
 pub use fault::NodeFault;
+pub use new_nodes::NewNodes;
 pub use node_table::NodeTable;
 pub use record::Record;

@@ -1,12 +1,14 @@
 -- The calls behind the balancing.
-use Rattle.std.proofs.Common.{◌≡◌, ℕ, ◌+◌, ◌*◌, ◌^◌, ◌<◌, ◌≤◌, ◌-◌, ◌++◌, ⊎_elim, inl, inr, Bool, true, false, List, [], ◌∷◌, map, take, drop, length, min, Option, Some, None, Result, Ok, Err, ap, subst, ◌∙◌, refl, arith}
-use Rattle.std.specs.Prelude.{IsErrOf}
+use Rattle.std.proofs.Common.{◌≡◌, ℕ, ◌+◌, ◌*◌, ◌^◌, ◌<◌, ◌≤◌, ◌-◌, ◌++◌, ⊎_elim, inl, inr, Bool, true, false, List, [], ◌∷◌, map, take, drop, length, min, Option, Some, None, Result, Ok, Err, sym, ap, subst, ◌∙◌, refl, arith}
+use Rattle.leaf_buffer.specs.declared.block.TheConstants.{BLOCK_SIZE}
+use Rattle.std.specs.Prelude.{IfOk, IsErrOf}
 use Rattle.std.proofs.Math.Seq.{drop-append_seam}
-use Rattle.leaf_buffer.specs.Contents.{Contents, block_size}
+use Rattle.leaf_buffer.specs.Contents.{Contents}
 use Rattle.rope_node.specs.declared.node.NodeId.{NodeId}
 use Rattle.rope_node.specs.Table.{Table, len_at, depth_at, view_at, IsSound, HasTrueRecords}
+use Rattle.rope_node.specs.Extends.{Extends}
 use Rattle.rope_node.specs.Denotes.{Byte, cells, rope_cells, rope_len, IsRope}
-use Rattle.rope_node.proofs.Ropes.{rope_kept}
+use Rattle.rope_node.proofs.Ropes.{extends_itself, rope_kept}
 use Rattle.node_table.specs.declared.fault.NodeFault.{NodeFault}
 use Rattle.node_table.specs.declared.fault.NodeFault.TheVariants.{TooLong, TooDeep}
 use Rattle.node_table.specs.Held.{Held, table_of}
@@ -18,7 +20,7 @@ use Rattle.rope_node.proofs.Cells.{cells_length}
 use Rattle.rope_store.proofs.PartTexts.{no_part, take_least}
 use Rattle.rope_store.proofs.CallSizes.{joined_few, joined_shallow, part_few, sized_append}
 use Rattle.leaf_buffer.proofs.Appending.{appended_bytes}
-use Rattle.rebalance.specs.AnyForms.{AnyForm, Anew, AppendsAny, IsPlaced, LiesLower, PartsAny, lifted}
+use Rattle.rebalance.specs.AnyForms.{AnyForm, Anew, AppendsAny, IsPlaced, IsPut, LiesLower, StandsAt, next_place, PartsAny, lifted}
 use Rattle.rebalance.specs.declared.fault.BalanceFault.{BalanceFault}
 use Rattle.rebalance.specs.declared.pieces.Span.{Span}
 use Rattle.rebalance.specs.Balancing.{Rebuilds}
@@ -200,18 +202,41 @@ ok_is_no_err : (rope : Option NodeId) (e : NodeFault) → ◌≡◌ {A = Result 
 ok_is_no_err rope e is = cc
 
 -- the bytes stand where the pool ended
-pub placed : {F : Type 0} (meaning : F → ℕ → ℕ) (old new : Held F) (x rope : Option NodeId) (bytes : List ℕ) (place : ℕ) → IsRight F meaning old → IsRope (table_of meaning old) x → Appends meaning old x bytes (Ok rope) new → (bytes ≡ [] → place ≡ 0) → (1 ≤ length bytes → place ≡ length old.pool.bytes)
-    → IsPlaced new.pool.bytes place bytes
-placed meaning old new x rope [] place k there done none some = none refl
-placed {F = F} meaning old new x rope (b ∷ bs) place k there done none some =
+stands : {F : Type 0} (meaning : F → ℕ → ℕ) (old new : Held F) (x rope : Option NodeId) (bytes : List ℕ) → IsRight F meaning old → IsRope (table_of meaning old) x → Appends meaning old x bytes (Ok rope) new → StandsAt new.pool.bytes (next_place old.pool.bytes bytes) bytes
+stands meaning old new x rope [] k there done = refl
+stands {F = F} meaning old new x rope (b ∷ bs) k there done =
     let bytes = b ∷ bs in
     let a = done.addition in
     let short : ¬ IsTooLong (table_of meaning old) x bytes = λ long. let no = done.refuses.too_long.1 ((λ bad. bad), long) in ok_is_no_err rope TooLong no in
     let sized = sized_append old.pool (table_of meaning old) k.sound k.true_records x there bytes a (done.is short) in
     let pool : new.pool.bytes ≡ old.pool.bytes ++ a.bytes = ap (λ (h : Held F). h.pool.bytes) done.makes.table ∙ pool_bytes old.pool a.in_place a.bytes in
     let many : (length old.pool.bytes + length bytes) - length old.pool.bytes ≡ length bytes = omega arith in
-    let at : place ≡ length old.pool.bytes = some (omega arith) in
-    rw (at, pool) (ap (λ (n : ℕ). take n (drop (length old.pool.bytes) (old.pool.bytes ++ a.bytes))) many ∙ ap (take (length bytes)) (drop-append_seam old.pool.bytes a.bytes) ∙ sized.first)
+    rw pool (ap (λ (n : ℕ). take n (drop (length old.pool.bytes) (old.pool.bytes ++ a.bytes))) many ∙ ap (take (length bytes)) (drop-append_seam old.pool.bytes a.bytes) ∙ sized.first)
+
+place_is : (pool bytes : List ℕ) (place : ℕ) → (bytes ≡ [] → place ≡ 0) → (1 ≤ length bytes → place ≡ length pool) → place ≡ next_place pool bytes
+place_is pool [] place none some = none refl
+place_is pool (b ∷ bs) place none some = some (omega arith)
+
+pub put_behind : {F : Type 0} (meaning : F → ℕ → ℕ) (old mid new : Held F) (x rope : Option NodeId) (bytes : List ℕ) (place : ℕ) → Extends (table_of meaning old) (table_of meaning mid) → IsRight F meaning mid → IsRope (table_of meaning mid) x → Appends meaning mid x bytes (Ok rope) new → (bytes ≡ [] → place ≡ 0) → (1 ≤ length bytes → place ≡ length mid.pool.bytes)
+    → IsPut meaning old bytes (rope, place) new
+put_behind meaning old mid new x rope bytes place kept k there done none some =
+    let at = place_is mid.pool.bytes bytes place none some in
+    record {
+      before = mid;
+      behind = x;
+      kept = kept;
+      appends = done;
+      place = at;
+      stands = subst (λ (n : ℕ). StandsAt new.pool.bytes n bytes) (sym at) (stands meaning mid new x rope bytes k there done);
+    }
+
+pub placed_at_once : {F : Type 0} (meaning : F → ℕ → ℕ) (old new : Held F) (x rope : Option NodeId) (bytes : List ℕ) (place : ℕ) → IsRight F meaning old → IsRope (table_of meaning old) x → Appends meaning old x bytes (Ok rope) new → (bytes ≡ [] → place ≡ 0) → (1 ≤ length bytes → place ≡ length old.pool.bytes)
+    → IsPlaced meaning old x bytes (rope, place) new
+unfolding put_behind
+placed_at_once meaning old new x rope bytes place k there done none some = record {
+  put = put_behind meaning old old new x rope bytes place (extends_itself (table_of meaning old)) k there done none some;
+  at_once = λ _. (refl, refl);
+}
 
 pub append_plain : {F : Type 0} (meaning : F → ℕ → ℕ) (old new : Held F) (x : Option NodeId) (bytes : List ℕ) (plain : Result (Option NodeId) NodeFault) → IsRight F meaning old → IsRope (table_of meaning old) x → Appends meaning old x bytes plain new → ¬ IsErrOf plain TooDeep
     → AppendsAny meaning old x bytes (lifted plain) new
@@ -231,7 +256,7 @@ append_called {F = F} meaning old one new x rope bytes plain k0 k1 there short f
     let t0 = table_of meaning old in
     let t1 = table_of meaning one in
     let a = stands_for meaning old one x rope _ k0.sound k0.true_records k1.sound k1.true_records there first in
-    let still : ¬ IsTooLong t1 rope bytes = λ long. ⊎_elim (λ (many : block_size < length bytes). short (inl many)) (λ (far : 2 ^ 40 ≤ rope_len t1 rope + length bytes). short (inr (omega (arith, far, a.len)))) long in
+    let still : ¬ IsTooLong t1 rope bytes = λ long. ⊎_elim (λ (many : BLOCK_SIZE < length bytes). short (inl many)) (λ (far : 2 ^ 40 ≤ rope_len t1 rope + length bytes). short (inr (omega (arith, far, a.len)))) long in
     let sized = sized_append one.pool t1 k1.sound k1.true_records rope a.is_rope bytes done.addition (done.is still) in
     let low = sized.shallow a.shallow in
     let p = kept_pieces t0 x in

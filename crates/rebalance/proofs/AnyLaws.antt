@@ -1,12 +1,13 @@
 -- From the store's calls and from balancing to the calls for any ropes.
-use Rattle.std.proofs.Common.{◌≡◌, false, ℕ, ◌+◌, ◌*◌, ◌<◌, ◌≤◌, true, inl, inr, ⊎_elim, List, length, Option, Some, None, Result, Ok, Err, refl, sym, ap, subst, ◌∙◌, arith}
+use Rattle.std.proofs.Common.{◌≡◌, false, ℕ, ◌+◌, ◌*◌, ◌<◌, ◌≤◌, true, ◌⊎◌, inl, inr, ⊎_elim, List, length, Option, Some, None, Result, Ok, Err, refl, sym, ap, subst, ◌∙◌, arith}
 use Rattle.std.specs.Prelude.{IfOk, IfErr, OnErr, IsErrOf, IsTrue}
+use Rattle.std.proofs.lemmas.Bool.{cases_lt}
 use Rattle.rope_node.specs.declared.node.NodeId.{NodeId}
 use Rattle.rope_node.specs.Table.{Table, depth_at, IsSound, HasTrueRecords}
 use Rattle.rope_node.specs.Denotes.{Cell, rope_cells, rope_len, rope_depth, IsRope}
 use Rattle.rope_node.specs.Extends.{Extends}
 use Rattle.rope_node.proofs.Extensions.{depth_kept}
-use Rattle.rope_node.proofs.Ropes.{rope_cells_kept, rope_kept}
+use Rattle.rope_node.proofs.Ropes.{extends_itself, rope_cells_kept, rope_kept}
 use Rattle.node_table.specs.declared.fault.NodeFault.{NodeFault}
 use Rattle.node_table.specs.declared.fault.NodeFault.TheVariants.{TooLong, TooDeep, TableFull, PoolFull, BadSpan, TooManySources, Memory}
 use Rattle.node_table.specs.Held.{Held, table_of}
@@ -146,41 +147,70 @@ rebuilt_fault (Node Memory) nodes bytes r n b = tt
 pub few_pieces : {F : Type 0} {meaning : F → ℕ → ℕ} {old new : Held F} {wanted : List Cell} {p : ℕ} {balanced : Option NodeId} → Rebuilds meaning old wanted p (Ok balanced) new → ¬ (most_pieces < p)
 few_pieces r many = let is = r.too_many.1 many in absurd cc
 
--- the first rope is refused
-pub first_refused : {F : Type 0} (meaning : F → ℕ → ℕ) (old new : Held F) (wanted cs : List Cell) (p q bytes : ℕ) (e : BalanceFault) → Rebuilds meaning old cs p (Err e) new → Anew meaning old wanted p q bytes (Err e) new
-first_refused meaning old new wanted cs p q bytes e r = record {
+-- one of them goes through too many pieces
+pub many_anew : {F : Type 0} (meaning : F → ℕ → ℕ) (old : Held F) (wanted : List Cell) (p q bytes : ℕ) → ¬ ((p ≤ most_pieces) × (q ≤ most_pieces)) → Anew meaning old wanted p q bytes (Err TooManyPieces) old
+many_anew meaning old wanted p q bytes not_few = record {
+  gives = record {
+    is_rope = tt;
+    text = tt;
+    grows = record { kept = extends_itself (table_of meaning old); sources = refl; few_nodes = omega arith; few_bytes = omega arith };
+  };
+  too_many = (
+    λ _. ⊎_elim (λ (few : p ≤ most_pieces). inr (⊎_elim (λ (more : q ≤ most_pieces). absurd (not_few (few, more))) (λ (many : most_pieces < q). many) (cases_le q most_pieces)))
+        (λ (many : most_pieces < p). inl many) (cases_le p most_pieces),
+    λ _. refl,
+  );
+  unchanged = λ _. refl;
+  fault = tt;
+}
+  where
+    cases_le : (m n : ℕ) → (m ≤ n) ⊎ (n < m)
+    cases_le m n = ⊎_elim (λ (over : n < m). inr over) (λ (few : m ≤ n). inl few) (cases_lt n m)
+
+-- the first rope is refused, though neither goes through too many pieces
+pub first_refused : {F : Type 0} (meaning : F → ℕ → ℕ) (old new : Held F) (wanted cs : List Cell) (p q bytes : ℕ) (e : BalanceFault) → p ≤ most_pieces → q ≤ most_pieces → Rebuilds meaning old cs p (Err e) new → Anew meaning old wanted p q bytes (Err e) new
+first_refused meaning old new wanted cs p q bytes e few_p few_q r = record {
   gives = record {
     is_rope = tt;
     text = tt;
     grows = grows_within (rebuilt_grows r) (omega arith) (omega arith);
   };
-  too_many = λ many. inl (r.too_many.0 many);
-  first_many = r.too_many.1;
-  second_many = λ many. refl;
-  unchanged = λ many. r.unchanged (r.too_many.1 many);
+  too_many = (λ many. absurd (omega (arith, few_p, r.too_many.0 many)), ⊎_elim (λ (many : most_pieces < p). absurd (omega (arith, many, few_p))) (λ (many : most_pieces < q). absurd (omega (arith, many, few_q))));
+  unchanged = r.unchanged;
+  fault = rebuilt_fault e _ _ r (omega arith) (omega arith);
+}
+
+-- the only rope is refused
+pub rebuilt_refused : {F : Type 0} (meaning : F → ℕ → ℕ) (old new : Held F) (wanted cs : List Cell) (p bytes : ℕ) (e : BalanceFault) → Rebuilds meaning old cs p (Err e) new → Anew meaning old wanted p 0 bytes (Err e) new
+rebuilt_refused meaning old new wanted cs p bytes e r = record {
+  gives = record {
+    is_rope = tt;
+    text = tt;
+    grows = grows_within (rebuilt_grows r) (omega arith) (omega arith);
+  };
+  too_many = (λ many. inl (r.too_many.0 many), ⊎_elim (λ (many : most_pieces < p). r.too_many.1 many) (λ (many : most_pieces < 0). absurd (omega (arith, many))));
+  unchanged = r.unchanged;
   fault = rebuilt_fault e _ _ r (omega arith) (omega arith);
 }
 
 -- what is wanted is put together alone
 pub rebuilt_anew : {F : Type 0} (meaning : F → ℕ → ℕ) (old new : Held F) (wanted : List Cell) (p : ℕ) (result : Result (Option NodeId) BalanceFault) → Rebuilds meaning old wanted p result new → Anew meaning old wanted p 0 0 result new
-rebuilt_anew meaning old new wanted p (Err e) r = first_refused meaning old new wanted wanted p 0 0 e r
+rebuilt_anew meaning old new wanted p (Err e) r = rebuilt_refused meaning old new wanted wanted p 0 e r
 rebuilt_anew meaning old new wanted p (Ok rope) r = record {
   gives = record {
     is_rope = r.is_rope;
     text = r.text;
     grows = grows_within (rebuilt_grows r) (omega arith) (omega arith);
   };
-  too_many = λ many. absurd cc;
-  first_many = λ many. absurd (few_pieces r many);
-  second_many = λ many. absurd (omega (arith, many));
-  unchanged = λ many. absurd (few_pieces r many);
+  too_many = (λ many. absurd cc, ⊎_elim (λ (many : most_pieces < p). absurd (few_pieces r many)) (λ (many : most_pieces < 0). absurd (omega (arith, many))));
+  unchanged = λ many. absurd cc;
   fault = tt;
 }
 
 -- the second rope is refused
-pub second_refused : {F : Type 0} (meaning : F → ℕ → ℕ) (old mid new : Held F) (wanted cs ds : List Cell) (p : ℕ) (r left : Option NodeId) (bytes : ℕ) (e : BalanceFault) → IsSound (table_of meaning old) → IsRope (table_of meaning old) r → Rebuilds meaning old cs p (Ok left) mid → Rebuilds meaning mid ds (kept_pieces (table_of meaning mid) r) (Err e) new
+pub second_refused : {F : Type 0} (meaning : F → ℕ → ℕ) (old mid new : Held F) (wanted cs ds : List Cell) (p : ℕ) (r left : Option NodeId) (bytes : ℕ) (e : BalanceFault) → IsSound (table_of meaning old) → IsRope (table_of meaning old) r → kept_pieces (table_of meaning old) r ≤ most_pieces → Rebuilds meaning old cs p (Ok left) mid → Rebuilds meaning mid ds (kept_pieces (table_of meaning mid) r) (Err e) new
     → Anew meaning old wanted p (kept_pieces (table_of meaning old) r) bytes (Err e) new
-second_refused meaning old mid new wanted cs ds p r left bytes e s there first second =
+second_refused meaning old mid new wanted cs ds p r left bytes e s there few first second =
     let t = table_of meaning old in
     let same = all_pieces_kept true t (table_of meaning mid) s first.kept r there in
     record {
@@ -189,10 +219,11 @@ second_refused meaning old mid new wanted cs ds p r left bytes e s there first s
         text = tt;
         grows = grows_through (rebuilt_grows first) (rebuilt_grows second) (omega (arith, second.few_nodes, first.few_nodes, same)) (omega (arith, second.few_bytes, first.few_bytes, same));
       };
-      too_many = λ many. inr (rw same at (second.too_many.0 many));
-      first_many = λ many. absurd (few_pieces first many);
-      second_many = λ many. refl;
-      unchanged = λ many. absurd (few_pieces first many);
+      too_many = (
+        λ many. absurd (omega (arith, few, same, second.too_many.0 many)),
+        ⊎_elim (λ (many : most_pieces < p). absurd (few_pieces first many)) (λ (many : most_pieces < kept_pieces t r). absurd (omega (arith, many, few))),
+      );
+      unchanged = λ many. absurd (omega (arith, few, same, second.too_many.0 many));
       fault = rebuilt_fault e _ _ second (omega (arith, first.few_nodes, same)) (omega (arith, first.few_bytes, same));
     }
 
@@ -212,10 +243,8 @@ called_anew {F = F} meaning old mid new a wanted cs IsLong p q bytes plain grows
         text = lifted_ok (λ r. rope_cells (table_of meaning new) r ≡ wanted) plain there;
         grows = grows_through grows step step.few_nodes step.few_bytes;
       };
-      too_many = λ e. absurd (lifted_many plain e);
-      first_many = λ many. absurd (few_p many);
-      second_many = λ many. absurd (few_q many);
-      unchanged = λ many. absurd (few_p many);
+      too_many = (λ e. absurd (lifted_many plain e), ⊎_elim (λ (many : most_pieces < p). absurd (few_p many)) (λ (many : most_pieces < q). absurd (few_q many)));
+      unchanged = λ e. absurd (lifted_many plain e);
       fault = lifted_fault plain nodes most (refused_fault plain nodes most refuses (λ bad. bad) short shallow n b);
     }
 

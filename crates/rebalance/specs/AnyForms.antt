@@ -1,13 +1,18 @@
 -- What a call does that balances the ropes handed in where they would make one that is too deep.
 use Rattle.std.specs.Prelude.{◌≡◌, ◌↔◌, ◌⊎◌, ℕ, ◌+◌, ◌-◌, ◌*◌, ◌^◌, ◌<◌, ◌≤◌, min, List, [], ◌∷◌, ◌++◌, map, length, slice_range, take, drop, Option, None, Some, Result, Ok, Err, IfOk, IfErr, IsErr, IsErrOf}
+use Rattle.leaf_buffer.specs.declared.pool.TheConstants.{POOL_LIMIT}
+use Rattle.rope_node.specs.declared.limits.TheConstants.{MOST_NODES, TEXT_LIMIT}
 use Rattle.rope_node.specs.declared.node.NodeId.{NodeId}
 use Rattle.rope_node.specs.Table.{Table, len_at, view_at}
-use Rattle.rope_node.specs.Denotes.{Cell, Byte, rope_cells, rope_depth, IsRope}
+use Rattle.rope_node.specs.Denotes.{Cell, Byte, rope_cells, rope_depth, rope_len, IsRope}
 use Rattle.node_table.specs.declared.fault.NodeFault.{NodeFault}
 use Rattle.node_table.specs.declared.fault.NodeFault.TheVariants.{TooLong, TooDeep, TableFull, PoolFull, BadSpan, TooManySources}
-use Rattle.node_table.specs.Held.{Held, table_of, most_nodes}
+use Rattle.node_table.specs.Held.{Held, table_of}
 use Rattle.rope_store.specs.Additions.{Addition, Makes, part_added}
-use Rattle.rope_store.specs.Appending.{IsAppend, IsTooLong}
+use Rattle.rope_node.specs.Extends.{Extends}
+use Rattle.rope_store.specs.declared.endings.TheConstants.{MOST_MERGED}
+use Rattle.rope_store.specs.Joining.{joined}
+use Rattle.rope_store.specs.Appending.{Appends, IsAppend, IsTooLong}
 use Rattle.rope_store.specs.Refusals.{Refuses, IsTooDeep}
 use Rattle.rebalance.specs.declared.fault.BalanceFault.{BalanceFault}
 use Rattle.rebalance.specs.declared.fault.BalanceFault.TheVariants.{TooManyPieces, Node}
@@ -42,10 +47,8 @@ IsAnewFault nodes bytes (Node e) = IsStepFault nodes bytes e
 -- the call once the ropes of p and q pieces are balanced
 pub record Anew {F : Type 0} (meaning : F → ℕ → ℕ) (old : Held F) (wanted : List Cell) (p q bytes : ℕ) (result : Result (Option NodeId) BalanceFault) (new : Held F) : Type 0 where
   pub gives : GivesRope meaning old wanted p q bytes result new
-  pub too_many : IsErrOf result TooManyPieces → (most_pieces < p) ⊎ (most_pieces < q)
-  pub first_many : most_pieces < p → IsErrOf result TooManyPieces
-  pub second_many : most_pieces < q → IsErr result
-  pub unchanged : most_pieces < p → new ≡ old
+  pub too_many : IsErrOf result TooManyPieces ↔ ((most_pieces < p) ⊎ (most_pieces < q))
+  pub unchanged : IsErrOf result TooManyPieces → new ≡ old
   pub fault : IfErr result (IsAnewFault (length old.nodes + (2 * p + 2 * q + 3)) (length old.pool.bytes + (31 * p + 31 * q + bytes)))
 
 -- the call where the plain one makes addition a
@@ -55,11 +58,25 @@ pub record AnyForm {F : Type 0} (meaning : F → ℕ → ℕ) (old : Held F) (a 
   pub anew : IsTooDeep a → ¬ IsLong → Anew meaning old wanted p q bytes result new
   pub too_long : IsErrOf result (Node TooLong) ↔ IsLong
   pub too_many : IsErrOf result TooManyPieces → IsTooDeep a × (¬ IsLong)
-  pub table_full : IsErrOf result (Node TableFull) → most_nodes < length old.nodes + (2 * p + 2 * q + 3)
-  pub pool_full : IsErrOf result (Node PoolFull) → 2 ^ 32 ≤ length old.pool.bytes + (31 * p + 31 * q + bytes)
+  pub table_full : IsErrOf result (Node TableFull) → MOST_NODES < length old.nodes + (2 * p + 2 * q + 3)
+  pub pool_full : IsErrOf result (Node PoolFull) → POOL_LIMIT ≤ length old.pool.bytes + (31 * p + 31 * q + bytes)
   pub not_deep : ¬ IsErrOf result (Node TooDeep)
   pub no_bad_span : ¬ IsErrOf result (Node BadSpan)
   pub no_source : ¬ IsErrOf result (Node TooManySources)
+
+-- ---- two ropes, one behind the other
+
+abbrev pub CatsAny : {F : Type 0} → (F → ℕ → ℕ) → Held F → Option NodeId → Option NodeId → Result (Option NodeId) BalanceFault → Held F → Type 0
+CatsAny meaning old l r result new =
+    let t = table_of meaning old in
+    AnyForm meaning old (joined t l r) (rope_cells t l ++ rope_cells t r) (TEXT_LIMIT ≤ rope_len t l + rope_len t r)
+    (kept_pieces t l) (kept_pieces t r) MOST_MERGED result new
+
+-- the same once both are balanced
+abbrev pub CatsAnew : {F : Type 0} → (F → ℕ → ℕ) → Held F → Option NodeId → Option NodeId → Result (Option NodeId) BalanceFault → Held F → Type 0
+CatsAnew meaning old l r result new =
+    let t = table_of meaning old in
+    Anew meaning old (rope_cells t l ++ rope_cells t r) (kept_pieces t l) (kept_pieces t r) MOST_MERGED result new
 
 -- ---- a part of a rope
 
@@ -89,10 +106,34 @@ abbrev pub ropes_of : Result (Option NodeId × ℕ) BalanceFault → Result (Opt
 ropes_of (Ok p) = Ok p.0
 ropes_of (Err e) = Err e
 
--- the bytes stand in the pool from this place on; the place of none is 0
-abbrev pub IsPlaced : List ℕ → ℕ → List ℕ → Type 0
-IsPlaced pool place [] = place ≡ 0
-IsPlaced pool place (b ∷ bs) = slice_range pool place (place + length (b ∷ bs)) ≡ b ∷ bs
+-- bytes put behind a rope once it is balanced
+abbrev pub AppendsAnew : {F : Type 0} → (F → ℕ → ℕ) → Held F → Option NodeId → List ℕ → Result (Option NodeId) BalanceFault → Held F → Type 0
+AppendsAnew meaning old x bytes result new =
+    let t = table_of meaning old in
+    Anew meaning old (rope_cells t x ++ map Byte bytes) (kept_pieces t x) 0 (length bytes + MOST_MERGED) result new
+
+-- the place that bytes get in a pool: its end, and 0 for none of them
+abbrev pub next_place : List ℕ → List ℕ → ℕ
+next_place pool [] = 0
+next_place pool (b ∷ bs) = length pool
+
+-- the bytes stand in the pool from this place on
+abbrev pub StandsAt : List ℕ → ℕ → List ℕ → Type 0
+StandsAt pool place bytes = slice_range pool place (place + length bytes) ≡ bytes
+
+-- the plain call put the bytes behind a rope of a table that went on from the old one, and their place is where its pool ended then
+pub record IsPut {F : Type 0} (meaning : F → ℕ → ℕ) (old : Held F) (bytes : List ℕ) (p : Option NodeId × ℕ) (new : Held F) : Type 0 where
+  pub before : Held F
+  pub behind : Option NodeId
+  pub kept : Extends (table_of meaning old) (table_of meaning before)
+  pub appends : Appends meaning before behind bytes (Ok p.0) new
+  pub place : p.1 ≡ next_place before.pool.bytes bytes
+  pub stands : StandsAt new.pool.bytes p.1 bytes
+
+-- that table is the old one, unless the plain call refuses there as too deep
+pub record IsPlaced {F : Type 0} (meaning : F → ℕ → ℕ) (old : Held F) (x : Option NodeId) (bytes : List ℕ) (p : Option NodeId × ℕ) (new : Held F) : Type 0 where
+  pub put : IsPut meaning old bytes p new
+  pub at_once : ¬ Appends meaning old x bytes (Err TooDeep) old → (put.before ≡ old) × (put.behind ≡ x)
 
 -- what the plain call adds, and what this one does
 pub record AppendsAny {F : Type 0} (meaning : F → ℕ → ℕ) (old : Held F) (x : Option NodeId) (bytes : List ℕ) (result : Result (Option NodeId) BalanceFault) (new : Held F) : Type 0 where

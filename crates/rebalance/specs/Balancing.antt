@@ -1,15 +1,17 @@
 -- What putting a rope together anew does.
-use Rattle.std.specs.Prelude.{◌≡◌, ◌↔◌, ℕ, ◌+◌, ◌*◌, ◌^◌, ◌<◌, ◌≤◌, List, length, Option, Some, None, Result, IfOk, IsErrOf}
+use Rattle.std.specs.Prelude.{◌≡◌, ◌↔◌, ℕ, ◌+◌, ◌*◌, ◌^◌, ◌<◌, ◌≤◌, Bool, List, length, take, drop, Option, Some, None, Result, IfOk, IsErrOf}
+use Rattle.leaf_buffer.specs.declared.pool.TheConstants.{POOL_LIMIT}
+use Rattle.rope_node.specs.declared.limits.TheConstants.{MOST_NODES}
 use Rattle.rope_node.specs.declared.node.NodeId.{NodeId}
 use Rattle.rope_node.specs.Balance.{fibonacci}
 use Rattle.rope_node.specs.Table.{Table, len_at, depth_at}
-use Rattle.rope_node.specs.Denotes.{Cell, rope_cells, IsRope}
+use Rattle.rope_node.specs.Denotes.{Cell, cells, rope_cells, IsRope}
 use Rattle.rope_node.specs.Extends.{Extends}
 use Rattle.node_table.specs.declared.fault.NodeFault.TheVariants.{TooLong, TooDeep, TableFull, PoolFull, BadSpan, TooManySources}
-use Rattle.node_table.specs.Held.{Held, table_of, most_nodes}
+use Rattle.node_table.specs.Held.{Held, table_of}
 use Rattle.rebalance.specs.declared.fault.BalanceFault.{BalanceFault}
 use Rattle.rebalance.specs.declared.fault.BalanceFault.TheVariants.{TooManyPieces, Node}
-use Rattle.rebalance.specs.Pieces.{rope_pieces, most_pieces}
+use Rattle.rebalance.specs.Pieces.{all_pieces, pieces, rope_pieces, most_pieces}
 
 -- a rope as long as its depth asks for, but for one
 abbrev pub IsNearlyBalanced : Table → Option NodeId → Type 0
@@ -27,12 +29,24 @@ pub record Rebuilds {F : Type 0} (meaning : F → ℕ → ℕ) (old : Held F) (w
   pub few_bytes : length new.pool.bytes ≤ length old.pool.bytes + 31 * p
   pub too_many : IsErrOf result TooManyPieces ↔ (most_pieces < p)
   pub unchanged : IsErrOf result TooManyPieces → new ≡ old
-  pub table_full : IsErrOf result (Node TableFull) → most_nodes < length old.nodes + 2 * p
-  pub pool_full : IsErrOf result (Node PoolFull) → 2 ^ 32 ≤ length old.pool.bytes + 31 * p
+  pub table_full : IsErrOf result (Node TableFull) → MOST_NODES < length old.nodes + 2 * p
+  pub pool_full : IsErrOf result (Node PoolFull) → POOL_LIMIT ≤ length old.pool.bytes + 31 * p
   pub not_long : ¬ IsErrOf result (Node TooLong)
   pub not_deep : ¬ IsErrOf result (Node TooDeep)
   pub no_bad_span : ¬ IsErrOf result (Node BadSpan)
   pub no_source : ¬ IsErrOf result (Node TooManySources)
+
+-- all of a rope is put together from its pieces
+abbrev pub RebuildsRope : {F : Type 0} → (F → ℕ → ℕ) → Held F → Bool → Option NodeId → Result (Option NodeId) BalanceFault → Held F → Type 0
+RebuildsRope meaning old keep rope result new =
+    let t = table_of meaning old in
+    Rebuilds meaning old (rope_cells t rope) (all_pieces keep t rope) result new
+
+-- so many bytes of a node from start on are
+abbrev pub RebuildsPart : {F : Type 0} → (F → ℕ → ℕ) → Held F → Bool → NodeId → ℕ → ℕ → Result (Option NodeId) BalanceFault → Held F → Type 0
+RebuildsPart meaning old keep node start len result new =
+    let t = table_of meaning old in
+    Rebuilds meaning old (take len (drop start (cells t node.0))) (pieces keep t node.0 start len) result new
 
 -- a rope put together from its leaf spans
 abbrev pub Rebalances : {F : Type 0} → (F → ℕ → ℕ) → Held F → Option NodeId → Result (Option NodeId) BalanceFault → Held F → Type 0

@@ -50,6 +50,10 @@ part_pieces t (Some id) i n = pieces true t id.0 i (min n (len_at t id.0 - i))
 abbrev pub most_pieces : ℕ
 most_pieces = 1048576
 
+-- a rope goes through no more pieces than that, where nodes are kept
+abbrev pub HasFewPieces : Table → Option NodeId → Type 0
+HasFewPieces t rope = kept_pieces t rope ≤ most_pieces
+
 -- all of a node whose length is at least the Fibonacci number at its depth and three, or a span of a leaf
 abbrev pub IsWhole : Table → Span → Type 0
 IsWhole t p = (p.len ≡ len_at t p.node.0) × (fibonacci (depth_at t p.node.0 + 3) ≤ p.len)

@@ -1,16 +1,18 @@
 -- What each step of balancing keeps to.
 use Rattle.std.specs.Prelude.{◌≡◌, ℕ, ◌^◌, ◌<◌, ◌≤◌, length, Result, IfErr}
+use Rattle.leaf_buffer.specs.declared.pool.TheConstants.{POOL_LIMIT}
+use Rattle.rope_node.specs.declared.limits.TheConstants.{MOST_NODES}
 use Rattle.rope_node.specs.Extends.{Extends}
 use Rattle.node_table.specs.declared.fault.NodeFault.{NodeFault}
 use Rattle.node_table.specs.declared.fault.NodeFault.TheVariants.{TooLong, TooDeep, TableFull, PoolFull, BadSpan, TooManySources, Memory}
-use Rattle.node_table.specs.Held.{Held, table_of, most_nodes}
+use Rattle.node_table.specs.Held.{Held, table_of}
 
 -- what may refuse a step after which there are at most so many nodes and bytes
 abbrev pub IsStepFault : ℕ → ℕ → NodeFault → Type 0
 IsStepFault nodes bytes TooLong = ⊥
 IsStepFault nodes bytes TooDeep = ⊥
-IsStepFault nodes bytes TableFull = most_nodes < nodes
-IsStepFault nodes bytes PoolFull = 2 ^ 32 ≤ bytes
+IsStepFault nodes bytes TableFull = MOST_NODES < nodes
+IsStepFault nodes bytes PoolFull = POOL_LIMIT ≤ bytes
 IsStepFault nodes bytes BadSpan = ⊥
 IsStepFault nodes bytes TooManySources = ⊥
 IsStepFault nodes bytes Memory = Unit {0}

@@ -1,15 +1,15 @@
 //! The store's calls, for ropes that may be too deep for them.
 
 ghost use Rattle.std.specs.Prelude.{◌≡◌, ◌↔◌, ◌+◌, ◌^◌, ◌<◌, ◌≤◌, ◌++◌, length, map, [], Some, IsTrue, IfOk, IsErrOf};
+ghost use Rattle.rope_node.specs.declared.limits.TheConstants.{TEXT_LIMIT};
 ghost use Rattle.rope_node.specs.Table.{len_at};
 ghost use Rattle.rope_node.specs.Denotes.{Byte, rope_cells, rope_len, IsRope};
 ghost use Rattle.node_table.specs.Held.{table_of};
 ghost use Rattle.rope_store.specs.Appending.{IsTooLong};
-ghost use Rattle.rope_store.specs.Joining.{joined};
-ghost use Rattle.rebalance.specs.AnyForms.{AnyForm, Anew, AppendsAny, IsPlaced, PartsAny, lifted, ropes_of};
-ghost use Rattle.rebalance.specs.Pieces.{kept_pieces, IsWithin};
+ghost use Rattle.rebalance.specs.AnyForms.{AppendsAny, AppendsAnew, CatsAny, CatsAnew, IsPlaced, IsPut, PartsAny, lifted, ropes_of};
+ghost use Rattle.rebalance.specs.Pieces.{HasFewPieces, IsWithin};
 
-use crate::balancing::{balance_by, balance_part};
+use crate::balancing::{balance_by, balance_part, rebuild_rope, rope_has_few_pieces};
 use crate::fault::BalanceFault;
 use crate::pieces::Span;
 use function_leaf::LeafFn;
@@ -45,12 +45,13 @@ fn lift(plain: Result<Rope, NodeFault>) -> Result<Rope, BalanceFault>
 ///
 /// # Errors
 ///
-/// `TooManyPieces` where a rope that has to be balanced goes through more than 1,048,576 such pieces; `TooLong`, `TableFull`, `PoolFull`,
-/// `Memory` of the store. Where a rope was balanced the store may then have more nodes and bytes.
+/// `TooManyPieces` where the ropes have to be balanced and one of them goes through more than 1,048,576 such pieces, and the store is then
+/// as before; `TooLong`, `TableFull`, `PoolFull`, `Memory` of the store. Where a rope was balanced the store may then have more nodes and
+/// bytes.
 pub fn cat_any<F: LeafFn>(store: &mut Store<F>, l: Rope, r: Rope) -> Result<Rope, BalanceFault>
     requires left { IsRope (table_of F.meaning store.old) l }
     requires right { IsRope (table_of F.meaning store.old) r }
-    ensures { AnyForm F.meaning store.old (joined (table_of F.meaning store.old) l r) (rope_cells (table_of F.meaning store.old) l ++ rope_cells (table_of F.meaning store.old) r) (2 ^ 40 ≤ rope_len (table_of F.meaning store.old) l + rope_len (table_of F.meaning store.old) r) (kept_pieces (table_of F.meaning store.old) l) (kept_pieces (table_of F.meaning store.old) r) 31 result store.new }
+    ensures { CatsAny F.meaning store.old l r result store.new }
 {
     let _count = store.count();
     let plain = store.cat(l, r);
@@ -60,17 +61,29 @@ pub fn cat_any<F: LeafFn>(store: &mut Store<F>, l: Rope, r: Rope) -> Result<Rope
     lift(plain)
 }
 
+/// Whether each of both ropes goes through at most as many pieces as a rope is put together from.
+fn have_few_pieces<F: LeafFn>(store: &Store<F>, l: Rope, r: Rope) -> bool
+    requires left { IsRope (table_of F.meaning store.now) l }
+    requires right { IsRope (table_of F.meaning store.now) r }
+    ensures { IsTrue result ↔ (HasFewPieces (table_of F.meaning store.now) l × HasFewPieces (table_of F.meaning store.now) r) }
+{
+    rope_has_few_pieces(store, l, true) && rope_has_few_pieces(store, r, true)
+}
+
 /// `cat` of both ropes once they are balanced.
 fn cat_anew<F: LeafFn>(store: &mut Store<F>, l: Rope, r: Rope) -> Result<Rope, BalanceFault>
     requires left { IsRope (table_of F.meaning store.old) l }
     requires right { IsRope (table_of F.meaning store.old) r }
-    requires short { rope_len (table_of F.meaning store.old) l + rope_len (table_of F.meaning store.old) r < 2 ^ 40 }
-    ensures { Anew F.meaning store.old (rope_cells (table_of F.meaning store.old) l ++ rope_cells (table_of F.meaning store.old) r) (kept_pieces (table_of F.meaning store.old) l) (kept_pieces (table_of F.meaning store.old) r) 31 result store.new }
+    requires short { rope_len (table_of F.meaning store.old) l + rope_len (table_of F.meaning store.old) r < TEXT_LIMIT }
+    ensures { CatsAnew F.meaning store.old l r result store.new }
 {
     let _count = store.count();
-    let left = balance_by(store, l, true)?;
+    if !have_few_pieces(store, l, r) {
+        return Err(BalanceFault::TooManyPieces);
+    }
+    let left = rebuild_rope(store, l, true)?;
     let _count = store.count();
-    let right = balance_by(store, r, true)?;
+    let right = rebuild_rope(store, r, true)?;
     let _count = store.count();
     Ok(store.cat(left, right)?)
 }
@@ -172,7 +185,7 @@ fn lowest<F: LeafFn>(store: &Store<F>, node: NodeId, start: u64, len: u64) -> Sp
     }
 }
 
-/// `append` of the store, and the pool's place where the bytes then stand, 0 for none. Where the node over both would be too deep, `x`
+/// `append` of the store, and the length that the pool had just before the bytes were put at its end, 0 for none. Where the node over both would be too deep, `x`
 /// is balanced first.
 ///
 /// # Errors
@@ -186,7 +199,7 @@ pub fn append_any<F: LeafFn>(
 ) -> Result<(Rope, u64), BalanceFault>
     requires { IsRope (table_of F.meaning store.old) x }
     ensures any { AppendsAny F.meaning store.old x bytes.now (ropes_of result) store.new }
-    ensures place { IfOk result (λ p. IsPlaced store.new.pool.bytes p.1 bytes.now) }
+    ensures place { IfOk result (λ p. IsPlaced F.meaning store.old x bytes.now p store.new) }
 {
     let _count = store.count();
     let place = next_place(store, bytes);
@@ -198,7 +211,7 @@ pub fn append_any<F: LeafFn>(
     Ok((rope, place))
 }
 
-/// The place that bytes get in the pool, 0 for none.
+/// The place that bytes get in the pool: its end, and 0 for none.
 fn next_place<F: LeafFn>(store: &Store<F>, bytes: &[u8]) -> u64
     ensures none { bytes.now ≡ [] → result ≡ 0 }
     ensures some { 1 ≤ length bytes.now → result ≡ length store.now.pool.bytes }
@@ -217,8 +230,8 @@ fn append_anew<F: LeafFn>(
 ) -> Result<(Rope, u64), BalanceFault>
     requires there { IsRope (table_of F.meaning store.old) x }
     requires short { ¬ IsTooLong (table_of F.meaning store.old) x bytes.now }
-    ensures anew { Anew F.meaning store.old (rope_cells (table_of F.meaning store.old) x ++ map Byte bytes.now) (kept_pieces (table_of F.meaning store.old) x) 0 (length bytes.now + 31) (ropes_of result) store.new }
-    ensures place { IfOk result (λ p. IsPlaced store.new.pool.bytes p.1 bytes.now) }
+    ensures anew { AppendsAnew F.meaning store.old x bytes.now (ropes_of result) store.new }
+    ensures place { IfOk result (λ p. IsPut F.meaning store.old bytes.now p store.new) }
 {
     let _count = store.count();
     let rope = balance_by(store, x, true)?;

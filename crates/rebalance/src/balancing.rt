@@ -1,11 +1,11 @@
 //! A rope put together anew.
 
-ghost use Rattle.std.specs.Prelude.{◌≡◌, ◌+◌, ◌*◌, ◌<◌, ◌≤◌, [], length, take, drop, IfOk, None};
+ghost use Rattle.std.specs.Prelude.{◌≡◌, ◌+◌, ◌*◌, ◌<◌, ◌≤◌, [], ◌↔◌, length, take, drop, IfOk, IsTrue, None};
 ghost use Rattle.rope_node.specs.Table.{len_at};
 ghost use Rattle.rope_node.specs.Denotes.{cells, rope_cells, IsRope};
 ghost use Rattle.node_table.specs.Held.{table_of};
-ghost use Rattle.rebalance.specs.Balancing.{IsNearlyBalanced, Rebalances, Rebuilds};
-ghost use Rattle.rebalance.specs.Pieces.{pieces, all_pieces};
+ghost use Rattle.rebalance.specs.Balancing.{IsNearlyBalanced, Rebalances, RebuildsPart, RebuildsRope};
+ghost use Rattle.rebalance.specs.Pieces.{pieces, all_pieces, most_pieces};
 ghost use Rattle.rebalance.specs.Slots.{full_slots, slots_cells, AreSlots, IsSpread};
 ghost use Rattle.rebalance.specs.Steps.{Steps};
 
@@ -39,13 +39,43 @@ pub(crate) fn balance_by<F: LeafFn>(
     keep: bool,
 ) -> Result<Rope, BalanceFault>
     requires { IsRope (table_of F.meaning store.old) rope }
-    ensures { Rebuilds F.meaning store.old (rope_cells (table_of F.meaning store.old) rope) (all_pieces keep (table_of F.meaning store.old) rope) result store.new }
+    ensures { RebuildsRope F.meaning store.old keep rope result store.new }
+{
+    if !rope_has_few_pieces(store, rope, keep) {
+        return Err(BalanceFault::TooManyPieces);
+    }
+    rebuild_rope(store, rope, keep)
+}
+
+/// Whether a rope goes through at most as many pieces as a rope is put together from.
+pub(crate) fn rope_has_few_pieces<F: LeafFn>(store: &Store<F>, rope: Rope, keep: bool) -> bool
+    requires { IsRope (table_of F.meaning store.now) rope }
+    ensures { IsTrue result ↔ (all_pieces keep (table_of F.meaning store.now) rope ≤ most_pieces) }
+{
+    match rope {
+        None => true,
+        Some(node) => {
+            let len = NodeSpace::len(store, node);
+            has_few_pieces(store, keep, node, 0, len)
+        }
+    }
+}
+
+/// A rope of few pieces put together from them.
+pub(crate) fn rebuild_rope<F: LeafFn>(
+    store: &mut Store<F>,
+    rope: Rope,
+    keep: bool,
+) -> Result<Rope, BalanceFault>
+    requires there { IsRope (table_of F.meaning store.old) rope }
+    requires few { all_pieces keep (table_of F.meaning store.old) rope ≤ most_pieces }
+    ensures { RebuildsRope F.meaning store.old keep rope result store.new }
 {
     let Some(node) = rope else {
         return Ok(None);
     };
     let len = NodeSpace::len(store, node);
-    balance_part(store, keep, node, 0, len)
+    rebuild_few(store, keep, node, 0, len)
 }
 
 /// The bytes of a node from `start` on as such a rope.
@@ -58,11 +88,27 @@ pub(crate) fn balance_part<F: LeafFn>(
 ) -> Result<Rope, BalanceFault>
     requires there { node.0 < length store.old.nodes }
     requires inside { start + len ≤ len_at (table_of F.meaning store.old) node.0 }
-    ensures { Rebuilds F.meaning store.old (take len (drop start (cells (table_of F.meaning store.old) node.0))) (pieces keep (table_of F.meaning store.old) node.0 start len) result store.new }
+    ensures { RebuildsPart F.meaning store.old keep node start len result store.new }
 {
     if !has_few_pieces(store, keep, node, start, len) {
         return Err(BalanceFault::TooManyPieces);
     }
+    rebuild_few(store, keep, node, start, len)
+}
+
+/// The bytes of a node from `start` on, which go through few pieces, as such a rope.
+fn rebuild_few<F: LeafFn>(
+    store: &mut Store<F>,
+    keep: bool,
+    node: NodeId,
+    start: u64,
+    len: u64,
+) -> Result<Rope, BalanceFault>
+    requires there { node.0 < length store.old.nodes }
+    requires inside { start + len ≤ len_at (table_of F.meaning store.old) node.0 }
+    requires few { pieces keep (table_of F.meaning store.old) node.0 start len ≤ most_pieces }
+    ensures { RebuildsPart F.meaning store.old keep node start len result store.new }
+{
     Ok(rebuild(store, keep, node, start, len)?)
 }
 

@@ -1,6 +1,7 @@
 //! Slots for ropes: a longer rope in a slot of a higher number, and more to the left in the text.
 
 ghost use Rattle.std.specs.Prelude.{◌≡◌, ◌+◌, ◌^◌, ◌<◌, ◌≤◌, ◌++◌, length, IfOk};
+ghost use Rattle.rope_node.specs.declared.limits.TheConstants.{TEXT_LIMIT};
 ghost use Rattle.rope_node.specs.Balance.{fibonacci};
 ghost use Rattle.rope_node.specs.Denotes.{rope_cells, rope_len, rope_depth, IsRope};
 ghost use Rattle.node_table.specs.Held.{table_of};
@@ -19,7 +20,7 @@ pub(crate) const SLOTS: u8 = 60;
 /// The slot of a rope of this length, in bytes: the Fibonacci number at the slot is the last that is not above it.
 fn slot_for(len: u64) -> u8
     requires some { 1 ≤ len }
-    requires short { len < 2 ^ 40 }
+    requires short { len < TEXT_LIMIT }
     ensures some { 2 ≤ result }
     ensures last { result < slot_count }
     ensures long { fibonacci result ≤ len }
@@ -38,7 +39,7 @@ fn join<F: LeafFn>(store: &mut Store<F>, l: Rope, r: Rope) -> Result<Rope, NodeF
     requires right { IsRope (table_of F.meaning store.old) r }
     requires left_shallow { rope_depth (table_of F.meaning store.old) l < 64 }
     requires right_shallow { rope_depth (table_of F.meaning store.old) r < 64 }
-    requires short { rope_len (table_of F.meaning store.old) l + rope_len (table_of F.meaning store.old) r < 2 ^ 40 }
+    requires short { rope_len (table_of F.meaning store.old) l + rope_len (table_of F.meaning store.old) r < TEXT_LIMIT }
     ensures steps { Steps F.meaning store.old (length store.old.nodes + (ropes_in l + ropes_in r)) (length store.old.pool.bytes) result store.new }
     ensures join { IfOk result (λ rope. IsJoin F.meaning store.old l r rope store.new) }
 {
@@ -58,7 +59,7 @@ pub(crate) fn join_below<F: LeafFn>(
 ) -> Result<Rope, NodeFault>
     requires end { end ≤ slot_count }
     requires slots { AreSlots (table_of F.meaning store.old) slots.old }
-    requires short { length (slots_cells (table_of F.meaning store.old) slots.old) < 2 ^ 40 }
+    requires short { length (slots_cells (table_of F.meaning store.old) slots.old) < TEXT_LIMIT }
     ensures steps { Steps F.meaning store.old (length store.old.nodes + full_slots slots.old) (length store.old.pool.bytes) result store.new }
     ensures gathered { IfOk result (λ rope. IsGathered (table_of F.meaning store.new) end rope) }
     ensures spread { IfOk result (λ rope. IsSpread (table_of F.meaning store.new) (length store.old.nodes + full_slots slots.old) (slots_cells (table_of F.meaning store.old) slots.old) end slots.new rope) }
@@ -83,7 +84,7 @@ fn settle<F: LeafFn>(
     requires empty { AreEmptyBelow first slots.old }
     requires there { IsRope (table_of F.meaning store.old) carried }
     requires carried { IsCarried (table_of F.meaning store.old) first carried }
-    requires short { length (slots_cells (table_of F.meaning store.old) slots.old ++ rope_cells (table_of F.meaning store.old) carried) < 2 ^ 40 }
+    requires short { length (slots_cells (table_of F.meaning store.old) slots.old ++ rope_cells (table_of F.meaning store.old) carried) < TEXT_LIMIT }
     ensures steps { Steps F.meaning store.old (length store.old.nodes + (full_slots slots.old + ropes_in carried)) (length store.old.pool.bytes) result store.new }
     ensures spread { IfOk result (λ _. IsSpread (table_of F.meaning store.new) (length store.old.nodes + (full_slots slots.old + ropes_in carried)) (slots_cells (table_of F.meaning store.old) slots.old ++ rope_cells (table_of F.meaning store.old) carried) 0 slots.new None) }
 {
@@ -110,7 +111,7 @@ pub(crate) fn insert<F: LeafFn>(
 ) -> Result<(), NodeFault>
     requires slots { AreSlots (table_of F.meaning store.old) slots.old }
     requires piece { IsPiece (table_of F.meaning store.old) piece }
-    requires short { length (slots_cells (table_of F.meaning store.old) slots.old ++ rope_cells (table_of F.meaning store.old) piece) < 2 ^ 40 }
+    requires short { length (slots_cells (table_of F.meaning store.old) slots.old ++ rope_cells (table_of F.meaning store.old) piece) < TEXT_LIMIT }
     ensures steps { Steps F.meaning store.old (length store.old.nodes + (full_slots slots.old + 1)) (length store.old.pool.bytes) result store.new }
     ensures spread { IfOk result (λ _. IsSpread (table_of F.meaning store.new) (length store.old.nodes + (full_slots slots.old + 1)) (slots_cells (table_of F.meaning store.old) slots.old ++ rope_cells (table_of F.meaning store.old) piece) 0 slots.new None) }
 {

@@ -1,20 +1,21 @@
 -- What is said of bytes put behind a rope, in each case.
 use Rattle.std.proofs.Common.{◌≡◌, ℕ, ◌+◌, ◌^◌, ◌<◌, ◌≤◌, ⊎_elim, List, [], ◌∷◌, ◌++◌, length, map, Option, Some, None, Result, Ok, Err, refl, sym, arith}
 use Rattle.std.proofs.lemmas.List.{append-nil}
-use Rattle.leaf_buffer.specs.Contents.{block_size}
+use Rattle.leaf_buffer.specs.declared.block.TheConstants.{BLOCK_SIZE}
+use Rattle.rope_node.specs.declared.limits.TheConstants.{TEXT_LIMIT}
 use Rattle.rope_node.specs.declared.node.NodeId.{NodeId}
 use Rattle.rope_node.specs.Denotes.{Byte, rope_cells, rope_len, IsRope}
 use Rattle.node_table.specs.declared.fault.NodeFault.{NodeFault}
 use Rattle.node_table.specs.declared.fault.NodeFault.TheVariants.{TooLong}
 use Rattle.node_table.specs.Held.{Held, table_of}
-use Rattle.rope_store.specs.Kept.{IsStore}
+use Rattle.node_table.specs.Held.{IsKept}
 use Rattle.rope_store.specs.Additions.{nothing, Makes}
 use Rattle.rope_store.specs.Joining.{merged}
 use Rattle.rope_store.specs.Appending.{IsTooLong, Appends, AppendsTo}
 use Rattle.rope_store.specs.Refusals.{Refuses}
 use Rattle.rope_store.proofs.Made.{makes_as, makes_none, makes_nothing, refuses_none, refuses_length, refuses_more}
 
-pub appends_nothing : {F : Type 0} (meaning : F → ℕ → ℕ) (h : Held F) → IsStore meaning h → (x : Option NodeId) (bytes : List ℕ) → IsRope (table_of meaning h) x → rope_len (table_of meaning h) x < 2 ^ 40 → length bytes ≡ 0 → Appends meaning h x bytes (Ok x) h
+pub appends_nothing : {F : Type 0} (meaning : F → ℕ → ℕ) (h : Held F) → IsKept meaning h → (x : Option NodeId) (bytes : List ℕ) → IsRope (table_of meaning h) x → rope_len (table_of meaning h) x < TEXT_LIMIT → length bytes ≡ 0 → Appends meaning h x bytes (Ok x) h
 appends_nothing meaning h store x [] there short none =
     let t = table_of meaning h in
     record {
@@ -22,8 +23,8 @@ appends_nothing meaning h store x [] there short none =
       is = λ _. refl;
       makes = makes_as refl (sym (append-nil (rope_cells t x))) (makes_nothing meaning h x (rope_cells t x) there refl);
       refuses =
-          refuses_none h ⊥ (IsTooLong t x []) x store.table.few store.table.pool (λ bad. bad)
-          (λ long. ⊎_elim (λ (many : block_size < 0). absurd (omega (arith, many))) (λ (far : 2 ^ 40 ≤ rope_len t x + 0). absurd (omega (arith, far, short))) long);
+          refuses_none h ⊥ (IsTooLong t x []) x store.few store.pool (λ bad. bad)
+          (λ long. ⊎_elim (λ (many : BLOCK_SIZE < 0). absurd (omega (arith, many))) (λ (far : TEXT_LIMIT ≤ rope_len t x + 0). absurd (omega (arith, far, short))) long);
     }
 appends_nothing meaning h store x (b ∷ bs) there short none = absurd (omega arith)
 

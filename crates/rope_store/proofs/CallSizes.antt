@@ -3,6 +3,7 @@ use Rattle.std.proofs.Common.{◌≡◌, ℕ, zero, suc, ◌+◌, ◌-◌, ◌<�
 use Rattle.std.proofs.lemmas.Bool.{cases_lt, cases_eq, leb-true, cond_both}
 use Rattle.std.proofs.Math.Seq.{take-length, take-append_seam}
 use Rattle.std.proofs.lemmas.Option.{same_Some}
+use Rattle.rope_store.specs.declared.endings.TheConstants.{MOST_MERGED}
 use Rattle.leaf_buffer.specs.Contents.{Contents}
 use Rattle.rope_node.specs.declared.node.NodeId.{NodeId}
 use Rattle.rope_node.specs.declared.node.NodeView.{NodeView}
@@ -12,7 +13,7 @@ use Rattle.rope_node.specs.Denotes.{rope_depth, IsRope}
 use Rattle.rope_store.specs.declared.endings.Ending.{Ending}
 use Rattle.rope_store.specs.Additions.{Addition, nothing, inner_part, node_part, part_added}
 use Rattle.rope_store.specs.Appending.{place_of, grown, merged_after, copied, IsAppendTo, IsAppend}
-use Rattle.rope_store.specs.Joining.{most_merged, ending_of, short_ending, ending_for, piece, merged, nodes_joined, joined, IsShortEnding}
+use Rattle.rope_store.specs.Joining.{ending_of, short_ending, ending_for, piece, merged, nodes_joined, joined, IsShortEnding}
 use Rattle.rope_store.specs.Refusals.{deepest, IsTooDeep}
 use Rattle.rope_store.proofs.LastLiterals.{ending_found, piece_length, short_found}
 
@@ -33,11 +34,11 @@ pick : (b : Bool) (e k : Ending) → (if b then Some e else None) ≡ Some k →
 pick true e k is = (refl, same_Some e k is)
 pick false e k is = absurd cc
 
-short_some : (t : Table) (n : ℕ) (o : Option Ending) (e : Ending) → short_ending t n o ≡ Some e → (o ≡ Some e) × (len_at t e.literal.0 + n ≤ most_merged)
+short_some : (t : Table) (n : ℕ) (o : Option Ending) (e : Ending) → short_ending t n o ≡ Some e → (o ≡ Some e) × (len_at t e.literal.0 + n ≤ MOST_MERGED)
 short_some t n None e is = absurd cc
 short_some t n (Some k) e is =
-    let p = pick (nat_le (len_at t k.literal.0 + n) most_merged) k e is in
-    let le = leb-true (len_at t k.literal.0 + n) most_merged p.0 in
+    let p = pick (nat_le (len_at t k.literal.0 + n) MOST_MERGED) k e is in
+    let le = leb-true (len_at t k.literal.0 + n) MOST_MERGED p.0 in
     (ap (λ (x : Ending). Some x) p.1, rw p.1 at le)
 
 -- the ending that a call takes is short and shallow

@@ -1,7 +1,9 @@
 -- Literals that grow in place, and bytes put before their merged copy.
 use Rattle.std.proofs.Common.{◌≡◌, ℕ, ◌+◌, ◌^◌, ◌<◌, ◌≤◌, List, [], ◌∷◌, ◌++◌, length, map, Option, Some, None, refl, sym, ap, subst, ◌∙◌, arith, add-zero, length-append, append_assoc}
 use Rattle.std.specs.List.{slice_range}
-use Rattle.leaf_buffer.specs.Contents.{Contents, IsLastPiece, appended, extended, block_size}
+use Rattle.leaf_buffer.specs.declared.block.TheConstants.{BLOCK_SIZE}
+use Rattle.rope_node.specs.declared.limits.TheConstants.{TEXT_LIMIT}
+use Rattle.leaf_buffer.specs.Contents.{Contents, IsLastPiece, appended, extended}
 use Rattle.rope_node.specs.declared.node.NodeId.{NodeId}
 use Rattle.rope_node.specs.declared.node.NodeView.{NodeView}
 use Rattle.rope_node.specs.declared.node.NodeView.TheVariants.{Lit, Src, Fun, Cat, Sub}
@@ -11,13 +13,14 @@ use Rattle.rope_node.specs.Extends.{Extends}
 use Rattle.rope_node.proofs.Extensions.{cells_kept, len_kept, depth_kept}
 use Rattle.node_table.specs.declared.record.Record.{Record}
 use Rattle.node_table.specs.Held.{Held, node_of, table_of, with_records}
-use Rattle.rope_store.specs.Kept.{IsStore}
-use Rattle.rope_store.specs.Additions.{literal_record, concatenation_record, new_node}
+use Rattle.node_table.specs.Held.{IsKept}
+use Rattle.node_table.specs.Records.{literal_record, concatenation_record}
+use Rattle.rope_store.specs.Additions.{new_node}
 use Rattle.rope_store.specs.Joining.{piece}
 use Rattle.rope_store.specs.Appending.{place_of, grown, merged_after}
 use Rattle.leaf_buffer.proofs.Appending.{appended_bytes, in_one_block_appended}
 use Rattle.leaf_buffer.proofs.Pieces.{in_one_block_part}
-use Rattle.rope_store.proofs.Pools.{grows_itself, grows_extended, grows_appended, in_one_block_grown, slice_grown, slice_at_end}
+use Rattle.leaf_buffer.proofs.PoolGrowth.{grows_itself, grows_extended, grows_appended, in_one_block_grown, slice_grown, slice_at_end}
 use Rattle.rope_store.proofs.Growth.{holds_of, holds_after, sound_of, extends_with}
 use Rattle.rope_store.proofs.Nodes.{IsGood, literal_good, then_good}
 use Rattle.rope_store.proofs.MergedTexts.{good_as, rejoined_good}
@@ -41,8 +44,8 @@ piece_by t n (Cat l r) literal = absurd literal
 piece_by t n (Sub b i) literal = absurd literal
 
 -- the longer literal, behind what stands before it
-pub grown_good : {F : Type 0} (meaning : F → ℕ → ℕ) (h : Held F) → IsStore meaning h → (before : Option NodeId) (x : NodeId) (bytes : List ℕ) → IsLiteral (view_at (table_of meaning h) x.0) → IsLastPiece h.pool (place_of (view_at (table_of meaning h) x.0)) (len_at (table_of meaning h) x.0) → IsRope (table_of meaning h) before
-    → rope_len (table_of meaning h) before + (len_at (table_of meaning h) x.0 + length bytes) < 2 ^ 40 → 1 + rope_depth (table_of meaning h) before ≤ 64
+pub grown_good : {F : Type 0} (meaning : F → ℕ → ℕ) (h : Held F) → IsKept meaning h → (before : Option NodeId) (x : NodeId) (bytes : List ℕ) → IsLiteral (view_at (table_of meaning h) x.0) → IsLastPiece h.pool (place_of (view_at (table_of meaning h) x.0)) (len_at (table_of meaning h) x.0) → IsRope (table_of meaning h) before
+    → rope_len (table_of meaning h) before + (len_at (table_of meaning h) x.0 + length bytes) < TEXT_LIMIT → 1 + rope_depth (table_of meaning h) before ≤ 64
     → IsGood meaning h (extended h.pool bytes) (grown {F = F} (table_of meaning h) before (place_of (view_at (table_of meaning h) x.0)) (len_at (table_of meaning h) x.0) bytes).records (grown {F = F} (table_of meaning h) before (place_of (view_at (table_of meaning h) x.0)) (len_at (table_of meaning h) x.0) bytes).rope
     (rope_cells (table_of meaning h) before ++ map Byte (piece (table_of meaning h) x ++ bytes))
 grown_good {F = F} meaning h store None x bytes literal last there short shallow =
@@ -53,7 +56,7 @@ grown_good {F = F} meaning h store None x bytes literal last there short shallow
     let text : slice_range pool.bytes a (a + (n + length bytes)) ≡ piece t x ++ bytes = slice_grown h.pool.bytes bytes a n last.last ∙ ap (λ (bs : List ℕ). bs ++ bytes) (piece_by t n (view_at t x.0) literal) in
     let lit : Record F = literal_record a (n + length bytes) in
     good_as meaning h pool (lit ∷ []) (Some (new_node t 0)) (Some (new_node t 0)) (map Byte (slice_range pool.bytes a (a + (n + length bytes)))) (map Byte (piece t x ++ bytes)) refl (λ few. ap (map Byte) text)
-    (literal_good meaning h pool a (n + length bytes) (holds_of meaning h store.table) (grows_extended h.pool bytes store.borders) (in_one_block_grown h.pool a n bytes store.borders last) (omega (arith, last.not_empty)) (omega (arith, short)))
+    (literal_good meaning h pool a (n + length bytes) (holds_of meaning h store) (grows_extended h.pool bytes store.borders) (in_one_block_grown h.pool a n bytes store.borders last) (omega (arith, last.not_empty)) (omega (arith, short)))
 grown_good {F = F} meaning h store (Some l) x bytes literal last there short shallow =
     let t = table_of meaning h in
     let a = place_of (view_at t x.0) in
@@ -64,20 +67,20 @@ grown_good {F = F} meaning h store (Some l) x bytes literal last there short sha
     let lit : Record F = literal_record a k in
     good_as meaning h pool (lit ∷ concatenation_record l (new_node t 0) (len_at t l.0 + k) (1 + depth_at t l.0) ∷ []) (Some (new_node t 1)) (Some (new_node t 1)) (cells t l.0 ++ map Byte (slice_range pool.bytes a (a + k))) (cells t l.0 ++ map Byte (piece t x ++ bytes)) refl
     (λ few. ap (λ (bs : List ℕ). cells t l.0 ++ map Byte bs) text)
-    (rejoined_good meaning h pool l a k (holds_of meaning h store.table) (grows_extended h.pool bytes store.borders) (in_one_block_grown h.pool a n bytes store.borders last) (omega (arith, last.not_empty)) there short shallow)
+    (rejoined_good meaning h pool l a k (holds_of meaning h store) (grows_extended h.pool bytes store.borders) (in_one_block_grown h.pool a n bytes store.borders last) (omega (arith, last.not_empty)) there short shallow)
 
 second_slice : (old : Contents) (xs ys : List ℕ) → slice_range (appended old (xs ++ ys)).bytes (length old.bytes + length xs) (length old.bytes + length xs + length ys) ≡ ys
 second_slice old xs ys =
     rw (appended_bytes old (xs ++ ys), ← append_assoc old.bytes xs ys) (slice_at_end (old.bytes ++ xs) ys (length old.bytes + length xs) (length ys) (sym (length-append old.bytes xs)) refl)
 
 -- bytes as a literal, and then others as one behind what stands before it
-pub after_good : {F : Type 0} (meaning : F → ℕ → ℕ) (h : Held F) → IsStore meaning h → (before : Option NodeId) (xs ys : List ℕ) → IsRope (table_of meaning h) before → 1 ≤ length xs → 1 ≤ length ys → length xs + length ys ≤ block_size → rope_len (table_of meaning h) before + length ys < 2 ^ 40 → 1 + rope_depth (table_of meaning h) before ≤ 64
+pub after_good : {F : Type 0} (meaning : F → ℕ → ℕ) (h : Held F) → IsKept meaning h → (before : Option NodeId) (xs ys : List ℕ) → IsRope (table_of meaning h) before → 1 ≤ length xs → 1 ≤ length ys → length xs + length ys ≤ BLOCK_SIZE → rope_len (table_of meaning h) before + length ys < TEXT_LIMIT → 1 + rope_depth (table_of meaning h) before ≤ 64
     → IsGood meaning h (appended h.pool (xs ++ ys)) (merged_after {F = F} (table_of meaning h) before xs ys).records (merged_after {F = F} (table_of meaning h) before xs ys).rope (rope_cells (table_of meaning h) before ++ map Byte ys)
 after_good {F = F} meaning h store None xs ys there some more fits short shallow =
     let t = table_of meaning h in
     let pool = appended h.pool (xs ++ ys) in
     let start = length h.pool.bytes in
-    let holds = holds_of meaning h store.table in
+    let holds = holds_of meaning h store in
     let grows = grows_appended h.pool (xs ++ ys) store.borders in
     let whole = in_one_block_appended h.pool (xs ++ ys) store.borders in
     let count = length-append xs ys in
@@ -98,7 +101,7 @@ after_good {F = F} meaning h store (Some l) xs ys there some more fits short sha
     let t = table_of meaning h in
     let pool = appended h.pool (xs ++ ys) in
     let start = length h.pool.bytes in
-    let holds = holds_of meaning h store.table in
+    let holds = holds_of meaning h store in
     let grows = grows_appended h.pool (xs ++ ys) store.borders in
     let whole = in_one_block_appended h.pool (xs ++ ys) store.borders in
     let count = length-append xs ys in

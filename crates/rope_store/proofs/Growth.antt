@@ -1,28 +1,29 @@
 -- A table with more nodes behind its own.
-use Rattle.std.proofs.Common.{◌≡◌, ℕ, ◌+◌, ◌^◌, ◌<◌, ◌≤◌, List, [], ◌∷◌, ◌++◌, length, map, get_or, Option, None, refl, sym, ap, subst, ◌∙◌, arith, length-append, append_assoc, ⊎_elim}
+use Rattle.std.proofs.Common.{◌≡◌, ℕ, ◌<◌, ◌≤◌, List, [], ◌∷◌, ◌++◌, length, map, get_or, Option, None, refl, sym, ap, subst, ◌∙◌, arith, length-append, append_assoc, ⊎_elim}
 use Rattle.std.proofs.lemmas.Bool.{cases_lt}
 use Rattle.std.proofs.lemmas.List.{length-map, map-append, get_or_append_left, get_or_push}
+use Rattle.leaf_buffer.specs.declared.pool.TheConstants.{POOL_LIMIT}
+use Rattle.rope_node.specs.declared.limits.TheConstants.{TEXT_LIMIT}
 use Rattle.leaf_buffer.specs.Contents.{Contents}
 use Rattle.rope_node.specs.Table.{Node, no_node, node_at, IsSound, IsSoundNode, IsTrueNode, HasTrueRecords}
 use Rattle.rope_node.specs.Denotes.{cells, node_cells}
 use Rattle.rope_node.specs.Extends.{Extends}
 use Rattle.rope_node.proofs.Cells.{cells_at}
 use Rattle.node_table.specs.declared.record.Record.{Record}
-use Rattle.node_table.specs.Held.{Held, node_of, function_of, table_of, with_records, most_nodes, IsKept, IsKeptNode, IsGoodNode, CanHold}
+use Rattle.node_table.specs.Held.{Held, node_of, function_of, table_of, with_records, IsKept, IsKeptNode, IsGoodNode, CanHold}
 use Rattle.node_table.proofs.Growing.{extends_records, good_kept}
-use Rattle.rope_store.specs.Kept.{IsStore}
-use Rattle.rope_store.proofs.Pools.{PoolGrows}
+use Rattle.leaf_buffer.proofs.PoolGrowth.{PoolGrows}
 
 -- the rules of a table but for its sizes
 pub record Holds {F : Type 0} (meaning : F → ℕ → ℕ) (h : Held F) : Type 0 where
   pub nodes : (id : ℕ) → id < length h.nodes → IsGoodNode meaning h id
   pub functions : length h.functions ≡ length h.nodes
-  pub sources : (s : ℕ) → get_or h.sources s 0 < 2 ^ 40
+  pub sources : (s : ℕ) → get_or h.sources s 0 < TEXT_LIMIT
 
 pub holds_of : {F : Type 0} (meaning : F → ℕ → ℕ) (h : Held F) → IsKept meaning h → Holds meaning h
 holds_of meaning h kept = record { nodes = kept.nodes; functions = kept.functions; sources = kept.sources }
 
-pub sound_of : {F : Type 0} (meaning : F → ℕ → ℕ) (h : Held F) → Holds meaning h → length h.pool.bytes < 2 ^ 32 → IsSound (table_of meaning h)
+pub sound_of : {F : Type 0} (meaning : F → ℕ → ℕ) (h : Held F) → Holds meaning h → length h.pool.bytes < POOL_LIMIT → IsSound (table_of meaning h)
 sound_of meaning h holds short = record { nodes = λ id lt. (holds.nodes id lt).sound; pool = short; sources = holds.sources }
 
 pub true_of : {F : Type 0} (meaning : F → ℕ → ℕ) (h : Held F) → Holds meaning h → HasTrueRecords (table_of meaning h)
@@ -46,22 +47,6 @@ holds_after meaning h pool rs holds grows can = record {
   functions = omega (arith, length-append h.nodes (map node_of rs), length-map rs node_of, length-append h.functions (map function_of rs), length-map rs function_of, holds.functions);
   sources = holds.sources;
 }
-
--- a store stays one
-pub store_after : {F : Type 0} (meaning : F → ℕ → ℕ) (h : Held F) (pool : Contents) (rs : List (Record F)) → IsStore meaning h → PoolGrows h.pool pool → CanHold meaning h pool rs → length h.nodes + length rs ≤ most_nodes → length pool.bytes < 2 ^ 32 → IsStore meaning (with_records h pool rs)
-store_after meaning h pool rs store grows can few short =
-    let holds = holds_after meaning h pool rs (holds_of meaning h store.table) grows can in
-    record {
-      table = record {
-        nodes = holds.nodes;
-        functions = holds.functions;
-        few = omega (arith, length-append h.nodes (map node_of rs), length-map rs node_of);
-        pool = short;
-        few_sources = store.table.few_sources;
-        sources = holds.sources;
-      };
-      borders = grows.borders;
-    }
 
 -- two steps are one
 pub with_records_twice : {F : Type 0} (h : Held F) (pool : Contents) (rs ss : List (Record F)) → with_records (with_records h pool rs) pool ss ≡ with_records h pool (rs ++ ss)

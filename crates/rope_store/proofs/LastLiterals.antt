@@ -3,6 +3,7 @@ use Rattle.std.proofs.Common.{◌≡◌, ℕ, ◌+◌, ◌<◌, ◌≤◌, List,
 use Rattle.std.specs.List.{slice_range}
 use Rattle.std.proofs.lemmas.List.{length-map, map-append, append_assoc}
 use Rattle.std.proofs.lemmas.Option.{same_Some}
+use Rattle.rope_store.specs.declared.endings.TheConstants.{MOST_MERGED}
 use Rattle.rope_node.specs.declared.node.NodeId.{NodeId}
 use Rattle.rope_node.specs.declared.node.NodeView.{NodeView}
 use Rattle.rope_node.specs.declared.node.NodeView.TheVariants.{Lit, Src, Fun, Cat, Sub}
@@ -10,7 +11,7 @@ use Rattle.rope_node.specs.Table.{Table, view_at, len_at, IsSound, HasTrueRecord
 use Rattle.rope_node.specs.Denotes.{Cell, Byte, cells, rope_cells, rope_len, rope_depth, IsRope}
 use Rattle.rope_node.proofs.Cells.{cells_at, cells_length}
 use Rattle.rope_store.specs.declared.endings.Ending.{Ending}
-use Rattle.rope_store.specs.Joining.{right_ending, view_ending, ending_of, piece, most_merged, IsShortEnding}
+use Rattle.rope_store.specs.Joining.{right_ending, view_ending, ending_of, piece, IsShortEnding}
 
 -- this literal ends the node's text
 pub record IsEnding (t : Table) (x : NodeId) (e : Ending) : Type 0 where
@@ -77,7 +78,7 @@ merged_text t s x r n e ending there literal =
     ∙ ap (λ (cs : List Cell). cs ++ map Byte (piece t r)) (sym ending.text) ∙ ap (λ (cs : List Cell). cells t x.0 ++ cs) (sym (piece_text t s r there literal))
 
 -- an ending that is found, and short
-pub short_found : (t : Table) → IsSound t → HasTrueRecords t → (x : NodeId) (n : ℕ) → x.0 < length t.nodes → (e : Ending) → ending_of t x ≡ Some e → len_at t e.literal.0 + n ≤ most_merged → IsShortEnding t x n e
+pub short_found : (t : Table) → IsSound t → HasTrueRecords t → (x : NodeId) (n : ℕ) → x.0 < length t.nodes → (e : Ending) → ending_of t x ≡ Some e → len_at t e.literal.0 + n ≤ MOST_MERGED → IsShortEnding t x n e
 short_found t s h x n there e found short =
     let k = ending_by t s h x there (view_at t x.0) refl e found in
     record { there = k.there; is_literal = k.is_literal; is_before = k.is_before; shallow = k.shallow; text = k.text; len = k.len; short = short }

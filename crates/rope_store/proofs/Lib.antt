@@ -1,4 +1,3 @@
-pub mod Pools
 pub mod Growth
 pub mod Nodes
 pub mod Made

@@ -1,8 +1,10 @@
 -- From what is put into a table to what a call says of it.
-use Rattle.std.proofs.Common.{◌≡◌, ℕ, ◌+◌, ◌-◌, ◌^◌, ◌<◌, ◌≤◌, ◌⊎◌, inl, inr, ⊎_elim, true, false, List, [], ◌∷◌, length, Option, Some, Result, Ok, Err, refl, sym, ap, subst, arith}
+use Rattle.std.proofs.Common.{◌≡◌, ℕ, ◌+◌, ◌-◌, ◌<◌, ◌≤◌, ◌⊎◌, inl, inr, ⊎_elim, true, false, List, [], ◌∷◌, length, Option, Some, Result, Ok, Err, refl, sym, ap, subst, arith}
 use Rattle.std.specs.Prelude.{◌↔◌, OnOk, OnErr, IfOk, IfErr, IsErrOf}
 use Rattle.std.proofs.lemmas.Bool.{cases_lt}
 use Rattle.std.proofs.lemmas.List.{append-nil}
+use Rattle.leaf_buffer.specs.declared.pool.TheConstants.{POOL_LIMIT}
+use Rattle.rope_node.specs.declared.limits.TheConstants.{MOST_NODES}
 use Rattle.leaf_buffer.specs.Contents.{appended, extended}
 use Rattle.rope_node.specs.declared.node.NodeId.{NodeId}
 use Rattle.rope_node.specs.Denotes.{Cell, rope_cells, IsRope}
@@ -11,12 +13,12 @@ use Rattle.rope_node.proofs.Ropes.{extends_itself}
 use Rattle.node_table.specs.declared.record.Record.{Record}
 use Rattle.node_table.specs.declared.fault.NodeFault.{NodeFault}
 use Rattle.node_table.specs.declared.fault.NodeFault.TheVariants.{TooLong, TooDeep, TableFull, PoolFull, BadSpan, TooManySources, Memory}
-use Rattle.node_table.specs.Held.{Held, table_of, with_records, most_nodes}
-use Rattle.rope_store.specs.Kept.{IsStore}
+use Rattle.node_table.specs.Held.{Held, table_of, with_records}
+use Rattle.node_table.specs.Held.{IsKept}
 use Rattle.rope_store.specs.Additions.{Addition, pool_with, after, nothing, Makes}
 use Rattle.rope_store.specs.Refusals.{deepest, IsTooDeep, IsTableFull, IsPoolFull, Refuses}
 use Rattle.leaf_buffer.proofs.Appending.{appended_nothing}
-use Rattle.rope_store.proofs.Pools.{PoolGrows, grows_extended, grows_appended}
+use Rattle.leaf_buffer.proofs.PoolGrowth.{PoolGrows, grows_extended, grows_appended}
 use Rattle.rope_store.proofs.Growth.{extends_with}
 use Rattle.rope_store.proofs.Nodes.{IsGood}
 
@@ -24,14 +26,14 @@ pub after_nothing : {F : Type 0} (h : Held F) (rope : Option NodeId) → after h
 after_nothing h rope = λ i. record { nodes = append-nil h.nodes i; functions = append-nil h.functions i; pool = appended_nothing h.pool i; sources = h.sources }
 
 pub makes : {F : Type 0} (meaning : F → ℕ → ℕ) (h : Held F) (a : Addition F) (wanted : List Cell) → length h.functions ≡ length h.nodes → PoolGrows h.pool (pool_with h.pool a.in_place a.bytes) → IsGood meaning h (pool_with h.pool a.in_place a.bytes) a.records a.rope wanted
-    → (result : Result (Option NodeId) NodeFault) (new : Held F) → OnOk result (new ≡ after h a) → IfOk result (λ rope. rope ≡ a.rope) → IsStore meaning new → OnErr result (new ≡ h) → Makes meaning h a wanted result new
+    → (result : Result (Option NodeId) NodeFault) (new : Held F) → OnOk result (new ≡ after h a) → IfOk result (λ rope. rope ≡ a.rope) → IsKept meaning new → OnErr result (new ≡ h) → Makes meaning h a wanted result new
 makes {F = F} meaning h a wanted same grows good (Ok x) new ok rope stored err =
-    let store : IsStore meaning (after h a) = subst (λ (k : Held F). IsStore meaning k) ok stored in
+    let store : IsKept meaning (after h a) = subst (λ (k : Held F). IsKept meaning k) ok stored in
     let here : Makes meaning h a wanted (Ok a.rope) (after h a) = record {
       table = refl;
       rope = refl;
       is_rope = good.is_rope;
-      text = good.text store.table.pool;
+      text = good.text store.pool;
       kept = extends_with meaning h (pool_with h.pool a.in_place a.bytes) a.records same grows;
       unchanged = tt;
     } in
@@ -87,7 +89,7 @@ refuses_depth old a IsBad IsLong fine short deep = record {
 }
 
 -- a call that makes nothing refuses nothing
-pub refuses_none : {F : Type 0} (old : Held F) (IsBad IsLong : Type 0) (rope : Option NodeId) → length old.nodes ≤ most_nodes → length old.pool.bytes < 2 ^ 32 → ¬ IsBad → ¬ IsLong → Refuses old (nothing rope) IsBad IsLong (Ok rope)
+pub refuses_none : {F : Type 0} (old : Held F) (IsBad IsLong : Type 0) (rope : Option NodeId) → length old.nodes ≤ MOST_NODES → length old.pool.bytes < POOL_LIMIT → ¬ IsBad → ¬ IsLong → Refuses old (nothing rope) IsBad IsLong (Ok rope)
 refuses_none old IsBad IsLong rope few small fine short = record {
   bad_span = (λ e. absurd cc, λ h. absurd (fine h));
   too_long = (λ e. absurd cc, λ h. absurd (short h.1));
@@ -107,7 +109,7 @@ fault_at result e faults is = subst (λ (r : Result (Option NodeId) NodeFault). 
 
 -- a call that leaves the rest to the table
 pub refuses_rest : {F : Type 0} (old : Held F) (a : Addition F) (IsBad IsLong : Type 0) → ¬ IsBad → ¬ IsLong → ¬ IsTooDeep a → 1 ≤ length a.records → (result : Result (Option NodeId) NodeFault) → (IsErrOf result TableFull ↔ IsTableFull old a)
-    → (IsErrOf result PoolFull ↔ ((length old.nodes + length a.records ≤ most_nodes) × IsPoolFull old a)) → IfErr result IsTableFault → Refuses old a IsBad IsLong result
+    → (IsErrOf result PoolFull ↔ ((length old.nodes + length a.records ≤ MOST_NODES) × IsPoolFull old a)) → IfErr result IsTableFault → Refuses old a IsBad IsLong result
 refuses_rest old a IsBad IsLong fine short shallow some result table_full pool_full faults = record {
   bad_span = (λ e. other (fault_at result BadSpan faults e) (λ x. cc) (λ x. cc) (λ x. cc), λ h. absurd (fine h));
   too_long = (λ e. other (fault_at result TooLong faults e) (λ x. cc) (λ x. cc) (λ x. cc), λ h. absurd (short h.1));
@@ -115,7 +117,7 @@ refuses_rest old a IsBad IsLong fine short shallow some result table_full pool_f
   table_full = (λ e. (fine, short, shallow, table_full.0 e), λ h. table_full.1 h.3);
   pool_full = (
     λ e. let p = pool_full.0 e in (fine, short, shallow, (λ full. absurd (omega (arith, full, p.0))), p.1),
-    λ h. pool_full.1 (⊎_elim (λ (full : most_nodes < length old.nodes + length a.records). absurd (h.3 full)) (λ (free : length old.nodes + length a.records ≤ most_nodes). free) (cases_lt most_nodes (length old.nodes + length a.records)), h.4),
+    λ h. pool_full.1 (⊎_elim (λ (full : MOST_NODES < length old.nodes + length a.records). absurd (h.3 full)) (λ (free : length old.nodes + length a.records ≤ MOST_NODES). free) (cases_lt MOST_NODES (length old.nodes + length a.records)), h.4),
   );
   no_other = λ e. other (fault_at result TooManySources faults e) (λ x. cc) (λ x. cc) (λ x. cc);
   memory = λ e. some;
@@ -125,27 +127,27 @@ refuses_rest old a IsBad IsLong fine short shallow some result table_full pool_f
     other h p q r = ⊎_elim (λ x. absurd (p x)) (λ k. ⊎_elim (λ x. absurd (q x)) (λ x. absurd (r x)) k) h
 
 -- what a call says that puts these nodes
-pub put_makes : {F : Type 0} (meaning : F → ℕ → ℕ) (h : Held F) (a : Addition F) (wanted : List Cell) (bytes : List ℕ) (rs got : List (Record F)) → IsStore meaning h → a ≡ record { bytes = bytes; in_place = false; records = rs; rope = Some (record { 0 = length h.nodes + (length rs - 1) }) }
+pub put_makes : {F : Type 0} (meaning : F → ℕ → ℕ) (h : Held F) (a : Addition F) (wanted : List Cell) (bytes : List ℕ) (rs got : List (Record F)) → IsKept meaning h → a ≡ record { bytes = bytes; in_place = false; records = rs; rope = Some (record { 0 = length h.nodes + (length rs - 1) }) }
     → IsGood meaning h (appended h.pool bytes) rs (Some (record { 0 = length h.nodes + (length rs - 1) })) wanted → got ≡ rs → (result : Result (Option NodeId) NodeFault) (new : Held F) → OnOk result (new ≡ with_records h (appended h.pool bytes) got)
-    → IfOk result (λ rope. rope ≡ Some (record { 0 = length h.nodes + (length got - 1) })) → IsStore meaning new → OnErr result (new ≡ h) → Makes meaning h a wanted result new
+    → IfOk result (λ rope. rope ≡ Some (record { 0 = length h.nodes + (length got - 1) })) → IsKept meaning new → OnErr result (new ≡ h) → Makes meaning h a wanted result new
 put_makes {F = F} meaning h a wanted bytes rs got store is good same result new ok rope stored err =
     let put : Addition F = record { bytes = bytes; in_place = false; records = rs; rope = Some (record { 0 = length h.nodes + (length rs - 1) }) } in
     let ok' : OnOk result (new ≡ with_records h (appended h.pool bytes) rs) = subst (λ (xs : List (Record F)). OnOk result (new ≡ with_records h (appended h.pool bytes) xs)) same ok in
     let rope' : IfOk result (λ rope. rope ≡ Some (record { 0 = length h.nodes + (length rs - 1) })) = subst (λ (xs : List (Record F)). IfOk result (λ rope. rope ≡ Some (record { 0 = length h.nodes + (length xs - 1) }))) same rope in
-    subst (λ (b : Addition F). Makes meaning h b wanted result new) (sym is) (makes meaning h put wanted store.table.functions (grows_appended h.pool bytes store.borders) good result new ok' rope' stored err)
+    subst (λ (b : Addition F). Makes meaning h b wanted result new) (sym is) (makes meaning h put wanted store.functions (grows_appended h.pool bytes store.borders) good result new ok' rope' stored err)
 
 pub put_refuses : {F : Type 0} (h : Held F) (a : Addition F) (bytes : List ℕ) (rs got : List (Record F)) (IsBad IsLong : Type 0) → a ≡ record { bytes = bytes; in_place = false; records = rs; rope = Some (record { 0 = length h.nodes + (length rs - 1) }) } → ¬ IsBad → ¬ IsLong → 1 ≤ length rs → deepest rs ≤ 64 → got ≡ rs
-    → (result : Result (Option NodeId) NodeFault) → (IsErrOf result TableFull ↔ (most_nodes < length h.nodes + length got)) → (IsErrOf result PoolFull ↔ ((length h.nodes + length got ≤ most_nodes) × (2 ^ 32 ≤ length h.pool.bytes + length bytes))) → IfErr result IsTableFault → Refuses h a IsBad IsLong result
+    → (result : Result (Option NodeId) NodeFault) → (IsErrOf result TableFull ↔ (MOST_NODES < length h.nodes + length got)) → (IsErrOf result PoolFull ↔ ((length h.nodes + length got ≤ MOST_NODES) × (POOL_LIMIT ≤ length h.pool.bytes + length bytes))) → IfErr result IsTableFault → Refuses h a IsBad IsLong result
 put_refuses {F = F} h a bytes rs got IsBad IsLong is fine short some shallow same result table_full pool_full faults =
     let put : Addition F = record { bytes = bytes; in_place = false; records = rs; rope = Some (record { 0 = length h.nodes + (length rs - 1) }) } in
-    let table' : IsErrOf result TableFull ↔ (most_nodes < length h.nodes + length rs) = subst (λ (xs : List (Record F)). IsErrOf result TableFull ↔ (most_nodes < length h.nodes + length xs)) same table_full in
-    let pool' : IsErrOf result PoolFull ↔ ((length h.nodes + length rs ≤ most_nodes) × (2 ^ 32 ≤ length h.pool.bytes + length bytes)) =
-    subst (λ (xs : List (Record F)). IsErrOf result PoolFull ↔ ((length h.nodes + length xs ≤ most_nodes) × (2 ^ 32 ≤ length h.pool.bytes + length bytes))) same pool_full in
+    let table' : IsErrOf result TableFull ↔ (MOST_NODES < length h.nodes + length rs) = subst (λ (xs : List (Record F)). IsErrOf result TableFull ↔ (MOST_NODES < length h.nodes + length xs)) same table_full in
+    let pool' : IsErrOf result PoolFull ↔ ((length h.nodes + length rs ≤ MOST_NODES) × (POOL_LIMIT ≤ length h.pool.bytes + length bytes)) =
+    subst (λ (xs : List (Record F)). IsErrOf result PoolFull ↔ ((length h.nodes + length xs ≤ MOST_NODES) × (POOL_LIMIT ≤ length h.pool.bytes + length bytes))) same pool_full in
     subst (λ (b : Addition F). Refuses h b IsBad IsLong result) (sym is) (refuses_rest h put IsBad IsLong fine short (λ deep. absurd (omega (arith, deep, shallow))) some result table' pool' faults)
 
 -- one node that is put
 pub one_refuses : {F : Type 0} (h : Held F) (a : Addition F) (bytes : List ℕ) (r got : Record F) (IsBad IsLong : Type 0) → a ≡ record { bytes = bytes; in_place = false; records = r ∷ []; rope = Some (record { 0 = length h.nodes + 0 }) } → ¬ IsBad → ¬ IsLong → r.depth ≤ 64 → got ≡ r
-    → (result : Result (Option NodeId) NodeFault) → (IsErrOf result TableFull ↔ (most_nodes < length h.nodes + 1)) → (IsErrOf result PoolFull ↔ ((length h.nodes + 1 ≤ most_nodes) × (2 ^ 32 ≤ length h.pool.bytes + length bytes))) → IfErr result IsTableFault → Refuses h a IsBad IsLong result
+    → (result : Result (Option NodeId) NodeFault) → (IsErrOf result TableFull ↔ (MOST_NODES < length h.nodes + 1)) → (IsErrOf result PoolFull ↔ ((length h.nodes + 1 ≤ MOST_NODES) × (POOL_LIMIT ≤ length h.pool.bytes + length bytes))) → IfErr result IsTableFault → Refuses h a IsBad IsLong result
 one_refuses {F = F} h a bytes r got IsBad IsLong is fine short shallow same result table_full pool_full faults =
     let listed : got ∷ [] ≡ r ∷ [] = ap (λ (x : Record F). x ∷ []) same in
     put_refuses h a bytes (r ∷ []) (got ∷ []) IsBad IsLong is fine short (omega arith) (omega (arith, shallow)) listed result table_full pool_full faults
@@ -184,14 +186,14 @@ abbrev pub IsGrowthFault : NodeFault → Type 0
 IsGrowthFault e = (e ≡ TableFull) ⊎ (e ≡ Memory)
 
 -- what a call says that lets a literal grow
-pub grown_makes : {F : Type 0} (meaning : F → ℕ → ℕ) (h : Held F) (a : Addition F) (wanted : List Cell) (bytes : List ℕ) (rs got : List (Record F)) → IsStore meaning h → a ≡ record { bytes = bytes; in_place = true; records = rs; rope = Some (record { 0 = length h.nodes + (length rs - 1) }) }
+pub grown_makes : {F : Type 0} (meaning : F → ℕ → ℕ) (h : Held F) (a : Addition F) (wanted : List Cell) (bytes : List ℕ) (rs got : List (Record F)) → IsKept meaning h → a ≡ record { bytes = bytes; in_place = true; records = rs; rope = Some (record { 0 = length h.nodes + (length rs - 1) }) }
     → IsGood meaning h (extended h.pool bytes) rs (Some (record { 0 = length h.nodes + (length rs - 1) })) wanted → got ≡ rs → (result : Result (Option NodeId) NodeFault) (new : Held F) → OnOk result (new ≡ with_records h (extended h.pool bytes) got)
-    → IfOk result (λ rope. rope ≡ Some (record { 0 = length h.nodes + (length got - 1) })) → IsStore meaning new → OnErr result (new ≡ h) → Makes meaning h a wanted result new
+    → IfOk result (λ rope. rope ≡ Some (record { 0 = length h.nodes + (length got - 1) })) → IsKept meaning new → OnErr result (new ≡ h) → Makes meaning h a wanted result new
 grown_makes {F = F} meaning h a wanted bytes rs got store is good same result new ok rope stored err =
     let put : Addition F = record { bytes = bytes; in_place = true; records = rs; rope = Some (record { 0 = length h.nodes + (length rs - 1) }) } in
     let ok' : OnOk result (new ≡ with_records h (extended h.pool bytes) rs) = subst (λ (xs : List (Record F)). OnOk result (new ≡ with_records h (extended h.pool bytes) xs)) same ok in
     let rope' : IfOk result (λ rope. rope ≡ Some (record { 0 = length h.nodes + (length rs - 1) })) = subst (λ (xs : List (Record F)). IfOk result (λ rope. rope ≡ Some (record { 0 = length h.nodes + (length xs - 1) }))) same rope in
-    subst (λ (b : Addition F). Makes meaning h b wanted result new) (sym is) (makes meaning h put wanted store.table.functions (grows_extended h.pool bytes store.borders) good result new ok' rope' stored err)
+    subst (λ (b : Addition F). Makes meaning h b wanted result new) (sym is) (makes meaning h put wanted store.functions (grows_extended h.pool bytes store.borders) good result new ok' rope' stored err)
 
 growth_fault : (result : Result (Option NodeId) NodeFault) → IfErr result IsGrowthFault → IfErr result IsTableFault
 growth_fault (Ok x) faults = tt
@@ -201,19 +203,19 @@ never_full : (result : Result (Option NodeId) NodeFault) → IfErr result IsGrow
 never_full result faults is =
     ⊎_elim (λ (x : PoolFull ≡ TableFull). cc) (λ (x : PoolFull ≡ Memory). cc) (subst (λ (r : Result (Option NodeId) NodeFault). IfErr r IsGrowthFault) is faults)
 
-pub grown_refuses : {F : Type 0} (h : Held F) (a : Addition F) (bytes : List ℕ) (rs got : List (Record F)) → a ≡ record { bytes = bytes; in_place = true; records = rs; rope = Some (record { 0 = length h.nodes + (length rs - 1) }) } → 1 ≤ length rs → deepest rs ≤ 64 → length h.pool.bytes + length bytes < 2 ^ 32 → got ≡ rs
-    → (result : Result (Option NodeId) NodeFault) → (IsErrOf result TableFull ↔ (most_nodes < length h.nodes + length got)) → IfErr result IsGrowthFault → Refuses h a ⊥ ⊥ result
+pub grown_refuses : {F : Type 0} (h : Held F) (a : Addition F) (bytes : List ℕ) (rs got : List (Record F)) → a ≡ record { bytes = bytes; in_place = true; records = rs; rope = Some (record { 0 = length h.nodes + (length rs - 1) }) } → 1 ≤ length rs → deepest rs ≤ 64 → length h.pool.bytes + length bytes < POOL_LIMIT → got ≡ rs
+    → (result : Result (Option NodeId) NodeFault) → (IsErrOf result TableFull ↔ (MOST_NODES < length h.nodes + length got)) → IfErr result IsGrowthFault → Refuses h a ⊥ ⊥ result
 grown_refuses {F = F} h a bytes rs got is some shallow limit same result table_full faults =
     let put : Addition F = record { bytes = bytes; in_place = true; records = rs; rope = Some (record { 0 = length h.nodes + (length rs - 1) }) } in
-    let table' : IsErrOf result TableFull ↔ (most_nodes < length h.nodes + length rs) = subst (λ (xs : List (Record F)). IsErrOf result TableFull ↔ (most_nodes < length h.nodes + length xs)) same table_full in
+    let table' : IsErrOf result TableFull ↔ (MOST_NODES < length h.nodes + length rs) = subst (λ (xs : List (Record F)). IsErrOf result TableFull ↔ (MOST_NODES < length h.nodes + length xs)) same table_full in
     subst (λ (b : Addition F). Refuses h b ⊥ ⊥ result) (sym is)
     (refuses_rest h put ⊥ ⊥ (λ bad. bad) (λ long. long) (λ deep. absurd (omega (arith, deep, shallow))) some result table' (λ e. absurd (never_full result faults e), λ k. absurd (omega (arith, k.1, limit))) (growth_fault result faults))
 
 -- the longer literal, and a node over it
-pub grown_leaf_refuses : {F : Type 0} (h : Held F) (a : Addition F) (bytes : List ℕ) (r got : Record F) → a ≡ record { bytes = bytes; in_place = true; records = r ∷ []; rope = Some (record { 0 = length h.nodes + 0 }) } → r.depth ≡ 0 → length h.pool.bytes + length bytes < 2 ^ 32 → got ∷ [] ≡ r ∷ []
-    → (result : Result (Option NodeId) NodeFault) → (IsErrOf result TableFull ↔ (most_nodes < length h.nodes + 1)) → IfErr result IsGrowthFault → Refuses h a ⊥ ⊥ result
+pub grown_leaf_refuses : {F : Type 0} (h : Held F) (a : Addition F) (bytes : List ℕ) (r got : Record F) → a ≡ record { bytes = bytes; in_place = true; records = r ∷ []; rope = Some (record { 0 = length h.nodes + 0 }) } → r.depth ≡ 0 → length h.pool.bytes + length bytes < POOL_LIMIT → got ∷ [] ≡ r ∷ []
+    → (result : Result (Option NodeId) NodeFault) → (IsErrOf result TableFull ↔ (MOST_NODES < length h.nodes + 1)) → IfErr result IsGrowthFault → Refuses h a ⊥ ⊥ result
 grown_leaf_refuses h a bytes r got is leaf limit same result table_full faults = grown_refuses h a bytes (r ∷ []) (got ∷ []) is (omega arith) (omega (arith, leaf)) limit same result table_full faults
 
-pub grown_pair_refuses : {F : Type 0} (h : Held F) (a : Addition F) (bytes : List ℕ) (r s got more : Record F) → a ≡ record { bytes = bytes; in_place = true; records = r ∷ s ∷ []; rope = Some (record { 0 = length h.nodes + 1 }) } → r.depth ≡ 0 → s.depth ≤ 64 → length h.pool.bytes + length bytes < 2 ^ 32 → got ∷ more ∷ [] ≡ r ∷ s ∷ []
-    → (result : Result (Option NodeId) NodeFault) → (IsErrOf result TableFull ↔ (most_nodes < length h.nodes + 2)) → IfErr result IsGrowthFault → Refuses h a ⊥ ⊥ result
+pub grown_pair_refuses : {F : Type 0} (h : Held F) (a : Addition F) (bytes : List ℕ) (r s got more : Record F) → a ≡ record { bytes = bytes; in_place = true; records = r ∷ s ∷ []; rope = Some (record { 0 = length h.nodes + 1 }) } → r.depth ≡ 0 → s.depth ≤ 64 → length h.pool.bytes + length bytes < POOL_LIMIT → got ∷ more ∷ [] ≡ r ∷ s ∷ []
+    → (result : Result (Option NodeId) NodeFault) → (IsErrOf result TableFull ↔ (MOST_NODES < length h.nodes + 2)) → IfErr result IsGrowthFault → Refuses h a ⊥ ⊥ result
 grown_pair_refuses h a bytes r s got more is leaf shallow limit same result table_full faults = grown_refuses h a bytes (r ∷ s ∷ []) (got ∷ more ∷ []) is (omega arith) (omega (arith, leaf, shallow)) limit same result table_full faults

@@ -1,7 +1,9 @@
 -- New nodes of each kind: they keep every rule, and what they denote.
-use Rattle.std.proofs.Common.{◌≡◌, ℕ, ◌+◌, ◌^◌, ◌<◌, ◌≤◌, max, List, [], ◌∷◌, ◌++◌, length, map, get_or, take, drop, Option, Some, None, refl, sym, ap, subst, ◌∙◌, arith, le_refl, length-append, add-zero}
+use Rattle.std.proofs.Common.{◌≡◌, ℕ, ◌+◌, ◌<◌, ◌≤◌, max, List, [], ◌∷◌, ◌++◌, length, map, get_or, take, drop, Option, Some, None, refl, sym, ap, subst, ◌∙◌, arith, le_refl, length-append, add-zero}
 use Rattle.std.specs.List.{slice_range, range_with_len}
 use Rattle.std.proofs.lemmas.List.{get_or_push}
+use Rattle.leaf_buffer.specs.declared.pool.TheConstants.{POOL_LIMIT}
+use Rattle.rope_node.specs.declared.limits.TheConstants.{TEXT_LIMIT}
 use Rattle.leaf_buffer.specs.Contents.{Contents, IsInOneBlock}
 use Rattle.rope_node.specs.declared.node.NodeId.{NodeId}
 use Rattle.rope_node.specs.Table.{len_at, depth_at, IsSoundNode, IsTrueNode}
@@ -11,18 +13,19 @@ use Rattle.rope_node.proofs.Extensions.{sound_kept, true_kept, cells_kept}
 use Rattle.node_table.specs.declared.record.Record.{Record}
 use Rattle.function_leaf.specs.Optional.{answer_of}
 use Rattle.node_table.specs.Held.{Held, node_of, table_of, with_records, IsKeptNode, CanHold}
-use Rattle.rope_store.specs.Additions.{literal_record, source_record, function_record, concatenation_record, part_record, new_node}
-use Rattle.rope_store.proofs.Pools.{PoolGrows}
+use Rattle.node_table.specs.Records.{literal_record, source_record, function_record, concatenation_record, part_record}
+use Rattle.rope_store.specs.Additions.{new_node}
+use Rattle.leaf_buffer.proofs.PoolGrowth.{PoolGrows}
 use Rattle.rope_store.proofs.Growth.{Holds, sound_of, holds_after, extends_with, can_hold_one, can_hold_both, cells_of_last, with_records_twice}
 
 -- new nodes keep every rule, and the rope over them denotes these cells
 pub record IsGood {F : Type 0} (meaning : F → ℕ → ℕ) (h : Held F) (pool : Contents) (rs : List (Record F)) (rope : Option NodeId) (wanted : List Cell) : Type 0 where
   pub can : CanHold meaning h pool rs
   pub is_rope : IsRope (table_of meaning (with_records h pool rs)) rope
-  pub text : length pool.bytes < 2 ^ 32 → rope_cells (table_of meaning (with_records h pool rs)) rope ≡ wanted
+  pub text : length pool.bytes < POOL_LIMIT → rope_cells (table_of meaning (with_records h pool rs)) rope ≡ wanted
 
 one_good : {F : Type 0} (meaning : F → ℕ → ℕ) (h : Held F) (pool : Contents) (r : Record F) (wanted : List Cell) → Holds meaning h → PoolGrows h.pool pool → IsSoundNode (table_of meaning (with_records h pool (r ∷ []))) (length h.nodes) (node_of r) → IsTrueNode (table_of meaning (with_records h pool (r ∷ []))) (node_of r) → IsKeptNode pool r.len r.view r.function
-    → (length pool.bytes < 2 ^ 32 → node_cells (table_of meaning (with_records h pool (r ∷ []))) (cells (table_of meaning (with_records h pool (r ∷ [])))) (length h.nodes) r.len r.view ≡ wanted) → IsGood meaning h pool (r ∷ []) (Some (new_node (table_of meaning h) 0)) wanted
+    → (length pool.bytes < POOL_LIMIT → node_cells (table_of meaning (with_records h pool (r ∷ []))) (cells (table_of meaning (with_records h pool (r ∷ [])))) (length h.nodes) r.len r.view ≡ wanted) → IsGood meaning h pool (r ∷ []) (Some (new_node (table_of meaning h) 0)) wanted
 one_good meaning h pool r wanted holds grows sound true_record kept is =
     let can = can_hold_one meaning h pool r holds.functions sound true_record kept in
     let t = table_of meaning (with_records h pool (r ∷ [])) in
@@ -44,7 +47,7 @@ then_good meaning h pool rs ss first rope below wanted holds grows one two =
     }
 
 -- a literal over a span of the pool
-pub literal_good : {F : Type 0} (meaning : F → ℕ → ℕ) (h : Held F) (pool : Contents) (a n : ℕ) → Holds meaning h → PoolGrows h.pool pool → IsInOneBlock pool a n → 1 ≤ n → n < 2 ^ 40 → IsGood meaning h pool (literal_record a n ∷ []) (Some (new_node (table_of meaning h) 0)) (map Byte (slice_range pool.bytes a (a + n)))
+pub literal_good : {F : Type 0} (meaning : F → ℕ → ℕ) (h : Held F) (pool : Contents) (a n : ℕ) → Holds meaning h → PoolGrows h.pool pool → IsInOneBlock pool a n → 1 ≤ n → n < TEXT_LIMIT → IsGood meaning h pool (literal_record a n ∷ []) (Some (new_node (table_of meaning h) 0)) (map Byte (slice_range pool.bytes a (a + n)))
 literal_good meaning h pool a n holds grows span some short =
     one_good meaning h pool (literal_record a n) (map Byte (slice_range pool.bytes a (a + n))) holds grows
     (record { references = tt; not_empty = some; not_long = short; not_deep = omega arith; span = span.inside })
@@ -56,13 +59,13 @@ source_good meaning h pool s a n holds grows there inside some =
     (record { references = there; not_empty = some; not_long = omega (arith, holds.sources s); not_deep = omega arith; span = inside })
     (record { len = tt; depth = refl }) tt (λ _. refl)
 
-pub function_good : {F : Type 0} (meaning : F → ℕ → ℕ) (h : Held F) (pool : Contents) (f : F) (n : ℕ) → Holds meaning h → PoolGrows h.pool pool → 1 ≤ n → n < 2 ^ 40 → IsGood meaning h pool (function_record f n ∷ []) (Some (new_node (table_of meaning h) 0)) (map (λ k. Byte (meaning f k)) (range_with_len 0 n))
+pub function_good : {F : Type 0} (meaning : F → ℕ → ℕ) (h : Held F) (pool : Contents) (f : F) (n : ℕ) → Holds meaning h → PoolGrows h.pool pool → 1 ≤ n → n < TEXT_LIMIT → IsGood meaning h pool (function_record f n ∷ []) (Some (new_node (table_of meaning h) 0)) (map (λ k. Byte (meaning f k)) (range_with_len 0 n))
 function_good {F = F} meaning h pool f n holds grows some short =
     one_good meaning h pool (function_record f n) (map (λ k. Byte (meaning f k)) (range_with_len 0 n)) holds grows
     (record { references = tt; not_empty = some; not_long = short; not_deep = omega arith; span = tt })
     (record { len = tt; depth = refl }) tt (λ _. ap (λ (g : Option F). map (λ k. Byte (answer_of meaning g k)) (range_with_len 0 n)) (get_or_push h.functions (Some f) None (length h.nodes) holds.functions))
 
-pub concatenation_good : {F : Type 0} (meaning : F → ℕ → ℕ) (h : Held F) (pool : Contents) (l r : NodeId) (n d : ℕ) → Holds meaning h → PoolGrows h.pool pool → l.0 < length h.nodes → r.0 < length h.nodes → n ≡ len_at (table_of meaning h) l.0 + len_at (table_of meaning h) r.0 → d ≡ 1 + max (depth_at (table_of meaning h) l.0) (depth_at (table_of meaning h) r.0) → n < 2 ^ 40 → d ≤ 64
+pub concatenation_good : {F : Type 0} (meaning : F → ℕ → ℕ) (h : Held F) (pool : Contents) (l r : NodeId) (n d : ℕ) → Holds meaning h → PoolGrows h.pool pool → l.0 < length h.nodes → r.0 < length h.nodes → n ≡ len_at (table_of meaning h) l.0 + len_at (table_of meaning h) r.0 → d ≡ 1 + max (depth_at (table_of meaning h) l.0) (depth_at (table_of meaning h) r.0) → n < TEXT_LIMIT → d ≤ 64
     → IsGood meaning h pool (concatenation_record l r n d ∷ []) (Some (new_node (table_of meaning h) 0)) (cells (table_of meaning h) l.0 ++ cells (table_of meaning h) r.0)
 concatenation_good meaning h pool l r n d holds grows left right is_long is_deep short shallow =
     let t = table_of meaning h in

@@ -11,11 +11,12 @@ use Rattle.rope_node.specs.Denotes.{Cell, Byte, Place, cells}
 use Rattle.rope_node.proofs.Cells.{cells_at}
 use Rattle.rope_node.proofs.Parts.{span_within, span-range_with_len}
 use Rattle.node_table.specs.Held.{Held, table_of}
-use Rattle.rope_store.specs.Kept.{IsStore}
-use Rattle.rope_store.specs.Additions.{Addition, literal_record, source_record, part_record, new_node, nothing, inner_part, node_part}
+use Rattle.node_table.specs.Held.{IsKept}
+use Rattle.node_table.specs.Records.{literal_record, source_record, part_record}
+use Rattle.rope_store.specs.Additions.{Addition, new_node, nothing, inner_part, node_part}
 use Rattle.leaf_buffer.proofs.Appending.{appended_nothing}
 use Rattle.leaf_buffer.proofs.Pieces.{in_one_block_part}
-use Rattle.rope_store.proofs.Pools.{grows_appended}
+use Rattle.leaf_buffer.proofs.PoolGrowth.{grows_appended}
 use Rattle.rope_store.proofs.Growth.{holds_of, sound_of}
 use Rattle.rope_store.proofs.Nodes.{IsGood, literal_good, source_good, part_good}
 
@@ -51,13 +52,13 @@ part_of_part : {X : Type 0} (xs : List X) (j m i n : ℕ) → i + n ≤ m → ta
 part_of_part xs j m i n inside = span_within n i m j xs inside ∙ ap (λ (k : ℕ). take n (drop k xs)) (omega arith)
 
 -- a part of a literal
-pub literal_part_good : {F : Type 0} (meaning : F → ℕ → ℕ) (h : Held F) → IsStore meaning h → (x : NodeId) (a i n : ℕ) → x.0 < length h.nodes → view_at (table_of meaning h) x.0 ≡ Lit a → 0 < n → i + n ≤ len_at (table_of meaning h) x.0
+pub literal_part_good : {F : Type 0} (meaning : F → ℕ → ℕ) (h : Held F) → IsKept meaning h → (x : NodeId) (a i n : ℕ) → x.0 < length h.nodes → view_at (table_of meaning h) x.0 ≡ Lit a → 0 < n → i + n ≤ len_at (table_of meaning h) x.0
     → IsGood meaning h (appended h.pool []) (literal_record (a + i) n ∷ []) (Some (new_node (table_of meaning h) 0)) (take n (drop i (cells (table_of meaning h) x.0)))
 literal_part_good {F = F} meaning h store x a i n there is some inside =
     let t = table_of meaning h in
     let len = len_at t x.0 in
-    let holds = holds_of meaning h store.table in
-    let sound = sound_of meaning h holds store.table.pool in
+    let holds = holds_of meaning h store in
+    let sound = sound_of meaning h holds store.pool in
     let good = holds.nodes x.0 there in
     let span : IsInOneBlock h.pool a len = rw is at good.kept in
     let part : IsInOneBlock h.pool (a + i) n = in_one_block_part h.pool a len (a + i) n span (omega arith) (omega arith) in
@@ -72,13 +73,13 @@ literal_part_good {F = F} meaning h store x a i n there is some inside =
     subst (λ (cs : List Cell). IsGood meaning h (appended h.pool []) (literal_record (a + i) n ∷ []) (Some (new_node t 0)) cs) text
     (literal_good meaning h (appended h.pool []) (a + i) n holds (grows_appended h.pool [] store.borders) (subst (λ (p : Contents). IsInOneBlock p (a + i) n) (sym same) part) some (omega (arith, good.sound.not_long)))
 
-pub source_part_good : {F : Type 0} (meaning : F → ℕ → ℕ) (h : Held F) → IsStore meaning h → (x : NodeId) (s a i n : ℕ) → x.0 < length h.nodes → view_at (table_of meaning h) x.0 ≡ Src s a → 0 < n → i + n ≤ len_at (table_of meaning h) x.0
+pub source_part_good : {F : Type 0} (meaning : F → ℕ → ℕ) (h : Held F) → IsKept meaning h → (x : NodeId) (s a i n : ℕ) → x.0 < length h.nodes → view_at (table_of meaning h) x.0 ≡ Src s a → 0 < n → i + n ≤ len_at (table_of meaning h) x.0
     → IsGood meaning h (appended h.pool []) (source_record s (a + i) n ∷ []) (Some (new_node (table_of meaning h) 0)) (take n (drop i (cells (table_of meaning h) x.0)))
 source_part_good {F = F} meaning h store x s a i n there is some inside =
     let t = table_of meaning h in
     let len = len_at t x.0 in
-    let holds = holds_of meaning h store.table in
-    let sound = sound_of meaning h holds store.table.pool in
+    let holds = holds_of meaning h store in
+    let sound = sound_of meaning h holds store.pool in
     let good = holds.nodes x.0 there in
     let source : s < length h.sources = rw is at good.sound.references in
     let span : a + len ≤ get_or h.sources s 0 = rw is at good.sound.span in
@@ -89,24 +90,24 @@ source_part_good {F = F} meaning h store x s a i n there is some inside =
     (source_good meaning h (appended h.pool []) s (a + i) n holds (grows_appended h.pool [] store.borders) source (omega arith) some)
 
 -- the base of a part is there, and the part lies in it
-pub base_there : {F : Type 0} (meaning : F → ℕ → ℕ) (h : Held F) → IsStore meaning h → (x b : NodeId) (j : ℕ) → x.0 < length h.nodes → view_at (table_of meaning h) x.0 ≡ Sub b j → (b.0 < length h.nodes) × (j + len_at (table_of meaning h) x.0 ≤ len_at (table_of meaning h) b.0)
+pub base_there : {F : Type 0} (meaning : F → ℕ → ℕ) (h : Held F) → IsKept meaning h → (x b : NodeId) (j : ℕ) → x.0 < length h.nodes → view_at (table_of meaning h) x.0 ≡ Sub b j → (b.0 < length h.nodes) × (j + len_at (table_of meaning h) x.0 ≤ len_at (table_of meaning h) b.0)
 base_there meaning h store x b j there is =
-    let good = (store.table.nodes x.0 there).sound in
+    let good = (store.nodes x.0 there).sound in
     let below : b.0 < x.0 = rw is at good.references in
     (omega arith, rw is at good.span)
 
 -- a part of a part is one of its base
-pub base_text : {F : Type 0} (meaning : F → ℕ → ℕ) (h : Held F) → IsStore meaning h → (x b : NodeId) (j i n : ℕ) → x.0 < length h.nodes → view_at (table_of meaning h) x.0 ≡ Sub b j → i + n ≤ len_at (table_of meaning h) x.0
+pub base_text : {F : Type 0} (meaning : F → ℕ → ℕ) (h : Held F) → IsKept meaning h → (x b : NodeId) (j i n : ℕ) → x.0 < length h.nodes → view_at (table_of meaning h) x.0 ≡ Sub b j → i + n ≤ len_at (table_of meaning h) x.0
     → take n (drop (j + i) (cells (table_of meaning h) b.0)) ≡ take n (drop i (cells (table_of meaning h) x.0))
 base_text meaning h store x b j i n there is inside =
     let t = table_of meaning h in
-    let sound = sound_of meaning h (holds_of meaning h store.table) store.table.pool in
+    let sound = sound_of meaning h (holds_of meaning h store) store.pool in
     sym (part_of_part (cells t b.0) j (len_at t x.0) i n inside) ∙ ap (λ (cs : List Cell). take n (drop i cs)) (sym (cells_at t sound x.0 there (Sub b j) is))
 
-pub over_good : {F : Type 0} (meaning : F → ℕ → ℕ) (h : Held F) → IsStore meaning h → (b : NodeId) (i n : ℕ) → b.0 < length h.nodes → i + n ≤ len_at (table_of meaning h) b.0 → 0 < n → 1 + depth_at (table_of meaning h) b.0 ≤ 64
+pub over_good : {F : Type 0} (meaning : F → ℕ → ℕ) (h : Held F) → IsKept meaning h → (b : NodeId) (i n : ℕ) → b.0 < length h.nodes → i + n ≤ len_at (table_of meaning h) b.0 → 0 < n → 1 + depth_at (table_of meaning h) b.0 ≤ 64
     → IsGood meaning h (appended h.pool []) (part_record b i n (1 + depth_at (table_of meaning h) b.0) ∷ []) (Some (new_node (table_of meaning h) 0)) (take n (drop i (cells (table_of meaning h) b.0)))
 over_good meaning h store b i n there inside some shallow =
-    part_good meaning h (appended h.pool []) b i n (1 + depth_at (table_of meaning h) b.0) (holds_of meaning h store.table) (grows_appended h.pool [] store.borders) there inside some refl shallow
+    part_good meaning h (appended h.pool []) b i n (1 + depth_at (table_of meaning h) b.0) (holds_of meaning h store) (grows_appended h.pool [] store.borders) there inside some refl shallow
 
 pub literal_part_is : {F : Type 0} (t : Table) (x : NodeId) (i n a : ℕ) → view_at t x.0 ≡ Lit a → ◌≡◌ {A = Addition F} (inner_part t x i n (view_at t x.0)) (inner_part t x i n (Lit a))
 literal_part_is t x i n a is = ap (inner_part t x i n) is

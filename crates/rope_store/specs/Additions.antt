@@ -9,6 +9,7 @@ use Rattle.rope_node.specs.Denotes.{Cell, rope_cells, IsRope}
 use Rattle.rope_node.specs.Extends.{Extends}
 use Rattle.node_table.specs.declared.record.Record.{Record}
 use Rattle.node_table.specs.declared.fault.NodeFault.{NodeFault}
+use Rattle.node_table.specs.Records.{literal_record, source_record, function_record, concatenation_record, part_record}
 use Rattle.node_table.specs.Held.{Held, table_of, with_records}
 
 -- bytes for the pool's end, whether the last piece grows by them in place, nodes behind the others, and the rope that is answered
@@ -32,23 +33,6 @@ pub record Makes {F : Type 0} (meaning : F → ℕ → ℕ) (old : Held F) (a : 
   pub text : IfOk result (λ rope. rope_cells (table_of meaning new) rope ≡ wanted)
   pub kept : Extends (table_of meaning old) (table_of meaning new)
   pub unchanged : OnErr result (new ≡ old)
-
--- the records of each kind of node
-
-abbrev pub literal_record : {F : Type 0} → ℕ → ℕ → Record F
-literal_record a n = record { view = Lit a; len = n; depth = 0; function = None }
-
-abbrev pub source_record : {F : Type 0} → ℕ → ℕ → ℕ → Record F
-source_record s a n = record { view = Src s a; len = n; depth = 0; function = None }
-
-abbrev pub function_record : {F : Type 0} → F → ℕ → Record F
-function_record f n = record { view = Fun; len = n; depth = 0; function = Some f }
-
-abbrev pub concatenation_record : {F : Type 0} → NodeId → NodeId → ℕ → ℕ → Record F
-concatenation_record l r n d = record { view = Cat l r; len = n; depth = d; function = None }
-
-abbrev pub part_record : {F : Type 0} → NodeId → ℕ → ℕ → ℕ → Record F
-part_record b i n d = record { view = Sub b i; len = n; depth = d; function = None }
 
 -- the k-th new node
 abbrev pub new_node : Table → ℕ → NodeId

@@ -1,10 +1,12 @@
 -- Why a call adds nothing.
-use Rattle.std.specs.Prelude.{◌↔◌, ℕ, ◌+◌, ◌^◌, ◌<◌, ◌≤◌, max, List, [], ◌∷◌, length, Option, Result, IsErrOf}
+use Rattle.std.specs.Prelude.{◌↔◌, ℕ, ◌+◌, ◌<◌, ◌≤◌, max, List, [], ◌∷◌, length, Option, Result, IsErrOf}
+use Rattle.leaf_buffer.specs.declared.pool.TheConstants.{POOL_LIMIT}
+use Rattle.rope_node.specs.declared.limits.TheConstants.{MOST_DEPTH, MOST_NODES}
 use Rattle.rope_node.specs.declared.node.NodeId.{NodeId}
 use Rattle.node_table.specs.declared.record.Record.{Record}
 use Rattle.node_table.specs.declared.fault.NodeFault.{NodeFault}
 use Rattle.node_table.specs.declared.fault.NodeFault.TheVariants.{TooLong, TooDeep, TableFull, PoolFull, BadSpan, TooManySources, Memory}
-use Rattle.node_table.specs.Held.{Held, most_nodes}
+use Rattle.node_table.specs.Held.{Held}
 use Rattle.rope_store.specs.Additions.{Addition}
 
 -- the greatest depth among nodes
@@ -13,14 +15,14 @@ deepest [] = 0
 deepest (r ∷ rs) = max r.depth (deepest rs)
 
 abbrev pub IsTooDeep : {F : Type 0} → Addition F → Type 0
-IsTooDeep a = 64 < deepest a.records
+IsTooDeep a = MOST_DEPTH < deepest a.records
 
 -- fewer numbers are free than there are nodes
 abbrev pub IsTableFull : {F : Type 0} → Held F → Addition F → Type 0
-IsTableFull h a = most_nodes < length h.nodes + length a.records
+IsTableFull h a = MOST_NODES < length h.nodes + length a.records
 
 abbrev pub IsPoolFull : {F : Type 0} → Held F → Addition F → Type 0
-IsPoolFull h a = 2 ^ 32 ≤ length h.pool.bytes + length a.bytes
+IsPoolFull h a = POOL_LIMIT ≤ length h.pool.bytes + length a.bytes
 
 -- each refusal comes exactly where its condition is the first that holds, and beside them there is want of memory alone, which a call
 -- that makes no node has not; where the span is bad, and where the result is too long, is the call's own

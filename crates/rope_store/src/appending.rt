@@ -1,32 +1,27 @@
 //! Bytes put behind a text.
 
-ghost use Rattle.std.specs.Prelude.{◌≡◌, ◌+◌, ◌^◌, ◌<◌, ◌≤◌, ◌++◌, length, map, take, ◌-◌, ℕ, List, Some, IfSome, IfNone};
-ghost use Rattle.leaf_buffer.specs.Contents.{block_size};
+ghost use Rattle.std.specs.Prelude.{◌≡◌, ◌+◌, ◌-◌, ◌<◌, ◌≤◌, ◌++◌, length, take, IfSome, IfNone};
 ghost use Rattle.rope_node.specs.Table.{IsLiteral, view_at, len_at};
-ghost use Rattle.rope_node.specs.Denotes.{Byte, cells, rope_cells, rope_len, rope_depth, IsRope};
+ghost use Rattle.rope_node.specs.Denotes.{rope_len, rope_depth, IsRope};
 ghost use Rattle.node_table.specs.Held.{table_of};
-ghost use Rattle.rope_store.specs.declared.endings.Ending.{Ending};
-ghost use Rattle.rope_store.specs.Additions.{Makes};
-ghost use Rattle.rope_store.specs.Joining.{ending_of, short_ending, piece, IsShortEnding};
-ghost use Rattle.rope_store.specs.Appending.{place_of, grown, merged_after, copied, CanGrow, Appends, AppendsTo};
-ghost use Rattle.rope_store.specs.Refusals.{Refuses};
+ghost use Rattle.rope_store.specs.Calls.{Copies, GrowsEnding, MergesAfter, PutsAfter};
+ghost use Rattle.rope_store.specs.Joining.{IsShortEnding};
+ghost use Rattle.rope_store.specs.Appending.{grown_len, pool_piece, Appends, AppendsTo, CanGrow, CannotGrow, IsGrowing};
 
-use crate::endings::Ending;
-use crate::leaves::{MOST_BYTES, TEXT_LIMIT};
+use crate::endings::{Ending, MOST_MERGED};
 use crate::merging::copy_both;
-use crate::new_nodes::NewNodes;
-use crate::records::{concatenation, literal};
-use crate::store::{MOST_DEPTH, Store};
+use crate::store::Store;
 use function_leaf::LeafFn;
-use node_table::NodeFault;
-use rope_node::{NodeId, NodeSpace, NodeView, Rope};
+use leaf_buffer::{BLOCK_SIZE, Piece};
+use node_table::{NewNodes, NodeFault, Record};
+use rope_node::{MOST_DEPTH, NodeId, NodeSpace, NodeView, Rope, TEXT_LIMIT};
 
 /// These bytes, the piece and these bytes again, in front of zeros.
-fn twice(bytes: &[u8], piece: &[u8]) -> [u8; 62]
-    requires { length piece.now + length bytes.now ≤ 31 }
+fn twice(bytes: &[u8], piece: &[u8]) -> [u8; 2 * MOST_MERGED]
+    requires { length piece.now + length bytes.now ≤ MOST_MERGED }
     ensures { take (length bytes.now + (length piece.now + length bytes.now)) result ≡ bytes.now ++ (piece.now ++ bytes.now) }
 {
-    let mut all = [0; 62];
+    let mut all = [0; 2 * MOST_MERGED];
     let end = bytes.len() + (piece.len() + bytes.len());
     copy_three(bytes, piece, &mut all[..end]);
     all
@@ -59,7 +54,7 @@ impl<F: LeafFn> Store<F> {
         if count == 0 {
             return Ok(x);
         }
-        if count > MOST_BYTES {
+        if count > BLOCK_SIZE {
             return Err(NodeFault::TooLong);
         }
         if before + count as u64 >= TEXT_LIMIT {
@@ -75,72 +70,71 @@ impl<F: LeafFn> Store<F> {
     fn append_to(&mut self, x: NodeId, bytes: &[u8]) -> Result<Rope, NodeFault>
         requires there { x.0 < length self.old.nodes }
         requires some { 1 ≤ length bytes.now }
-        requires fits { length bytes.now ≤ block_size }
-        requires short { len_at (table_of F.meaning self.old) x.0 + length bytes.now < 2 ^ 40 }
+        requires fits { length bytes.now ≤ BLOCK_SIZE }
+        requires short { len_at (table_of F.meaning self.old) x.0 + length bytes.now < TEXT_LIMIT }
         ensures { AppendsTo F.meaning self.old x bytes.now result self.new }
     {
         let _kept = &self.table;
         match self.growing(x, bytes.len()) {
-            Some(ending) => self.grow(ending, bytes),
+            Some((ending, piece)) => self.grow(ending, piece, bytes),
             None => self.copy(x, bytes),
         }
     }
 
-    /// The ending of a node, where it can grow in place by this many bytes.
-    fn growing(&self, x: NodeId, count: usize) -> Option<Ending>
+    /// The ending of a node and the piece of the pool that it is, where it can grow in place by this many bytes.
+    fn growing(&self, x: NodeId, count: usize) -> Option<(Ending, Piece)>
         requires { x.0 < length self.now.nodes }
-        ensures some { IfSome result (λ e. (ending_of (table_of F.meaning self.now) x ≡ Some e) × CanGrow self.now.pool (table_of F.meaning self.now) e count) }
-        ensures none { IfNone result ((e : Ending) → ending_of (table_of F.meaning self.now) x ≡ Some e → ¬ CanGrow self.now.pool (table_of F.meaning self.now) e count) }
+        ensures some { IfSome result (λ e. IsGrowing self.now.pool (table_of F.meaning self.now) x count e.0 e.1) }
+        ensures none { IfNone result (CannotGrow self.now.pool (table_of F.meaning self.now) x count) }
     {
         let _kept = &self.table;
         let ending = self.ending(x)?;
-        let (a, len) = self.span(ending.literal);
-        if self.table.can_grow(a, len, count) {
-            Some(ending)
+        let piece = self.pool_piece(ending.literal);
+        if self.table.can_grow(piece, count) {
+            Some((ending, piece))
         } else {
             None
         }
     }
 
-    /// The place and the length of a literal.
-    fn span(&self, x: NodeId) -> (u32, u32)
+    /// The piece of the pool that a literal is.
+    fn pool_piece(&self, x: NodeId) -> Piece
         requires there { x.0 < length self.now.nodes }
         requires literal { IsLiteral (view_at (table_of F.meaning self.now) x.0) }
-        ensures place { result.0 ≡ place_of (view_at (table_of F.meaning self.now) x.0) }
-        ensures len { result.1 ≡ len_at (table_of F.meaning self.now) x.0 }
+        ensures { result ≡ pool_piece (table_of F.meaning self.now) x }
     {
         match self.table.node(x) {
-            NodeView::Lit { a } => (a as u32, self.table.len(x) as u32),
+            NodeView::Lit { a } => Piece {
+                start: a as u32,
+                len: self.table.len(x) as u32,
+            },
             _ => unreachable!(),
         }
     }
 
-    /// The ending's literal, longer by these bytes, behind what stands before it.
-    fn grow(&mut self, ending: Ending, bytes: &[u8]) -> Result<Rope, NodeFault>
+    /// The ending's literal, which is this piece, longer by these bytes, behind what stands before it.
+    fn grow(&mut self, ending: Ending, piece: Piece, bytes: &[u8]) -> Result<Rope, NodeFault>
         requires there { ending.literal.0 < length self.old.nodes }
         requires literal { IsLiteral (view_at (table_of F.meaning self.old) ending.literal.0) }
+        requires piece { piece ≡ pool_piece (table_of F.meaning self.old) ending.literal }
         requires before { IsRope (table_of F.meaning self.old) ending.before }
         requires grows { CanGrow self.old.pool (table_of F.meaning self.old) ending (length bytes.now) }
-        requires short { rope_len (table_of F.meaning self.old) ending.before + (len_at (table_of F.meaning self.old) ending.literal.0 + length bytes.now) < 2 ^ 40 }
-        requires shallow { 1 + rope_depth (table_of F.meaning self.old) ending.before ≤ 64 }
-        ensures makes { Makes F.meaning self.old (grown (table_of F.meaning self.old) ending.before (place_of (view_at (table_of F.meaning self.old) ending.literal.0)) (len_at (table_of F.meaning self.old) ending.literal.0) bytes.now) (rope_cells (table_of F.meaning self.old) ending.before ++ map Byte (piece (table_of F.meaning self.old) ending.literal ++ bytes.now)) result self.new }
-        ensures refuses { Refuses self.old (grown (table_of F.meaning self.old) ending.before (place_of (view_at (table_of F.meaning self.old) ending.literal.0)) (len_at (table_of F.meaning self.old) ending.literal.0) bytes.now) ⊥ ⊥ result }
+        requires short { grown_len (table_of F.meaning self.old) ending (length bytes.now) < TEXT_LIMIT }
+        requires shallow { 1 + rope_depth (table_of F.meaning self.old) ending.before ≤ MOST_DEPTH }
+        ensures { GrowsEnding F.meaning self.old ending bytes.now result self.new }
     {
         let _kept = &self.table;
-        let (a, len) = self.span(ending.literal);
-        let count = len as u64 + bytes.len() as u64;
-        let longer = literal(a as u64, count);
+        let count = piece.len as u64 + bytes.len() as u64;
+        let longer = Record::literal(piece.start as u64, count);
         match ending.before {
-            None => self.make_grown(a, len, bytes, NewNodes::One(longer)),
+            None => self.make_grown(bytes, NewNodes::One(longer)),
             Some(l) => {
                 let last = NodeId(self.table.count());
                 let whole = self.table.len(l) + count;
                 let depth = 1 + self.table.depth(l);
                 self.make_grown(
-                    a,
-                    len,
                     bytes,
-                    NewNodes::Two(longer, concatenation(l, last, whole, depth)),
+                    NewNodes::Two(longer, Record::concatenation(l, last, whole, depth)),
                 )
             }
         }
@@ -150,10 +144,9 @@ impl<F: LeafFn> Store<F> {
     fn copy(&mut self, x: NodeId, bytes: &[u8]) -> Result<Rope, NodeFault>
         requires there { x.0 < length self.old.nodes }
         requires some { 1 ≤ length bytes.now }
-        requires fits { length bytes.now ≤ block_size }
-        requires short { len_at (table_of F.meaning self.old) x.0 + length bytes.now < 2 ^ 40 }
-        ensures makes { Makes F.meaning self.old (copied (table_of F.meaning self.old) x bytes.now (short_ending (table_of F.meaning self.old) (length bytes.now) (ending_of (table_of F.meaning self.old) x))) (cells (table_of F.meaning self.old) x.0 ++ map Byte bytes.now) result self.new }
-        ensures refuses { Refuses self.old (copied (table_of F.meaning self.old) x bytes.now (short_ending (table_of F.meaning self.old) (length bytes.now) (ending_of (table_of F.meaning self.old) x))) ⊥ ⊥ result }
+        requires fits { length bytes.now ≤ BLOCK_SIZE }
+        requires short { len_at (table_of F.meaning self.old) x.0 + length bytes.now < TEXT_LIMIT }
+        ensures { Copies F.meaning self.old x bytes.now result self.new }
     {
         match self.short_ending(x, bytes.len() as u64) {
             Some(ending) => self.merge_after(x, ending, bytes),
@@ -170,10 +163,9 @@ impl<F: LeafFn> Store<F> {
     fn merge_after(&mut self, x: NodeId, ending: Ending, bytes: &[u8]) -> Result<Rope, NodeFault>
         requires there { x.0 < length self.old.nodes }
         requires some { 1 ≤ length bytes.now }
-        requires short { len_at (table_of F.meaning self.old) x.0 + length bytes.now < 2 ^ 40 }
+        requires short { len_at (table_of F.meaning self.old) x.0 + length bytes.now < TEXT_LIMIT }
         requires ending { IsShortEnding (table_of F.meaning self.old) x (length bytes.now) ending }
-        ensures makes { Makes F.meaning self.old (merged_after (table_of F.meaning self.old) ending.before bytes.now (piece (table_of F.meaning self.old) ending.literal ++ bytes.now)) (cells (table_of F.meaning self.old) x.0 ++ map Byte bytes.now) result self.new }
-        ensures refuses { Refuses self.old (merged_after (table_of F.meaning self.old) ending.before bytes.now (piece (table_of F.meaning self.old) ending.literal ++ bytes.now)) ⊥ ⊥ result }
+        ensures { MergesAfter F.meaning self.old x ending bytes.now result self.new }
     {
         let piece = self.table.literal(ending.literal, 0);
         let (first, second) = (bytes.len(), piece.len() + bytes.len());
@@ -186,16 +178,18 @@ impl<F: LeafFn> Store<F> {
         requires before { IsRope (table_of F.meaning self.old) before }
         requires some { 1 ≤ first }
         requires more { first < length all.now }
-        requires fits { length all.now ≤ block_size }
-        requires short { rope_len (table_of F.meaning self.old) before + (length all.now - first) < 2 ^ 40 }
-        requires shallow { 1 + rope_depth (table_of F.meaning self.old) before ≤ 64 }
-        ensures makes { (xs ys : List ℕ) → all.now ≡ xs ++ ys → length xs ≡ first → Makes F.meaning self.old (merged_after (table_of F.meaning self.old) before xs ys) (rope_cells (table_of F.meaning self.old) before ++ map Byte ys) result self.new }
-        ensures refuses { (xs ys : List ℕ) → all.now ≡ xs ++ ys → length xs ≡ first → Refuses self.old (merged_after (table_of F.meaning self.old) before xs ys) ⊥ ⊥ result }
+        requires fits { length all.now ≤ BLOCK_SIZE }
+        requires short { rope_len (table_of F.meaning self.old) before + (length all.now - first) < TEXT_LIMIT }
+        requires shallow { 1 + rope_depth (table_of F.meaning self.old) before ≤ MOST_DEPTH }
+        ensures { PutsAfter F.meaning self.old before first all.now result self.new }
     {
         let start = self.table.pool_len();
         let middle = start + first as u64;
         let count = (all.len() - first) as u64;
-        let (one, two) = (literal(start, first as u64), literal(middle, count));
+        let (one, two) = (
+            Record::literal(start, first as u64),
+            Record::literal(middle, count),
+        );
         match before {
             None => self.make(all, NewNodes::Two(one, two)),
             Some(l) => {
@@ -204,7 +198,7 @@ impl<F: LeafFn> Store<F> {
                 let depth = 1 + self.table.depth(l);
                 self.make(
                     all,
-                    NewNodes::Three(one, two, concatenation(l, last, len, depth)),
+                    NewNodes::Three(one, two, Record::concatenation(l, last, len, depth)),
                 )
             }
         }

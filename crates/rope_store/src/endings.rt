@@ -1,16 +1,16 @@
 //! Literals at the end of texts.
 
-ghost use Rattle.std.specs.Prelude.{◌≡◌, ◌+◌, ◌^◌, ◌<◌, ◌≤◌, length, IfSome};
+ghost use Rattle.std.specs.Prelude.{◌≡◌, ◌<◌, ◌≤◌, length, IfSome};
 ghost use Rattle.rope_node.specs.Table.{IsLiteral, view_at, len_at};
 ghost use Rattle.node_table.specs.Held.{table_of};
-ghost use Rattle.rope_store.specs.Joining.{ending_of, short_ending, ending_for, IsShortEnding};
+ghost use Rattle.rope_store.specs.Joining.{ending_of, ending_taking, ending_with, IsShortEnding};
 
 use crate::store::Store;
 use function_leaf::LeafFn;
-use rope_node::{NodeId, NodeSpace, NodeView, Rope};
+use rope_node::{NodeId, NodeSpace, NodeView, Rope, TEXT_LIMIT};
 
 /// The most bytes in a literal that two make.
-pub(crate) const MOST_MERGED: u64 = 31;
+pub const MOST_MERGED: usize = 31;
 
 /// The literal that a text ends with, and what stands before it.
 #[derive(Clone, Copy)]
@@ -44,14 +44,14 @@ impl<F: LeafFn> Store<F> {
     /// The ending of a node, where it stays short with `count` bytes more.
     pub(crate) fn short_ending(&self, x: NodeId, count: u64) -> Option<Ending>
         requires there { x.0 < length self.now.nodes }
-        requires count { count < 2 ^ 40 }
-        ensures exact { result ≡ short_ending (table_of F.meaning self.now) count (ending_of (table_of F.meaning self.now) x) }
+        requires count { count < TEXT_LIMIT }
+        ensures exact { result ≡ ending_with (table_of F.meaning self.now) x count }
         ensures sound { IfSome result (IsShortEnding (table_of F.meaning self.now) x count) }
     {
         let _kept = &self.table;
         match self.ending(x) {
             Some(ending) => {
-                if self.table.len(ending.literal) + count <= MOST_MERGED {
+                if self.table.len(ending.literal) + count <= MOST_MERGED as u64 {
                     Some(ending)
                 } else {
                     None
@@ -65,7 +65,7 @@ impl<F: LeafFn> Store<F> {
     pub(crate) fn ending_for(&self, l: NodeId, r: NodeId) -> Option<Ending>
         requires left { l.0 < length self.now.nodes }
         requires right { r.0 < length self.now.nodes }
-        ensures exact { result ≡ ending_for (table_of F.meaning self.now) l r (view_at (table_of F.meaning self.now) r.0) }
+        ensures exact { result ≡ ending_taking (table_of F.meaning self.now) l r }
         ensures sound { IfSome result (IsShortEnding (table_of F.meaning self.now) l (len_at (table_of F.meaning self.now) r.0)) }
         ensures literal { IfSome result (λ e. IsLiteral (view_at (table_of F.meaning self.now) r.0)) }
     {

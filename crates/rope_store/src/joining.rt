@@ -1,20 +1,14 @@
 //! Texts put together.
 
-ghost use Rattle.std.specs.Prelude.{◌≡◌, ◌+◌, ◌^◌, ◌<◌, ◌≤◌, ◌++◌, length, map};
-ghost use Rattle.rope_node.specs.Table.{view_at, len_at};
-ghost use Rattle.rope_node.specs.Denotes.{cells, rope_cells, rope_len, IsRope};
+ghost use Rattle.std.specs.Prelude.{◌<◌, length};
+ghost use Rattle.rope_node.specs.Denotes.{IsRope};
 ghost use Rattle.node_table.specs.Held.{table_of};
-ghost use Rattle.rope_store.specs.Additions.{Makes, concatenated};
-ghost use Rattle.rope_store.specs.Joining.{joined, nodes_joined, ending_for};
-ghost use Rattle.rope_store.specs.Refusals.{Refuses};
+ghost use Rattle.rope_store.specs.Calls.{Cats, CatsPlain, Joins};
 
-use crate::leaves::TEXT_LIMIT;
-use crate::new_nodes::NewNodes;
-use crate::records::concatenation;
-use crate::store::{MOST_DEPTH, Store};
+use crate::store::Store;
 use function_leaf::LeafFn;
-use node_table::NodeFault;
-use rope_node::{NodeId, NodeSpace, Rope};
+use node_table::{NewNodes, NodeFault, Record};
+use rope_node::{MOST_DEPTH, NodeId, NodeSpace, Rope, TEXT_LIMIT};
 
 impl<F: LeafFn> Store<F> {
     /// The text of `l` followed by that of `r`, as one new node over both.
@@ -26,8 +20,7 @@ impl<F: LeafFn> Store<F> {
     pub fn cat_plain(&mut self, l: NodeId, r: NodeId) -> Result<Rope, NodeFault>
         requires left { l.0 < length self.old.nodes }
         requires right { r.0 < length self.old.nodes }
-        ensures makes { Makes F.meaning self.old (concatenated (table_of F.meaning self.old) l r) (cells (table_of F.meaning self.old) l.0 ++ cells (table_of F.meaning self.old) r.0) result self.new }
-        ensures refuses { Refuses self.old (concatenated (table_of F.meaning self.old) l r) ⊥ (2 ^ 40 ≤ len_at (table_of F.meaning self.old) l.0 + len_at (table_of F.meaning self.old) r.0) result }
+        ensures { CatsPlain F.meaning self.old l r result self.new }
     {
         let len = self.table.len(l) + self.table.len(r);
         if len >= TEXT_LIMIT {
@@ -37,7 +30,7 @@ impl<F: LeafFn> Store<F> {
         if depth > MOST_DEPTH {
             return Err(NodeFault::TooDeep);
         }
-        self.make(&[], NewNodes::One(concatenation(l, r, len, depth)))
+        self.make(&[], NewNodes::One(Record::concatenation(l, r, len, depth)))
     }
 
     /// The text of `l` followed by that of `r`. A nil side gives the other side. Two literals of together at most 31 bytes become one,
@@ -50,8 +43,7 @@ impl<F: LeafFn> Store<F> {
     pub fn cat(&mut self, l: Rope, r: Rope) -> Result<Rope, NodeFault>
         requires left { IsRope (table_of F.meaning self.old) l }
         requires right { IsRope (table_of F.meaning self.old) r }
-        ensures makes { Makes F.meaning self.old (joined (table_of F.meaning self.old) l r) (rope_cells (table_of F.meaning self.old) l ++ rope_cells (table_of F.meaning self.old) r) result self.new }
-        ensures refuses { Refuses self.old (joined (table_of F.meaning self.old) l r) ⊥ (2 ^ 40 ≤ rope_len (table_of F.meaning self.old) l + rope_len (table_of F.meaning self.old) r) result }
+        ensures { Cats F.meaning self.old l r result self.new }
     {
         let _kept = &self.table;
         match (l, r) {
@@ -65,8 +57,7 @@ impl<F: LeafFn> Store<F> {
     fn join(&mut self, l: NodeId, r: NodeId) -> Result<Rope, NodeFault>
         requires left { l.0 < length self.old.nodes }
         requires right { r.0 < length self.old.nodes }
-        ensures makes { Makes F.meaning self.old (nodes_joined (table_of F.meaning self.old) l r (ending_for (table_of F.meaning self.old) l r (view_at (table_of F.meaning self.old) r.0))) (cells (table_of F.meaning self.old) l.0 ++ cells (table_of F.meaning self.old) r.0) result self.new }
-        ensures refuses { Refuses self.old (nodes_joined (table_of F.meaning self.old) l r (ending_for (table_of F.meaning self.old) l r (view_at (table_of F.meaning self.old) r.0))) ⊥ (2 ^ 40 ≤ len_at (table_of F.meaning self.old) l.0 + len_at (table_of F.meaning self.old) r.0) result }
+        ensures { Joins F.meaning self.old l r result self.new }
     {
         match self.ending_for(l, r) {
             None => self.cat_plain(l, r),

@@ -1,27 +1,14 @@
 //! Texts of one leaf.
 
-ghost use Rattle.std.specs.Prelude.{◌≡◌, ◌⊎◌, ◌+◌, ◌^◌, ◌<◌, ◌≤◌, length, map, get_or};
-ghost use Rattle.std.specs.List.{range_with_len};
-ghost use Rattle.leaf_buffer.specs.Contents.{block_size};
 ghost use Rattle.function_leaf.specs.Coded.{coded_byte};
 ghost use Rattle.function_leaf.specs.declared.coded.Coded.TheVariants.{Fill};
-ghost use Rattle.rope_node.specs.Denotes.{Byte, Place};
-ghost use Rattle.node_table.specs.Held.{table_of};
-ghost use Rattle.rope_store.specs.Additions.{Makes, bytes_added, function_added, source_added};
-ghost use Rattle.rope_store.specs.Refusals.{Refuses};
+ghost use Rattle.rope_store.specs.Calls.{MakesBytes, MakesFunction, MakesSource};
 
-use crate::new_nodes::NewNodes;
-use crate::records::{function, literal, source};
 use crate::store::Store;
 use function_leaf::{Coded, LeafFn};
-use node_table::NodeFault;
-use rope_node::{NodeSpace, Rope};
-
-/// The most bytes that a call takes.
-pub(crate) const MOST_BYTES: usize = 65_536;
-
-/// The length that a text stays below, in bytes.
-pub(crate) const TEXT_LIMIT: u64 = 1 << 40;
+use leaf_buffer::BLOCK_SIZE;
+use node_table::{NewNodes, NodeFault, Record};
+use rope_node::{NodeSpace, Rope, TEXT_LIMIT};
 
 impl<F: LeafFn> Store<F> {
     /// The text of these bytes: nil for none of them, else one literal.
@@ -30,17 +17,16 @@ impl<F: LeafFn> Store<F> {
     ///
     /// `TooLong` for more than 65,536 bytes, `TableFull`, `PoolFull`, `Memory`. The store is then as before.
     pub fn from_bytes(&mut self, bytes: &[u8]) -> Result<Rope, NodeFault>
-        ensures makes { Makes F.meaning self.old (bytes_added (table_of F.meaning self.old) bytes.now) (map Byte bytes.now) result self.new }
-        ensures refuses { Refuses self.old (bytes_added (table_of F.meaning self.old) bytes.now) ⊥ (block_size < length bytes.now) result }
+        ensures { MakesBytes F.meaning self.old bytes.now result self.new }
     {
         let (start, count) = (self.table.pool_len(), bytes.len());
         if count == 0 {
             return Ok(None);
         }
-        if count > MOST_BYTES {
+        if count > BLOCK_SIZE {
             return Err(NodeFault::TooLong);
         }
-        self.make(bytes, NewNodes::One(literal(start, count as u64)))
+        self.make(bytes, NewNodes::One(Record::literal(start, count as u64)))
     }
 
     /// The text of the function's bytes at 0 to `n - 1`: nil for no bytes, else one function leaf.
@@ -49,8 +35,7 @@ impl<F: LeafFn> Store<F> {
     ///
     /// `TooLong` for 2^40 bytes or more, `TableFull`, `Memory`. The store is then as before.
     pub fn from_fn(&mut self, f: F, n: u64) -> Result<Rope, NodeFault>
-        ensures makes { Makes F.meaning self.old (function_added (table_of F.meaning self.old) f n) (map (λ k. Byte (F.meaning f k)) (range_with_len 0 n)) result self.new }
-        ensures refuses { Refuses self.old (function_added (table_of F.meaning self.old) f n) ⊥ (2 ^ 40 ≤ n) result }
+        ensures { MakesFunction F.meaning self.old f n result self.new }
     {
         let _kept = &self.table;
         if n == 0 {
@@ -59,7 +44,7 @@ impl<F: LeafFn> Store<F> {
         if n >= TEXT_LIMIT {
             return Err(NodeFault::TooLong);
         }
-        self.make(&[], NewNodes::One(function(f, n)))
+        self.make(&[], NewNodes::One(Record::function(f, n)))
     }
 
     /// The `n` bytes of source `s` from place `a` on: nil for no bytes, else one source leaf.
@@ -68,8 +53,7 @@ impl<F: LeafFn> Store<F> {
     ///
     /// `BadSpan` where there is no such source or the span is not inside it, `TableFull`, `Memory`. The store is then as before.
     pub fn from_source(&mut self, s: u32, a: u64, n: u64) -> Result<Rope, NodeFault>
-        ensures makes { Makes F.meaning self.old (source_added (table_of F.meaning self.old) s a n) (map (Place s) (range_with_len a n)) result self.new }
-        ensures refuses { Refuses self.old (source_added (table_of F.meaning self.old) s a n) ((length self.old.sources ≤ s) ⊎ (get_or self.old.sources s 0 < a + n)) ⊥ result }
+        ensures { MakesSource F.meaning self.old s a n result self.new }
     {
         if s >= self.table.source_count() {
             return Err(NodeFault::BadSpan);
@@ -81,7 +65,7 @@ impl<F: LeafFn> Store<F> {
         if n == 0 {
             return Ok(None);
         }
-        self.make(&[], NewNodes::One(source(s, a, n)))
+        self.make(&[], NewNodes::One(Record::source(s, a, n)))
     }
 }
 
@@ -92,8 +76,7 @@ impl Store<Coded> {
     ///
     /// `TooLong` for 2^40 bytes or more, `TableFull`, `Memory`. The store is then as before.
     pub fn chars(&mut self, c: u8, n: u64) -> Result<Rope, NodeFault>
-        ensures makes { Makes coded_byte self.old (function_added (table_of coded_byte self.old) (Fill c) n) (map (λ k. Byte c) (range_with_len 0 n)) result self.new }
-        ensures refuses { Refuses self.old (function_added (table_of coded_byte self.old) (Fill c) n) ⊥ (2 ^ 40 ≤ n) result }
+        ensures { MakesFunction coded_byte self.old (Fill c) n result self.new }
     {
         self.from_fn(Coded::fill(c), n)
     }

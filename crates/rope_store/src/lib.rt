@@ -6,10 +6,9 @@ mod endings;
 mod joining;
 mod leaves;
 mod merging;
-mod new_nodes;
 mod parts;
-mod records;
 mod space;
 mod store;
 
+pub use endings::MOST_MERGED;
 pub use store::Store;

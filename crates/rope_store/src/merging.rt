@@ -1,22 +1,19 @@
 //! New literals made of two.
 
-ghost use Rattle.std.specs.Prelude.{◌≡◌, ◌+◌, ◌^◌, ◌<◌, ◌≤◌, ◌++◌, length, map, take};
+ghost use Rattle.std.specs.Prelude.{◌≡◌, ◌+◌, ◌<◌, ◌≤◌, ◌++◌, length, take};
 ghost use Rattle.rope_node.specs.Table.{IsLiteral, view_at, len_at};
-ghost use Rattle.rope_node.specs.Denotes.{Byte, cells, rope_cells, rope_len, rope_depth, IsRope};
-ghost use Rattle.leaf_buffer.specs.Contents.{block_size};
+ghost use Rattle.rope_node.specs.Denotes.{rope_len, rope_depth, IsRope};
+ghost use Rattle.leaf_buffer.specs.declared.block.TheConstants.{BLOCK_SIZE};
+ghost use Rattle.rope_node.specs.declared.limits.TheConstants.{MOST_DEPTH};
 ghost use Rattle.node_table.specs.Held.{table_of};
-ghost use Rattle.rope_store.specs.Additions.{Makes};
-ghost use Rattle.rope_store.specs.Joining.{IsShortEnding, merged, piece};
-ghost use Rattle.rope_store.specs.Refusals.{Refuses};
+ghost use Rattle.rope_store.specs.Calls.{Merges, PutsMerged};
+ghost use Rattle.rope_store.specs.Joining.{IsShortEnding};
 
-use crate::endings::Ending;
-use crate::leaves::TEXT_LIMIT;
-use crate::new_nodes::NewNodes;
-use crate::records::{concatenation, literal};
+use crate::endings::{Ending, MOST_MERGED};
 use crate::store::Store;
 use function_leaf::LeafFn;
-use node_table::NodeFault;
-use rope_node::{NodeId, NodeSpace, Rope};
+use node_table::{NewNodes, NodeFault, Record};
+use rope_node::{NodeId, NodeSpace, Rope, TEXT_LIMIT};
 
 /// Writes these bytes one behind the other.
 pub(crate) fn copy_both(first: &[u8], second: &[u8], bytes: &mut [u8])
@@ -29,11 +26,11 @@ pub(crate) fn copy_both(first: &[u8], second: &[u8], bytes: &mut [u8])
 }
 
 /// These bytes one behind the other, in front of zeros.
-fn both(first: &[u8], second: &[u8]) -> [u8; 31]
-    requires { length first.now + length second.now ≤ 31 }
+fn both(first: &[u8], second: &[u8]) -> [u8; MOST_MERGED]
+    requires { length first.now + length second.now ≤ MOST_MERGED }
     ensures { take (length first.now + length second.now) result ≡ first.now ++ second.now }
 {
-    let mut bytes = [0; 31];
+    let mut bytes = [0; MOST_MERGED];
     let end = first.len() + second.len();
     copy_both(first, second, &mut bytes[..end]);
     bytes
@@ -46,8 +43,7 @@ impl<F: LeafFn> Store<F> {
         requires right { r.0 < length self.old.nodes }
         requires literal { IsLiteral (view_at (table_of F.meaning self.old) r.0) }
         requires ending { IsShortEnding (table_of F.meaning self.old) l (len_at (table_of F.meaning self.old) r.0) ending }
-        ensures makes { Makes F.meaning self.old (merged (table_of F.meaning self.old) ending.before (piece (table_of F.meaning self.old) ending.literal ++ piece (table_of F.meaning self.old) r)) (cells (table_of F.meaning self.old) l.0 ++ cells (table_of F.meaning self.old) r.0) result self.new }
-        ensures refuses { Refuses self.old (merged (table_of F.meaning self.old) ending.before (piece (table_of F.meaning self.old) ending.literal ++ piece (table_of F.meaning self.old) r)) ⊥ (2 ^ 40 ≤ len_at (table_of F.meaning self.old) l.0 + len_at (table_of F.meaning self.old) r.0) result }
+        ensures { Merges F.meaning self.old l ending r result self.new }
     {
         if self.table.len(l) + self.table.len(r) >= TEXT_LIMIT {
             return Err(NodeFault::TooLong);
@@ -65,22 +61,24 @@ impl<F: LeafFn> Store<F> {
     pub(crate) fn put_merged(&mut self, before: Rope, bytes: &[u8]) -> Result<Rope, NodeFault>
         requires before { IsRope (table_of F.meaning self.old) before }
         requires some { 1 ≤ length bytes.now }
-        requires fits { length bytes.now ≤ block_size }
-        requires short { rope_len (table_of F.meaning self.old) before + length bytes.now < 2 ^ 40 }
-        requires shallow { 1 + rope_depth (table_of F.meaning self.old) before ≤ 64 }
-        ensures makes { Makes F.meaning self.old (merged (table_of F.meaning self.old) before bytes.now) (rope_cells (table_of F.meaning self.old) before ++ map Byte bytes.now) result self.new }
-        ensures refuses { Refuses self.old (merged (table_of F.meaning self.old) before bytes.now) ⊥ ⊥ result }
+        requires fits { length bytes.now ≤ BLOCK_SIZE }
+        requires short { rope_len (table_of F.meaning self.old) before + length bytes.now < TEXT_LIMIT }
+        requires shallow { 1 + rope_depth (table_of F.meaning self.old) before ≤ MOST_DEPTH }
+        ensures { PutsMerged F.meaning self.old before bytes.now result self.new }
     {
         let (start, count) = (self.table.pool_len(), bytes.len() as u64);
         match before {
-            None => self.make(bytes, NewNodes::One(literal(start, count))),
+            None => self.make(bytes, NewNodes::One(Record::literal(start, count))),
             Some(l) => {
                 let last = NodeId(self.table.count());
                 let len = self.table.len(l) + count;
                 let depth = 1 + self.table.depth(l);
                 self.make(
                     bytes,
-                    NewNodes::Two(literal(start, count), concatenation(l, last, len, depth)),
+                    NewNodes::Two(
+                        Record::literal(start, count),
+                        Record::concatenation(l, last, len, depth),
+                    ),
                 )
             }
         }

@@ -1,18 +1,15 @@
 //! Parts of texts.
 
-ghost use Rattle.std.specs.Prelude.{◌≡◌, ◌+◌, ◌<◌, ◌≤◌, ◌-◌, take, drop, length};
-ghost use Rattle.rope_node.specs.Table.{view_at, len_at, depth_at};
-ghost use Rattle.rope_node.specs.Denotes.{cells, rope_cells, IsRope};
+ghost use Rattle.std.specs.Prelude.{◌+◌, ◌-◌, ◌<◌, ◌≤◌, length};
+ghost use Rattle.rope_node.specs.Table.{len_at};
+ghost use Rattle.rope_node.specs.Denotes.{IsRope};
 ghost use Rattle.node_table.specs.Held.{table_of};
-ghost use Rattle.rope_store.specs.Additions.{Makes, one_node, part_record, inner_part, node_part, part_added};
-ghost use Rattle.rope_store.specs.Refusals.{Refuses};
+ghost use Rattle.rope_store.specs.Calls.{TakesInnerPart, TakesNodePart, TakesPart, TakesPartOver};
 
-use crate::new_nodes::NewNodes;
-use crate::records::{literal, part, source};
-use crate::store::{MOST_DEPTH, Store};
+use crate::store::Store;
 use function_leaf::LeafFn;
-use node_table::NodeFault;
-use rope_node::{NodeId, NodeSpace, NodeView, Rope};
+use node_table::{NewNodes, NodeFault, Record};
+use rope_node::{MOST_DEPTH, NodeId, NodeSpace, NodeView, Rope};
 
 impl<F: LeafFn> Store<F> {
     /// The bytes of `x` from `i` on, at most `n`: nil where `i` is at or past the end, and `x` itself where all of it is asked for. A
@@ -24,8 +21,7 @@ impl<F: LeafFn> Store<F> {
     /// `TooDeep` for a part over a node of depth 64, `TableFull`, `Memory`. The store is then as before.
     pub fn substr(&mut self, x: Rope, i: u64, n: u64) -> Result<Rope, NodeFault>
         requires { IsRope (table_of F.meaning self.old) x }
-        ensures makes { Makes F.meaning self.old (part_added (table_of F.meaning self.old) x i n) (take n (drop i (rope_cells (table_of F.meaning self.old) x))) result self.new }
-        ensures refuses { Refuses self.old (part_added (table_of F.meaning self.old) x i n) ⊥ ⊥ result }
+        ensures { TakesPart F.meaning self.old x i n result self.new }
     {
         let _kept = &self.table;
         match x {
@@ -41,8 +37,7 @@ impl<F: LeafFn> Store<F> {
     fn node_part(&mut self, x: NodeId, i: u64, n: u64) -> Result<Rope, NodeFault>
         requires there { x.0 < length self.old.nodes }
         requires inside { n ≤ len_at (table_of F.meaning self.old) x.0 - i }
-        ensures makes { Makes F.meaning self.old (node_part (table_of F.meaning self.old) x i n) (take n (drop i (cells (table_of F.meaning self.old) x.0))) result self.new }
-        ensures refuses { Refuses self.old (node_part (table_of F.meaning self.old) x i n) ⊥ ⊥ result }
+        ensures { TakesNodePart F.meaning self.old x i n result self.new }
     {
         let len = self.table.len(x);
         if n == 0 {
@@ -59,12 +54,11 @@ impl<F: LeafFn> Store<F> {
         requires there { x.0 < length self.old.nodes }
         requires some { 1 ≤ n }
         requires inside { i + n ≤ len_at (table_of F.meaning self.old) x.0 }
-        ensures makes { Makes F.meaning self.old (inner_part (table_of F.meaning self.old) x i n (view_at (table_of F.meaning self.old) x.0)) (take n (drop i (cells (table_of F.meaning self.old) x.0))) result self.new }
-        ensures refuses { Refuses self.old (inner_part (table_of F.meaning self.old) x i n (view_at (table_of F.meaning self.old) x.0)) ⊥ ⊥ result }
+        ensures { TakesInnerPart F.meaning self.old x i n result self.new }
     {
         match self.table.node(x) {
-            NodeView::Lit { a } => self.make(&[], NewNodes::One(literal(a + i, n))),
-            NodeView::Src { s, a } => self.make(&[], NewNodes::One(source(s, a + i, n))),
+            NodeView::Lit { a } => self.make(&[], NewNodes::One(Record::literal(a + i, n))),
+            NodeView::Src { s, a } => self.make(&[], NewNodes::One(Record::source(s, a + i, n))),
             NodeView::Sub { b, i: start } => self.part_over(b, start + i, n),
             NodeView::Fun | NodeView::Cat { .. } => self.part_over(x, i, n),
         }
@@ -75,13 +69,12 @@ impl<F: LeafFn> Store<F> {
         requires there { b.0 < length self.old.nodes }
         requires some { 1 ≤ n }
         requires inside { i + n ≤ len_at (table_of F.meaning self.old) b.0 }
-        ensures makes { Makes F.meaning self.old (one_node (table_of F.meaning self.old) (part_record b i n (1 + depth_at (table_of F.meaning self.old) b.0))) (take n (drop i (cells (table_of F.meaning self.old) b.0))) result self.new }
-        ensures refuses { Refuses self.old (one_node (table_of F.meaning self.old) (part_record b i n (1 + depth_at (table_of F.meaning self.old) b.0))) ⊥ ⊥ result }
+        ensures { TakesPartOver F.meaning self.old b i n result self.new }
     {
         let depth = 1 + self.table.depth(b);
         if depth > MOST_DEPTH {
             return Err(NodeFault::TooDeep);
         }
-        self.make(&[], NewNodes::One(part(b, i, n, depth)))
+        self.make(&[], NewNodes::One(Record::part(b, i, n, depth)))
     }
 }

@@ -1,6 +1,6 @@
 use Rattle.std.proofs.Common.{Ok, Err}
 use Rattle.std.proofs.lemmas.Result.{err_from_is_err_and}
-use Rattle.rebalance.proofs.AnyCalls.{append_called, placed}
+use Rattle.rebalance.proofs.AnyCalls.{append_called, put_behind}
 use Rattle.rebalance.proofs.any.append_anew.Goals as goal
 
 pub returns-in_err-longer-clause-anew : goal.returns-in_err-longer-clause-anew
@@ -21,4 +21,4 @@ returns-clause-anew g c =
 pub returns-clause-place : goal.returns-clause-place
 returns-clause-place g c =
     let k = c.count-count-2.ensures in
-    placed g.F.LeafFn.meaning c.balance_by.new.store c.append.new.self c.in_ok-rope.rope c.in_ok-longer.longer c.args.bytes.now c.next_place-place.result (record { sound = k.sound; true_records = k.true_records }) c.in_ok-rope.ensures.is_rope c.in_ok-longer.ensures c.next_place-place.ensures.none c.next_place-place.ensures.some
+    put_behind g.F.LeafFn.meaning c.args.store.now c.balance_by.new.store c.append.new.self c.in_ok-rope.rope c.in_ok-longer.longer c.args.bytes.now c.next_place-place.result c.in_ok-rope.ensures.kept (record { sound = k.sound; true_records = k.true_records }) c.in_ok-rope.ensures.is_rope c.in_ok-longer.ensures c.next_place-place.ensures.none c.next_place-place.ensures.some

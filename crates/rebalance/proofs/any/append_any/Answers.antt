@@ -2,7 +2,7 @@ use Rattle.std.proofs.Common.{◌≡◌, Ok, Err, sym, subst, ◌∙◌}
 use Rattle.std.proofs.lemmas.Result.{err_from_is_err_and}
 use Rattle.rope_store.specs.Appending.{Appends}
 use Rattle.rebalance.specs.AnyForms.{AppendsAny, lifted}
-use Rattle.rebalance.proofs.AnyCalls.{append_plain, placed}
+use Rattle.rebalance.proofs.AnyCalls.{append_plain, placed_at_once}
 use Rattle.rebalance.proofs.AnyLaws.{lifted_is_ok, not_true}
 use Rattle.rebalance.proofs.any.append_any.Goals as goal
 
@@ -29,4 +29,4 @@ returns-clause-place g c =
     let k = c.count-count.ensures in
     let is : c.append-plain.result ≡ Ok c.in_ok-rope.rope = lifted_is_ok c.append-plain.result c.in_ok-rope.rope (sym c.lift.ensures ∙ c.in_ok-rope.was) in
     let done = subst (λ r. Appends meaning c.args.store.now c.args.x c.args.bytes.now r c.append-plain.new.self) is c.append-plain.ensures in
-    placed meaning c.args.store.now c.append-plain.new.self c.args.x c.in_ok-rope.rope c.args.bytes.now c.next_place-place.result (record { sound = k.sound; true_records = k.true_records }) c.requires done c.next_place-place.ensures.none c.next_place-place.ensures.some
+    placed_at_once meaning c.args.store.now c.append-plain.new.self c.args.x c.in_ok-rope.rope c.args.bytes.now c.next_place-place.result (record { sound = k.sound; true_records = k.true_records }) c.requires done c.next_place-place.ensures.none c.next_place-place.ensures.some

@@ -1,9 +1,10 @@
 use Rattle.std.proofs.Common.{◌≡◌, ℕ, ◌+◌, ◌<◌, ◌≤◌, ◌^◌, List, ◌++◌, length, map, take, sym, ap, subst, ◌∙◌}
+use Rattle.rope_node.specs.declared.limits.TheConstants.{TEXT_LIMIT}
 use Rattle.rope_node.specs.Table.{len_at}
 use Rattle.rope_node.specs.Denotes.{Cell, Byte, cells, rope_cells, rope_len}
 use Rattle.node_table.specs.declared.fault.NodeFault.TheVariants.{TooLong}
 use Rattle.node_table.specs.Held.{table_of}
-use Rattle.rope_store.specs.Kept.{IsStore}
+use Rattle.node_table.specs.Held.{IsKept}
 use Rattle.rope_store.specs.Additions.{Addition}
 use Rattle.rope_store.specs.Joining.{merged, piece}
 use Rattle.rope_store.proofs.Growth.{holds_of, sound_of}
@@ -22,12 +23,12 @@ right g c = rw c.self.view_is at c.len-2.ensures.value
 -- both pieces are as long as their nodes say
 first_size : (g : _) (c : After-literal-second g) → length c.literal-first.result.now ≡ len_at (table_of g.F.LeafFn.meaning c.args.self.now) c.args.ending.literal.0
 first_size g c =
-    let store = subst (λ k. IsStore g.F.LeafFn.meaning k) c.self.view_is c.self.invariant in
+    let store = subst (λ k. IsKept g.F.LeafFn.meaning k) c.self.view_is c.self.invariant in
     literal_size g.F.LeafFn.meaning c.args.self.now store c.args.ending.literal c.literal-first.result.now c.requires.ending.there c.requires.ending.is_literal (rw c.self.view_is at c.literal-first.ensures)
 
 second_size : (g : _) (c : After-literal-second g) → length c.literal-second.result.now ≡ len_at (table_of g.F.LeafFn.meaning c.args.self.now) c.args.r.0
 second_size g c =
-    let store = subst (λ k. IsStore g.F.LeafFn.meaning k) c.self.view_is c.self.invariant in
+    let store = subst (λ k. IsKept g.F.LeafFn.meaning k) c.self.view_is c.self.invariant in
     literal_size g.F.LeafFn.meaning c.args.self.now store c.args.r c.literal-second.result.now c.requires.right c.requires.literal (rw c.self.view_is at c.literal-second.ensures)
 
 short : (g : _) (c : After-literal-second g) → length c.literal-first.result.now + length c.literal-second.result.now ≤ 31
@@ -45,17 +46,17 @@ bytes_are g c =
 pub overflow_add-len : goal.overflow_add-len
 overflow_add-len g c = fits_sum c.len.result c.len-2.result c.len.ensures.limit c.len-2.ensures.limit
 
-pub returns-then-len-ge-TEXT_LIMIT-clause-makes : goal.returns-then-len-ge-TEXT_LIMIT-clause-makes
-returns-then-len-ge-TEXT_LIMIT-clause-makes g c =
-    let t = table_of g.F.LeafFn.meaning c.args.self.now in
-    makes_none g.F.LeafFn.meaning c.args.self.now (merged t c.args.ending.before (piece t c.args.ending.literal ++ piece t c.args.r)) (cells t c.args.l.0 ++ cells t c.args.r.0) TooLong
-
-pub returns-then-len-ge-TEXT_LIMIT-clause-refuses : goal.returns-then-len-ge-TEXT_LIMIT-clause-refuses
-returns-then-len-ge-TEXT_LIMIT-clause-refuses g c =
-    let t = table_of g.F.LeafFn.meaning c.args.self.now in
-    let at = (goal.at.returns-then-len-ge-TEXT_LIMIT-clause-refuses g c).After-len-2 in
-    refuses_length c.args.self.now (merged t c.args.ending.before (piece t c.args.ending.literal ++ piece t c.args.r)) ⊥ (2 ^ 40 ≤ len_at t c.args.l.0 + len_at t c.args.r.0) (λ bad. bad)
-    (sum_over (len_at t c.args.l.0) (len_at t c.args.r.0) c.len.result c.len-2.result (left g at) (right g at) c.if-len-ge-TEXT_LIMIT.true)
+pub returns-then-len-ge-TEXT_LIMIT : goal.returns-then-len-ge-TEXT_LIMIT
+returns-then-len-ge-TEXT_LIMIT g c = record {
+  makes =
+      let t = table_of g.F.LeafFn.meaning c.args.self.now in
+      makes_none g.F.LeafFn.meaning c.args.self.now (merged t c.args.ending.before (piece t c.args.ending.literal ++ piece t c.args.r)) (cells t c.args.l.0 ++ cells t c.args.r.0) TooLong;
+  refuses =
+      let t = table_of g.F.LeafFn.meaning c.args.self.now in
+      let at = (goal.at.returns-then-len-ge-TEXT_LIMIT g c).After-len-2 in
+      refuses_length c.args.self.now (merged t c.args.ending.before (piece t c.args.ending.literal ++ piece t c.args.r)) ⊥ (TEXT_LIMIT ≤ len_at t c.args.l.0 + len_at t c.args.r.0) (λ bad. bad)
+      (sum_over (len_at t c.args.l.0) (len_at t c.args.r.0) c.len.result c.len-2.result (left g at) (right g at) c.if-len-ge-TEXT_LIMIT.true);
+}
 
 pub overflow_add-count : goal.overflow_add-count
 overflow_add-count g c = fits_short (length c.literal-first.result.now + length c.literal-second.result.now) (short g c)
@@ -73,7 +74,7 @@ pub put_merged-requires : goal.put_merged-requires
 put_merged-requires g c =
     let h = c.args.self.now in
     let t = table_of g.F.LeafFn.meaning h in
-    let store = subst (λ k. IsStore g.F.LeafFn.meaning k) c.self.view_is c.self.invariant in
+    let store = subst (λ k. IsKept g.F.LeafFn.meaning k) c.self.view_is c.self.invariant in
     let first = length c.literal-first.result.now in
     let second = length c.literal-second.result.now in
     let many = length (take (first + second) c.both-bytes.result) in
@@ -83,7 +84,7 @@ put_merged-requires g c =
     let some : 1 ≤ first = rw begun (literal_some g.F.LeafFn.meaning h store c.args.ending.literal c.requires.ending.there) in
     let len : len_at t c.args.l.0 ≡ rope_len t c.args.ending.before + first = rw begun c.requires.ending.len in
     let below = sum_below (len_at t c.args.l.0) (len_at t c.args.r.0) c.len.result c.len-2.result (left g at.After-len-2) (right g at.After-len-2) c.if-len-ge-TEXT_LIMIT.false in
-    let behind : len_at t c.args.l.0 + second < 2 ^ 40 = rw (second_size g at.After-literal-second) below in
+    let behind : len_at t c.args.l.0 + second < TEXT_LIMIT = rw (second_size g at.After-literal-second) below in
     record {
       before = c.requires.ending.is_before;
       some = both_some first second many is some;
@@ -92,21 +93,21 @@ put_merged-requires g c =
       shallow = c.requires.ending.shallow;
     }
 
-pub returns-clause-makes : goal.returns-clause-makes
-returns-clause-makes g c =
-    let h = c.args.self.now in
-    let t = table_of g.F.LeafFn.meaning h in
-    let store = subst (λ k. IsStore g.F.LeafFn.meaning k) c.self.view_is c.self.invariant in
-    let sound = sound_of g.F.LeafFn.meaning h (holds_of g.F.LeafFn.meaning h store.table) store.table.pool in
-    let whole : (bs : List ℕ) → Addition g.row.F.Denot = λ bs. merged t c.args.ending.before bs in
-    let read : (bs : List ℕ) → List Cell = λ bs. rope_cells t c.args.ending.before ++ map Byte bs in
-    let are = bytes_are g (goal.at.returns-clause-makes g c).After-both-bytes in
-    makes_as (ap whole (sym are)) (ap read are ∙ merged_text t sound c.args.l c.args.r (len_at t c.args.r.0) c.args.ending c.requires.ending c.requires.right c.requires.literal) c.put_merged.ensures.makes
-
-pub returns-clause-refuses : goal.returns-clause-refuses
-returns-clause-refuses g c =
-    let t = table_of g.F.LeafFn.meaning c.args.self.now in
-    let whole : (bs : List ℕ) → Addition g.row.F.Denot = λ bs. merged t c.args.ending.before bs in
-    let at = goal.at.returns-clause-refuses g c in
-    let below = sum_below (len_at t c.args.l.0) (len_at t c.args.r.0) c.len.result c.len-2.result (left g at.After-len-2) (right g at.After-len-2) c.if-len-ge-TEXT_LIMIT.false in
-    refuses_as (ap whole (sym (bytes_are g at.After-both-bytes))) (refuses_more (not_over (len_at t c.args.l.0 + len_at t c.args.r.0) below) c.put_merged.ensures.refuses)
+pub returns : goal.returns
+returns g c = record {
+  makes =
+      let h = c.args.self.now in
+      let t = table_of g.F.LeafFn.meaning h in
+      let store = subst (λ k. IsKept g.F.LeafFn.meaning k) c.self.view_is c.self.invariant in
+      let sound = sound_of g.F.LeafFn.meaning h (holds_of g.F.LeafFn.meaning h store) store.pool in
+      let whole : (bs : List ℕ) → Addition g.row.F.Denot = λ bs. merged t c.args.ending.before bs in
+      let read : (bs : List ℕ) → List Cell = λ bs. rope_cells t c.args.ending.before ++ map Byte bs in
+      let are = bytes_are g (goal.at.returns g c).After-both-bytes in
+      makes_as (ap whole (sym are)) (ap read are ∙ merged_text t sound c.args.l c.args.r (len_at t c.args.r.0) c.args.ending c.requires.ending c.requires.right c.requires.literal) c.put_merged.ensures.makes;
+  refuses =
+      let t = table_of g.F.LeafFn.meaning c.args.self.now in
+      let whole : (bs : List ℕ) → Addition g.row.F.Denot = λ bs. merged t c.args.ending.before bs in
+      let at = goal.at.returns g c in
+      let below = sum_below (len_at t c.args.l.0) (len_at t c.args.r.0) c.len.result c.len-2.result (left g at.After-len-2) (right g at.After-len-2) c.if-len-ge-TEXT_LIMIT.false in
+      refuses_as (ap whole (sym (bytes_are g at.After-both-bytes))) (refuses_more (not_over (len_at t c.args.l.0 + len_at t c.args.r.0) below) c.put_merged.ensures.refuses);
+}

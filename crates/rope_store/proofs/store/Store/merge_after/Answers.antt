@@ -2,7 +2,7 @@ use Rattle.std.proofs.Common.{◌≡◌, ◌+◌, ◌≤◌, ◌++◌, length, t
 use Rattle.rope_node.specs.Table.{len_at}
 use Rattle.rope_node.specs.Denotes.{rope_len}
 use Rattle.node_table.specs.Held.{table_of}
-use Rattle.rope_store.specs.Kept.{IsStore}
+use Rattle.node_table.specs.Held.{IsKept}
 use Rattle.rope_store.specs.Joining.{piece}
 use Rattle.rope_store.proofs.Growth.{holds_of, sound_of}
 use Rattle.rope_store.proofs.Made.{makes_as}
@@ -14,7 +14,7 @@ use Rattle.rope_store.proofs.store.Store.merge_after.Goals.{After-literal-piece,
 -- the piece is as long as its node says
 count : (g : _) (c : After-literal-piece g) → length c.literal-piece.result.now ≡ len_at (table_of g.F.LeafFn.meaning c.args.self.now) c.args.ending.literal.0
 count g c =
-    let store = subst (λ k. IsStore g.F.LeafFn.meaning k) c.self.view_is c.self.invariant in
+    let store = subst (λ k. IsKept g.F.LeafFn.meaning k) c.self.view_is c.self.invariant in
     literal_size g.F.LeafFn.meaning c.args.self.now store c.args.ending.literal c.literal-piece.result.now c.requires.ending.there c.requires.ending.is_literal (rw c.self.view_is at c.literal-piece.ensures)
 
 short : (g : _) (c : After-literal-piece g) → length c.literal-piece.result.now + length c.args.bytes.now ≤ 31
@@ -62,16 +62,15 @@ put_after-requires g c =
       shallow = c.requires.ending.shallow;
     }
 
-pub returns-clause-makes : goal.returns-clause-makes
-returns-clause-makes g c =
-    let h = c.args.self.now in
-    let t = table_of g.F.LeafFn.meaning h in
-    let bytes = c.args.bytes.now in
-    let store = subst (λ k. IsStore g.F.LeafFn.meaning k) c.self.view_is c.self.invariant in
-    let sound = sound_of g.F.LeafFn.meaning h (holds_of g.F.LeafFn.meaning h store.table) store.table.pool in
-    makes_as refl (appended_text t sound c.args.x (length bytes) c.args.ending bytes c.requires.ending)
-    (c.put_after.ensures.makes bytes (piece t c.args.ending.literal ++ bytes) (all_are g (goal.at.returns-clause-makes g c).After-twice-all) refl)
-
-pub returns-clause-refuses : goal.returns-clause-refuses
-returns-clause-refuses g c =
-    c.put_after.ensures.refuses c.args.bytes.now (piece (table_of g.F.LeafFn.meaning c.args.self.now) c.args.ending.literal ++ c.args.bytes.now) (all_are g (goal.at.returns-clause-refuses g c).After-twice-all) refl
+pub returns : goal.returns
+returns g c = record {
+  makes =
+      let h = c.args.self.now in
+      let t = table_of g.F.LeafFn.meaning h in
+      let bytes = c.args.bytes.now in
+      let store = subst (λ k. IsKept g.F.LeafFn.meaning k) c.self.view_is c.self.invariant in
+      let sound = sound_of g.F.LeafFn.meaning h (holds_of g.F.LeafFn.meaning h store) store.pool in
+      makes_as refl (appended_text t sound c.args.x (length bytes) c.args.ending bytes c.requires.ending)
+      (c.put_after.ensures.makes bytes (piece t c.args.ending.literal ++ bytes) (all_are g (goal.at.returns g c).After-twice-all) refl);
+  refuses = c.put_after.ensures.refuses c.args.bytes.now (piece (table_of g.F.LeafFn.meaning c.args.self.now) c.args.ending.literal ++ c.args.bytes.now) (all_are g (goal.at.returns g c).After-twice-all) refl;
+}

@@ -1,8 +1,8 @@
 -- The nodes that one call makes, in their order.
 use Rattle.std.specs.Prelude.{List, [], ◌∷◌}
 use Rattle.node_table.specs.declared.record.Record.{Record}
-use Rattle.rope_store.specs.declared.new_nodes.NewNodes.{NewNodes}
-use Rattle.rope_store.specs.declared.new_nodes.NewNodes.TheVariants.{One, Two, Three}
+use Rattle.node_table.specs.declared.new_nodes.NewNodes.{NewNodes}
+use Rattle.node_table.specs.declared.new_nodes.NewNodes.TheVariants.{One, Two, Three}
 
 abbrev pub listed : {F : Type 0} → NewNodes F → List (Record F)
 listed (One a) = a ∷ []
