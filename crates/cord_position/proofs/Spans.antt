@@ -15,7 +15,7 @@ use Rattle.lazy_file.proofs.LaterReads.{reads_then}
 use Rattle.cord_position.specs.Fetched.{AreOwn, EachCell, IsReadable, IsPlaceFault, ReadsSpan, rope_cell}
 
 -- a fault of a later read is one of the whole
-later_fault : {T : Type 0} (stated : T → Stated) (failures : T → ℕ) (old mid new : T) (cell : Cell) (e : SourceFault)
+pub later_fault : {T : Type 0} (stated : T → Stated) (failures : T → ℕ) (old mid new : T) (cell : Cell) (e : SourceFault)
     → Reads stated failures old mid → IsPlaceFault stated failures mid new cell e → IsPlaceFault stated failures old new cell e
 later_fault stated failures old mid new cell e before h = record {
   s = h.s;

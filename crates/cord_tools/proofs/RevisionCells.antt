@@ -6,19 +6,19 @@ use Rattle.lazy_file.specs.SourceTexts.{Stated}
 use Rattle.cord_position.specs.Fetched.{AreStated, IsStated}
 use Rattle.cord_position.proofs.Spans.{each_cell}
 use Rattle.cord_search.specs.Stated.{OfText}
-use Rattle.image_reader.specs.Value.{ImageValue, table_of}
-use Rattle.session_checker.specs.RevisionRules.{revision_at}
+use Rattle.image_reader.specs.Value.{ImageValue, image_table}
+use Rattle.image_reader.specs.Accepted.{revision_at}
 use Rattle.session_checker.specs.Faithful.{IsRootOf, revision_text}
-use Rattle.session_checker.proofs.RevisionTexts.{root_text}
+use Rattle.session_checker.proofs.RevisionTexts.{text_of_root}
 use Rattle.cord_tools.specs.Answers.{OfRevision, revision_cells}
 
 -- the root's cells are the revision's
-pub root_cells : (v : ImageValue) (k r : ℕ) (root : Option NodeId) → IsRootOf v k root → k ≡ r → rope_cells (table_of v) root ≡ revision_cells v r
-root_cells v k r root there at = ap (rope_cells (table_of v)) there.1 ∙ ap (revision_cells v) at
+pub root_cells : (v : ImageValue) (k r : ℕ) (root : Option NodeId) → IsRootOf v k root → k ≡ r → rope_cells (image_table v) root ≡ revision_cells v r
+root_cells v k r root there at = ap (rope_cells (image_table v)) there.1 ∙ ap (revision_cells v) at
 
-pub root_told : (v : ImageValue) (st : Stated) (k r : ℕ) (root : Option NodeId) (P : List ℕ → Type 0) → IsRootOf v k root → k ≡ r → OfText (table_of v) st root P → OfRevision v st r P
+pub root_told : (v : ImageValue) (st : Stated) (k r : ℕ) (root : Option NodeId) (P : List ℕ → Type 0) → IsRootOf v k root → k ≡ r → OfText (image_table v) st root P → OfRevision v st r P
 root_told v st k r root P there at told source agrees stated =
-    let t = table_of v in
+    let t = image_table v in
     let same = root_cells v k r root there at in
-    let is : text source (rope_cells t root) ≡ revision_text v source r = ap (text source) same ∙ sym (root_text v source r) in
+    let is : text source (rope_cells t root) ≡ revision_text v source r = ap (text source) same ∙ sym (text_of_root v source r) in
     subst P is (told source agrees (each_cell t root (IsStated st) tt (subst (AreStated st) (sym same) stated) 0 (rope_len t root)))

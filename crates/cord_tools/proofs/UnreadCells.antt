@@ -9,6 +9,7 @@ use Rattle.rope_node.specs.Denotes.{Cell, Byte, Place, cells, cell_at, rope_cell
 use Rattle.lazy_file.specs.SourceTexts.{Reads, Stated}
 use Rattle.lazy_file.specs.declared.faults.SourceFault.{SourceFault}
 use Rattle.cord_position.specs.Fetched.{EachCell, IsFaultIn, IsReadable, rope_cell}
+use Rattle.cord_position.proofs.Spans.{later_fault}
 use Rattle.cord_search.specs.Faults.{IsFindFault, IsPutFault}
 use Rattle.cord_search.specs.Stated.{ReadsTwoSpans}
 use Rattle.cord_search.specs.declared.fault.FindFault.{FindFault}
@@ -23,6 +24,17 @@ use Rattle.cord_tools.specs.declared.fault.ToolFault.TheVariants.{Read}
 -- sources that nothing has read
 pub reads_nothing : {T : Type 0} (stated : T → Stated) (failures : T → ℕ) (x : T) → Reads stated failures x x
 reads_nothing stated failures x = record { same = refl; later = omega arith }
+
+-- a failed read is one of the whole
+pub later_unread : {T : Type 0} (stated : T → Stated) (failures : T → ℕ) (old mid new : T) (cells : List Cell) → Reads stated failures old mid
+    → IsUnread stated failures mid new cells → IsUnread stated failures old new cells
+later_unread stated failures old mid new cells before h = record {
+  some = later_some h.some;
+  not_all = rw (sym before.same) h.not_all;
+}
+  where
+    later_some : Any (CouldNotRead stated failures mid new) cells → Any (CouldNotRead stated failures old new) cells
+    later_some (k, x, lt, at, one) = (k, x, lt, at, record { fault = one.fault; told = one.told; place = later_fault stated failures old mid new x one.fault before one.place })
 
 -- a tool that ends without a failed read
 pub not_read : {T X : Type 0} (stated : T → Stated) (failures : T → ℕ) (old new : T) (cells : List Cell) (outcome : Result X ToolFault)

@@ -1,22 +1,24 @@
 -- What the tools answer.
-use Rattle.std.specs.Prelude.{◌≡◌, ◌≢◌, ◌⊎◌, ℕ, List, ◌++◌, ◌<◌, ◌≤◌, length, take, Option, Result, Ok, Err, All, IfSome, codes}
+use Rattle.std.specs.Prelude.{◌≡◌, ◌≢◌, ◌⊎◌, ℕ, List, [], ◌++◌, ◌<◌, ◌≤◌, length, take, Option, Result, Ok, Err, All, IfSome, codes}
 use Rattle.std.specs.Fmt.{decimal}
 use Rattle.std.specs.Io.KnownBytes.{Appends, Keeps}
 use Rattle.byte_output.specs.Prefix.{AppendsPrefix}
-use Rattle.lazy_file.specs.SourceTexts.{Agrees, Reads, Stated}
+use Rattle.lazy_file.specs.SourceTexts.{Agrees, Reads, Stated, stated_in_memory}
+use Rattle.lazy_file.specs.declared.faults.SourceFault.{SourceFault}
 use Rattle.lazy_file.specs.Faults.{add_fault_code}
 use Rattle.lazy_file.specs.declared.faults.AddFault.{AddFault}
 use Rattle.lazy_file.specs.declared.faults.AddFault.TheVariants as Add
 use Rattle.rope_node.specs.Denotes.{Cell, rope_cells}
 use Rattle.cord_position.specs.Fetched.{AreStated, IsReadable}
-use Rattle.image_reader.specs.Acceptance.{HasSources}
-use Rattle.image_reader.specs.Value.{ImageValue, IsImage, table_of}
+use Rattle.image_reader.specs.Accepted.{HasSources, revision_at}
+use Rattle.image_reader.specs.Value.{ImageValue, IsImage, image_table}
 use Rattle.image_reader.specs.Spelling.{spelling}
 use Rattle.session_checker.specs.declared.fault.CheckFault.{CheckFault}
+use Rattle.session_checker.specs.declared.fault.CheckFault.TheVariants as Check
 use Rattle.session_checker.specs.Accepted.{IsAccepted, IsFirstFault}
 use Rattle.session_checker.specs.Faithful.{IsFaithful, revision_text}
-use Rattle.session_checker.specs.RevisionRules.{revision_at}
 use Rattle.session_checker.specs.Codes.{fault_code}
+use Rattle.cord_tools.specs.Faults.{check_fault, read_fault}
 use Rattle.cord_tools.specs.Unread.{IsUnread}
 use Rattle.cord_tools.specs.declared.fault.ToolFault.{ToolFault}
 use Rattle.cord_tools.specs.declared.fault.ToolFault.TheVariants.{Memory, Read, Write, Refused, Source, NoRevision, PatternTooLong, Rope}
@@ -28,7 +30,7 @@ abbrev pub image_limit : ℕ
 image_limit = 5293213728
 
 abbrev pub accepted_line : ImageValue → List ℕ
-accepted_line v = codes "accepted " ++ (decimal (length v.revisions) ++ (codes " revisions " ++ (decimal (length (table_of v).nodes) ++ (codes " nodes " ++ (decimal (length v.rows) ++ codes " rows\n")))))
+accepted_line v = codes "accepted " ++ (decimal (length v.revisions) ++ (codes " revisions " ++ (decimal (length (image_table v).nodes) ++ (codes " nodes " ++ (decimal (length v.rows) ++ codes " rows\n")))))
 
 abbrev pub refused_line : CheckFault → List ℕ
 refused_line fault = codes "refused " ++ fault_code fault ++ codes "\n"
@@ -45,37 +47,56 @@ AreRead = AreReadUpTo image_limit
 abbrev pub refused_source_line : AddFault → List ℕ
 refused_source_line fault = codes "refused " ++ add_fault_code fault ++ codes "\n"
 
--- the bytes are accepted with sources of these lengths; they spell this image, which is faithful
-pub record SpellsFaithful (bytes sizes : List ℕ) (v : ImageValue) : Type 0 where
-  pub accepted : IsAccepted bytes sizes
+-- the bytes are accepted with what the sources state; they spell this image, which is faithful
+pub record SpellsFaithful (bytes : List ℕ) (st : Stated) (v : ImageValue) : Type 0 where
+  pub accepted : IsAccepted bytes st
   pub image : IsImage v
   pub spelled : bytes ≡ spelling v
-  pub sources : HasSources v sizes
-  pub faithful : IsFaithful v
+  pub sources : HasSources v st.sizes
+  pub faithful : IsFaithful v st
 
--- the line and the status that answer for these bytes with sources of these lengths
-abbrev pub AnswersWith : List ℕ → List ℕ → List ℕ → Status → Type 0
-AnswersWith bytes sizes line Success = (v : ImageValue) × SpellsFaithful bytes sizes v × (line ≡ accepted_line v)
-AnswersWith bytes sizes line Failure = (f : CheckFault) × IsFirstFault bytes sizes f × (line ≡ refused_line f)
+-- the first fault of the bytes, which is no source's
+pub record IsRefusal {T : Type 0} (stated : T → Stated) (failures : T → ℕ) (old new : T) (bytes : List ℕ) (fault : CheckFault) : Type 0 where
+  pub first : IsFirstFault stated failures old new bytes fault
+  pub told : check_fault fault ≡ Refused fault
+
+-- a source's fault is the first of the bytes, and it is told so
+pub record StopsAtSource {T : Type 0} (stated : T → Stated) (failures : T → ℕ) (old new : T) (bytes : List ℕ) (told : ToolFault) : Type 0 where
+  pub fault : SourceFault
+  pub first : IsFirstFault stated failures old new bytes (Check.Source fault)
+  pub told_as : told ≡ read_fault fault
+
+-- the line and the status that answer for these bytes
+abbrev pub AnswersWith : {T : Type 0} → (T → Stated) → (T → ℕ) → T → T → List ℕ → List ℕ → Status → Type 0
+AnswersWith stated failures old new bytes line Success = (v : ImageValue) × SpellsFaithful bytes (stated old) v × (line ≡ accepted_line v)
+AnswersWith stated failures old new bytes line Failure = (f : CheckFault) × IsRefusal stated failures old new bytes f × (line ≡ refused_line f)
+
+-- the image was read, and its check stopped at a source
+abbrev pub StopsCheck : {T : Type 0} → (T → Stated) → (T → ℕ) → T → T → Option (List ℕ) → ToolFault → Type 0
+StopsCheck stated failures old new remaining told = (bytes : List ℕ) × AreRead remaining bytes × StopsAtSource stated failures old new bytes told
 
 -- The line that answers for the bytes read was written; where the writer failed, a prefix of it; where the tool was stopped before,
--- nothing.
-abbrev pub AnswersCheck : Option (List ℕ) → List ℕ → Option (List ℕ) → Option (List ℕ) → Result Status ToolFault → Type 0
-AnswersCheck remaining sizes before after (Ok status) = (bytes : List ℕ) × (line : List ℕ) × AreRead remaining bytes × AnswersWith bytes sizes line status × Appends before after line
-AnswersCheck remaining sizes before after (Err Write) = (bytes : List ℕ) × (line : List ℕ) × (status : Status) × AreRead remaining bytes × AnswersWith bytes sizes line status × AppendsPrefix before after line
-AnswersCheck remaining sizes before after (Err Read) = Keeps before after
-AnswersCheck remaining sizes before after (Err Memory) = Keeps before after
-AnswersCheck remaining sizes before after (Err (Refused f)) = ⊥
-AnswersCheck remaining sizes before after (Err (Source f)) = ⊥
-AnswersCheck remaining sizes before after (Err NoRevision) = ⊥
-AnswersCheck remaining sizes before after (Err PatternTooLong) = ⊥
-AnswersCheck remaining sizes before after (Err (Rope f)) = ⊥
+-- nothing, and a source was read only where it was the one that stopped it, or memory was wanted later.
+abbrev pub AnswersCheck : {T : Type 0} → (T → Stated) → (T → ℕ) → T → T → Option (List ℕ) → Option (List ℕ) → Option (List ℕ) → Result Status ToolFault → Type 0
+AnswersCheck stated failures old new remaining before after (Ok status) = (bytes : List ℕ) × (line : List ℕ) × AreRead remaining bytes × AnswersWith stated failures old new bytes line status × Appends before after line
+AnswersCheck stated failures old new remaining before after (Err Write) = (bytes : List ℕ) × (line : List ℕ) × (status : Status) × AreRead remaining bytes
+    × AnswersWith stated failures old new bytes line status × AppendsPrefix before after line
+AnswersCheck stated failures old new remaining before after (Err Read) = Keeps before after × ((new ≡ old) ⊎ StopsCheck stated failures old new remaining Read)
+AnswersCheck stated failures old new remaining before after (Err Memory) = Keeps before after
+AnswersCheck stated failures old new remaining before after (Err (Refused f)) = ⊥
+AnswersCheck stated failures old new remaining before after (Err (Source f)) = ⊥
+AnswersCheck stated failures old new remaining before after (Err NoRevision) = ⊥
+AnswersCheck stated failures old new remaining before after (Err PatternTooLong) = ⊥
+AnswersCheck stated failures old new remaining before after (Err (Rope f)) = ⊥
 
--- The check reads no source.
-pub record ChecksImage {T : Type 0} (stated : T → Stated) (old new : T) (remaining before after : Option (List ℕ))
+pub record ChecksImage {T : Type 0} (stated : T → Stated) (failures : T → ℕ) (old new : T) (remaining before after : Option (List ℕ))
     (outcome : Result Status ToolFault) : Type 0 where
-  pub answer : AnswersCheck remaining (stated old).sizes before after outcome
-  pub untouched : new ≡ old
+  pub answer : AnswersCheck stated failures old new remaining before after outcome
+  pub reads : Reads stated failures old new
+
+-- the same with no sources
+abbrev pub ChecksInput : Option (List ℕ) → Option (List ℕ) → Option (List ℕ) → Result Status ToolFault → Type 0
+ChecksInput remaining before after outcome = AnswersCheck stated_in_memory (λ (texts : List (List ℕ)). 0) [] [] remaining before after outcome
 
 -- The line that refuses a source was written, and the status tells a refusal; where the writer failed, a prefix of that line. Want of
 -- memory is no refusal, and then nothing was written.
@@ -92,7 +113,7 @@ RefusesCheck refusal before after (Err (Rope f)) = ⊥
 
 -- the cells of revision k
 abbrev pub revision_cells : ImageValue → ℕ → List Cell
-revision_cells v k = rope_cells (table_of v) (revision_at v k).root
+revision_cells v k = rope_cells (image_table v) (revision_at v k).root
 
 -- P holds of the text of revision k, whatever bytes the sources have that agree with what they state, where its cells are stated
 abbrev pub OfRevision : ImageValue → Stated → ℕ → (List ℕ → Type 0) → Type 0
@@ -102,22 +123,22 @@ OfRevision v st k P = (source : ℕ → ℕ → ℕ) → Agrees st source → Ar
 pub record ReadsRevision (remaining : Option (List ℕ)) (st : Stated) (k : ℕ) (v : ImageValue) (P : List ℕ → Type 0) : Type 0 where
   pub bytes : List ℕ
   pub read : AreRead remaining bytes
-  pub spelled : SpellsFaithful bytes st.sizes v
+  pub spelled : SpellsFaithful bytes st v
   pub there : k < length v.revisions
   pub text : OfRevision v st k P
 
--- The text of the revision was written; where it ended before, a prefix of it, or nothing. Before the text begins no source is read,
--- and where each of its cells is readable, it can end for the writer alone.
+-- The text of the revision was written; where it ended before, a prefix of it, or nothing. Where each of its cells is readable, it can
+-- end for the writer alone once the image is accepted.
 abbrev pub AnswersShow : {T : Type 0} → (T → Stated) → (T → ℕ) → T → T → Option (List ℕ) → ℕ → Option (List ℕ) → Option (List ℕ) → Result (Unit {0}) ToolFault → Type 0
 AnswersShow stated failures old new remaining k before after (Ok u) = (v : ImageValue) × ReadsRevision remaining (stated old) k v (Appends before after)
 AnswersShow stated failures old new remaining k before after (Err Write) = (v : ImageValue) × ReadsRevision remaining (stated old) k v (AppendsPrefix before after)
-AnswersShow stated failures old new remaining k before after (Err Read) = (Keeps before after × (new ≡ old))
+AnswersShow stated failures old new remaining k before after (Err Read) = (Keeps before after × ((new ≡ old) ⊎ StopsCheck stated failures old new remaining Read))
     ⊎ ((v : ImageValue) × ReadsRevision remaining (stated old) k v (AppendsPrefix before after) × IsUnread stated failures old new (revision_cells v k))
-AnswersShow stated failures old new remaining k before after (Err Memory) = (Keeps before after × (new ≡ old))
+AnswersShow stated failures old new remaining k before after (Err Memory) = (Keeps before after × ((new ≡ old) ⊎ StopsCheck stated failures old new remaining Memory))
     ⊎ ((v : ImageValue) × ReadsRevision remaining (stated old) k v (AppendsPrefix before after) × ¬ All (IsReadable (stated old)) (revision_cells v k))
-AnswersShow stated failures old new remaining k before after (Err (Refused f)) = Keeps before after × ((bytes : List ℕ) × AreRead remaining bytes × IsFirstFault bytes (stated old).sizes f)
+AnswersShow stated failures old new remaining k before after (Err (Refused f)) = Keeps before after × ((bytes : List ℕ) × AreRead remaining bytes × IsRefusal stated failures old new bytes f)
 AnswersShow stated failures old new remaining k before after (Err NoRevision) = Keeps before after
-    × ((v : ImageValue) × (bytes : List ℕ) × AreRead remaining bytes × SpellsFaithful bytes (stated old).sizes v × (length v.revisions ≤ k))
+    × ((v : ImageValue) × (bytes : List ℕ) × AreRead remaining bytes × SpellsFaithful bytes (stated old) v × (length v.revisions ≤ k))
 AnswersShow stated failures old new remaining k before after (Err (Source f)) = ⊥
 AnswersShow stated failures old new remaining k before after (Err PatternTooLong) = ⊥
 AnswersShow stated failures old new remaining k before after (Err (Rope f)) = ⊥

@@ -11,6 +11,8 @@ use Rattle.cord_search.specs.declared.fault.FindFault.{FindFault}
 use Rattle.cord_search.specs.declared.fault.FindFault.TheVariants as Find
 use Rattle.cord_search.specs.declared.fault.PutFault.{PutFault}
 use Rattle.cord_search.specs.declared.fault.PutFault.TheVariants as Put
+use Rattle.session_checker.specs.declared.fault.CheckFault.{CheckFault}
+use Rattle.session_checker.specs.declared.fault.CheckFault.TheVariants as Check
 use Rattle.cord_tools.specs.declared.fault.ToolFault.{ToolFault}
 use Rattle.cord_tools.specs.declared.fault.ToolFault.TheVariants as Tool
 use Rattle.cord_tools.specs.declared.fault.ToolFault.TheVariants.{Memory, Read, Write, PatternTooLong, Rope}
@@ -27,6 +29,21 @@ read_fault Source.Device = Read
 read_fault Source.Short = Read
 read_fault Source.BadSource = Read
 read_fault Source.Memory = Memory
+
+-- what a refusal of an image comes to
+abbrev pub check_fault : CheckFault → ToolFault
+check_fault (Check.Source fault) = read_fault fault
+check_fault (Check.Read f) = Tool.Refused (Check.Read f)
+check_fault Check.SourceCount = Tool.Refused Check.SourceCount
+check_fault (Check.SourceLength s) = Tool.Refused (Check.SourceLength s)
+check_fault (Check.Reference id) = Tool.Refused (Check.Reference id)
+check_fault (Check.Length id) = Tool.Refused (Check.Length id)
+check_fault (Check.Depth id) = Tool.Refused (Check.Depth id)
+check_fault (Check.Span id) = Tool.Refused (Check.Span id)
+check_fault (Check.Command k) = Tool.Refused (Check.Command k)
+check_fault (Check.Root k) = Tool.Refused (Check.Root k)
+check_fault (Check.Mark k) = Tool.Refused (Check.Mark k)
+check_fault (Check.Rows k j) = Tool.Refused (Check.Rows k j)
 
 abbrev pub put_fault : PutFault → ToolFault
 put_fault (Put.Source fault) = read_fault fault

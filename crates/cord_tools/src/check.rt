@@ -1,8 +1,9 @@
 //! The check of an image with its sources.
 
-ghost use Rattle.std.specs.Prelude.{◌≡◌, [], IfOk, string_bytes};
+ghost use Rattle.std.specs.Prelude.{◌≡◌, ◌⊎◌, IfErr, IfOk, string_bytes};
+ghost use Rattle.lazy_file.specs.SourceTexts.{Reads};
 ghost use Rattle.cord_tools.specs.Answers.{accepted_line, refused_line, refused_source_line};
-ghost use Rattle.cord_tools.specs.Answers.{AnswersCheck, AnswersWith, ChecksImage, RefusesCheck};
+ghost use Rattle.cord_tools.specs.Answers.{AnswersWith, ChecksImage, ChecksInput, RefusesCheck, StopsAtSource};
 
 use crate::fault::ToolFault;
 use crate::input::read_image;
@@ -41,31 +42,35 @@ fn refused_source_line(alloc: Global, refusal: AddFault) -> Result<String, Alloc
 fn answer_with<S: Sources>(
     alloc: Global,
     bytes: &[u8],
-    sources: &S,
-) -> Result<(String, Status), AllocError>
-    ensures { IfOk result
-        (λ x. AnswersWith bytes.now (S.stated sources.now).sizes (string_bytes x.0) x.1) }
+    sources: &mut S,
+) -> Result<(String, Status), ToolFault>
+    ensures ok { IfOk result (λ x. AnswersWith S.stated S.failures
+        sources.old sources.new bytes.now (string_bytes x.0) x.1) }
+    ensures fault { IfErr result (λ e. (e ≡ ToolFault.Memory)
+        ⊎ StopsAtSource S.stated S.failures sources.old sources.new bytes.now e) }
+    ensures reads { Reads S.stated S.failures sources.old sources.new }
 {
     match check(bytes, sources) {
         Ok(image) => Ok((accepted_line(alloc, &image)?, Status::Success)),
+        Err(CheckFault::Source(fault)) => Err(ToolFault::from(fault)),
         Err(fault) => Ok((refused_line(alloc, fault)?, Status::Failure)),
     }
 }
 
 /// Checks the image that the reader gives, with these sources, and writes one line: `accepted R revisions N nodes K rows`
-/// or `refused CODE`. It reads no source.
+/// or `refused CODE`. It reads sources only where rows compare their bytes.
 ///
 /// # Errors
 ///
-/// `Read`, where the reader failed, and `Memory`: nothing was written then. `Write`, where the writer failed or took no byte: a
-/// prefix of the line was.
+/// `Read`, where the reader failed, or a source that a row compares, and `Memory`: nothing was written then. `Write`, where the writer
+/// failed or took no byte: a prefix of the line was.
 pub fn run_check<R: io::Read + Drop, S: Sources, W: io::Write>(
     alloc: Global,
     reader: R,
     sources: &mut S,
     writer: &mut W,
 ) -> Result<Status, ToolFault>
-    ensures { ChecksImage S.stated sources.old sources.new (R.remaining reader)
+    ensures { ChecksImage S.stated S.failures sources.old sources.new (R.remaining reader)
         (W.contents writer.old) (W.contents writer.new) result }
 {
     let bytes = read_image(alloc, reader)?;
@@ -84,8 +89,7 @@ pub fn run_stdin<R: io::Read + Drop, W: io::Write>(
     reader: R,
     writer: &mut W,
 ) -> Result<Status, ToolFault>
-    ensures { AnswersCheck (R.remaining reader) []
-        (W.contents writer.old) (W.contents writer.new) result }
+    ensures { ChecksInput (R.remaining reader) (W.contents writer.old) (W.contents writer.new) result }
 {
     run_check(alloc, reader, &mut MemSources::new(alloc), writer)
 }

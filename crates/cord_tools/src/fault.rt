@@ -1,7 +1,7 @@
 //! Why a tool ended without its answer.
 
 ghost use Rattle.std.specs.Prelude.{◌≡◌};
-ghost use Rattle.cord_tools.specs.Faults.{add_fault, find_fault, put_fault, read_fault, rope_fault};
+ghost use Rattle.cord_tools.specs.Faults.{add_fault, check_fault, find_fault, put_fault, read_fault, rope_fault};
 
 use byte_output::WriteFault;
 use cord_search::{FindFault, PutFault};
@@ -84,6 +84,16 @@ impl From<SourceFault> for ToolFault {
     }
 }
 
+impl From<CheckFault> for ToolFault {
+    ghost from_gives = { λ e f. f ≡ check_fault e };
+
+    fn from(fault: CheckFault) -> ToolFault {
+        match fault {
+            CheckFault::Source(fault) => ToolFault::from(fault),
+            _ => ToolFault::Refused(fault),
+        }
+    }
+}
 impl From<PutFault> for ToolFault {
     ghost from_gives = { λ e f. f ≡ put_fault e };
 

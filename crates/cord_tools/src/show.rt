@@ -15,9 +15,9 @@ use std::io;
 ///
 /// # Errors
 ///
-/// `Refused`, with the fault of a refused image. `NoRevision`, where there is no such revision. `Read`, where the reader failed, and
-/// `Memory`. Nothing was written then. `Write`, where the writer failed or took no byte. `Read` and `Memory` also where a source's
-/// read failed so. Then a prefix of the text was written.
+/// `Refused`, with the fault of a refused image. `NoRevision`, where there is no such revision. `Read`, where the reader failed, or a
+/// source that a row compares, and `Memory`. Nothing was written then. `Write`, where the writer failed or took no byte. `Read` and
+/// `Memory` also where a source's read failed so. Then a prefix of the text was written.
 pub fn run_show<R: io::Read + Drop, S: Sources, W: io::Write>(
     alloc: Global,
     reader: R,
@@ -29,10 +29,7 @@ pub fn run_show<R: io::Read + Drop, S: Sources, W: io::Write>(
         revision (W.contents writer.old) (W.contents writer.new) result }
 {
     let bytes = read_image(alloc, reader)?;
-    let image = match check(&bytes, sources) {
-        Ok(image) => image,
-        Err(fault) => return Err(ToolFault::Refused(fault)),
-    };
+    let image = check(&bytes, sources)?;
     if revision >= u64::from(image.revisions()) {
         return Err(ToolFault::NoRevision);
     }

@@ -1,4 +1,4 @@
-use leaf_buffer::{LeafError, Piece, Pool, Run};
+use leaf_buffer::{LeafFault, Piece, Pool, Run};
 use std::test::Fail;
 
 fn piece(start: u32, len: u32) -> Piece {
@@ -39,8 +39,8 @@ fn pool_refuses_no_bytes_and_too_many(rt: HostRuntime) {
     let long = [b'x'; 65_537];
     let mut pool = Pool::new(rt.alloc());
     assert_eq!(&rt; pool.append(b"abcde"), Ok(piece(0, 5)));
-    assert_eq!(&rt; pool.append(b""), Err(LeafError::Empty));
-    assert_eq!(&rt; pool.append(&long), Err(LeafError::TooLong));
+    assert_eq!(&rt; pool.append(b""), Err(LeafFault::Empty));
+    assert_eq!(&rt; pool.append(&long), Err(LeafFault::TooLong));
     assert_eq!(&rt; pool.len(), 5);
 }
 
@@ -85,10 +85,10 @@ fn run_over_no_bytes_stays(rt: HostRuntime) {
 #[test]
 fn refusals_print_their_codes(rt: HostRuntime) -> Result<(), Fail> {
     for (error, code) in [
-        (LeafError::Empty, "L1"),
-        (LeafError::TooLong, "L2"),
-        (LeafError::PoolFull, "L3"),
-        (LeafError::Memory, "Memory"),
+        (LeafFault::Empty, "L1"),
+        (LeafFault::TooLong, "L2"),
+        (LeafFault::PoolFull, "L3"),
+        (LeafFault::Memory, "Memory"),
     ] {
         let text = format!(in rt.alloc(); "{error}")?;
         assert_eq!(&rt; text.as_str(), code);

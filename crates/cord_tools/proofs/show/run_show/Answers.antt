@@ -9,12 +9,6 @@ use Rattle.cord_tools.proofs.ToolFaults.{show_stopped}
 use Rattle.cord_tools.proofs.UnreadCells.{put_unheld, put_unread, reads_nothing}
 use Rattle.cord_tools.proofs.show.run_show.Goals as goal
 
-pub returns-in-Err : goal.returns-in-Err
-returns-in-Err g c = record {
-  reads = reads_nothing g.S.Sources.stated g.S.Sources.failures c.args.sources.now;
-  answer = (Keeps-same (g.W.Write.contents c.args.writer.now), (c.in_ok-bytes.bytes.items, c.in_ok-bytes.ensures.ok, rw c.deref.ensures.value at c.in-Err.ensures.refused));
-}
-
 pub returns-in_err-put-in-Some : goal.returns-in_err-put-in-Some
 returns-in_err-put-in-Some g c =
     let p = err_from_is_err_and c.from_residual-in_err-put-in-Some.result c.from_residual-in_err-put-in-Some.ensures.1 in
