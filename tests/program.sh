@@ -44,6 +44,8 @@ are_same() {
     [ "$(sha256sum < "$1")" = "$(sha256sum < "$2")" ]
 }
 
+# A case: its name; the words, as a shell reads them; the file that is standard input, if any; the status; what goes to standard
+# output, or /dev/full where that is what it goes to; what goes to standard error.
 passed=0
 failed=0
 while IFS=';' read -r name words input status out err; do
@@ -53,9 +55,9 @@ while IFS=';' read -r name words input status out err; do
     if [ "$out" = /dev/full ]; then
         : > ../out
         out=
-        "$program" "$@" < "${input:-/dev/null}" > /dev/full 2> ../err || got=$?
+        timeout 60 "$program" "$@" < "${input:-/dev/null}" > /dev/full 2> ../err || got=$?
     else
-        "$program" "$@" < "${input:-/dev/null}" > ../out 2> ../err || got=$?
+        timeout 60 "$program" "$@" < "${input:-/dev/null}" > ../out 2> ../err || got=$?
     fi
     expected "$out" > ../expected_out
     expected "$err" > ../expected_err
@@ -65,6 +67,7 @@ while IFS=';' read -r name words input status out err; do
         failed=$((failed + 1))
         echo "FAILED: $name: status $got for $status, and it wrote:"
         cat ../out ../err
+        echo
     fi
 done << 'TABLE'
 an empty text is accepted;check new_alone;;0;accepted 1 revisions 0 nodes 0 rows\n;

@@ -6,6 +6,8 @@ use rope_store::Store;
 use std::process::Abort;
 use std::test::Fail;
 
+// What a call ensures is not needed to prove a test, so each stands in a function of its own that ensures nothing.
+
 fn cat(rt: &impl Abort, store: &mut Store<Coded>, l: Rope, r: Rope) -> Result<Rope, NodeFault> {
     assert!(rt; store.has(l) && store.has(r));
     store.cat(l, r)
@@ -14,6 +16,38 @@ fn cat(rt: &impl Abort, store: &mut Store<Coded>, l: Rope, r: Rope) -> Result<Ro
 fn shallow(rt: &impl Abort, store: &mut Store<Coded>, rope: Rope) -> Result<Rope, BalanceFault> {
     assert!(rt; store.has(rope));
     balance(store, rope)
+}
+
+fn joined(
+    rt: &impl Abort,
+    store: &mut Store<Coded>,
+    l: Rope,
+    r: Rope,
+) -> Result<Rope, BalanceFault> {
+    assert!(rt; store.has(l) && store.has(r));
+    cat_any(store, l, r)
+}
+
+fn part(
+    rt: &impl Abort,
+    store: &mut Store<Coded>,
+    rope: Rope,
+    i: u64,
+    n: u64,
+) -> Result<Rope, BalanceFault> {
+    assert!(rt; store.has(rope));
+    substr_any(store, rope, i, n)
+}
+
+// the rope with the bytes behind it, and the pool's place of the bytes
+fn appended(
+    rt: &impl Abort,
+    store: &mut Store<Coded>,
+    rope: Rope,
+    bytes: &[u8],
+) -> Result<(Rope, u64), BalanceFault> {
+    assert!(rt; store.has(rope));
+    append_any(store, rope, bytes)
 }
 
 // so many leaves of one byte of a source, each behind the others
@@ -63,8 +97,7 @@ fn too_deep_is_balanced_first(rt: HostRuntime) -> Result<(), Fail> {
     let leaf = chain(&rt, &mut store, 1)?;
     assert_shape(&rt, &store, rope, 65, 64);
     assert_eq!(rt; cat(&rt, &mut store, rope, leaf), Err(NodeFault::TooDeep));
-    assert!(rt; store.has(rope) && store.has(leaf));
-    let both = cat_any(&mut store, rope, leaf)?;
+    let both = joined(&rt, &mut store, rope, leaf)?;
     assert_shape(&rt, &store, both, 66, 8);
     Ok(())
 }
@@ -74,10 +107,9 @@ fn part_of_the_deepest_is_a_part(rt: HostRuntime) -> Result<(), Fail> {
     let mut store: Store<Coded> = Store::new(rt.alloc());
     let rope = chain(&rt, &mut store, 65)?;
     assert_shape(&rt, &store, rope, 65, 64);
+    let rope = part(&rt, &mut store, rope, 1, 64)?;
     assert!(rt; store.has(rope));
-    let part = substr_any(&mut store, rope, 1, 64)?;
-    assert!(rt; store.has(part));
-    assert_eq!(rt; store.len(part), 64);
+    assert_eq!(rt; store.len(rope), 64);
     Ok(())
 }
 
@@ -86,9 +118,8 @@ fn part_that_is_a_child_is_that_child(rt: HostRuntime) -> Result<(), Fail> {
     let mut store: Store<Coded> = Store::new(rt.alloc());
     let rope = chain(&rt, &mut store, 3)?;
     let count = store.count();
-    assert!(rt; store.has(rope));
-    let part = substr_any(&mut store, rope, 0, 2)?;
-    assert_shape(&rt, &store, part, 2, 1);
+    let child = part(&rt, &mut store, rope, 0, 2)?;
+    assert_shape(&rt, &store, child, 2, 1);
     assert_eq!(rt; store.count(), count);
     Ok(())
 }
@@ -98,8 +129,7 @@ fn append_to_the_deepest(rt: HostRuntime) -> Result<(), Fail> {
     let mut store: Store<Coded> = Store::new(rt.alloc());
     let rope = chain(&rt, &mut store, 65)?;
     assert_shape(&rt, &store, rope, 65, 64);
-    assert!(rt; store.has(rope));
-    let (longer, place) = append_any(&mut store, rope, b"x")?;
+    let (longer, place) = appended(&rt, &mut store, rope, b"x")?;
     assert!(rt; store.has(longer));
     assert_eq!(rt; (store.len(longer), place), (66, 0));
     Ok(())
@@ -112,14 +142,10 @@ fn typed(
     rope: Rope,
     place: u64,
 ) -> Result<Rope, BalanceFault> {
-    assert!(rt; store.has(rope));
-    let front = substr_any(store, rope, 0, place)?;
-    assert!(rt; store.has(front));
-    let (longer, _) = append_any(store, front, b"x")?;
-    assert!(rt; store.has(rope));
-    let rest = substr_any(store, rope, place, u64::MAX)?;
-    assert!(rt; store.has(longer) && store.has(rest));
-    cat_any(store, longer, rest)
+    let front = part(rt, store, rope, 0, place)?;
+    let (longer, _) = appended(rt, store, front, b"x")?;
+    let rest = part(rt, store, rope, place, u64::MAX)?;
+    joined(rt, store, longer, rest)
 }
 
 #[test]
@@ -173,7 +199,7 @@ fn balanced_lengths_end_at_fibonacci_numbers(rt: HostRuntime) {
 #[test]
 fn nil_and_one_literal_stay(rt: HostRuntime) -> Result<(), Fail> {
     let mut store: Store<Coded> = Store::new(rt.alloc());
-    assert_eq!(rt; balance(&mut store, None), Ok(None));
+    assert_eq!(rt; shallow(&rt, &mut store, None), Ok(None));
     let rope = store.from_bytes(b"rope")?;
     assert!(rt; rope.is_some());
     assert_eq!(rt; shallow(&rt, &mut store, rope), Ok(rope));

@@ -1,6 +1,11 @@
 use leaf_buffer::{LeafFault, Piece, Pool, Run};
 use std::test::Fail;
 
+// What it ensures is not needed to prove a test.
+fn append(pool: &mut Pool, bytes: &[u8]) -> Result<Piece, LeafFault> {
+    pool.append(bytes)
+}
+
 fn piece(start: u32, len: u32) -> Piece {
     Piece { start, len }
 }
@@ -14,7 +19,7 @@ fn new_pool_is_empty(rt: HostRuntime) {
 #[test]
 fn last_piece_is_extended_within_its_room(rt: HostRuntime) {
     let mut pool = Pool::new(rt.alloc());
-    assert_eq!(&rt; pool.append(b"abc"), Ok(piece(0, 3)));
+    assert_eq!(&rt; append(&mut pool, b"abc"), Ok(piece(0, 3)));
     assert_eq!(&rt; pool.room(), 65_533);
     assert!(&rt; pool.can_extend(piece(0, 3), 65_533));
     assert!(&rt; !pool.can_extend(piece(0, 3), 65_534));
@@ -28,8 +33,8 @@ fn last_piece_is_extended_within_its_room(rt: HostRuntime) {
 fn piece_past_the_room_opens_a_block(rt: HostRuntime) {
     let full = [b'x'; 65_536];
     let mut pool = Pool::new(rt.alloc());
-    assert_eq!(&rt; pool.append(b"abcde"), Ok(piece(0, 5)));
-    assert_eq!(&rt; pool.append(&full), Ok(piece(5, 65_536)));
+    assert_eq!(&rt; append(&mut pool, b"abcde"), Ok(piece(0, 5)));
+    assert_eq!(&rt; append(&mut pool, &full), Ok(piece(5, 65_536)));
     assert_eq!(&rt; pool.room(), 0);
     assert!(&rt; pool.get(piece(4, 2)).is_none());
 }
@@ -38,9 +43,9 @@ fn piece_past_the_room_opens_a_block(rt: HostRuntime) {
 fn pool_refuses_no_bytes_and_too_many(rt: HostRuntime) {
     let long = [b'x'; 65_537];
     let mut pool = Pool::new(rt.alloc());
-    assert_eq!(&rt; pool.append(b"abcde"), Ok(piece(0, 5)));
-    assert_eq!(&rt; pool.append(b""), Err(LeafFault::Empty));
-    assert_eq!(&rt; pool.append(&long), Err(LeafFault::TooLong));
+    assert_eq!(&rt; append(&mut pool, b"abcde"), Ok(piece(0, 5)));
+    assert_eq!(&rt; append(&mut pool, b""), Err(LeafFault::Empty));
+    assert_eq!(&rt; append(&mut pool, &long), Err(LeafFault::TooLong));
     assert_eq!(&rt; pool.len(), 5);
 }
 
@@ -48,9 +53,9 @@ fn pool_refuses_no_bytes_and_too_many(rt: HostRuntime) {
 fn full_block_is_followed_by_another(rt: HostRuntime) {
     let full = [b'a'; 65_536];
     let mut pool = Pool::new(rt.alloc());
-    assert_eq!(&rt; pool.append(&full), Ok(piece(0, 65_536)));
+    assert_eq!(&rt; append(&mut pool, &full), Ok(piece(0, 65_536)));
     assert_eq!(&rt; pool.room(), 0);
-    assert_eq!(&rt; pool.append(b"b"), Ok(piece(65_536, 1)));
+    assert_eq!(&rt; append(&mut pool, b"b"), Ok(piece(65_536, 1)));
     assert_eq!(&rt; pool.room(), 65_535);
     assert_eq!(&rt;
         pool.extend_last(piece(65_536, 1), b"c"),
