@@ -28,7 +28,9 @@ abbrev pub image_limit : ℕ
 image_limit = 5293213728
 
 abbrev pub accepted_line : ImageValue → List ℕ
-accepted_line v = codes "accepted " ++ (decimal (length v.revisions) ++ (codes " revisions " ++ (decimal (length (table_of v).nodes) ++ (codes " nodes " ++ (decimal (length v.rows) ++ codes " rows\n")))))
+accepted_line v =
+    codes "accepted " ++ (decimal (length v.revisions) ++ (codes " revisions "
+    ++ (decimal (length (table_of v).nodes) ++ (codes " nodes " ++ (decimal (length v.rows) ++ codes " rows\n")))))
 
 abbrev pub refused_line : CheckFault → List ℕ
 refused_line fault = codes "refused " ++ fault_code fault ++ codes "\n"
@@ -60,16 +62,17 @@ AnswersWith bytes sizes line Failure = (f : CheckFault) × IsFirstFault bytes si
 
 -- The line that answers for the bytes read was written; where the writer failed, a prefix of it; where the tool was stopped before,
 -- nothing.
-abbrev pub AnswersCheck : Option (List ℕ) → List ℕ → Option (List ℕ) → Option (List ℕ) → Result Status ToolFault → Type 0
-AnswersCheck remaining sizes before after (Ok status) = (bytes : List ℕ) × (line : List ℕ) × AreRead remaining bytes × AnswersWith bytes sizes line status × Appends before after line
-AnswersCheck remaining sizes before after (Err Write) = (bytes : List ℕ) × (line : List ℕ) × (status : Status) × AreRead remaining bytes × AnswersWith bytes sizes line status × AppendsPrefix before after line
+abbrev pub AnswersCheck : Option (List ℕ) → List ℕ → Option (List ℕ) → Option (List ℕ) → Result Status ToolFault
+    → Type 0
+AnswersCheck remaining sizes before after (Ok status) =
+    (bytes : List ℕ) × (line : List ℕ) × AreRead remaining bytes × AnswersWith bytes sizes line status
+    × Appends before after line
+AnswersCheck remaining sizes before after (Err Write) =
+    (bytes : List ℕ) × (line : List ℕ) × (status : Status) × AreRead remaining bytes
+    × AnswersWith bytes sizes line status × AppendsPrefix before after line
 AnswersCheck remaining sizes before after (Err Read) = Keeps before after
 AnswersCheck remaining sizes before after (Err Memory) = Keeps before after
-AnswersCheck remaining sizes before after (Err (Refused f)) = ⊥
-AnswersCheck remaining sizes before after (Err (Source f)) = ⊥
-AnswersCheck remaining sizes before after (Err NoRevision) = ⊥
-AnswersCheck remaining sizes before after (Err PatternTooLong) = ⊥
-AnswersCheck remaining sizes before after (Err (Rope f)) = ⊥
+AnswersCheck remaining sizes before after (Err other) = ⊥
 
 -- The check reads no source.
 pub record ChecksImage {T : Type 0} (stated : T → Stated) (old new : T) (remaining before after : Option (List ℕ))
@@ -80,15 +83,12 @@ pub record ChecksImage {T : Type 0} (stated : T → Stated) (old new : T) (remai
 -- The line that refuses a source was written, and the status tells a refusal; where the writer failed, a prefix of that line. Want of
 -- memory is no refusal, and then nothing was written.
 abbrev pub RefusesCheck : AddFault → Option (List ℕ) → Option (List ℕ) → Result Status ToolFault → Type 0
-RefusesCheck refusal before after (Ok status) = (status ≡ Failure) × (refusal ≢ Add.Memory) × Appends before after (refused_source_line refusal)
-RefusesCheck refusal before after (Err Write) = (refusal ≢ Add.Memory) × AppendsPrefix before after (refused_source_line refusal)
+RefusesCheck refusal before after (Ok status) =
+    (status ≡ Failure) × (refusal ≢ Add.Memory) × Appends before after (refused_source_line refusal)
+RefusesCheck refusal before after (Err Write) =
+    (refusal ≢ Add.Memory) × AppendsPrefix before after (refused_source_line refusal)
 RefusesCheck refusal before after (Err Memory) = Keeps before after
-RefusesCheck refusal before after (Err Read) = ⊥
-RefusesCheck refusal before after (Err (Refused f)) = ⊥
-RefusesCheck refusal before after (Err (Source f)) = ⊥
-RefusesCheck refusal before after (Err NoRevision) = ⊥
-RefusesCheck refusal before after (Err PatternTooLong) = ⊥
-RefusesCheck refusal before after (Err (Rope f)) = ⊥
+RefusesCheck refusal before after (Err other) = ⊥
 
 -- the cells of revision k
 abbrev pub revision_cells : ImageValue → ℕ → List Cell
@@ -96,10 +96,12 @@ revision_cells v k = rope_cells (table_of v) (revision_at v k).root
 
 -- P holds of the text of revision k, whatever bytes the sources have that agree with what they state, where its cells are stated
 abbrev pub OfRevision : ImageValue → Stated → ℕ → (List ℕ → Type 0) → Type 0
-OfRevision v st k P = (source : ℕ → ℕ → ℕ) → Agrees st source → AreStated st (revision_cells v k) → P (revision_text v source k)
+OfRevision v st k P =
+    (source : ℕ → ℕ → ℕ) → Agrees st source → AreStated st (revision_cells v k) → P (revision_text v source k)
 
 -- the bytes read spell a faithful image with these sources, and P holds of the text of its revision k
-pub record ReadsRevision (remaining : Option (List ℕ)) (st : Stated) (k : ℕ) (v : ImageValue) (P : List ℕ → Type 0) : Type 0 where
+pub record ReadsRevision (remaining : Option (List ℕ)) (st : Stated) (k : ℕ) (v : ImageValue) (P : List ℕ → Type 0)
+    : Type 0 where
   pub bytes : List ℕ
   pub read : AreRead remaining bytes
   pub spelled : SpellsFaithful bytes st.sizes v
@@ -108,19 +110,26 @@ pub record ReadsRevision (remaining : Option (List ℕ)) (st : Stated) (k : ℕ)
 
 -- The text of the revision was written; where it ended before, a prefix of it, or nothing. Before the text begins no source is read,
 -- and where each of its cells is readable, it can end for the writer alone.
-abbrev pub AnswersShow : {T : Type 0} → (T → Stated) → (T → ℕ) → T → T → Option (List ℕ) → ℕ → Option (List ℕ) → Option (List ℕ) → Result (Unit {0}) ToolFault → Type 0
-AnswersShow stated failures old new remaining k before after (Ok u) = (v : ImageValue) × ReadsRevision remaining (stated old) k v (Appends before after)
-AnswersShow stated failures old new remaining k before after (Err Write) = (v : ImageValue) × ReadsRevision remaining (stated old) k v (AppendsPrefix before after)
-AnswersShow stated failures old new remaining k before after (Err Read) = (Keeps before after × (new ≡ old))
-    ⊎ ((v : ImageValue) × ReadsRevision remaining (stated old) k v (AppendsPrefix before after) × IsUnread stated failures old new (revision_cells v k))
-AnswersShow stated failures old new remaining k before after (Err Memory) = (Keeps before after × (new ≡ old))
-    ⊎ ((v : ImageValue) × ReadsRevision remaining (stated old) k v (AppendsPrefix before after) × ¬ All (IsReadable (stated old)) (revision_cells v k))
-AnswersShow stated failures old new remaining k before after (Err (Refused f)) = Keeps before after × ((bytes : List ℕ) × AreRead remaining bytes × IsFirstFault bytes (stated old).sizes f)
-AnswersShow stated failures old new remaining k before after (Err NoRevision) = Keeps before after
-    × ((v : ImageValue) × (bytes : List ℕ) × AreRead remaining bytes × SpellsFaithful bytes (stated old).sizes v × (length v.revisions ≤ k))
-AnswersShow stated failures old new remaining k before after (Err (Source f)) = ⊥
-AnswersShow stated failures old new remaining k before after (Err PatternTooLong) = ⊥
-AnswersShow stated failures old new remaining k before after (Err (Rope f)) = ⊥
+abbrev pub AnswersShow : {T : Type 0} → (T → Stated) → (T → ℕ) → T → T → Option (List ℕ) → ℕ → Option (List ℕ)
+    → Option (List ℕ) → Result (Unit {0}) ToolFault → Type 0
+AnswersShow stated failures old new remaining k before after (Ok u) =
+    (v : ImageValue) × ReadsRevision remaining (stated old) k v (Appends before after)
+AnswersShow stated failures old new remaining k before after (Err Write) =
+    (v : ImageValue) × ReadsRevision remaining (stated old) k v (AppendsPrefix before after)
+AnswersShow stated failures old new remaining k before after (Err Read) =
+    (Keeps before after × (new ≡ old))
+    ⊎ ((v : ImageValue) × ReadsRevision remaining (stated old) k v (AppendsPrefix before after)
+    × IsUnread stated failures old new (revision_cells v k))
+AnswersShow stated failures old new remaining k before after (Err Memory) =
+    (Keeps before after × (new ≡ old))
+    ⊎ ((v : ImageValue) × ReadsRevision remaining (stated old) k v (AppendsPrefix before after)
+    × ¬ All (IsReadable (stated old)) (revision_cells v k))
+AnswersShow stated failures old new remaining k before after (Err (Refused f)) =
+    Keeps before after × ((bytes : List ℕ) × AreRead remaining bytes × IsFirstFault bytes (stated old).sizes f)
+AnswersShow stated failures old new remaining k before after (Err NoRevision) =
+    Keeps before after × ((v : ImageValue) × (bytes : List ℕ) × AreRead remaining bytes
+    × SpellsFaithful bytes (stated old).sizes v × (length v.revisions ≤ k))
+AnswersShow stated failures old new remaining k before after (Err other) = ⊥
 
 pub record ShowsRevision {T : Type 0} (stated : T → Stated) (failures : T → ℕ) (old new : T) (remaining : Option (List ℕ)) (k : ℕ)
     (before after : Option (List ℕ)) (outcome : Result (Unit {0}) ToolFault) : Type 0 where
