@@ -8,8 +8,8 @@ ghost use Rattle.cord_search.specs.Places.{IsFromOn, search_limit};
 ghost use Rattle.cord_search.specs.Stated.{FindsFirst, OfSpan};
 ghost use Rattle.cord_search.specs.Faults.{IsFindFault};
 
-use crate::text_bytes::byte_at;
 use crate::fault::FindFault;
+use crate::text_bytes::byte_at;
 use lazy_file::{SourceFault, Sources};
 use rope_node::{NodeSpace, Rope, rope_len};
 

@@ -110,13 +110,13 @@ module _ {T : Type 0} (stated : T → Stated) (failures : T → ℕ) (old new : 
       → IsUnread stated failures old new (cs ++ ds)
   two_unread x y n e cs ds left right h told = record {
     some = elim h.fault [
-        | inl first ↦ any_left (CouldNotRead stated failures old new) cs ds (subst (Any (CouldNotRead stated failures old new)) left (among x 0 (0 + n) e first told))
-        | inr second ↦ any_right (CouldNotRead stated failures old new) cs ds (subst (Any (CouldNotRead stated failures old new)) right (among y 0 (0 + n) e second told))
-      ];
+      | inl first ↦ any_left (CouldNotRead stated failures old new) cs ds (subst (Any (CouldNotRead stated failures old new)) left (among x 0 (0 + n) e first told))
+      | inr second ↦ any_right (CouldNotRead stated failures old new) cs ds (subst (Any (CouldNotRead stated failures old new)) right (among y 0 (0 + n) e second told))
+    ];
     not_all = λ all.
         let P = IsReadable (stated old) in
         let none = h.succeeds (each_from x P tt 0 (0 + n) (subst (All P) (sym left) (all_left P cs ds all)))
-            (each_from y P tt 0 (0 + n) (subst (All P) (sym right) (all_right P cs ds all))) in
+        (each_from y P tt 0 (0 + n) (subst (All P) (sym right) (all_right P cs ds all))) in
         absurd cc;
   }
 

@@ -88,16 +88,16 @@ place_line k = decimal k ++ codes "\n"
 -- The line of the pattern's first place was written, or nothing where it has none; where the writer failed, a prefix of that line;
 -- where the tool was stopped before, nothing.
 abbrev pub AnswersFind : Stated → ℕ → List ℕ → Option (List ℕ) → Option (List ℕ) → Result Status ToolFault → Type 0
-AnswersFind st start pattern before after (Ok Success) = (k : ℕ) × OfFile st 0 (λ t. IsFirstPlace pattern t start k) × Appends before after (place_line k)
-AnswersFind st start pattern before after (Ok Failure) = OfFile st 0 (λ t. IsFirst pattern t start None) × Keeps before after
-AnswersFind st start pattern before after (Err Write) = (k : ℕ) × OfFile st 0 (λ t. IsFirstPlace pattern t start k) × AppendsPrefix before after (place_line k)
+AnswersFind st start pattern before after (Ok Success) =
+    (k : ℕ) × OfFile st 0 (λ t. IsFirstPlace pattern t start k) × Appends before after (place_line k)
+AnswersFind st start pattern before after (Ok Failure) =
+    OfFile st 0 (λ t. IsFirst pattern t start None) × Keeps before after
+AnswersFind st start pattern before after (Err Write) =
+    (k : ℕ) × OfFile st 0 (λ t. IsFirstPlace pattern t start k) × AppendsPrefix before after (place_line k)
 AnswersFind st start pattern before after (Err Read) = Keeps before after
 AnswersFind st start pattern before after (Err Memory) = Keeps before after
 AnswersFind st start pattern before after (Err PatternTooLong) = Keeps before after
-AnswersFind st start pattern before after (Err (Refused f)) = ⊥
-AnswersFind st start pattern before after (Err (Source f)) = ⊥
-AnswersFind st start pattern before after (Err NoRevision) = ⊥
-AnswersFind st start pattern before after (Err (Rope f)) = ⊥
+AnswersFind st start pattern before after (Err other) = ⊥
 
 -- The search reads source 0 from start on, and refuses long patterns alone.
 pub record FindsPattern {T : Type 0} (stated : T → Stated) (failures : T → ℕ) (old new : T) (start : ℕ) (pattern : List ℕ)
@@ -126,15 +126,14 @@ IsOrderOfFiles st found = OfFiles st 0 1 (λ t u. found ≡ order t u)
 -- The line of the order of sources 0 and 1 was written, and the status says whether they are equal; where the writer failed, a
 -- prefix of that line; where the tool was stopped before, nothing.
 abbrev pub AnswersCompare : Stated → Option (List ℕ) → Option (List ℕ) → Result Status ToolFault → Type 0
-AnswersCompare st before after (Ok status) = (found : Ordering) × IsOrderOfFiles st found × (status ≡ order_status found) × Appends before after (order_line found)
-AnswersCompare st before after (Err Write) = (found : Ordering) × IsOrderOfFiles st found × AppendsPrefix before after (order_line found)
+AnswersCompare st before after (Ok status) =
+    (found : Ordering) × IsOrderOfFiles st found × (status ≡ order_status found)
+    × Appends before after (order_line found)
+AnswersCompare st before after (Err Write) =
+    (found : Ordering) × IsOrderOfFiles st found × AppendsPrefix before after (order_line found)
 AnswersCompare st before after (Err Read) = Keeps before after
 AnswersCompare st before after (Err Memory) = Keeps before after
-AnswersCompare st before after (Err PatternTooLong) = ⊥
-AnswersCompare st before after (Err (Refused f)) = ⊥
-AnswersCompare st before after (Err (Source f)) = ⊥
-AnswersCompare st before after (Err NoRevision) = ⊥
-AnswersCompare st before after (Err (Rope f)) = ⊥
+AnswersCompare st before after (Err other) = ⊥
 
 -- The comparison reads sources 0 and 1.
 pub record ComparesFiles {T : Type 0} (stated : T → Stated) (failures : T → ℕ) (old new : T)

@@ -4,8 +4,8 @@
 ghost use Rattle.std.specs.Prelude.{◌≡◌, IfOk, length};
 
 use cord_tools::{
-    Outcome, Status, ToolFault, exit_status, read_source, refuse_check, run_check, run_cmp, run_cut,
-    run_find, run_join, run_show, run_stdin, sources_of,
+    Outcome, Status, ToolFault, exit_status, read_source, refuse_check, run_check, run_cmp,
+    run_cut, run_find, run_join, run_show, run_stdin, sources_of,
 };
 use cord_words::{Action, WordsFault, words};
 use std::fs::File;
@@ -51,12 +51,7 @@ fn check(rt: &HostRuntime, image: &str, paths: &[&str]) -> Result<Status, ToolFa
 }
 
 /// Writes the text of a revision of an image.
-fn show(
-    rt: &HostRuntime,
-    image: &str,
-    revision: u64,
-    paths: &[&str],
-) -> Result<Status, ToolFault> {
+fn show(rt: &HostRuntime, image: &str, revision: u64, paths: &[&str]) -> Result<Status, ToolFault> {
     let image = open(rt, image)?;
     let texts = source_texts(rt, paths)?;
     let mut sources = sources_of(rt.alloc(), texts.as_slice())?;

@@ -30,9 +30,9 @@ returns-in_err-rope g c =
       refused = λ fault is. Keeps-same old;
       too_long = λ is. omega (arith, c.in_err-rope.ensures.too_long (ap Err (refused_as e (Balance.Node Node.TooLong) cc)), own);
       short = λ is. elim is [
-          | inl ok ↦ absurd cc
-          | inr stop ↦ elim stop [ inl write ↦ absurd (rope_writes_none e cc) | inr read ↦ absurd (rope_reads_none e cc) ]
-        ];
+        | inl ok ↦ absurd cc
+        | inr stop ↦ elim stop [ inl write ↦ absurd (rope_writes_none e cc) | inr read ↦ absurd (rope_reads_none e cc) ]
+      ];
       long = λ long. Keeps-same old;
     })
 

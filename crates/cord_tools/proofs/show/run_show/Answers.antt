@@ -35,9 +35,9 @@ returns-in_err-put-in-Some g c =
                 c.in-Some.ensures.there (omega (arith, there, c.revisions.ensures.count, c.revisions.type_inv)) c.in_err-put-in-Some.ensures.err;
           })
           (λ told. put_unread g.S.Sources.stated g.S.Sources.failures c.args.sources.now c.put.new.sources (table_of v) c.in-Some.root _ _ _ cells
-              c.in_err-put-in-Some.ensures.fault c.in_err-put-in-Some.ensures.succeeds told)
+          c.in_err-put-in-Some.ensures.fault c.in_err-put-in-Some.ensures.succeeds told)
           (λ other. put_unheld g.S.Sources.stated g.S.Sources.failures c.args.sources.now c.put.new.sources (table_of v) c.in-Some.root _ _ _ cells
-              c.in_err-put-in-Some.ensures.succeeds other);
+          c.in_err-put-in-Some.ensures.succeeds other);
     })
 
 pub returns-in-Some : goal.returns-in-Some
