@@ -1,20 +1,98 @@
--- Over texts in memory nothing that keeps the rules is refused.
-use Rattle.std.proofs.Common.{◌≡◌, ℕ, ◌+◌, ◌<◌, ◌≤◌, true, leb, ltb, length, refl, sym, subst, arith, inl, inr}
-use Rattle.std.specs.Prelude.{slice_index, ◌⊎◌}
+-- Over texts in memory an answer is exact: nothing that keeps the rules is refused, and there is one first fault.
+use Rattle.std.proofs.Common.{◌≡◌, ℕ, ◌+◌, ◌<◌, leb, ltb, List, length, get_or, Some, None, refl, sym, ap, subst, ◌∙◌, arith, inl, inr}
+use Rattle.std.specs.Prelude.{slice_index, ◌⊎◌, Result, Ok, Err, IsOk, IfErr}
 use Rattle.std.proofs.lemmas.Bool.{and_parts, ltb-true, cases_order}
+use Rattle.rope_node.specs.Table.{Table, Node}
 use Rattle.rope_node.specs.Denotes.{Cell, Byte, Place}
-use Rattle.lazy_file.specs.SourceTexts.{Stated}
+use Rattle.lazy_file.specs.SourceTexts.{Stated, stated_in_memory}
+use Rattle.lazy_file.proofs.MemoryTexts.{stated_text}
+use Rattle.std.proofs.lemmas.List.{length-map}
 use Rattle.cord_position.specs.Fetched.{IsReadable, IsStated}
-use Rattle.span_certificate.specs.Covers.{Covers, IsFirstBad}
+use Rattle.span_certificate.specs.Covers.{IsFirstBad}
 use Rattle.span_certificate.proofs.MadeRows.{own_rows_readable}
+use Rattle.image_reader.specs.declared.fault.ReadFault.{ReadFault}
 use Rattle.image_reader.specs.Value.{ImageValue, IsImage, image_table, coded_at}
-use Rattle.image_reader.specs.Accepted.{revision_at, parts_at, rows_at, HasGoodRows}
+use Rattle.image_reader.specs.Spelling.{spelling}
+use Rattle.image_reader.specs.Reading.{fault_of, image_of}
+use Rattle.image_reader.specs.Accepted.{HasSources, IsGoodNode, revision_at, parts_at, rows_at, HasGoodMark, KeepsRules, HasGoodRows}
+use Rattle.image_reader.proofs.WholeImages.{whole_again}
 use Rattle.session_checker.specs.declared.fault.CheckFault.{CheckFault}
 use Rattle.session_checker.specs.declared.fault.CheckFault.TheVariants as faults
-use Rattle.session_checker.specs.Accepted.{StatesAll, HasGoodTables}
-use Rattle.session_checker.specs.RevisionRules.{HasStatedRows, HasReadableRows, IsGoodOver, AreGoodOver, BreaksRule, BreaksRows, IsFirstRevisionFault}
+use Rattle.session_checker.specs.declared.node_rules.NodeRule.{NodeRule}
+use Rattle.session_checker.specs.declared.node_rules.NodeRule.TheVariants.{Reference, Length, Depth, Span}
+use Rattle.session_checker.specs.SourceRules.{IsFirstSourceFault, count, other_length}
+use Rattle.session_checker.specs.NodeRules.{Breaks, BreaksFirst, fault_at, IsFirstNodeFault}
+use Rattle.session_checker.specs.RevisionRules.{HasStatedRows, HasReadableRows, IsGoodOver, AreGoodOver, IsCommandInRange, HasRootOfParts, IsFirstBadRow, BreaksRule, BreaksRows, IsFirstRevisionFault}
+use Rattle.session_checker.specs.Accepted.{StatesAll, HasGoodTables, IsFirstTableFault, IsAccepted, IsFirstFault, IsExact}
 use Rattle.session_checker.proofs.SoundTables.{sound_table}
-use Rattle.session_checker.proofs.FaithfulImages.{IsReady, ready_of, agreeing}
+use Rattle.session_checker.proofs.FaithfulImages.{ready, agreeing}
+
+-- two places before which all is good, and which are not
+one_place : (Good : ℕ → Type 0) (a b : ℕ) → ((c : ℕ) → c < a → Good c) → ¬ Good a → ((c : ℕ) → c < b → Good c) → ¬ Good b → a ≡ b
+one_place Good a b before_a bad_a before_b bad_b =
+    elim (cases_order a b) [
+      | inl e ↦ e
+      | inr (inl lt) ↦ absurd (bad_a (before_b a lt))
+      | inr (inr gt) ↦ absurd (bad_b (before_a b gt))
+    ]
+
+-- ---- sources
+
+no_source_fault : (v : ImageValue) (sizes : List ℕ) (f : CheckFault) → HasSources v sizes → IsFirstSourceFault v sizes f → ⊥
+no_source_fault v sizes f has (count other e) = other (ap length has)
+no_source_fault v sizes f has (other_length s same first e) = first.other (ap (λ (xs : List ℕ). get_or xs s 0) has)
+
+one_source_fault : (v : ImageValue) (sizes : List ℕ) (f g : CheckFault) → IsFirstSourceFault v sizes f → IsFirstSourceFault v sizes g → f ≡ g
+one_source_fault v sizes f g (count other e) (count another d) = e ∙ sym d
+one_source_fault v sizes f g (count other e) (other_length s same first d) = absurd (other same)
+one_source_fault v sizes f g (other_length s same first e) (count other d) = absurd (other same)
+one_source_fault v sizes f g (other_length s same first e) (other_length r also second d) =
+    let place = one_place (λ (c : ℕ). get_or v.sources c 0 ≡ get_or sizes c 0) s r first.earlier first.other second.earlier second.other in
+    e ∙ ap faults.SourceLength place ∙ sym d
+
+-- ---- nodes
+
+not_good_node : (t : Table) (id : ℕ) (rule : NodeRule) → BreaksFirst t id rule → IsGoodNode t id → ⊥
+not_good_node t id Reference h good = h good.0.references
+not_good_node t id Length h good = h.1 (record { not_empty = good.0.not_empty; not_long = good.0.not_long; sum = good.1.len })
+not_good_node t id Depth h good = h.2 (record { follows = good.1.depth; not_deep = good.0.not_deep })
+not_good_node t id Span h good = h.3 good.0.span
+
+one_rule : (t : Table) (id : ℕ) (n : Node) (a b : NodeRule) → Breaks t id n a → Breaks t id n b → a ≡ b
+one_rule t id n Reference Reference x y = refl
+one_rule t id n Reference Length x y = absurd (x y.0)
+one_rule t id n Reference Depth x y = absurd (x y.0)
+one_rule t id n Reference Span x y = absurd (x y.0)
+one_rule t id n Length Reference x y = absurd (y x.0)
+one_rule t id n Length Length x y = refl
+one_rule t id n Length Depth x y = absurd (x.1 y.1)
+one_rule t id n Length Span x y = absurd (x.1 y.1)
+one_rule t id n Depth Reference x y = absurd (y x.0)
+one_rule t id n Depth Length x y = absurd (y.1 x.1)
+one_rule t id n Depth Depth x y = refl
+one_rule t id n Depth Span x y = absurd (x.2 y.2)
+one_rule t id n Span Reference x y = absurd (y x.0)
+one_rule t id n Span Length x y = absurd (y.1 x.1)
+one_rule t id n Span Depth x y = absurd (y.2 x.2)
+one_rule t id n Span Span x y = refl
+
+one_node_fault : (t : Table) (f g : CheckFault) → IsFirstNodeFault t f → IsFirstNodeFault t g → f ≡ g
+one_node_fault t f g a b =
+    let place = one_place (IsGoodNode t) a.id b.id a.earlier (λ good. not_good_node t a.id a.rule a.breaks good) b.earlier (λ good. not_good_node t b.id b.rule b.breaks good) in
+    let other : BreaksFirst t a.id b.rule = subst (λ (c : ℕ). BreaksFirst t c b.rule) (sym place) b.breaks in
+    a.is ∙ ap (fault_at a.rule) place ∙ ap (λ (r : NodeRule). fault_at r b.id) (one_rule t a.id _ a.rule b.rule a.breaks other) ∙ sym b.is
+
+no_table_fault : (v : ImageValue) (sizes : List ℕ) (f : CheckFault) → HasGoodTables v sizes → IsFirstTableFault v sizes f → ⊥
+no_table_fault v sizes f good (inl source) = no_source_fault v sizes f good.0 source
+no_table_fault v sizes f good (inr node) = not_good_node (image_table v) node.1.id node.1.rule node.1.breaks (good.1 node.1.id node.1.there)
+
+one_table_fault : (v : ImageValue) (sizes : List ℕ) (f g : CheckFault) → IsFirstTableFault v sizes f → IsFirstTableFault v sizes g → f ≡ g
+one_table_fault v sizes f g (inl a) (inl b) = one_source_fault v sizes f g a b
+one_table_fault v sizes f g (inl a) (inr b) = absurd (no_source_fault v sizes f b.0 a)
+one_table_fault v sizes f g (inr a) (inl b) = absurd (no_source_fault v sizes g a.0 b)
+one_table_fault v sizes f g (inr a) (inr b) = one_node_fault (image_table v) f g a.1 b.1
+
+-- ---- revisions
 
 -- over sources that all state their texts, a cell that can be read is stated
 stated_cell : (st : Stated) → StatesAll st → (cell : Cell) → IsReadable st cell → IsStated st cell
@@ -23,14 +101,21 @@ stated_cell st all (Place s p) readable =
     let there = and_parts (ltb s (length st.sizes)) (leb (p + 1) (slice_index st.sizes s)) readable.1 in
     all.texts s (ltb-true _ _ there.0)
 
-readable_rows : (v : ImageValue) (st : Stated) → IsImage v → HasGoodTables v st.sizes → StatesAll st → AreGoodOver v st → (k : ℕ) → k < length v.revisions → HasReadableRows v st k
-readable_rows v st is tables all good k lt =
-    own_rows_readable (image_table v) (sound_table v is tables.1) st (record { never_fails = all.never_fails; sizes = sym tables.0 }) (parts_at v k) (revision_at v k).root (rows_at v k) (ready_of v st good k lt).parts (good k lt).rules.root.0
-
 stated_rows : (v : ImageValue) (st : Stated) → StatesAll st → (k : ℕ) → HasReadableRows v st k → HasStatedRows v st k
 stated_rows v st all k readable j lt i d inside = stated_cell st all _ (readable j lt i d inside)
 
--- rows that cover have no first bad one
+-- an image over texts in memory, whose tables are good
+pub record IsOver (v : ImageValue) (st : Stated) : Type 0 where
+  pub image : IsImage v
+  pub all : StatesAll st
+  pub tables : HasGoodTables v st.sizes
+
+readable_rows : (v : ImageValue) (st : Stated) → IsOver v st → (k : ℕ) → ((c : ℕ) → c < k → IsGoodOver v st c) → KeepsRules v k → HasReadableRows v st k
+readable_rows v st is k earlier rules =
+    own_rows_readable (image_table v) (sound_table v is.image is.tables.1) st (record { never_fails = is.all.never_fails; sizes = sym is.tables.0 }) (parts_at v k) (revision_at v k).root (rows_at v k)
+    (ready v k (λ c lt. (earlier c lt).rules) rules).parts rules.root.0
+
+-- rows that cover have no first bad one, and there is at most one
 no_bad_row : (v : ImageValue) (source : ℕ → ℕ → ℕ) (k j : ℕ) → HasGoodRows v source k → IsFirstBad (image_table v) (coded_at v) source (parts_at v k) (revision_at v k).root (rows_at v k) j → ⊥
 no_bad_row v source k j c bad =
     elim (cases_order j (length (rows_at v k))) [
@@ -39,42 +124,155 @@ no_bad_row v source k j c bad =
       | inr (inr gt) ↦ absurd (omega (arith, bad.at_most))
     ]
 
-keeps_all : (v : ImageValue) (st : Stated) (k : ℕ) (f : CheckFault) → IsGoodOver v st k → BreaksRule v k f → ⊥
-keeps_all v st k (faults.Read e) g h = h
-keeps_all v st k faults.SourceCount g h = h
-keeps_all v st k (faults.SourceLength s) g h = h
-keeps_all v st k (faults.Reference id) g h = h
-keeps_all v st k (faults.Length id) g h = h
-keeps_all v st k (faults.Depth id) g h = h
-keeps_all v st k (faults.Span id) g h = h
-keeps_all v st k (faults.Command x) g h = h.1 g.rules.command
-keeps_all v st k (faults.Root x) g h = h.2 g.rules.root
-keeps_all v st k (faults.Mark x) g h = h.3 g.rules.mark
-keeps_all v st k (faults.Rows x j) g h = h
-keeps_all v st k (faults.Source e) g h = h
+one_bad_row : (v : ImageValue) (source : ℕ → ℕ → ℕ) (k i j : ℕ) → IsFirstBad (image_table v) (coded_at v) source (parts_at v k) (revision_at v k).root (rows_at v k) i
+    → IsFirstBad (image_table v) (coded_at v) source (parts_at v k) (revision_at v k).root (rows_at v k) j → i ≡ j
+one_bad_row v source k i j a b =
+    elim (cases_order i j) [
+      | inl e ↦ e
+      | inr (inl lt) ↦ absurd (a.unfit (omega (arith, b.at_most)) (b.before i lt))
+      | inr (inr gt) ↦ absurd (b.unfit (omega (arith, a.at_most)) (a.before j gt))
+    ]
 
-covers_all : {T : Type 0} (stated : T → Stated) (failures : T → ℕ) (old new : T) (v : ImageValue) (k : ℕ) (f : CheckFault) → StatesAll (stated old) → HasReadableRows v (stated old) k → IsGoodOver v (stated old) k → BreaksRows stated failures old new v k f → ⊥
-covers_all stated failures old new v k (faults.Read e) all readable g h = h
-covers_all stated failures old new v k faults.SourceCount all readable g h = h
-covers_all stated failures old new v k (faults.SourceLength s) all readable g h = h
-covers_all stated failures old new v k (faults.Reference id) all readable g h = h
-covers_all stated failures old new v k (faults.Length id) all readable g h = h
-covers_all stated failures old new v k (faults.Depth id) all readable g h = h
-covers_all stated failures old new v k (faults.Span id) all readable g h = h
-covers_all stated failures old new v k (faults.Command x) all readable g h = h
-covers_all stated failures old new v k (faults.Root x) all readable g h = h
-covers_all stated failures old new v k (faults.Mark x) all readable g h = h
-covers_all stated failures old new v k (faults.Rows x j) all readable g h =
-    let some = agreeing (stated old) in
-    let rows = stated_rows v (stated old) all k readable in
-    no_bad_row v some.0 k j (g.rows some.0 some.1 rows) (h.1 some.0 some.1 rows)
-covers_all stated failures old new v k (faults.Source e) all readable g h = h.unreadable readable
+-- what revision k breaks first, where its rows can be read
+data Broken (v : ImageValue) (st : Stated) (k : ℕ) (f : CheckFault) : Type 0 where
+  command : f ≡ faults.Command k → ¬ IsCommandInRange v k → Broken v st k f
+  root : f ≡ faults.Root k → IsCommandInRange v k → ¬ HasRootOfParts v k → Broken v st k f
+  mark : f ≡ faults.Mark k → IsCommandInRange v k → HasRootOfParts v k → ¬ HasGoodMark (image_table v) (revision_at v k) → Broken v st k f
+  row : (j : ℕ) → f ≡ faults.Rows k j → KeepsRules v k → IsFirstBadRow v st k j → HasStatedRows v st k → Broken v st k f
+
+broken_rule : (v : ImageValue) (st : Stated) (k : ℕ) (f : CheckFault) → BreaksRule v k f → Broken v st k f
+broken_rule v st k (faults.Read e) h = absurd h
+broken_rule v st k faults.SourceCount h = absurd h
+broken_rule v st k (faults.SourceLength s) h = absurd h
+broken_rule v st k (faults.Reference id) h = absurd h
+broken_rule v st k (faults.Length id) h = absurd h
+broken_rule v st k (faults.Depth id) h = absurd h
+broken_rule v st k (faults.Span id) h = absurd h
+broken_rule v st k (faults.Command x) h = command (ap faults.Command h.0) h.1
+broken_rule v st k (faults.Root x) h = root (ap faults.Root h.0) h.1 h.2
+broken_rule v st k (faults.Mark x) h = mark (ap faults.Mark h.0) h.1 h.2 h.3
+broken_rule v st k (faults.Rows x j) h = absurd h
+broken_rule v st k (faults.Source e) h = absurd h
+
+broken_rows : {T : Type 0} (stated : T → Stated) (failures : T → ℕ) (old new : T) (v : ImageValue) (k : ℕ) (f : CheckFault) → StatesAll (stated old) → HasReadableRows v (stated old) k → KeepsRules v k → BreaksRows stated failures old new v k f → Broken v (stated old) k f
+broken_rows stated failures old new v k (faults.Read e) all readable rules h = absurd h
+broken_rows stated failures old new v k faults.SourceCount all readable rules h = absurd h
+broken_rows stated failures old new v k (faults.SourceLength s) all readable rules h = absurd h
+broken_rows stated failures old new v k (faults.Reference id) all readable rules h = absurd h
+broken_rows stated failures old new v k (faults.Length id) all readable rules h = absurd h
+broken_rows stated failures old new v k (faults.Depth id) all readable rules h = absurd h
+broken_rows stated failures old new v k (faults.Span id) all readable rules h = absurd h
+broken_rows stated failures old new v k (faults.Command x) all readable rules h = absurd h
+broken_rows stated failures old new v k (faults.Root x) all readable rules h = absurd h
+broken_rows stated failures old new v k (faults.Mark x) all readable rules h = absurd h
+broken_rows stated failures old new v k (faults.Rows x j) all readable rules h = row j (ap (λ (r : ℕ). faults.Rows r j) h.0) rules h.1 (stated_rows v (stated old) all k readable)
+broken_rows stated failures old new v k (faults.Source e) all readable rules h = absurd (h.unreadable readable)
+
+broken_at : {T : Type 0} (stated : T → Stated) (failures : T → ℕ) (old new : T) (v : ImageValue) (f : CheckFault) → IsOver v (stated old) → (first : IsFirstRevisionFault stated failures old new v f) → Broken v (stated old) first.k f
+broken_at stated failures old new v f is first =
+    elim first.breaks [
+      | inl rule ↦ broken_rule v (stated old) first.k f rule
+      | inr rows ↦ broken_rows stated failures old new v first.k f is.all (readable_rows v (stated old) is first.k first.earlier rows.0) rows.0 rows.1
+    ]
+
+not_good : (v : ImageValue) (st : Stated) (k : ℕ) (f : CheckFault) → Broken v st k f → IsGoodOver v st k → ⊥
+not_good v st k f (command e bad) g = bad g.rules.command
+not_good v st k f (root e in_range bad) g = bad g.rules.root
+not_good v st k f (mark e in_range is_root bad) g = bad g.rules.mark
+not_good v st k f (row j e rules bad stated) g =
+    let some = agreeing st in
+    no_bad_row v some.0 k j (g.rows some.0 some.1 stated) (bad some.0 some.1 stated)
+
+one_broken : (v : ImageValue) (st : Stated) (k : ℕ) (f g : CheckFault) → Broken v st k f → Broken v st k g → f ≡ g
+one_broken v st k f g (command e bad) (command d also) = e ∙ sym d
+one_broken v st k f g (command e bad) (root d in_range also) = absurd (bad in_range)
+one_broken v st k f g (command e bad) (mark d in_range is_root also) = absurd (bad in_range)
+one_broken v st k f g (command e bad) (row j d rules also stated) = absurd (bad rules.command)
+one_broken v st k f g (root e in_range bad) (command d also) = absurd (also in_range)
+one_broken v st k f g (root e in_range bad) (root d too also) = e ∙ sym d
+one_broken v st k f g (root e in_range bad) (mark d too is_root also) = absurd (bad is_root)
+one_broken v st k f g (root e in_range bad) (row j d rules also stated) = absurd (bad rules.root)
+one_broken v st k f g (mark e in_range is_root bad) (command d also) = absurd (also in_range)
+one_broken v st k f g (mark e in_range is_root bad) (root d too also) = absurd (also is_root)
+one_broken v st k f g (mark e in_range is_root bad) (mark d too as_well also) = e ∙ sym d
+one_broken v st k f g (mark e in_range is_root bad) (row j d rules also stated) = absurd (bad rules.mark)
+one_broken v st k f g (row i e rules bad stated) (command d also) = absurd (also rules.command)
+one_broken v st k f g (row i e rules bad stated) (root d in_range also) = absurd (also rules.root)
+one_broken v st k f g (row i e rules bad stated) (mark d in_range is_root also) = absurd (also rules.mark)
+one_broken v st k f g (row i e rules bad stated) (row j d too also again) =
+    let some = agreeing st in
+    e ∙ ap (faults.Rows k) (one_bad_row v some.0 k i j (bad some.0 some.1 stated) (also some.0 some.1 stated)) ∙ sym d
 
 -- no revision of an image that keeps the rules has a fault
-pub no_revision_fault : {T : Type 0} (stated : T → Stated) (failures : T → ℕ) (old new : T) (v : ImageValue) (f : CheckFault) → IsImage v → StatesAll (stated old) → HasGoodTables v (stated old).sizes → AreGoodOver v (stated old)
-    → IsFirstRevisionFault stated failures old new v f → ⊥
-no_revision_fault stated failures old new v f is all tables good first =
-    elim first.breaks [
-      | inl rule ↦ keeps_all v (stated old) first.k f (good first.k first.there) rule
-      | inr rows ↦ covers_all stated failures old new v first.k f all (readable_rows v (stated old) is tables all good first.k first.there) (good first.k first.there) rows.1
+pub no_revision_fault : {T : Type 0} (stated : T → Stated) (failures : T → ℕ) (old new : T) (v : ImageValue) (f : CheckFault) → IsOver v (stated old) → AreGoodOver v (stated old) → IsFirstRevisionFault stated failures old new v f → ⊥
+no_revision_fault stated failures old new v f is good first = not_good v (stated old) first.k f (broken_at stated failures old new v f is first) (good first.k first.there)
+
+one_revision_fault : {T : Type 0} (stated : T → Stated) (failures : T → ℕ) (old new : T) (v : ImageValue) (f g : CheckFault) → IsOver v (stated old) → IsFirstRevisionFault stated failures old new v f → IsFirstRevisionFault stated failures old new v g → f ≡ g
+one_revision_fault stated failures old new v f g is a b =
+    let st = stated old in
+    let broken = broken_at stated failures old new v f is a in
+    let other = broken_at stated failures old new v g is b in
+    let place = one_place (IsGoodOver v st) a.k b.k a.earlier (not_good v st a.k f broken) b.earlier (not_good v st b.k g other) in
+    one_broken v st a.k f g broken (subst (λ (c : ℕ). Broken v st c g) (sym place) other)
+
+-- ---- images
+
+same_image : (v w : ImageValue) → IsImage v → IsImage w → spelling v ≡ spelling w → v ≡ w
+same_image v w is also e = sym (whole_again v is).1 ∙ ap image_of e ∙ (whole_again w also).1
+
+no_read_fault : (bytes : List ℕ) (v : ImageValue) (e : ReadFault) → IsImage v → bytes ≡ spelling v → fault_of bytes ≡ Some e → ⊥
+no_read_fault bytes v e is spelled fault =
+    let none : Some e ≡ None = sym fault ∙ ap fault_of spelled ∙ (whole_again v is).0 in
+    absurd cc
+
+-- what is accepted has no fault
+no_fault : {T : Type 0} (stated : T → Stated) (failures : T → ℕ) (old new : T) (bytes : List ℕ) (f : CheckFault) → StatesAll (stated old) → IsAccepted bytes (stated old) → IsFirstFault stated failures old new bytes f → ⊥
+no_fault stated failures old new bytes f all a (inl read) = no_read_fault bytes a.v read.0 a.image a.spelled read.1
+no_fault stated failures old new bytes f all a (inr refused) =
+    let same = same_image a.v refused.v a.image refused.image (sym a.spelled ∙ refused.spelled) in
+    let st = stated old in
+    let tables = subst (λ (w : ImageValue). HasGoodTables w st.sizes) same a.tables in
+    let good = subst (λ (w : ImageValue). AreGoodOver w st) same a.revisions in
+    elim refused.fault [
+      | inl table ↦ no_table_fault refused.v st.sizes f tables table
+      | inr revision ↦ no_revision_fault stated failures old new refused.v f (record { image = refused.image; all = all; tables = tables }) good revision.1
     ]
+
+one_refusal : {T : Type 0} (stated : T → Stated) (failures : T → ℕ) (old new : T) (v : ImageValue) (f g : CheckFault) → IsImage v → StatesAll (stated old)
+    → IsFirstTableFault v (stated old).sizes f ⊎ (HasGoodTables v (stated old).sizes × IsFirstRevisionFault stated failures old new v f)
+    → IsFirstTableFault v (stated old).sizes g ⊎ (HasGoodTables v (stated old).sizes × IsFirstRevisionFault stated failures old new v g) → f ≡ g
+one_refusal stated failures old new v f g is all (inl a) (inl b) = one_table_fault v (stated old).sizes f g a b
+one_refusal stated failures old new v f g is all (inl a) (inr b) = absurd (no_table_fault v (stated old).sizes f b.0 a)
+one_refusal stated failures old new v f g is all (inr a) (inl b) = absurd (no_table_fault v (stated old).sizes g a.0 b)
+one_refusal stated failures old new v f g is all (inr a) (inr b) = one_revision_fault stated failures old new v f g (record { image = is; all = all; tables = a.0 }) a.1 b.1
+
+one_fault : {T : Type 0} (stated : T → Stated) (failures : T → ℕ) (old new : T) (bytes : List ℕ) (f g : CheckFault) → StatesAll (stated old) → IsFirstFault stated failures old new bytes f → IsFirstFault stated failures old new bytes g → f ≡ g
+one_fault stated failures old new bytes f g all (inl a) (inl b) =
+    let same : Some a.0 ≡ Some b.0 = sym a.1 ∙ b.1 in
+    let fault : a.0 ≡ b.0 = cc in
+    a.2 ∙ ap faults.Read fault ∙ sym b.2
+one_fault stated failures old new bytes f g all (inl a) (inr b) = absurd (no_read_fault bytes b.v a.0 b.image b.spelled a.1)
+one_fault stated failures old new bytes f g all (inr a) (inl b) = absurd (no_read_fault bytes a.v b.0 a.image a.spelled b.1)
+one_fault stated failures old new bytes f g all (inr a) (inr b) =
+    let same = same_image b.v a.v b.image a.image (sym b.spelled ∙ a.spelled) in
+    one_refusal stated failures old new a.v f g a.image all a.fault
+    (subst (λ (w : ImageValue). IsFirstTableFault w (stated old).sizes g ⊎ (HasGoodTables w (stated old).sizes × IsFirstRevisionFault stated failures old new w g)) same b.fault)
+
+-- an answer that is right where it accepts and where it refuses is the only right one
+pub exact : {T : Type 0} (stated : T → Stated) (failures : T → ℕ) (old new : T) (bytes : List ℕ) (r : Result ImageValue CheckFault)
+    → (IsOk r → IsAccepted bytes (stated old)) → IfErr r (IsFirstFault stated failures old new bytes) → IsExact stated failures old new bytes r
+exact stated failures old new bytes (Ok v) accepted refused all = record {
+  accepts = λ a. refl;
+  refuses = λ f first. absurd (no_fault stated failures old new bytes f all (accepted refl) first);
+}
+exact stated failures old new bytes (Err g) accepted refused all = record {
+  accepts = λ a. absurd (no_fault stated failures old new bytes g all a refused);
+  refuses = λ f first. ap Err (one_fault stated failures old new bytes g f all refused first);
+}
+
+-- texts in memory are all stated, and no read of them fails
+pub memory_states_all : (xs : List (List ℕ)) → StatesAll (stated_in_memory xs)
+memory_states_all xs = record {
+  never_fails = refl;
+  texts = λ s lt. rw (stated_text xs s (omega (arith, length-map xs (λ (x : List ℕ). length x)))) refl;
+}

@@ -1,5 +1,5 @@
 -- Rules on single records imply that the whole image is faithful.
-use Rattle.std.proofs.Common.{◌≡◌, ℕ, ◌<◌, ◌≤◌, List, [], ◌∷◌, length, map, take, Option, Some, None, refl, sym, ap, subst, ◌∙◌, arith}
+use Rattle.std.proofs.Common.{◌≡◌, ℕ, ◌<◌, List, [], ◌∷◌, length, map, take, Option, Some, None, refl, sym, ap, ◌∙◌, arith}
 use Rattle.std.specs.Prelude.{slice_get, slice_index}
 use Rattle.std.specs.Option.{option_map}
 use Rattle.std.specs.List.{range_with_len}
@@ -9,9 +9,8 @@ use Rattle.std.proofs.lemmas.Option.{slice_get_within, slice_get-map, slice_get-
 use Rattle.function_leaf.specs.declared.coded.Coded.{Coded}
 use Rattle.function_leaf.specs.Coded.{coded_byte}
 use Rattle.function_leaf.specs.Optional.{answer_of, or_fill}
-use Rattle.rope_node.specs.declared.node.NodeId.{NodeId}
 use Rattle.rope_node.specs.Table.{IsSound, HasTrueRecords}
-use Rattle.rope_node.specs.Denotes.{Cell, Byte, Place, cell_byte, rope_cells, IsRope, text}
+use Rattle.rope_node.specs.Denotes.{Cell, Byte, Place, cell_byte, rope_cells, text}
 use Rattle.rope_node.proofs.Cells.{cells_length}
 use Rattle.lazy_file.specs.SourceTexts.{Agrees, Stated, text_at}
 use Rattle.span_certificate.specs.declared.edit.Edit.{Edit}
@@ -25,7 +24,7 @@ use Rattle.span_certificate.proofs.MadeRows.{no_source_stated}
 use Rattle.image_reader.specs.declared.revision.Revision.{Revision}
 use Rattle.image_reader.specs.Value.{ImageValue, IsImage, image_table, function_at, coded_at}
 use Rattle.image_reader.specs.Accepted.{AreGoodNodes, no_revision, revision_at, roots_before, parts_at, rows_at, KeepsRules}
-use Rattle.session_checker.specs.RevisionRules.{HasStatedRows, HasRowsOverNoSource, IsGoodOver, AreGoodOver}
+use Rattle.session_checker.specs.RevisionRules.{HasStatedRows, HasRowsOverNoSource, AreGoodOver}
 use Rattle.session_checker.specs.Faithful.{source_text, givens, commands, texts_cells, texts, HasTrueRecordsOf, EachRevision, IsFaithful}
 use Rattle.session_checker.proofs.SoundTables.{sound_table, true_table}
 use Rattle.session_checker.proofs.EarlierRevisions.{earlier_ropes}

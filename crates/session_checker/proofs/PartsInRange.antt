@@ -1,5 +1,5 @@
 -- A command in range has parts that lie inside what they are taken from.
-use Rattle.std.proofs.Common.{◌≡◌, ℕ, ◌+◌, ◌-◌, ◌<◌, ◌≤◌, List, [], ◌∷◌, length, Bool, true, false, ltb, Option, refl, arith, inl, inr}
+use Rattle.std.proofs.Common.{ℕ, ◌+◌, ◌≤◌, List, [], ◌∷◌, ltb, Option, arith, inl, inr}
 use Rattle.std.specs.Prelude.{filter, nat_lt}
 use Rattle.std.specs.List.{AllByRecursion}
 use Rattle.std.proofs.lemmas.Bool.{cases_Bool, ltb-true}
@@ -9,7 +9,7 @@ use Rattle.rope_node.specs.Denotes.{IsRope, rope_len}
 use Rattle.span_certificate.specs.declared.edit.Edit.{Edit}
 use Rattle.span_certificate.specs.declared.edit.Edit.TheVariants.{New, Open, Insert, Delete, Replace, Paste, Join, Cut, Fill, Back, Balance}
 use Rattle.span_certificate.specs.declared.part.Part.{Part}
-use Rattle.span_certificate.specs.Parts.{part_len, IsInside, IsPart, AreParts, root_at, front, rest, whole, terms_of, parts_of, AreRopes, IsInRange}
+use Rattle.span_certificate.specs.Parts.{part_len, IsInside, AreParts, root_at, front, rest, whole, terms_of, parts_of, AreRopes, IsInRange}
 
 front_inside : (t : Table) (rope : Option NodeId) (p : ℕ) → IsRope t rope → p ≤ rope_len t rope → IsInside t (front rope p)
 front_inside t rope p there le = (there, omega arith)

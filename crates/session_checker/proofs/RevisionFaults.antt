@@ -1,9 +1,8 @@
 -- Faults of revisions, told from an earlier state of the sources on.
-use Rattle.std.proofs.Common.{◌≡◌, ℕ, ◌<◌, ◌≤◌, false, List, length, take, drop, refl, sym, ap, subst, inl, inr, arith}
-use Rattle.std.specs.Prelude.{◌↔◌, ◌⊎◌, Err, IsErrOf, IfSome, slice_index}
+use Rattle.std.proofs.Common.{◌≡◌, ℕ, ◌<◌, false, List, length, take, drop, sym, subst, inl, inr, arith}
+use Rattle.std.specs.Prelude.{◌↔◌, Err, IsErrOf, IfSome, slice_index}
 use Rattle.rope_node.specs.Denotes.{Cell}
-use Rattle.lazy_file.specs.SourceTexts.{Agrees, Reads, Stated, holds_span, text_at}
-use Rattle.lazy_file.specs.ReadFaults.{IsFaultOf}
+use Rattle.lazy_file.specs.SourceTexts.{Reads, Stated, holds_span, text_at}
 use Rattle.lazy_file.specs.declared.faults.SourceFault.{SourceFault}
 use Rattle.lazy_file.specs.declared.faults.SourceFault.TheVariants.{BadSource}
 use Rattle.cord_position.specs.Fetched.{IsPlaceFault, IsFaultIn}
@@ -15,7 +14,7 @@ use Rattle.image_reader.specs.Value.{ImageValue, image_table, coded_at}
 use Rattle.image_reader.specs.Accepted.{revision_at, parts_at, rows_before, rows_at}
 use Rattle.session_checker.specs.declared.fault.CheckFault.{CheckFault}
 use Rattle.session_checker.specs.declared.fault.CheckFault.TheVariants as faults
-use Rattle.session_checker.specs.RevisionRules.{HasReadableRows, IsFirstBadRow, IsUnread, BreaksRule, BreaksRows, BreaksAt, IsGoodOver}
+use Rattle.session_checker.specs.RevisionRules.{IsFirstBadRow, IsUnread, BreaksRows, BreaksAt}
 
 -- a read that failed after a while failed since the beginning
 later_place : {T : Type 0} (stated : T → Stated) (failures : T → ℕ) (old mid new : T) (cell : Cell) (e : SourceFault) → Reads stated failures old mid → IsPlaceFault stated failures mid new cell e → IsPlaceFault stated failures old new cell e

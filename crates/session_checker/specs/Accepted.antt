@@ -1,5 +1,5 @@
 -- Which bytes are accepted with which sources, by local rules on records, and which fault the others have first.
-use Rattle.std.specs.Prelude.{◌≡◌, ℕ, ◌<◌, true, List, length, ◌⊎◌, Some, IsSome}
+use Rattle.std.specs.Prelude.{◌≡◌, ℕ, ◌<◌, true, List, length, ◌⊎◌, Some, IsSome, Result, Err, IsOk}
 use Rattle.lazy_file.specs.SourceTexts.{Stated, text_at}
 use Rattle.image_reader.specs.Value.{ImageValue, IsImage, image_table}
 use Rattle.image_reader.specs.Spelling.{spelling}
@@ -45,3 +45,12 @@ pub record IsRefused {T : Type 0} (stated : T → Stated) (failures : T → ℕ)
 abbrev pub IsFirstFault : {T : Type 0} → (T → Stated) → (T → ℕ) → T → T → List ℕ → CheckFault → Type 0
 IsFirstFault stated failures old new bytes f =
     ((e : ReadFault) × (fault_of bytes ≡ Some e) × (f ≡ Read e)) ⊎ IsRefused stated failures old new bytes f
+
+-- what keeps the rules is accepted, and all else is refused by its first fault
+pub record AnswersExactly {T : Type 0} (stated : T → Stated) (failures : T → ℕ) (old new : T) (bytes : List ℕ) (r : Result ImageValue CheckFault) : Type 0 where
+  pub accepts : IsAccepted bytes (stated old) → IsOk r
+  pub refuses : (f : CheckFault) → IsFirstFault stated failures old new bytes f → r ≡ Err f
+
+-- so over sources that all state their texts
+abbrev pub IsExact : {T : Type 0} → (T → Stated) → (T → ℕ) → T → T → List ℕ → Result ImageValue CheckFault → Type 0
+IsExact stated failures old new bytes r = StatesAll (stated old) → AnswersExactly stated failures old new bytes r

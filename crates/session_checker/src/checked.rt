@@ -7,7 +7,7 @@ ghost use Rattle.image_reader.specs.Accepted.{HasSources, revision_at};
 ghost use Rattle.image_reader.specs.Value.{IsImage, image_table};
 ghost use Rattle.image_reader.specs.Spelling.{spelling};
 ghost use Rattle.lazy_file.specs.SourceTexts.{Reads};
-ghost use Rattle.session_checker.specs.Accepted.{StatesAll, IsAccepted, IsFirstFault};
+ghost use Rattle.session_checker.specs.Accepted.{IsAccepted, IsFirstFault, IsExact};
 ghost use Rattle.session_checker.specs.Faithful.{IsFaithful, HasTrueRecordsOf, IsRevisionOf, IsRootOf, IsMarkOf, IsFetchedOf, fetch_visits, fetched_cell};
 
 use crate::fault::CheckFault;
@@ -184,12 +184,11 @@ pub fn check<'a, S: Sources>(bytes: &'a [u8], sources: &mut S) -> Result<Checked
     ensures sources { IfOk result (λ v. HasSources v (S.stated sources.old).sizes) }
     // What is accepted keeps the rules over what the sources state.
     ensures accepted { IsOk result → IsAccepted bytes.now (S.stated sources.old) }
-    // Over texts in memory all that keeps the rules is accepted.
-    ensures exact { StatesAll (S.stated sources.old) → IsAccepted bytes.now (S.stated sources.old)
-        → IsOk result }
     // A refusal is the first fault.
     ensures refused { IfErr result
         (IsFirstFault S.stated S.failures sources.old sources.new bytes.now) }
+    // Over texts in memory all that keeps the rules is accepted, and all else refused by its first fault.
+    ensures exact { IsExact S.stated S.failures sources.old sources.new bytes.now result }
     ensures reads { Reads S.stated S.failures sources.old sources.new }
 {
     let image = match Image::read(bytes) {

@@ -6,7 +6,7 @@ use Rattle.image_reader.specs.declared.revision.Revision.{Revision}
 use Rattle.image_reader.specs.Value.{ImageValue}
 use Rattle.image_reader.specs.Accepted.{revision_at}
 use Rattle.session_checker.specs.RevisionRules.{IsGoodOver}
-use Rattle.session_checker.proofs.EarlierRevisions.{earlier_ropes, rows_inside, rows_before_more}
+use Rattle.session_checker.proofs.EarlierRevisions.{earlier_ropes, rows_before_more}
 use Rattle.session_checker.proofs.RevisionFaults.{later_break}
 use Rattle.session_checker.proofs.revision_rules.check_revisions.Goals as goal
 

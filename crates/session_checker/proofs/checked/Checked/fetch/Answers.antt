@@ -1,5 +1,4 @@
-use Rattle.std.proofs.Common.{sym, ap, ◌∙◌}
-use Rattle.image_reader.specs.Value.{ImageValue}
+use Rattle.std.proofs.Common.{sym}
 use Rattle.session_checker.proofs.RevisionTexts.{fetched_text}
 use Rattle.session_checker.proofs.checked.Checked.fetch.Goals as goal
 
