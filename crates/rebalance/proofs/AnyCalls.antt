@@ -49,7 +49,7 @@ all_rebuilt meaning old new keep node n result s h there all built =
 pub cat_called : {F : Type 0} (meaning : F → ℕ → ℕ) (old one two new : Held F) (l r left right : Option NodeId) (plain : Result (Option NodeId) NodeFault) → IsRight F meaning old → IsRight F meaning one → IsRight F meaning two → IsRope (table_of meaning old) l → IsRope (table_of meaning old) r
     → rope_len (table_of meaning old) l + rope_len (table_of meaning old) r < 2 ^ 40 → Rebuilds meaning old (rope_cells (table_of meaning old) l) (kept_pieces (table_of meaning old) l) (Ok left) one → Rebuilds meaning one (rope_cells (table_of meaning one) r) (kept_pieces (table_of meaning one) r) (Ok right) two
     → Makes meaning two (joined (table_of meaning two) left right) (rope_cells (table_of meaning two) left ++ rope_cells (table_of meaning two) right) plain new → Refuses two (joined (table_of meaning two) left right) ⊥ (2 ^ 40 ≤ rope_len (table_of meaning two) left + rope_len (table_of meaning two) right) plain
-    → Anew meaning old (rope_cells (table_of meaning old) l ++ rope_cells (table_of meaning old) r) (kept_pieces (table_of meaning old) l) (kept_pieces (table_of meaning old) r) 31 (lifted plain) new
+    → Anew meaning old (rope_cells (table_of meaning old) l ++ rope_cells (table_of meaning old) r) (kept_pieces (table_of meaning old) l) (kept_pieces (table_of meaning old) r) 2 31 (lifted plain) new
 cat_called {F = F} meaning old one two new l r left right plain k0 k1 k2 left_there right_there short first second made refuses =
     let t0 = table_of meaning old in
     let t1 = table_of meaning one in
@@ -62,7 +62,7 @@ cat_called {F = F} meaning old one two new l r left right plain k0 k1 k2 left_th
     let q = kept_pieces t0 r in
     let grows : Grows meaning old (length old.nodes + (2 * p + 2 * q)) (length old.pool.bytes + (31 * p + 31 * q)) two =
     grows_through (rebuilt_grows first) (rebuilt_grows second) (omega (arith, second.few_nodes, first.few_nodes, same)) (omega (arith, second.few_bytes, first.few_bytes, same)) in
-    called_anew meaning old two new (joined t2 left right) (rope_cells t0 l ++ rope_cells t0 r) (rope_cells t2 left ++ rope_cells t2 right) (2 ^ 40 ≤ rope_len t2 left + rope_len t2 right) p q 31 plain grows (few_pieces first) (λ many. few_pieces second (omega (arith, many, same)))
+    called_anew meaning old two new (joined t2 left right) (rope_cells t0 l ++ rope_cells t0 r) (rope_cells t2 left ++ rope_cells t2 right) (2 ^ 40 ≤ rope_len t2 left + rope_len t2 right) p q 2 31 plain grows (few_pieces first) (λ many. few_pieces second (omega (arith, many, same)))
     (joined_few t2 k2.sound k2.true_records left right a.is_rope b.is_rope) (joined_shallow F t2 k2.sound k2.true_records left right a.is_rope b.is_rope a.shallow b.shallow)
     (λ long. absurd (omega (arith, long, a.len, b.len, short))) made refuses (rw (a.text, b.text) refl)
 
@@ -108,7 +108,7 @@ part_none {F = F} meaning old new x i n plain there none made refuses =
       no_deeper = omega arith;
       lowest = no_bytes_lie t x i n none;
       below = λ lies. absurd (no_bytes_lie t x i n none lies);
-      any = any_plain meaning old new (part_added t x i n) (take n (drop i (rope_cells t x))) ⊥ (part_pieces t x i n) 0 0 plain (part_few t x i n) made refuses (λ e. shallow (refuses.too_deep.0 e).2);
+      any = any_plain meaning old new (part_added t x i n) (take n (drop i (rope_cells t x))) ⊥ (part_pieces t x i n) 0 1 0 plain (part_few t x i n) made refuses (λ e. shallow (refuses.too_deep.0 e).2);
       rebuilt = λ deep. absurd (shallow deep);
     }
 
@@ -127,7 +127,7 @@ part_more {F = F} meaning old new node i n m result s h there least part =
     let text : take m (drop i (cells t node.0)) ≡ take n (drop i (cells t node.0)) =
     ap (λ (k : ℕ). take k (drop i (cells t node.0))) least ∙ take_least (cells t node.0) i n (len_at t node.0) (cells_length t s h node.0 there) in
     let a : Addition F = part_added t part.inner part.start part.count in
-    let one = subst (λ (p : ℕ). AnyForm meaning old a (take m (drop i (cells t node.0))) ⊥ p 0 0 result new) count part.any in
+    let one = subst (λ (p : ℕ). AnyForm meaning old a (take m (drop i (cells t node.0))) ⊥ p 0 1 0 result new) count part.any in
     record {
       inner = part.inner;
       start = part.start;
@@ -136,7 +136,7 @@ part_more {F = F} meaning old new node i n m result s h there least part =
       no_deeper = part.no_deeper;
       lowest = part.lowest;
       below = λ lies. part.below (least_lies t node i n m least lies);
-      any = subst (λ cs. AnyForm meaning old a cs ⊥ (part_pieces t (Some node) i n) 0 0 result new) text one;
+      any = subst (λ cs. AnyForm meaning old a cs ⊥ (part_pieces t (Some node) i n) 0 1 0 result new) text one;
       rebuilt = λ deep.
           let built = subst (λ (p : ℕ). Rebuilds meaning old (take m (drop i (cells t node.0))) p result new) count (part.rebuilt deep) in
           subst (λ cs. Rebuilds meaning old cs (part_pieces t (Some node) i n) result new) text built;
@@ -158,7 +158,7 @@ part_plain {F = F} meaning old new node i n p plain within fits made refuses sha
       no_deeper = within.shallow;
       lowest = part_lowest t node i n p within;
       below = part_below t node i n p within fits;
-      any = any_plain meaning old new a (take n (drop i (cells t node.0))) ⊥ (part_pieces t (Some node) i n) 0 0 plain (part_few t (Some p.node) p.start n) made' refuses shallow;
+      any = any_plain meaning old new a (take n (drop i (cells t node.0))) ⊥ (part_pieces t (Some node) i n) 0 1 0 plain (part_few t (Some p.node) p.start n) made' refuses shallow;
       rebuilt = λ deep. absurd (shallow (refuses.too_deep.1 ((λ bad. bad), (λ long. long), deep)));
     }
 
@@ -179,7 +179,7 @@ part_anew {F = F} meaning old new node i n p result within fits deep built =
       no_deeper = within.shallow;
       lowest = part_lowest t node i n p within;
       below = part_below t node i n p within fits;
-      any = any_anew meaning old new a wanted ⊥ (part_pieces t (Some node) i n) 0 0 result (λ long. long) deep (rebuilt_anew meaning old new wanted (part_pieces t (Some node) i n) result built');
+      any = any_anew meaning old new a wanted ⊥ (part_pieces t (Some node) i n) 0 1 0 result (λ long. long) deep (rebuilt_anew meaning old new wanted (part_pieces t (Some node) i n) result built');
       rebuilt = λ _. built';
     }
 
@@ -245,13 +245,13 @@ append_plain meaning old new x bytes plain k there done shallow =
     record {
       addition = done.addition;
       is = done.is;
-      any = any_plain_if meaning old new done.addition (rope_cells t x ++ map Byte bytes) (IsTooLong t x bytes) (kept_pieces t x) 0 (length bytes + 31) plain
+      any = any_plain_if meaning old new done.addition (rope_cells t x ++ map Byte bytes) (IsTooLong t x bytes) (kept_pieces t x) 0 3 (length bytes + 31) plain
           (λ short. (sized_append old.pool t k.sound k.true_records x there bytes done.addition (done.is short)).few) done.makes done.refuses shallow;
     }
 
 pub append_called : {F : Type 0} (meaning : F → ℕ → ℕ) (old one new : Held F) (x rope : Option NodeId) (bytes : List ℕ) (plain : Result (Option NodeId) NodeFault) → IsRight F meaning old → IsRight F meaning one → IsRope (table_of meaning old) x → ¬ IsTooLong (table_of meaning old) x bytes
     → Rebuilds meaning old (rope_cells (table_of meaning old) x) (kept_pieces (table_of meaning old) x) (Ok rope) one → Appends meaning one rope bytes plain new
-    → Anew meaning old (rope_cells (table_of meaning old) x ++ map Byte bytes) (kept_pieces (table_of meaning old) x) 0 (length bytes + 31) (lifted plain) new
+    → Anew meaning old (rope_cells (table_of meaning old) x ++ map Byte bytes) (kept_pieces (table_of meaning old) x) 0 3 (length bytes + 31) (lifted plain) new
 append_called {F = F} meaning old one new x rope bytes plain k0 k1 there short first done =
     let t0 = table_of meaning old in
     let t1 = table_of meaning one in
@@ -261,5 +261,5 @@ append_called {F = F} meaning old one new x rope bytes plain k0 k1 there short f
     let low = sized.shallow a.shallow in
     let p = kept_pieces t0 x in
     let grows : Grows meaning old (length old.nodes + (2 * p + 2 * 0)) (length old.pool.bytes + (31 * p + 31 * 0)) one = grows_within (rebuilt_grows first) (omega arith) (omega arith) in
-    called_anew meaning old one new done.addition (rope_cells t0 x ++ map Byte bytes) (rope_cells t1 rope ++ map Byte bytes) (IsTooLong t1 rope bytes) p 0 (length bytes + 31) plain grows (few_pieces first) (λ many. omega (arith, many))
+    called_anew meaning old one new done.addition (rope_cells t0 x ++ map Byte bytes) (rope_cells t1 rope ++ map Byte bytes) (IsTooLong t1 rope bytes) p 0 3 (length bytes + 31) plain grows (few_pieces first) (λ many. omega (arith, many))
     sized.few (λ deep. omega (arith, deep, low)) still done.makes done.refuses (rw a.text refl)

@@ -53,12 +53,12 @@ lifted_fault (Ok a) nodes bytes h = tt
 lifted_fault (Err k) nodes bytes h = h
 
 -- what the plain call adds at most
-any_grows : {F : Type 0} {meaning : F → ℕ → ℕ} {old new : Held F} {a : Addition F} {wanted : List Cell} {IsLong : Type 0} (p q bytes : ℕ) (plain : Result (Option NodeId) NodeFault) → (¬ IsLong → IsFew a bytes) → Makes meaning old a wanted plain new → Refuses old a ⊥ IsLong plain
-    → Grows meaning old (length old.nodes + (2 * p + 2 * q + 3)) (length old.pool.bytes + (31 * p + 31 * q + bytes)) new
-any_grows {old = old} p q bytes (Ok rope) few made refuses =
+any_grows : {F : Type 0} {meaning : F → ℕ → ℕ} {old new : Held F} {a : Addition F} {wanted : List Cell} {IsLong : Type 0} (p q more bytes : ℕ) (plain : Result (Option NodeId) NodeFault) → (¬ IsLong → IsFew a more bytes) → Makes meaning old a wanted plain new → Refuses old a ⊥ IsLong plain
+    → Grows meaning old (length old.nodes + (2 * p + 2 * q + more)) (length old.pool.bytes + (31 * p + 31 * q + bytes)) new
+any_grows {old = old} p q more bytes (Ok rope) few made refuses =
     let size = few (λ long. let bad = refuses.too_long.1 ((λ bad. bad), long) in absurd cc) in
-    made_grows (Ok rope) (length old.nodes + (2 * p + 2 * q + 3)) (length old.pool.bytes + (31 * p + 31 * q + bytes)) made (omega (arith, size.records)) (omega (arith, size.bytes_added))
-any_grows {F = F} p q bytes (Err e) few made refuses =
+    made_grows (Ok rope) (length old.nodes + (2 * p + 2 * q + more)) (length old.pool.bytes + (31 * p + 31 * q + bytes)) made (omega (arith, size.records)) (omega (arith, size.bytes_added))
+any_grows {F = F} p q more bytes (Err e) few made refuses =
     let same_nodes = ap (λ (h : Held F). length h.nodes) made.unchanged in
     let same_bytes = ap (λ (h : Held F). length h.pool.bytes) made.unchanged in
     record {
@@ -69,13 +69,13 @@ any_grows {F = F} p q bytes (Err e) few made refuses =
     }
 
 -- the plain call does it
-pub any_plain_if : {F : Type 0} (meaning : F → ℕ → ℕ) (old new : Held F) (a : Addition F) (wanted : List Cell) (IsLong : Type 0) (p q bytes : ℕ) (plain : Result (Option NodeId) NodeFault) → (¬ IsLong → IsFew a bytes) → Makes meaning old a wanted plain new → Refuses old a ⊥ IsLong plain → ¬ IsErrOf plain TooDeep
-    → AnyForm meaning old a wanted IsLong p q bytes (lifted plain) new
-any_plain_if meaning old new a wanted IsLong p q bytes plain few made refuses shallow = record {
+pub any_plain_if : {F : Type 0} (meaning : F → ℕ → ℕ) (old new : Held F) (a : Addition F) (wanted : List Cell) (IsLong : Type 0) (p q more bytes : ℕ) (plain : Result (Option NodeId) NodeFault) → (¬ IsLong → IsFew a more bytes) → Makes meaning old a wanted plain new → Refuses old a ⊥ IsLong plain → ¬ IsErrOf plain TooDeep
+    → AnyForm meaning old a wanted IsLong p q more bytes (lifted plain) new
+any_plain_if meaning old new a wanted IsLong p q more bytes plain few made refuses shallow = record {
   gives = record {
     is_rope = lifted_ok (λ r. IsRope (table_of meaning new) r) plain made.is_rope;
     text = lifted_ok (λ r. rope_cells (table_of meaning new) r ≡ wanted) plain made.text;
-    grows = any_grows p q bytes plain few made refuses;
+    grows = any_grows p q more bytes plain few made refuses;
   };
   as_plain = λ _. record { plain = plain; same = refl; makes = made; refuses = refuses };
   too_long = (λ e. (refuses.too_long.0 (lifted_err plain TooLong e)).1, λ long. lifted_back plain TooLong (refuses.too_long.1 ((λ bad. bad), long)));
@@ -94,17 +94,17 @@ any_plain_if meaning old new a wanted IsLong p q bytes plain few made refuses sh
   no_source = λ e. refuses.no_other (lifted_err plain TooManySources e);
 }
 
-pub any_plain : {F : Type 0} (meaning : F → ℕ → ℕ) (old new : Held F) (a : Addition F) (wanted : List Cell) (IsLong : Type 0) (p q bytes : ℕ) (plain : Result (Option NodeId) NodeFault) → IsFew a bytes → Makes meaning old a wanted plain new → Refuses old a ⊥ IsLong plain → ¬ IsErrOf plain TooDeep
-    → AnyForm meaning old a wanted IsLong p q bytes (lifted plain) new
-any_plain meaning old new a wanted IsLong p q bytes plain few made refuses shallow = any_plain_if meaning old new a wanted IsLong p q bytes plain (λ _. few) made refuses shallow
+pub any_plain : {F : Type 0} (meaning : F → ℕ → ℕ) (old new : Held F) (a : Addition F) (wanted : List Cell) (IsLong : Type 0) (p q more bytes : ℕ) (plain : Result (Option NodeId) NodeFault) → IsFew a more bytes → Makes meaning old a wanted plain new → Refuses old a ⊥ IsLong plain → ¬ IsErrOf plain TooDeep
+    → AnyForm meaning old a wanted IsLong p q more bytes (lifted plain) new
+any_plain meaning old new a wanted IsLong p q more bytes plain few made refuses shallow = any_plain_if meaning old new a wanted IsLong p q more bytes plain (λ _. few) made refuses shallow
 
 anew_fault : {A : Type 0} (result : Result A BalanceFault) (nodes bytes : ℕ) (e : BalanceFault) → IfErr result (IsAnewFault nodes bytes) → IsErrOf result e → IsAnewFault nodes bytes e
 anew_fault {A = A} result nodes bytes e h is = subst (λ (r : Result A BalanceFault). IfErr r (IsAnewFault nodes bytes)) is h
 
 -- the call does it once the ropes are balanced
-pub any_anew : {F : Type 0} (meaning : F → ℕ → ℕ) (old new : Held F) (a : Addition F) (wanted : List Cell) (IsLong : Type 0) (p q bytes : ℕ) (result : Result (Option NodeId) BalanceFault) → ¬ IsLong → IsTooDeep a → Anew meaning old wanted p q bytes result new
-    → AnyForm meaning old a wanted IsLong p q bytes result new
-any_anew meaning old new a wanted IsLong p q bytes result short deep anew = record {
+pub any_anew : {F : Type 0} (meaning : F → ℕ → ℕ) (old new : Held F) (a : Addition F) (wanted : List Cell) (IsLong : Type 0) (p q more bytes : ℕ) (result : Result (Option NodeId) BalanceFault) → ¬ IsLong → IsTooDeep a → Anew meaning old wanted p q more bytes result new
+    → AnyForm meaning old a wanted IsLong p q more bytes result new
+any_anew meaning old new a wanted IsLong p q more bytes result short deep anew = record {
   gives = anew.gives;
   as_plain = λ k. absurd (⊎_elim (λ shallow. shallow deep) short k);
   anew = λ _ _. anew;
@@ -148,8 +148,8 @@ pub few_pieces : {F : Type 0} {meaning : F → ℕ → ℕ} {old new : Held F} {
 few_pieces r many = let is = r.too_many.1 many in absurd cc
 
 -- one of them goes through too many pieces
-pub many_anew : {F : Type 0} (meaning : F → ℕ → ℕ) (old : Held F) (wanted : List Cell) (p q bytes : ℕ) → ¬ ((p ≤ most_pieces) × (q ≤ most_pieces)) → Anew meaning old wanted p q bytes (Err TooManyPieces) old
-many_anew meaning old wanted p q bytes not_few = record {
+pub many_anew : {F : Type 0} (meaning : F → ℕ → ℕ) (old : Held F) (wanted : List Cell) (p q more bytes : ℕ) → ¬ ((p ≤ most_pieces) × (q ≤ most_pieces)) → Anew meaning old wanted p q more bytes (Err TooManyPieces) old
+many_anew meaning old wanted p q more bytes not_few = record {
   gives = record {
     is_rope = tt;
     text = tt;
@@ -168,8 +168,8 @@ many_anew meaning old wanted p q bytes not_few = record {
     cases_le m n = ⊎_elim (λ (over : n < m). inr over) (λ (few : m ≤ n). inl few) (cases_lt n m)
 
 -- the first rope is refused, though neither goes through too many pieces
-pub first_refused : {F : Type 0} (meaning : F → ℕ → ℕ) (old new : Held F) (wanted cs : List Cell) (p q bytes : ℕ) (e : BalanceFault) → p ≤ most_pieces → q ≤ most_pieces → Rebuilds meaning old cs p (Err e) new → Anew meaning old wanted p q bytes (Err e) new
-first_refused meaning old new wanted cs p q bytes e few_p few_q r = record {
+pub first_refused : {F : Type 0} (meaning : F → ℕ → ℕ) (old new : Held F) (wanted cs : List Cell) (p q more bytes : ℕ) (e : BalanceFault) → p ≤ most_pieces → q ≤ most_pieces → Rebuilds meaning old cs p (Err e) new → Anew meaning old wanted p q more bytes (Err e) new
+first_refused meaning old new wanted cs p q more bytes e few_p few_q r = record {
   gives = record {
     is_rope = tt;
     text = tt;
@@ -181,8 +181,8 @@ first_refused meaning old new wanted cs p q bytes e few_p few_q r = record {
 }
 
 -- the only rope is refused
-pub rebuilt_refused : {F : Type 0} (meaning : F → ℕ → ℕ) (old new : Held F) (wanted cs : List Cell) (p bytes : ℕ) (e : BalanceFault) → Rebuilds meaning old cs p (Err e) new → Anew meaning old wanted p 0 bytes (Err e) new
-rebuilt_refused meaning old new wanted cs p bytes e r = record {
+pub rebuilt_refused : {F : Type 0} (meaning : F → ℕ → ℕ) (old new : Held F) (wanted cs : List Cell) (p more bytes : ℕ) (e : BalanceFault) → Rebuilds meaning old cs p (Err e) new → Anew meaning old wanted p 0 more bytes (Err e) new
+rebuilt_refused meaning old new wanted cs p more bytes e r = record {
   gives = record {
     is_rope = tt;
     text = tt;
@@ -194,8 +194,8 @@ rebuilt_refused meaning old new wanted cs p bytes e r = record {
 }
 
 -- what is wanted is put together alone
-pub rebuilt_anew : {F : Type 0} (meaning : F → ℕ → ℕ) (old new : Held F) (wanted : List Cell) (p : ℕ) (result : Result (Option NodeId) BalanceFault) → Rebuilds meaning old wanted p result new → Anew meaning old wanted p 0 0 result new
-rebuilt_anew meaning old new wanted p (Err e) r = rebuilt_refused meaning old new wanted wanted p 0 e r
+pub rebuilt_anew : {F : Type 0} (meaning : F → ℕ → ℕ) (old new : Held F) (wanted : List Cell) (p : ℕ) (result : Result (Option NodeId) BalanceFault) → Rebuilds meaning old wanted p result new → Anew meaning old wanted p 0 1 0 result new
+rebuilt_anew meaning old new wanted p (Err e) r = rebuilt_refused meaning old new wanted wanted p 1 0 e r
 rebuilt_anew meaning old new wanted p (Ok rope) r = record {
   gives = record {
     is_rope = r.is_rope;
@@ -208,9 +208,9 @@ rebuilt_anew meaning old new wanted p (Ok rope) r = record {
 }
 
 -- the second rope is refused
-pub second_refused : {F : Type 0} (meaning : F → ℕ → ℕ) (old mid new : Held F) (wanted cs ds : List Cell) (p : ℕ) (r left : Option NodeId) (bytes : ℕ) (e : BalanceFault) → IsSound (table_of meaning old) → IsRope (table_of meaning old) r → kept_pieces (table_of meaning old) r ≤ most_pieces → Rebuilds meaning old cs p (Ok left) mid → Rebuilds meaning mid ds (kept_pieces (table_of meaning mid) r) (Err e) new
-    → Anew meaning old wanted p (kept_pieces (table_of meaning old) r) bytes (Err e) new
-second_refused meaning old mid new wanted cs ds p r left bytes e s there few first second =
+pub second_refused : {F : Type 0} (meaning : F → ℕ → ℕ) (old mid new : Held F) (wanted cs ds : List Cell) (p : ℕ) (r left : Option NodeId) (more bytes : ℕ) (e : BalanceFault) → IsSound (table_of meaning old) → IsRope (table_of meaning old) r → kept_pieces (table_of meaning old) r ≤ most_pieces → Rebuilds meaning old cs p (Ok left) mid → Rebuilds meaning mid ds (kept_pieces (table_of meaning mid) r) (Err e) new
+    → Anew meaning old wanted p (kept_pieces (table_of meaning old) r) more bytes (Err e) new
+second_refused meaning old mid new wanted cs ds p r left more bytes e s there few first second =
     let t = table_of meaning old in
     let same = all_pieces_kept true t (table_of meaning mid) s first.kept r there in
     record {
@@ -228,10 +228,10 @@ second_refused meaning old mid new wanted cs ds p r left bytes e s there few fir
     }
 
 -- the call behind the balancing
-pub called_anew : {F : Type 0} (meaning : F → ℕ → ℕ) (old mid new : Held F) (a : Addition F) (wanted cs : List Cell) (IsLong : Type 0) (p q bytes : ℕ) (plain : Result (Option NodeId) NodeFault) → Grows meaning old (length old.nodes + (2 * p + 2 * q)) (length old.pool.bytes + (31 * p + 31 * q)) mid → ¬ (most_pieces < p) → ¬ (most_pieces < q)
-    → IsFew a bytes → ¬ IsTooDeep a → ¬ IsLong → Makes meaning mid a cs plain new → Refuses mid a ⊥ IsLong plain → cs ≡ wanted → Anew meaning old wanted p q bytes (lifted plain) new
-called_anew {F = F} meaning old mid new a wanted cs IsLong p q bytes plain grows few_p few_q few shallow short made refuses text =
-    let nodes = length old.nodes + (2 * p + 2 * q + 3) in
+pub called_anew : {F : Type 0} (meaning : F → ℕ → ℕ) (old mid new : Held F) (a : Addition F) (wanted cs : List Cell) (IsLong : Type 0) (p q more bytes : ℕ) (plain : Result (Option NodeId) NodeFault) → Grows meaning old (length old.nodes + (2 * p + 2 * q)) (length old.pool.bytes + (31 * p + 31 * q)) mid → ¬ (most_pieces < p) → ¬ (most_pieces < q)
+    → IsFew a more bytes → ¬ IsTooDeep a → ¬ IsLong → Makes meaning mid a cs plain new → Refuses mid a ⊥ IsLong plain → cs ≡ wanted → Anew meaning old wanted p q more bytes (lifted plain) new
+called_anew {F = F} meaning old mid new a wanted cs IsLong p q more bytes plain grows few_p few_q few shallow short made refuses text =
+    let nodes = length old.nodes + (2 * p + 2 * q + more) in
     let most = length old.pool.bytes + (31 * p + 31 * q + bytes) in
     let n : length mid.nodes + length a.records ≤ nodes = omega (arith, grows.few_nodes, few.records) in
     let b : length mid.pool.bytes + length a.bytes ≤ most = omega (arith, grows.few_bytes, few.bytes_added) in

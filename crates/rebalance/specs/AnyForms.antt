@@ -33,11 +33,11 @@ pub record IsPlain {F : Type 0} (meaning : F → ℕ → ℕ) (old : Held F) (a 
   pub refuses : Refuses old a ⊥ IsLong plain
 
 -- What is answered is a rope of the wanted text. Answered or refused, what was there is kept, and new are at most 2 nodes and 31
--- bytes for each of the p and q pieces, 3 nodes, and so many bytes.
-pub record GivesRope {F : Type 0} (meaning : F → ℕ → ℕ) (old : Held F) (wanted : List Cell) (p q bytes : ℕ) (result : Result (Option NodeId) BalanceFault) (new : Held F) : Type 0 where
+-- bytes for each of the p and q pieces, and so many nodes and bytes more, as the plain call adds.
+pub record GivesRope {F : Type 0} (meaning : F → ℕ → ℕ) (old : Held F) (wanted : List Cell) (p q more bytes : ℕ) (result : Result (Option NodeId) BalanceFault) (new : Held F) : Type 0 where
   pub is_rope : IfOk result (λ r. IsRope (table_of meaning new) r)
   pub text : IfOk result (λ r. rope_cells (table_of meaning new) r ≡ wanted)
-  pub grows : Grows meaning old (length old.nodes + (2 * p + 2 * q + 3)) (length old.pool.bytes + (31 * p + 31 * q + bytes)) new
+  pub grows : Grows meaning old (length old.nodes + (2 * p + 2 * q + more)) (length old.pool.bytes + (MOST_MERGED * p + MOST_MERGED * q + bytes)) new
 
 -- what may refuse such a call after which there are at most so many nodes and bytes
 abbrev pub IsAnewFault : ℕ → ℕ → BalanceFault → Type 0
@@ -45,21 +45,21 @@ IsAnewFault nodes bytes TooManyPieces = Unit {0}
 IsAnewFault nodes bytes (Node e) = IsStepFault nodes bytes e
 
 -- the call once the ropes of p and q pieces are balanced
-pub record Anew {F : Type 0} (meaning : F → ℕ → ℕ) (old : Held F) (wanted : List Cell) (p q bytes : ℕ) (result : Result (Option NodeId) BalanceFault) (new : Held F) : Type 0 where
-  pub gives : GivesRope meaning old wanted p q bytes result new
+pub record Anew {F : Type 0} (meaning : F → ℕ → ℕ) (old : Held F) (wanted : List Cell) (p q more bytes : ℕ) (result : Result (Option NodeId) BalanceFault) (new : Held F) : Type 0 where
+  pub gives : GivesRope meaning old wanted p q more bytes result new
   pub too_many : IsErrOf result TooManyPieces ↔ ((most_pieces < p) ⊎ (most_pieces < q))
   pub unchanged : IsErrOf result TooManyPieces → new ≡ old
-  pub fault : IfErr result (IsAnewFault (length old.nodes + (2 * p + 2 * q + 3)) (length old.pool.bytes + (31 * p + 31 * q + bytes)))
+  pub fault : IfErr result (IsAnewFault (length old.nodes + (2 * p + 2 * q + more)) (length old.pool.bytes + (MOST_MERGED * p + MOST_MERGED * q + bytes)))
 
 -- the call where the plain one makes addition a
-pub record AnyForm {F : Type 0} (meaning : F → ℕ → ℕ) (old : Held F) (a : Addition F) (wanted : List Cell) (IsLong : Type 0) (p q bytes : ℕ) (result : Result (Option NodeId) BalanceFault) (new : Held F) : Type 0 where
-  pub gives : GivesRope meaning old wanted p q bytes result new
+pub record AnyForm {F : Type 0} (meaning : F → ℕ → ℕ) (old : Held F) (a : Addition F) (wanted : List Cell) (IsLong : Type 0) (p q more bytes : ℕ) (result : Result (Option NodeId) BalanceFault) (new : Held F) : Type 0 where
+  pub gives : GivesRope meaning old wanted p q more bytes result new
   pub as_plain : (¬ IsTooDeep a) ⊎ IsLong → IsPlain meaning old a wanted IsLong result new
-  pub anew : IsTooDeep a → ¬ IsLong → Anew meaning old wanted p q bytes result new
+  pub anew : IsTooDeep a → ¬ IsLong → Anew meaning old wanted p q more bytes result new
   pub too_long : IsErrOf result (Node TooLong) ↔ IsLong
   pub too_many : IsErrOf result TooManyPieces → IsTooDeep a × (¬ IsLong)
-  pub table_full : IsErrOf result (Node TableFull) → MOST_NODES < length old.nodes + (2 * p + 2 * q + 3)
-  pub pool_full : IsErrOf result (Node PoolFull) → POOL_LIMIT ≤ length old.pool.bytes + (31 * p + 31 * q + bytes)
+  pub table_full : IsErrOf result (Node TableFull) → MOST_NODES < length old.nodes + (2 * p + 2 * q + more)
+  pub pool_full : IsErrOf result (Node PoolFull) → POOL_LIMIT ≤ length old.pool.bytes + (MOST_MERGED * p + MOST_MERGED * q + bytes)
   pub not_deep : ¬ IsErrOf result (Node TooDeep)
   pub no_bad_span : ¬ IsErrOf result (Node BadSpan)
   pub no_source : ¬ IsErrOf result (Node TooManySources)
@@ -70,13 +70,13 @@ abbrev pub CatsAny : {F : Type 0} → (F → ℕ → ℕ) → Held F → Option 
 CatsAny meaning old l r result new =
     let t = table_of meaning old in
     AnyForm meaning old (joined t l r) (rope_cells t l ++ rope_cells t r) (TEXT_LIMIT ≤ rope_len t l + rope_len t r)
-    (kept_pieces t l) (kept_pieces t r) MOST_MERGED result new
+    (kept_pieces t l) (kept_pieces t r) 2 MOST_MERGED result new
 
 -- the same once both are balanced
 abbrev pub CatsAnew : {F : Type 0} → (F → ℕ → ℕ) → Held F → Option NodeId → Option NodeId → Result (Option NodeId) BalanceFault → Held F → Type 0
 CatsAnew meaning old l r result new =
     let t = table_of meaning old in
-    Anew meaning old (rope_cells t l ++ rope_cells t r) (kept_pieces t l) (kept_pieces t r) MOST_MERGED result new
+    Anew meaning old (rope_cells t l ++ rope_cells t r) (kept_pieces t l) (kept_pieces t r) 2 MOST_MERGED result new
 
 -- ---- a part of a rope
 
@@ -96,7 +96,7 @@ pub record PartsAny {F : Type 0} (meaning : F → ℕ → ℕ) (old : Held F) (x
   pub no_deeper : rope_depth (table_of meaning old) inner ≤ rope_depth (table_of meaning old) x
   pub lowest : ¬ LiesLower (table_of meaning old) inner start count
   pub below : LiesLower (table_of meaning old) x i n → rope_depth (table_of meaning old) inner < rope_depth (table_of meaning old) x
-  pub any : AnyForm meaning old (part_added (table_of meaning old) inner start count) (take n (drop i (rope_cells (table_of meaning old) x))) ⊥ (part_pieces (table_of meaning old) x i n) 0 0 result new
+  pub any : AnyForm meaning old (part_added (table_of meaning old) inner start count) (take n (drop i (rope_cells (table_of meaning old) x))) ⊥ (part_pieces (table_of meaning old) x i n) 0 1 0 result new
   pub rebuilt : IsTooDeep (part_added {F = F} (table_of meaning old) inner start count) → Rebuilds meaning old (take n (drop i (rope_cells (table_of meaning old) x))) (part_pieces (table_of meaning old) x i n) result new
 
 -- ---- bytes put behind a rope
@@ -110,7 +110,7 @@ ropes_of (Err e) = Err e
 abbrev pub AppendsAnew : {F : Type 0} → (F → ℕ → ℕ) → Held F → Option NodeId → List ℕ → Result (Option NodeId) BalanceFault → Held F → Type 0
 AppendsAnew meaning old x bytes result new =
     let t = table_of meaning old in
-    Anew meaning old (rope_cells t x ++ map Byte bytes) (kept_pieces t x) 0 (length bytes + MOST_MERGED) result new
+    Anew meaning old (rope_cells t x ++ map Byte bytes) (kept_pieces t x) 0 3 (length bytes + MOST_MERGED) result new
 
 -- the place that bytes get in a pool: its end, and 0 for none of them
 abbrev pub next_place : List ℕ → List ℕ → ℕ
@@ -139,4 +139,4 @@ pub record IsPlaced {F : Type 0} (meaning : F → ℕ → ℕ) (old : Held F) (x
 pub record AppendsAny {F : Type 0} (meaning : F → ℕ → ℕ) (old : Held F) (x : Option NodeId) (bytes : List ℕ) (result : Result (Option NodeId) BalanceFault) (new : Held F) : Type 0 where
   pub addition : Addition F
   pub is : ¬ IsTooLong (table_of meaning old) x bytes → IsAppend old.pool (table_of meaning old) x bytes addition
-  pub any : AnyForm meaning old addition (rope_cells (table_of meaning old) x ++ map Byte bytes) (IsTooLong (table_of meaning old) x bytes) (kept_pieces (table_of meaning old) x) 0 (length bytes + 31) result new
+  pub any : AnyForm meaning old addition (rope_cells (table_of meaning old) x ++ map Byte bytes) (IsTooLong (table_of meaning old) x bytes) (kept_pieces (table_of meaning old) x) 0 3 (length bytes + MOST_MERGED) result new

@@ -1,5 +1,6 @@
 -- What putting a rope together anew does.
 use Rattle.std.specs.Prelude.{◌≡◌, ◌↔◌, ℕ, ◌+◌, ◌*◌, ◌^◌, ◌<◌, ◌≤◌, Bool, List, length, take, drop, Option, Some, None, Result, IfOk, IsErrOf}
+use Rattle.rope_store.specs.declared.endings.TheConstants.{MOST_MERGED}
 use Rattle.leaf_buffer.specs.declared.pool.TheConstants.{POOL_LIMIT}
 use Rattle.rope_node.specs.declared.limits.TheConstants.{MOST_NODES}
 use Rattle.rope_node.specs.declared.node.NodeId.{NodeId}
@@ -26,11 +27,11 @@ pub record Rebuilds {F : Type 0} (meaning : F → ℕ → ℕ) (old : Held F) (w
   pub kept : Extends (table_of meaning old) (table_of meaning new)
   pub sources : new.sources ≡ old.sources
   pub few_nodes : length new.nodes ≤ length old.nodes + 2 * p
-  pub few_bytes : length new.pool.bytes ≤ length old.pool.bytes + 31 * p
+  pub few_bytes : length new.pool.bytes ≤ length old.pool.bytes + MOST_MERGED * p
   pub too_many : IsErrOf result TooManyPieces ↔ (most_pieces < p)
   pub unchanged : IsErrOf result TooManyPieces → new ≡ old
   pub table_full : IsErrOf result (Node TableFull) → MOST_NODES < length old.nodes + 2 * p
-  pub pool_full : IsErrOf result (Node PoolFull) → POOL_LIMIT ≤ length old.pool.bytes + 31 * p
+  pub pool_full : IsErrOf result (Node PoolFull) → POOL_LIMIT ≤ length old.pool.bytes + MOST_MERGED * p
   pub not_long : ¬ IsErrOf result (Node TooLong)
   pub not_deep : ¬ IsErrOf result (Node TooDeep)
   pub no_bad_span : ¬ IsErrOf result (Node BadSpan)

@@ -1,6 +1,7 @@
 //! A rope put together anew.
 
 ghost use Rattle.std.specs.Prelude.{◌≡◌, ◌+◌, ◌*◌, ◌<◌, ◌≤◌, [], ◌↔◌, length, take, drop, IfOk, IsTrue, None};
+ghost use Rattle.rope_store.specs.declared.endings.TheConstants.{MOST_MERGED};
 ghost use Rattle.rope_node.specs.Table.{len_at};
 ghost use Rattle.rope_node.specs.Denotes.{cells, rope_cells, IsRope};
 ghost use Rattle.node_table.specs.Held.{table_of};
@@ -122,7 +123,7 @@ fn rebuild<F: LeafFn>(
 ) -> Result<Rope, NodeFault>
     requires there { node.0 < length store.old.nodes }
     requires inside { start + len ≤ len_at (table_of F.meaning store.old) node.0 }
-    ensures steps { Steps F.meaning store.old (length store.old.nodes + 2 * pieces keep (table_of F.meaning store.old) node.0 start len) (length store.old.pool.bytes + 31 * pieces keep (table_of F.meaning store.old) node.0 start len) result store.new }
+    ensures steps { Steps F.meaning store.old (length store.old.nodes + 2 * pieces keep (table_of F.meaning store.old) node.0 start len) (length store.old.pool.bytes + MOST_MERGED * pieces keep (table_of F.meaning store.old) node.0 start len) result store.new }
     ensures is_rope { IfOk result (λ rope. IsRope (table_of F.meaning store.new) rope) }
     ensures text { IfOk result (λ rope. rope_cells (table_of F.meaning store.new) rope ≡ take len (drop start (cells (table_of F.meaning store.old) node.0))) }
     ensures shallow { IfOk result (λ rope. IsNearlyBalanced (table_of F.meaning store.new) rope) }
@@ -148,7 +149,7 @@ fn fill<F: LeafFn>(
     requires slots { AreSlots (table_of F.meaning store.old) slots.old }
     requires empty { slots_cells (table_of F.meaning store.old) slots.old ≡ [] }
     requires none { full_slots slots.old ≡ 0 }
-    ensures steps { Steps F.meaning store.old (length store.old.nodes + 2 * pieces keep (table_of F.meaning store.old) node.0 start len) (length store.old.pool.bytes + 31 * pieces keep (table_of F.meaning store.old) node.0 start len) result store.new }
+    ensures steps { Steps F.meaning store.old (length store.old.nodes + 2 * pieces keep (table_of F.meaning store.old) node.0 start len) (length store.old.pool.bytes + MOST_MERGED * pieces keep (table_of F.meaning store.old) node.0 start len) result store.new }
     ensures spread { IfOk result (λ _. IsSpread (table_of F.meaning store.new) (length store.old.nodes + 2 * pieces keep (table_of F.meaning store.old) node.0 start len) (take len (drop start (cells (table_of F.meaning store.old) node.0))) 0 slots.new None) }
 {
     let _len = NodeSpace::len(store, node);

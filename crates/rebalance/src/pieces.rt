@@ -13,7 +13,7 @@ use crate::balanced::fibonacci;
 use function_leaf::LeafFn;
 use node_table::NodeFault;
 use rope_node::{NodeId, NodeSpace, NodeView, Rope};
-use rope_store::Store;
+use rope_store::{MOST_MERGED, Store};
 
 /// The most pieces that a rope is put together from.
 const MOST_PIECES: u32 = 1 << 20;
@@ -125,7 +125,7 @@ pub(crate) fn piece<F: LeafFn>(store: &mut Store<F>, span: Span) -> Result<Rope,
     requires is { IsLeaf (view_at (table_of F.meaning store.old) span.node.0) ⊎ IsWhole (table_of F.meaning store.old) span }
     requires some { 1 ≤ span.len }
     requires inside { span.start + span.len ≤ len_at (table_of F.meaning store.old) span.node.0 }
-    ensures steps { Steps F.meaning store.old (length store.old.nodes + 1) (length store.old.pool.bytes + 31) result store.new }
+    ensures steps { Steps F.meaning store.old (length store.old.nodes + 1) (length store.old.pool.bytes + MOST_MERGED) result store.new }
     ensures piece { IfOk result (λ rope. IsPiece (table_of F.meaning store.new) rope) }
     ensures text { IfOk result (λ rope. rope_cells (table_of F.meaning store.new) rope ≡ take span.len (drop span.start (cells (table_of F.meaning store.old) span.node.0))) }
 {
@@ -148,7 +148,7 @@ fn leaf_part<F: LeafFn>(
     requires some { 1 ≤ len }
     requires inside { start + len ≤ len_at (table_of F.meaning store.old) leaf.0 }
     requires less { ¬ (len ≡ len_at (table_of F.meaning store.old) leaf.0) }
-    ensures steps { Steps F.meaning store.old (length store.old.nodes + 1) (length store.old.pool.bytes + 31) result store.new }
+    ensures steps { Steps F.meaning store.old (length store.old.nodes + 1) (length store.old.pool.bytes + MOST_MERGED) result store.new }
     ensures piece { IfOk result (λ rope. IsPiece (table_of F.meaning store.new) rope) }
     ensures text { IfOk result (λ rope. rope_cells (table_of F.meaning store.new) rope ≡ take len (drop start (cells (table_of F.meaning store.old) leaf.0))) }
 {
@@ -170,7 +170,7 @@ fn written<F: LeafFn>(
     requires some { 1 ≤ len }
     requires short { len < 32 }
     requires inside { start + len ≤ len_at (table_of F.meaning store.old) leaf.0 }
-    ensures steps { Steps F.meaning store.old (length store.old.nodes + 1) (length store.old.pool.bytes + 31) result store.new }
+    ensures steps { Steps F.meaning store.old (length store.old.nodes + 1) (length store.old.pool.bytes + MOST_MERGED) result store.new }
     ensures piece { IfOk result (λ rope. IsPiece (table_of F.meaning store.new) rope) }
     ensures text { IfOk result (λ rope. rope_cells (table_of F.meaning store.new) rope ≡ take len (drop start (cells (table_of F.meaning store.old) leaf.0))) }
 {
@@ -181,7 +181,7 @@ fn written<F: LeafFn>(
 }
 
 /// The bytes of a function leaf from `start` on, in front of zeros.
-fn read<F: LeafFn>(store: &Store<F>, leaf: NodeId, start: u64, len: u64) -> [u8; 31]
+fn read<F: LeafFn>(store: &Store<F>, leaf: NodeId, start: u64, len: u64) -> [u8; MOST_MERGED]
     requires there { leaf.0 < length store.now.nodes }
     requires function { IsFunction (view_at (table_of F.meaning store.now) leaf.0) }
     requires short { len < 32 }
@@ -189,7 +189,7 @@ fn read<F: LeafFn>(store: &Store<F>, leaf: NodeId, start: u64, len: u64) -> [u8;
     ensures { take len result ≡ map (λ k. (table_of F.meaning store.now).answer leaf.0 (start + k)) (range_with_len 0 len) }
 {
     let _len = NodeSpace::len(store, leaf);
-    let mut bytes = [0; 31];
+    let mut bytes = [0; MOST_MERGED];
     for k in 0..len as usize {
         bytes[k] = store.fun_byte(leaf, start + k as u64);
     }

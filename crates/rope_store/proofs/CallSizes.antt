@@ -17,12 +17,12 @@ use Rattle.rope_store.specs.Joining.{ending_of, short_ending, ending_for, piece,
 use Rattle.rope_store.specs.Refusals.{deepest, IsTooDeep}
 use Rattle.rope_store.proofs.LastLiterals.{ending_found, piece_length, short_found}
 
--- a call adds at most three nodes, and at most so many bytes
-pub record IsFew {F : Type 0} (a : Addition F) (bytes : ℕ) : Type 0 where
-  pub records : length a.records ≤ 3
+-- a call adds at most so many nodes and bytes
+pub record IsFew {F : Type 0} (a : Addition F) (nodes bytes : ℕ) : Type 0 where
+  pub records : length a.records ≤ nodes
   pub bytes_added : length a.bytes ≤ bytes
 
-pub merged_few : {F : Type 0} (t : Table) (before : Option NodeId) (bytes : List ℕ) (n : ℕ) → length bytes ≤ n → IsFew {F = F} (merged t before bytes) n
+pub merged_few : {F : Type 0} (t : Table) (before : Option NodeId) (bytes : List ℕ) (n : ℕ) → length bytes ≤ n → IsFew {F = F} (merged t before bytes) 2 n
 merged_few t None bytes n le = record { records = omega arith; bytes_added = le }
 merged_few t (Some l) bytes n le = record { records = omega arith; bytes_added = le }
 
@@ -54,7 +54,7 @@ ending_taken t s h l r Fun there is e found = absurd cc
 ending_taken t s h l r (Cat x y) there is e found = absurd cc
 ending_taken t s h l r (Sub b i) there is e found = absurd cc
 
-nodes_few : {F : Type 0} (t : Table) → IsSound t → HasTrueRecords t → (l r : NodeId) → r.0 < length t.nodes → (o : Option Ending) → ((e : Ending) → o ≡ Some e → IsShortEnding t l (len_at t r.0) e × IsLiteral (view_at t r.0)) → IsFew {F = F} (nodes_joined t l r o) 31
+nodes_few : {F : Type 0} (t : Table) → IsSound t → HasTrueRecords t → (l r : NodeId) → r.0 < length t.nodes → (o : Option Ending) → ((e : Ending) → o ≡ Some e → IsShortEnding t l (len_at t r.0) e × IsLiteral (view_at t r.0)) → IsFew {F = F} (nodes_joined t l r o) 2 31
 nodes_few t s h l r there None taken = record { records = omega arith; bytes_added = omega arith }
 nodes_few t s h l r there (Some e) taken =
     let p = taken e refl in
@@ -67,7 +67,7 @@ nodes_shallow : (F : Type 0) (t : Table) (l r : NodeId) (o : Option Ending) → 
 nodes_shallow F t l r None taken left right deep = omega (arith, deep, left, right)
 nodes_shallow F t l r (Some e) taken left right deep = merged_shallow F t e.before (piece t e.literal ++ piece t r) (taken e refl).0.shallow deep
 
-pub joined_few : {F : Type 0} (t : Table) → IsSound t → HasTrueRecords t → (l r : Option NodeId) → IsRope t l → IsRope t r → IsFew {F = F} (joined t l r) 31
+pub joined_few : {F : Type 0} (t : Table) → IsSound t → HasTrueRecords t → (l r : Option NodeId) → IsRope t l → IsRope t r → IsFew {F = F} (joined t l r) 2 31
 joined_few t s h None r left right = record { records = omega arith; bytes_added = omega arith }
 joined_few t s h (Some l) None left right = record { records = omega arith; bytes_added = omega arith }
 joined_few t s h (Some l) (Some r) left right = nodes_few t s h l r right (ending_for t l r (view_at t r.0)) (ending_taken t s h l r (view_at t r.0) left refl)
@@ -79,7 +79,7 @@ joined_shallow F t s h (Some l) (Some r) left right dl dr deep = nodes_shallow F
 
 -- ---- parts
 
-inner_few : {F : Type 0} (t : Table) (x : NodeId) (i n : ℕ) (v : NodeView) → IsFew {F = F} (inner_part t x i n v) 0
+inner_few : {F : Type 0} (t : Table) (x : NodeId) (i n : ℕ) (v : NodeView) → IsFew {F = F} (inner_part t x i n v) 1 0
 inner_few t x i n (Lit a) = record { records = omega arith; bytes_added = omega arith }
 inner_few t x i n (Src s a) = record { records = omega arith; bytes_added = omega arith }
 inner_few t x i n Fun = record { records = omega arith; bytes_added = omega arith }
@@ -93,10 +93,10 @@ inner_shallow F t x i n Fun d le deep = omega (arith, deep, le)
 inner_shallow F t x i n (Cat l r) d le deep = omega (arith, deep, le)
 inner_shallow F t x i n (Sub b j) d le deep = omega (arith, deep, le, d)
 
-node_part_few : {F : Type 0} (t : Table) (x : NodeId) (i n : ℕ) → IsFew {F = F} (node_part t x i n) 0
+node_part_few : {F : Type 0} (t : Table) (x : NodeId) (i n : ℕ) → IsFew {F = F} (node_part t x i n) 1 0
 node_part_few t x i zero = record { records = omega arith; bytes_added = omega arith }
 node_part_few {F = F} t x i (suc n) =
-    cond_both (nat_eq (suc n) (len_at t x.0)) (nothing (Some x)) (inner_part t x i (suc n) (view_at t x.0)) (λ (a : Addition F). IsFew {F = F} a 0)
+    cond_both (nat_eq (suc n) (len_at t x.0)) (nothing (Some x)) (inner_part t x i (suc n) (view_at t x.0)) (λ (a : Addition F). IsFew {F = F} a 1 0)
     (λ e. record { records = omega arith; bytes_added = omega arith }) (λ e. inner_few t x i (suc n) (view_at t x.0))
 
 node_part_shallow : (F : Type 0) (t : Table) → HasTrueRecords t → (x : NodeId) (i n : ℕ) → x.0 < length t.nodes → depth_at t x.0 ≤ 63 → ¬ IsTooDeep {F = F} (node_part t x i n)
@@ -105,7 +105,7 @@ node_part_shallow F t h x i (suc n) there le deep =
     cond_both (nat_eq (suc n) (len_at t x.0)) (nothing (Some x)) (inner_part t x i (suc n) (view_at t x.0)) (λ (a : Addition F). ¬ IsTooDeep {F = F} a)
     (λ e deeper. omega (arith, deeper)) (λ e. inner_shallow F t x i (suc n) (view_at t x.0) (sym (h.nodes x.0 there).depth) le) deep
 
-pub part_few : {F : Type 0} (t : Table) (x : Option NodeId) (i n : ℕ) → IsFew {F = F} (part_added t x i n) 0
+pub part_few : {F : Type 0} (t : Table) (x : Option NodeId) (i n : ℕ) → IsFew {F = F} (part_added t x i n) 1 0
 part_few t None i n = record { records = omega arith; bytes_added = omega arith }
 part_few t (Some x) i n = node_part_few t x i (min n (len_at t x.0 - i))
 
@@ -117,7 +117,7 @@ part_shallow F t h (Some x) i n there le deep = node_part_shallow F t h x i (min
 
 -- what an append adds: three nodes and 31 bytes beside its own at most, its own first, and no deep node behind a shallow rope
 pub record IsSized {F : Type 0} (t : Table) (x : Option NodeId) (bytes : List ℕ) (a : Addition F) : Type 0 where
-  pub few : IsFew a (length bytes + 31)
+  pub few : IsFew a 3 (length bytes + 31)
   pub first : take (length bytes) a.bytes ≡ bytes
   pub shallow : rope_depth t x ≤ 63 → deepest a.records ≤ 64
 

@@ -82,3 +82,7 @@ pub record IsShortEnding (t : Table) (x : NodeId) (n : ℕ) (e : Ending) : Type 
   pub text : cells t x.0 ≡ rope_cells t e.before ++ cells t e.literal.0
   pub len : len_at t x.0 ≡ rope_len t e.before + len_at t e.literal.0
   pub short : len_at t e.literal.0 + n ≤ MOST_MERGED
+
+-- this literal ends the text of l, and with the bytes of r more it stays short
+abbrev pub TakesLiteral : Table → NodeId → NodeId → Ending → Type 0
+TakesLiteral t l r = IsShortEnding t l (len_at t r.0)

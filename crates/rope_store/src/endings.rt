@@ -1,9 +1,9 @@
 //! Literals at the end of texts.
 
 ghost use Rattle.std.specs.Prelude.{◌≡◌, ◌<◌, ◌≤◌, length, IfSome};
-ghost use Rattle.rope_node.specs.Table.{IsLiteral, view_at, len_at};
+ghost use Rattle.rope_node.specs.Table.{IsLiteral, view_at};
 ghost use Rattle.node_table.specs.Held.{table_of};
-ghost use Rattle.rope_store.specs.Joining.{ending_of, ending_taking, ending_with, IsShortEnding};
+ghost use Rattle.rope_store.specs.Joining.{ending_of, ending_taking, ending_with, IsShortEnding, TakesLiteral};
 
 use crate::store::Store;
 use function_leaf::LeafFn;
@@ -66,7 +66,7 @@ impl<F: LeafFn> Store<F> {
         requires left { l.0 < length self.now.nodes }
         requires right { r.0 < length self.now.nodes }
         ensures exact { result ≡ ending_taking (table_of F.meaning self.now) l r }
-        ensures sound { IfSome result (IsShortEnding (table_of F.meaning self.now) l (len_at (table_of F.meaning self.now) r.0)) }
+        ensures sound { IfSome result (TakesLiteral (table_of F.meaning self.now) l r) }
         ensures literal { IfSome result (λ e. IsLiteral (view_at (table_of F.meaning self.now) r.0)) }
     {
         match self.table.node(r) {

@@ -1,13 +1,13 @@
 //! New literals made of two.
 
 ghost use Rattle.std.specs.Prelude.{◌≡◌, ◌+◌, ◌<◌, ◌≤◌, ◌++◌, length, take};
-ghost use Rattle.rope_node.specs.Table.{IsLiteral, view_at, len_at};
+ghost use Rattle.rope_node.specs.Table.{IsLiteral, view_at};
 ghost use Rattle.rope_node.specs.Denotes.{rope_len, rope_depth, IsRope};
 ghost use Rattle.leaf_buffer.specs.declared.block.TheConstants.{BLOCK_SIZE};
 ghost use Rattle.rope_node.specs.declared.limits.TheConstants.{MOST_DEPTH};
 ghost use Rattle.node_table.specs.Held.{table_of};
 ghost use Rattle.rope_store.specs.Calls.{Merges, PutsMerged};
-ghost use Rattle.rope_store.specs.Joining.{IsShortEnding};
+ghost use Rattle.rope_store.specs.Joining.{TakesLiteral};
 
 use crate::endings::{Ending, MOST_MERGED};
 use crate::store::Store;
@@ -42,7 +42,7 @@ impl<F: LeafFn> Store<F> {
         requires left { l.0 < length self.old.nodes }
         requires right { r.0 < length self.old.nodes }
         requires literal { IsLiteral (view_at (table_of F.meaning self.old) r.0) }
-        requires ending { IsShortEnding (table_of F.meaning self.old) l (len_at (table_of F.meaning self.old) r.0) ending }
+        requires ending { TakesLiteral (table_of F.meaning self.old) l r ending }
         ensures { Merges F.meaning self.old l ending r result self.new }
     {
         if self.table.len(l) + self.table.len(r) >= TEXT_LIMIT {

@@ -16,7 +16,7 @@ rebuild_rope-requires-2-clause-few g c =
 pub returns-in_err-right : goal.returns-in_err-right
 returns-in_err-right g c =
     let p = err_from_is_err_and c.from_residual-in_err-right.result c.from_residual-in_err-right.ensures.1 in
-    rw (p.1, p.2) (second_refused g.F.LeafFn.meaning c.args.store.now c.rebuild_rope.new.store c.rebuild_rope-2.new.store _ _ _ _ c.args.r c.in_ok-left.left 31 c.in_err-right.field-0.0 c.count-count.ensures.sound c.requires.right (c.have_few_pieces.ensures.0 c.if-not-have_few_pieces.false).1 c.in_ok-left.ensures c.in_err-right.ensures)
+    rw (p.1, p.2) (second_refused g.F.LeafFn.meaning c.args.store.now c.rebuild_rope.new.store c.rebuild_rope-2.new.store _ _ _ _ c.args.r c.in_ok-left.left 2 31 c.in_err-right.field-0.0 c.count-count.ensures.sound c.requires.right (c.have_few_pieces.ensures.0 c.if-not-have_few_pieces.false).1 c.in_ok-left.ensures c.in_err-right.ensures)
 
 pub returns-in_err-cat : goal.returns-in_err-cat
 returns-in_err-cat g c =
