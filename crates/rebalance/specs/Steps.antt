@@ -1,5 +1,5 @@
 -- What each step of balancing keeps to.
-use Rattle.std.specs.Prelude.{◌≡◌, ℕ, ◌+◌, ◌*◌, ◌^◌, ◌<◌, ◌≤◌, length, Result, IfErr}
+use Rattle.std.specs.Prelude.{◌≡◌, ℕ, ◌+◌, ◌*◌, ◌<◌, ◌≤◌, length, Result, IfErr}
 use Rattle.rope_store.specs.declared.endings.TheConstants.{MOST_MERGED}
 use Rattle.leaf_buffer.specs.declared.pool.TheConstants.{POOL_LIMIT}
 use Rattle.rope_node.specs.declared.limits.TheConstants.{MOST_NODES}
