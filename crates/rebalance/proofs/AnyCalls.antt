@@ -1,7 +1,7 @@
 -- The calls behind the balancing.
 use Rattle.std.proofs.Common.{◌≡◌, ℕ, ◌+◌, ◌*◌, ◌^◌, ◌<◌, ◌≤◌, ◌-◌, ◌++◌, ⊎_elim, inl, inr, Bool, true, false, List, [], ◌∷◌, map, take, drop, length, min, Option, Some, None, Result, Ok, Err, sym, ap, subst, ◌∙◌, refl, arith}
 use Rattle.leaf_buffer.specs.declared.block.TheConstants.{BLOCK_SIZE}
-use Rattle.std.specs.Prelude.{IfOk, IsErrOf}
+use Rattle.std.specs.Prelude.{IsErrOf}
 use Rattle.std.proofs.Math.Seq.{drop-append_seam}
 use Rattle.leaf_buffer.specs.Contents.{Contents}
 use Rattle.rope_node.specs.declared.node.NodeId.{NodeId}

@@ -1,5 +1,5 @@
 -- What a call does that balances the ropes handed in where they would make one that is too deep.
-use Rattle.std.specs.Prelude.{◌≡◌, ◌↔◌, ◌⊎◌, ℕ, ◌+◌, ◌-◌, ◌*◌, ◌^◌, ◌<◌, ◌≤◌, min, List, [], ◌∷◌, ◌++◌, map, length, slice_range, take, drop, Option, None, Some, Result, Ok, Err, IfOk, IfErr, IsErr, IsErrOf}
+use Rattle.std.specs.Prelude.{◌≡◌, ◌↔◌, ◌⊎◌, ℕ, ◌+◌, ◌-◌, ◌*◌, ◌<◌, ◌≤◌, min, List, [], ◌∷◌, ◌++◌, map, length, slice_range, take, drop, Option, None, Some, Result, Ok, Err, IfOk, IfErr, IsErrOf}
 use Rattle.leaf_buffer.specs.declared.pool.TheConstants.{POOL_LIMIT}
 use Rattle.rope_node.specs.declared.limits.TheConstants.{MOST_NODES, TEXT_LIMIT}
 use Rattle.rope_node.specs.declared.node.NodeId.{NodeId}

@@ -1,5 +1,5 @@
 -- What putting a rope together anew does.
-use Rattle.std.specs.Prelude.{◌≡◌, ◌↔◌, ℕ, ◌+◌, ◌*◌, ◌^◌, ◌<◌, ◌≤◌, Bool, List, length, take, drop, Option, Some, None, Result, IfOk, IsErrOf}
+use Rattle.std.specs.Prelude.{◌≡◌, ◌↔◌, ℕ, ◌+◌, ◌*◌, ◌<◌, ◌≤◌, Bool, List, length, take, drop, Option, Some, None, Result, IfOk, IsErrOf}
 use Rattle.rope_store.specs.declared.endings.TheConstants.{MOST_MERGED}
 use Rattle.leaf_buffer.specs.declared.pool.TheConstants.{POOL_LIMIT}
 use Rattle.rope_node.specs.declared.limits.TheConstants.{MOST_NODES}
@@ -12,6 +12,9 @@ use Rattle.node_table.specs.declared.fault.NodeFault.TheVariants.{TooLong, TooDe
 use Rattle.node_table.specs.Held.{Held, table_of}
 use Rattle.rebalance.specs.declared.fault.BalanceFault.{BalanceFault}
 use Rattle.rebalance.specs.declared.fault.BalanceFault.TheVariants.{TooManyPieces, Node}
+use Rattle.rebalance.specs.Steps.{AddsPieces}
+use Rattle.rebalance.specs.Slots.{Spreads}
+use Rattle.node_table.specs.declared.fault.NodeFault.{NodeFault}
 use Rattle.rebalance.specs.Pieces.{all_pieces, pieces, rope_pieces, most_pieces}
 
 -- a rope as long as its depth asks for, but for one
@@ -36,6 +39,20 @@ pub record Rebuilds {F : Type 0} (meaning : F → ℕ → ℕ) (old : Held F) (w
   pub not_deep : ¬ IsErrOf result (Node TooDeep)
   pub no_bad_span : ¬ IsErrOf result (Node BadSpan)
   pub no_source : ¬ IsErrOf result (Node TooManySources)
+
+-- the rope is so many bytes of a node from start on
+abbrev pub IsPart : {F : Type 0} → (F → ℕ → ℕ) → Held F → NodeId → ℕ → ℕ → Held F → Option NodeId → Type 0
+IsPart meaning old node start len new rope = rope_cells (table_of meaning new) rope ≡ take len (drop start (cells (table_of meaning old) node.0))
+
+-- a step that goes through the pieces of these bytes
+abbrev pub StepsThrough : {F : Type 0} {A : Type 0} → (F → ℕ → ℕ) → Held F → Bool → NodeId → ℕ → ℕ → Result A NodeFault → Held F → Type 0
+StepsThrough meaning old keep node start len result new = AddsPieces meaning old (pieces keep (table_of meaning old) node.0 start len) result new
+
+-- the slots are these bytes, put together from their pieces
+abbrev pub IsFilled : {F : Type 0} → (F → ℕ → ℕ) → Held F → Bool → NodeId → ℕ → ℕ → List (Option NodeId) → Held F → Type 0
+IsFilled meaning old keep node start len slots new =
+    let t = table_of meaning old in
+    Spreads meaning old (2 * pieces keep t node.0 start len) (take len (drop start (cells t node.0))) 0 slots new None
 
 -- all of a rope is put together from its pieces
 abbrev pub RebuildsRope : {F : Type 0} → (F → ℕ → ℕ) → Held F → Bool → Option NodeId → Result (Option NodeId) BalanceFault → Held F → Type 0

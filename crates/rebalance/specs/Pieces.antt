@@ -1,5 +1,6 @@
 -- The pieces that a text goes through: spans of leaves and, where nodes are kept, whole nodes that are longer than their depth asks for.
-use Rattle.std.specs.Prelude.{◌≡◌, ◌⊎◌, ℕ, zero, suc, ◌+◌, ◌-◌, ◌<◌, ◌≤◌, min, Bool, true, false, ◌&&◌, nat_eq, nat_le, if◌then◌else◌, length, take, drop, Option, Some, None}
+use Rattle.std.specs.Prelude.{◌≡◌, ◌⊎◌, ℕ, zero, suc, ◌+◌, ◌-◌, ◌<◌, ◌≤◌, min, Bool, true, false, ◌&&◌, nat_eq, nat_le, if◌then◌else◌, List, length, map, take, drop, Option, Some, None}
+use Rattle.std.specs.List.{range_with_len}
 use Rattle.rope_node.specs.declared.node.NodeId.{NodeId}
 use Rattle.rope_node.specs.declared.node.NodeView.{NodeView}
 use Rattle.rope_node.specs.declared.node.NodeView.TheVariants.{Lit, Src, Fun, Cat, Sub}
@@ -50,18 +51,28 @@ part_pieces t (Some id) i n = pieces true t id.0 i (min n (len_at t id.0 - i))
 abbrev pub most_pieces : ℕ
 most_pieces = 1048576
 
+-- n bytes from start on of the function at a leaf
+abbrev pub answered_bytes : Table → NodeId → ℕ → ℕ → List ℕ
+answered_bytes t leaf start n = map (λ k. t.answer leaf.0 (start + k)) (range_with_len 0 n)
+
 -- a rope goes through no more pieces than that, where nodes are kept
 abbrev pub HasFewPieces : Table → Option NodeId → Type 0
 HasFewPieces t rope = kept_pieces t rope ≤ most_pieces
+
+abbrev pub HaveFewPieces : Table → Option NodeId → Option NodeId → Type 0
+HaveFewPieces t l r = HasFewPieces t l × HasFewPieces t r
 
 -- all of a node whose length is at least the Fibonacci number at its depth and three, or a span of a leaf
 abbrev pub IsWhole : Table → Span → Type 0
 IsWhole t p = (p.len ≡ len_at t p.node.0) × (fibonacci (depth_at t p.node.0 + 3) ≤ p.len)
 
+abbrev pub IsPieceSpan : Table → Span → Type 0
+IsPieceSpan t p = IsLeaf (view_at t p.node.0) ⊎ IsWhole t p
+
 -- the first piece of the n bytes of a node from i on
 pub record IsFirst (keep : Bool) (t : Table) (id i n : ℕ) (p : Span) : Type 0 where
   pub there : p.node.0 < length t.nodes
-  pub is : IsLeaf (view_at t p.node.0) ⊎ IsWhole t p
+  pub is : IsPieceSpan t p
   pub some : 1 ≤ p.len
   pub few : p.len ≤ n
   pub inside : p.start + p.len ≤ len_at t p.node.0

@@ -1,5 +1,6 @@
 -- What each step of balancing keeps to.
-use Rattle.std.specs.Prelude.{◌≡◌, ℕ, ◌^◌, ◌<◌, ◌≤◌, length, Result, IfErr}
+use Rattle.std.specs.Prelude.{◌≡◌, ℕ, ◌+◌, ◌*◌, ◌<◌, ◌≤◌, length, Result, IfErr}
+use Rattle.rope_store.specs.declared.endings.TheConstants.{MOST_MERGED}
 use Rattle.leaf_buffer.specs.declared.pool.TheConstants.{POOL_LIMIT}
 use Rattle.rope_node.specs.declared.limits.TheConstants.{MOST_NODES}
 use Rattle.rope_node.specs.Extends.{Extends}
@@ -27,3 +28,15 @@ pub record Grows {F : Type 0} (meaning : F → ℕ → ℕ) (old : Held F) (node
 pub record Steps {F : Type 0} {A : Type 0} (meaning : F → ℕ → ℕ) (old : Held F) (nodes bytes : ℕ) (result : Result A NodeFault) (new : Held F) : Type 0 where
   pub grows : Grows meaning old nodes bytes new
   pub fault : IfErr result (IsStepFault nodes bytes)
+
+-- a step after which there are at most so many more nodes, and no byte more
+abbrev pub AddsNodes : {F : Type 0} {A : Type 0} → (F → ℕ → ℕ) → Held F → ℕ → Result A NodeFault → Held F → Type 0
+AddsNodes meaning old n result new = Steps meaning old (length old.nodes + n) (length old.pool.bytes) result new
+
+-- a step that makes one piece: at most a node, and the bytes of a short literal
+abbrev pub AddsPiece : {F : Type 0} {A : Type 0} → (F → ℕ → ℕ) → Held F → Result A NodeFault → Held F → Type 0
+AddsPiece meaning old result new = Steps meaning old (length old.nodes + 1) (length old.pool.bytes + MOST_MERGED) result new
+
+-- a step that goes through p pieces
+abbrev pub AddsPieces : {F : Type 0} {A : Type 0} → (F → ℕ → ℕ) → Held F → ℕ → Result A NodeFault → Held F → Type 0
+AddsPieces meaning old p result new = Steps meaning old (length old.nodes + 2 * p) (length old.pool.bytes + MOST_MERGED * p) result new

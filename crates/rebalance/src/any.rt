@@ -7,7 +7,8 @@ ghost use Rattle.rope_node.specs.Denotes.{Byte, rope_cells, rope_len, IsRope};
 ghost use Rattle.node_table.specs.Held.{table_of};
 ghost use Rattle.rope_store.specs.Appending.{IsTooLong};
 ghost use Rattle.rebalance.specs.AnyForms.{AppendsAny, AppendsAnew, CatsAny, CatsAnew, IsPlaced, IsPut, PartsAny, lifted, ropes_of};
-ghost use Rattle.rebalance.specs.Pieces.{HasFewPieces, IsWithin};
+ghost use Rattle.rebalance.specs.Slots.{joined_len};
+ghost use Rattle.rebalance.specs.Pieces.{HaveFewPieces, IsWithin};
 
 use crate::balancing::{balance_by, balance_part, rebuild_rope, rope_has_few_pieces};
 use crate::fault::BalanceFault;
@@ -65,7 +66,7 @@ pub fn cat_any<F: LeafFn>(store: &mut Store<F>, l: Rope, r: Rope) -> Result<Rope
 fn have_few_pieces<F: LeafFn>(store: &Store<F>, l: Rope, r: Rope) -> bool
     requires left { IsRope (table_of F.meaning store.now) l }
     requires right { IsRope (table_of F.meaning store.now) r }
-    ensures { IsTrue result ↔ (HasFewPieces (table_of F.meaning store.now) l × HasFewPieces (table_of F.meaning store.now) r) }
+    ensures { IsTrue result ↔ HaveFewPieces (table_of F.meaning store.now) l r }
 {
     rope_has_few_pieces(store, l, true) && rope_has_few_pieces(store, r, true)
 }
@@ -74,7 +75,7 @@ fn have_few_pieces<F: LeafFn>(store: &Store<F>, l: Rope, r: Rope) -> bool
 fn cat_anew<F: LeafFn>(store: &mut Store<F>, l: Rope, r: Rope) -> Result<Rope, BalanceFault>
     requires left { IsRope (table_of F.meaning store.old) l }
     requires right { IsRope (table_of F.meaning store.old) r }
-    requires short { rope_len (table_of F.meaning store.old) l + rope_len (table_of F.meaning store.old) r < TEXT_LIMIT }
+    requires short { joined_len (table_of F.meaning store.old) l r < TEXT_LIMIT }
     ensures { CatsAnew F.meaning store.old l r result store.new }
 {
     let _count = store.count();

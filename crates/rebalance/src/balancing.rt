@@ -1,14 +1,12 @@
 //! A rope put together anew.
 
-ghost use Rattle.std.specs.Prelude.{◌≡◌, ◌+◌, ◌*◌, ◌<◌, ◌≤◌, [], ◌↔◌, length, take, drop, IfOk, IsTrue, None};
-ghost use Rattle.rope_store.specs.declared.endings.TheConstants.{MOST_MERGED};
+ghost use Rattle.std.specs.Prelude.{◌≡◌, ◌+◌, ◌<◌, ◌≤◌, ◌↔◌, [], length, IfOk, IsTrue, None};
 ghost use Rattle.rope_node.specs.Table.{len_at};
-ghost use Rattle.rope_node.specs.Denotes.{cells, rope_cells, IsRope};
+ghost use Rattle.rope_node.specs.Denotes.{IsRope};
 ghost use Rattle.node_table.specs.Held.{table_of};
-ghost use Rattle.rebalance.specs.Balancing.{IsNearlyBalanced, Rebalances, RebuildsPart, RebuildsRope};
+ghost use Rattle.rebalance.specs.Balancing.{IsFilled, IsNearlyBalanced, IsPart, Rebalances, RebuildsPart, RebuildsRope, StepsThrough};
 ghost use Rattle.rebalance.specs.Pieces.{pieces, all_pieces, most_pieces};
-ghost use Rattle.rebalance.specs.Slots.{full_slots, slots_cells, AreSlots, IsSpread};
-ghost use Rattle.rebalance.specs.Steps.{Steps};
+ghost use Rattle.rebalance.specs.Slots.{full_slots, slots_cells, AreSlots};
 
 use crate::fault::BalanceFault;
 use crate::pieces::{find_piece, has_few_pieces, piece};
@@ -123,9 +121,9 @@ fn rebuild<F: LeafFn>(
 ) -> Result<Rope, NodeFault>
     requires there { node.0 < length store.old.nodes }
     requires inside { start + len ≤ len_at (table_of F.meaning store.old) node.0 }
-    ensures steps { Steps F.meaning store.old (length store.old.nodes + 2 * pieces keep (table_of F.meaning store.old) node.0 start len) (length store.old.pool.bytes + MOST_MERGED * pieces keep (table_of F.meaning store.old) node.0 start len) result store.new }
+    ensures steps { StepsThrough F.meaning store.old keep node start len result store.new }
     ensures is_rope { IfOk result (λ rope. IsRope (table_of F.meaning store.new) rope) }
-    ensures text { IfOk result (λ rope. rope_cells (table_of F.meaning store.new) rope ≡ take len (drop start (cells (table_of F.meaning store.old) node.0))) }
+    ensures text { IfOk result (IsPart F.meaning store.old node start len store.new) }
     ensures shallow { IfOk result (λ rope. IsNearlyBalanced (table_of F.meaning store.new) rope) }
 {
     let _count = store.count();
@@ -149,8 +147,8 @@ fn fill<F: LeafFn>(
     requires slots { AreSlots (table_of F.meaning store.old) slots.old }
     requires empty { slots_cells (table_of F.meaning store.old) slots.old ≡ [] }
     requires none { full_slots slots.old ≡ 0 }
-    ensures steps { Steps F.meaning store.old (length store.old.nodes + 2 * pieces keep (table_of F.meaning store.old) node.0 start len) (length store.old.pool.bytes + MOST_MERGED * pieces keep (table_of F.meaning store.old) node.0 start len) result store.new }
-    ensures spread { IfOk result (λ _. IsSpread (table_of F.meaning store.new) (length store.old.nodes + 2 * pieces keep (table_of F.meaning store.old) node.0 start len) (take len (drop start (cells (table_of F.meaning store.old) node.0))) 0 slots.new None) }
+    ensures steps { StepsThrough F.meaning store.old keep node start len result store.new }
+    ensures spread { IfOk result (λ _. IsFilled F.meaning store.old keep node start len slots.new store.new) }
 {
     let _len = NodeSpace::len(store, node);
     let mut done = 0;

@@ -1,13 +1,13 @@
 //! The pieces that a rope's text is put together from.
 
 ghost use Rattle.std.specs.Prelude.{◌≡◌, ◌↔◌, ◌⊎◌, ◌+◌, ◌<◌, ◌≤◌, length, map, take, drop, IsTrue, IfOk};
-ghost use Rattle.std.specs.List.{range_with_len};
 ghost use Rattle.rope_node.specs.Table.{view_at, len_at, IsLeaf, IsFunction};
 ghost use Rattle.rope_node.specs.Denotes.{Byte, cells, rope_cells};
 ghost use Rattle.node_table.specs.Held.{table_of};
-ghost use Rattle.rebalance.specs.Pieces.{is_kept, pieces, most_pieces, IsFirst, IsWhole};
+ghost use Rattle.rebalance.specs.Pieces.{answered_bytes, is_kept, pieces, most_pieces, IsFirst, IsPieceSpan};
+ghost use Rattle.rebalance.specs.Balancing.{IsPart};
 ghost use Rattle.rebalance.specs.Slots.{IsPiece};
-ghost use Rattle.rebalance.specs.Steps.{Steps};
+ghost use Rattle.rebalance.specs.Steps.{AddsPiece};
 
 use crate::balanced::fibonacci;
 use function_leaf::LeafFn;
@@ -122,12 +122,12 @@ pub(crate) fn has_few_pieces<F: LeafFn>(
 /// A piece as a rope: the node where it is all of it, else a part of a leaf that holds no leaf for a few bytes.
 pub(crate) fn piece<F: LeafFn>(store: &mut Store<F>, span: Span) -> Result<Rope, NodeFault>
     requires there { span.node.0 < length store.old.nodes }
-    requires is { IsLeaf (view_at (table_of F.meaning store.old) span.node.0) ⊎ IsWhole (table_of F.meaning store.old) span }
+    requires is { IsPieceSpan (table_of F.meaning store.old) span }
     requires some { 1 ≤ span.len }
     requires inside { span.start + span.len ≤ len_at (table_of F.meaning store.old) span.node.0 }
-    ensures steps { Steps F.meaning store.old (length store.old.nodes + 1) (length store.old.pool.bytes + MOST_MERGED) result store.new }
+    ensures steps { AddsPiece F.meaning store.old result store.new }
     ensures piece { IfOk result (λ rope. IsPiece (table_of F.meaning store.new) rope) }
-    ensures text { IfOk result (λ rope. rope_cells (table_of F.meaning store.new) rope ≡ take span.len (drop span.start (cells (table_of F.meaning store.old) span.node.0))) }
+    ensures text { IfOk result (IsPart F.meaning store.old span.node span.start span.len store.new) }
 {
     let Span { node, start, len } = span;
     if len == NodeSpace::len(store, node) {
@@ -148,9 +148,9 @@ fn leaf_part<F: LeafFn>(
     requires some { 1 ≤ len }
     requires inside { start + len ≤ len_at (table_of F.meaning store.old) leaf.0 }
     requires less { ¬ (len ≡ len_at (table_of F.meaning store.old) leaf.0) }
-    ensures steps { Steps F.meaning store.old (length store.old.nodes + 1) (length store.old.pool.bytes + MOST_MERGED) result store.new }
+    ensures steps { AddsPiece F.meaning store.old result store.new }
     ensures piece { IfOk result (λ rope. IsPiece (table_of F.meaning store.new) rope) }
-    ensures text { IfOk result (λ rope. rope_cells (table_of F.meaning store.new) rope ≡ take len (drop start (cells (table_of F.meaning store.old) leaf.0))) }
+    ensures text { IfOk result (IsPart F.meaning store.old leaf start len store.new) }
 {
     let _count = store.count();
     match store.node(leaf) {
@@ -170,9 +170,9 @@ fn written<F: LeafFn>(
     requires some { 1 ≤ len }
     requires short { len < 32 }
     requires inside { start + len ≤ len_at (table_of F.meaning store.old) leaf.0 }
-    ensures steps { Steps F.meaning store.old (length store.old.nodes + 1) (length store.old.pool.bytes + MOST_MERGED) result store.new }
+    ensures steps { AddsPiece F.meaning store.old result store.new }
     ensures piece { IfOk result (λ rope. IsPiece (table_of F.meaning store.new) rope) }
-    ensures text { IfOk result (λ rope. rope_cells (table_of F.meaning store.new) rope ≡ take len (drop start (cells (table_of F.meaning store.old) leaf.0))) }
+    ensures text { IfOk result (IsPart F.meaning store.old leaf start len store.new) }
 {
     let _len = NodeSpace::len(store, leaf);
     let bytes = read(store, leaf, start, len);
@@ -186,7 +186,7 @@ fn read<F: LeafFn>(store: &Store<F>, leaf: NodeId, start: u64, len: u64) -> [u8;
     requires function { IsFunction (view_at (table_of F.meaning store.now) leaf.0) }
     requires short { len < 32 }
     requires inside { start + len ≤ len_at (table_of F.meaning store.now) leaf.0 }
-    ensures { take len result ≡ map (λ k. (table_of F.meaning store.now).answer leaf.0 (start + k)) (range_with_len 0 len) }
+    ensures { take len result ≡ answered_bytes (table_of F.meaning store.now) leaf start len }
 {
     let _len = NodeSpace::len(store, leaf);
     let mut bytes = [0; MOST_MERGED];

@@ -1,12 +1,12 @@
 //! Slots for ropes: a longer rope in a slot of a higher number, and more to the left in the text.
 
-ghost use Rattle.std.specs.Prelude.{◌≡◌, ◌+◌, ◌^◌, ◌<◌, ◌≤◌, ◌++◌, length, IfOk};
+ghost use Rattle.std.specs.Prelude.{◌≡◌, ◌+◌, ◌<◌, ◌≤◌, length, IfOk};
 ghost use Rattle.rope_node.specs.declared.limits.TheConstants.{TEXT_LIMIT};
 ghost use Rattle.rope_node.specs.Balance.{fibonacci};
 ghost use Rattle.rope_node.specs.Denotes.{rope_cells, rope_len, rope_depth, IsRope};
 ghost use Rattle.node_table.specs.Held.{table_of};
-ghost use Rattle.rebalance.specs.Slots.{full_slots, ropes_in, slots_cells, slot_count, AreSlots, AreEmptyBelow, IsCarried, IsGathered, IsJoin, IsPiece, IsSpread};
-ghost use Rattle.rebalance.specs.Steps.{Steps};
+ghost use Rattle.rebalance.specs.Slots.{full_slots, ropes_in, slots_cells, slot_count, AreSlots, AreEmptyBelow, IsCarried, IsGathered, IsJoin, IsPiece, Gathers, Inserts, Settles, cells_with, joined_len};
+ghost use Rattle.rebalance.specs.Steps.{AddsNodes};
 
 use crate::balanced::fibonacci;
 use function_leaf::LeafFn;
@@ -39,8 +39,8 @@ fn join<F: LeafFn>(store: &mut Store<F>, l: Rope, r: Rope) -> Result<Rope, NodeF
     requires right { IsRope (table_of F.meaning store.old) r }
     requires left_shallow { rope_depth (table_of F.meaning store.old) l < 64 }
     requires right_shallow { rope_depth (table_of F.meaning store.old) r < 64 }
-    requires short { rope_len (table_of F.meaning store.old) l + rope_len (table_of F.meaning store.old) r < TEXT_LIMIT }
-    ensures steps { Steps F.meaning store.old (length store.old.nodes + (ropes_in l + ropes_in r)) (length store.old.pool.bytes) result store.new }
+    requires short { joined_len (table_of F.meaning store.old) l r < TEXT_LIMIT }
+    ensures steps { AddsNodes F.meaning store.old (ropes_in l + ropes_in r) result store.new }
     ensures join { IfOk result (λ rope. IsJoin F.meaning store.old l r rope store.new) }
 {
     let _count = store.count();
@@ -60,9 +60,9 @@ pub(crate) fn join_below<F: LeafFn>(
     requires end { end ≤ slot_count }
     requires slots { AreSlots (table_of F.meaning store.old) slots.old }
     requires short { length (slots_cells (table_of F.meaning store.old) slots.old) < TEXT_LIMIT }
-    ensures steps { Steps F.meaning store.old (length store.old.nodes + full_slots slots.old) (length store.old.pool.bytes) result store.new }
+    ensures steps { AddsNodes F.meaning store.old (full_slots slots.old) result store.new }
     ensures gathered { IfOk result (λ rope. IsGathered (table_of F.meaning store.new) end rope) }
-    ensures spread { IfOk result (λ rope. IsSpread (table_of F.meaning store.new) (length store.old.nodes + full_slots slots.old) (slots_cells (table_of F.meaning store.old) slots.old) end slots.new rope) }
+    ensures spread { IfOk result (Gathers F.meaning store.old slots.old end slots.new store.new) }
 {
     let mut rope = None;
     for m in 0..end {
@@ -84,9 +84,9 @@ fn settle<F: LeafFn>(
     requires empty { AreEmptyBelow first slots.old }
     requires there { IsRope (table_of F.meaning store.old) carried }
     requires carried { IsCarried (table_of F.meaning store.old) first carried }
-    requires short { length (slots_cells (table_of F.meaning store.old) slots.old ++ rope_cells (table_of F.meaning store.old) carried) < TEXT_LIMIT }
-    ensures steps { Steps F.meaning store.old (length store.old.nodes + (full_slots slots.old + ropes_in carried)) (length store.old.pool.bytes) result store.new }
-    ensures spread { IfOk result (λ _. IsSpread (table_of F.meaning store.new) (length store.old.nodes + (full_slots slots.old + ropes_in carried)) (slots_cells (table_of F.meaning store.old) slots.old ++ rope_cells (table_of F.meaning store.old) carried) 0 slots.new None) }
+    requires short { length (cells_with (table_of F.meaning store.old) slots.old carried) < TEXT_LIMIT }
+    ensures steps { AddsNodes F.meaning store.old (full_slots slots.old + ropes_in carried) result store.new }
+    ensures spread { IfOk result (λ _. Settles F.meaning store.old slots.old carried slots.new store.new) }
 {
     let mut slot = first;
     let mut rope = carried;
@@ -111,9 +111,9 @@ pub(crate) fn insert<F: LeafFn>(
 ) -> Result<(), NodeFault>
     requires slots { AreSlots (table_of F.meaning store.old) slots.old }
     requires piece { IsPiece (table_of F.meaning store.old) piece }
-    requires short { length (slots_cells (table_of F.meaning store.old) slots.old ++ rope_cells (table_of F.meaning store.old) piece) < TEXT_LIMIT }
-    ensures steps { Steps F.meaning store.old (length store.old.nodes + (full_slots slots.old + 1)) (length store.old.pool.bytes) result store.new }
-    ensures spread { IfOk result (λ _. IsSpread (table_of F.meaning store.new) (length store.old.nodes + (full_slots slots.old + 1)) (slots_cells (table_of F.meaning store.old) slots.old ++ rope_cells (table_of F.meaning store.old) piece) 0 slots.new None) }
+    requires short { length (cells_with (table_of F.meaning store.old) slots.old piece) < TEXT_LIMIT }
+    ensures steps { AddsNodes F.meaning store.old (full_slots slots.old + 1) result store.new }
+    ensures spread { IfOk result (λ _. Inserts F.meaning store.old slots.old piece slots.new store.new) }
 {
     let _count = store.count();
     let first = slot_for(store.len(piece));
