@@ -55,7 +55,7 @@ pub made_good : {T : Type 0} (stated : T → Stated) (failures : T → ℕ) (old
     → MeetsNoSource t parts root rows → CoversAlways t coded parts root rows → ReadsRows stated failures old new t coded parts root rows outcome → IfOk outcome (TellsRows t coded (stated old) parts root rows) → outcome ≡ Ok Good
 made_good stated failures old new t coded parts root rows (Ok v) none covers reads tells =
     let some = agreeing (stated old) in
-    ap Ok ((tells some.0 some.1 (no_source_stated t (stated old) parts root rows none)).good.1 (covers some.0))
+    ap Ok ((tells some.0 some.1 (λ i before lt. no_source_stated t (stated old) parts root rows none i lt)).good.1 (covers some.0))
 made_good stated failures old new t coded parts root rows (Err e) none covers reads tells =
     let ok = reads.succeeds (no_source_readable t (stated old) parts root rows none) in absurd cc
 
@@ -95,8 +95,8 @@ own_rows_readable t s st own parts root rows are there j lt =
 pub shows_same : (t : Table) → IsSound t → HasTrueRecords t → (coded : ℕ → Coded) → AreAnswered t coded → (st : Stated) (parts : List Part) (root : Option NodeId) (rows : List Row) → AreParts t parts → IsRope t root
     → TellsRows t coded st parts root rows Good → ShowsSame t st parts root rows
 shows_same t s h coded answers st parts root rows are there tells = record {
-  same_text = λ source agrees stated. covered_text t s h coded answers source parts root rows are there ((tells source agrees stated).good.0 refl);
+  same_text = λ source agrees stated. covered_text t s h coded answers source parts root rows are there ((tells source agrees (λ i before lt. stated i lt)).good.0 refl);
   same_cells = λ none.
       let some = agreeing st in
-      covered_cells t s h coded answers some.0 parts root rows are there ((tells some.0 some.1 (no_source_stated t st parts root rows none)).good.0 refl) none;
+      covered_cells t s h coded answers some.0 parts root rows are there ((tells some.0 some.1 (λ i before lt. no_source_stated t st parts root rows none i lt)).good.0 refl) none;
 }

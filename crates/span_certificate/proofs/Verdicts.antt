@@ -10,7 +10,7 @@ use Rattle.rope_node.specs.Denotes.{rope_cells, rope_len}
 use Rattle.rope_node.proofs.Parts.{span_within}
 use Rattle.lazy_file.specs.SourceTexts.{Agrees, Reads, Stated}
 use Rattle.lazy_file.specs.declared.faults.SourceFault.{SourceFault}
-use Rattle.cord_position.specs.Fetched.{IsReadable}
+use Rattle.cord_position.specs.Fetched.{AreStated, IsReadable}
 use Rattle.span_certificate.specs.declared.cover.Verdict.{Verdict}
 use Rattle.span_certificate.specs.declared.cover.Verdict.TheVariants.{Good, Bad}
 use Rattle.span_certificate.specs.declared.part.Part.{Part}
@@ -21,7 +21,7 @@ use Rattle.span_certificate.specs.Parts.{part_len, parts_len, part_cells, ArePar
 use Rattle.span_certificate.specs.Leads.{PartLeads}
 use Rattle.span_certificate.specs.Covers.{row_at, no_row, rows_len, place_of, bytes_limit, compared, kind_compares, row_compares, KindFits, Fits, Covers, IsFirstBad}
 use Rattle.span_certificate.specs.Runs.{ReadsCells, TellsSame}
-use Rattle.span_certificate.specs.Verdicts.{TellsKind, TellsRow, TellsRows, AreStatedRows, IsVerdict, ReadsRows}
+use Rattle.span_certificate.specs.Verdicts.{TellsKind, TellsRow, TellsRows, IsVerdict, ReadsRows}
 use Rattle.span_certificate.proofs.ComparedCells.{each_listed, failed_among}
 use Rattle.span_certificate.proofs.Covering.{holds_place, no_part, place_of_more, place_of_all}
 
@@ -93,10 +93,10 @@ pub record IsVerifying (t : Table) (coded : ℕ → Coded) (st : Stated) (parts 
   pub stands : place ≡ place_of rows j
   pub in_root : place ≤ rope_len t root
   pub in_parts : place ≤ parts_len parts
-  pub fit : (source : ℕ → ℕ → ℕ) → Agrees st source → AreStatedRows t st parts root rows → (i : ℕ) → i < j → Fits t coded source parts root (place_of rows i) (row_at rows i)
+  pub fit : (source : ℕ → ℕ → ℕ) → Agrees st source → (i : ℕ) → i < j → AreStated st (row_compares t parts root (place_of rows i) (row_at rows i)) → Fits t coded source parts root (place_of rows i) (row_at rows i)
 
 pub verifying_none : (t : Table) (coded : ℕ → Coded) (st : Stated) (parts : List Part) (root : Option NodeId) (rows : List Row) → IsVerifying t coded st parts root rows 0 0
-verifying_none t coded st parts root rows = record { stands = refl; in_root = omega arith; in_parts = omega arith; fit = λ source agrees stated i lt. absurd (omega arith) }
+verifying_none t coded st parts root rows = record { stands = refl; in_root = omega arith; in_parts = omega arith; fit = λ source agrees i lt. absurd (omega arith) }
 
 -- what the test of the row at place tells of row j
 tells_at : (t : Table) (coded : ℕ → Coded) (st : Stated) (parts : List Part) (root : Option NodeId) (rows : List Row) (j place : ℕ) (row : Row) (answer : Bool) → place ≡ place_of rows j → slice_get rows j ≡ Some row
@@ -112,7 +112,7 @@ verifying_more t coded st parts root rows j place row lt is so_far tells inside 
       stands = sym (place_of_more rows j lt ∙ rw (row-is, ← so_far.stands) refl);
       in_root = inside.0;
       in_parts = inside.1;
-      fit = λ source agrees stated. below_more _ _ (so_far.fit source agrees stated) ((here source agrees (stated j lt)).0 refl);
+      fit = λ source agrees. below_more _ _ (so_far.fit source agrees) (λ stated. (here source agrees stated).0 refl);
     }
 
 -- rows that cover have no first bad one, and there is at most one
@@ -149,9 +149,9 @@ pub answers_unfit : (t : Table) (coded : ℕ → Coded) (st : Stated) (parts : L
 answers_unfit t coded st parts root rows j place row lt is so_far tells source agrees stated =
     let here = tells_at t coded st parts root rows j place row false so_far.stands is tells in
     verdict_bad t coded source parts root rows j (record {
-      before = so_far.fit source agrees stated;
+      before = λ i below. so_far.fit source agrees i below (stated i (omega arith) (omega arith));
       at_most = omega arith;
-      unfit = λ _ fits. let never : false ≡ true = (here source agrees (stated j lt)).1 fits in absurd cc;
+      unfit = λ _ fits. let never : false ≡ true = (here source agrees (stated j (omega arith) lt)).1 fits in absurd cc;
       uncovered = λ e. absurd (omega arith);
     })
 
@@ -159,14 +159,14 @@ pub answers_whole : (t : Table) (coded : ℕ → Coded) (st : Stated) (parts : L
     → (place ≡ rope_len t root) × (place ≡ parts_len parts) → TellsRows t coded st parts root rows Good
 answers_whole t coded st parts root rows j place e so_far ends source agrees stated =
     let whole : place ≡ rows_len rows = so_far.stands ∙ ap (place_of rows) e ∙ place_of_all rows in
-    verdict_good t coded source parts root rows (record { fit = λ i lt. so_far.fit source agrees stated i (omega arith); whole_root = sym whole ∙ ends.0; whole_parts = sym whole ∙ ends.1 })
+    verdict_good t coded source parts root rows (record { fit = λ i lt. so_far.fit source agrees i (omega arith) (stated i lt lt); whole_root = sym whole ∙ ends.0; whole_parts = sym whole ∙ ends.1 })
 
 pub answers_left : (t : Table) (coded : ℕ → Coded) (st : Stated) (parts : List Part) (root : Option NodeId) (rows : List Row) (j place : ℕ) → j ≡ length rows → IsVerifying t coded st parts root rows j place
     → ¬ ((place ≡ rope_len t root) × (place ≡ parts_len parts)) → TellsRows t coded st parts root rows (Bad j)
 answers_left t coded st parts root rows j place e so_far missed source agrees stated =
     let whole : place ≡ rows_len rows = so_far.stands ∙ ap (place_of rows) e ∙ place_of_all rows in
     verdict_bad t coded source parts root rows j (record {
-      before = so_far.fit source agrees stated;
+      before = λ i below. so_far.fit source agrees i below (stated i (omega arith) (omega arith));
       at_most = omega arith;
       unfit = λ lt. absurd (omega arith);
       uncovered = λ _ both. missed (whole ∙ both.0, whole ∙ both.1);

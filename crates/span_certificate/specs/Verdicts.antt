@@ -1,5 +1,5 @@
 -- What verifying tells of rows over what the sources state, and when it answers a source's fault.
-use Rattle.std.specs.Prelude.{◌≡◌, ◌↔◌, ℕ, ◌<◌, List, length, Option, Result, Bool, IsTrue, IfErr, IsOk}
+use Rattle.std.specs.Prelude.{◌≡◌, ◌↔◌, ℕ, ◌+◌, ◌<◌, List, length, Option, Result, Bool, IsTrue, IfErr, IsOk}
 use Rattle.function_leaf.specs.declared.coded.Coded.{Coded}
 use Rattle.rope_node.specs.declared.node.NodeId.{NodeId}
 use Rattle.rope_node.specs.Table.{Table}
@@ -38,10 +38,19 @@ pub record IsVerdict (t : Table) (coded : ℕ → Coded) (source : ℕ → ℕ �
   pub good : (v ≡ Good) ↔ Covers t coded source parts root rows
   pub bad : (j : ℕ) → (v ≡ Bad j) ↔ IsFirstBad t coded source parts root rows j
 
--- the same over any bytes that agree with what the sources state, where rows of bytes are over stated cells
+-- how many rows an answer depends on
+abbrev pub rows_judged : List Row → Verdict → ℕ
+rows_judged rows Good = length rows
+rows_judged rows (Bad j) = j + 1
+
+-- each of the first n rows compares stated cells alone
+abbrev pub AreStatedBefore : Table → Stated → List Part → Option NodeId → List Row → ℕ → Type 0
+AreStatedBefore t st parts root rows n = (i : ℕ) → i < n → i < length rows → AreStated st (row_compares t parts root (place_of rows i) (row_at rows i))
+
+-- the same over any bytes that agree with what the sources state, where the rows that the answer depends on compare stated cells
 abbrev pub TellsRows : Table → (ℕ → Coded) → Stated → List Part → Option NodeId → List Row → Verdict → Type 0
 TellsRows t coded st parts root rows v =
-    (source : ℕ → ℕ → ℕ) → Agrees st source → AreStatedRows t st parts root rows → IsVerdict t coded source parts root rows v
+    (source : ℕ → ℕ → ℕ) → Agrees st source → AreStatedBefore t st parts root rows (rows_judged rows v) → IsVerdict t coded source parts root rows v
 
 -- The parts joined and the root have one text over any bytes that agree with what the sources state, where rows of bytes are over
 -- stated cells; and the same cells, where none is over a source.
@@ -49,13 +58,13 @@ pub record ShowsSame (t : Table) (st : Stated) (parts : List Part) (root : Optio
   pub same_text : (source : ℕ → ℕ → ℕ) → Agrees st source → AreStatedRows t st parts root rows → text source (parts_cells t parts) ≡ text source (rope_cells t root)
   pub same_cells : MeetsNoSource t parts root rows → parts_cells t parts ≡ rope_cells t root
 
--- a read for row j, which is one of bytes, failed so, and the rows before it fit
+-- a read for row j, which is one of bytes, failed so, and each row before it fits, where it compares stated cells
 pub record IsVerdictFault {T : Type 0} (stated : T → Stated) (failures : T → ℕ) (old new : T) (t : Table) (coded : ℕ → Coded)
     (parts : List Part) (root : Option NodeId) (rows : List Row) (fault : SourceFault) : Type 0 where
   pub j : ℕ
   pub inside : j < length rows
   pub row : IsFaultAmong stated failures old new (row_compares t parts root (place_of rows j) (row_at rows j)) fault
-  pub fit : (source : ℕ → ℕ → ℕ) → Agrees (stated old) source → AreStatedRows t (stated old) parts root rows → (i : ℕ) → i < j → Fits t coded source parts root (place_of rows i) (row_at rows i)
+  pub fit : (source : ℕ → ℕ → ℕ) → Agrees (stated old) source → (i : ℕ) → i < j → AreStated (stated old) (row_compares t parts root (place_of rows i) (row_at rows i)) → Fits t coded source parts root (place_of rows i) (row_at rows i)
 
 -- what verifying does to the sources, and when it fails
 pub record ReadsRows {T : Type 0} (stated : T → Stated) (failures : T → ℕ) (old new : T) (t : Table) (coded : ℕ → Coded)

@@ -1,6 +1,6 @@
-use Rattle.std.proofs.Common.{◌≡◌, ◌<◌, length, arith}
+use Rattle.std.proofs.Common.{◌≡◌, ◌<◌, length, sym, ◌∙◌, arith}
 use Rattle.lazy_file.proofs.LaterReads.{reads_then}
-use Rattle.span_certificate.proofs.Verdicts.{verifying_more, answers_unfit, answers_whole, verdict_failed}
+use Rattle.span_certificate.proofs.Verdicts.{verifying_more, answers_unfit, answers_whole, answers_left, verdict_failed}
 use Rattle.span_certificate.proofs.MadeRows.{shows_same}
 use Rattle.span_certificate.proofs.cover.verify.Goals as goal
 
@@ -35,3 +35,20 @@ returns-then-is_whole-clause-shows g c = λ _.
     shows_same t c.count-nodes.ensures.sound c.count-nodes.ensures.true_records coded (g.met.S.CodedSpace.answered c.args.space.now) (g.T.Sources.stated c.args.sources.now) c.args.parts.now c.args.root rows
     c.requires.parts c.requires.root
     (answers_whole t coded (g.T.Sources.stated c.args.sources.now) c.args.parts.now c.args.root rows c.loop-j.j c.loop-j.place end c.loop-j.invariant.verifying (c.is_whole.ensures.0 c.if-is_whole.true))
+
+pub returns-then-is_whole-clause-exact : goal.returns-then-is_whole-clause-exact
+returns-then-is_whole-clause-exact g c =
+    let rows = g.R.Rows.listed c.args.rows.now in
+    let end : c.loop-j.j ≡ length rows = omega (arith, c.count-j-end.ensures, c.loop-j-test.false, c.loop-j.auto.j-end) in
+    answers_whole (g.S.NodeSpace.table c.args.space.now) (g.S.CodedSpace.coded c.args.space.now) (g.T.Sources.stated c.args.sources.now) c.args.parts.now c.args.root rows c.loop-j.j c.loop-j.place
+    end c.loop-j.invariant.verifying (c.is_whole.ensures.0 c.if-is_whole.true)
+
+pub returns-else-is_whole-clause-exact : goal.returns-else-is_whole-clause-exact
+returns-else-is_whole-clause-exact g c =
+    let t = g.S.NodeSpace.table c.args.space.now in
+    let rows = g.R.Rows.listed c.args.rows.now in
+    let end : c.loop-j.j ≡ length rows = omega (arith, c.count-j-end.ensures, c.loop-j-test.false, c.loop-j.auto.j-end) in
+    let last : c.count.result ≡ c.loop-j.j = c.count.ensures ∙ sym end in
+    rw last
+    (answers_left t (g.S.CodedSpace.coded c.args.space.now) (g.T.Sources.stated c.args.sources.now) c.args.parts.now c.args.root rows c.loop-j.j c.loop-j.place
+    end c.loop-j.invariant.verifying (λ both. let never = c.is_whole.ensures.1 both in let is = c.if-is_whole.false in absurd cc))
