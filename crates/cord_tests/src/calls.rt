@@ -1,6 +1,7 @@
 //! Each public call of a crate, with ample memory and with none.
 
 mod balance;
+mod certificates;
 mod functions;
 mod pools;
 mod positions;

@@ -18,8 +18,8 @@ pub struct EarlierRoots<'i, 'a> {
 impl Roots for EarlierRoots<'_, '_> {
     ghost roots = { λ r. roots_before r.image.now r.k };
 
-    fn count(&self) -> u32 {
-        self.k
+    fn count(&self) -> usize {
+        self.k as usize
     }
 
     fn root(&self, r: u32) -> Rope {

@@ -69,8 +69,12 @@ impl<F: LeafFn> NodeSpace for NodeTable<F> {
 
 impl CodedSpace for NodeTable<Coded> {
     ghost use Rattle.node_table.specs.Held.{coded_at};
+    ghost use Rattle.std.specs.Prelude.{get_or, None};
+    ghost use Rattle.rope_node.specs.Coded.{answers_as_filled};
 
     ghost coded = { coded_at };
+
+    ghost answered = { λ h id. answers_as_filled (get_or h.functions id None) };
 
     fn coded(&self, id: NodeId) -> Coded {
         match self.records[id.0 as usize].function {

@@ -83,8 +83,10 @@ pub trait CodedSpace: NodeSpace {
     fn coded(&self, id: NodeId) -> Coded
         requires there { id.0 < length (Self.NodeSpace.table self.now).nodes }
         requires function { IsFunction (view_at (Self.NodeSpace.table self.now) id.0) }
-        ensures function { result ≡ coded self.now id.0 }
-        ensures answers { AnswersCoded (Self.NodeSpace.table self.now) id.0 result };
+        ensures { result ≡ coded self.now id.0 };
+
+    // What the table answers at a node is what its function gives.
+    ghost answered: { (s : Self) → (id : ℕ) → AnswersCoded (Self.NodeSpace.table s) id (coded s id) };
 }
 
 /// The length of a rope's text in bytes, 0 for nil.

@@ -158,9 +158,12 @@ impl NodeSpace for Checked<'_> {
 }
 
 impl CodedSpace for Checked<'_> {
-    ghost use Rattle.image_reader.specs.Value.{coded_at};
+    ghost use Rattle.image_reader.specs.Value.{coded_at, function_at};
+    ghost use Rattle.rope_node.specs.Coded.{answers_as_filled};
 
     ghost coded = { coded_at };
+
+    ghost answered = { λ v id. answers_as_filled (function_at v id) };
 
     fn coded(&self, id: NodeId) -> Coded {
         self.tables.coded(id)

@@ -7,13 +7,20 @@ use crate::node_rules::{TEXT_LIMIT, is_inside};
 use rope_node::{NodeSpace, rope_len};
 use span_certificate::{Edit, Roots};
 
+/// Whether text `r` is there.
+fn is_there<R: Roots>(roots: &R, r: u32) -> bool
+    ensures { IsTrue result ↔ (r < length (R.roots roots.now)) }
+{
+    (r as usize) < roots.count()
+}
+
 /// Whether text `r` is there, with `n` bytes from `i` on.
 fn has_span<S: NodeSpace, R: Roots>(space: &S, roots: &R, r: u32, i: u64, n: u64) -> bool
     requires { AreRopes (S.table space.now) (R.roots roots.now) }
     ensures { IsTrue result ↔ ((r < length (R.roots roots.now))
         × (i + n ≤ len_of (S.table space.now) (R.roots roots.now) r)) }
 {
-    r < roots.count() && is_inside(i, n, rope_len(space, roots.root(r)))
+    is_there(roots, r) && is_inside(i, n, rope_len(space, roots.root(r)))
 }
 
 /// Whether text `r` is there with `m` bytes from `p` on, and is not too long with `n` bytes in their place.
@@ -23,7 +30,7 @@ fn takes<S: NodeSpace, R: Roots>(space: &S, roots: &R, r: u32, p: u64, m: u64, n
         × (p + m ≤ len_of (S.table space.now) (R.roots roots.now) r)
         × (len_of (S.table space.now) (R.roots roots.now) r + n < 2 ^ 40 + m)) }
 {
-    if r >= roots.count() {
+    if !is_there(roots, r) {
         return false;
     }
     let len = rope_len(space, roots.root(r));
@@ -37,7 +44,7 @@ fn joins<S: NodeSpace, R: Roots>(space: &S, roots: &R, r: u32, q: u32) -> bool
         × (len_of (S.table space.now) (R.roots roots.now) r
         + len_of (S.table space.now) (R.roots roots.now) q < 2 ^ 40)) }
 {
-    if r >= roots.count() || q >= roots.count() {
+    if !is_there(roots, r) || !is_there(roots, q) {
         return false;
     }
     rope_len(space, roots.root(r)) + rope_len(space, roots.root(q)) < TEXT_LIMIT
@@ -69,6 +76,6 @@ pub fn is_in_range<S: NodeSpace, R: Roots>(space: &S, roots: &R, edit: Edit) -> 
         Edit::Join { r, q } => joins(space, roots, r, q),
         Edit::Cut { r, i, n } => has_span(space, roots, r, i, n),
         Edit::Fill { r, p, c, n } => c <= 255 && takes(space, roots, r, p, 0, n),
-        Edit::Back { r } | Edit::Balance { r } => r < roots.count(),
+        Edit::Back { r } | Edit::Balance { r } => is_there(roots, r),
     }
 }

@@ -104,9 +104,12 @@ impl NodeSpace for Tables<'_> {
 }
 
 impl CodedSpace for Tables<'_> {
-    ghost use Rattle.image_reader.specs.Value.{coded_at};
+    ghost use Rattle.image_reader.specs.Value.{coded_at, function_at};
+    ghost use Rattle.rope_node.specs.Coded.{answers_as_filled};
 
     ghost coded = { coded_at };
+
+    ghost answered = { λ v id. answers_as_filled (function_at v id) };
 
     fn coded(&self, id: NodeId) -> Coded {
         self.image.coded(id)

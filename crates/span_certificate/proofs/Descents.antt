@@ -1,11 +1,12 @@
 -- Descents: what a lead says at each kind of node, and what stays true on the way down.
-use Rattle.std.proofs.Common.{◌≡◌, ℕ, ◌+◌, ◌-◌, ◌<◌, ◌≤◌, ◌⊎◌, inl, inr, length, subst, arith}
+use Rattle.std.proofs.Common.{◌≡◌, ℕ, ◌+◌, ◌-◌, ◌<◌, ◌≤◌, ◌⊎◌, inl, inr, length, sym, ap, subst, ◌∙◌, arith}
 use Rattle.rope_node.specs.declared.node.NodeId.{NodeId}
 use Rattle.rope_node.specs.declared.node.NodeView.{NodeView}
 use Rattle.rope_node.specs.declared.node.NodeView.TheVariants.{Lit, Src, Fun, Cat, Sub}
 use Rattle.rope_node.specs.Table.{Table, view_at, len_at, IsLeaf, IsSound, HasTrueRecords}
 use Rattle.span_certificate.specs.declared.descent.LeafSpan.{LeafSpan}
 use Rattle.span_certificate.specs.Leads.{Leads, here, in_left, in_right, in_base, LeadsToLeaf}
+use Rattle.span_certificate.specs.Descents.{LeadsToSpan}
 
 -- a concatenation is no leaf
 pub not_leaf_cat : (v : NodeView) (l r : NodeId) → v ≡ Cat l r → IsLeaf v → ⊥
@@ -111,5 +112,10 @@ over_border t n y q x p k o l r e before behind way lead =
     elim (after_cat l r down.0 down.1 e) [ inl w ↦ absurd (omega (arith, w.0)) | inr w ↦ absurd (omega (arith, w.0)) ]
 
 -- a descent that has come to a leaf has found the one leaf span
-pub found_leaf : (t : Table) (n y q x p : ℕ) (s : LeafSpan) → IsLeaf (view_at t x) → IsOnTheWay t n y q x p → LeadsToLeaf t n s.leaf.0 s.start y q → (x ≡ s.leaf.0) × (p ≡ s.start)
-found_leaf t n y q x p s leaf way lead = at_leaf (way.forth s.leaf.0 s.start lead).0 leaf
+pub same_span : (t : Table) (n y q : ℕ) (x : NodeId) (p : ℕ) (v : NodeView) (s : LeafSpan) → IsLeaf (view_at t x.0) → v ≡ view_at t x.0 → IsOnTheWay t n y q x.0 p → LeadsToSpan t n y q s
+    → record { leaf = x; start = p; view = v } ≡ s
+same_span t n y q x p v s leaf is way lead =
+    let same = at_leaf (way.forth s.leaf.0 s.start lead.leads).0 leaf in
+    let node : x ≡ s.leaf = ap (λ k. record { 0 = k }) same.0 in
+    let view : v ≡ s.view = is ∙ ap (view_at t) same.0 ∙ sym lead.view in
+    ap (λ z. record { leaf = z; start = p; view = v }) node ∙ ap (λ o. record { leaf = s.leaf; start = o; view = v }) same.1 ∙ ap (λ w. record { leaf = s.leaf; start = s.start; view = w }) view

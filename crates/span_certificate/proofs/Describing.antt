@@ -8,7 +8,7 @@ use Rattle.function_leaf.specs.declared.coded.Coded.TheVariants.{Fill, Ramp, Cyc
 use Rattle.function_leaf.specs.Coded.{coded_byte}
 use Rattle.rope_node.specs.declared.node.NodeView.{NodeView}
 use Rattle.rope_node.specs.declared.node.NodeView.TheVariants.{Lit, Src, Fun, Cat, Sub}
-use Rattle.rope_node.specs.Table.{Table, view_at, len_at, IsSound, IsFunction}
+use Rattle.rope_node.specs.Table.{Table, view_at, len_at, IsSound}
 use Rattle.rope_node.specs.Denotes.{Cell, Byte, Place, cells}
 use Rattle.rope_node.specs.Coded.{AnswersCoded}
 use Rattle.rope_node.proofs.Cells.{cells_at}
@@ -39,7 +39,7 @@ some_same : (d e : Description) → Some d ≡ Some e → d ≡ e
 some_same d e is = cc
 
 -- a leaf span denotes what its description does
-pub leaf_cells : (t : Table) → IsSound t → (f : Coded) (k o n : ℕ) → k < length t.nodes → o + n ≤ len_at t k → (v : NodeView) → view_at t k ≡ v → (IsFunction v → AnswersCoded t k f) → (d : Description) → leaf_description f o v ≡ Some d
+pub leaf_cells : (t : Table) → IsSound t → (f : Coded) (k o n : ℕ) → k < length t.nodes → o + n ≤ len_at t k → (v : NodeView) → view_at t k ≡ v → AnswersCoded t k f → (d : Description) → leaf_description f o v ≡ Some d
     → take n (drop o (cells t k)) ≡ described_cells t n d
 leaf_cells t s f k o n there inside (Lit a) is answers d e =
     let same : Pooled (a + o) ≡ d = cc in
@@ -55,7 +55,7 @@ leaf_cells t s f k o n there inside Fun is answers d e =
     (ap (λ cs. take n (drop o cs)) (cells_at t s k there Fun is)
     ∙ span-map (λ j. Byte (t.answer k j)) n o (range_with_len 0 (len_at t k))
     ∙ ap (map (λ j. Byte (t.answer k j))) (span-range_with_len n o 0 (len_at t k) inside ∙ ap (λ (j : ℕ). range_with_len j n) (omega arith))
-    ∙ same_answers (λ j. Byte (t.answer k j)) (λ j. Byte (coded_byte f j)) n o o (λ j. ap Byte (answers tt (o + j)))
+    ∙ same_answers (λ j. Byte (t.answer k j)) (λ j. Byte (coded_byte f j)) n o o (λ j. ap Byte (answers (o + j)))
     ∙ coded_cells t f o n)
 leaf_cells t s f k o n there inside (Cat l r) is answers d e = absurd cc
 leaf_cells t s f k o n there inside (Sub b i) is answers d e = absurd cc
@@ -79,7 +79,7 @@ leaf_room t s f k o n there inside Fun is d e =
 leaf_room t s f k o n there inside (Cat l r) is d e = absurd cc
 leaf_room t s f k o n there inside (Sub b i) is d e = absurd cc
 
-pub describes : (t : Table) → IsSound t → (f : Coded) (k o : ℕ) → k < length t.nodes → (v : NodeView) → view_at t k ≡ v → (IsFunction v → AnswersCoded t k f) → (d : Description) → leaf_description f o v ≡ Some d → Describes t k o d
+pub describes : (t : Table) → IsSound t → (f : Coded) (k o : ℕ) → k < length t.nodes → (v : NodeView) → view_at t k ≡ v → AnswersCoded t k f → (d : Description) → leaf_description f o v ≡ Some d → Describes t k o d
 describes t s f k o there v is answers d e = record {
   cells = λ n inside. leaf_cells t s f k o n there inside v is answers d e;
   room = λ n inside. leaf_room t s f k o n there inside v is d e;

@@ -37,7 +37,7 @@ filter_cells t (x ∷ xs) =
           ∙ ap (λ cs. cs ++ parts_cells t xs) (sym (empty_cells t x zero-len))
     ]
 
-text_at : (t : Table) (roots : List (Option NodeId)) (r : ℕ) → r < length roots → slice_get (map (rope_cells t) roots) r ≡ Some (rope_cells t (root_at roots r))
+pub text_at : (t : Table) (roots : List (Option NodeId)) (r : ℕ) → r < length roots → slice_get (map (rope_cells t) roots) r ≡ Some (rope_cells t (root_at roots r))
 text_at t roots r lt = slice_get-map (rope_cells t) roots r ∙ ap (option_map (rope_cells t)) (slice_get-get_or roots r None lt)
 
 span_is : (cells : List Cell) (i n : ℕ) → i + n ≤ length cells → span cells i n ≡ Some (take n (drop i cells))
@@ -96,10 +96,10 @@ deleted t s h rope p n there fits =
 pool_span : (t : Table) (a n : ℕ) → a + n ≤ length t.pool → span (map Byte t.pool) a n ≡ Some (map Byte (take n (drop a t.pool)))
 pool_span t a n fits = span_is (map Byte t.pool) a n (omega (arith, length-map t.pool Byte)) ∙ ap Some (span-map Byte n a t.pool)
 
-pool_len : (t : Table) (a n : ℕ) → a + n ≤ length t.pool → length (map Byte (take n (drop a t.pool))) ≡ n
+pub pool_len : (t : Table) (a n : ℕ) → a + n ≤ length t.pool → length (map Byte (take n (drop a t.pool))) ≡ n
 pool_len t a n fits = omega (arith, length-map (take n (drop a t.pool)) Byte, length-take n (drop a t.pool), length-drop a t.pool)
 
-terms_joined : (t : Table) → IsSound t → HasTrueRecords t → (roots : List (Option NodeId)) (edit : Edit) → AreRopes t roots → IsInRange t roots edit → result_of (givens_of t) (map (rope_cells t) roots) edit ≡ Some (parts_cells t (terms_of t roots edit))
+pub terms_joined : (t : Table) → IsSound t → HasTrueRecords t → (roots : List (Option NodeId)) (edit : Edit) → AreRopes t roots → IsInRange t roots edit → result_of (givens_of t) (map (rope_cells t) roots) edit ≡ Some (parts_cells t (terms_of t roots edit))
 terms_joined t s h roots Command.New ropes is = refl
 terms_joined t s h roots (Command.Open r) ropes is =
     slice_get-map (λ k. map (Place k) (range_with_len 0 (get_or t.sources k 0))) (range_with_len 0 (length t.sources)) r

@@ -12,5 +12,6 @@ pub mod Made
 pub mod MappedResults
 pub mod Verdicts
 pub mod Joined
+pub mod InRange
 pub mod Sameness
 pub mod MadeRows

@@ -1,13 +1,13 @@
--- Rows over no source, and rows over sources that are the table's own.
-use Rattle.std.proofs.Common.{◌≡◌, ℕ, ◌+◌, ◌<◌, ◌≤◌, List, [], ◌∷◌, ◌++◌, length, map, take, drop, get_or, Option, Some, None, Result, Ok, Err, refl, sym, ap, subst, ◌∙◌, arith}
-use Rattle.std.specs.Prelude.{All, IfOk, true, slice_index}
+-- What rows that were made and rows that were found good show, and when rows can be read.
+use Rattle.std.proofs.Common.{◌≡◌, ℕ, ◌+◌, List, [], ◌∷◌, length, take, drop, get_or, Option, Some, None, Result, Ok, Err, refl, ap, ◌∙◌, arith}
+use Rattle.std.specs.Prelude.{All, IfOk, slice_index}
 use Rattle.std.specs.List.{range_with_len}
 use Rattle.std.proofs.lemmas.Bool.{lt-ltb, le-leb}
 use Rattle.std.proofs.lemmas.List.Elements.{All-append, All-drop, All-from_get_or, All-map, All-nil, All-replicate, All-take, All-weaker}
 use Rattle.std.proofs.lemmas.List.FromFn.{get_or-range_with_len, length-range_with_len}
 use Rattle.function_leaf.specs.declared.coded.Coded.{Coded}
 use Rattle.rope_node.specs.declared.node.NodeId.{NodeId}
-use Rattle.rope_node.specs.Table.{Table, IsSound}
+use Rattle.rope_node.specs.Table.{Table, IsSound, HasTrueRecords}
 use Rattle.rope_node.specs.Denotes.{Cell, Byte, Place, rope_cells, IsRope}
 use Rattle.lazy_file.specs.SourceTexts.{Agrees, Stated, text_at}
 use Rattle.lazy_file.specs.declared.faults.SourceFault.{SourceFault}
@@ -20,7 +20,9 @@ use Rattle.span_certificate.specs.declared.part.Part.TheVariants.{Old, Pool, Sou
 use Rattle.span_certificate.specs.declared.row.Row.{Row}
 use Rattle.span_certificate.specs.Parts.{part_cells, parts_cells, IsPart, AreParts}
 use Rattle.span_certificate.specs.Covers.{row_at, place_of, row_compares, CoversAlways, IsByte, MeetsNoSource}
-use Rattle.span_certificate.specs.Verdicts.{AreReadableRows, AreStatedRows, ReadsRows, TellsRows}
+use Rattle.span_certificate.specs.Verdicts.{AreReadableRows, AreStatedRows, ReadsRows, ShowsSame, TellsRows}
+use Rattle.span_certificate.specs.Leads.{AreAnswered}
+use Rattle.span_certificate.proofs.Sameness.{covered_text, covered_cells}
 use Rattle.span_certificate.proofs.ComparedCells.{all_compared}
 
 -- ---- over no source
@@ -88,3 +90,13 @@ own_rows_readable t s st own parts root rows are there j lt =
       All-take (IsReadable st) row.len (drop place (parts_cells t parts)) (All-drop (IsReadable st) place (parts_cells t parts) (parts_readable t s st own parts are)),
       All-take (IsReadable st) row.len (drop place (rope_cells t root)) (All-drop (IsReadable st) place (rope_cells t root) (rope_readable t s st own root there)),
     ))
+
+-- rows that were found good show that both sides have one text
+pub shows_same : (t : Table) → IsSound t → HasTrueRecords t → (coded : ℕ → Coded) → AreAnswered t coded → (st : Stated) (parts : List Part) (root : Option NodeId) (rows : List Row) → AreParts t parts → IsRope t root
+    → TellsRows t coded st parts root rows Good → ShowsSame t st parts root rows
+shows_same t s h coded answers st parts root rows are there tells = record {
+  same_text = λ source agrees stated. covered_text t s h coded answers source parts root rows are there ((tells source agrees stated).good.0 refl);
+  same_cells = λ none.
+      let some = agreeing st in
+      covered_cells t s h coded answers some.0 parts root rows are there ((tells some.0 some.1 (no_source_stated t st parts root rows none)).good.0 refl) none;
+}

@@ -1,9 +1,11 @@
 -- Runs of parts, and the bytes of descriptions.
-use Rattle.std.proofs.Common.{◌≡◌, ℕ, zero, suc, ◌+◌, ◌-◌, ◌^◌, ◌<◌, ◌≤◌, List, ◌∷◌, ◌++◌, map, take, drop, Some, refl, sym, ap, subst, ◌∙◌, arith, min}
+use Rattle.std.proofs.Common.{◌≡◌, ℕ, zero, suc, ◌+◌, ◌-◌, ◌^◌, ◌<◌, ◌≤◌, List, ◌∷◌, ◌++◌, length, map, take, drop, Some, refl, sym, ap, subst, ◌∙◌, arith, min}
 use Rattle.std.specs.Prelude.{replicate, ◌↔◌, Bool, true, false, IsTrue, Err}
 use Rattle.std.specs.List.{range_with_len}
 use Rattle.std.proofs.lemmas.List.{take-replicate, drop-replicate, drop-drop, map-append}
 use Rattle.std.proofs.Math.Seq.{take-add}
+use Rattle.std.proofs.lemmas.Slice.{take-put_mid}
+use borrow.Rule.Slice.PartMut.{put_mid}
 use Rattle.function_leaf.specs.declared.coded.Coded.{Coded}
 use Rattle.function_leaf.specs.declared.coded.Coded.TheVariants as Function
 use Rattle.function_leaf.specs.Coded.{coded_byte}
@@ -84,6 +86,15 @@ fill_run t part c m off left short is some fits =
       cells = λ n le. rw is (fill_cells t c m off n (omega (arith, le, fits')));
       room = λ n le. omega (arith, le, short);
     }
+
+-- a further piece of the pool, written behind the first bytes
+pub filled_more : (pool buffer piece : List ℕ) (a done n k : ℕ) → done + n ≤ length buffer → length piece ≡ n → piece ≡ take n (drop (a + done) pool) → take done buffer ≡ take done (drop a pool)
+    → take (done + n) (put_mid done k buffer piece) ≡ take (done + n) (drop a pool)
+filled_more pool buffer piece a done n k fits whole is before =
+    take-put_mid done k buffer piece (done + n) (omega arith) (omega arith)
+    ∙ ap (λ bs. bs ++ piece) before
+    ∙ ap (λ bs. take done (drop a pool) ++ bs) (is ∙ ap (λ (j : ℕ). take n (drop j pool)) (omega arith) ∙ ap (take n) (sym (drop-drop done a pool)))
+    ∙ sym (take-add done n (drop a pool))
 
 pub pooled_bytes : (t : Table) (st : Stated) (n a : ℕ) (what : Description) (bytes : List ℕ) → what ≡ Pooled a → bytes ≡ take n (drop a t.pool) → AreBytesOf st (described_cells t n what) bytes
 pooled_bytes t st n a what bytes is e = rw (is, e) (bytes_of_bytes st (take n (drop a t.pool)))

@@ -7,7 +7,7 @@ use Rattle.function_leaf.specs.Coded.{coded_byte}
 use Rattle.rope_node.specs.declared.node.NodeId.{NodeId}
 use Rattle.rope_node.specs.declared.node.NodeView.{NodeView}
 use Rattle.rope_node.specs.declared.node.NodeView.TheVariants.{Lit, Src, Fun, Cat, Sub}
-use Rattle.rope_node.specs.Table.{Table, view_at, len_at, IsLeaf, IsFunction}
+use Rattle.rope_node.specs.Table.{Table, view_at, len_at, IsLeaf}
 use Rattle.rope_node.specs.Denotes.{Cell, Byte, Place, cells}
 use Rattle.rope_node.specs.Coded.{AnswersCoded}
 use Rattle.span_certificate.specs.declared.describe.Description.{Description}
@@ -80,7 +80,7 @@ HasRoom t n (Computed f i) = i + n < 2 ^ 64
 
 -- the functions at the nodes answer as they are coded
 abbrev pub AreAnswered : Table → (ℕ → Coded) → Type 0
-AreAnswered t coded = (k : ℕ) → IsFunction (view_at t k) → AnswersCoded t k (coded k)
+AreAnswered t coded = (k : ℕ) → AnswersCoded t k (coded k)
 
 -- what describing a leaf tells of each of its spans from there on
 pub record Describes (t : Table) (k o : ℕ) (d : Description) : Type 0 where

@@ -3,12 +3,14 @@ use Rattle.std.specs.Prelude.{◌≡◌, ◌↔◌, ℕ, ◌<◌, List, length, 
 use Rattle.function_leaf.specs.declared.coded.Coded.{Coded}
 use Rattle.rope_node.specs.declared.node.NodeId.{NodeId}
 use Rattle.rope_node.specs.Table.{Table}
+use Rattle.rope_node.specs.Denotes.{rope_cells, text}
 use Rattle.lazy_file.specs.SourceTexts.{Agrees, Reads, Stated}
 use Rattle.lazy_file.specs.declared.faults.SourceFault.{SourceFault}
 use Rattle.cord_position.specs.Fetched.{AreStated, IsReadable, IsStated}
 use Rattle.span_certificate.specs.declared.part.Part.{Part}
 use Rattle.span_certificate.specs.declared.row.Row.{Row}
-use Rattle.span_certificate.specs.Covers.{row_at, place_of, kind_compares, row_compares, ComparesOnly, KindFits, Fits, Covers, IsFirstBad}
+use Rattle.span_certificate.specs.Parts.{parts_cells}
+use Rattle.span_certificate.specs.Covers.{MeetsNoSource, row_at, place_of, kind_compares, row_compares, ComparesOnly, KindFits, Fits, Covers, IsFirstBad}
 use Rattle.span_certificate.specs.declared.cover.Verdict.{Verdict}
 use Rattle.span_certificate.specs.declared.cover.Verdict.TheVariants.{Good, Bad}
 use Rattle.span_certificate.specs.Runs.{IsFaultAmong}
@@ -40,6 +42,12 @@ pub record IsVerdict (t : Table) (coded : ℕ → Coded) (source : ℕ → ℕ �
 abbrev pub TellsRows : Table → (ℕ → Coded) → Stated → List Part → Option NodeId → List Row → Verdict → Type 0
 TellsRows t coded st parts root rows v =
     (source : ℕ → ℕ → ℕ) → Agrees st source → AreStatedRows t st parts root rows → IsVerdict t coded source parts root rows v
+
+-- The parts joined and the root have one text over any bytes that agree with what the sources state, where rows of bytes are over
+-- stated cells; and the same cells, where none is over a source.
+pub record ShowsSame (t : Table) (st : Stated) (parts : List Part) (root : Option NodeId) (rows : List Row) : Type 0 where
+  pub same_text : (source : ℕ → ℕ → ℕ) → Agrees st source → AreStatedRows t st parts root rows → text source (parts_cells t parts) ≡ text source (rope_cells t root)
+  pub same_cells : MeetsNoSource t parts root rows → parts_cells t parts ≡ rope_cells t root
 
 -- a read for row j, which is one of bytes, failed so, and the rows before it fit
 pub record IsVerdictFault {T : Type 0} (stated : T → Stated) (failures : T → ℕ) (old new : T) (t : Table) (coded : ℕ → Coded)

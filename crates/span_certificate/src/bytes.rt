@@ -46,9 +46,12 @@ fn run_of<S: CodedSpace>(space: &S, part: Part, off: u64, left: u64) -> Run
                         len: left,
                     },
                 );
-                match describe_leaf(space, z.node, z.start) {
+                match describe_leaf(space, z.span.node, z.view, z.span.start) {
                     None => unreachable!(),
-                    Some(what) => Run { what, len: z.len },
+                    Some(what) => Run {
+                        what,
+                        len: z.span.len,
+                    },
                 }
             }
         },
@@ -76,8 +79,12 @@ fn fill_pool<S: NodeSpace>(space: &S, a: u64, buffer: &mut [u8])
     ensures { buffer.new ≡ take (length buffer.old) (drop a (S.table space.now).pool) }
 {
     let _limit = space.pool_len();
-    for k in 0..buffer.len() {
-        buffer[k] = space.pool(a + k as u64)[0];
+    let mut done = 0;
+    while done < buffer.len() {
+        let piece = space.pool(a + done as u64);
+        let n = piece.len().min(buffer.len() - done);
+        buffer[done..done + n].copy_from_slice(&piece[..n]);
+        done += n;
     }
 }
 

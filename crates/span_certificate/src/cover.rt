@@ -1,12 +1,12 @@
 //! Rows tested against the parts of a command and its root.
 
-ghost use Rattle.std.specs.Prelude.{◌≡◌, ◌+◌, ◌<◌, ◌≤◌, ◌↔◌, length, Some, IsTrue, IfOk};
+ghost use Rattle.std.specs.Prelude.{◌≡◌, ◌+◌, ◌<◌, ◌≤◌, ◌↔◌, length, Some, Ok, IsTrue, IfOk};
 ghost use Rattle.rope_node.specs.Table.{IsSound, HasTrueRecords};
 ghost use Rattle.rope_node.specs.Denotes.{rope_len, IsRope};
 ghost use Rattle.span_certificate.specs.Parts.{part_at, part_len, parts_len, IsPart, AreParts};
 ghost use Rattle.span_certificate.specs.Covers.{HaveOneDescription, kind_compares, row_compares};
 ghost use Rattle.span_certificate.specs.Runs.{ReadsCells};
-ghost use Rattle.span_certificate.specs.Verdicts.{ReadsRows, TellsKind, TellsRow, TellsRows};
+ghost use Rattle.span_certificate.specs.Verdicts.{ReadsRows, ShowsSame, TellsKind, TellsRow, TellsRows};
 
 use crate::bytes::same_bytes;
 use crate::exact::{describe_part, part_leads};
@@ -21,7 +21,8 @@ use rope_node::{CodedSpace, NodeSpace, Rope, rope_len};
 pub enum Verdict {
     /// The rows cover the parts and the root.
     Good,
-    /// The first row that is empty, passes the end of its part or of the root, or does not fit; or the number of rows where text is left uncovered.
+    /// The first row that is empty, passes the end of its part or of the root, or does not fit; or the
+    /// number of rows where text is left uncovered.
     Bad(usize),
 }
 
@@ -40,7 +41,8 @@ fn same_leaf<S: CodedSpace>(
     requires not_empty { 1 ≤ len }
     requires inside { off + len ≤ part_len part }
     requires other_inside { place + len ≤ part_len other }
-    ensures { IsTrue result ↔ HaveOneDescription (S.NodeSpace.table space.now) (S.coded space.now) len part off other place }
+    ensures { IsTrue result ↔ HaveOneDescription
+        (S.NodeSpace.table space.now) (S.coded space.now) len part off other place }
 {
     match (
         describe_part(space, part, off, len),
@@ -51,7 +53,8 @@ fn same_leaf<S: CodedSpace>(
     }
 }
 
-/// Whether a row of this kind fits: its `len` bytes are those of `part` from `off` on and those of `root` from `place` on.
+/// Whether a row of this kind fits: its `len` bytes are those of `part` from `off` on and those of
+/// `root` from `place` on.
 fn kind_fits<S: CodedSpace, T: Sources>(
     space: &S,
     sources: &mut T,
@@ -135,7 +138,8 @@ fn is_whole<S: NodeSpace>(space: &S, parts: &[Part], root: Rope, place: u64) -> 
     requires parts { AreParts (S.table space.now) parts.now }
     requires root { IsRope (S.table space.now) root }
     requires inside { place ≤ parts_len parts.now }
-    ensures { IsTrue result ↔ ((place ≡ rope_len (S.table space.now) root) × (place ≡ parts_len parts.now)) }
+    ensures { IsTrue result
+        ↔ ((place ≡ rope_len (S.table space.now) root) × (place ≡ parts_len parts.now)) }
 {
     match part_at(parts, place) {
         None => place == rope_len(space, root),
@@ -143,11 +147,13 @@ fn is_whole<S: NodeSpace>(space: &S, parts: &[Part], root: Rope, place: u64) -> 
     }
 }
 
-/// Whether the rows cover the parts of a command and a root, each row at its place. It takes no memory of its own.
+/// Whether the rows cover the parts of a command and a root, each row at its place. It takes no memory
+/// of its own, and reads a source for rows of bytes over it alone.
 ///
 /// # Errors
 ///
-/// A source's fault, where a read for a row of bytes over that source failed and all rows before it fit.
+/// A source's fault, where a read for a row of bytes over that source failed and all rows before it
+/// fit.
 pub fn verify<S: CodedSpace, T: Sources, R: Rows>(
     space: &S,
     sources: &mut T,
@@ -159,8 +165,11 @@ pub fn verify<S: CodedSpace, T: Sources, R: Rows>(
     requires root { IsRope (S.NodeSpace.table space.now) root }
     ensures exact { IfOk result (TellsRows (S.NodeSpace.table space.now) (S.coded space.now)
         (T.stated sources.old) parts.now root (R.listed rows.now)) }
+    ensures shows { result ≡ Ok Verdict.Good → ShowsSame
+        (S.NodeSpace.table space.now) (T.stated sources.old) parts.now root (R.listed rows.now) }
     ensures reads { ReadsRows T.stated T.failures sources.old sources.new
-        (S.NodeSpace.table space.now) (S.coded space.now) parts.now root (R.listed rows.now) result }
+        (S.NodeSpace.table space.now) (S.coded space.now)
+        parts.now root (R.listed rows.now) result }
 {
     // The space is sound, as each of its calls says.
     let _nodes = space.count();

@@ -2,7 +2,7 @@
 
 ghost use Rattle.std.specs.Prelude.{◌≡◌, ◌+◌, ◌<◌, ◌≤◌, ◌↔◌, length, Some, IfSome};
 ghost use Rattle.rope_node.specs.Table.{len_at};
-ghost use Rattle.span_certificate.specs.Leads.{LeadsToLeaf};
+ghost use Rattle.span_certificate.specs.Descents.{IsLeafSpan, LeadsToSpan};
 ghost use Rattle.span_certificate.specs.declared.descent.LeafSpan.{LeafSpan};
 
 use rope_node::{NodeId, NodeSpace, NodeView};
@@ -13,20 +13,25 @@ pub struct LeafSpan {
     pub leaf: NodeId,
     /// Its first byte, counted from the leaf's.
     pub start: u64,
+    /// What the leaf is.
+    pub view: NodeView,
 }
 
-/// The leaf span to which the `len` bytes of `node` from `place` on lead, or nothing where they lie in no one leaf.
+/// The leaf span to which the `len` bytes of `node` from `place` on lead, or nothing where they lie in
+/// no one leaf.
 pub fn leaf_span<S: NodeSpace>(space: &S, node: NodeId, place: u64, len: u64) -> Option<LeafSpan>
     requires there { node.0 < length (S.table space.now).nodes }
     requires not_empty { 1 ≤ len }
     requires inside { place + len ≤ len_at (S.table space.now) node.0 }
-    ensures inside { IfSome result (λ s. (s.leaf.0 < length (S.table space.now).nodes) × (s.start + len ≤ len_at (S.table space.now) s.leaf.0)) }
-    ensures leads { (s : LeafSpan) → (result ≡ Some s) ↔ LeadsToLeaf (S.table space.now) len s.leaf.0 s.start node.0 place }
+    ensures inside { IfSome result (IsLeafSpan (S.table space.now) len) }
+    ensures leads { (s : LeafSpan)
+        → (result ≡ Some s) ↔ LeadsToSpan (S.table space.now) len node.0 place s }
 {
     let mut leaf = node;
     let mut start = place;
     'down: loop {
-        match space.node(leaf) {
+        let view = space.node(leaf);
+        match view {
             NodeView::Cat { l, r } => {
                 let left = space.len(l);
                 if left <= start {
@@ -43,7 +48,7 @@ pub fn leaf_span<S: NodeSpace>(space: &S, node: NodeId, place: u64, len: u64) ->
                 start += i;
             }
             NodeView::Lit { .. } | NodeView::Src { .. } | NodeView::Fun => {
-                return Some(LeafSpan { leaf, start });
+                return Some(LeafSpan { leaf, start, view });
             }
         }
     }

@@ -1,7 +1,7 @@
 //! What a span of a leaf is, told apart from the leaf.
 
 ghost use Rattle.std.specs.Prelude.{◌≡◌, ◌+◌, ◌<◌, ◌≤◌, ◌^◌, ◌↔◌, length, IfSome, IsTrue};
-ghost use Rattle.rope_node.specs.Table.{view_at, len_at};
+ghost use Rattle.rope_node.specs.Table.{view_at, len_at, IsSound};
 ghost use Rattle.span_certificate.specs.Leads.{coded_description, leaf_description, Describes};
 
 use function_leaf::{Coded, LeafFn};
@@ -14,8 +14,8 @@ pub enum Description {
     Pooled { a: u64 },
     /// The bytes of source `s` from `a` on.
     Sourced { s: u32, a: u64 },
-    /// The bytes of a function from its place `i` on: a fill and a ramp from 0 on, the ramp beginning with the span's first byte, and a
-    /// cycle from a place inside its pattern on.
+    /// The bytes of a function from its place `i` on: a fill and a ramp from 0 on, the ramp beginning
+    /// with the span's first byte, and a cycle from a place inside its pattern on.
     Computed { f: Coded, i: u64 },
 }
 
@@ -52,14 +52,21 @@ fn describe_function(f: Coded, start: u64) -> Description
     }
 }
 
-/// What the span of a leaf from `start` on is; of no leaf, nothing.
-pub fn describe_leaf<S: CodedSpace>(space: &S, leaf: NodeId, start: u64) -> Option<Description>
+/// What the span of a leaf from `start` on is, where `view` is what the leaf is; of no leaf, nothing.
+pub fn describe_leaf<S: CodedSpace>(
+    space: &S,
+    leaf: NodeId,
+    view: NodeView,
+    start: u64,
+) -> Option<Description>
+    requires sound { IsSound (S.NodeSpace.table space.now) }
     requires there { leaf.0 < length (S.NodeSpace.table space.now).nodes }
     requires inside { start ≤ len_at (S.NodeSpace.table space.now) leaf.0 }
-    ensures value { result ≡ leaf_description (S.coded space.now leaf.0) start (view_at (S.NodeSpace.table space.now) leaf.0) }
+    requires view { view ≡ view_at (S.NodeSpace.table space.now) leaf.0 }
+    ensures value { result ≡ leaf_description (S.coded space.now leaf.0) start view }
     ensures describes { IfSome result (Describes (S.NodeSpace.table space.now) leaf.0 start) }
 {
-    match space.node(leaf) {
+    match view {
         NodeView::Lit { a } => Some(Description::Pooled { a: a + start }),
         NodeView::Src { s, a } => Some(Description::Sourced { s, a: a + start }),
         NodeView::Fun => Some(describe_function(space.coded(leaf), start)),

@@ -1,6 +1,7 @@
 //! Commands as they are recorded.
 
-/// A command that makes a revision. A revision is named by its number; places and lengths are in bytes.
+/// A command that makes a revision. A revision is named by its number; places and lengths are in
+/// bytes.
 #[derive(Clone, Copy, Debug, PartialEq, Eq)]
 pub enum Edit {
     /// An empty text.
@@ -22,7 +23,8 @@ pub enum Edit {
         p: u64,
         n: u64,
     },
-    /// The text of revision `r`, with the `n` bytes of the pool from `a` on in place of its `m` bytes from `p` on.
+    /// The text of revision `r`, with the `n` bytes of the pool from `a` on in place of its `m` bytes
+    /// from `p` on.
     Replace {
         r: u32,
         p: u64,

@@ -79,21 +79,24 @@ pub fn part_leads<S: NodeSpace>(
     }
 }
 
-/// The description of the leaf span that the `len` bytes of `node` from `place` on lead to, or nothing where they lead to none.
+/// The description of the leaf span that the `len` bytes of `node` from `place` on lead to, or nothing
+/// where they lead to none.
 fn describe_node<S: CodedSpace>(
     space: &S,
     node: NodeId,
     place: u64,
     len: u64,
 ) -> Option<Description>
+    requires sound { IsSound (S.NodeSpace.table space.now) }
     requires there { node.0 < length (S.NodeSpace.table space.now).nodes }
     requires not_empty { 1 ≤ len }
     requires inside { place + len ≤ len_at (S.NodeSpace.table space.now) node.0 }
-    ensures { (d : Description) → (result ≡ Some d) ↔ HasDescription (S.NodeSpace.table space.now) (S.coded space.now) len node.0 place d }
+    ensures { (d : Description) → (result ≡ Some d) ↔ HasDescription
+        (S.NodeSpace.table space.now) (S.coded space.now) len node.0 place d }
 {
     match leaf_span(space, node, place, len) {
         None => None,
-        Some(span) => describe_leaf(space, span.leaf, span.start),
+        Some(span) => describe_leaf(space, span.leaf, span.view, span.start),
     }
 }
 
@@ -108,7 +111,8 @@ pub fn describe_part<S: CodedSpace>(
     requires part { IsPart (S.NodeSpace.table space.now) part }
     requires not_empty { 1 ≤ len }
     requires inside { off + len ≤ part_len part }
-    ensures { (d : Description) → (result ≡ Some d) ↔ PartHasDescription (S.NodeSpace.table space.now) (S.coded space.now) len part off d }
+    ensures { (d : Description) → (result ≡ Some d) ↔ PartHasDescription
+        (S.NodeSpace.table space.now) (S.coded space.now) len part off d }
 {
     match part {
         Part::Old { rope, i, n: _ } => match rope {

@@ -23,4 +23,4 @@ pub use making::{MakeFault, make};
 pub use part::{Part, Parts};
 pub use roots::Roots;
 pub use row::{Row, RowKind, Rows};
-pub use walk::{Span, down, leaf_of, next_old};
+pub use walk::{Reached, Span, down, leaf_of, next_old};

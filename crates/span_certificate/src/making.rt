@@ -43,8 +43,10 @@ fn next_row<S: CodedSpace>(
     requires inside_part { off + left ≤ part_len part }
     requires there { root.0 < length (S.NodeSpace.table space.now).nodes }
     requires inside_root { place + left ≤ len_at (S.NodeSpace.table space.now) root.0 }
-    requires same { take left (drop off (part_cells (S.NodeSpace.table space.now) part)) ≡ take left (drop place (cells (S.NodeSpace.table space.now) root.0)) }
-    ensures { IsNext (S.NodeSpace.table space.now) (S.coded space.now) part off root place left result }
+    requires same { take left (drop off (part_cells (S.NodeSpace.table space.now) part))
+        ≡ take left (drop place (cells (S.NodeSpace.table space.now) root.0)) }
+    ensures { IsNext (S.NodeSpace.table space.now) (S.coded space.now)
+        part off root place left result }
 {
     let y = Span {
         node: root,
@@ -87,11 +89,15 @@ fn make_for<S: CodedSpace>(
     requires true_records { HasTrueRecords (S.NodeSpace.table space.now) }
     requires parts { AreParts (S.NodeSpace.table space.now) parts.now }
     requires root { root.0 < length (S.NodeSpace.table space.now).nodes }
-    requires same { parts_cells (S.NodeSpace.table space.now) parts.now ≡ cells (S.NodeSpace.table space.now) root.0 }
-    ensures covers { IfOk result (λ rows. CoversAlways (S.NodeSpace.table space.now) (S.coded space.now) parts.now (Some root) rows.items) }
-    ensures no_source { IfOk result (λ rows. MeetsNoSource (S.NodeSpace.table space.now) parts.now (Some root) rows.items) }
+    requires same { parts_cells (S.NodeSpace.table space.now) parts.now
+        ≡ cells (S.NodeSpace.table space.now) root.0 }
+    ensures covers { IfOk result (λ rows. CoversAlways
+        (S.NodeSpace.table space.now) (S.coded space.now) parts.now (Some root) rows.items) }
+    ensures no_source { IfOk result (λ rows. MeetsNoSource
+        (S.NodeSpace.table space.now) parts.now (Some root) rows.items) }
     ensures few { IfOk result (λ rows. length rows.items ≤ rows_limit) }
-    ensures too_many { IsErrOf result MakeFault.TooManyRows → IsCutShort (S.NodeSpace.table space.now) (S.coded space.now) parts.now (Some root) }
+    ensures too_many { IsErrOf result MakeFault.TooManyRows → IsCutShort
+        (S.NodeSpace.table space.now) (S.coded space.now) parts.now (Some root) }
 {
     let mut rows = Vec::new(alloc);
     let mut place = 0;
@@ -112,7 +118,8 @@ fn make_for<S: CodedSpace>(
     Ok(rows)
 }
 
-/// Rows that show that the parts and the root have one text, whatever the sources hold. No source is read, and no row of bytes is over one.
+/// Rows that show that the parts and the root have one text, whatever the sources hold. No source is
+/// read, and no row of bytes is over one.
 ///
 /// # Errors
 ///
@@ -125,11 +132,15 @@ pub fn make<S: CodedSpace>(
 ) -> Result<Vec<Row>, MakeFault>
     requires parts { AreParts (S.NodeSpace.table space.now) parts.now }
     requires root { IsRope (S.NodeSpace.table space.now) root }
-    requires same { parts_cells (S.NodeSpace.table space.now) parts.now ≡ rope_cells (S.NodeSpace.table space.now) root }
-    ensures covers { IfOk result (λ rows. CoversAlways (S.NodeSpace.table space.now) (S.coded space.now) parts.now root rows.items) }
-    ensures no_source { IfOk result (λ rows. MeetsNoSource (S.NodeSpace.table space.now) parts.now root rows.items) }
+    requires same { parts_cells (S.NodeSpace.table space.now) parts.now
+        ≡ rope_cells (S.NodeSpace.table space.now) root }
+    ensures covers { IfOk result (λ rows. CoversAlways
+        (S.NodeSpace.table space.now) (S.coded space.now) parts.now root rows.items) }
+    ensures no_source { IfOk result (λ rows. MeetsNoSource
+        (S.NodeSpace.table space.now) parts.now root rows.items) }
     ensures few { IfOk result (λ rows. length rows.items ≤ rows_limit) }
-    ensures too_many { IsErrOf result MakeFault.TooManyRows → IsCutShort (S.NodeSpace.table space.now) (S.coded space.now) parts.now root }
+    ensures too_many { IsErrOf result MakeFault.TooManyRows → IsCutShort
+        (S.NodeSpace.table space.now) (S.coded space.now) parts.now root }
 {
     // The space is sound, as each of its calls says.
     let _nodes = space.count();

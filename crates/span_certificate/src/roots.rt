@@ -10,11 +10,23 @@ pub trait Roots {
     ghost roots: { Self → List (Option NodeId) };
 
     /// How many there are.
-    fn count(&self) -> u32
+    fn count(&self) -> usize
         ensures { result ≡ length (roots self.now) };
 
     /// The root of revision `r`.
     fn root(&self, r: u32) -> Rope
         requires { r < length (roots self.now) }
         ensures { result ≡ get_or (roots self.now) r None };
+}
+
+impl Roots for &[Rope] {
+    ghost roots = { λ roots. roots.now };
+
+    fn count(&self) -> usize {
+        self.len()
+    }
+
+    fn root(&self, r: u32) -> Rope {
+        self[r as usize]
+    }
 }

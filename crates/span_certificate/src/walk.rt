@@ -2,7 +2,8 @@
 
 ghost use Rattle.std.specs.Prelude.{◌≡◌, ℕ, min, None, IfSome};
 ghost use Rattle.rope_node.specs.Table.{view_at, IsLeaf, IsSound, HasTrueRecords};
-ghost use Rattle.span_certificate.specs.Steps.{IsSpan, IsReached, IsBelow, span_cells, CellsAs, IsRowOf, IsDescribedRow};
+ghost use Rattle.span_certificate.specs.Descents.{IsLeafOf};
+ghost use Rattle.span_certificate.specs.Steps.{IsSpan, IsBelow, span_cells, CellsAs, IsRowOf, IsDescribedRow};
 ghost use Rattle.span_certificate.specs.Covers.{bytes_limit};
 ghost use Rattle.rope_node.specs.declared.node.NodeId.{NodeId};
 
@@ -35,13 +36,24 @@ impl Span {
     }
 }
 
-/// Where the first bytes of a span lie in a child or a base of its node: as many of them as lie in one. A leaf has none.
-pub fn down<S: NodeSpace>(space: &S, x: Span) -> Option<Span>
-    requires { IsSpan (S.table space.now) x }
-    ensures leaf { result ≡ None → IsLeaf (view_at (S.table space.now) x.node.0) }
+/// A leaf span that is the first bytes of another span, and what its leaf is.
+#[derive(Clone, Copy, Debug, PartialEq, Eq)]
+pub struct Reached {
+    pub span: Span,
+    pub view: NodeView,
+}
+
+/// Where the first bytes of a span lie in a child or a base of its node, which is `view`: as many of
+/// them as lie in one. A leaf has none.
+pub fn down<S: NodeSpace>(space: &S, x: Span, view: NodeView) -> Option<Span>
+    requires sound { IsSound (S.table space.now) }
+    requires true_records { HasTrueRecords (S.table space.now) }
+    requires span { IsSpan (S.table space.now) x }
+    requires view { view ≡ view_at (S.table space.now) x.node.0 }
+    ensures leaf { result ≡ None → IsLeaf view }
     ensures below { IfSome result (IsBelow (S.table space.now) x) }
 {
-    match space.node(x.node) {
+    match view {
         NodeView::Cat { l, r } => {
             let left = space.len(l);
             if left <= x.start {
@@ -68,36 +80,35 @@ pub fn down<S: NodeSpace>(space: &S, x: Span) -> Option<Span>
 }
 
 /// The leaf span that a span begins with, as far as it goes.
-pub fn leaf_of<S: NodeSpace>(space: &S, x: Span) -> Span
+pub fn leaf_of<S: NodeSpace>(space: &S, x: Span) -> Reached
     requires { IsSpan (S.table space.now) x }
-    ensures leaf { IsLeaf (view_at (S.table space.now) result.node.0) }
-    ensures reached { IsReached (S.table space.now) x result }
+    ensures { IsLeafOf (S.table space.now) x result }
 {
     let mut at = x;
     'down: loop {
-        match down(space, at) {
-            None => return at,
+        let view = space.node(at.node);
+        match down(space, at, view) {
+            None => return Reached { span: at, view },
             Some(below) => at = below,
         }
     }
 }
 
 /// The row for two leaf spans of one length and the same cells.
-fn leaf_row<S: CodedSpace>(space: &S, x: Span, y: Span) -> Row
+fn leaf_row<S: CodedSpace>(space: &S, x: Reached, y: Reached) -> Row
     requires sound { IsSound (S.NodeSpace.table space.now) }
-    requires x { IsSpan (S.NodeSpace.table space.now) x }
-    requires y { IsSpan (S.NodeSpace.table space.now) y }
-    requires len { y.len ≡ x.len }
-    requires leaf_x { IsLeaf (view_at (S.NodeSpace.table space.now) x.node.0) }
-    requires leaf_y { IsLeaf (view_at (S.NodeSpace.table space.now) y.node.0) }
-    requires same { span_cells (S.NodeSpace.table space.now) x ≡ span_cells (S.NodeSpace.table space.now) y }
-    ensures { IsRowOf (S.NodeSpace.table space.now) (S.coded space.now) x y result }
+    requires x { IsLeafOf (S.NodeSpace.table space.now) x.span x }
+    requires y { IsLeafOf (S.NodeSpace.table space.now) y.span y }
+    requires len { y.span.len ≡ x.span.len }
+    requires same { span_cells (S.NodeSpace.table space.now) x.span
+        ≡ span_cells (S.NodeSpace.table space.now) y.span }
+    ensures { IsRowOf (S.NodeSpace.table space.now) (S.coded space.now) x.span y.span result }
 {
     match (
-        describe_leaf(space, x.node, x.start),
-        describe_leaf(space, y.node, y.start),
+        describe_leaf(space, x.span.node, x.view, x.span.start),
+        describe_leaf(space, y.span.node, y.view, y.span.start),
     ) {
-        (Some(d), Some(e)) => described_row(d, e, x.len),
+        (Some(d), Some(e)) => described_row(d, e, x.span.len),
         _ => unreachable!(),
     }
 }
@@ -121,14 +132,16 @@ fn described_row(d: Description, e: Description, len: u64) -> Row
     }
 }
 
-/// A row for the first bytes of two spans of the same cells: over the first node that both lead to at one place, or over two leaf spans.
+/// A row for the first bytes of two spans of the same cells: over the first node that both lead to at
+/// one place, or over two leaf spans.
 pub fn next_old<S: CodedSpace>(space: &S, x: Span, y: Span) -> Row
     requires sound { IsSound (S.NodeSpace.table space.now) }
     requires true_records { HasTrueRecords (S.NodeSpace.table space.now) }
     requires x { IsSpan (S.NodeSpace.table space.now) x }
     requires y { IsSpan (S.NodeSpace.table space.now) y }
     requires len { y.len ≡ x.len }
-    requires same { span_cells (S.NodeSpace.table space.now) x ≡ span_cells (S.NodeSpace.table space.now) y }
+    requires same { span_cells (S.NodeSpace.table space.now) x
+        ≡ span_cells (S.NodeSpace.table space.now) y }
     ensures { IsRowOf (S.NodeSpace.table space.now) (S.coded space.now) x y result }
 {
     let mut a = x;
@@ -140,8 +153,20 @@ pub fn next_old<S: CodedSpace>(space: &S, x: Span, y: Span) -> Row
                 kind: RowKind::Shared(a.node, a.start),
             };
         }
-        match (down(space, a), down(space, b)) {
-            (None, None) => return leaf_row(space, a, b),
+        let of_a = space.node(a.node);
+        let of_b = space.node(b.node);
+        match (down(space, a, of_a), down(space, b, of_b)) {
+            (None, None) => {
+                let first = Reached {
+                    span: a,
+                    view: of_a,
+                };
+                let second = Reached {
+                    span: b,
+                    view: of_b,
+                };
+                return leaf_row(space, first, second);
+            }
             (Some(z), None) => {
                 a = z;
                 b = b.shortened(z.len);
@@ -172,8 +197,8 @@ pub fn next_leaf<S: CodedSpace>(space: &S, d: Description, y: Span) -> Row
     ensures { IsDescribedRow (S.NodeSpace.table space.now) (S.coded space.now) d y result }
 {
     let z = leaf_of(space, y);
-    match describe_leaf(space, z.node, z.start) {
-        Some(e) => described_row(d, e, z.len),
+    match describe_leaf(space, z.span.node, z.view, z.span.start) {
+        Some(e) => described_row(d, e, z.span.len),
         None => unreachable!(),
     }
 }

@@ -5,7 +5,7 @@ use Rattle.span_certificate.proofs.bytes.run_of.Goals as goal
 
 pub returns-in-Some-describe_leaf : goal.returns-in-Some-describe_leaf
 returns-in-Some-describe_leaf g c =
-    old_run (g.S.NodeSpace.table c.args.space.now) c.requires.sound c.requires.true_records c.args.part c.in-Some.node c.in-Old.i c.in-Old.n c.args.off c.args.left c.leaf_of-z.result c.in-Some-describe_leaf.what
+    old_run (g.S.NodeSpace.table c.args.space.now) c.requires.sound c.requires.true_records c.args.part c.in-Some.node c.in-Old.i c.in-Old.n c.args.off c.args.left c.leaf_of-z.result.span c.in-Some-describe_leaf.what
     (c.in-Old.is ∙ ap (λ r. Old r c.in-Old.i c.in-Old.n) c.in-Some.is) c.requires.part c.requires.some c.requires.inside c.leaf_of-z.ensures.reached c.in-Some-describe_leaf.ensures.describes
 
 pub returns-in-Pool : goal.returns-in-Pool

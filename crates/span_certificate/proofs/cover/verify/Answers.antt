@@ -1,6 +1,7 @@
-use Rattle.std.proofs.Common.{◌<◌, length, arith}
+use Rattle.std.proofs.Common.{◌≡◌, ◌<◌, length, arith}
 use Rattle.lazy_file.proofs.LaterReads.{reads_then}
-use Rattle.span_certificate.proofs.Verdicts.{verifying_more, answers_unfit, verdict_failed}
+use Rattle.span_certificate.proofs.Verdicts.{verifying_more, answers_unfit, answers_whole, verdict_failed}
+use Rattle.span_certificate.proofs.MadeRows.{shows_same}
 use Rattle.span_certificate.proofs.cover.verify.Goals as goal
 
 pub returns-in-Err-clause-reads : goal.returns-in-Err-clause-reads
@@ -24,3 +25,13 @@ loop-j-preserved g c =
           lt c.row-row.ensures c.loop-j.invariant.verifying (rw (c.loop-j.invariant.reads.same, c.in-Ok-true.field-0-test) at c.in-Ok-true.ensures.fits) (c.in-Ok-true.ensures.inside c.in-Ok-true.field-0-test);
       reads = reads_then c.loop-j.invariant.reads c.row_fits.ensures.reads.reads;
     }
+
+pub returns-then-is_whole-clause-shows : goal.returns-then-is_whole-clause-shows
+returns-then-is_whole-clause-shows g c = λ _.
+    let t = g.S.NodeSpace.table c.args.space.now in
+    let coded = g.S.CodedSpace.coded c.args.space.now in
+    let rows = g.R.Rows.listed c.args.rows.now in
+    let end : c.loop-j.j ≡ length rows = omega (arith, c.count-j-end.ensures, c.loop-j-test.false, c.loop-j.auto.j-end) in
+    shows_same t c.count-nodes.ensures.sound c.count-nodes.ensures.true_records coded (g.met.S.CodedSpace.answered c.args.space.now) (g.T.Sources.stated c.args.sources.now) c.args.parts.now c.args.root rows
+    c.requires.parts c.requires.root
+    (answers_whole t coded (g.T.Sources.stated c.args.sources.now) c.args.parts.now c.args.root rows c.loop-j.j c.loop-j.place end c.loop-j.invariant.verifying (c.is_whole.ensures.0 c.if-is_whole.true))

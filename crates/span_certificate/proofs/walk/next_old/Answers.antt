@@ -1,3 +1,4 @@
+use Rattle.span_certificate.proofs.Steps.{reached_itself}
 use Rattle.span_certificate.proofs.Walks.{are_reached_none, first_below, second_below, reached_same, row_through}
 use Rattle.span_certificate.proofs.walk.next_old.Goals as goal
 
@@ -28,3 +29,17 @@ down-preserved-then-a-b-3 g c =
 pub down-preserved : goal.down-preserved
 down-preserved g c =
     rw c.shortened-a-else-a-b-3.ensures (second_below (g.S.NodeSpace.table c.args.space.now) c.args.x c.args.y c.down.a c.down.b c.in-Some-Some.w c.down.invariant c.in-Some-Some.ensures'.below)
+
+pub leaf_row-requires-clause-x : goal.leaf_row-requires-clause-x
+leaf_row-requires-clause-x g c = record {
+  reached = reached_itself (g.S.NodeSpace.table c.args.space.now) c.down.a c.down.invariant.first.is_span;
+  view = c.node-of_a.ensures.view;
+  leaf = c.down-in-down.ensures.leaf c.in-None-None.is-0;
+}
+
+pub leaf_row-requires-clause-y : goal.leaf_row-requires-clause-y
+leaf_row-requires-clause-y g c = record {
+  reached = reached_itself (g.S.NodeSpace.table c.args.space.now) c.down.b c.down.invariant.second.is_span;
+  view = c.node-of_b.ensures.view;
+  leaf = c.down-in-down-2.ensures.leaf c.in-None-None.is-1;
+}
