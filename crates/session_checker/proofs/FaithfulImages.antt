@@ -6,9 +6,7 @@ use Rattle.std.specs.List.{range_with_len}
 use Rattle.std.proofs.lemmas.List.{length-map, take-map, map-id}
 use Rattle.std.proofs.lemmas.Simd.{map-map}
 use Rattle.std.proofs.lemmas.Option.{slice_get_within, slice_get-map, slice_get-get_or, same_Some}
-use Rattle.function_leaf.specs.declared.coded.Coded.{Coded}
-use Rattle.function_leaf.specs.Coded.{coded_byte}
-use Rattle.function_leaf.specs.Optional.{answer_of, or_fill}
+use Rattle.rope_node.specs.Coded.{answers_as_filled}
 use Rattle.rope_node.specs.Table.{IsSound, HasTrueRecords}
 use Rattle.rope_node.specs.Denotes.{Cell, Byte, Place, cell_byte, rope_cells, text}
 use Rattle.rope_node.proofs.Cells.{cells_length}
@@ -32,11 +30,7 @@ use Rattle.session_checker.proofs.PartsInRange.{parts_in_range}
 
 -- the functions at an image's nodes answer as they are coded
 pub answered : (v : ImageValue) → AreAnswered (image_table v) (coded_at v)
-answered v k is i = by_function (function_at v k)
-  where
-    by_function : (f : Option Coded) → answer_of coded_byte f i ≡ coded_byte (or_fill f) i
-    by_function None = refl
-    by_function (Some f) = refl
+answered v k = answers_as_filled (function_at v k)
 
 -- some bytes agree with what sources state
 abbrev stated_byte : Option (List ℕ) → ℕ → ℕ

@@ -158,8 +158,8 @@ impl NodeSpace for Checked<'_> {
 }
 
 impl CodedSpace for Checked<'_> {
-    ghost use Rattle.rope_node.specs.Coded.{answers_as_filled};
     ghost use Rattle.image_reader.specs.Value.{coded_at, function_at};
+    ghost use Rattle.rope_node.specs.Coded.{answers_as_filled};
 
     ghost coded = { coded_at };
 

@@ -8,7 +8,7 @@ use rope_node::{NodeSpace, rope_len};
 use span_certificate::{Edit, Roots};
 
 /// Whether text `r` is there.
-fn has<R: Roots>(roots: &R, r: u32) -> bool
+fn is_there<R: Roots>(roots: &R, r: u32) -> bool
     ensures { IsTrue result ↔ (r < length (R.roots roots.now)) }
 {
     (r as usize) < roots.count()
@@ -20,7 +20,7 @@ fn has_span<S: NodeSpace, R: Roots>(space: &S, roots: &R, r: u32, i: u64, n: u64
     ensures { IsTrue result ↔ ((r < length (R.roots roots.now))
         × (i + n ≤ len_of (S.table space.now) (R.roots roots.now) r)) }
 {
-    has(roots, r) && is_inside(i, n, rope_len(space, roots.root(r)))
+    is_there(roots, r) && is_inside(i, n, rope_len(space, roots.root(r)))
 }
 
 /// Whether text `r` is there with `m` bytes from `p` on, and is not too long with `n` bytes in their place.
@@ -30,7 +30,7 @@ fn takes<S: NodeSpace, R: Roots>(space: &S, roots: &R, r: u32, p: u64, m: u64, n
         × (p + m ≤ len_of (S.table space.now) (R.roots roots.now) r)
         × (len_of (S.table space.now) (R.roots roots.now) r + n < 2 ^ 40 + m)) }
 {
-    if !has(roots, r) {
+    if !is_there(roots, r) {
         return false;
     }
     let len = rope_len(space, roots.root(r));
@@ -44,7 +44,7 @@ fn joins<S: NodeSpace, R: Roots>(space: &S, roots: &R, r: u32, q: u32) -> bool
         × (len_of (S.table space.now) (R.roots roots.now) r
         + len_of (S.table space.now) (R.roots roots.now) q < 2 ^ 40)) }
 {
-    if !has(roots, r) || !has(roots, q) {
+    if !is_there(roots, r) || !is_there(roots, q) {
         return false;
     }
     rope_len(space, roots.root(r)) + rope_len(space, roots.root(q)) < TEXT_LIMIT
@@ -76,6 +76,6 @@ pub fn is_in_range<S: NodeSpace, R: Roots>(space: &S, roots: &R, edit: Edit) -> 
         Edit::Join { r, q } => joins(space, roots, r, q),
         Edit::Cut { r, i, n } => has_span(space, roots, r, i, n),
         Edit::Fill { r, p, c, n } => c <= 255 && takes(space, roots, r, p, 0, n),
-        Edit::Back { r } | Edit::Balance { r } => has(roots, r),
+        Edit::Back { r } | Edit::Balance { r } => is_there(roots, r),
     }
 }

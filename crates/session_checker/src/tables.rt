@@ -104,8 +104,8 @@ impl NodeSpace for Tables<'_> {
 }
 
 impl CodedSpace for Tables<'_> {
-    ghost use Rattle.rope_node.specs.Coded.{answers_as_filled};
     ghost use Rattle.image_reader.specs.Value.{coded_at, function_at};
+    ghost use Rattle.rope_node.specs.Coded.{answers_as_filled};
 
     ghost coded = { coded_at };
 
