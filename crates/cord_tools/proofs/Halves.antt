@@ -1,5 +1,7 @@
 -- Two ropes put together, neither of them deep: how deep the rope of both is, what it adds, and why it may be refused.
 use Rattle.std.proofs.Common.{◌≡◌, ℕ, zero, suc, ◌+◌, ◌<◌, ◌≤◌, ◌^◌, List, ◌++◌, length, map, get_or, inl, Option, Some, None, Result, Ok, Err, refl, sym, ap, subst, ◌∙◌, arith}
+use Rattle.rope_node.specs.declared.limits.TheConstants.{MOST_NODES}
+use Rattle.rope_store.specs.declared.endings.TheConstants.{MOST_MERGED}
 use Rattle.std.specs.Prelude.{◌-◌, ◌/◌, IfOk, IfErr, OnOk, nat_le}
 use Rattle.std.proofs.Math.Nat.{pow-suc}
 use Rattle.std.proofs.lemmas.Bool.{cond_both}
@@ -13,9 +15,9 @@ use Rattle.rope_node.specs.Table.{Node, no_node, view_at, len_at, depth_at, dept
 use Rattle.rope_node.specs.Denotes.{Cell, rope_len, rope_depth, IsRope}
 use Rattle.node_table.specs.declared.fault.NodeFault.{NodeFault}
 use Rattle.node_table.specs.declared.fault.NodeFault.TheVariants.{TooLong, TooDeep, TableFull, PoolFull, BadSpan, TooManySources, Memory}
-use Rattle.node_table.specs.Held.{Held, node_of, table_of, most_nodes}
+use Rattle.node_table.specs.Held.{Held, node_of, table_of}
 use Rattle.rope_store.specs.Additions.{Addition, Makes, after, concatenated}
-use Rattle.rope_store.specs.Joining.{most_merged, right_ending, view_ending, short_ending, ending_for, merged, piece, nodes_joined, joined}
+use Rattle.rope_store.specs.Joining.{right_ending, view_ending, short_ending, ending_for, merged, piece, nodes_joined, joined}
 use Rattle.rope_store.specs.Refusals.{Refuses, IsTooDeep, IsTableFull, IsPoolFull}
 use Rattle.rope_store.proofs.CallSizes.{joined_few, joined_shallow}
 use Rattle.rebalance.specs.AnyForms.{AnyForm, lifted}
@@ -47,7 +49,7 @@ right_depth : (old : Held Coded) (d n : ℕ) (l r x y : NodeId) (v : NodeView) �
     → depth_after old (nodes_joined (table_of coded_byte old) l r (short_ending (table_of coded_byte old) n (right_ending x y v))) ≤ 1 + d
 right_depth old d n l r x y (Lit a) dl dr dx =
     let t = table_of coded_byte old in
-    cond_both (nat_le (len_at t y.0 + n) most_merged) (right_ending x y (Lit a)) None (λ o. depth_after old (nodes_joined t l r o) ≤ 1 + d) (λ is. merged_depth old d (Some x) (piece t y ++ piece t r) dx) (λ is. concatenated_depth old d l r dl dr)
+    cond_both (nat_le (len_at t y.0 + n) MOST_MERGED) (right_ending x y (Lit a)) None (λ o. depth_after old (nodes_joined t l r o) ≤ 1 + d) (λ is. merged_depth old d (Some x) (piece t y ++ piece t r) dx) (λ is. concatenated_depth old d l r dl dr)
 right_depth old d n l r x y (Src s a) dl dr dx = concatenated_depth old d l r dl dr
 right_depth old d n l r x y Fun dl dr dx = concatenated_depth old d l r dl dr
 right_depth old d n l r x y (Cat z w) dl dr dx = concatenated_depth old d l r dl dr
@@ -58,7 +60,7 @@ left_depth : (old : Held Coded) (d n : ℕ) (l r : NodeId) (v : NodeView) → de
     → depth_after old (nodes_joined (table_of coded_byte old) l r (short_ending (table_of coded_byte old) n (view_ending (table_of coded_byte old) l v))) ≤ 1 + d
 left_depth old d n l r (Lit a) dl dr dv =
     let t = table_of coded_byte old in
-    cond_both (nat_le (len_at t l.0 + n) most_merged) (view_ending t l (Lit a)) None (λ o. depth_after old (nodes_joined t l r o) ≤ 1 + d) (λ is. merged_depth old d None (piece t l ++ piece t r) (omega arith)) (λ is. concatenated_depth old d l r dl dr)
+    cond_both (nat_le (len_at t l.0 + n) MOST_MERGED) (view_ending t l (Lit a)) None (λ o. depth_after old (nodes_joined t l r o) ≤ 1 + d) (λ is. merged_depth old d None (piece t l ++ piece t r) (omega arith)) (λ is. concatenated_depth old d l r dl dr)
 left_depth old d n l r (Src s a) dl dr dv = concatenated_depth old d l r dl dr
 left_depth old d n l r Fun dl dr dv = concatenated_depth old d l r dl dr
 left_depth old d n l r (Cat x y) dl dr dv = right_depth old d n l r x y (view_at (table_of coded_byte old) y.0) dl dr (omega (arith, dv))
@@ -114,7 +116,7 @@ halves_made old new l r rope wanted s h left right made short =
     }
 
 pub halves_joined : (old new : Held Coded) (l r : Option NodeId) (wanted : List Cell) (p q : ℕ) (result : Result (Option NodeId) BalanceFault) → IsSound (table_of coded_byte old) → HasTrueRecords (table_of coded_byte old) → IsRope (table_of coded_byte old) l → IsRope (table_of coded_byte old) r
-    → rope_depth (table_of coded_byte old) l ≤ 63 → rope_depth (table_of coded_byte old) r ≤ 63 → AnyForm coded_byte old (joined (table_of coded_byte old) l r) wanted (AreLong old l r) p q 31 result new → IfOk result (λ rope. JoinsHalves old l r rope new)
+    → rope_depth (table_of coded_byte old) l ≤ 63 → rope_depth (table_of coded_byte old) r ≤ 63 → AnyForm coded_byte old (joined (table_of coded_byte old) l r) wanted (AreLong old l r) p q 2 31 result new → IfOk result (λ rope. JoinsHalves old l r rope new)
 halves_joined old new l r wanted p q (Err e) s h left right dl dr any = tt
 halves_joined old new l r wanted p q (Ok rope) s h left right dl dr any =
     let t = table_of coded_byte old in
@@ -141,7 +143,7 @@ plain_fault old a IsLong (Err TooManySources) r shallow free room = absurd (r.no
 plain_fault old a IsLong (Err Memory) r shallow free room = tt
 
 pub halves_refused : (old new : Held Coded) (l r : Option NodeId) (wanted : List Cell) (p q : ℕ) (result : Result (Option NodeId) BalanceFault) → IsSound (table_of coded_byte old) → HasTrueRecords (table_of coded_byte old) → IsRope (table_of coded_byte old) l → IsRope (table_of coded_byte old) r
-    → rope_depth (table_of coded_byte old) l ≤ 63 → rope_depth (table_of coded_byte old) r ≤ 63 → length old.nodes + 3 ≤ most_nodes → length old.pool.bytes + 31 < 2 ^ 32 → AnyForm coded_byte old (joined (table_of coded_byte old) l r) wanted (AreLong old l r) p q 31 result new
+    → rope_depth (table_of coded_byte old) l ≤ 63 → rope_depth (table_of coded_byte old) r ≤ 63 → length old.nodes + 3 ≤ MOST_NODES → length old.pool.bytes + 31 < 2 ^ 32 → AnyForm coded_byte old (joined (table_of coded_byte old) l r) wanted (AreLong old l r) p q 2 31 result new
     → IfErr result (λ e. IsJoinFault (rope_fault e))
 halves_refused old new l r wanted p q result s h left right dl dr nodes bytes any =
     let t = table_of coded_byte old in

@@ -1,5 +1,7 @@
 -- Ropes of parts of sources, and their texts.
 use Rattle.std.proofs.Common.{◌≡◌, ℕ, zero, suc, ◌+◌, ◌-◌, ◌^◌, ◌<◌, ◌≤◌, List, [], ◌∷◌, ◌++◌, length, map, take, drop, get_or, Option, Some, None, Err, inl, inr, refl, sym, ap, ap₂, subst, ◌∙◌, arith, length-append}
+use Rattle.rope_node.specs.declared.limits.TheConstants.{MOST_NODES}
+use Rattle.rope_node.specs.declared.limits.TheConstants.{MOST_SOURCES}
 use Rattle.std.specs.Prelude.{◌⊎◌, IsSome, IsErrOf, min}
 use Rattle.std.specs.List.{range_with_len}
 use Rattle.std.proofs.lemmas.Bool.{cases_lt}
@@ -11,7 +13,7 @@ use Rattle.rope_node.specs.Table.{Node, Table, no_node}
 use Rattle.rope_node.specs.Denotes.{Place, cells_in, node_cells, rope_cells, rope_len, text}
 use Rattle.rope_node.specs.Extends.{Extends}
 use Rattle.rope_node.proofs.Parts.{span-map, span-range_with_len}
-use Rattle.node_table.specs.Held.{Held, most_nodes, most_sources, table_of}
+use Rattle.node_table.specs.Held.{Held, table_of}
 use Rattle.node_table.specs.declared.fault.NodeFault.{NodeFault}
 use Rattle.node_table.specs.declared.fault.NodeFault.TheVariants.{Memory, TooLong, TooDeep, TableFull, PoolFull, BadSpan, TooManySources}
 use Rattle.rope_store.specs.Additions.{after, new_node, source_added}
@@ -27,15 +29,15 @@ use Rattle.cord_tools.specs.Spans.{IsSourcePart, IsSpan, source_leaf}
 -- ---- which fault comes
 
 -- a source that may be added wants nothing but memory
-pub add_only_memory : {X : Type 0} (e : NodeFault) (n len : ℕ) → n < most_sources → len ≤ longest_source → (e ≡ TooManySources) ⊎ ((e ≡ TooLong) ⊎ (e ≡ Memory))
-    → (IsErrOf {T = X} (Err e) TooManySources → n ≡ most_sources) → (IsErrOf {T = X} (Err e) TooLong → (n < most_sources) × (2 ^ 40 ≤ len)) → e ≡ Memory
+pub add_only_memory : {X : Type 0} (e : NodeFault) (n len : ℕ) → n < MOST_SOURCES → len ≤ longest_source → (e ≡ TooManySources) ⊎ ((e ≡ TooLong) ⊎ (e ≡ Memory))
+    → (IsErrOf {T = X} (Err e) TooManySources → n ≡ MOST_SOURCES) → (IsErrOf {T = X} (Err e) TooLong → (n < MOST_SOURCES) × (2 ^ 40 ≤ len)) → e ≡ Memory
 add_only_memory e n len few short (inl many) no_more too_long = absurd (omega (arith, few, no_more (ap Err many)))
 add_only_memory e n len few short (inr (inl long)) no_more too_long = absurd (omega (arith, short, (too_long (ap Err long)).1))
 add_only_memory e n len few short (inr (inr memory)) no_more too_long = memory
 
 -- and so does a part of a source, where few nodes are there
 pub part_only_memory : {F : Type 0} (t : Table) (h : Held F) (s a n : ℕ) (e : NodeFault) → Refuses h (source_added {F = F} t s a n) ((length h.sources ≤ s) ⊎ (get_or h.sources s 0 < a + n)) ⊥ (Err e)
-    → s < length h.sources → a + n ≤ get_or h.sources s 0 → length h.nodes < most_nodes → h.pool.bytes ≡ [] → e ≡ Memory
+    → s < length h.sources → a + n ≤ get_or h.sources s 0 → length h.nodes < MOST_NODES → h.pool.bytes ≡ [] → e ≡ Memory
 part_only_memory t h s a n Memory refuses there inside few empty = refl
 part_only_memory t h s a n TooLong refuses there inside few empty = absurd (refuses.too_long.0 refl).1
 part_only_memory t h s a n TooManySources refuses there inside few empty = absurd (refuses.no_other refl)

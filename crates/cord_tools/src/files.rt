@@ -1,9 +1,10 @@
 //! Files as sources of a store.
 
 ghost use Rattle.std.specs.Prelude.{◌≡◌, ◌+◌, ◌<◌, ◌≤◌, [], length, OnOk, IfOk};
+ghost use Rattle.rope_node.specs.declared.limits.TheConstants.{MOST_NODES};
 ghost use Rattle.function_leaf.specs.Coded.{coded_byte};
 ghost use Rattle.rope_node.specs.Extends.{Extends};
-ghost use Rattle.node_table.specs.Held.{most_nodes, table_of};
+ghost use Rattle.node_table.specs.Held.{table_of};
 ghost use Rattle.lazy_file.specs.SourceTexts.{AreSizes};
 ghost use Rattle.cord_tools.specs.Spans.{IsSourcePart, store_with};
 
@@ -39,7 +40,7 @@ pub fn store_of<T: Sources>(alloc: Global, sources: &T) -> Result<Store<Coded>, 
 /// The rope of at most `count` bytes of source `s` from `start` on.
 pub fn part(store: &mut Store<Coded>, s: u8, start: u64, count: u64) -> Result<Rope, AllocError>
     requires there { s < length store.old.sources }
-    requires few { length store.old.nodes < most_nodes }
+    requires few { length store.old.nodes < MOST_NODES }
     requires empty { store.old.pool.bytes ≡ [] }
     ensures ok { IfOk result (IsSourcePart (table_of coded_byte store.new) s start count) }
     ensures kept { Extends (table_of coded_byte store.old) (table_of coded_byte store.new) }

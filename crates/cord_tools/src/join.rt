@@ -1,11 +1,12 @@
 //! Files, one behind the other.
 
 ghost use Rattle.std.specs.Prelude.{◌≡◌, ℕ, ◌+◌, ◌*◌, ◌<◌, ◌≤◌, ◌^◌, [], length, IfOk, IfErr, OnOk, IsErrOf};
+ghost use Rattle.rope_node.specs.declared.limits.TheConstants.{MOST_SOURCES};
 ghost use Rattle.std.specs.List.{sum};
 ghost use Rattle.function_leaf.specs.Coded.{coded_byte};
 ghost use Rattle.rope_node.specs.Denotes.{IsRope, rope_cells, rope_depth};
 ghost use Rattle.rope_node.specs.Extends.{Extends};
-ghost use Rattle.node_table.specs.Held.{most_sources, table_of};
+ghost use Rattle.node_table.specs.Held.{table_of};
 ghost use Rattle.rebalance.specs.declared.fault.BalanceFault.TheVariants.{Node};
 ghost use Rattle.cord_tools.specs.Faults.{IsJoinFault, rope_fault};
 ghost use Rattle.cord_tools.specs.Files.{JoinsFiles, all_cells, cells_of};
@@ -26,7 +27,7 @@ use std::io;
 fn join_range(store: &mut Store<Coded>, first: u32, count: u32) -> Result<Rope, BalanceFault>
     requires some { 1 ≤ count }
     requires there { first + count ≤ length store.old.sources }
-    requires few { length store.old.sources ≤ most_sources }
+    requires few { length store.old.sources ≤ MOST_SOURCES }
     requires nodes { length store.old.nodes ≤ 4 * first }
     requires bytes { length store.old.pool.bytes ≤ 31 * first }
     ensures is_rope { IfOk result (IsRope (table_of coded_byte store.new)) }
@@ -60,7 +61,7 @@ fn join_range(store: &mut Store<Coded>, first: u32, count: u32) -> Result<Rope, 
 /// The rope of all the store's sources in their order. Where they have 2^40 bytes or more together, it is refused, and else only memory
 /// is in the way.
 fn join_sources(store: &mut Store<Coded>) -> Result<Rope, BalanceFault>
-    requires few { length store.old.sources ≤ most_sources }
+    requires few { length store.old.sources ≤ MOST_SOURCES }
     requires no_nodes { store.old.nodes ≡ [] }
     requires no_bytes { store.old.pool.bytes ≡ [] }
     ensures is_rope { IfOk result (IsRope (table_of coded_byte store.new)) }

@@ -1,6 +1,7 @@
 //! What a table refuses by itself. Its nodes are put by the store above, whose tests put them.
 
 use function_leaf::Coded;
+use leaf_buffer::Piece;
 use node_table::{NodeFault, NodeTable};
 use rope_node::NodeSpace;
 use std::test::Fail;
@@ -10,7 +11,7 @@ fn a_new_table_is_empty(rt: HostRuntime) {
     let table = NodeTable::<Coded>::new(rt.alloc());
     assert_eq!(&rt; (table.count(), table.pool_len()), (0, 0));
     assert_eq!(&rt; table.source_count(), 0);
-    assert!(&rt; !table.can_grow(0, 1, 1));
+    assert!(&rt; !table.can_grow(Piece { start: 0, len: 1 }, 1));
 }
 
 #[test]
