@@ -49,7 +49,7 @@ const SUBSTRINGS: &[u8] = b"CORDSESS\0\0\0\x01\0\0\0\0\
 #[test]
 fn a_fetch_goes_through_a_substring_of_a_substring(rt: HostRuntime) {
     let mut sources = MemSources::new(rt.alloc());
-    let image = check(SUBSTRINGS, &sources).expect(&rt, "the image is accepted");
+    let image = check(SUBSTRINGS, &mut sources).expect(&rt, "the image is accepted");
     assert_eq!(rt; image.fetch(&mut sources, 1, 0), Ok((Some(0x63), 4)));
     assert_eq!(rt; image.fetch(&mut sources, 1, 1), Ok((Some(0x64), 4)));
     assert_eq!(rt; image.fetch(&mut sources, 1, 2), Ok((None, 0)));
@@ -58,7 +58,7 @@ fn a_fetch_goes_through_a_substring_of_a_substring(rt: HostRuntime) {
 #[test]
 fn a_fetch_gives_the_byte_and_the_nodes_visited(rt: HostRuntime) {
     let mut sources = MemSources::new(rt.alloc());
-    let image = check(ONE_INSERT, &sources).expect(&rt, "the image is accepted");
+    let image = check(ONE_INSERT, &mut sources).expect(&rt, "the image is accepted");
     assert_eq!(rt; image.fetch(&mut sources, 1, 2), Ok((Some(0x63), 1)));
     assert_eq!(rt; image.fetch(&mut sources, 1, 3), Ok((None, 0)));
     assert_eq!(rt; image.fetch(&mut sources, 0, 0), Ok((None, 0)));
@@ -67,8 +67,8 @@ fn a_fetch_gives_the_byte_and_the_nodes_visited(rt: HostRuntime) {
 
 #[test]
 fn a_revision_has_its_root_and_its_mark(rt: HostRuntime) {
-    let sources = MemSources::new(rt.alloc());
-    let image = check(ONE_INSERT, &sources).expect(&rt, "the image is accepted");
+    let mut sources = MemSources::new(rt.alloc());
+    let image = check(ONE_INSERT, &mut sources).expect(&rt, "the image is accepted");
     assert_eq!(rt; (image.root(0), image.mark(0)), (Some(None), Some(false)));
     assert_eq!(rt;
         (image.root(1), image.mark(1)),
