@@ -16,7 +16,7 @@ use Rattle.span_certificate.specs.declared.row.RowKind.{RowKind}
 use Rattle.span_certificate.specs.declared.row.RowKind.TheVariants.{Shared, Leaf, Bytes}
 use Rattle.span_certificate.specs.Parts.{part_len, part_cells, parts_cells, IsPart, AreParts}
 use Rattle.span_certificate.specs.Leads.{RopeLeads, PartLeads, RopeHasDescription, PartHasDescription, described_cells, AreAnswered}
-use Rattle.span_certificate.specs.Covers.{row_at, rows_len, place_of, IsByte, KindFits, Covers, MeetsNoSource}
+use Rattle.span_certificate.specs.Covers.{row_at, rows_len, place_of, HaveOneDescription, IsByte, KindFits, Covers, MeetsNoSource}
 use Rattle.span_certificate.specs.Steps.{AreBytes}
 use Rattle.span_certificate.proofs.ComparedCells.{bytes_of_each, compared_all}
 use Rattle.span_certificate.proofs.Cells.{leads_cells, leads_inside}
@@ -26,7 +26,7 @@ use Rattle.span_certificate.proofs.RunLaws.{pool_run, source_run, fill_cells}
 
 -- ---- one row
 
-rope_leads_cells : (t : Table) → IsSound t → HasTrueRecords t → (n k o : ℕ) (rope : Option NodeId) (p : ℕ) → 1 ≤ n → IsRope t rope → p + n ≤ rope_len t rope → RopeLeads t n k o rope p → take n (drop p (rope_cells t rope)) ≡ take n (drop o (cells t k))
+pub rope_leads_cells : (t : Table) → IsSound t → HasTrueRecords t → (n k o : ℕ) (rope : Option NodeId) (p : ℕ) → 1 ≤ n → IsRope t rope → p + n ≤ rope_len t rope → RopeLeads t n k o rope p → take n (drop p (rope_cells t rope)) ≡ take n (drop o (cells t k))
 rope_leads_cells t s h n k o None p some there inside lead = absurd lead
 rope_leads_cells t s h n k o (Some x) p some there inside lead = leads_cells t s h some lead there inside
 
@@ -41,7 +41,7 @@ rope_described t s h coded answers n (Some x) p d some there inside (k, o, lead,
 old_cells : (t : Table) (rope : Option NodeId) (i m off n : ℕ) → off + n ≤ m → take n (drop off (part_cells t (Old rope i m))) ≡ take n (drop (i + off) (rope_cells t rope))
 old_cells t rope i m off n fits = span_within n off m i (rope_cells t rope) fits ∙ ap (λ (j : ℕ). take n (drop j (rope_cells t rope))) (omega arith)
 
-part_leads_cells : (t : Table) → IsSound t → HasTrueRecords t → (n k o : ℕ) (part : Part) (off : ℕ) → 1 ≤ n → IsPart t part → off + n ≤ part_len part → PartLeads t n k o part off → take n (drop off (part_cells t part)) ≡ take n (drop o (cells t k))
+pub part_leads_cells : (t : Table) → IsSound t → HasTrueRecords t → (n k o : ℕ) (part : Part) (off : ℕ) → 1 ≤ n → IsPart t part → off + n ≤ part_len part → PartLeads t n k o part off → take n (drop off (part_cells t part)) ≡ take n (drop o (cells t k))
 part_leads_cells t s h n k o (Old rope i m) off some is fits lead = old_cells t rope i m off n fits ∙ rope_leads_cells t s h n k o rope (i + off) some is.1.0 (omega (arith, is.1.1, fits)) lead
 part_leads_cells t s h n k o (Pool a m) off some is fits lead = absurd lead
 part_leads_cells t s h n k o (Source r m) off some is fits lead = absurd lead
@@ -53,6 +53,13 @@ part_described t s h coded answers n (Old rope i m) off d some is fits of_part =
 part_described t s h coded answers n (Pool a m) off d some is fits of_part = (pool_run t s (Pool a m) a m off n refl is some fits).cells n (omega arith) ∙ ap (described_cells t n) of_part
 part_described t s h coded answers n (Source r m) off d some is fits of_part = (source_run t s (Source r m) r m off n refl is some fits).cells n (omega arith) ∙ ap (described_cells t n) of_part
 part_described t s h coded answers n (Fill c m) off d some is fits of_part = fill_cells t c m off n fits ∙ ap (described_cells t n) of_part
+
+-- spans of parts that have one description have the same cells
+pub one_description_cells : (t : Table) → IsSound t → HasTrueRecords t → (coded : ℕ → Coded) → AreAnswered t coded → (n : ℕ) (part : Part) (off : ℕ) (other : Part) (place : ℕ)
+    → 1 ≤ n → IsPart t part → off + n ≤ part_len part → IsPart t other → place + n ≤ part_len other → HaveOneDescription t coded n part off other place
+    → take n (drop off (part_cells t part)) ≡ take n (drop place (part_cells t other))
+one_description_cells t s h coded answers n part off other place some is fits is_other fits_other (d, of_part, of_other) =
+    part_described t s h coded answers n part off d some is fits of_part ∙ sym (part_described t s h coded answers n other place d some is_other fits_other of_other)
 
 kind_cells : (t : Table) → IsSound t → HasTrueRecords t → (coded : ℕ → Coded) → AreAnswered t coded → (source : ℕ → ℕ → ℕ) (n : ℕ) (part : Part) (off : ℕ) (root : Option NodeId) (place : ℕ) (kind : RowKind)
     → 1 ≤ n → IsPart t part → off + n ≤ part_len part → IsRope t root → place + n ≤ rope_len t root → (kind ≡ Bytes → take n (drop off (part_cells t part)) ≡ take n (drop place (rope_cells t root)))
