@@ -6,13 +6,13 @@ pub returns-in-Ok-Good-clause-ok : goal.returns-in-Ok-Good-clause-ok
 returns-in-Ok-Good-clause-ok g c = λ _ source agrees stated.
     let v = c.args.tables.now in
     let is : IsHanded v c.args.k c.args.parts.now c.revision-revision.result c.args.from c.image.result.now = record { parts_are = c.requires.parts; revision_is = c.revision-revision.ensures; from_is = c.requires.from; image_is = c.image.ensures.image } in
-    (handed_tells v (g.S.Sources.stated c.args.sources.now) c.args.k c.args.parts.now c.revision-revision.result c.args.from c.image.result.now _ is c.in-Ok-Good.ensures.exact source agrees stated).good.0 c.in-Ok-Good.field-0-is
+    (handed_tells v (g.S.Sources.stated c.args.sources.now) c.args.k c.args.parts.now c.revision-revision.result c.args.from c.image.result.now _ is c.in-Ok-Good.ensures.exact source agrees (λ i before there. stated i there)).good.0 c.in-Ok-Good.field-0-is
 
 pub returns-in-Ok-Bad-clause-err : goal.returns-in-Ok-Bad-clause-err
 returns-in-Ok-Bad-clause-err g c =
     let v = c.args.tables.now in
     let is : IsHanded v c.args.k c.args.parts.now c.revision-revision.result c.args.from c.image.result.now = record { parts_are = c.requires.parts; revision_is = c.revision-revision.ensures; from_is = c.requires.from; image_is = c.image.ensures.image } in
-    (refl, λ source agrees stated. ((handed_tells v (g.S.Sources.stated c.args.sources.now) c.args.k c.args.parts.now c.revision-revision.result c.args.from c.image.result.now _ is c.in-Ok-Bad.ensures.exact source agrees stated).bad c.in-Ok-Bad.row).0 c.in-Ok-Bad.field-0-is)
+    (refl, λ source agrees stated. ((handed_tells v (g.S.Sources.stated c.args.sources.now) c.args.k c.args.parts.now c.revision-revision.result c.args.from c.image.result.now _ is c.in-Ok-Bad.ensures.exact source agrees (λ i before there. stated i there)).bad c.in-Ok-Bad.row).0 c.in-Ok-Bad.field-0-is)
 
 pub returns-in-Err-clause-err : goal.returns-in-Err-clause-err
 returns-in-Err-clause-err g c =
