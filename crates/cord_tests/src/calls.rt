@@ -2,7 +2,6 @@
 //! What a call leaves as it was where memory is refused, its contract says.
 
 mod balance;
-mod certificates;
 mod functions;
 mod pools;
 mod positions;
