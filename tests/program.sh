@@ -87,6 +87,10 @@ substrings are accepted to depth 64;check substrings_of_depth_64;;0;accepted 2 r
 a source is accepted;check one_source abc;;0;accepted 1 revisions 0 nodes 0 rows\n;
 a source of another length is refused;check one_source ab;;1;refused C3(0)\n;
 a source that is not given is refused;check one_source;;1;refused C2\n;
+a row of bytes over a source is accepted;check bytes_row_over_a_source abc;;0;accepted 1 revisions 1 nodes 1 rows\n;
+a row of bytes over another text is refused;check bytes_row_over_a_source abd;;1;refused C11(0,0)\n;
+a row that leads elsewhere is refused;check back_shared_elsewhere;;1;refused C11(2,0)\n;
+a command past its text is refused;check insert_past_the_end;;1;refused C8(2)\n;
 256 sources are refused;check one_source $(yes abc | head -n 256);;1;refused S4\n;
 an image that is not there;check missing;;3;;read\n
 a source that is not there;check one_source missing;;3;;read\n
@@ -97,6 +101,10 @@ a revision is shown;show one_insert 1;;0;abc;
 the text of New is shown;show one_insert 0;;0;;
 a substring of a substring is shown;show substring_of_substring 1;;0;cd;
 a revision beside a source is shown;show one_source 0 abc;;0;;
+a text of a source is shown;show bytes_row_over_a_source 0 abc;;0;abc;
+an insertion in the middle is shown;show insert_in_three_rows 2;;0;acb;
+a text taken back is shown;show back_shared 2;;0;abc;
+all of a text deleted leaves none;show delete_all 2;;0;;
 a revision that is not there;show one_insert 2;;1;;refused no revision\n
 the largest number is no revision;show one_insert 18446744073709551615;;1;;refused no revision\n
 a refused image is not shown;show child_not_earlier 0;;1;;refused C4(1)\n

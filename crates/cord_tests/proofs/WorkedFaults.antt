@@ -1,5 +1,6 @@
 -- The records of the worked examples: those that keep the rules, and the first ones that do not.
-use Rattle.std.proofs.Common.{ℕ, zero, suc, ◌<◌, List, [], ◌∷◌, length, take, true, Some, refl, arith, lit<, lit≤}
+use Rattle.std.proofs.Common.{ℕ, zero, suc, ◌<◌, List, [], ◌∷◌, length, take, true, Some, inl, inr, refl, arith, lit<, lit≤}
+use Rattle.function_leaf.specs.declared.coded.Coded.{Coded}
 use Rattle.rope_node.specs.Balance.{fibonacci, IsBalanced}
 use Rattle.cord_tests.specs.Tables.{number, child_not_earlier, part_of_a_part, part_of_a_part_recorded, too_long_together}
 use Rattle.span_certificate.specs.declared.row.Row.{Row}
@@ -7,14 +8,15 @@ use Rattle.span_certificate.specs.declared.part.Part.TheVariants.{Pool}
 use Rattle.span_certificate.specs.Covers.{Fits, IsFirstBad, place_of, row_at}
 use Rattle.cord_tests.specs.Commands.{leaf_row}
 use Rattle.cord_tests.proofs.WorkedRows.{first_row, third_byte_uncovered_beside, row_past_the_end_beside}
-use Rattle.image_reader.specs.Acceptance.{IsGoodNode, AreGoodNodes}
-use Rattle.image_reader.specs.Value.{ImageNode, table_of}
+use Rattle.image_reader.specs.Accepted.{IsGoodNode, IsGoodRevision, AreGoodNodes, AreGoodRevisions, KeepsRules}
+use Rattle.image_reader.specs.Value.{ImageNode, ImageValue, coded_at, image_table}
 use Rattle.image_reader.specs.declared.revision.Revision.{Revision}
-use Rattle.cord_tests.specs.Images.{empty_text, one_insert, one_insert_by}
+use Rattle.cord_tests.specs.Images.{empty_text, one_insert, one_insert_by, IsFirstFaultAlone}
 use Rattle.session_checker.specs.declared.fault.CheckFault.TheVariants as faults
 use Rattle.session_checker.specs.declared.node_rules.NodeRule.TheVariants as rules
 use Rattle.session_checker.specs.NodeRules.{IsFirstNodeFault}
-use Rattle.session_checker.specs.RevisionRules.{IsGoodRevision, AreGoodRevisions, IsFirstRevisionFault}
+use Rattle.session_checker.specs.RevisionRules.{IsGoodOver}
+use Rattle.lazy_file.specs.SourceTexts.{stated_in_memory}
 use Rattle.cord_tests.specs.Images.{inserted_chain}
 
 -- a leaf that keeps its rules, at the front of the table
@@ -80,61 +82,79 @@ part_of_a_part_good (suc (suc (suc (suc zero)))) lt = last_good
 part_of_a_part_good (suc (suc (suc (suc (suc id))))) lt = absurd (omega (arith, lt))
 
 -- an empty text in front of other revisions
-empty_good : (nodes : List ImageNode) (revisions : List Revision) (rows : List Row) (pool : List ℕ)
-    → (k : ℕ) → k < 1 → IsGoodRevision (record { sources = []; nodes = nodes; revisions = empty_text ∷ revisions; rows = rows; pool = pool }) k
-empty_good nodes revisions rows pool zero lt = record {
-  command = tt;
-  root = (tt, refl);
-  mark = λ e. absurd cc;
+abbrev behind_empty : List ImageNode → List Revision → List Row → List ℕ → ImageValue
+behind_empty nodes revisions rows pool = record { sources = []; nodes = nodes; revisions = empty_text ∷ revisions; rows = rows; pool = pool }
+
+empty_rules : (nodes : List ImageNode) (revisions : List Revision) (rows : List Row) (pool : List ℕ) → KeepsRules (behind_empty nodes revisions rows pool) 0
+empty_rules nodes revisions rows pool = record { command = tt; root = (tt, refl); mark = λ e. absurd cc }
+
+empty_good : (nodes : List ImageNode) (revisions : List Revision) (rows : List Row) (pool : List ℕ) (source : ℕ → ℕ → ℕ) → IsGoodRevision (behind_empty nodes revisions rows pool) source 0
+empty_good nodes revisions rows pool source = record {
+  rules = empty_rules nodes revisions rows pool;
   rows = record { fit = λ j lt. absurd (omega (arith, lt)); whole_root = refl; whole_parts = refl };
 }
-empty_good nodes revisions rows pool (suc k) lt = absurd (omega (arith, lt))
+
+empty_before : (nodes : List ImageNode) (revisions : List Revision) (rows : List Row) (pool : List ℕ)
+    → (k : ℕ) → k < 1 → IsGoodOver (behind_empty nodes revisions rows pool) (stated_in_memory []) k
+empty_before nodes revisions rows pool zero lt = record {
+  rules = empty_rules nodes revisions rows pool;
+  rows = λ source agrees stated. (empty_good nodes revisions rows pool source).rows;
+}
+empty_before nodes revisions rows pool (suc k) lt = absurd (omega (arith, lt))
 
 abbrev answers : List Row → ℕ → ℕ → ℕ
-answers rows = (table_of (one_insert_by rows)).answer
+answers rows = (image_table (one_insert_by rows)).answer
 
 -- three bytes are enough for a leaf
 literal_balanced : IsBalanced 3 0
 unfolding fibonacci
 literal_balanced = lit≤ tt
 
-whole_row : (j : ℕ) → j < 1 → Fits (table_of one_insert) (Pool 0 3 ∷ []) (Some (number 0)) (place_of (leaf_row 3 ∷ []) j) (row_at (leaf_row 3 ∷ []) j)
-whole_row zero lt = first_row (answers (leaf_row 3 ∷ [])) 3 (lit≤ tt) (lit≤ tt)
-whole_row (suc j) lt = absurd (omega (arith, lt))
-
-pub one_insert_good : AreGoodRevisions one_insert
-one_insert_good zero lt = empty_good _ _ _ _ 0 (lit< tt)
-one_insert_good (suc zero) lt = record {
-  command = record { earlier = lit< tt; into_nil = refl; place = refl; not_empty = lit≤ tt; inside = lit≤ tt };
+-- the insertion keeps its rules, whatever its rows
+insertion_rules : (rows : List Row) → KeepsRules (one_insert_by rows) 1
+insertion_rules rows = record {
+  command = (lit< tt, lit≤ tt, lit≤ tt, lit≤ tt, lit< tt);
   root = (lit< tt, refl);
   mark = λ e. literal_balanced;
-  rows = record { fit = whole_row; whole_root = refl; whole_parts = refl };
 }
-one_insert_good (suc (suc k)) lt = absurd (omega (arith, lt))
+
+whole_row : (coded : ℕ → Coded) (source : ℕ → ℕ → ℕ) (j : ℕ) → j < 1 → Fits (image_table one_insert) coded source (Pool 0 3 ∷ []) (Some (number 0)) (place_of (leaf_row 3 ∷ []) j) (row_at (leaf_row 3 ∷ []) j)
+whole_row coded source zero lt = first_row (answers (leaf_row 3 ∷ [])) coded source 3 (lit≤ tt) (lit≤ tt)
+whole_row coded source (suc j) lt = absurd (omega (arith, lt))
+
+pub one_insert_good : (source : ℕ → ℕ → ℕ) → AreGoodRevisions one_insert source
+one_insert_good source zero lt = empty_good _ _ _ _ source
+one_insert_good source (suc zero) lt = record {
+  rules = insertion_rules (leaf_row 3 ∷ []);
+  rows = record { fit = whole_row (coded_at one_insert) source; whole_root = refl; whole_parts = refl };
+}
+one_insert_good source (suc (suc k)) lt = absurd (omega (arith, lt))
 
 chain_unbalanced : IsBalanced 4 3 → ⊥
 unfolding fibonacci
 chain_unbalanced enough = omega (arith, enough)
 
-pub chain_marked : IsFirstRevisionFault (inserted_chain true) (faults.Mark 1)
+pub chain_marked : IsFirstFaultAlone (inserted_chain true) (faults.Mark 1)
 chain_marked = record {
   k = 1;
   there = lit< tt;
-  earlier = empty_good _ _ _ _;
-  breaks = (refl, record { earlier = lit< tt; into_nil = refl; place = refl; not_empty = lit≤ tt; inside = lit≤ tt }, (lit< tt, refl), λ good. chain_unbalanced (good refl));
+  earlier = empty_before _ _ _ _;
+  breaks = inl (refl, (lit< tt, lit≤ tt, lit≤ tt, lit≤ tt, lit< tt), (lit< tt, refl), λ good. chain_unbalanced (good refl));
 }
 
 -- the rows of the insertion have this first fault
-bad_rows : (rows : List Row) → IsFirstBad (table_of (one_insert_by rows)) (Pool 0 3 ∷ []) (Some (number 0)) (take (length rows) rows) 1 → IsFirstRevisionFault (one_insert_by rows) (faults.Rows 1 1)
+bad_rows : (rows : List Row)
+    → ((coded : ℕ → Coded) (source : ℕ → ℕ → ℕ) → IsFirstBad (image_table (one_insert_by rows)) coded source (Pool 0 3 ∷ []) (Some (number 0)) (take (length rows) rows) 1)
+    → IsFirstFaultAlone (one_insert_by rows) (faults.Rows 1 1)
 bad_rows rows bad = record {
   k = 1;
   there = lit< tt;
-  earlier = empty_good _ _ _ _;
-  breaks = (refl, record { earlier = lit< tt; into_nil = refl; place = refl; not_empty = lit≤ tt; inside = lit≤ tt }, (lit< tt, refl), λ e. literal_balanced, bad);
+  earlier = empty_before _ _ _ _;
+  breaks = inr (insertion_rules rows, (refl, λ source agrees stated. bad (coded_at (one_insert_by rows)) source));
 }
 
-pub byte_uncovered : IsFirstRevisionFault (one_insert_by (leaf_row 2 ∷ [])) (faults.Rows 1 1)
+pub byte_uncovered : IsFirstFaultAlone (one_insert_by (leaf_row 2 ∷ [])) (faults.Rows 1 1)
 byte_uncovered = bad_rows (leaf_row 2 ∷ []) (third_byte_uncovered_beside (answers (leaf_row 2 ∷ [])))
 
-pub row_too_many : IsFirstRevisionFault (one_insert_by (leaf_row 3 ∷ leaf_row 1 ∷ [])) (faults.Rows 1 1)
+pub row_too_many : IsFirstFaultAlone (one_insert_by (leaf_row 3 ∷ leaf_row 1 ∷ [])) (faults.Rows 1 1)
 row_too_many = bad_rows (leaf_row 3 ∷ leaf_row 1 ∷ []) (row_past_the_end_beside (answers (leaf_row 3 ∷ leaf_row 1 ∷ [])))

@@ -1,5 +1,5 @@
 -- The images of the worked examples: an empty text, and `abc` or a chain of four literals inserted into it.
-use Rattle.std.specs.Prelude.{Bool, true, false, List, [], ◌∷◌, length, map, Some, None, codes}
+use Rattle.std.specs.Prelude.{ℕ, Bool, true, false, List, [], ◌∷◌, length, map, Some, None, codes}
 use Rattle.rope_node.specs.declared.node.NodeView.TheVariants.{Lit}
 use Rattle.rope_node.specs.Table.{Node}
 use Rattle.cord_tests.specs.Tables.{recorded, number, chain_of_four}
@@ -8,6 +8,9 @@ use Rattle.span_certificate.specs.declared.row.Row.{Row}
 use Rattle.cord_tests.specs.Commands.{leaf_row}
 use Rattle.image_reader.specs.declared.revision.Revision.{Revision}
 use Rattle.image_reader.specs.Value.{ImageNode, ImageValue}
+use Rattle.lazy_file.specs.SourceTexts.{stated_in_memory}
+use Rattle.session_checker.specs.declared.fault.CheckFault.{CheckFault}
+use Rattle.session_checker.specs.RevisionRules.{IsFirstRevisionFault}
 
 abbrev pub literal : ImageNode
 literal = record { node = recorded (Lit 0) 3 0; function = None }
@@ -44,3 +47,7 @@ inserted_chain mark = record {
   rows = leaf_row 1 ∷ leaf_row 1 ∷ leaf_row 1 ∷ leaf_row 1 ∷ [];
   pool = codes "abcd";
 }
+
+-- this is the first fault of its revisions, with no sources
+abbrev pub IsFirstFaultAlone : ImageValue → CheckFault → Type 0
+IsFirstFaultAlone v fault = IsFirstRevisionFault stated_in_memory (λ (texts : List (List ℕ)). 0) [] [] v fault

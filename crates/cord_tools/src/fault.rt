@@ -94,6 +94,7 @@ impl From<CheckFault> for ToolFault {
         }
     }
 }
+
 impl From<PutFault> for ToolFault {
     ghost from_gives = { λ e f. f ≡ put_fault e };
 

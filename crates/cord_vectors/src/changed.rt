@@ -2,6 +2,7 @@
 
 use crate::image::Answer;
 use anyhow::Result;
+use lazy_file::MemSources;
 use std::alloc::Global;
 
 /// The first and last place of each run of bytes that the image `one_insert` has for later use.
@@ -20,11 +21,16 @@ const UNUSED: [(usize, usize); 12] = [
     (200, 207),
 ];
 
+/// The answer to an image of a session without a source.
+fn answer_alone(alloc: Global, image: &[u8]) -> Result<Answer> {
+    Answer::of(alloc, image, &mut MemSources::new(alloc))
+}
+
 /// How many of the image's shorter prefixes are refused because they end too early.
 pub fn cut_images_refused(alloc: Global, image: &[u8]) -> Result<u64> {
     let mut count = 0u64;
     for n in 0..image.len() {
-        if Answer::of(alloc, &image[..n])?.is_refusal("refused C1(I1)\n") {
+        if answer_alone(alloc, &image[..n])?.is_refusal("refused C1(I1)\n") {
             count = count.saturating_add(1);
         }
     }
@@ -37,7 +43,7 @@ fn is_refused_with_byte_set(alloc: Global, image: &[u8], place: usize) -> Result
         Some(byte) => *byte = 1,
         None => return Ok(false),
     }
-    Ok(Answer::of(alloc, &changed)?.is_refusal("refused C1(I6)\n"))
+    Ok(answer_alone(alloc, &changed)?.is_refusal("refused C1(I6)\n"))
 }
 
 fn run_refused(alloc: Global, image: &[u8], first: usize, last: usize) -> Result<u64> {

@@ -1,12 +1,14 @@
 //! An image, and how the check answers it.
 
-ghost use Rattle.std.specs.Prelude.{◌≡◌, ◌↔◌, ◌==◌, [], not, filter, take, Ok, IfOk, IsTrue, string_bytes};
+ghost use Rattle.std.specs.Prelude.{◌≡◌, ◌↔◌, ◌==◌, ℕ, List, not, filter, take, Ok, IfOk, IsTrue, string_bytes};
 ghost use Rattle.hex.specs.Hex.{decode_of};
+ghost use Rattle.lazy_file.specs.SourceTexts.{stated_in_memory};
 ghost use Rattle.cord_tools.specs.Answers.{AnswersWith, image_limit};
 ghost use Rattle.cord_tools.specs.declared.status.Status.TheVariants.{Failure};
 
 use anyhow::Result;
-use cord_tools::{Outcome, Status, exit_status, run_stdin};
+use cord_tools::{Outcome, Status, exit_status, run_check};
+use lazy_file::MemSources;
 use std::alloc::Global;
 use std::rt::Files;
 use std::{fmt, fs};
@@ -39,13 +41,13 @@ pub struct Answer {
 }
 
 impl Answer {
-    /// The answer to an image.
-    pub fn of(alloc: Global, image: &[u8]) -> Result<Answer>
-        ensures { IfOk result (λ answer. AnswersWith
-            (take image_limit image.now) [] (string_bytes answer.line) answer.status) }
+    /// The answer to an image with these sources.
+    pub fn of(alloc: Global, image: &[u8], sources: &mut MemSources) -> Result<Answer>
+        ensures { IfOk result (λ answer. AnswersWith stated_in_memory (λ (texts : List (List ℕ)). 0)
+            sources.old sources.new (take image_limit image.now) (string_bytes answer.line) answer.status) }
     {
         let mut written = Vec::new(alloc);
-        let status = run_stdin(alloc, image, &mut written)?;
+        let status = run_check(alloc, image, sources, &mut written)?;
         let line = String::from_utf8(written)?;
         Ok(Answer { line, status })
     }

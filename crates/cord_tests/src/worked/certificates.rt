@@ -1,6 +1,7 @@
 //! What commands give and which rows fit, on worked examples.
 
-ghost use Rattle.std.specs.Prelude.{◌≡◌, ◌∷◌, [], codes, Some, None};
+ghost use Rattle.std.specs.Prelude.{◌≡◌, ℕ, ◌∷◌, [], codes, Some, None};
+ghost use Rattle.function_leaf.specs.declared.coded.Coded.{Coded};
 ghost use Rattle.cord_tests.specs.Tables.{number, part_of_a_part, one_literal};
 ghost use Rattle.span_certificate.specs.declared.edit.Edit.TheVariants.{New, Insert};
 ghost use Rattle.span_certificate.specs.declared.part.Part.TheVariants.{Pool};
@@ -24,19 +25,22 @@ fn insertion_in_the_middle_gives_a_text()
 {}
 
 /// The root of parts of parts is covered by the row of the leaf that they lead to.
-#[tactic(auto, using(crate::proofs::WorkedRows::part_of_a_part_covered))]
 fn leaf_row_covers_a_part_of_a_part()
-    ensures { Covers part_of_a_part (parts_of (Insert 0 0 2 2)) (Some (number 4)) (leaf_row 2 ∷ []) }
+    ensures { (coded : ℕ → Coded) → (source : ℕ → ℕ → ℕ) → Covers part_of_a_part coded source
+        (parts_of part_of_a_part (None ∷ []) (Insert 0 0 2 2)) (Some (number 4)) (leaf_row 2 ∷ []) }
 {}
 
 /// A row of two bytes leaves the third one uncovered; a row behind the end does not fit.
-#[tactic(auto, using(crate::proofs::WorkedRows::third_byte_uncovered, crate::proofs::WorkedRows::row_past_the_end))]
 fn second_row_is_the_first_that_is_bad()
-    ensures uncovered { IsFirstBad one_literal (parts_of (Insert 0 0 0 3)) (Some (number 0)) (leaf_row 2 ∷ []) 1 }
-    ensures past_the_end { IsFirstBad one_literal (parts_of (Insert 0 0 0 3)) (Some (number 0)) (leaf_row 3 ∷ leaf_row 1 ∷ []) 1 }
+    ensures uncovered { (coded : ℕ → Coded) → (source : ℕ → ℕ → ℕ) → IsFirstBad one_literal coded source
+        (parts_of one_literal (None ∷ []) (Insert 0 0 0 3)) (Some (number 0)) (leaf_row 2 ∷ []) 1 }
+    ensures past_the_end { (coded : ℕ → Coded) → (source : ℕ → ℕ → ℕ) → IsFirstBad one_literal coded source
+        (parts_of one_literal (None ∷ []) (Insert 0 0 0 3)) (Some (number 0)) (leaf_row 3 ∷ leaf_row 1 ∷ []) 1 }
 {}
 
 /// Bytes of another place of the pool have another description.
+#[tactic(auto, using(crate::proofs::WorkedRows::row_of_another_place))]
 fn row_of_another_place_does_not_fit()
-    ensures { ¬ Fits one_literal (Pool 1 2 ∷ []) (Some (number 0)) 0 (leaf_row 2) }
+    ensures { (coded : ℕ → Coded) → (source : ℕ → ℕ → ℕ)
+        → ¬ Fits one_literal coded source (Pool 1 2 ∷ []) (Some (number 0)) 0 (leaf_row 2) }
 {}

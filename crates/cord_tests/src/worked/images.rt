@@ -39,7 +39,7 @@ fn one_insertion_is_spelled_and_read()
 {}
 
 /// The first fault of the image cut short, made longer, or with one byte changed.
-#[tactic(auto, unfolding(image_reader::specs::Layout::number_in, image_reader::specs::Layout::records, image_reader::specs::Reading::first_fault, image_reader::specs::Reading::stated_len, image_reader::specs::Reading::header_fault, image_reader::specs::Reading::source_fault, image_reader::specs::Reading::node_fault, image_reader::specs::Reading::revision_fault, image_reader::specs::Reading::row_fault, image_reader::specs::Reading::revision_of, image_reader::specs::Reading::edit_of, image_reader::specs::Reading::counted_rows, image_reader::specs::Reading::sections_fault, image_reader::specs::Reading::fault_of))]
+#[tactic(auto, unfolding(image_reader::specs::Layout::number_in, image_reader::specs::Layout::records, image_reader::specs::Reading::first_fault, image_reader::specs::Reading::stated_len, image_reader::specs::Reading::header_fault, image_reader::specs::Reading::source_record_fault, image_reader::specs::Reading::node_record_fault, image_reader::specs::Reading::revision_record_fault, image_reader::specs::Reading::row_record_fault, image_reader::specs::Reading::revision_of, image_reader::specs::Reading::edit_of, image_reader::specs::Reading::counted_rows, image_reader::specs::Reading::sections_fault, image_reader::specs::Reading::fault_of))]
 fn changed_image_has_a_first_fault()
     ensures none { fault_of ONE_INSERT.now ≡ None }
     ensures cut_short { fault_of (take 210 ONE_INSERT.now) ≡ Some Truncated }

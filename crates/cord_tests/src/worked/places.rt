@@ -4,7 +4,7 @@ ghost use Rattle.std.specs.Prelude.{◌≡◌, ◌∷◌, [], codes, Some, None}
 ghost use Rattle.std.specs.declared.cmp.Ordering.TheVariants.{Less, Equal, Greater};
 ghost use Rattle.cord_search.specs.Order.{order};
 ghost use Rattle.cord_search.specs.Places.{IsFirst, IsLast};
-ghost use Rattle.cord_search.specs.Stated.{IsOrderOfParts};
+ghost use Rattle.cord_search.specs.Stated.{order_of_parts};
 
 /// A proper prefix is less, and bytes compare unsigned.
 fn texts_are_ordered_by_their_first_difference()
@@ -16,8 +16,8 @@ fn texts_are_ordered_by_their_first_difference()
 
 /// `abc` and `xbd` from 1 on.
 fn parts_of_texts_are_ordered()
-    ensures one_byte { IsOrderOfParts 1 1 1 Equal (codes "abc") (codes "xbd") }
-    ensures two_bytes { IsOrderOfParts 1 1 2 Less (codes "abc") (codes "xbd") }
+    ensures one_byte { order_of_parts 1 1 1 (codes "abc") (codes "xbd") ≡ Equal }
+    ensures two_bytes { order_of_parts 1 1 2 (codes "abc") (codes "xbd") ≡ Less }
 {}
 
 /// `bcd` stands at 1 of `abcde`, and not behind it.

@@ -11,4 +11,4 @@ substr_any-requires-2 c =
 
 pub cat_any-requires-clause-left : goal.cat_any-requires-clause-left
 cat_any-requires-clause-left c =
-    rope_kept (table_of coded_byte c.append_any.new.store) (table_of coded_byte c.substr_any-2.new.store) c.substr_any-2.ensures.any.gives.grows.kept c.in_ok-longer.longer c.append_any.ensures.any.any.gives.is_rope
+    rope_kept (table_of coded_byte c.append_any.new.store) (table_of coded_byte c.substr_any-2.new.store) c.substr_any-2.ensures.any.gives.grows.kept c.in_ok-longer.longer c.in_ok-longer.ensures.any.any.gives.is_rope

@@ -56,11 +56,11 @@ returns-in_err-put-in-Some g c =
                 (omega (arith, there, c.revisions.ensures.count, c.revisions.type_inv)) c.in_err-put-in-Some.ensures.err);
           })
           (λ told. later_unread stated failures old mid c.put.new.sources (revision_cells v c.args.revision) before
-              (put_unread stated failures mid c.put.new.sources (image_table v) c.in-Some.root _ _ _ cells
-              c.in_err-put-in-Some.ensures.fault c.in_err-put-in-Some.ensures.succeeds told))
+          (put_unread stated failures mid c.put.new.sources (image_table v) c.in-Some.root _ _ _ cells
+          c.in_err-put-in-Some.ensures.fault c.in_err-put-in-Some.ensures.succeeds told))
           (λ other all. put_unheld stated failures mid c.put.new.sources (image_table v) c.in-Some.root _ _ _ cells
-              c.in_err-put-in-Some.ensures.succeeds other
-              (subst (λ (st : Stated). All (IsReadable st) (revision_cells v c.args.revision)) (sym before.same) all));
+          c.in_err-put-in-Some.ensures.succeeds other
+          (subst (λ (st : Stated). All (IsReadable st) (revision_cells v c.args.revision)) (sym before.same) all));
     })
 
 pub returns-in-Some : goal.returns-in-Some
