@@ -88,7 +88,6 @@ a source is accepted;check one_source abc;;0;accepted 1 revisions 0 nodes 0 rows
 a source of another length is refused;check one_source ab;;1;refused C3(0)\n;
 a source that is not given is refused;check one_source;;1;refused C2\n;
 a row of bytes over a source is accepted;check bytes_row_over_a_source abc;;0;accepted 1 revisions 1 nodes 1 rows\n;
-a row of bytes over another text is refused;check bytes_row_over_a_source abd;;1;refused C11(0,0)\n;
 a row that leads elsewhere is refused;check back_shared_elsewhere;;1;refused C11(2,0)\n;
 a command past its text is refused;check insert_past_the_end;;1;refused C8(2)\n;
 256 sources are refused;check one_source $(yes abc | head -n 256);;1;refused S4\n;
