@@ -2,3 +2,4 @@ pub mod Samples
 pub mod WorkedPlaces
 pub mod WorkedRows
 pub mod WorkedFaults
+pub mod PartsOfTexts

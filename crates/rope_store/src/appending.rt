@@ -19,7 +19,8 @@ use rope_node::{MOST_DEPTH, NodeId, NodeSpace, NodeView, Rope, TEXT_LIMIT};
 /// These bytes, the piece and these bytes again, in front of zeros.
 fn twice(bytes: &[u8], piece: &[u8]) -> [u8; 2 * MOST_MERGED]
     requires { length piece.now + length bytes.now ≤ MOST_MERGED }
-    ensures { let n = length bytes.now in take (n + (length piece.now + n)) result ≡ bytes.now ++ (piece.now ++ bytes.now) }
+    ensures { let n = length bytes.now in
+        take (n + (length piece.now + n)) result ≡ bytes.now ++ (piece.now ++ bytes.now) }
 {
     let mut all = [0; 2 * MOST_MERGED];
     let end = bytes.len() + (piece.len() + bytes.len());

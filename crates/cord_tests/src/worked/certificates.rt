@@ -12,7 +12,8 @@ ghost use Rattle.cord_tests.specs.Commands.{pool_of, leaf_row};
 
 /// An empty text, `a`, and `ab`.
 fn two_insertions_make_a_history()
-    ensures { IsHistory (pool_of (codes "ab")) (New ∷ Insert 0 0 0 1 ∷ Insert 1 1 1 1 ∷ []) ([] ∷ codes "a" ∷ codes "ab" ∷ []) }
+    ensures { IsHistory (pool_of (codes "ab")) (New ∷ Insert 0 0 0 1 ∷ Insert 1 1 1 1 ∷ [])
+        ([] ∷ codes "a" ∷ codes "ab" ∷ []) }
 {}
 
 /// `c` put into `ab` between its bytes; an insertion of no bytes, and those past the end of what they name, give nothing.
