@@ -166,7 +166,8 @@ impl Pool {
     /// gives the longer piece. Otherwise nothing changes. It takes no memory.
     pub fn extend_last(&mut self, piece: Piece, bytes: &[u8]) -> Option<Piece>
         ensures found { IsSome result ↔ CanExtend self.old piece (length bytes.now) }
-        ensures longer { IfSome result (λ p. p ≡ record { start = piece.start; len = piece.len + length bytes.now }) }
+        ensures longer { IfSome result
+            (λ p. p ≡ record { start = piece.start; len = piece.len + length bytes.now }) }
         ensures some { OnSome result (self.new ≡ extended self.old bytes.now) }
         ensures none { IfNone result (self.new ≡ self.old) }
 
@@ -193,7 +194,8 @@ impl Pool {
     /// The bytes of a piece, where it is not empty and lies in one block.
     pub fn get(&self, piece: Piece) -> Option<&[u8]>
         ensures found { IsSome result ↔ ((0 < piece.len) × IsInOneBlock self.now piece.start piece.len) }
-        ensures bytes { IfSome result (λ b. b.now ≡ slice_range self.now.bytes piece.start (piece.start + piece.len)) }
+        ensures bytes { IfSome result
+            (λ b. b.now ≡ slice_range self.now.bytes piece.start (piece.start + piece.len)) }
     {
         if piece.len == 0 {
             return None;
