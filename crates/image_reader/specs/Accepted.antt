@@ -2,9 +2,9 @@
 use Rattle.std.specs.Prelude.{◌≡◌, ℕ, ◌<◌, true, false, List, length, map, take, drop, get_or, Option, Some, None}
 use Rattle.std.specs.List.{sum_by}
 use Rattle.rope_node.specs.declared.node.NodeId.{NodeId}
-use Rattle.rope_node.specs.Table.{Table, node_at, len_at, depth_at, IsSoundNode, IsTrueNode}
+use Rattle.rope_node.specs.Table.{Table, node_at, IsSoundNode, IsTrueNode}
 use Rattle.rope_node.specs.Denotes.{rope_len, IsRope}
-use Rattle.rope_node.specs.Balance.{IsBalanced}
+use Rattle.rope_node.specs.Balance.{IsBalancedRope}
 use Rattle.span_certificate.specs.declared.edit.Edit.{Edit}
 use Rattle.span_certificate.specs.declared.edit.Edit.TheVariants.{New}
 use Rattle.span_certificate.specs.declared.part.Part.{Part}
@@ -56,10 +56,6 @@ abbrev pub HasGoodRoot : Table → Option NodeId → ℕ → Type 0
 HasGoodRoot t root len = IsRope t root × (rope_len t root ≡ len)
 
 -- a marked root is not nil, and balanced
-abbrev pub IsBalancedRope : Table → Option NodeId → Type 0
-IsBalancedRope t None = ⊥
-IsBalancedRope t (Some id) = IsBalanced (len_at t id.0) (depth_at t id.0)
-
 abbrev pub HasGoodMark : Table → Revision → Type 0
 HasGoodMark t r = r.mark ≡ true → IsBalancedRope t r.root
 

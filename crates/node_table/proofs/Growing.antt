@@ -41,12 +41,12 @@ extends_records {F} meaning h pool records same keeps longer = record {
 }
 
 kept_node : {F : Type 0} (old new : Contents) → KeepsPieces old new → (n : ℕ) (v : NodeView) (f : Option F) → IsKeptNode old n v f → IsKeptNode new n v f
-kept_node old new keeps n (Lit a) f k = keeps.in_one_block a n k
-kept_node old new keeps n (Src s a) f k = tt
+kept_node old new keeps n (Lit a) f k = (k.0, keeps.in_one_block a n k.1)
+kept_node old new keeps n (Src s a) f k = k
 kept_node old new keeps n Fun None k = absurd k
 kept_node old new keeps n Fun (Some f) k = tt
-kept_node old new keeps n (Cat l r) f k = tt
-kept_node old new keeps n (Sub b i) f k = tt
+kept_node old new keeps n (Cat l r) f k = k
+kept_node old new keeps n (Sub b i) f k = k
 
 -- a node that keeps the rules keeps them in a table that goes on
 pub good_kept : {F : Type 0} (meaning : F → ℕ → ℕ) (old new : Held F) → Extends (table_of meaning old) (table_of meaning new) → KeepsPieces old.pool new.pool → (id : ℕ) → id < length old.nodes → get_or new.functions id None ≡ get_or old.functions id None → IsGoodNode meaning old id → IsGoodNode meaning new id

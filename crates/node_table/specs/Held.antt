@@ -37,14 +37,19 @@ coded_at h id = or_fill (get_or h.functions id None)
 abbrev pub with_records : {F : Type 0} → Held F → Contents → List (Record F) → Held F
 with_records h pool records = record { nodes = h.nodes ++ map node_of records; functions = h.functions ++ map function_of records; pool = pool; sources = h.sources }
 
--- a literal lies in one block of the pool, and a function is there
+-- the functions of the older nodes are as they were
+pub record KeepsFunctions {F : Type 0} (old new : Held F) : Type 0 where
+  pub same : (id : ℕ) → id < length old.functions → get_or new.functions id None ≡ get_or old.functions id None
+  pub more : length old.functions ≤ length new.functions
+
+-- a literal lies in one block of the pool; a function is there, and nothing else holds one
 abbrev pub IsKeptNode : {F : Type 0} → Contents → ℕ → NodeView → Option F → Type 0
-IsKeptNode pool n (Lit a) f = IsInOneBlock pool a n
-IsKeptNode pool n (Src s a) f = Unit {0}
+IsKeptNode pool n (Lit a) f = (f ≡ None) × IsInOneBlock pool a n
+IsKeptNode pool n (Src s a) f = f ≡ None
 IsKeptNode pool n Fun None = ⊥
 IsKeptNode pool n Fun (Some f) = Unit {0}
-IsKeptNode pool n (Cat l r) f = Unit {0}
-IsKeptNode pool n (Sub b i) f = Unit {0}
+IsKeptNode pool n (Cat l r) f = f ≡ None
+IsKeptNode pool n (Sub b i) f = f ≡ None
 
 -- this node of a table keeps every rule
 pub record IsGoodNode {F : Type 0} (meaning : F → ℕ → ℕ) (h : Held F) (id : ℕ) : Type 0 where

@@ -10,7 +10,7 @@ use Rattle.rope_node.proofs.Extensions.{depth_kept}
 use Rattle.rope_node.proofs.Ropes.{extends_itself, rope_cells_kept, rope_kept}
 use Rattle.node_table.specs.declared.fault.NodeFault.{NodeFault}
 use Rattle.node_table.specs.declared.fault.NodeFault.TheVariants.{TooLong, TooDeep, TableFull, PoolFull, BadSpan, TooManySources, Memory}
-use Rattle.node_table.specs.Held.{Held, table_of}
+use Rattle.node_table.specs.Held.{Held, table_of, KeepsFunctions}
 use Rattle.rope_store.specs.Additions.{Addition, Makes}
 use Rattle.rope_store.specs.Refusals.{Refuses, IsTooDeep}
 use Rattle.rope_store.proofs.CallSizes.{IsFew}
@@ -23,7 +23,7 @@ use Rattle.rebalance.specs.Steps.{IsStepFault, Grows}
 use Rattle.rebalance.proofs.Fibonacci.{fibonacci_below, sixtieth}
 use Rattle.rebalance.proofs.PieceCounts.{all_pieces_kept}
 use Rattle.rebalance.proofs.SlotSteps.{rope_length}
-use Rattle.rebalance.proofs.StepLaws.{grows_through, grows_within}
+use Rattle.rebalance.proofs.StepLaws.{functions_itself, grows_through, grows_within}
 use Rattle.rebalance.proofs.StoreCalls.{made_grows, refused_fault}
 
 abbrev fault_in : {A : Type 0} → Result A BalanceFault → NodeFault
@@ -58,12 +58,13 @@ any_grows : {F : Type 0} {meaning : F → ℕ → ℕ} {old new : Held F} {a : A
 any_grows {old = old} p q more bytes (Ok rope) few made refuses =
     let size = few (λ long. let bad = refuses.too_long.1 ((λ bad. bad), long) in absurd cc) in
     made_grows (Ok rope) (length old.nodes + (2 * p + 2 * q + more)) (length old.pool.bytes + (31 * p + 31 * q + bytes)) made (omega (arith, size.records)) (omega (arith, size.bytes_added))
-any_grows {F = F} p q more bytes (Err e) few made refuses =
+any_grows {F = F} {old = old} p q more bytes (Err e) few made refuses =
     let same_nodes = ap (λ (h : Held F). length h.nodes) made.unchanged in
     let same_bytes = ap (λ (h : Held F). length h.pool.bytes) made.unchanged in
     record {
       kept = made.kept;
       sources = ap (λ (h : Held F). h.sources) made.unchanged;
+      functions = subst (λ (h : Held F). KeepsFunctions old h) (sym made.unchanged) (functions_itself old);
       few_nodes = omega (arith, same_nodes);
       few_bytes = omega (arith, same_bytes);
     }
@@ -131,7 +132,7 @@ rope_depth_kept old new x (Some id) there = depth_kept old new x id.0 there
 
 -- balancing as a step
 pub rebuilt_grows : {F : Type 0} {meaning : F → ℕ → ℕ} {old new : Held F} {wanted : List Cell} {p : ℕ} {result : Result (Option NodeId) BalanceFault} → Rebuilds meaning old wanted p result new → Grows meaning old (length old.nodes + 2 * p) (length old.pool.bytes + 31 * p) new
-rebuilt_grows r = record { kept = r.kept; sources = r.sources; few_nodes = r.few_nodes; few_bytes = r.few_bytes }
+rebuilt_grows r = record { kept = r.kept; sources = r.sources; functions = r.functions; few_nodes = r.few_nodes; few_bytes = r.few_bytes }
 
 rebuilt_fault : {F : Type 0} {meaning : F → ℕ → ℕ} {old new : Held F} {wanted : List Cell} {p : ℕ} (e : BalanceFault) (nodes bytes : ℕ) → Rebuilds meaning old wanted p (Err e) new → length old.nodes + 2 * p ≤ nodes → length old.pool.bytes + 31 * p ≤ bytes → IsAnewFault nodes bytes e
 rebuilt_fault TooManyPieces nodes bytes r n b = tt
@@ -153,7 +154,7 @@ many_anew meaning old wanted p q more bytes not_few = record {
   gives = record {
     is_rope = tt;
     text = tt;
-    grows = record { kept = extends_itself (table_of meaning old); sources = refl; few_nodes = omega arith; few_bytes = omega arith };
+    grows = record { kept = extends_itself (table_of meaning old); sources = refl; functions = functions_itself old; few_nodes = omega arith; few_bytes = omega arith };
   };
   too_many = (
     λ _. ⊎_elim (λ (few : p ≤ most_pieces). inr (⊎_elim (λ (more : q ≤ most_pieces). absurd (not_few (few, more))) (λ (many : most_pieces < q). many) (cases_le q most_pieces)))

@@ -1,19 +1,34 @@
 -- Steps one after the other.
-use Rattle.std.proofs.Common.{ℕ, ◌≤◌, length, Result, Ok, Err, refl, ◌∙◌, arith}
+use Rattle.std.proofs.Common.{◌≡◌, ℕ, ◌<◌, ◌≤◌, length, map, get_or, None, Result, Ok, Err, refl, ◌∙◌, arith, length-append}
+use Rattle.std.proofs.lemmas.List.{get_or_append_left}
 use Rattle.std.specs.Prelude.{IfOk}
 use Rattle.rope_node.proofs.Ropes.{extends_itself, extends_through}
 use Rattle.node_table.specs.declared.fault.NodeFault.{NodeFault}
 use Rattle.node_table.specs.declared.fault.NodeFault.TheVariants.{TooLong, TooDeep, TableFull, PoolFull, BadSpan, TooManySources, Memory}
-use Rattle.node_table.specs.Held.{Held, table_of}
+use Rattle.node_table.specs.Held.{Held, table_of, function_of, KeepsFunctions}
+use Rattle.rope_store.specs.Additions.{Addition, after}
 use Rattle.rebalance.specs.Steps.{IsStepFault, Grows, Steps}
 
+pub functions_itself : {F : Type 0} (h : Held F) → KeepsFunctions h h
+functions_itself h = record { same = λ id lt. refl; more = omega arith }
+
+pub functions_through : {F : Type 0} {a b c : Held F} → KeepsFunctions a b → KeepsFunctions b c → KeepsFunctions a c
+functions_through x y = record { same = λ id lt. y.same id (omega (arith, x.more)) ∙ x.same id lt; more = omega (arith, x.more, y.more) }
+
+pub functions_after : {F : Type 0} (h : Held F) (a : Addition F) → KeepsFunctions h (after h a)
+functions_after h a = record {
+  same = λ id lt. get_or_append_left h.functions (map function_of a.records) None id lt;
+  more = omega (arith, length-append h.functions (map function_of a.records));
+}
+
 pub grows_itself : {F : Type 0} (meaning : F → ℕ → ℕ) (h : Held F) (nodes bytes : ℕ) → length h.nodes ≤ nodes → length h.pool.bytes ≤ bytes → Grows meaning h nodes bytes h
-grows_itself meaning h nodes bytes n b = record { kept = extends_itself (table_of meaning h); sources = refl; few_nodes = n; few_bytes = b }
+grows_itself meaning h nodes bytes n b = record { kept = extends_itself (table_of meaning h); sources = refl; functions = functions_itself h; few_nodes = n; few_bytes = b }
 
 pub grows_through : {F : Type 0} {meaning : F → ℕ → ℕ} {a b c : Held F} {n1 b1 n2 b2 nodes bytes : ℕ} → Grows meaning a n1 b1 b → Grows meaning b n2 b2 c → length c.nodes ≤ nodes → length c.pool.bytes ≤ bytes → Grows meaning a nodes bytes c
 grows_through {meaning = meaning} {a = a} {b = b} {c = c} x y n m = record {
   kept = extends_through (table_of meaning a) (table_of meaning b) (table_of meaning c) x.kept y.kept;
   sources = y.sources ∙ x.sources;
+  functions = functions_through x.functions y.functions;
   few_nodes = n;
   few_bytes = m;
 }
@@ -47,4 +62,4 @@ ok_map (Ok x) f h = f x h
 ok_map (Err e) f h = tt
 
 pub grows_within : {F : Type 0} {meaning : F → ℕ → ℕ} {a b : Held F} {n1 b1 nodes bytes : ℕ} → Grows meaning a n1 b1 b → n1 ≤ nodes → b1 ≤ bytes → Grows meaning a nodes bytes b
-grows_within g n m = record { kept = g.kept; sources = g.sources; few_nodes = omega (arith, n, g.few_nodes); few_bytes = omega (arith, m, g.few_bytes) }
+grows_within g n m = record { kept = g.kept; sources = g.sources; functions = g.functions; few_nodes = omega (arith, n, g.few_nodes); few_bytes = omega (arith, m, g.few_bytes) }

@@ -11,7 +11,7 @@ use Rattle.rope_node.specs.Denotes.{Cell, rope_len, rope_depth}
 use Rattle.node_table.specs.declared.record.Record.{Record}
 use Rattle.node_table.specs.declared.fault.NodeFault.{NodeFault}
 use Rattle.node_table.specs.declared.fault.NodeFault.TheVariants.{TooLong, TooDeep, TableFull, PoolFull, BadSpan, TooManySources, Memory}
-use Rattle.node_table.specs.Held.{Held, table_of, node_of}
+use Rattle.node_table.specs.Held.{Held, table_of, node_of, KeepsFunctions}
 use Rattle.rope_store.specs.Additions.{Addition, Makes, pool_with, new_node, inner_part, node_part, part_added}
 use Rattle.rope_store.specs.Refusals.{Refuses, IsTooDeep, deepest}
 use Rattle.leaf_buffer.proofs.Appending.{appended_bytes}
@@ -21,6 +21,7 @@ use Rattle.rebalance.specs.declared.pieces.Span.{Span}
 use Rattle.rebalance.specs.Pieces.{IsWhole}
 use Rattle.rebalance.specs.Slots.{IsPiece}
 use Rattle.rebalance.proofs.Fibonacci.{first_ones}
+use Rattle.rebalance.proofs.StepLaws.{functions_after, functions_itself}
 use Rattle.rebalance.specs.Steps.{IsStepFault, Grows, Steps}
 
 pool_grown : (pool : Contents) (in_place : Bool) (bytes : List ℕ) → length (pool_with pool in_place bytes).bytes ≡ length pool.bytes + length bytes
@@ -37,18 +38,20 @@ made_bytes {F = F} {old = old} {a = a} made = ap (λ (h : Held F). length h.pool
 -- what a call adds is all that it does
 pub made_grows : {F : Type 0} {meaning : F → ℕ → ℕ} {old new : Held F} {a : Addition F} {wanted : List Cell} (result : Result (Option NodeId) NodeFault) (nodes bytes : ℕ) → Makes meaning old a wanted result new → length old.nodes + length a.records ≤ nodes → length old.pool.bytes + length a.bytes ≤ bytes
     → Grows meaning old nodes bytes new
-made_grows {F = F} (Ok rope) nodes bytes made n b = record {
+made_grows {F = F} {old = old} {a = a} (Ok rope) nodes bytes made n b = record {
   kept = made.kept;
   sources = ap (λ (h : Held F). h.sources) made.table;
+  functions = subst (λ (h : Held F). KeepsFunctions old h) (sym made.table) (functions_after old a);
   few_nodes = omega (arith, made_nodes made, n);
   few_bytes = omega (arith, made_bytes made, b);
 }
-made_grows {F = F} (Err e) nodes bytes made n b =
+made_grows {F = F} {old = old} (Err e) nodes bytes made n b =
     let same_nodes = ap (λ (h : Held F). length h.nodes) made.unchanged in
     let same_bytes = ap (λ (h : Held F). length h.pool.bytes) made.unchanged in
     record {
       kept = made.kept;
       sources = ap (λ (h : Held F). h.sources) made.unchanged;
+      functions = subst (λ (h : Held F). KeepsFunctions old h) (sym made.unchanged) (functions_itself old);
       few_nodes = omega (arith, same_nodes, n);
       few_bytes = omega (arith, same_bytes, b);
     }

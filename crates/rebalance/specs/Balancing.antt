@@ -9,7 +9,7 @@ use Rattle.rope_node.specs.Table.{Table, len_at, depth_at}
 use Rattle.rope_node.specs.Denotes.{Cell, cells, rope_cells, IsRope}
 use Rattle.rope_node.specs.Extends.{Extends}
 use Rattle.node_table.specs.declared.fault.NodeFault.TheVariants.{TooLong, TooDeep, TableFull, PoolFull, BadSpan, TooManySources}
-use Rattle.node_table.specs.Held.{Held, table_of}
+use Rattle.node_table.specs.Held.{Held, table_of, KeepsFunctions}
 use Rattle.rebalance.specs.declared.fault.BalanceFault.{BalanceFault}
 use Rattle.rebalance.specs.declared.fault.BalanceFault.TheVariants.{TooManyPieces, Node}
 use Rattle.rebalance.specs.Steps.{AddsPieces}
@@ -29,6 +29,7 @@ pub record Rebuilds {F : Type 0} (meaning : F → ℕ → ℕ) (old : Held F) (w
   pub shallow : IfOk result (λ r. IsNearlyBalanced (table_of meaning new) r)
   pub kept : Extends (table_of meaning old) (table_of meaning new)
   pub sources : new.sources ≡ old.sources
+  pub functions : KeepsFunctions old new
   pub few_nodes : length new.nodes ≤ length old.nodes + 2 * p
   pub few_bytes : length new.pool.bytes ≤ length old.pool.bytes + MOST_MERGED * p
   pub too_many : IsErrOf result TooManyPieces ↔ (most_pieces < p)

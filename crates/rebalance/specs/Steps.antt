@@ -6,7 +6,7 @@ use Rattle.rope_node.specs.declared.limits.TheConstants.{MOST_NODES}
 use Rattle.rope_node.specs.Extends.{Extends}
 use Rattle.node_table.specs.declared.fault.NodeFault.{NodeFault}
 use Rattle.node_table.specs.declared.fault.NodeFault.TheVariants.{TooLong, TooDeep, TableFull, PoolFull, BadSpan, TooManySources, Memory}
-use Rattle.node_table.specs.Held.{Held, table_of}
+use Rattle.node_table.specs.Held.{Held, table_of, KeepsFunctions}
 
 -- what may refuse a step after which there are at most so many nodes and bytes
 abbrev pub IsStepFault : ℕ → ℕ → NodeFault → Type 0
@@ -22,6 +22,7 @@ IsStepFault nodes bytes Memory = Unit {0}
 pub record Grows {F : Type 0} (meaning : F → ℕ → ℕ) (old : Held F) (nodes bytes : ℕ) (new : Held F) : Type 0 where
   pub kept : Extends (table_of meaning old) (table_of meaning new)
   pub sources : new.sources ≡ old.sources
+  pub functions : KeepsFunctions old new
   pub few_nodes : length new.nodes ≤ nodes
   pub few_bytes : length new.pool.bytes ≤ bytes
 

@@ -51,13 +51,13 @@ pub literal_good : {F : Type 0} (meaning : F → ℕ → ℕ) (h : Held F) (pool
 literal_good meaning h pool a n holds grows span some short =
     one_good meaning h pool (literal_record a n) (map Byte (slice_range pool.bytes a (a + n))) holds grows
     (record { references = tt; not_empty = some; not_long = short; not_deep = omega arith; span = span.inside })
-    (record { len = tt; depth = refl }) span (λ _. refl)
+    (record { len = tt; depth = refl }) (refl, span) (λ _. refl)
 
 pub source_good : {F : Type 0} (meaning : F → ℕ → ℕ) (h : Held F) (pool : Contents) (s a n : ℕ) → Holds meaning h → PoolGrows h.pool pool → s < length h.sources → a + n ≤ get_or h.sources s 0 → 1 ≤ n → IsGood meaning h pool (source_record s a n ∷ []) (Some (new_node (table_of meaning h) 0)) (map (Place s) (range_with_len a n))
 source_good meaning h pool s a n holds grows there inside some =
     one_good meaning h pool (source_record s a n) (map (Place s) (range_with_len a n)) holds grows
     (record { references = there; not_empty = some; not_long = omega (arith, holds.sources s); not_deep = omega arith; span = inside })
-    (record { len = tt; depth = refl }) tt (λ _. refl)
+    (record { len = tt; depth = refl }) refl (λ _. refl)
 
 pub function_good : {F : Type 0} (meaning : F → ℕ → ℕ) (h : Held F) (pool : Contents) (f : F) (n : ℕ) → Holds meaning h → PoolGrows h.pool pool → 1 ≤ n → n < TEXT_LIMIT → IsGood meaning h pool (function_record f n ∷ []) (Some (new_node (table_of meaning h) 0)) (map (λ k. Byte (meaning f k)) (range_with_len 0 n))
 function_good {F = F} meaning h pool f n holds grows some short =
@@ -75,7 +75,7 @@ concatenation_good meaning h pool l r n d holds grows left right is_long is_deep
     let sound : IsSoundNode t (length h.nodes) (node_of rec) =
     record { references = (left, right); not_empty = omega (arith, (holds.nodes l.0 left).sound.not_empty); not_long = short; not_deep = shallow; span = tt } in
     one_good meaning h pool rec (cells t l.0 ++ cells t r.0) holds grows (sound_kept t new e (length h.nodes) (node_of rec) (le_refl _) sound)
-    (true_kept t new e (length h.nodes) (node_of rec) (le_refl _) sound (record { len = is_long; depth = is_deep })) tt
+    (true_kept t new e (length h.nodes) (node_of rec) (le_refl _) sound (record { len = is_long; depth = is_deep })) refl
     (λ few. let old = sound_of meaning h holds (omega (arith, grows.longer)) in rw (cells_kept t new old e l.0 left, cells_kept t new old e r.0 right) refl)
 
 pub part_good : {F : Type 0} (meaning : F → ℕ → ℕ) (h : Held F) (pool : Contents) (b : NodeId) (i n d : ℕ) → Holds meaning h → PoolGrows h.pool pool → b.0 < length h.nodes → i + n ≤ len_at (table_of meaning h) b.0 → 1 ≤ n → d ≡ 1 + depth_at (table_of meaning h) b.0 → d ≤ 64
@@ -88,5 +88,5 @@ part_good meaning h pool b i n d holds grows there inside some is_deep shallow =
     let sound : IsSoundNode t (length h.nodes) (node_of rec) =
     record { references = there; not_empty = some; not_long = omega (arith, (holds.nodes b.0 there).sound.not_long); not_deep = shallow; span = inside } in
     one_good meaning h pool rec (take n (drop i (cells t b.0))) holds grows (sound_kept t new e (length h.nodes) (node_of rec) (le_refl _) sound)
-    (true_kept t new e (length h.nodes) (node_of rec) (le_refl _) sound (record { len = tt; depth = is_deep })) tt
+    (true_kept t new e (length h.nodes) (node_of rec) (le_refl _) sound (record { len = tt; depth = is_deep })) refl
     (λ few. let old = sound_of meaning h holds (omega (arith, grows.longer)) in rw (cells_kept t new old e b.0 there) refl)

@@ -60,7 +60,8 @@ literal_part_good {F = F} meaning h store x a i n there is some inside =
     let holds = holds_of meaning h store in
     let sound = sound_of meaning h holds store.pool in
     let good = holds.nodes x.0 there in
-    let span : IsInOneBlock h.pool a len = rw is at good.kept in
+    let kept : (get_or h.functions x.0 None ≡ None) × IsInOneBlock h.pool a len = rw is at good.kept in
+    let span : IsInOneBlock h.pool a len = kept.1 in
     let part : IsInOneBlock h.pool (a + i) n = in_one_block_part h.pool a len (a + i) n span (omega arith) (omega arith) in
     let same = appended_nothing h.pool in
     let size : a + len - a ≡ len = omega arith in

@@ -5,11 +5,18 @@ use function_leaf::{Coded, LeafFn};
 use rope_node::{CodedSpace, NodeId, NodeSpace, NodeView};
 
 impl<F: LeafFn> NodeSpace for Store<F> {
-    ghost use Rattle.node_table.specs.Held.{table_of};
+    ghost use Rattle.std.specs.Prelude.{◌≡◌, length};
+    ghost use Rattle.rope_node.specs.Table.{IsSound, HasTrueRecords};
+    ghost use Rattle.node_table.specs.Held.{table_of, IsKept};
 
     ghost table = { λ h. table_of F.meaning h };
 
-    fn count(&self) -> u32 {
+    fn count(&self) -> u32
+        ensures count { result ≡ length self.now.nodes }
+        ensures sound { IsSound (table_of F.meaning self.now) }
+        ensures true_records { HasTrueRecords (table_of F.meaning self.now) }
+        ensures kept { IsKept F.meaning self.now }
+    {
         self.table.count()
     }
 

@@ -26,7 +26,7 @@ use Rattle.session_checker.specs.RevisionRules.{HasStatedRows, HasRowsOverNoSour
 use Rattle.session_checker.specs.Faithful.{source_text, givens, commands, texts_cells, texts, HasTrueRecordsOf, EachRevision, IsFaithful}
 use Rattle.session_checker.proofs.SoundTables.{sound_table, true_table}
 use Rattle.session_checker.proofs.EarlierRevisions.{earlier_ropes}
-use Rattle.session_checker.proofs.PartsInRange.{parts_in_range}
+use Rattle.span_certificate.proofs.PartsInRange.{parts_in_range}
 
 -- the functions at an image's nodes answer as they are coded
 pub answered : (v : ImageValue) → AreAnswered (image_table v) (coded_at v)

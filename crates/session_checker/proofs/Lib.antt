@@ -1,6 +1,5 @@
 pub mod SoundTables
 pub mod EarlierRevisions
-pub mod PartsInRange
 pub mod RevisionFaults
 pub mod FaithfulImages
 pub mod ExactAnswers

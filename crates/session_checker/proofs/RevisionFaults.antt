@@ -5,6 +5,7 @@ use Rattle.rope_node.specs.Denotes.{Cell}
 use Rattle.lazy_file.specs.SourceTexts.{Reads, Stated, holds_span, text_at}
 use Rattle.lazy_file.specs.declared.faults.SourceFault.{SourceFault}
 use Rattle.lazy_file.specs.declared.faults.SourceFault.TheVariants.{BadSource}
+use Rattle.cord_position.proofs.Spans.{later_fault}
 use Rattle.cord_position.specs.Fetched.{IsPlaceFault, IsFaultIn}
 use Rattle.span_certificate.specs.declared.part.Part.{Part}
 use Rattle.span_certificate.specs.declared.cover.Verdict.{Verdict}
@@ -16,25 +17,12 @@ use Rattle.session_checker.specs.declared.fault.CheckFault.{CheckFault}
 use Rattle.session_checker.specs.declared.fault.CheckFault.TheVariants as faults
 use Rattle.session_checker.specs.RevisionRules.{IsFirstBadRow, IsUnread, BreaksRows, BreaksAt}
 
--- a read that failed after a while failed since the beginning
-later_place : {T : Type 0} (stated : T → Stated) (failures : T → ℕ) (old mid new : T) (cell : Cell) (e : SourceFault) → Reads stated failures old mid → IsPlaceFault stated failures mid new cell e → IsPlaceFault stated failures old new cell e
-later_place stated failures old mid new cell e before h = record {
-  s = h.s;
-  p = h.p;
-  is = h.is;
-  read = record {
-    device = λ is. let more = h.read.device is in omega (arith, more, before.later);
-    short = λ is. subst (λ (st : Stated). IfSome (text_at st h.s) (λ t. length t < slice_index st.sizes h.s)) before.same (h.read.short is);
-    bad_source = subst (λ (st : Stated). IsErrOf {T = Unit {0}} (Err e) BadSource ↔ (holds_span st h.s h.p 1 ≡ false)) before.same h.read.bad_source;
-  };
-}
-
-later_fault : {T : Type 0} (stated : T → Stated) (failures : T → ℕ) (old mid new : T) (cell : ℕ → Cell) (i j : ℕ) (e : SourceFault) → Reads stated failures old mid → IsFaultIn stated failures mid new cell i j e → IsFaultIn stated failures old new cell i j e
-later_fault stated failures old mid new cell i j e before h = record {
+later_fault_in : {T : Type 0} (stated : T → Stated) (failures : T → ℕ) (old mid new : T) (cell : ℕ → Cell) (i j : ℕ) (e : SourceFault) → Reads stated failures old mid → IsFaultIn stated failures mid new cell i j e → IsFaultIn stated failures old new cell i j e
+later_fault_in stated failures old mid new cell i j e before h = record {
   place = h.place;
   from = h.from;
   until = h.until;
-  read = later_place stated failures old mid new (cell h.place) e before h.read;
+  read = later_fault stated failures old mid new (cell h.place) e before h.read;
 }
 
 later_unread : {T : Type 0} (stated : T → Stated) (failures : T → ℕ) (old mid new : T) (v : ImageValue) (k : ℕ) (e : SourceFault) → Reads stated failures old mid → IsUnread stated failures mid new v k e → IsUnread stated failures old new v k e
@@ -42,7 +30,7 @@ later_unread stated failures old mid new v k e before h = record {
   failed = record {
     j = h.failed.j;
     inside = h.failed.inside;
-    row = later_fault stated failures old mid new _ _ _ e before h.failed.row;
+    row = later_fault_in stated failures old mid new _ _ _ e before h.failed.row;
     fit = rw (sym before.same) h.failed.fit;
   };
   unreadable = rw (sym before.same) h.unreadable;

@@ -13,5 +13,7 @@ pub mod MappedResults
 pub mod Verdicts
 pub mod Joined
 pub mod InRange
+pub mod PartsInRange
 pub mod Sameness
 pub mod MadeRows
+pub mod Kept

@@ -19,7 +19,7 @@ pub use descent::{LeafSpan, leaf_span};
 pub use describe::{Description, describe_leaf};
 pub use edit::Edit;
 pub use exact::{describe_part, part_leads};
-pub use making::{MakeFault, make};
+pub use making::{MakeFault, ROWS_LIMIT, make};
 pub use part::{Part, Parts};
 pub use roots::Roots;
 pub use row::{Row, RowKind, Rows};
