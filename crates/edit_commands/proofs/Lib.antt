@@ -1,0 +1,9 @@
+pub mod RevisionLists
+pub mod KeptRevisions
+pub mod Histories
+pub mod MadeRevisions
+pub mod SessionCalls
+pub mod GoingOn
+pub mod BuildSteps
+pub mod BuiltTexts
+pub mod Accepted

@@ -1,0 +1,40 @@
+-- What the faults of lower calls are told as, and the codes that a program prints.
+use Rattle.std.specs.Prelude.{ℕ, List, ◌++◌, codes, Result, Ok, Err}
+use Rattle.node_table.specs.Codes.{fault_code as node_code}
+use Rattle.node_table.specs.declared.fault.NodeFault.{NodeFault}
+use Rattle.node_table.specs.declared.fault.NodeFault.TheVariants as NodeFault
+use Rattle.rebalance.specs.declared.fault.BalanceFault.{BalanceFault}
+use Rattle.rebalance.specs.declared.fault.BalanceFault.TheVariants as BalanceFault
+use Rattle.span_certificate.specs.declared.making.MakeFault.{MakeFault}
+use Rattle.span_certificate.specs.declared.making.MakeFault.TheVariants as MakeFault
+use Rattle.edit_commands.specs.declared.fault.EditFault.{EditFault}
+use Rattle.edit_commands.specs.declared.fault.EditFault.TheVariants.{NoRevision, NoSource, Range, EmptyText, TooManyRevisions, TooManyRows, Node, TooManyPieces, Memory}
+
+-- want of memory is told as such
+abbrev pub node_fault : NodeFault → EditFault
+node_fault NodeFault.Memory = Memory
+node_fault fault = Node fault
+
+abbrev pub rope_fault : BalanceFault → EditFault
+rope_fault BalanceFault.TooManyPieces = TooManyPieces
+rope_fault (BalanceFault.Node fault) = node_fault fault
+
+abbrev pub rows_fault : MakeFault → EditFault
+rows_fault MakeFault.TooManyRows = TooManyRows
+rows_fault MakeFault.Memory = Memory
+
+-- a call of the store told as one of the session
+abbrev pub told : {A : Type 0} → Result A NodeFault → Result A EditFault
+told (Ok a) = Ok a
+told (Err fault) = Err (node_fault fault)
+
+abbrev pub fault_code : EditFault → List ℕ
+fault_code NoRevision = codes "E1"
+fault_code NoSource = codes "E2"
+fault_code Range = codes "E3"
+fault_code EmptyText = codes "E4"
+fault_code TooManyRevisions = codes "E5"
+fault_code TooManyRows = codes "E6"
+fault_code (Node fault) = codes "E7(" ++ node_code fault ++ codes ")"
+fault_code TooManyPieces = codes "E8"
+fault_code Memory = codes "Memory"

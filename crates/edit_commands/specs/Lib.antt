@@ -1,0 +1,5 @@
+pub mod Codes
+pub mod Session
+pub mod Refusals
+pub mod Building
+pub mod Applying

@@ -1,0 +1,93 @@
+-- What a session holds, and what every session keeps to.
+use Rattle.std.specs.Prelude.{◌≡◌, ◌↔◌, ℕ, ◌<◌, ◌≤◌, Bool, IsTrue, List, length, map, take, get_or, slice_get, Option, Some, None}
+use Rattle.std.specs.Option.{option_map}
+use Rattle.std.specs.List.{range_with_len, sum_by}
+use Rattle.function_leaf.specs.declared.coded.Coded.{Coded}
+use Rattle.function_leaf.specs.Coded.{coded_byte}
+use Rattle.rope_node.specs.declared.node.NodeId.{NodeId}
+use Rattle.rope_node.specs.Table.{Table}
+use Rattle.rope_node.specs.Balance.{IsBalancedRope}
+use Rattle.rope_node.specs.Denotes.{Cell, rope_cells, rope_len, IsRope, text}
+use Rattle.node_table.specs.Held.{Held, table_of, coded_at}
+use Rattle.span_certificate.specs.declared.edit.Edit.{Edit}
+use Rattle.span_certificate.specs.declared.part.Part.{Part}
+use Rattle.span_certificate.specs.declared.row.Row.{Row}
+use Rattle.span_certificate.specs.Commands.{Givens, IsHistory}
+use Rattle.span_certificate.specs.Covers.{CoversAlways, MeetsNoSource, rows_limit}
+use Rattle.span_certificate.specs.Parts.{givens_of, parts_of, IsInRange}
+use Rattle.edit_commands.specs.declared.revision.Revision.{Revision}
+use Rattle.edit_commands.specs.declared.session.TheConstants.{MOST_REVISIONS}
+
+-- the store, and the revisions
+pub record SessionValue : Type 0 where
+  pub held : Held Coded
+  pub revisions : List Revision
+
+abbrev pub session_table : SessionValue → Table
+session_table v = table_of coded_byte v.held
+
+abbrev pub edits_of : List Revision → List Edit
+edits_of revisions = map (λ (r : Revision). r.edit) revisions
+
+abbrev pub roots_of : List Revision → List (Option NodeId)
+roots_of revisions = map (λ (r : Revision). r.root) revisions
+
+-- how many rows all of them have
+abbrev pub rows_held : List Revision → ℕ
+rows_held revisions = sum_by (λ (r : Revision). length r.rows.items) revisions
+
+-- the cells of each revision's root, its text over the sources' bytes, and its length
+abbrev pub cells_of : SessionValue → List (List Cell)
+cells_of v = map (rope_cells (session_table v)) (roots_of v.revisions)
+
+abbrev pub texts_of : (ℕ → ℕ → ℕ) → SessionValue → List (List ℕ)
+texts_of source v = map (text source) (cells_of v)
+
+abbrev pub length_at : SessionValue → ℕ → ℕ
+length_at v k = rope_len (session_table v) (get_or (roots_of v.revisions) k None)
+
+-- what commands take from outside the earlier texts, over the sources' bytes
+abbrev pub text_givens : (ℕ → ℕ → ℕ) → Table → Givens ℕ
+text_givens source t = record { pool = t.pool; sources = map (λ s. map (source s) (range_with_len 0 (get_or t.sources s 0))) (range_with_len 0 (length t.sources)); byte = λ b. b }
+
+-- the parts of a revision's command, where these are the revisions before it
+abbrev pub parts_behind : Table → List Revision → Revision → List Part
+parts_behind t before r = parts_of t (roots_of before) r.edit
+
+-- Behind these revisions: its command is in range; its root is a rope, and marked exactly where it is balanced; its rows cover the
+-- command's parts and the root whatever the sources hold, and none that compares bytes is over a source.
+pub record IsRevision (h : Held Coded) (before : List Revision) (r : Revision) : Type 0 where
+  pub range : IsInRange (table_of coded_byte h) (roots_of before) r.edit
+  pub root : IsRope (table_of coded_byte h) r.root
+  pub mark : IsTrue r.mark ↔ IsBalancedRope (table_of coded_byte h) r.root
+  pub rows : CoversAlways (table_of coded_byte h) (coded_at h) (parts_behind (table_of coded_byte h) before r) r.root r.rows.items
+  pub no_source : MeetsNoSource (table_of coded_byte h) (parts_behind (table_of coded_byte h) before r) r.root r.rows.items
+
+-- each is, behind those before it
+abbrev pub AreRevisions : Held Coded → List Revision → Type 0
+AreRevisions h revisions = (k : ℕ) (r : Revision) → slice_get revisions k ≡ Some r → IsRevision h (take k revisions) r
+
+-- every session's revisions are, and there are not too many, nor too many rows
+pub record IsSession (v : SessionValue) : Type 0 where
+  pub each : AreRevisions v.held v.revisions
+  pub few : length v.revisions ≤ MOST_REVISIONS
+  pub few_rows : rows_held v.revisions ≤ rows_limit
+
+-- The cells of the roots are the history of the commands, and so are the texts, whatever the sources hold; a revision's length is its
+-- text's.
+pub record HoldsHistory (v : SessionValue) : Type 0 where
+  pub cells : IsHistory (givens_of (session_table v)) (edits_of v.revisions) (cells_of v)
+  pub texts : (source : ℕ → ℕ → ℕ) → IsHistory (text_givens source (session_table v)) (edits_of v.revisions) (texts_of source v)
+  pub lengths : map length (cells_of v) ≡ map (rope_len (session_table v)) (roots_of v.revisions)
+
+abbrev pub root_of : SessionValue → ℕ → Option (Option NodeId)
+root_of v k = option_map (λ (r : Revision). r.root) (slice_get v.revisions k)
+
+abbrev pub mark_of : SessionValue → ℕ → Option Bool
+mark_of v k = option_map (λ (r : Revision). r.mark) (slice_get v.revisions k)
+
+abbrev pub edit_of : SessionValue → ℕ → Option Edit
+edit_of v k = option_map (λ (r : Revision). r.edit) (slice_get v.revisions k)
+
+abbrev pub rows_of : SessionValue → ℕ → Option (List Row)
+rows_of v k = option_map (λ (r : Revision). r.rows.items) (slice_get v.revisions k)

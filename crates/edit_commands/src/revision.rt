@@ -1,0 +1,33 @@
+//! What a session keeps of a revision.
+
+use rope_node::Rope;
+use span_certificate::{Edit, Roots, Row};
+
+/// A revision: its command, its root, whether the root is balanced, and its rows.
+#[derive(Drop)]
+pub struct Revision {
+    pub edit: Edit,
+    pub root: Rope,
+    pub mark: bool,
+    pub rows: Vec<Row>,
+}
+
+/// The roots of revisions, by their numbers.
+#[derive(Clone, Copy)]
+pub struct EarlierRoots<'a> {
+    pub revisions: &'a [Revision],
+}
+
+impl Roots for EarlierRoots<'_> {
+    ghost use Rattle.edit_commands.specs.Session.{roots_of};
+
+    ghost roots = { λ earlier. roots_of earlier.revisions.now };
+
+    fn count(&self) -> usize {
+        self.revisions.len()
+    }
+
+    fn root(&self, r: u32) -> Rope {
+        self.revisions[r as usize].root
+    }
+}

@@ -1,0 +1,161 @@
+//! The session.
+
+ghost use Rattle.std.specs.Prelude.{◌≡◌, [], length};
+ghost use Rattle.std.specs.Option.{option_map};
+ghost use Rattle.edit_commands.specs.Session.{SessionValue, IsSession, HoldsHistory};
+ghost use Rattle.edit_commands.specs.Session.{root_of, mark_of, edit_of, rows_of};
+ghost use Rattle.edit_commands.specs.Applying.{AppliesOrNot, AddsSourceOrNot};
+
+use crate::building::build;
+use crate::command::Command;
+use crate::fault::EditFault;
+use crate::refusing::refusal;
+use crate::revising::revise;
+use crate::revision::Revision;
+use function_leaf::Coded;
+use rope_node::{NodeSpace, Rope};
+use rope_store::Store;
+use span_certificate::{Edit, ROWS_LIMIT, Roots, Row};
+use std::alloc::Global;
+use std::marker::Model;
+
+/// The most revisions of a session.
+pub const MOST_REVISIONS: u32 = 1 << 20;
+
+/// Revisions made by commands, over a store of their ropes. It only grows, so every revision keeps its text for
+/// good.
+#[derive(Drop)]
+pub struct Session {
+    alloc: Global,
+    store: Store<Coded>,
+    revisions: Vec<Revision>,
+    /// How many rows they have together.
+    row_count: usize,
+}
+
+impl Model for Session {
+    ghost use Rattle.std.specs.Prelude.{◌≡◌};
+    ghost use Rattle.edit_commands.specs.Session.{SessionValue, IsSession, rows_held};
+
+    ghost Value = { SessionValue };
+
+    ghost view = { λ a. record { held = a.store; revisions = a.revisions.items } };
+
+    ghost invariant = { λ a. IsSession (record { held = a.store; revisions = a.revisions.items }) × (a.row_count ≡ rows_held a.revisions.items) };
+}
+
+impl Session {
+    /// A session without sources and revisions. It takes no memory.
+    pub fn new(alloc: Global) -> Session
+        ensures revisions { result.revisions ≡ [] }
+        ensures sources { result.held.sources ≡ [] }
+    {
+        Session {
+            alloc,
+            store: Store::new(alloc),
+            revisions: Vec::new(alloc),
+            row_count: 0,
+        }
+    }
+
+    /// Adds a source of `len` bytes, and answers its number. No byte of it is read.
+    ///
+    /// # Errors
+    ///
+    /// `Node` with `TooManySources` where there are 255, or with `TooLong` for 2^40 bytes or more, and `Memory`.
+    /// The session is then as before.
+    pub fn add_source(&mut self, len: u64) -> Result<u8, EditFault>
+        ensures { AddsSourceOrNot self.old len result self.new }
+    {
+        // The store keeps its rules, as its count says.
+        let _nodes = self.store.count();
+        Ok(self.store.add_source(len)?)
+    }
+
+    /// Makes the revision that a command gives, with its rows, and answers its number.
+    ///
+    /// # Errors
+    ///
+    /// Before anything changes, the first that there is of `NoRevision`, `NoSource`, `Range`, `EmptyText`,
+    /// `TooManyRevisions`, and `Node` with `TooLong` where the text would have 2^40 bytes or more or more than
+    /// 65,536 were handed in. Else what is met on the way: `Node` with `TableFull` or `PoolFull`, `TooManyPieces`,
+    /// `TooManyRows`, `Memory`. Every earlier revision is then as before.
+    pub fn apply(&mut self, command: Command<'_>) -> Result<u32, EditFault>
+        ensures { AppliesOrNot self.old command.entry result self.new }
+    {
+        if let Some(fault) = refusal(&self.store, &self.revisions, &command) {
+            return Err(fault);
+        }
+        let room = ROWS_LIMIT - self.row_count;
+        let revision = revise(self.alloc, &mut self.store, &self.revisions, room, &command)?;
+        let (number, rows) = (self.revisions.len() as u32, revision.rows.len());
+        self.revisions
+            .push(revision)
+            .map_err(|_| EditFault::Memory)?;
+        self.row_count += rows;
+        Ok(number)
+    }
+
+    /// How many revisions there are.
+    pub fn count(&self) -> u32
+        ensures value { result ≡ length self.now.revisions }
+        ensures session { IsSession self.now }
+        ensures history { HoldsHistory self.now }
+    {
+        // The store keeps its rules, as its count says.
+        let _nodes = self.store.count();
+        self.revisions.len() as u32
+    }
+
+    /// The root of revision `k`, where there is one.
+    pub fn root(&self, k: u32) -> Option<Rope>
+        ensures { result ≡ root_of self.now k }
+    {
+        Some(self.revisions.get(k as usize)?.root)
+    }
+
+    /// Whether the root of revision `k`, where there is one, is not nil and balanced.
+    pub fn mark(&self, k: u32) -> Option<bool>
+        ensures { result ≡ mark_of self.now k }
+    {
+        Some(self.revisions.get(k as usize)?.mark)
+    }
+
+    /// The command of revision `k`, where there is one, with the place in the pool of the bytes that were handed in.
+    pub fn edit(&self, k: u32) -> Option<Edit>
+        ensures { result ≡ edit_of self.now k }
+    {
+        Some(self.revisions.get(k as usize)?.edit)
+    }
+
+    /// The rows of revision `k`, where there is one.
+    pub fn rows(&self, k: u32) -> Option<&[Row]>
+        ensures { option_map (λ rows. rows.now) result ≡ rows_of self.now k }
+    {
+        Some(&self.revisions.get(k as usize)?.rows)
+    }
+
+    /// The store that the roots stand in.
+    pub fn space(&self) -> &Store<Coded>
+        ensures store { result.now ≡ self.now.held }
+        ensures history { HoldsHistory self.now }
+    {
+        // The store keeps its rules, as its count says.
+        let _nodes = self.store.count();
+        &self.store
+    }
+}
+
+impl Roots for Session {
+    ghost use Rattle.edit_commands.specs.Session.{roots_of};
+
+    ghost roots = { λ session. roots_of session.revisions };
+
+    fn count(&self) -> usize {
+        self.revisions.len()
+    }
+
+    fn root(&self, r: u32) -> Rope {
+        self.revisions[r as usize].root
+    }
+}
