@@ -1,0 +1,92 @@
+//! The revisions of an image and their rows.
+
+ghost use Rattle.std.specs.Prelude.{◌≡◌, OnOk, length, map, slice_get};
+ghost use Rattle.edit_commands.specs.Session.{rows_of};
+ghost use Rattle.std.specs.List.{flat_map, AllByRecursion};
+ghost use Rattle.image_reader.specs.Spelling.{revision_spelling, row_spelling};
+ghost use Rattle.image_reader.specs.Value.{FitsRow};
+ghost use Rattle.session_image.specs.Written.{Writes, EditsFit, recorded_revision, rows_in, rows_or_none};
+
+use crate::records::{revision_record, row_record};
+use byte_output::{WriteFault, write_bytes};
+use edit_commands::Session;
+use image_reader::Revision;
+use span_certificate::Row;
+use std::io;
+
+/// The rows of a revision; none where there is no such revision.
+fn rows_at(session: &Session, k: u32) -> &[Row]
+    ensures { result.now ≡ rows_or_none (rows_of session.now k) }
+{
+    match session.rows(k) {
+        None => &[],
+        Some(rows) => rows,
+    }
+}
+
+/// How many rows the revisions have together.
+pub(crate) fn count_rows(session: &Session) -> u32
+    ensures { result ≡ length (rows_in session.now.revisions) }
+{
+    let mut count = 0;
+    for k in 0..session.count() {
+        count += rows_at(session, k).len() as u32;
+    }
+    count
+}
+
+/// Revision `k` as it is recorded, where there is one.
+fn recorded(session: &Session, k: u32) -> Option<Revision>
+    ensures { result ≡ slice_get (map recorded_revision session.now.revisions) k }
+{
+    let _count = session.count();
+    Some(Revision {
+        edit: session.edit(k)?,
+        mark: session.mark(k)?,
+        root: session.root(k)?,
+        rows: session.rows(k)?.len() as u32,
+    })
+}
+
+/// Writes the revisions.
+pub(crate) fn write_revisions<W: io::Write>(
+    session: &Session,
+    writer: &mut W,
+) -> Result<(), WriteFault>
+    ensures bytes { Writes (W.contents writer.old) (W.contents writer.new)
+        (flat_map revision_spelling (map recorded_revision session.now.revisions)) result }
+    ensures fits { OnOk result (EditsFit session.now.revisions (length session.now.revisions)) }
+{
+    for k in 0..session.count() {
+        if let Some(revision) = recorded(session, k) {
+            let record = revision_record(revision);
+            write_bytes(writer, record.as_slice())?;
+        }
+    }
+    Ok(())
+}
+
+/// Writes the rows of one revision.
+fn write_each_row<W: io::Write>(rows: &[Row], writer: &mut W) -> Result<(), WriteFault>
+    ensures bytes { Writes (W.contents writer.old) (W.contents writer.new)
+        (flat_map row_spelling rows.now) result }
+    ensures fits { OnOk result (AllByRecursion FitsRow rows.now) }
+{
+    for row in rows {
+        let record = row_record(*row);
+        write_bytes(writer, record.as_slice())?;
+    }
+    Ok(())
+}
+
+/// Writes the rows of all revisions.
+pub(crate) fn write_rows<W: io::Write>(session: &Session, writer: &mut W) -> Result<(), WriteFault>
+    ensures bytes { Writes (W.contents writer.old) (W.contents writer.new)
+        (flat_map row_spelling (rows_in session.now.revisions)) result }
+    ensures fits { OnOk result (AllByRecursion FitsRow (rows_in session.now.revisions)) }
+{
+    for k in 0..session.count() {
+        write_each_row(rows_at(session, k), writer)?;
+    }
+    Ok(())
+}
