@@ -3,3 +3,4 @@ pub mod WorkedPlaces
 pub mod WorkedRows
 pub mod WorkedFaults
 pub mod PartsOfTexts
+pub mod LeafRows

@@ -3,7 +3,9 @@
 
 mod balance;
 mod certificates;
+mod edits;
 mod functions;
+mod images;
 mod pools;
 mod positions;
 mod ropes;
@@ -13,3 +15,4 @@ mod sources;
 mod tables;
 mod tools;
 mod words;
+mod written;

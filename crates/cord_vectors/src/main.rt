@@ -11,7 +11,7 @@ use lazy_file::MemSources;
 use std::rt::Files;
 
 /// The names of the images of sessions without a source. Each lies in hex in the file `NAME.hex`.
-const NAMES: [&str; 39] = [
+const NAMES: [&str; 40] = [
     "new_alone",
     "one_insert",
     "cut_short_by_one",
@@ -51,6 +51,7 @@ const NAMES: [&str; 39] = [
     "bytes_row_too_long",
     "bytes_row_of_the_limit",
     "shared_over_the_pool",
+    "pasted_into_itself",
 ];
 
 fn print_answer(

@@ -20,9 +20,9 @@ const ONE_INSERT: &[u8] = b"CORDSESS\0\0\0\x01\0\0\0\0\0\0\0\x01\0\0\0\x02\
     \x02\0\0\0\0\0\0\0\0\0\0\0\0\0\0\x03\0\0\0\0\0\0\0\0\
     abc";
 
-/// The image of `cd`, inserted from the pool `abcd`, whose root is a substring of a substring of two joined literals: its header,
-/// five nodes, two revisions, row and pool.
-const SUBSTRINGS: &[u8] = b"CORDSESS\0\0\0\x01\0\0\0\0\
+/// The image of `cd`, inserted from the pool `abcd`, whose root is a substring of a substring of two joined
+/// literals: its header, five nodes, two revisions, row and pool.
+pub(super) const SUBSTRINGS: &[u8] = b"CORDSESS\0\0\0\x01\0\0\0\0\
     \0\0\0\x05\0\0\0\x02\0\0\0\x01\0\0\0\0\
     \0\0\0\0\0\0\0\x04\
     \x01\0\0\0\0\0\0\0\0\0\0\0\0\0\0\x02\

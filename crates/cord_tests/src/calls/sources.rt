@@ -7,8 +7,8 @@ fn size_of<S: Sources>(sources: &S, s: u8) -> Option<u64> {
 
 /// One source of three bytes, which states no text, and whose first read fails.
 #[derive(Drop)]
-struct FailsOnce {
-    failed: bool,
+pub(super) struct FailsOnce {
+    pub(super) failed: bool,
 }
 
 impl Sources for FailsOnce {

@@ -16,9 +16,11 @@ fn two_insertions_make_a_history()
         ([] ∷ codes "a" ∷ codes "ab" ∷ []) }
 {}
 
-/// `c` put into `ab` between its bytes; an insertion of no bytes, and those past the end of what they name, give nothing.
+/// `c` put into `ab` between its bytes; an insertion of no bytes, and those past the end of what they name, give
+/// nothing.
 fn insertion_in_the_middle_gives_a_text()
-    ensures middle { result_of (pool_of (codes "abc")) ([] ∷ codes "ab" ∷ []) (Insert 1 1 2 1) ≡ Some (codes "acb") }
+    ensures middle { result_of (pool_of (codes "abc")) ([] ∷ codes "ab" ∷ []) (Insert 1 1 2 1)
+        ≡ Some (codes "acb") }
     ensures past_the_text { result_of (pool_of (codes "abcx")) ([] ∷ codes "abc" ∷ []) (Insert 1 4 3 1) ≡ None }
     ensures past_the_texts { result_of (pool_of (codes "abcx")) ([] ∷ codes "abc" ∷ []) (Insert 5 0 3 1) ≡ None }
     ensures past_the_pool { result_of (pool_of (codes "abcx")) ([] ∷ codes "abc" ∷ []) (Insert 1 0 3 2) ≡ None }
@@ -33,10 +35,13 @@ fn leaf_row_covers_a_part_of_a_part()
 
 /// A row of two bytes leaves the third one uncovered; a row behind the end does not fit.
 fn second_row_is_the_first_that_is_bad()
-    ensures uncovered { (coded : ℕ → Coded) → (source : ℕ → ℕ → ℕ) → IsFirstBad one_literal coded source
+    ensures uncovered { (coded : ℕ → Coded) → (source : ℕ → ℕ → ℕ)
+        → IsFirstBad one_literal coded source
         (parts_of one_literal (None ∷ []) (Insert 0 0 0 3)) (Some (number 0)) (leaf_row 2 ∷ []) 1 }
-    ensures past_the_end { (coded : ℕ → Coded) → (source : ℕ → ℕ → ℕ) → IsFirstBad one_literal coded source
-        (parts_of one_literal (None ∷ []) (Insert 0 0 0 3)) (Some (number 0)) (leaf_row 3 ∷ leaf_row 1 ∷ []) 1 }
+    ensures past_the_end { (coded : ℕ → Coded) → (source : ℕ → ℕ → ℕ)
+        → IsFirstBad one_literal coded source
+        (parts_of one_literal (None ∷ []) (Insert 0 0 0 3)) (Some (number 0))
+        (leaf_row 3 ∷ leaf_row 1 ∷ []) 1 }
 {}
 
 /// Bytes of another place of the pool have another description.

@@ -25,7 +25,8 @@ const ONE_INSERT: &[u8] = b"CORDSESS\0\0\0\x01\0\0\0\0\0\0\0\x01\0\0\0\x02\
 #[tactic(auto, unfolding(image_reader::specs::Layout::spelled, image_reader::specs::Spelling::source_spelling, image_reader::specs::Spelling::view_spelling, image_reader::specs::Spelling::revision_spelling, image_reader::specs::Spelling::row_spelling))]
 fn records_are_spelled_field_by_field()
     ensures source { source_spelling 5 ≡ 0 ∷ 0 ∷ 0 ∷ 0 ∷ 0 ∷ 0 ∷ 0 ∷ 5 ∷ [] }
-    ensures longest_source { source_spelling 1099511627775 ≡ 0 ∷ 0 ∷ 0 ∷ 255 ∷ 255 ∷ 255 ∷ 255 ∷ 255 ∷ [] }
+    ensures longest_source { source_spelling 1099511627775
+        ≡ 0 ∷ 0 ∷ 0 ∷ 255 ∷ 255 ∷ 255 ∷ 255 ∷ 255 ∷ [] }
     ensures literal { node_spelling literal ≡ slice_range ONE_INSERT.now 40 72 }
     ensures insertion { revision_spelling insertion ≡ slice_range ONE_INSERT.now 128 184 }
     ensures row { row_spelling (leaf_row 3) ≡ slice_range ONE_INSERT.now 184 208 }
