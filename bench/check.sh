@@ -1,25 +1,47 @@
 #!/bin/sh
-# Times the check of an image of a million nodes beside sha256sum of the same file, in one run.
-# It builds the program where it is not built, and makes the image by bench/make_image.py.
+# Times the check of images of a million nodes beside sha256sum of the same files, in one run: a session of 100,000 revisions of all
+# commands with rows of all kinds, and one insertion of 500,000 literals. With each, the rows verified a second, and the memory held
+# beside the image and its sources. It builds the program where it is not built, and makes the images by bench/make_image.py.
 set -eu
 cd "$(dirname "$0")/.."
 program=crates/cordkit/out/cordkit
 [ -x "$program" ] || (cd crates/cordkit && rt run < stdin > /dev/null 2>&1)
 image=$(mktemp)
-trap 'rm -f "$image"' EXIT
-python3 bench/make_image.py > "$image"
+source=$(mktemp)
+trap 'rm -f "$image" "$source"' EXIT
 
-# the best of five runs, in milliseconds
+# the best of five runs, in microseconds
 best() {
     for _ in 1 2 3 4 5; do
         start=$(date +%s%N)
-        "$@" < "$image" > /dev/null
+        "$@" > /dev/null
         end=$(date +%s%N)
-        echo $(((end - start) / 1000000))
+        echo $(((end - start) / 1000))
     done | sort -n | head -n 1
 }
 
-"$program" < "$image"
-echo "image      $(wc -c < "$image") bytes"
-echo "cordkit    $(best "$program") ms"
-echo "sha256sum  $(best sha256sum) ms"
+# the most memory that a run held, in bytes
+held() {
+    python3 -c 'import resource, subprocess, sys
+subprocess.run(sys.argv[1:], stdout=subprocess.DEVNULL, check=True)
+print(resource.getrusage(resource.RUSAGE_CHILDREN).ru_maxrss * 1024)' "$@"
+}
+
+# Checks the image with the sources that are given.
+measure() {
+    "$program" check "$image" "$@"
+    rows=$("$program" check "$image" "$@" | cut -d ' ' -f 6)
+    bytes=$(cat "$image" "$@" | wc -c)
+    checked=$(best "$program" check "$image" "$@")
+    hashed=$(best sha256sum "$image")
+    echo "image      $(wc -c < "$image") bytes"
+    echo "cordkit    $((checked / 1000)) ms, $((rows * 1000 / checked * 1000)) rows a second"
+    echo "sha256sum  $((hashed / 1000)) ms; the check takes $((checked * 100 / hashed)) % of that"
+    echo "memory     $(($(held "$program" check "$image" "$@") - bytes)) bytes more"
+}
+
+python3 bench/make_image.py source > "$source"
+python3 bench/make_image.py session > "$image"
+measure "$source"
+python3 bench/make_image.py literals > "$image"
+measure

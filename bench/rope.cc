@@ -42,6 +42,15 @@ static uint64_t type_keys(crope text, uint64_t keys) {
     return text.size();
 }
 
+// keys typed one behind the other at the end of a megabyte
+static uint64_t type_at_the_end(crope text, uint64_t keys) {
+    auto start = Clock::now();
+    for (uint64_t k = 0; k < keys; k++)
+        text.insert(text.size(), "x", 1);
+    report_of("a key at the end", start, keys);
+    return text.size();
+}
+
 // bursts of twenty keys at random places
 static uint64_t type_bursts(crope text, uint64_t bursts) {
     auto start = Clock::now();
@@ -99,6 +108,7 @@ int main() {
     for (uint64_t leaves : {1000, 10000, 100000})
         sum += join_leaves(leaves);
     crope flat(std::string(1 << 20, 'x').c_str());
+    sum += type_at_the_end(flat, count);
     sum += type_keys(flat, count);
     sum += type_bursts(flat, count / 20);
     sum += insert(flat, 600000);

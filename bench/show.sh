@@ -7,7 +7,7 @@ program=crates/cordkit/out/cordkit
 image=$(mktemp)
 text=$(mktemp)
 trap 'rm -f "$image" "$text"' EXIT
-python3 bench/make_image.py 62500 > "$image"
+python3 bench/make_image.py literals 62500 > "$image"
 "$program" show "$image" 1 > "$text"
 tail -c 1000000 "$image" | cmp - "$text"
 

@@ -4,6 +4,7 @@
 mod balancing;
 mod pool;
 mod ropes;
+mod sessions;
 
 use anyhow::Result;
 
@@ -14,5 +15,6 @@ fn main(rt: HostRuntime) -> Result<()> {
     ropes::time_joins(&rt)?;
     ropes::time_substrings(&rt)?;
     ropes::time_fetches(&rt)?;
-    balancing::time(&rt)
+    balancing::time(&rt)?;
+    sessions::time(&rt)
 }
