@@ -1,5 +1,5 @@
 -- Fields that are put one behind the other.
-use Rattle.std.proofs.Common.{◌≡◌, ℕ, List, [], ◌∷◌, ◌++◌, refl, sym, ap, ◌∙◌, append_assoc}
+use Rattle.std.proofs.Common.{◌≡◌, ℕ, List, [], ◌∷◌, ◌++◌, sym, ◌∙◌, append_assoc}
 use Rattle.std.specs.Int.{Width, to_be_bytes}
 use Rattle.std.proofs.lemmas.List.{append-nil}
 use Rattle.image_reader.specs.Layout.{spelled}

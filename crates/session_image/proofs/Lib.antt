@@ -4,5 +4,7 @@ pub mod PoolBytes
 pub mod RowLists
 pub mod SameTables
 pub mod Sections
-pub mod Trust
+pub mod SameSections
 pub mod WholeSpelling
+pub mod Trusted
+pub mod Images

@@ -1,5 +1,5 @@
 -- The image of a session, what writing does, and why the image can be trusted.
-use Rattle.std.specs.Prelude.{ℕ, ◌<◌, List, [], length, map, take, get_or, Option, Some, None, Result, OnOk, OnErr}
+use Rattle.std.specs.Prelude.{ℕ, ◌<◌, List, [], length, map, get_or, Option, Some, None, Result, OnOk, OnErr}
 use Rattle.std.specs.List.{flat_map, range_with_len, AllByRecursion}
 use Rattle.std.specs.Io.KnownBytes.{Appends}
 use Rattle.function_leaf.specs.declared.coded.Coded.{Coded}
@@ -74,3 +74,9 @@ rows_or_none (Some rows) = rows
 pub record Writes (old new : Option (List ℕ)) (bytes : List ℕ) (result : Result (Unit {0}) WriteFault) : Type 0 where
   pub ok : OnOk result (Appends old new bytes)
   pub err : OnErr result (AppendsPrefix old new bytes)
+
+-- Whatever bytes its sources hold, the image satisfies the rules of acceptance with sources of the session's number and lengths, and
+-- no row that compares bytes is over a source.
+pub record IsTrusted (v : SessionValue) : Type 0 where
+  pub accepted : IsAlwaysAccepted (image_of v) v.held.sources
+  pub no_source : (k : ℕ) → k < length v.revisions → MeetsNoSource (image_table (image_of v)) (parts_at (image_of v) k) (revision_at (image_of v) k).root (rows_at (image_of v) k)

@@ -7,7 +7,8 @@ ghost use Rattle.rope_node.specs.Table.{view_at};
 ghost use Rattle.node_table.specs.Held.{IsKept, table_of};
 ghost use Rattle.image_reader.specs.Layout.{IsBytes, spelled};
 ghost use Rattle.image_reader.specs.Spelling.{header_layout, header_numbers, source_spelling, node_spelling, spelling};
-ghost use Rattle.session_image.specs.Written.{Writes, HoldsFit, SectionsFit, image_of, nodes_of};
+ghost use Rattle.image_reader.specs.Value.{IsImage};
+ghost use Rattle.session_image.specs.Written.{Writes, HoldsFit, SectionsFit, IsTrusted, image_of, nodes_of};
 
 use crate::nodes::node_record;
 use crate::records::{Counts, header_record, source_record};
@@ -126,8 +127,10 @@ fn write_sections<W: io::Write>(session: &Session, writer: &mut W) -> Result<(),
 pub fn write<W: io::Write>(session: &Session, writer: &mut W) -> Result<(), WriteFault>
     ensures written { Writes (W.contents writer.old) (W.contents writer.new)
         (spelling (image_of session.now)) result }
-    ensures fits { OnOk result (SectionsFit session.now) }
+    ensures image { OnOk result (IsImage (image_of session.now)) }
+    ensures trusted { IsTrusted session.now }
 {
+    let _count = session.count();
     let _nodes = session.space().count();
     write_sections(session, writer)
 }

@@ -1,4 +1,4 @@
-use Rattle.std.proofs.Common.{[], ◌∷◌}
+use Rattle.std.proofs.Common.{[]}
 use Rattle.image_reader.specs.Spelling.{revision_layout, revision_numbers}
 use Rattle.session_image.proofs.Fields.{put_is_spelled}
 use Rattle.session_image.proofs.records.revision_fields.Goals as goal

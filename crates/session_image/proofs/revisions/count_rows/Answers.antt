@@ -1,4 +1,4 @@
-use Rattle.std.proofs.Common.{◌∙◌, ap, sym, length, take, arith}
+use Rattle.std.proofs.Common.{◌∙◌, ap, length, take, arith}
 use Rattle.std.proofs.lemmas.List.{length-append}
 use Rattle.session_image.specs.Written.{rows_in}
 use Rattle.session_image.proofs.Sections.{get_some}

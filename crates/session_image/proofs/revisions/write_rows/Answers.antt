@@ -1,10 +1,7 @@
-use Rattle.std.proofs.Common.{◌∙◌, ap, sym, subst, take, List, ℕ}
-use Rattle.std.specs.List.{flat_map, AllByRecursion}
+use Rattle.std.proofs.Common.{◌∙◌, ap, sym}
+use Rattle.std.specs.List.{flat_map}
 use Rattle.edit_commands.specs.declared.revision.Revision.{Revision}
-use Rattle.byte_output.specs.Prefix.{AppendsPrefix}
 use Rattle.image_reader.specs.Spelling.{row_spelling}
-use Rattle.image_reader.specs.Value.{FitsRow}
-use Rattle.session_image.specs.Written.{Writes, rows_in, rows_or_none}
 use Rattle.session_image.proofs.Sections.{failed, succeeded, get_some, of_slice, wrote_part, wrote_more, wrote_all, flat_twice}
 use Rattle.session_image.proofs.RowLists.{rows_spelling, found_rows, rows_fit_more}
 use Rattle.session_image.proofs.revisions.write_rows.Goals as goal

@@ -1,20 +1,16 @@
--- Why the image of a session is trusted.
-use Rattle.std.proofs.Common.{◌≡◌, ℕ, zero, suc, ◌+◌, ◌<◌, ◌≤◌, true, false, IsTrue, List, [], ◌∷◌, ◌++◌, length, map, take, drop, get_or, Option, Some, None, refl, sym, ap, subst, ◌∙◌, arith, inl, inr}
+-- The nodes and rows of the image are the session's.
+use Rattle.std.proofs.Common.{◌≡◌, ℕ, suc, ◌+◌, ◌<◌, List, [], ◌∷◌, ◌++◌, length, map, take, drop, get_or, Some, None, refl, sym, ap, ◌∙◌, arith}
 use Rattle.std.specs.Prelude.{slice_get}
-use Rattle.std.specs.List.{flat_map, range_with_len, sum_by}
-use Rattle.std.proofs.lemmas.Bool.{cases_lt}
-use Rattle.std.proofs.lemmas.List.{length-map, length-append, take_at, drop_at, get_or_past}
-use Rattle.std.proofs.lemmas.List.Sums.{sum_by-cons}
+use Rattle.std.specs.List.{range_with_len}
+use Rattle.std.proofs.lemmas.List.{take_at, drop_at}
 use Rattle.function_leaf.specs.declared.coded.Coded.{Coded}
-use Rattle.function_leaf.specs.Coded.{coded_byte}
-use Rattle.function_leaf.specs.Optional.{answer_of, or_fill}
-use Rattle.rope_node.specs.Table.{Node, Table, no_node}
-use Rattle.node_table.specs.Held.{Held, IsKept, table_of}
+use Rattle.rope_node.specs.Table.{Node, no_node}
+use Rattle.node_table.specs.Held.{Held}
 use Rattle.edit_commands.specs.declared.revision.Revision as Kept
-use Rattle.edit_commands.specs.Session.{SessionValue, rows_held}
-use Rattle.image_reader.specs.Value.{ImageNode, no_image_node, image_table, function_at}
-use Rattle.session_image.specs.Written.{image_of, nodes_of, recorded_revision, rows_in}
-use Rattle.session_image.proofs.Sections.{get_is, get_mapped, split_at, flat_map-behind}
+use Rattle.edit_commands.specs.Session.{rows_held}
+use Rattle.image_reader.specs.Value.{ImageNode}
+use Rattle.session_image.specs.Written.{nodes_of, rows_in}
+use Rattle.session_image.proofs.Sections.{split_at, flat_map-behind}
 use Rattle.session_image.proofs.RowLists.{length-rows}
 
 nodes_back : (h : Held Coded) (from : ℕ) (nodes : List Node) → ((i : ℕ) → i < length nodes → get_or h.nodes (from + i) no_node ≡ get_or nodes i no_node)
