@@ -6,7 +6,6 @@ ghost use Rattle.edit_commands.specs.Session.{SessionValue, IsSession, HoldsHist
 ghost use Rattle.edit_commands.specs.Session.{root_of, mark_of, edit_of, rows_of};
 ghost use Rattle.edit_commands.specs.Applying.{AppliesOrNot, AddsSourceOrNot};
 
-use crate::building::build;
 use crate::command::Command;
 use crate::fault::EditFault;
 use crate::refusing::refusal;
@@ -41,7 +40,8 @@ impl Model for Session {
 
     ghost view = { λ a. record { held = a.store; revisions = a.revisions.items } };
 
-    ghost invariant = { λ a. IsSession (record { held = a.store; revisions = a.revisions.items }) × (a.row_count ≡ rows_held a.revisions.items) };
+    ghost invariant = { λ a. IsSession (record { held = a.store; revisions = a.revisions.items })
+        × (a.row_count ≡ rows_held a.revisions.items) };
 }
 
 impl Session {
