@@ -17,6 +17,7 @@ audit:
 
 bench:
 	sh bench/check.sh
+	sh bench/write.sh
 	sh bench/show.sh
 	sh bench/rope.sh
 	sh bench/tools.sh

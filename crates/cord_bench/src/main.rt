@@ -1,20 +1,30 @@
 //! Times what runs often. The numbers differ from run to run, so they go to standard error.
+//! With the word `image` it writes an image to standard output instead.
 #![tactic(auto)]
 
 mod balancing;
+mod images;
 mod pool;
 mod ropes;
 mod sessions;
 
 use anyhow::Result;
+use std::env;
 
 fn main(rt: HostRuntime) -> Result<()> {
-    pool::time(&rt)?;
+    match env::args(&rt)?.nth(1) {
+        Some(word) if word.as_str() == "image" => images::write_image(&rt),
+        _ => time(&rt),
+    }
+}
+
+fn time(rt: &HostRuntime) -> Result<()> {
+    pool::time(rt)?;
     eprintln!(rt; "cordkit's store, {} of each:", ropes::COUNT)?;
-    ropes::time_appends(&rt)?;
-    ropes::time_joins(&rt)?;
-    ropes::time_substrings(&rt)?;
-    ropes::time_fetches(&rt)?;
-    balancing::time(&rt)?;
-    sessions::time(&rt)
+    ropes::time_appends(rt)?;
+    ropes::time_joins(rt)?;
+    ropes::time_substrings(rt)?;
+    ropes::time_fetches(rt)?;
+    balancing::time(rt)?;
+    sessions::time(rt)
 }

@@ -1,4 +1,3 @@
-pub mod Samples
 pub mod WorkedPlaces
 pub mod WorkedRows
 pub mod WorkedFaults

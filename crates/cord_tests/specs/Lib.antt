@@ -2,4 +2,3 @@ pub mod Tables
 pub mod Pools
 pub mod Commands
 pub mod Images
-pub mod Sample

@@ -1,18 +1,11 @@
 //! Each public call of a crate, with ample memory: a fault that a test does not expect fails it.
 //! What a call leaves as it was where memory is refused, its contract says.
 
-mod balance;
 mod certificates;
 mod edits;
-mod functions;
 mod images;
-mod pools;
-mod positions;
-mod ropes;
-mod searches;
 mod sessions;
 mod sources;
-mod tables;
 mod tools;
 mod words;
 mod written;

@@ -311,7 +311,7 @@ pub(super) fn random_command<'a, R: AllocGlobal + Abort>(
     let some = up_to(seed, u.len().saturating_sub(from));
     let part = u.get(from..from.saturating_add(some)).expect(rt, "a part");
     let (p, m, i, n) = (at as u64, many as u64, from as u64, some as u64);
-    match up_to(seed, 7) {
+    match up_to(seed, 9) {
         0 => (Command::Delete { r, p, n: m }, spliced(rt, t, at, &[], end)),
         1 => (
             Command::Replace { r, p, m, bytes },
@@ -333,6 +333,8 @@ pub(super) fn random_command<'a, R: AllocGlobal + Abort>(
         ),
         5 => (Command::Back { r }, spliced(rt, t, 0, &[], 0)),
         6 => (Command::Balance { r }, spliced(rt, t, 0, &[], 0)),
+        7 => (Command::Join { r, q }, spliced(rt, u, 0, t, 0)),
+        8 => (Command::New, spliced(rt, &[], 0, &[], 0)),
         _ => (
             Command::Insert { r, p, bytes },
             spliced(rt, t, at, bytes, at),

@@ -162,33 +162,78 @@ fn a_prefix_is_written_where_no_more_is_taken(rt: HostRuntime) {
     }
 }
 
-/// The text that an image shows of revision `k`.
-fn shown<R: AllocGlobal + Abort>(rt: &R, image: &[u8], k: u64) -> Vec<u8> {
+/// Sources that hold these texts.
+fn holding<'a, R: AllocGlobal + Abort>(rt: &R, given: &[&'a [u8]]) -> MemSources<'a> {
     let mut sources = MemSources::new(rt.alloc());
+    for text in given {
+        sources.add(text).expect(rt, "a source");
+    }
+    sources
+}
+
+/// One command at random, of all eleven kinds where there are sources, and what it gives as lists.
+fn command_over<'a, R: AllocGlobal + Abort>(
+    rt: &R,
+    seed: &mut u64,
+    given: &[&[u8]],
+    texts: &[Vec<u8>],
+    bytes: &'a [u8],
+) -> (Command<'a>, Vec<u8>) {
+    let s = next(seed) % 20;
+    let Some(opened) = given.get(s as usize) else {
+        return random_command(rt, seed, texts, bytes);
+    };
+    let mut wanted: Vec<u8> = Vec::new(rt.alloc());
+    wanted.extend_from_slice(opened).expect(rt, "a text");
+    (Command::Open { s: s as u32 }, wanted)
+}
+
+/// A session of at most sixty commands over sources of these texts, and its texts as lists.
+fn random_session<R: AllocGlobal + Abort>(
+    rt: &R,
+    seed: &mut u64,
+    given: &[&[u8]],
+) -> (Session, Vec<Vec<u8>>) {
+    let mut session = Session::new(rt.alloc());
+    for text in given {
+        session.add_source(text.len() as u64).expect(rt, "a source");
+    }
+    made(rt, &mut session, Command::New);
+    let mut texts: Vec<Vec<u8>> = Vec::new(rt.alloc());
+    texts.push(Vec::new(rt.alloc())).expect(rt, "an empty text");
+    for _ in 0..next(seed) % 60 {
+        let bytes = [(next(seed) % 256) as u8, b'y'];
+        let (command, wanted) = command_over(rt, seed, given, &texts, &bytes);
+        made(rt, &mut session, command);
+        texts.push(wanted).expect(rt, "a text");
+    }
+    (session, texts)
+}
+
+/// The text that an image shows of revision `k`.
+fn shown<R: AllocGlobal + Abort>(
+    rt: &R,
+    image: &[u8],
+    sources: &mut MemSources<'_>,
+    k: u64,
+) -> Vec<u8> {
     let mut bytes: Vec<u8> = Vec::new(rt.alloc());
-    run_show(rt.alloc(), image, &mut sources, k, &mut bytes).expect(rt, "a text");
+    run_show(rt.alloc(), image, sources, k, &mut bytes).expect(rt, "a text");
     bytes
 }
 
 #[test]
 fn written_sessions_show_what_lists_give(rt: HostRuntime) {
     let mut seed = 7;
-    for _ in 0..100 {
-        let mut session = Session::new(rt.alloc());
-        made(&rt, &mut session, Command::New);
-        let mut texts: Vec<Vec<u8>> = Vec::new(rt.alloc());
-        texts
-            .push(Vec::new(rt.alloc()))
-            .expect(&rt, "an empty text");
-        for _ in 0..next(&mut seed) % 30 {
-            let bytes = [(next(&mut seed) % 256) as u8, b'y'];
-            let (command, wanted) = random_command(&rt, &mut seed, &texts, &bytes);
-            made(&rt, &mut session, command);
-            texts.push(wanted).expect(&rt, "a text");
-        }
+    let given = [b"source".as_slice(), b"", b"another source, a longer one"];
+    for number in 0..1000usize {
+        let given = given.get(..number % 4).expect(&rt, "sources");
+        let (session, texts) = random_session(&rt, &mut seed, given);
         let image = written(&rt, &session);
+        let mut sources = holding(&rt, given);
         for (k, wanted) in (0u64..).zip(texts.iter()) {
-            assert_eq!(rt; shown(&rt, &image, k).as_slice(), wanted.as_slice(), "{k}");
+            let text = shown(&rt, &image, &mut sources, k);
+            assert_eq!(rt; text.as_slice(), wanted.as_slice(), "{number} {k}");
         }
     }
 }

@@ -1,7 +1,7 @@
 -- The tests' table is sound, with true records.
 use Rattle.std.proofs.Common.{ℕ, zero, suc, ◌<◌, ◌^◌, get_or, refl, arith}
 use Rattle.rope_node.specs.Table.{node_at, IsSound, IsSoundNode, HasTrueRecords, IsTrueNode}
-use Rattle.cord_tests.specs.Sample.{sample}
+use Rattle.rope_tests.specs.Sample.{sample}
 
 sound_node : (id : ℕ) → id < 7 → IsSoundNode sample id (node_at sample id)
 sound_node zero lt = record { references = omega arith; not_empty = omega arith; not_long = omega arith; not_deep = omega arith; span = omega arith }

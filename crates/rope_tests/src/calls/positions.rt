@@ -17,7 +17,7 @@ const LITERAL: &[u8] = b"def";
 const ALL: Rope = Some(NodeId(6));
 
 impl NodeSpace for Sample {
-    ghost use Rattle.cord_tests.specs.Sample.{sample};
+    ghost use Rattle.rope_tests.specs.Sample.{sample};
 
     ghost table = { λ _. sample };
 

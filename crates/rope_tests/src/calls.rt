@@ -1,0 +1,10 @@
+//! Each public call of a crate, with ample memory: a fault that a test does not expect fails it.
+//! What a call leaves as it was where memory is refused, its contract says.
+
+mod balance;
+mod functions;
+mod pools;
+mod positions;
+mod ropes;
+mod searches;
+mod tables;
