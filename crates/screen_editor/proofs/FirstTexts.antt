@@ -1,0 +1,59 @@
+-- The text of a session's first revision.
+use Rattle.std.proofs.Common.{◌≡◌, ℕ, ◌≤◌, inl, inr, List, [], ◌∷◌, ◌++◌, length, map, get_or, Some, Bool, true, false, refl, sym, ap, subst, arith, ◌∙◌}
+use Rattle.std.specs.Prelude.{◌↔◌, slice_get, IsTrue}
+use Rattle.std.specs.List.{range_with_len}
+use Rattle.std.proofs.lemmas.List.{length-map}
+use Rattle.std.proofs.lemmas.List.FromFn.{length-range_with_len}
+use Rattle.std.proofs.lemmas.Bool.{cases_lt}
+use Rattle.std.proofs.lemmas.Option.{same_Some}
+use Rattle.lazy_file.specs.SourceTexts.{Stated}
+use Rattle.span_certificate.specs.declared.edit.Edit.{Edit}
+use Rattle.span_certificate.specs.Commands.{result_of}
+use Rattle.edit_commands.specs.declared.revision.Revision.{Revision}
+use Rattle.edit_commands.specs.Applying.{Applies}
+use Rattle.edit_commands.specs.Building.{edit_with}
+use Rattle.edit_commands.specs.Session.{HoldsHistory, SessionValue, edits_of, session_table, text_givens, texts_of}
+use Rattle.screen_editor.specs.Editing.{longest_text}
+use Rattle.screen_editor.specs.Opening.{IsFirst, first_command}
+use Rattle.screen_editor.specs.Refusals.{IsTooLong}
+use Rattle.screen_editor.specs.Revising.{first_text}
+use Rattle.screen_editor.proofs.NewTexts.{text_len}
+
+alone : (ts : List (List ℕ)) (t : List ℕ) → length ts ≡ 1 → slice_get ts 0 ≡ Some t → ts ≡ t ∷ []
+alone [] t e h = absurd cc
+alone (x ∷ []) t e h = ap (λ (y : List ℕ). y ∷ []) (same_Some x t h)
+alone (x ∷ y ∷ ts) t e h = absurd (omega (arith, e))
+
+-- what the first command gives
+given_first : (source : ℕ → ℕ → ℕ) (v : SessionValue) (sizes : List ℕ) (a : ℕ) → v.held.sources ≡ sizes → result_of (text_givens source (session_table v)) [] (edit_with a (first_command sizes)) ≡ Some (first_text source sizes)
+given_first source v [] a e = refl
+given_first source v (n ∷ sizes) a e = ap (λ (s : List ℕ). slice_get (map (λ (k : ℕ). map (source k) (range_with_len 0 (get_or s k 0))) (range_with_len 0 (length s))) 0) e
+
+first_len : (source : ℕ → ℕ → ℕ) (sizes : List ℕ) → length (first_text source sizes) ≡ get_or sizes 0 0
+first_len source [] = refl
+first_len source (n ∷ sizes) = length-map (range_with_len 0 n) (source 0) ∙ length-range_with_len 0 n
+
+pub first_made : (sizes : List ℕ) (old new : SessionValue) (k : ℕ) → Applies old (first_command old.held.sources) k new → old.held.sources ≡ sizes → old.revisions ≡ [] → HoldsHistory new → get_or sizes 0 0 ≤ longest_text → IsFirst sizes new
+first_made sizes old new k applies is_sources none history short =
+    let h = subst (λ (s : List ℕ). Applies old (first_command s) k new) is_sources applies in
+    let sources : new.held.sources ≡ sizes = h.keeps.goes_on.sources ∙ is_sources in
+    let revisions : new.revisions ≡ h.made ∷ [] = h.revisions ∙ ap (λ (rs : List Revision). rs ++ h.made ∷ []) none in
+    let command : slice_get (edits_of new.revisions) 0 ≡ Some (edit_with h.is.place (first_command sizes)) = ap (λ (rs : List Revision). slice_get (edits_of rs) 0) revisions ∙ ap (λ (x : Edit). Some x) h.is.edit in
+    let text = texts_are sizes new (edit_with h.is.place (first_command sizes)) history command (ap (λ (rs : List Revision). length (edits_of rs)) revisions) (λ source. given_first source new sizes h.is.place sources) in
+    record {
+      sources = sources;
+      one = ap length revisions;
+      text = text;
+      short = rw (sym (text_len new history (λ s p. 0) 0), ap (λ (ts : List (List ℕ)). length (get_or ts 0 [])) (text (λ s p. 0)), first_len (λ s p. 0) sizes) short;
+    }
+  where
+    texts_are : (sizes : List ℕ) (new : SessionValue) (edit : Edit) → HoldsHistory new → slice_get (edits_of new.revisions) 0 ≡ Some edit → length (edits_of new.revisions) ≡ 1
+        → ((source : ℕ → ℕ → ℕ) → result_of (text_givens source (session_table new)) [] edit ≡ Some (first_text source sizes)) → (source : ℕ → ℕ → ℕ) → texts_of source new ≡ first_text source sizes ∷ []
+    texts_are sizes new edit history command one given source =
+        alone (texts_of source new) (first_text source sizes) ((history.texts source).whole ∙ one) ((history.texts source).each 0 edit command ∙ given source)
+
+pub is_short : (test : Bool) (st : Stated) → (IsTrue test) ↔ IsTooLong st → test ≡ false → get_or st.sizes 0 0 ≤ longest_text
+is_short test st h e = elim (cases_lt longest_text (get_or st.sizes 0 0)) [
+  | inl long ↦ (let same : false ≡ true = sym e ∙ h.1 long in absurd cc)
+  | inr short ↦ short
+]

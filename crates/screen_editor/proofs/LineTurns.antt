@@ -1,0 +1,231 @@
+-- Keys that look for line breaks.
+use Rattle.std.proofs.Common.{◌≡◌, ℕ, ◌+◌, ◌-◌, ◌<◌, ◌≤◌, List, [], length, get_or, Result, Ok, Err, Option, Some, None, true, false, refl, sym, ap, subst, arith, ◌∙◌, append-nil}
+use Rattle.std.specs.Prelude.{IsTrue, IfErr, OnOk, IsErrOf, IsOk}
+use Rattle.std.proofs.Math.ListN.{get_or-map}
+use Rattle.std.proofs.lemmas.Option.{same_Some}
+use Rattle.rope_node.specs.declared.node.NodeId.{NodeId}
+use Rattle.function_leaf.specs.declared.coded.Coded.{Coded}
+use Rattle.function_leaf.specs.Coded.{coded_byte}
+use Rattle.node_table.specs.Held.{Held, table_of}
+use Rattle.rope_node.specs.Denotes.{Cell, rope_cells, rope_len, text}
+use Rattle.lazy_file.specs.SourceTexts.{Agrees, Reads, Stated}
+use Rattle.lazy_file.specs.declared.faults.SourceFault.{SourceFault}
+use Rattle.cord_position.specs.Fetched.{IsStated, ReadsSpan, rope_cell}
+use Rattle.edit_commands.specs.Applying.{Keeps}
+use Rattle.edit_commands.specs.Session.{HoldsHistory, SessionValue, cells_of, edits_of, roots_of, session_table, texts_of}
+use Rattle.edit_commands.proofs.GoingOn.{goes_on_itself}
+use Rattle.screen_editor.specs.declared.fault.KeyFault.{KeyFault}
+use Rattle.screen_editor.specs.declared.fault.KeyFault.TheVariants as Fault
+use Rattle.screen_editor.specs.declared.key.Key.{Key}
+use Rattle.screen_editor.specs.declared.key.Key.TheVariants.{Typed, EraseBefore, EraseAt, Left, Right, LineStart, LineEnd, Up, Down, Mark, Cut, Paste, DropCut, Undo, Balance, Save, Leave, Nothing}
+use Rattle.screen_editor.specs.Editing.{Editing, EachCurrent, IsEditing, current_cell, current_len, current_root, last_of, longest_text, state_of}
+use Rattle.screen_editor.specs.Keys.{key_of, moves_by_lines}
+use Rattle.screen_editor.specs.LineKeys.{DoesStated, IsLinePlace, Takes, line_place, looks_for_lines}
+use Rattle.screen_editor.specs.Machine.{done, edit_of, moved, step}
+use Rattle.screen_editor.specs.Refusals.{IsKeyFault, MakesRevision}
+use Rattle.screen_editor.specs.Revising.{GrowsTooLong, TakesPlain, IsPlainFault}
+use Rattle.screen_editor.specs.State.{EditorState, current}
+use Rattle.screen_editor.proofs.KeyKinds.{looks_alike}
+use Rattle.screen_editor.proofs.NewTexts.{count_texts, text_len}
+
+-- a read that failed, whatever it was to answer
+pub failed_alike : {T X Y : Type 0} (stated : T → Stated) (failures : T → ℕ) (old new : T) (cell : ℕ → Cell) (i j : ℕ) (f : SourceFault) → ReadsSpan {X = X} stated failures old new cell i j (Err f) → ReadsSpan {X = Y} stated failures old new cell i j (Err f)
+failed_alike stated failures old new cell i j f h = record { reads = h.reads; fault = h.fault; succeeds = λ each. h.succeeds each }
+
+-- the current text's cells, by the store and the root that the workspace hands out
+pub failed_in_current : {T X Y : Type 0} (stated : T → Stated) (failures : T → ℕ) (before now : T) (e : Editing) (session : SessionValue) (held : Held Coded) (root : Option NodeId) (f : SourceFault) → session ≡ e.session → held ≡ session.held → root ≡ current_root e
+    → ReadsSpan {X = X} stated failures before now (rope_cell (table_of coded_byte held) root) 0 (rope_len (table_of coded_byte held) root) (Err f)
+    → ReadsSpan {X = Y} stated failures before now (current_cell e) 0 (current_len e) (Err f)
+failed_in_current {T} {X} {Y} stated failures before now e session held root f is_session is_held is_root h =
+    let same : held ≡ e.session.held = is_held ∙ ap (λ (v : SessionValue). v.held) is_session in
+    failed_alike {X = X} {Y = Y} stated failures before now (current_cell e) 0 (current_len e) f
+    (subst (λ (r : Option NodeId). ReadsSpan {X = X} stated failures before now (rope_cell (table_of coded_byte e.session.held) r) 0 (rope_len (table_of coded_byte e.session.held) r) (Err f)) is_root
+    (subst (λ (x : Held Coded). ReadsSpan {X = X} stated failures before now (rope_cell (table_of coded_byte x) root) 0 (rope_len (table_of coded_byte x) root) (Err f)) same h))
+
+-- ---- the current text
+
+pub current_text : (source : ℕ → ℕ → ℕ) (e : Editing) → current (state_of source e) ≡ text source (rope_cells (session_table e.session) (current_root e))
+current_text source e =
+    ap (λ (n : ℕ). get_or (texts_of source e.session) (n - 1) []) (count_texts e.session source)
+    ∙ get_or-map (text source) (cells_of e.session) (last_of e) []
+    ∙ ap (text source) (get_or-map (rope_cells (session_table e.session)) (roots_of e.session.revisions) (last_of e) None)
+
+current_count : (source : ℕ → ℕ → ℕ) (e : Editing) → HoldsHistory e.session → length (current (state_of source e)) ≡ current_len e
+current_count source e history = ap (λ (n : ℕ). length (get_or (texts_of source e.session) (n - 1) [])) (count_texts e.session source) ∙ text_len e.session history source (last_of e)
+
+-- ---- such a key moves the place alone
+
+moves_there : (key : Key) (s : EditorState) (p : ℕ) → line_place key (current s) s.place ≡ Some p → done key s ≡ moved s p
+moves_there LineStart s p e = ap (moved s) (same_Some _ p e)
+moves_there LineEnd s p e = ap (moved s) (same_Some _ p e)
+moves_there Up s p e = ap (moved s) (same_Some _ p e)
+moves_there Down s p e = ap (moved s) (same_Some _ p e)
+moves_there (Typed b) s p e = absurd cc
+moves_there EraseBefore s p e = absurd cc
+moves_there EraseAt s p e = absurd cc
+moves_there Left s p e = absurd cc
+moves_there Right s p e = absurd cc
+moves_there Mark s p e = absurd cc
+moves_there Cut s p e = absurd cc
+moves_there Paste s p e = absurd cc
+moves_there DropCut s p e = absurd cc
+moves_there Undo s p e = absurd cc
+moves_there Balance s p e = absurd cc
+moves_there Save s p e = absurd cc
+moves_there Leave s p e = absurd cc
+moves_there Nothing s p e = absurd cc
+
+no_edit : (key : Key) (a : ℕ) (s : EditorState) → looks_for_lines key ≡ true → edit_of a key s ≡ None
+no_edit LineStart a s e = refl
+no_edit LineEnd a s e = refl
+no_edit Up a s e = refl
+no_edit Down a s e = refl
+no_edit (Typed b) a s e = absurd cc
+no_edit EraseBefore a s e = absurd cc
+no_edit EraseAt a s e = absurd cc
+no_edit Left a s e = refl
+no_edit Right a s e = refl
+no_edit Mark a s e = refl
+no_edit Cut a s e = absurd cc
+no_edit Paste a s e = absurd cc
+no_edit DropCut a s e = refl
+no_edit Undo a s e = absurd cc
+no_edit Balance a s e = absurd cc
+no_edit Save a s e = refl
+no_edit Leave a s e = refl
+no_edit Nothing a s e = refl
+
+same_texts : (key : Key) (s : EditorState) → looks_for_lines key ≡ true → (done key s).texts ≡ s.texts
+same_texts LineStart s e = refl
+same_texts LineEnd s e = refl
+same_texts Up s e = refl
+same_texts Down s e = refl
+same_texts (Typed b) s e = absurd cc
+same_texts EraseBefore s e = absurd cc
+same_texts EraseAt s e = absurd cc
+same_texts Left s e = absurd cc
+same_texts Right s e = absurd cc
+same_texts Mark s e = absurd cc
+same_texts Cut s e = absurd cc
+same_texts Paste s e = absurd cc
+same_texts DropCut s e = absurd cc
+same_texts Undo s e = absurd cc
+same_texts Balance s e = absurd cc
+same_texts Save s e = absurd cc
+same_texts Leave s e = absurd cc
+same_texts Nothing s e = absurd cc
+
+-- ---- so it makes no revision, and no text that is too long
+
+nothing : ℕ → ℕ → ℕ
+nothing s p = 0
+
+no_more : (n : ℕ) → n ≡ n + 1 → ⊥
+no_more n e = omega (arith, e)
+
+makes_none : (b : ℕ) (e : Editing) → looks_for_lines (key_of b) ≡ true → MakesRevision b e → ⊥
+makes_none b e looks h = no_more (length e.session.revisions) (sym (ap length (same_texts (key_of b) (state_of nothing e) looks) ∙ count_texts e.session nothing) ∙ h nothing)
+
+stays_short : (b : ℕ) (e : Editing) → IsEditing e → HoldsHistory e.session → looks_for_lines (key_of b) ≡ true → GrowsTooLong b e → ⊥
+stays_short b e is history looks h =
+    let same : length (current (step b (state_of nothing e))) ≡ current_len e = ap (λ (ts : List (List ℕ)). length (get_or ts (length ts - 1) [])) (same_texts (key_of b) (state_of nothing e) looks) ∙ current_count nothing e history in
+    let short : current_len e ≤ longest_text = is.short (last_of e) (omega (arith, is.some)) in
+    let long : longest_text < length (current (step b (state_of nothing e))) = h nothing in
+    omega (arith, same, short, long)
+
+looks_so : (b : ℕ) → looks_for_lines (key_of b) ≡ true → IsTrue (moves_by_lines b)
+looks_so b e = sym (looks_alike b) ∙ e
+
+-- ---- what taking such a key does
+
+taken_is_taken : (f : KeyFault) → IsErrOf {T = Unit {0}} (Ok tt) f → ⊥
+taken_is_taken f e = absurd cc
+
+other_fault : (f : SourceFault) → IsErrOf {T = Unit {0}} (Err (Fault.Source f)) Fault.TooLong → ⊥
+other_fault f e = absurd cc
+
+failed_is_failed : (f : SourceFault) → IsOk {T = Option ℕ} (Err f) → ⊥
+failed_is_failed f e = let same : false ≡ true = e in absurd cc
+
+keeps_itself : (v : SessionValue) → Keeps v v
+keeps_itself v = record { goes_on = goes_on_itself v.held; cells = refl }
+
+moved_state : (source : ℕ → ℕ → ℕ) (st : Stated) (b : ℕ) (old : Editing) (p : ℕ) → IsLinePlace st (key_of b) old p → Agrees st source → EachCurrent old (IsStated st) → state_of source (record old { place = p }) ≡ done (key_of b) (state_of source old)
+moved_state source st b old p h agrees stated =
+    sym (moves_there (key_of b) (state_of source old) p (subst (λ (t : List ℕ). line_place (key_of b) t old.place ≡ Some p) (sym (current_text source old)) (h.is source agrees stated)))
+
+pub moved_takes : {T : Type 0} (stated : T → Stated) (failures : T → ℕ) (b : ℕ) (before now : T) (old new : Editing) (p : ℕ) → IsEditing old → HoldsHistory old.session
+    → IsLinePlace (stated before) (key_of b) old p → new ≡ record old { place = p } → Reads stated failures before now → Takes stated failures b before old (Ok tt) now new
+moved_takes {T} stated failures b before now old new p is history h e reads =
+    subst (λ (x : Editing). Takes stated failures b before old (Ok tt) now x) (sym e) (record {
+      done = λ source agrees told. moved_state source (stated before) b old p h agrees (told (looks_so b h.looks));
+      command = (0, λ source. rw (no_edit (key_of b) 0 (state_of source old) h.looks) (sym (append-nil (edits_of old.session.revisions))));
+      moves = λ _. refl;
+      kept = tt;
+      too_long = ((λ told. absurd (taken_is_taken Fault.TooLong told)), (λ grows. absurd (stays_short b old is history h.looks grows)));
+      too_many = λ makes _ _. absurd (makes_none b old h.looks makes);
+      fault = tt;
+      reads = reads;
+      succeeds = λ _ f told. taken_is_taken (Fault.Source f) told;
+      sources = refl;
+    })
+
+pub failed_takes : {T : Type 0} (stated : T → Stated) (failures : T → ℕ) (b : ℕ) (before now : T) (old : Editing) (f : SourceFault) → IsEditing old → HoldsHistory old.session
+    → looks_for_lines (key_of b) ≡ true → ReadsSpan {X = Option ℕ} stated failures before now (current_cell old) 0 (current_len old) (Err f) → Takes stated failures b before old (Err (Fault.Source f)) now old
+failed_takes stated failures b before now old f is history looks h = record {
+  done = tt;
+  command = tt;
+  moves = tt;
+  kept = record { keeps = keeps_itself old.session; revisions = refl; rest = refl };
+  too_long = ((λ told. absurd (other_fault f told)), (λ grows. absurd (stays_short b old is history looks grows)));
+  too_many = λ makes _ _. absurd (makes_none b old looks makes);
+  fault = (looks_so b looks, h.fault);
+  reads = h.reads;
+  succeeds = λ each _ _. failed_is_failed f (h.succeeds each);
+  sources = refl;
+}
+
+-- ---- and any other key
+
+as_any_fault : {T : Type 0} (stated : T → Stated) (failures : T → ℕ) (before now : T) (b : ℕ) (old : Editing) (f : KeyFault) (new : Editing) → IsPlainFault b old f new → IsKeyFault stated failures before now b old f new
+as_any_fault stated failures before now b old Fault.TooLong new h = h
+as_any_fault stated failures before now b old (Fault.Edit f) new h = h
+as_any_fault stated failures before now b old (Fault.Source f) new h = absurd h
+
+any_fault : {T : Type 0} (stated : T → Stated) (failures : T → ℕ) (before now : T) (b : ℕ) (old new : Editing) (result : Result (Unit {0}) KeyFault) → IfErr result (λ f. IsPlainFault b old f new) → IfErr result (λ f. IsKeyFault stated failures before now b old f new)
+any_fault stated failures before now b old new (Ok u) h = tt
+any_fault stated failures before now b old new (Err f) h = as_any_fault stated failures before now b old f new h
+
+no_source : (b : ℕ) (old new : Editing) (result : Result (Unit {0}) KeyFault) (f : SourceFault) → IfErr result (λ k. IsPlainFault b old k new) → ¬ IsErrOf result (Fault.Source f)
+no_source b old new (Ok u) f h told = taken_is_taken (Fault.Source f) told
+no_source b old new (Err k) f h e = subst (λ (r : Result (Unit {0}) KeyFault). IsPlainFault b old (fault_of r) new) e h
+  where
+    fault_of : Result (Unit {0}) KeyFault → KeyFault
+    fault_of (Ok u) = k
+    fault_of (Err x) = x
+
+on_ok : {E : Type 0} (P Q : Type 0) (result : Result (Unit {0}) E) → (P → Q) → OnOk result P → OnOk result Q
+on_ok P Q (Ok u) f h = f h
+on_ok P Q (Err e) f h = tt
+
+not_by_lines : (b : ℕ) → looks_for_lines (key_of b) ≡ false → IsTrue (moves_by_lines b) → ⊥
+not_by_lines b looks moves = let same : true ≡ false = sym moves ∙ sym (looks_alike b) ∙ looks in absurd cc
+
+on_any : {E : Type 0} (Q : Type 0) (result : Result (Unit {0}) E) → Q → OnOk result Q
+on_any Q (Ok u) q = q
+on_any Q (Err e) q = tt
+
+pub plain_takes : {T : Type 0} (stated : T → Stated) (failures : T → ℕ) (b : ℕ) (before now : T) (old new : Editing) (result : Result (Unit {0}) KeyFault) → looks_for_lines (key_of b) ≡ false
+    → TakesPlain b old result new → Reads stated failures before now → Takes stated failures b before old result now new
+plain_takes {T} stated failures b before now old new result looks h reads = record {
+  done = on_ok _ (DoesStated (stated before) b old new) result (λ does source agrees told. does source) h.done;
+  command = h.command;
+  moves = on_any (IsTrue (moves_by_lines b) → new ≡ record old { place = new.place }) result (λ moves. absurd (not_by_lines b looks moves));
+  kept = h.kept;
+  too_long = h.too_long;
+  too_many = h.too_many;
+  fault = any_fault stated failures before now b old new result h.fault;
+  reads = reads;
+  succeeds = λ each f. no_source b old new result f h.fault;
+  sources = h.sources;
+}

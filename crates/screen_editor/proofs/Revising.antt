@@ -1,0 +1,230 @@
+-- A session that is edited, with one revision more or with a command refused, still keeps to its rules.
+use Rattle.std.proofs.Common.{◌≡◌, ℕ, zero, suc, ◌+◌, ◌-◌, ◌<◌, ◌≤◌, List, [], ◌∷◌, ◌++◌, length, get_or, map, Option, Some, None, Bool, false, Result, Ok, Err, refl, sym, ap, subst, arith, ◌∙◌, inl, inr, IfSome}
+use Rattle.std.specs.Prelude.{slice_get, ◌||◌, ◌==◌, if◌then◌else◌}
+use Rattle.std.proofs.lemmas.Bool.{cases_lt, cases_Bool, le-leb, lt-leb, le-ltb, leb-true, or_from}
+use Rattle.std.proofs.lemmas.List.{length-append, get_or_append_left}
+use Rattle.std.proofs.Math.Seq.{get_or-append_seam}
+use Rattle.std.proofs.Math.Path.{Path}
+use Rattle.std.proofs.lemmas.Option.{same_Some}
+use Rattle.circular_buffer.proofs.Places.{slice_get-append_left, slice_get-append_right}
+use Rattle.leaf_buffer.specs.declared.block.TheConstants.{BLOCK_SIZE}
+use Rattle.rope_node.specs.declared.limits.TheConstants.{TEXT_LIMIT}
+use Rattle.edit_commands.specs.declared.command.Command.{Command}
+use Rattle.edit_commands.specs.declared.command.Command.TheVariants.{New, Open, Insert, Delete, Replace, Paste, Join, Cut, Fill, Back, Balance}
+use Rattle.edit_commands.specs.declared.fault.EditFault.{EditFault}
+use Rattle.edit_commands.specs.declared.fault.EditFault.TheVariants as Edit
+use Rattle.edit_commands.specs.declared.revision.Revision.{Revision}
+use Rattle.edit_commands.specs.declared.session.TheConstants.{MOST_REVISIONS}
+use Rattle.edit_commands.specs.Applying.{Applies, AppliesOrNot, IsLaterFault, Keeps}
+use Rattle.edit_commands.specs.Refusals.{bytes_of, is_empty_text, is_full, is_out_of_range, is_too_long, names_no_revision, names_no_source, refusal_of, result_len}
+use Rattle.edit_commands.specs.Session.{SessionValue, HoldsHistory, IsSession, length_at, texts_of}
+use Rattle.screen_editor.specs.declared.cut_span.CutSpan.{CutSpan}
+use Rattle.screen_editor.specs.declared.fault.KeyFault.TheVariants as Fault
+use Rattle.screen_editor.specs.Editing.{Editing, IsCutSpan, IsEditing, longest_text}
+use Rattle.screen_editor.specs.Taking.{IsInOrder, IsReviseFault}
+use Rattle.screen_editor.proofs.NewTexts.{count_texts, given_len, text_given, text_len, texts_more}
+
+no_source : ℕ → ℕ → ℕ
+no_source s p = 0
+
+-- ---- one revision more
+
+-- an earlier revision's prior is as it was, and the new one's is the one given
+earlier_after : (ps : List (Option ℕ)) (prior : Option ℕ) → ((k j : ℕ) → slice_get ps k ≡ Some (Some j) → j < k) → IfSome prior (λ j. j < length ps)
+    → (k j : ℕ) → slice_get (ps ++ prior ∷ []) k ≡ Some (Some j) → j < k
+earlier_after ps prior earlier given k j e = elim (cases_lt k (length ps)) [
+  | inl lt ↦ earlier k j (sym (slice_get-append_left ps (prior ∷ []) k lt) ∙ e)
+  | inr ge ↦ last (k - length ps) prior given (sym (slice_get-append_right ps (prior ∷ []) k (k - length ps) (omega (arith, ge))) ∙ e) ge
+]
+  where
+    last : (i : ℕ) (o : Option ℕ) → IfSome o (λ j. j < length ps) → slice_get (o ∷ []) i ≡ Some (Some j) → length ps ≤ k → j < k
+    last zero None given e ge = absurd cc
+    last zero (Some i) given e ge = let same : i ≡ j = same_Some i j (same_Some (Some i) (Some j) e) in omega (arith, given, same, ge)
+    last (suc i) o given e ge = absurd cc
+
+-- the cut spans lie where they did, where earlier texts are as long as they were
+cut_kept : (old new : SessionValue) → length old.revisions ≤ length new.revisions → ((k : ℕ) → k < length old.revisions → length_at new k ≡ length_at old k) → (c : CutSpan) → IsCutSpan old c → IsCutSpan new c
+cut_kept old new more same c h = let within = h.revision in record {
+  revision = omega (arith, within, more);
+  inside = rw (same c.revision within) h.inside;
+  some = h.some;
+}
+
+-- the lengths with one revision more
+pub record LengthsMore (old : SessionValue) (n : ℕ) (new : SessionValue) : Type 0 where
+  pub count : length new.revisions ≡ length old.revisions + 1
+  pub earlier : (k : ℕ) → k < length old.revisions → length_at new k ≡ length_at old k
+  pub last : length_at new (length old.revisions) ≡ n
+
+pub lengths_more : (old : SessionValue) (command : Command) (new : SessionValue) → HoldsHistory old → HoldsHistory new → IsInOrder old command → Applies old command (length old.revisions) new → LengthsMore old (result_len old command) new
+lengths_more old command new h k o a =
+    let texts = texts_of no_source old in
+    let more = texts_more old command new o a no_source in
+    let there = count_texts old no_source in
+    let given = text_given texts command in
+    let at : (i : ℕ) → length_at new i ≡ length (get_or (texts ++ given ∷ []) i []) = λ i. sym (text_len new k no_source i) ∙ ap (λ (ts : List (List ℕ)). length (get_or ts i [])) more in
+    record {
+      count = ap length a.revisions ∙ length-append old.revisions (a.made ∷ []);
+      earlier = λ i lt. at i ∙ ap length (get_or_append_left texts (given ∷ []) [] i (omega (arith, lt, there))) ∙ text_len old h no_source i;
+      last = at (length old.revisions) ∙ ap (λ n. length (get_or (texts ++ given ∷ []) n [])) (sym there) ∙ ap length (get_or-append_seam texts given [] []) ∙ given_len old h no_source command o;
+    }
+
+abbrev pub with_revision : Editing → SessionValue → Option ℕ → ℕ → Editing
+with_revision old session prior q = record old { session = session; priors = old.priors ++ prior ∷ []; place = q; mark = None }
+
+pub revised_kept : (old : Editing) (prior : Option ℕ) (q n : ℕ) (session : SessionValue) → IsEditing old → IsSession session → LengthsMore old.session n session
+    → n ≤ longest_text → q ≤ n → IfSome prior (λ j. j < length old.session.revisions) → IsEditing (with_revision old session prior q)
+revised_kept old prior q n session e s l short place given =
+    let count = l.count in
+    let last : length session.revisions - 1 ≡ length old.session.revisions = omega (arith, count) in
+    let len : length_at session (length session.revisions - 1) ≡ n = ap (length_at session) last ∙ l.last in
+    record {
+      session = s;
+      some = omega (arith, count);
+      priors = length-append old.priors (prior ∷ []) ∙ ap (λ n. n + 1) e.priors ∙ sym count;
+      earlier = earlier_after old.priors prior e.earlier (subst (λ n. IfSome prior (λ j. j < n)) (sym e.priors) given);
+      short = λ k lt. elim (cases_lt k (length old.session.revisions)) [
+        | inl before ↦ subst (λ m. m ≤ longest_text) (sym (l.earlier k before)) (e.short k before)
+        | inr ge ↦ let same : length old.session.revisions ≡ k = omega (arith, ge, lt, count) in subst (λ m. m ≤ longest_text) (sym l.last ∙ ap (length_at session) same) short
+      ];
+      place = subst (λ m. q ≤ m) (sym len) place;
+      mark = tt;
+      few_cuts = e.few_cuts;
+      cuts = λ i d lt. cut_kept old.session session (omega (arith, count)) l.earlier (get_or old.cuts i d) (e.cuts i d lt);
+    }
+
+-- ---- refused
+
+pub refused_kept : (old : Editing) (session : SessionValue) → IsEditing old → HoldsHistory old.session → Keeps old.session session → session.revisions ≡ old.session.revisions → IsSession session → HoldsHistory session
+    → IsEditing (record old { session = session })
+refused_kept old session e h keeps same s k =
+    let count : length session.revisions ≡ length old.session.revisions = ap length same in
+    let texts : texts_of no_source session ≡ texts_of no_source old.session = same_texts in
+    let at : (i : ℕ) → length_at session i ≡ length_at old.session i = λ i. sym (text_len session k no_source i) ∙ ap (λ (ts : List (List ℕ)). length (get_or ts i [])) texts ∙ text_len old.session h no_source i in
+    let len : length_at session (length session.revisions - 1) ≡ length_at old.session (length old.session.revisions - 1) = at (length session.revisions - 1) ∙ ap (λ n. length_at old.session (n - 1)) count in
+    record {
+      session = s;
+      some = omega (arith, count, e.some);
+      priors = e.priors ∙ sym count;
+      earlier = e.earlier;
+      short = λ i lt. subst (λ m. m ≤ longest_text) (sym (at i)) (e.short i (omega (arith, lt, count)));
+      place = subst (λ m. old.place ≤ m) (sym len) e.place;
+      mark = subst (λ n. IfSome old.mark (λ m. m ≤ n)) (sym len) e.mark;
+      few_cuts = e.few_cuts;
+      cuts = λ i d lt. cut_kept old.session session (omega (arith, count)) (λ j lt. at j) (get_or old.cuts i d) (e.cuts i d lt);
+    }
+  where
+    same_texts : texts_of no_source session ≡ texts_of no_source old.session
+    same_texts = ap (λ (rs : List Revision). texts_of no_source (record { held = session.held; revisions = rs })) same ∙ ap (map (Rattle.rope_node.specs.Denotes.text no_source)) keeps.cells
+
+-- a command in order has no reason of its own to be refused
+record HasNoReason (v : SessionValue) (command : Command) : Type 0 where
+  named : names_no_revision v command ≡ false
+  sourced : names_no_source v command ≡ false
+  inside : is_out_of_range v command ≡ false
+  some : is_empty_text (bytes_of command) ≡ false
+  short : is_too_long v command ≡ false
+
+one_test : (b : Bool) → b ≡ false → (b || false) ≡ false
+one_test b e = or_from b false e refl
+
+two_tests : (a b : Bool) → a ≡ false → b ≡ false → (a || (b || false)) ≡ false
+two_tests a b e f = or_from a (b || false) e (one_test b f)
+
+no_reason : (v : SessionValue) (command : Command) → IsInOrder v command → result_len v command ≤ longest_text → HasNoReason v command
+no_reason v New o short = absurd o
+no_reason v (Open s) o short = absurd o
+no_reason v (Insert r p bytes) o short = record {
+  named = one_test _ (lt-leb (length v.revisions) r o.0);
+  sourced = refl;
+  inside = one_test _ (le-ltb (length_at v r) p o.1);
+  some = ap (λ n. n == 0) o.2;
+  short = or_from _ _ (lt-leb TEXT_LIMIT (length_at v r + length bytes.now) (omega (arith, short))) (le-ltb BLOCK_SIZE (length bytes.now) (omega (arith, o.2)));
+}
+no_reason v (Delete r p n) o short = record {
+  named = one_test _ (lt-leb (length v.revisions) r o.0);
+  sourced = refl;
+  inside = one_test _ (le-ltb (length_at v r) (p + n) o.1);
+  some = refl;
+  short = one_test _ (lt-leb TEXT_LIMIT (length_at v r - n) (omega (arith, short)));
+}
+no_reason v (Replace r p m bytes) o short = absurd o
+no_reason v (Paste r p q i n) o short = record {
+  named = two_tests _ _ (lt-leb (length v.revisions) r o.0) (lt-leb (length v.revisions) q o.2);
+  sourced = refl;
+  inside = two_tests _ _ (le-ltb (length_at v r) p o.1) (le-ltb (length_at v q) (i + n) o.3);
+  some = refl;
+  short = one_test _ (lt-leb TEXT_LIMIT (length_at v r + n) (omega (arith, short)));
+}
+no_reason v (Join r q) o short = absurd o
+no_reason v (Cut r i n) o short = absurd o
+no_reason v (Fill r p c n) o short = absurd o
+no_reason v (Back r) o short = record {
+  named = one_test _ (lt-leb (length v.revisions) r o);
+  sourced = refl;
+  inside = one_test _ (le-ltb (length_at v r) 0 (omega arith));
+  some = refl;
+  short = one_test _ (lt-leb TEXT_LIMIT (length_at v r) (omega (arith, short)));
+}
+no_reason v (Balance r) o short = record {
+  named = one_test _ (lt-leb (length v.revisions) r o);
+  sourced = refl;
+  inside = one_test _ (le-ltb (length_at v r) 0 (omega arith));
+  some = refl;
+  short = one_test _ (lt-leb TEXT_LIMIT (length_at v r) (omega (arith, short)));
+}
+
+refusal_without : (v : SessionValue) (command : Command) → HasNoReason v command → refusal_of v command ≡ (if is_full v then Some Edit.TooManyRevisions else None)
+refusal_without v command h = rw (h.named, h.sourced, h.inside, h.some, h.short) refl
+
+is_later : (old : Editing) (command : Command) (f : EditFault) (new : Editing) → IsLaterFault old.session.held old.session.revisions command f new.session.held → IsReviseFault command old (Fault.Edit f) new
+is_later old command Edit.NoRevision new h = h
+is_later old command Edit.NoSource new h = h
+is_later old command Edit.Range new h = h
+is_later old command Edit.EmptyText new h = h
+is_later old command Edit.TooManyRevisions new h = absurd h
+is_later old command Edit.TooManyRows new h = h
+is_later old command (Edit.Node n) new h = h
+is_later old command Edit.TooManyPieces new h = h
+is_later old command Edit.Memory new h = tt
+
+-- a command in order is refused at once only where there are too many revisions
+pub fault_in_order : (old : Editing) (command : Command) (f : EditFault) (new : Editing) → IsInOrder old.session command → result_len old.session command ≤ longest_text
+    → AppliesOrNot old.session command (Err f) new.session → IsReviseFault command old (Fault.Edit f) new
+fault_in_order old command f new o short a = elim (cases_Bool (is_full old.session)) [
+  | inl full ↦
+      let refusal : refusal_of old.session command ≡ Some Edit.TooManyRevisions = refused ∙ ap (λ (b : Bool). if b then Some Edit.TooManyRevisions else None) full in
+      let same : f ≡ Edit.TooManyRevisions = same_fault f Edit.TooManyRevisions (a.refused Edit.TooManyRevisions refusal).0 in
+      subst (λ g. IsReviseFault command old (Fault.Edit g) new) (sym same) (leb-true MOST_REVISIONS (length old.session.revisions) full)
+  | inr free ↦
+      let refusal : refusal_of old.session command ≡ None = refused ∙ ap (λ (b : Bool). if b then Some Edit.TooManyRevisions else None) free in
+      is_later old command f new (a.later refusal)
+]
+  where
+    refused : refusal_of old.session command ≡ (if is_full old.session then Some Edit.TooManyRevisions else None)
+    refused = refusal_without old.session command (no_reason old.session command o short)
+
+    same_fault : (f g : EditFault) → Path (Result ℕ EditFault) (Err f) (Err g) → f ≡ g
+    same_fault f g e = cc
+
+pub full_in_order : (old : Editing) (command : Command) (result : Result ℕ EditFault) (session : SessionValue) → IsInOrder old.session command → result_len old.session command ≤ longest_text
+    → AppliesOrNot old.session command result session → MOST_REVISIONS ≤ length old.session.revisions → result ≡ Err Edit.TooManyRevisions
+full_in_order old command result session o short a full =
+    let refused = refusal_without old.session command (no_reason old.session command o short) in
+    let refusal : refusal_of old.session command ≡ Some Edit.TooManyRevisions = refused ∙ ap (λ (b : Bool). if b then Some Edit.TooManyRevisions else None) (le-leb MOST_REVISIONS (length old.session.revisions) full) in
+    (a.refused Edit.TooManyRevisions refusal).0
+
+-- ---- by the session's answer
+
+pub after_fault : (old : Editing) (command : Command) (f : EditFault) (session : SessionValue) → IsEditing old → HoldsHistory old.session → AppliesOrNot old.session command (Err f) session → IsSession session → HoldsHistory session
+    → IsEditing (record old { session = session })
+after_fault old command f session e h a s k = refused_kept old session e h a.kept.0 a.kept.1 s k
+
+pub applied_number : (old : SessionValue) (command : Command) (k : ℕ) (new : SessionValue) → Applies old command k new → Applies old command (length old.revisions) new
+applied_number old command k new a = subst (λ n. Applies old command n new) a.number a
+
+pub after_revision : (old : Editing) (command : Command) (k : ℕ) (prior : Option ℕ) (q : ℕ) (session : SessionValue) → IsEditing old → HoldsHistory old.session → AppliesOrNot old.session command (Ok k) session → IsSession session → HoldsHistory session
+    → IsInOrder old.session command → result_len old.session command ≤ longest_text → q ≤ result_len old.session command → IfSome prior (λ j. j < length old.session.revisions)
+    → IsEditing (with_revision old session prior q)
+after_revision old command k prior q session e h a s history o short place given =
+    revised_kept old prior q (result_len old.session command) session e s (lengths_more old.session command session h history o (applied_number old.session command k session a.made)) short place given

@@ -1,0 +1,187 @@
+-- A key that is taken, and the message behind it.
+use Rattle.std.proofs.Common.{◌≡◌, ℕ, List, map, Result, Ok, Err, Option, Some, None, true, false, ◌⊎◌, inl, inr, refl, sym, ap, subst, ◌∙◌}
+use Rattle.std.specs.Prelude.{IsTrue, IsErrOf}
+use Rattle.rope_node.specs.Denotes.{text}
+use Rattle.lazy_file.specs.SourceTexts.{Stated}
+use Rattle.edit_commands.specs.declared.fault.EditFault.{EditFault}
+use Rattle.edit_commands.specs.declared.fault.EditFault.TheVariants as Edit
+use Rattle.edit_commands.specs.declared.revision.Revision.{Revision}
+use Rattle.edit_commands.specs.Session.{cells_of, texts_of}
+use Rattle.screen_editor.specs.declared.fault.KeyFault.{KeyFault}
+use Rattle.screen_editor.specs.declared.fault.KeyFault.TheVariants as Fault
+use Rattle.screen_editor.specs.declared.key.Key.{Key}
+use Rattle.screen_editor.specs.declared.key.Key.TheVariants.{Typed, EraseBefore, EraseAt, Left, Right, LineStart, LineEnd, Up, Down, Mark, Cut, Paste, DropCut, Undo, Balance, Save, Leave, Nothing}
+use Rattle.screen_editor.specs.declared.key.Step.{Step}
+use Rattle.screen_editor.specs.Editing.{Editing, key_code, state_of}
+use Rattle.screen_editor.specs.Keys.{key_of, moves_by_lines}
+use Rattle.screen_editor.specs.LineKeys.{Takes, answer_to, looks_for_lines}
+use Rattle.screen_editor.specs.Machine.{done, message_after, step}
+use Rattle.screen_editor.specs.Refusals.{IsEditFault, IsKeyFault, WasRefused}
+use Rattle.screen_editor.specs.Revising.{IsRefusedBy, IsStep, KeepsAll, TakesKey}
+use Rattle.screen_editor.specs.State.{EditorState}
+use Rattle.screen_editor.proofs.KeyKinds.{answers_alike, looks_alike}
+
+-- ---- the message of a key
+
+abbrev step_with : Key → EditorState → EditorState
+step_with key s = record (done key s) { message = message_after key s.message }
+
+-- Save and Leave keep it
+pub saves : (key : Key) → key ≡ Save → answer_to key ≡ Step.Save
+saves key e = subst (λ (k : Key). answer_to k ≡ Step.Save) (sym e) refl
+
+pub leaves : (key : Key) → key ≡ Leave → answer_to key ≡ Step.Leave
+leaves key e = subst (λ (k : Key). answer_to k ≡ Step.Leave) (sym e) refl
+
+-- each other key clears it
+cleared : (key : Key) (m : Option (List ℕ)) → answer_to key ≡ Step.Going → message_after key m ≡ None
+cleared (Typed b) m e = refl
+cleared EraseBefore m e = refl
+cleared EraseAt m e = refl
+cleared Left m e = refl
+cleared Right m e = refl
+cleared LineStart m e = refl
+cleared LineEnd m e = refl
+cleared Up m e = refl
+cleared Down m e = refl
+cleared Mark m e = refl
+cleared Cut m e = refl
+cleared Paste m e = refl
+cleared DropCut m e = refl
+cleared Undo m e = refl
+cleared Balance m e = refl
+cleared Save m e = absurd cc
+cleared Leave m e = absurd cc
+cleared Nothing m e = refl
+
+pub goes_on : (key : Key) → ((key ≡ Save) → ⊥) → ((key ≡ Leave) → ⊥) → answer_to key ≡ Step.Going
+goes_on (Typed b) h k = refl
+goes_on EraseBefore h k = refl
+goes_on EraseAt h k = refl
+goes_on Left h k = refl
+goes_on Right h k = refl
+goes_on LineStart h k = refl
+goes_on LineEnd h k = refl
+goes_on Up h k = refl
+goes_on Down h k = refl
+goes_on Mark h k = refl
+goes_on Cut h k = refl
+goes_on Paste h k = refl
+goes_on DropCut h k = refl
+goes_on Undo h k = refl
+goes_on Balance h k = refl
+goes_on Save h k = absurd (h refl)
+goes_on Leave h k = absurd (k refl)
+goes_on Nothing h k = refl
+
+-- ---- the same fault of another call
+
+abbrev fault_or : {T : Type 0} → KeyFault → Result T KeyFault → KeyFault
+fault_or f (Ok x) = f
+fault_or f (Err e) = e
+
+same_fault : {A B : Type 0} (f g : KeyFault) → IsErrOf {T = A} (Err f) g → IsErrOf {T = B} (Err f) g
+same_fault f g e = ap (λ (x : KeyFault). Err x) (ap (fault_or f) e)
+
+no_fault : {A : Type 0} (x : A) (g : KeyFault) → IsErrOf (Ok x) g → ⊥
+no_fault x g e = absurd cc
+
+-- ---- the message alone is new
+
+met_alike : (b : ℕ) (old : Editing) (f : EditFault) (new : Editing) (m : Option KeyFault) → WasRefused b old f new → WasRefused b old f (record new { message = m })
+met_alike b old f new m h = record { command = h.command; is = h.is; met = h.met }
+
+edit_fault_alike : (b : ℕ) (old : Editing) (f : EditFault) (new : Editing) (m : Option KeyFault) → IsEditFault b old f new → IsEditFault b old f (record new { message = m })
+edit_fault_alike b old Edit.TooManyRevisions new m h = h
+edit_fault_alike b old Edit.Memory new m h = h
+edit_fault_alike b old Edit.NoRevision new m h = met_alike b old Edit.NoRevision new m h
+edit_fault_alike b old Edit.NoSource new m h = met_alike b old Edit.NoSource new m h
+edit_fault_alike b old Edit.Range new m h = met_alike b old Edit.Range new m h
+edit_fault_alike b old Edit.EmptyText new m h = met_alike b old Edit.EmptyText new m h
+edit_fault_alike b old Edit.TooManyRows new m h = met_alike b old Edit.TooManyRows new m h
+edit_fault_alike b old (Edit.Node f) new m h = met_alike b old (Edit.Node f) new m h
+edit_fault_alike b old Edit.TooManyPieces new m h = met_alike b old Edit.TooManyPieces new m h
+
+fault_alike : {T : Type 0} (stated : T → Stated) (failures : T → ℕ) (before now : T) (b : ℕ) (old : Editing) (f : KeyFault) (new : Editing) (m : Option KeyFault) → IsKeyFault stated failures before now b old f new → IsKeyFault stated failures before now b old f (record new { message = m })
+fault_alike stated failures before now b old Fault.TooLong new m h = h
+fault_alike stated failures before now b old (Fault.Edit f) new m h = (h.0, edit_fault_alike b old f new m h.1)
+fault_alike stated failures before now b old (Fault.Source f) new m h = h
+
+kept_texts : (old new : Editing) → KeepsAll old new → (source : ℕ → ℕ → ℕ) → texts_of source new.session ≡ texts_of source old.session
+kept_texts old new h source = ap (map (text source)) (ap (λ (rs : List Revision). cells_of (record { held = new.session.held; revisions = rs })) h.revisions ∙ h.keeps.cells)
+
+with_texts : Editing → KeyFault → List (List ℕ) → EditorState
+with_texts old f ts = record { texts = ts; priors = old.priors; place = old.place; mark = old.mark; cuts = old.cuts; message = Some (key_code f) }
+
+is_refused : (f : KeyFault) (old new : Editing) → KeepsAll old new → IsRefusedBy f old (record new { message = Some f })
+unfolding with_texts
+is_refused f old new h = record {
+  state = λ source. ap (λ (e : Editing). state_of source (record e { message = Some f })) h.rest ∙ ap (with_texts old f) (kept_texts old new h source);
+  keeps = h.keeps;
+  revisions = h.revisions;
+  rest = ap (λ (e : Editing). record e { message = Some f }) h.rest;
+}
+
+pub refused_told : {T : Type 0} (stated : T → Stated) (failures : T → ℕ) (b : ℕ) (before now : T) (old new told : Editing) (f : KeyFault) → Takes stated failures b before old (Err f) now new → told ≡ record new { message = Some f }
+    → TakesKey stated failures b (record { sources = before; editing = old }) (Err f) (record { sources = now; editing = told })
+refused_told {T} stated failures b before now old new told f h e =
+    subst (λ (x : Editing). TakesKey stated failures b (record { sources = before; editing = old }) (Err f) (record { sources = now; editing = x })) (sym e) (record {
+      step = tt;
+      answer = tt;
+      refused = is_refused f old new h.kept;
+      too_long = ((λ is. h.too_long.0 (same_fault f Fault.TooLong is)), (λ grows. same_fault f Fault.TooLong (h.too_long.1 grows)));
+      too_many = λ makes short many. elim (h.too_many makes (λ is. short (same_fault f Fault.TooLong is)) many) [
+        | inl is ↦ inl (same_fault f (Fault.Edit Edit.TooManyRevisions) is)
+        | inr is ↦ inr (same_fault f (Fault.Edit Edit.Memory) is)
+      ];
+      fault = fault_alike stated failures before now b old f new (Some f) h.fault;
+      reads = h.reads;
+      succeeds = λ each k is. h.succeeds each k (same_fault f (Fault.Source k) is);
+    })
+
+-- ---- a key that was taken
+
+taken_key : {T : Type 0} (stated : T → Stated) (failures : T → ℕ) (b : ℕ) (before now : T) (old new told : Editing) (answer : Step) → Takes stated failures b before old (Ok tt) now new
+    → answer_to (key_of b) ≡ answer → IsStep (stated before) b old told → TakesKey stated failures b (record { sources = before; editing = old }) (Ok answer) (record { sources = now; editing = told })
+taken_key {T} stated failures b before now old new told answer h is step = record {
+  step = step;
+  answer = sym is ∙ answers_alike b;
+  refused = tt;
+  too_long = ((λ no_such. absurd (no_fault answer Fault.TooLong no_such)), (λ grows. absurd (no_fault tt Fault.TooLong (h.too_long.1 grows))));
+  too_many = λ makes short many. elim (h.too_many makes (λ no_such. no_fault tt Fault.TooLong no_such) many) [
+    | inl no_such ↦ absurd (no_fault tt (Fault.Edit Edit.TooManyRevisions) no_such)
+    | inr no_such ↦ absurd (no_fault tt (Fault.Edit Edit.Memory) no_such)
+  ];
+  fault = tt;
+  reads = h.reads;
+  succeeds = λ each k no_such. no_fault answer (Fault.Source k) no_such;
+}
+
+-- one that clears the message
+pub going_told : {T : Type 0} (stated : T → Stated) (failures : T → ℕ) (b : ℕ) (before now : T) (old new told : Editing) → Takes stated failures b before old (Ok tt) now new
+    → answer_to (key_of b) ≡ Step.Going → told ≡ record new { message = None } → TakesKey stated failures b (record { sources = before; editing = old }) (Ok Step.Going) (record { sources = now; editing = told })
+going_told {T} stated failures b before now old new told h is e =
+    taken_key stated failures b before now old new told Step.Going h is
+    (subst (λ (x : Editing). IsStep (stated before) b old x) (sym e) (record {
+      state = λ source agrees whole. ap (λ (s : EditorState). record s { message = None }) (h.done source agrees whole) ∙ ap (λ (m : Option (List ℕ)). record (done (key_of b) (state_of source old)) { message = m }) (sym (cleared (key_of b) (state_of source old).message is));
+      command = h.command;
+      moves = λ by_lines. ap (λ (x : Editing). record x { message = None }) (h.moves by_lines);
+    }))
+
+-- Save and Leave, which do nothing and keep it
+does_nothing : (key : Key) (s : EditorState) → (key ≡ Save) ⊎ (key ≡ Leave) → done key s ≡ step_with key s
+does_nothing key s (inl e) = subst (λ (k : Key). done k s ≡ step_with k s) (sym e) refl
+does_nothing key s (inr e) = subst (λ (k : Key). done k s ≡ step_with k s) (sym e) refl
+
+looks_for_none : (b : ℕ) → (key_of b ≡ Save) ⊎ (key_of b ≡ Leave) → IsTrue (moves_by_lines b) → ⊥
+looks_for_none b (inl e) h = let same : false ≡ true = ap looks_for_lines (sym e) ∙ looks_alike b ∙ h in absurd cc
+looks_for_none b (inr e) h = let same : false ≡ true = ap looks_for_lines (sym e) ∙ looks_alike b ∙ h in absurd cc
+
+pub ending_told : {T : Type 0} (stated : T → Stated) (failures : T → ℕ) (b : ℕ) (before now : T) (old new : Editing) (answer : Step) → Takes stated failures b before old (Ok tt) now new
+    → answer_to (key_of b) ≡ answer → (key_of b ≡ Save) ⊎ (key_of b ≡ Leave) → TakesKey stated failures b (record { sources = before; editing = old }) (Ok answer) (record { sources = now; editing = new })
+ending_told {T} stated failures b before now old new answer h is ends =
+    taken_key stated failures b before now old new new answer h is (record {
+      state = λ source agrees whole. h.done source agrees whole ∙ does_nothing (key_of b) (state_of source old) ends;
+      command = h.command;
+      moves = λ by_lines. absurd (looks_for_none b ends by_lines);
+    })

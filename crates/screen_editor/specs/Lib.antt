@@ -1,0 +1,14 @@
+pub mod Keys
+pub mod Lines
+pub mod State
+pub mod Machine
+pub mod Frame
+pub mod Editing
+pub mod Revising
+pub mod Refusals
+pub mod Taking
+pub mod Opening
+pub mod LineKeys
+pub mod Runs
+pub mod Turns
+pub mod Rows

@@ -1,0 +1,18 @@
+-- The session that an editor begins with.
+use Rattle.std.specs.Prelude.{◌≡◌, ℕ, ◌≤◌, List, [], ◌∷◌, length}
+use Rattle.edit_commands.specs.declared.command.Command.{Command}
+use Rattle.edit_commands.specs.declared.command.Command.TheVariants.{New, Open}
+use Rattle.edit_commands.specs.Session.{SessionValue, length_at, texts_of}
+use Rattle.screen_editor.specs.Editing.{longest_text}
+use Rattle.screen_editor.specs.Revising.{first_text}
+
+abbrev pub first_command : List ℕ → Command
+first_command [] = New
+first_command (n ∷ sizes) = Open 0
+
+-- it has these sources, and one revision, of the first text, whatever bytes the sources have
+pub record IsFirst (sizes : List ℕ) (v : SessionValue) : Type 0 where
+  pub sources : v.held.sources ≡ sizes
+  pub one : length v.revisions ≡ 1
+  pub text : (source : ℕ → ℕ → ℕ) → texts_of source v ≡ first_text source sizes ∷ []
+  pub short : length_at v 0 ≤ longest_text

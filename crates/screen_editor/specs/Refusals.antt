@@ -1,0 +1,82 @@
+-- Why a key is refused, why there is no frame, and why there is no editor.
+use Rattle.std.specs.Prelude.{◌≡◌, ℕ, ◌+◌, ◌≤◌, ◌<◌, IsTrue, length, get_or, Some, Result, IfErr, IsErrOf}
+use Rattle.rope_node.specs.Denotes.{Cell}
+use Rattle.lazy_file.specs.SourceTexts.{Reads, Stated}
+use Rattle.lazy_file.specs.declared.faults.SourceFault.{SourceFault}
+use Rattle.cord_position.specs.Fetched.{EachCell, IsFaultIn, IsReadable}
+use Rattle.edit_commands.specs.declared.command.Command.{Command}
+use Rattle.edit_commands.specs.declared.fault.EditFault.{EditFault}
+use Rattle.edit_commands.specs.declared.fault.EditFault.TheVariants as Edit
+use Rattle.edit_commands.specs.declared.session.TheConstants.{MOST_REVISIONS}
+use Rattle.edit_commands.specs.Applying.{IsLaterFault}
+use Rattle.edit_commands.specs.Building.{edit_with}
+use Rattle.screen_editor.specs.declared.fault.EditorFault.{EditorFault}
+use Rattle.screen_editor.specs.declared.fault.EditorFault.TheVariants as New
+use Rattle.screen_editor.specs.declared.fault.FrameFault.{FrameFault}
+use Rattle.screen_editor.specs.declared.fault.FrameFault.TheVariants as Frame
+use Rattle.screen_editor.specs.declared.fault.KeyFault.{KeyFault}
+use Rattle.screen_editor.specs.declared.fault.KeyFault.TheVariants as Key
+use Rattle.screen_editor.specs.Editing.{Editing, current_cell, current_len, longest_text, state_of}
+use Rattle.screen_editor.specs.Keys.{key_of, moves_by_lines}
+use Rattle.screen_editor.specs.Machine.{edit_of, step}
+
+-- the key makes a revision
+abbrev pub MakesRevision : ℕ → Editing → Type 0
+MakesRevision b e = (source : ℕ → ℕ → ℕ) → length (step b (state_of source e)).texts ≡ length e.session.revisions + 1
+
+-- the command that a key hands to the session; its edit is the key's, with its bytes at this place of the pool
+pub record IsCommandOf (b : ℕ) (e : Editing) (command : Command) : Type 0 where
+  pub place : ℕ
+  pub edit : (source : ℕ → ℕ → ℕ) → edit_of place (key_of b) (state_of source e) ≡ Some (edit_with place command)
+
+-- the session's call met this on the way
+pub record WasRefused (b : ℕ) (old : Editing) (fault : EditFault) (new : Editing) : Type 0 where
+  pub command : Command
+  pub is : IsCommandOf b old command
+  pub met : IsLaterFault old.session.held old.session.revisions command fault new.session.held
+
+-- there are too many revisions, the session's call met a limit, or memory was refused, to it or to the new revision's prior
+abbrev pub IsEditFault : ℕ → Editing → EditFault → Editing → Type 0
+IsEditFault b old Edit.TooManyRevisions new = MOST_REVISIONS ≤ length old.session.revisions
+IsEditFault b old Edit.Memory new = Unit {0}
+IsEditFault b old fault new = WasRefused b old fault new
+
+-- a source's fault is one at the current text's cells; where a text is too long, the call says itself
+abbrev pub IsKeyFault : {T : Type 0} → (T → Stated) → (T → ℕ) → T → T → ℕ → Editing → KeyFault → Editing → Type 0
+IsKeyFault stated failures before now b old Key.TooLong new = MakesRevision b old
+IsKeyFault stated failures before now b old (Key.Edit fault) new = MakesRevision b old × IsEditFault b old fault new
+IsKeyFault stated failures before now b old (Key.Source fault) new =
+    IsTrue (moves_by_lines b) × IsFaultIn stated failures before now (current_cell old) 0 (current_len old) fault
+
+-- a source's fault is one at these cells
+abbrev pub IsFrameFaultAt : {T : Type 0} → (T → Stated) → (T → ℕ) → T → T → (ℕ → Cell) → ℕ → FrameFault → Type 0
+IsFrameFaultAt stated failures old new cell len (Frame.Source fault) = IsFaultIn stated failures old new cell 0 len fault
+IsFrameFaultAt stated failures old new cell len Frame.Memory = Unit {0}
+
+abbrev pub IsFrameFault : {T : Type 0} → (T → Stated) → (T → ℕ) → T → T → Editing → FrameFault → Type 0
+IsFrameFault stated failures before now e fault = IsFrameFaultAt stated failures before now (current_cell e) (current_len e) fault
+
+-- what a call that may read these cells, and takes memory, does to the sources, and when it fails
+pub record ReadsToShow {T X : Type 0} (stated : T → Stated) (failures : T → ℕ) (old new : T) (cell : ℕ → Cell) (len : ℕ)
+    (outcome : Result X FrameFault) : Type 0 where
+  pub reads : Reads stated failures old new
+  pub fault : IfErr outcome (IsFrameFaultAt stated failures old new cell len)
+  pub succeeds : EachCell cell 0 len (IsReadable (stated old)) → (f : SourceFault) → ¬ IsErrOf outcome (Frame.Source f)
+
+-- the first source is too long
+abbrev pub IsTooLong : Stated → Type 0
+IsTooLong st = longest_text < get_or st.sizes 0 0
+
+-- a first revision is in range and short, so the session has none of these reasons to refuse it
+abbrev pub IsStartFault : EditFault → Type 0
+IsStartFault Edit.NoRevision = ⊥
+IsStartFault Edit.NoSource = ⊥
+IsStartFault Edit.Range = ⊥
+IsStartFault Edit.EmptyText = ⊥
+IsStartFault Edit.TooManyRevisions = ⊥
+IsStartFault fault = Unit {0}
+
+abbrev pub IsNewFault : Stated → EditorFault → Type 0
+IsNewFault st New.TooLong = IsTooLong st
+IsNewFault st (New.Edit fault) = IsStartFault fault
+IsNewFault st New.Memory = Unit {0}

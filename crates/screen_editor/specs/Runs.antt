@@ -1,0 +1,85 @@
+-- What a run takes, shows and answers.
+use Rattle.std.specs.Prelude.{◌≡◌, ◌⊎◌, ℕ, ◌≤◌, false, List, [], ◌∷◌, ◌++◌, length, take, slice_get, All, Option, Some, Result, Ok, Err, IfOk, IfErr, IsErrOf}
+use Rattle.std.specs.Global.{Vec}
+use Rattle.std.specs.List.{flat_map, list_any}
+use Rattle.std.specs.Io.KnownBytes.{Appends, Consumes, IsAtEnd}
+use Rattle.lazy_file.specs.SourceTexts.{Agrees, Reads, Stated}
+use Rattle.lazy_file.specs.declared.faults.SourceFault.{SourceFault}
+use Rattle.cord_position.specs.Fetched.{IsReadable, IsStated}
+use Rattle.screen_editor.specs.declared.fault.End.{End}
+use Rattle.screen_editor.specs.declared.fault.End.TheVariants.{Save, Leave}
+use Rattle.screen_editor.specs.declared.fault.FrameFault.{FrameFault}
+use Rattle.screen_editor.specs.declared.fault.FrameFault.TheVariants as Frames
+use Rattle.screen_editor.specs.declared.fault.KeyFault.{KeyFault}
+use Rattle.screen_editor.specs.declared.running.TheConstants.{MOST_KEYS}
+use Rattle.screen_editor.specs.declared.fault.RunFault.{RunFault}
+use Rattle.screen_editor.specs.declared.fault.RunFault.TheVariants.{Read, Write, Frame, TooManyKeys}
+use Rattle.screen_editor.specs.Editing.{Editing, EditorValue, EachCurrent, state_of}
+use Rattle.screen_editor.specs.Keys.{ends}
+use Rattle.screen_editor.specs.Revising.{IsStep, IsRefusedBy}
+use Rattle.byte_output.specs.Prefix.{AppendsPrefix}
+use Rattle.screen_editor.specs.Frame.{frame_of}
+use Rattle.screen_editor.specs.Refusals.{IsFrameFault}
+
+-- the bytes that show it, whatever bytes the sources have that agree with what they state, where each cell of the text is stated
+abbrev pub IsFrame : Stated → Editing → List ℕ → Type 0
+IsFrame st e bytes = (source : ℕ → ℕ → ℕ) → Agrees st source → EachCurrent e (IsStated st) → bytes ≡ frame_of (state_of source e)
+
+-- a frame is made, or a source's read failed, or memory was refused; nothing but the sources changes
+pub record MakesFrame {T : Type 0} (stated : T → Stated) (failures : T → ℕ) (old : EditorValue T) (result : Result (Vec ℕ) FrameFault) (new : EditorValue T) : Type 0 where
+  pub bytes : IfOk result (λ v. IsFrame (stated old.sources) old.editing v.items)
+  pub fault : IfErr result (IsFrameFault stated failures old.sources new.sources old.editing)
+  pub succeeds : EachCurrent old.editing (IsReadable (stated old.sources)) → (f : SourceFault) → ¬ IsErrOf result (Frames.Source f)
+  pub reads : Reads stated failures old.sources new.sources
+  pub kept : new.editing ≡ old.editing
+
+-- a key makes the machine's step, or is refused
+abbrev pub Passes : Stated → ℕ → Editing → Editing → Type 0
+Passes st b old new = IsStep st b old new ⊎ ((f : KeyFault) × IsRefusedBy f old new)
+
+-- each state follows from the one before it
+abbrev pub Follow : Stated → Editing → List ℕ → List Editing → Type 0
+Follow st old [] [] = Unit {0}
+Follow st old [] (e ∷ es) = ⊥
+Follow st old (b ∷ bs) [] = ⊥
+Follow st old (b ∷ bs) (e ∷ es) = Passes st b old e × Follow st e bs es
+
+-- the frames of these states, one behind the other
+abbrev pub frames_of : (ℕ → ℕ → ℕ) → List Editing → List ℕ
+frames_of source es = flat_map (λ e. frame_of (state_of source e)) es
+
+-- P holds of the frames of these states, whatever bytes the sources have that agree with what they state, where each text is stated
+abbrev pub OfFrames : Stated → List Editing → (List ℕ → Type 0) → Type 0
+OfFrames st es P = (source : ℕ → ℕ → ℕ) → Agrees st source → All (λ e. EachCurrent e (IsStated st)) es → P (frames_of source es)
+
+abbrev pub Shows : Stated → Option (List ℕ) → Option (List ℕ) → List Editing → Type 0
+Shows st before now es = OfFrames st es (Appends before now)
+
+abbrev pub ShowsPrefix : Stated → Option (List ℕ) → Option (List ℕ) → List Editing → Type 0
+ShowsPrefix st before now es = OfFrames st es (AppendsPrefix before now)
+
+-- the last of these keys, and none before it, is this one
+abbrev pub EndsBy : ℕ → List ℕ → Type 0
+EndsBy b keys = (before : List ℕ) × (keys ≡ before ++ b ∷ []) × (list_any ends before ≡ false)
+
+abbrev pub GoesOn : List ℕ → Type 0
+GoesOn keys = list_any ends keys ≡ false
+
+-- what is answered once these keys are taken, with the states before them and behind each of them, and what is then shown
+abbrev pub Answers : Stated → Option (List ℕ) → Option (List ℕ) → Option (List ℕ) → List ℕ → List Editing → Result End RunFault → Type 0
+Answers st left before now keys states (Ok Save) = EndsBy 0x18 keys × Shows st before now (take (length keys) states)
+Answers st left before now keys states (Ok Leave) = (EndsBy 0x03 keys × Shows st before now (take (length keys) states)) ⊎ (GoesOn keys × IsAtEnd left × Shows st before now states)
+Answers st left before now keys states (Err Read) = GoesOn keys × Shows st before now states
+Answers st left before now keys states (Err Write) = GoesOn keys × ShowsPrefix st before now states
+Answers st left before now keys states (Err (Frame f)) = GoesOn keys × Shows st before now (take (length keys) states)
+Answers st left before now keys states (Err TooManyKeys) = GoesOn keys × (length keys ≡ MOST_KEYS) × Shows st before now (take (length keys) states)
+
+-- a run takes keys, of which each makes the next state from the first one, old, to the last one, new
+pub record IsRun (st : Stated) (keys_before keys_left before now : Option (List ℕ)) (old new : Editing) (result : Result End RunFault) : Type 0 where
+  pub keys : List ℕ
+  pub behind : List Editing
+  pub taken : Consumes keys_before keys_left keys
+  pub few : length keys ≤ MOST_KEYS
+  pub follow : Follow st old keys behind
+  pub last : slice_get (old ∷ behind) (length keys) ≡ Some new
+  pub answers : Answers st keys_left before now keys (old ∷ behind) result

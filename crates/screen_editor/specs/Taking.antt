@@ -1,0 +1,76 @@
+-- How a key that looks for no line break is carried out: by itself, or by one command of the session.
+use Rattle.std.specs.Prelude.{◌≡◌, ◌↔◌, ◌⊎◌, ℕ, ◌+◌, ◌≤◌, ◌<◌, length, Option, Some, Result, IfErr, OnOk, OnErr, IsErrOf}
+use Rattle.edit_commands.specs.declared.command.Command.{Command}
+use Rattle.edit_commands.specs.declared.command.Command.TheVariants.{Insert, Delete, Paste, Back, Balance}
+use Rattle.edit_commands.specs.declared.fault.EditFault.{EditFault}
+use Rattle.edit_commands.specs.declared.fault.EditFault.TheVariants as Edit
+use Rattle.edit_commands.specs.declared.session.TheConstants.{MOST_REVISIONS}
+use Rattle.edit_commands.specs.Applying.{IsLaterFault}
+use Rattle.edit_commands.specs.Building.{edit_with}
+use Rattle.edit_commands.specs.Session.{SessionValue, length_at}
+use Rattle.screen_editor.specs.declared.fault.KeyFault.{KeyFault}
+use Rattle.screen_editor.specs.declared.fault.KeyFault.TheVariants as Fault
+use Rattle.screen_editor.specs.declared.key.Key.{Key}
+use Rattle.screen_editor.specs.Editing.{Editing, longest_text, state_of}
+use Rattle.screen_editor.specs.Machine.{done, edit_of}
+use Rattle.screen_editor.specs.Revising.{Does, KeepsAll, RecordsEdit, Revises}
+use Rattle.screen_editor.specs.State.{current}
+
+-- ---- a command
+
+-- a command of a key, whose revisions are there and whose spans lie in their texts
+abbrev pub IsInOrder : SessionValue → Command → Type 0
+IsInOrder v (Insert r p bytes) = (r < length v.revisions) × (p ≤ length_at v r) × (length bytes.now ≡ 1)
+IsInOrder v (Delete r p n) = (r < length v.revisions) × (p + n ≤ length_at v r)
+IsInOrder v (Paste r p q i n) = (r < length v.revisions) × (p ≤ length_at v r) × (q < length v.revisions) × (i + n ≤ length_at v q)
+IsInOrder v (Back r) = r < length v.revisions
+IsInOrder v (Balance r) = r < length v.revisions
+IsInOrder v _ = ⊥
+
+-- there are too many revisions, memory was refused, or the session's call met a limit
+abbrev pub IsReviseFault : Command → Editing → KeyFault → Editing → Type 0
+IsReviseFault command old (Fault.Edit Edit.TooManyRevisions) new = MOST_REVISIONS ≤ length old.session.revisions
+IsReviseFault command old (Fault.Edit Edit.Memory) new = Unit {0}
+IsReviseFault command old (Fault.Edit fault) new = IsLaterFault old.session.held old.session.revisions command fault new.session.held
+IsReviseFault command old _ new = ⊥
+
+-- one revision more, or a refusal that keeps all
+pub record RevisesOrNot (command : Command) (prior : Option ℕ) (q : ℕ) (old : Editing) (result : Result (Unit {0}) KeyFault) (new : Editing) : Type 0 where
+  pub revises : OnOk result (Revises command prior q old new)
+  pub kept : OnErr result (KeepsAll old new)
+  pub too_many : MOST_REVISIONS ≤ length old.session.revisions → IsErrOf result (Fault.Edit Edit.TooManyRevisions) ⊎ IsErrOf result (Fault.Edit Edit.Memory)
+  pub fault : IfErr result (λ f. IsReviseFault command old f new)
+
+-- ---- a key
+
+-- the key makes a revision; the text that it would give has too many bytes
+abbrev pub MakesOne : Key → Editing → Type 0
+MakesOne key e = (source : ℕ → ℕ → ℕ) → length (done key (state_of source e)).texts ≡ length e.session.revisions + 1
+
+abbrev pub MakesTooLong : Key → Editing → Type 0
+MakesTooLong key e = (source : ℕ → ℕ → ℕ) → longest_text < length (current (done key (state_of source e)))
+
+-- the session's call, with the key's command, met this on the way
+pub record MetBy (key : Key) (old : Editing) (fault : EditFault) (new : Editing) : Type 0 where
+  pub command : Command
+  pub place : ℕ
+  pub edit : (source : ℕ → ℕ → ℕ) → edit_of place key (state_of source old) ≡ Some (edit_with place command)
+  pub met : IsLaterFault old.session.held old.session.revisions command fault new.session.held
+
+abbrev pub IsFaultBy : Key → Editing → KeyFault → Editing → Type 0
+IsFaultBy key old Fault.TooLong new = MakesOne key old
+IsFaultBy key old (Fault.Edit Edit.TooManyRevisions) new = MakesOne key old × (MOST_REVISIONS ≤ length old.session.revisions)
+IsFaultBy key old (Fault.Edit Edit.Memory) new = MakesOne key old
+IsFaultBy key old (Fault.Edit fault) new = MakesOne key old × MetBy key old fault new
+IsFaultBy key old (Fault.Source fault) new = ⊥
+
+-- what a key does to all but the sources and the message
+pub record TakesKey (key : Key) (old : Editing) (result : Result (Unit {0}) KeyFault) (new : Editing) : Type 0 where
+  pub done : OnOk result (Does key old new)
+  pub command : OnOk result (RecordsEdit key old new)
+  pub kept : OnErr result (KeepsAll old new)
+  pub too_long : IsErrOf result Fault.TooLong ↔ MakesTooLong key old
+  pub too_many : MakesOne key old → ¬ IsErrOf result Fault.TooLong → MOST_REVISIONS ≤ length old.session.revisions
+      → IsErrOf result (Fault.Edit Edit.TooManyRevisions) ⊎ IsErrOf result (Fault.Edit Edit.Memory)
+  pub fault : IfErr result (λ f. IsFaultBy key old f new)
+  pub sources : new.session.held.sources ≡ old.session.held.sources

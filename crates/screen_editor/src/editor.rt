@@ -1,0 +1,179 @@
+//! The editor: a workspace over the sources that its text may lie in.
+
+ghost use Rattle.std.specs.Prelude.{◌≡◌, ◌↔◌, true, IfOk, IfErr, IsErrOf, OnErr};
+ghost use Rattle.cord_position.specs.Fetched.{ReadsSpan};
+ghost use Rattle.screen_editor.specs.Editing.{IsEditor, current_cell, current_len};
+ghost use Rattle.screen_editor.specs.LineKeys.{FindsLinePlace, Takes, looks_for_lines};
+ghost use Rattle.screen_editor.specs.Revising.{IsMade, TakesKey};
+ghost use Rattle.screen_editor.specs.Refusals.{IsNewFault, IsTooLong};
+ghost use Rattle.screen_editor.specs.Runs.{MakesFrame};
+
+use crate::fault::{EditorFault, FrameFault, KeyFault};
+use crate::frame::frame_about;
+use crate::key::{Key, Step};
+use crate::lines::{line_end, line_start, place_down, place_up};
+use crate::opening::first_session;
+use crate::workspace::Workspace;
+use edit_commands::Session;
+use lazy_file::{SourceFault, Sources};
+use std::alloc::Global;
+use std::marker::Model;
+
+/// An editor of a text, over the sources that the text may lie in.
+#[derive(Drop)]
+pub struct Editor<R: Sources + Drop> {
+    alloc: Global,
+    sources: R,
+    workspace: Workspace,
+}
+
+impl<R: Sources + Drop> Model for Editor<R> {
+    ghost use Rattle.std.specs.Prelude.{◌≡◌};
+    ghost use Rattle.screen_editor.specs.Editing.{EditorValue};
+
+    ghost Value = { EditorValue R };
+
+    ghost view = { λ a. record { sources = a.sources; editing = a.workspace } };
+
+    ghost invariant = { λ a. a.workspace.session.held.sources ≡ (R.stated a.sources).sizes };
+}
+
+/// Where a key leads that looks for line breaks.
+fn line_place<R: Sources>(
+    sources: &mut R,
+    workspace: &Workspace,
+    key: Key,
+) -> Result<Option<u64>, SourceFault>
+    ensures place { IfOk result (FindsLinePlace (R.stated sources.old) key workspace.now) }
+    ensures looks { OnErr result (looks_for_lines key ≡ true) }
+    ensures reads { ReadsSpan R.stated R.failures sources.old sources.new
+        (current_cell workspace.now) 0 (current_len workspace.now) result }
+{
+    let space = workspace.session().space();
+    let (root, place) = (workspace.root(), workspace.place());
+    match key {
+        Key::LineStart => Ok(Some(line_start(space, sources, root, place)?)),
+        Key::LineEnd => Ok(Some(line_end(space, sources, root, place)?)),
+        Key::Up => Ok(Some(place_up(space, sources, root, place)?)),
+        Key::Down => Ok(Some(place_down(space, sources, root, place)?)),
+        _ => Ok(None),
+    }
+}
+
+/// What a key does but for the message.
+fn take<R: Sources>(sources: &mut R, workspace: &mut Workspace, byte: u8) -> Result<(), KeyFault>
+    ensures { Takes R.stated R.failures byte sources.old workspace.old result sources.new workspace.new }
+{
+    // The workspace keeps its rules, as its last revision says.
+    let _last = workspace.last();
+    match line_place(sources, workspace, Key::of(byte)) {
+        Ok(Some(place)) => {
+            workspace.move_to(place);
+            Ok(())
+        }
+        Ok(None) => workspace.take(byte),
+        Err(fault) => Err(KeyFault::Source(fault)),
+    }
+}
+
+/// Takes a key. A refused one changes the message alone.
+fn take_key<R: Sources>(
+    sources: &mut R,
+    workspace: &mut Workspace,
+    byte: u8,
+) -> Result<Step, KeyFault>
+    ensures takes { TakesKey R.stated R.failures byte
+        (record { sources = sources.old; editing = workspace.old }) result
+        (record { sources = sources.new; editing = workspace.new }) }
+    ensures sizes { workspace.new.session.held.sources ≡ workspace.old.session.held.sources }
+{
+    if let Err(fault) = take(sources, workspace, byte) {
+        workspace.tell(Some(fault));
+        return Err(fault);
+    }
+    match Key::of(byte) {
+        Key::Save => Ok(Step::Save),
+        Key::Leave => Ok(Step::Leave),
+        _ => {
+            workspace.tell(None);
+            Ok(Step::Going)
+        }
+    }
+}
+
+/// What the screen shows.
+fn frame_of<R: Sources>(
+    alloc: Global,
+    sources: &mut R,
+    workspace: &Workspace,
+) -> Result<Vec<u8>, FrameFault>
+    ensures { MakesFrame R.stated R.failures
+        (record { sources = sources.old; editing = workspace.now }) result
+        (record { sources = sources.new; editing = workspace.now }) }
+{
+    let (root, place) = (workspace.root(), workspace.place());
+    let (last, message) = (workspace.last(), workspace.message());
+    frame_about(
+        alloc,
+        workspace.session().space(),
+        sources,
+        root,
+        place,
+        last,
+        message,
+    )
+}
+
+impl<R: Sources + Drop> Editor<R> {
+    /// An editor of the text of source 0, or of an empty one where there is no source.
+    ///
+    /// # Errors
+    ///
+    /// `TooLong` where source 0 has more than 2,147,483,647 bytes. `Edit` and `Memory`, where the session or memory
+    /// refused.
+    pub fn new(alloc: Global, sources: R) -> Result<Editor<R>, EditorFault>
+        ensures sources { IfOk result (λ e. e.sources ≡ sources) }
+        ensures made { IfOk result (λ e. IsMade (R.stated sources).sizes e.editing) }
+        ensures too_long { IsErrOf result EditorFault.TooLong ↔ IsTooLong (R.stated sources) }
+        ensures fault { IfErr result (IsNewFault (R.stated sources)) }
+    {
+        let session = first_session(alloc, &sources)?;
+        let workspace = Workspace::new(alloc, session)?;
+        Ok(Editor {
+            alloc,
+            sources,
+            workspace,
+        })
+    }
+
+    /// Takes a key. A refused one changes the message alone.
+    ///
+    /// # Errors
+    ///
+    /// `TooLong` where the text would have more than 2,147,483,647 bytes, `Edit` where the session or memory refused,
+    /// `Source` where a line break was looked for and a read failed.
+    pub fn key(&mut self, byte: u8) -> Result<Step, KeyFault>
+        ensures { TakesKey R.stated R.failures byte self.old result self.new }
+    {
+        take_key(&mut self.sources, &mut self.workspace, byte)
+    }
+
+    /// What the screen shows.
+    ///
+    /// # Errors
+    ///
+    /// `Source`, where a byte or a line break could not be read. `Memory`, where memory was refused.
+    pub fn frame(&mut self) -> Result<Vec<u8>, FrameFault>
+        ensures { MakesFrame R.stated R.failures self.old result self.new }
+    {
+        frame_of(self.alloc, &mut self.sources, &self.workspace)
+    }
+
+    /// The session, with every revision.
+    pub fn session(&self) -> &Session
+        ensures session { result.now ≡ self.now.editing.session }
+        ensures kept { IsEditor R.stated self.now }
+    {
+        self.workspace.session()
+    }
+}

@@ -1,0 +1,121 @@
+//! Where the lines of a rope's text begin and end, and where up and down lead.
+
+ghost use Rattle.std.specs.Prelude.{◌≡◌, ◌≤◌, IfOk};
+ghost use Rattle.rope_node.specs.Denotes.{IsRope, rope_len};
+ghost use Rattle.cord_position.specs.Fetched.{ReadsSpan, rope_cell};
+ghost use Rattle.cord_search.specs.Stated.{OfText};
+ghost use Rattle.screen_editor.specs.Lines.{line_start, line_end, place_up, place_down};
+
+use cord_search::{chr, rchr};
+use lazy_file::{SourceFault, Sources};
+use rope_node::{NodeSpace, Rope, rope_len};
+
+const LINE_BREAK: u8 = 0x0A;
+
+/// One behind the last line break below a place, or the text's start.
+///
+/// # Errors
+///
+/// A source's fault, where a byte is one of that source and the read of it failed.
+pub fn line_start<S: NodeSpace, T: Sources>(
+    space: &S,
+    sources: &mut T,
+    rope: Rope,
+    place: u64,
+) -> Result<u64, SourceFault>
+    requires rope { IsRope (S.table space.now) rope }
+    requires place { place ≤ rope_len (S.table space.now) rope }
+    ensures inside { IfOk result (λ p. p ≤ place) }
+    ensures is { IfOk result (λ p.
+        OfText (S.table space.now) (T.stated sources.old) rope (λ t. p ≡ line_start t place)) }
+    ensures reads { ReadsSpan T.stated T.failures sources.old sources.new
+        (rope_cell (S.table space.now) rope) 0 (rope_len (S.table space.now) rope) result }
+{
+    prove!(place <= rope_len(space, rope));
+    if place == 0 {
+        return Ok(0);
+    }
+    match rchr(space, sources, rope, place - 1, LINE_BREAK)? {
+        Some(found) => Ok(found + 1),
+        None => Ok(0),
+    }
+}
+
+/// The first line break at a place or behind it, or the text's end.
+///
+/// # Errors
+///
+/// A source's fault, where a byte is one of that source and the read of it failed.
+pub fn line_end<S: NodeSpace, T: Sources>(
+    space: &S,
+    sources: &mut T,
+    rope: Rope,
+    place: u64,
+) -> Result<u64, SourceFault>
+    requires rope { IsRope (S.table space.now) rope }
+    requires place { place ≤ rope_len (S.table space.now) rope }
+    ensures from { IfOk result (λ p. place ≤ p) }
+    ensures inside { IfOk result (λ p. p ≤ rope_len (S.table space.now) rope) }
+    ensures is { IfOk result (λ p.
+        OfText (S.table space.now) (T.stated sources.old) rope (λ t. p ≡ line_end t place)) }
+    ensures reads { ReadsSpan T.stated T.failures sources.old sources.new
+        (rope_cell (S.table space.now) rope) 0 (rope_len (S.table space.now) rope) result }
+{
+    let found = chr(space, sources, rope, place, LINE_BREAK)?;
+    Ok(found.unwrap_or(rope_len(space, rope)))
+}
+
+/// Where up leads: the same column of the line before, or that line's end where it is shorter.
+///
+/// # Errors
+///
+/// A source's fault, where a byte is one of that source and the read of it failed.
+pub fn place_up<S: NodeSpace, T: Sources>(
+    space: &S,
+    sources: &mut T,
+    rope: Rope,
+    place: u64,
+) -> Result<u64, SourceFault>
+    requires rope { IsRope (S.table space.now) rope }
+    requires place { place ≤ rope_len (S.table space.now) rope }
+    ensures inside { IfOk result (λ p. p ≤ rope_len (S.table space.now) rope) }
+    ensures is { IfOk result (λ p.
+        OfText (S.table space.now) (T.stated sources.old) rope (λ t. p ≡ place_up t place)) }
+    ensures reads { ReadsSpan T.stated T.failures sources.old sources.new
+        (rope_cell (S.table space.now) rope) 0 (rope_len (S.table space.now) rope) result }
+{
+    let start = line_start(space, sources, rope, place)?;
+    if start == 0 {
+        return Ok(place);
+    }
+    let above = line_start(space, sources, rope, start - 1)?;
+    Ok((above + (place - start)).min(start - 1))
+}
+
+/// Where down leads: the same column of the line behind, or that line's end where it is shorter.
+///
+/// # Errors
+///
+/// A source's fault, where a byte is one of that source and the read of it failed.
+pub fn place_down<S: NodeSpace, T: Sources>(
+    space: &S,
+    sources: &mut T,
+    rope: Rope,
+    place: u64,
+) -> Result<u64, SourceFault>
+    requires rope { IsRope (S.table space.now) rope }
+    requires place { place ≤ rope_len (S.table space.now) rope }
+    ensures inside { IfOk result (λ p. p ≤ rope_len (S.table space.now) rope) }
+    ensures is { IfOk result (λ p.
+        OfText (S.table space.now) (T.stated sources.old) rope (λ t. p ≡ place_down t place)) }
+    ensures reads { ReadsSpan T.stated T.failures sources.old sources.new
+        (rope_cell (S.table space.now) rope) 0 (rope_len (S.table space.now) rope) result }
+{
+    let end = line_end(space, sources, rope, place)?;
+    if end == rope_len(space, rope) {
+        return Ok(place);
+    }
+    let start = line_start(space, sources, rope, place)?;
+    let below = line_end(space, sources, rope, end + 1)?;
+    Ok((end + 1 + (place - start)).min(below))
+}

@@ -1,0 +1,141 @@
+//! The rows of the screen.
+
+ghost use Rattle.std.specs.Prelude.{◌≡◌, ◌≤◌, ◌-◌, ◌++◌, map, take, drop, IfOk, IfSome, OnOk};
+ghost use Rattle.rope_node.specs.Denotes.{IsRope, rope_len};
+ghost use Rattle.cord_position.specs.Fetched.{rope_cell};
+ghost use Rattle.cord_search.specs.Stated.{OfText};
+ghost use Rattle.screen_editor.specs.Frame.{glyph};
+ghost use Rattle.screen_editor.specs.Refusals.{ReadsToShow};
+ghost use Rattle.screen_editor.specs.Rows.{lines_from, rows_in, PushesLine};
+
+use crate::fault::FrameFault;
+use crate::lines::line_end;
+use cord_position::fetch_byte;
+use lazy_file::Sources;
+use rope_node::{NodeSpace, Rope, rope_len};
+
+const SCREEN_ROWS: u32 = 23;
+
+pub const SCREEN_COLUMNS: u64 = 80;
+
+/// A byte that can be shown, or `?` in its place.
+fn glyph(byte: u8) -> u8
+    ensures { result ≡ glyph byte }
+{
+    match byte {
+        0x20..=0x7E => byte,
+        _ => b'?',
+    }
+}
+
+/// Appends the bytes from `start` up to `end`, as they are shown.
+fn push_glyphs<S: NodeSpace, T: Sources>(
+    space: &S,
+    sources: &mut T,
+    rope: Rope,
+    start: u64,
+    end: u64,
+    out: &mut Vec<u8>,
+) -> Result<(), FrameFault>
+    requires rope { IsRope (S.table space.now) rope }
+    requires start { start ≤ end }
+    requires end { end ≤ rope_len (S.table space.now) rope }
+    ensures bytes { OnOk result (OfText (S.table space.now) (T.stated sources.old) rope
+        (λ t. out.new.items ≡ out.old.items ++ map glyph (take (end - start) (drop start t)))) }
+    ensures reads { ReadsToShow T.stated T.failures sources.old sources.new
+        (rope_cell (S.table space.now) rope) (rope_len (S.table space.now) rope) result }
+{
+    for place in start..end {
+        let (byte, _) = fetch_byte(space, sources, rope, place)?;
+        out.push(glyph(byte.unwrap_or(0)))?;
+    }
+    Ok(())
+}
+
+/// Appends what is shown of the line that begins at `start`, from the column `left` on. It answers where the next
+/// line begins, or that there is none.
+fn push_line<S: NodeSpace, T: Sources>(
+    space: &S,
+    sources: &mut T,
+    rope: Rope,
+    start: u64,
+    left: u64,
+    out: &mut Vec<u8>,
+) -> Result<Option<u64>, FrameFault>
+    requires rope { IsRope (S.table space.now) rope }
+    requires start { start ≤ rope_len (S.table space.now) rope }
+    ensures inside { IfOk result (λ next. IfSome next (λ s. s ≤ rope_len (S.table space.now) rope)) }
+    ensures line { IfOk result (λ next. OfText (S.table space.now) (T.stated sources.old) rope
+        (λ t. PushesLine t (Some start) left next out.old.items out.new.items)) }
+    ensures reads { ReadsToShow T.stated T.failures sources.old sources.new
+        (rope_cell (S.table space.now) rope) (rope_len (S.table space.now) rope) result }
+{
+    let end = line_end(space, sources, rope, start)?;
+    let rest = (end - start).saturating_sub(left);
+    let from = end - rest;
+    push_glyphs(
+        space,
+        sources,
+        rope,
+        from,
+        from + rest.min(SCREEN_COLUMNS),
+        out,
+    )?;
+    let next = if end < rope_len(space, rope) {
+        Some(end + 1)
+    } else {
+        None
+    };
+    Ok(next)
+}
+
+/// Appends the same of the line that begins at `start`, or nothing behind the last line.
+fn push_line_at<S: NodeSpace, T: Sources>(
+    space: &S,
+    sources: &mut T,
+    rope: Rope,
+    start: Option<u64>,
+    left: u64,
+    out: &mut Vec<u8>,
+) -> Result<Option<u64>, FrameFault>
+    requires rope { IsRope (S.table space.now) rope }
+    requires start { IfSome start (λ s. s ≤ rope_len (S.table space.now) rope) }
+    ensures inside { IfOk result (λ next. IfSome next (λ s. s ≤ rope_len (S.table space.now) rope)) }
+    ensures line { IfOk result (λ next. OfText (S.table space.now) (T.stated sources.old) rope
+        (λ t. PushesLine t start left next out.old.items out.new.items)) }
+    ensures reads { ReadsToShow T.stated T.failures sources.old sources.new
+        (rope_cell (S.table space.now) rope) (rope_len (S.table space.now) rope) result }
+{
+    match start {
+        Some(start) => push_line(space, sources, rope, start, left, out),
+        None => Ok(None),
+    }
+}
+
+/// Appends the rows of the screen: its first line begins at `top`, and its first column is `left`.
+///
+/// # Errors
+///
+/// `Source`, where a byte or a line break could not be read. `Memory`, where memory was refused.
+pub fn push_rows<S: NodeSpace, T: Sources>(
+    space: &S,
+    sources: &mut T,
+    rope: Rope,
+    top: u64,
+    left: u64,
+    out: &mut Vec<u8>,
+) -> Result<(), FrameFault>
+    requires rope { IsRope (S.table space.now) rope }
+    requires top { top ≤ rope_len (S.table space.now) rope }
+    ensures rows { OnOk result (OfText (S.table space.now) (T.stated sources.old) rope
+        (λ t. out.new.items ≡ out.old.items ++ rows_in (lines_from t (Some top)) left)) }
+    ensures reads { ReadsToShow T.stated T.failures sources.old sources.new
+        (rope_cell (S.table space.now) rope) (rope_len (S.table space.now) rope) result }
+{
+    let mut next = Some(top);
+    for row in 0..SCREEN_ROWS {
+        next = push_line_at(space, sources, rope, next, left, out)?;
+        out.extend_from_slice(b"\r\n")?;
+    }
+    Ok(())
+}

@@ -1,0 +1,105 @@
+//! Runs: the screen shows each state, and keys are taken one after the other.
+
+ghost use Rattle.std.specs.Prelude.{◌≡◌, [], ◌∷◌, IfOk, IfErr, OnOk, OnErr};
+ghost use Rattle.std.specs.Io.KnownBytes.{Consumes};
+ghost use Rattle.lazy_file.specs.SourceTexts.{Reads};
+ghost use Rattle.screen_editor.specs.declared.fault.RunFault.TheVariants.{Read};
+ghost use Rattle.screen_editor.specs.Runs.{IsRun, Shows};
+ghost use Rattle.screen_editor.specs.Turns.{IsNextKey, IsTurn, NotShown};
+
+use crate::editor::Editor;
+use crate::fault::{End, RunFault};
+use crate::key::Step;
+use byte_output::write_bytes;
+use lazy_file::Sources;
+use std::io;
+use std::io::ErrorKind;
+
+/// The most keys of a run.
+pub const MOST_KEYS: u32 = 1 << 24;
+
+/// The next key. A read that was interrupted is made again.
+fn next_key<K: io::Read>(keys: &mut K) -> Result<Option<u8>, RunFault>
+    ensures key { IfOk result (IsNextKey (K.remaining keys.old) (K.remaining keys.new)) }
+    ensures none_taken { OnErr result (Consumes (K.remaining keys.old) (K.remaining keys.new) []) }
+    ensures fault { IfErr result (λ f. f ≡ Read) }
+{
+    let mut buffer = [0];
+    for _ in 0..u64::MAX {
+        match keys.read(&mut buffer) {
+            Ok(0) => return Ok(None),
+            Ok(_) => return Ok(Some(buffer[0])),
+            Err(error) => {
+                if error.kind() != ErrorKind::Interrupted {
+                    return Err(RunFault::Read);
+                }
+            }
+        }
+    }
+    Err(RunFault::Read)
+}
+
+impl<R: Sources + Drop> Editor<R> {
+    /// Writes what the screen shows.
+    #[tactic(auto, using(crate::proofs::ManyTurns::shows_none))]
+    fn show<W: io::Write>(&mut self, screen: &mut W) -> Result<(), RunFault>
+        ensures shown { OnOk result (Shows (R.stated self.old.sources)
+            (W.contents screen.old) (W.contents screen.new) (self.old.editing ∷ [])) }
+        ensures not_shown { IfErr result (NotShown (R.stated self.old.sources)
+            (W.contents screen.old) (W.contents screen.new) self.old.editing) }
+        ensures kept { self.new.editing ≡ self.old.editing }
+        ensures reads { Reads R.stated R.failures self.old.sources self.new.sources }
+    {
+        let frame = self.frame()?;
+        write_bytes(screen, &frame)?;
+        Ok(())
+    }
+
+    /// Shows the state and takes a key.
+    #[tactic(auto, using(lazy_file::proofs::LaterReads::reads_then))]
+    fn turn<K: io::Read, W: io::Write>(
+        &mut self,
+        keys: &mut K,
+        screen: &mut W,
+    ) -> Result<Option<End>, RunFault>
+        ensures turn { IsTurn (R.stated self.old.sources) (K.remaining keys.old) (K.remaining keys.new)
+            (W.contents screen.old) (W.contents screen.new) self.old.editing self.new.editing result }
+        ensures reads { Reads R.stated R.failures self.old.sources self.new.sources }
+    {
+        self.show(screen)?;
+        let Some(byte) = next_key(keys)? else {
+            return Ok(Some(End::Leave));
+        };
+        match self.key(byte) {
+            Ok(Step::Save) => Ok(Some(End::Save)),
+            Ok(Step::Leave) => Ok(Some(End::Leave)),
+            Ok(Step::Going) => Ok(None),
+            // A refused key ends nothing: the next frame shows why it was refused.
+            Err(_) => Ok(None),
+        }
+    }
+
+    /// Shows the state, takes a key, and so on: up to the key Save or Leave, or where no key is left.
+    ///
+    /// # Errors
+    ///
+    /// `Read`, `Write` and `Frame`, where that fails. `TooManyKeys`, once 16,777,216 keys were taken and none of them
+    /// ended the run.
+    #[tactic(auto, using(lazy_file::proofs::LaterReads::reads_then))]
+    pub fn run<K: io::Read, W: io::Write>(
+        &mut self,
+        keys: &mut K,
+        screen: &mut W,
+    ) -> Result<End, RunFault>
+        ensures run { IsRun (R.stated self.old.sources) (K.remaining keys.old) (K.remaining keys.new)
+            (W.contents screen.old) (W.contents screen.new) self.old.editing self.new.editing result }
+        ensures reads { Reads R.stated R.failures self.old.sources self.new.sources }
+    {
+        for _ in 0..MOST_KEYS {
+            if let Some(end) = self.turn(keys, screen)? {
+                return Ok(end);
+            }
+        }
+        Err(RunFault::TooManyKeys)
+    }
+}

@@ -1,0 +1,84 @@
+//! Which lines and columns the screen shows.
+
+ghost use Rattle.std.specs.Prelude.{◌≡◌, ◌<◌, ◌≤◌, IfOk};
+ghost use Rattle.rope_node.specs.Denotes.{IsRope, rope_len};
+ghost use Rattle.cord_position.specs.Fetched.{ReadsSpan, rope_cell};
+ghost use Rattle.cord_search.specs.Stated.{OfText};
+ghost use Rattle.screen_editor.specs.Frame.{lines_above};
+ghost use Rattle.screen_editor.specs.Rows.{IsAbove, IsWindow};
+
+use crate::lines::line_start;
+use lazy_file::{SourceFault, Sources};
+use rope_node::{NodeSpace, Rope, rope_len};
+
+/// How many lines stand above the cursor's, where there are so many.
+const LINES_ABOVE: u64 = 11;
+
+/// Where the screen's first line begins, and where the cursor stands.
+#[derive(Clone, Copy, Debug, PartialEq, Eq)]
+pub struct Window {
+    pub top: u64,
+    /// How many lines are between the first and the cursor's.
+    pub row: u64,
+    /// How far the cursor is behind its line's start.
+    pub column: u64,
+}
+
+/// Goes back from a line's start by 11 lines, or to the text's start. It answers where the line begins that it came
+/// to, and how many lines it went.
+fn go_back<S: NodeSpace, T: Sources>(
+    space: &S,
+    sources: &mut T,
+    rope: Rope,
+    start: u64,
+) -> Result<(u64, u64), SourceFault>
+    requires rope { IsRope (S.table space.now) rope }
+    requires start { start ≤ rope_len (S.table space.now) rope }
+    ensures inside { IfOk result (λ x. x.0 ≤ start) }
+    ensures few { IfOk result (λ x. x.1 ≤ lines_above) }
+    ensures all { IfOk result (λ x. x.1 < lines_above → x.0 ≡ 0) }
+    ensures back { IfOk result (λ x. OfText (S.table space.now) (T.stated sources.old) rope
+        (λ t. IsAbove t start x.0 x.1)) }
+    ensures reads { ReadsSpan T.stated T.failures sources.old sources.new
+        (rope_cell (S.table space.now) rope) 0 (rope_len (S.table space.now) rope) result }
+{
+    prove!(start <= rope_len(space, rope));
+    let mut top = start;
+    let mut row = 0;
+    while row < LINES_ABOVE && top > 0 {
+        top = line_start(space, sources, rope, top - 1)?;
+        row += 1;
+    }
+    Ok((top, row))
+}
+
+/// What the screen shows about a place.
+///
+/// # Errors
+///
+/// A source's fault, where a byte is one of that source and the read of it failed.
+pub fn window_about<S: NodeSpace, T: Sources>(
+    space: &S,
+    sources: &mut T,
+    rope: Rope,
+    place: u64,
+) -> Result<Window, SourceFault>
+    requires rope { IsRope (S.table space.now) rope }
+    requires place { place ≤ rope_len (S.table space.now) rope }
+    ensures top { IfOk result (λ w. w.top ≤ rope_len (S.table space.now) rope) }
+    ensures row { IfOk result (λ w. w.row ≤ lines_above) }
+    ensures column { IfOk result (λ w. w.column ≤ place) }
+    ensures is { IfOk result (λ w. OfText (S.table space.now) (T.stated sources.old) rope
+        (λ t. IsWindow t place w.top w.row w.column)) }
+    ensures reads { ReadsSpan T.stated T.failures sources.old sources.new
+        (rope_cell (S.table space.now) rope) 0 (rope_len (S.table space.now) rope) result }
+{
+    prove!(place <= rope_len(space, rope));
+    let start = line_start(space, sources, rope, place)?;
+    let (top, row) = go_back(space, sources, rope, start)?;
+    Ok(Window {
+        top,
+        row,
+        column: place - start,
+    })
+}
