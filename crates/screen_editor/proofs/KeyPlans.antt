@@ -23,7 +23,7 @@ use Rattle.screen_editor.specs.Editing.{Editing, IsEditing, current_len, key_cod
 use Rattle.screen_editor.specs.Machine.{done, edit_of, revised}
 use Rattle.screen_editor.specs.Revising.{Does, KeepsAll}
 use Rattle.screen_editor.specs.State.{EditorState, current}
-use Rattle.screen_editor.specs.Taking.{IsFaultBy, IsInOrder, IsReviseFault, MakesOne, MakesTooLong, RevisesOrNot, TakesKey}
+use Rattle.screen_editor.specs.Taking.{IsFaultBy, IsInOrder, IsReviseFault, MakesOne, MakesTooLong, RevisesOrNot, CarriesOut}
 use Rattle.screen_editor.proofs.NewTexts.{count_texts, edits_more, given_len, text_given, text_len, texts_more}
 
 pub no_source : ℕ → ℕ → ℕ
@@ -50,7 +50,7 @@ all_kept e = record {
 }
 
 -- a key whose text would be too long
-pub too_long_kept : (key : Key) (e : Editing) → MakesOne key e → MakesTooLong key e → TakesKey key e (Err Fault.TooLong) e
+pub too_long_kept : (key : Key) (e : Editing) → MakesOne key e → MakesTooLong key e → CarriesOut key e (Err Fault.TooLong) e
 too_long_kept key e one long = record {
   done = tt;
   command = tt;
@@ -69,7 +69,7 @@ pub record Stays (key : Key) (old new : Editing) : Type 0 where
   pub does : Does key old new
   pub session : new.session ≡ old.session
 
-pub stays : (key : Key) (old new : Editing) → IsEditing old → HoldsHistory old.session → Stays key old new → TakesKey key old (Ok tt) new
+pub stays : (key : Key) (old new : Editing) → IsEditing old → HoldsHistory old.session → Stays key old new → CarriesOut key old (Ok tt) new
 stays key old new e h s = record {
   done = s.does;
   command = (
@@ -98,7 +98,7 @@ stays key old new e h s = record {
         omega (arith, count, l)
 
 pub idle : (key : Key) (e : Editing) → IsEditing e → HoldsHistory e.session → ((source : ℕ → ℕ → ℕ) → done key (state_of source e) ≡ state_of source e)
-    → ((source : ℕ → ℕ → ℕ) → edit_of 0 key (state_of source e) ≡ None) → TakesKey key e (Ok tt) e
+    → ((source : ℕ → ℕ → ℕ) → edit_of 0 key (state_of source e) ≡ None) → CarriesOut key e (Ok tt) e
 idle key e is h same none = stays key e e is h (record {
   texts = λ source. ap (λ (s : EditorState). s.texts) (same source);
   edit = none;
@@ -120,7 +120,7 @@ count_revised source e t = length-append (texts_of source e.session) (t ∷ []) 
 
 -- a key whose text would be too long is refused
 pub long_kept : (key : Key) (e : Editing) (prior : Option ℕ) (q : ℕ) (t : (ℕ → ℕ → ℕ) → List ℕ) → ((source : ℕ → ℕ → ℕ) → done key (state_of source e) ≡ revised (state_of source e) (t source) prior q)
-    → ((source : ℕ → ℕ → ℕ) → longest_text < length (t source)) → TakesKey key e (Err Fault.TooLong) e
+    → ((source : ℕ → ℕ → ℕ) → longest_text < length (t source)) → CarriesOut key e (Err Fault.TooLong) e
 long_kept key e prior q t does long = too_long_kept key e
     (λ source. ap (λ (s : EditorState). length s.texts) (does source) ∙ count_revised source e (t source))
     (λ source. subst (λ n. longest_text < n) (sym (ap (λ (s : EditorState). length (current s)) (does source) ∙ ap length (current_revised source e (t source)))) (long source))
@@ -146,7 +146,7 @@ not_long key e command prior q cuts h p long =
     omega (arith, len, l, short)
 
 pub plan_taken : (key : Key) (old : Editing) (command : Command) (prior : Option ℕ) (q : ℕ) (cuts : List CutSpan) (mid new : Editing) → HoldsHistory old.session → IsPlan key old command prior q cuts
-    → RevisesOrNot command prior q old (Ok tt) mid → new ≡ record mid { cuts = cuts } → TakesKey key old (Ok tt) new
+    → RevisesOrNot command prior q old (Ok tt) mid → new ≡ record mid { cuts = cuts } → CarriesOut key old (Ok tt) new
 plan_taken key old command prior q cuts mid new h p r is = record {
   done = does;
   command = (
@@ -182,7 +182,7 @@ plan_fault key old command (Fault.Edit Edit.TooManyPieces) new edit one h = (one
 plan_fault key old command (Fault.Edit Edit.Memory) new edit one h = one
 
 pub plan_refused : (key : Key) (old : Editing) (command : Command) (prior : Option ℕ) (q : ℕ) (cuts : List CutSpan) (f : KeyFault) (new : Editing) → HoldsHistory old.session → IsPlan key old command prior q cuts
-    → RevisesOrNot command prior q old (Err f) new → TakesKey key old (Err f) new
+    → RevisesOrNot command prior q old (Err f) new → CarriesOut key old (Err f) new
 plan_refused key old command prior q cuts f new h p r = record {
   done = tt;
   command = tt;
@@ -201,7 +201,7 @@ plan_refused key old command prior q cuts f new h p r = record {
 
 -- a key that leaves the cut spans as they are
 pub plan_takes : (key : Key) (old : Editing) (command : Command) (prior : Option ℕ) (q : ℕ) (result : Result (Unit {0}) KeyFault) (new : Editing) → HoldsHistory old.session → IsPlan key old command prior q old.cuts
-    → RevisesOrNot command prior q old result new → TakesKey key old result new
+    → RevisesOrNot command prior q old result new → CarriesOut key old result new
 plan_takes key old command prior q (Ok done) new h p r =
     plan_taken key old command prior q old.cuts new new h p r (ap (λ (cs : List CutSpan). record new { cuts = cs }) (ap (λ (e : Editing). e.cuts) r.revises.rest))
 plan_takes key old command prior q (Err f) new h p r = plan_refused key old command prior q old.cuts f new h p r

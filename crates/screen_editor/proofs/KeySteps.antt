@@ -16,7 +16,7 @@ use Rattle.screen_editor.specs.declared.key.Key.TheVariants as Keys
 use Rattle.screen_editor.specs.Editing.{Editing, IsCutSpan, IsEditing, current_len, last_of, longest_text, state_of}
 use Rattle.screen_editor.specs.Machine.{cut_out, cut_to, cutting, done, edited, gone_back, pasted, pasting, revised}
 use Rattle.screen_editor.specs.State.{current, last_revision, prior_of}
-use Rattle.screen_editor.specs.Taking.{RevisesOrNot, TakesKey}
+use Rattle.screen_editor.specs.Taking.{RevisesOrNot, CarriesOut}
 use Rattle.screen_editor.proofs.KeyPlans.{IsPlan, current_text_len, idle, long_kept, stays}
 use Rattle.screen_editor.proofs.NewTexts.{count_texts, length-replaced, text_len}
 use Rattle.screen_editor.proofs.Revising.{lengths_more}
@@ -56,7 +56,7 @@ typed_plan e b bytes is h short byte =
       short = omega (arith, one, short);
     }
 
-pub typed_too_long : (e : Editing) (b : ℕ) → IsEditing e → HoldsHistory e.session → longest_text ≤ current_len e → TakesKey (Keys.Typed b) e (Err Fault.TooLong) e
+pub typed_too_long : (e : Editing) (b : ℕ) → IsEditing e → HoldsHistory e.session → longest_text ≤ current_len e → CarriesOut (Keys.Typed b) e (Err Fault.TooLong) e
 typed_too_long e b is h long = long_kept (Keys.Typed b) e (Some (last_of e)) (e.place + 1) (λ source. replaced (last_text source e) e.place 0 (b ∷ [])) (λ source. edited_at source e e.place 0 (b ∷ []) (e.place + 1)) longer
   where
     longer : (source : ℕ → ℕ → ℕ) → longest_text < length (replaced (last_text source e) e.place 0 (b ∷ []))
@@ -81,7 +81,7 @@ erase_before_plan e is h some =
       short = omega (arith, short);
     }
 
-pub erase_before_idle : (e : Editing) → IsEditing e → HoldsHistory e.session → e.place ≡ 0 → TakesKey Keys.EraseBefore e (Ok tt) e
+pub erase_before_idle : (e : Editing) → IsEditing e → HoldsHistory e.session → e.place ≡ 0 → CarriesOut Keys.EraseBefore e (Ok tt) e
 erase_before_idle e is h none =
     let test = le-ltb 0 e.place (omega (arith, none)) in
     idle Keys.EraseBefore e is h (λ source. left_so (nat_lt 0 e.place) (edited (state_of source e) (e.place - 1) 1 [] (e.place - 1)) (state_of source e) test)
@@ -101,7 +101,7 @@ erase_at_plan e is h some =
       short = omega (arith, short);
     }
 
-pub erase_at_idle : (e : Editing) → IsEditing e → HoldsHistory e.session → current_len e ≤ e.place → TakesKey Keys.EraseAt e (Ok tt) e
+pub erase_at_idle : (e : Editing) → IsEditing e → HoldsHistory e.session → current_len e ≤ e.place → CarriesOut Keys.EraseAt e (Ok tt) e
 erase_at_idle e is h none =
     let test : (source : ℕ → ℕ → ℕ) → nat_lt e.place (length (current (state_of source e))) ≡ false = λ source. current_test e h source ∙ le-ltb e.place (current_len e) none in
     idle Keys.EraseAt e is h (λ source. left_so (nat_lt e.place (length (current (state_of source e)))) (edited (state_of source e) e.place 1 [] e.place) (state_of source e) (test source))
@@ -132,7 +132,7 @@ undo_plan e j is h prior before =
       short = is.short j there;
     }
 
-pub undo_idle : (e : Editing) → IsEditing e → HoldsHistory e.session → get_or e.priors (last_of e) None ≡ None → TakesKey Keys.Undo e (Ok tt) e
+pub undo_idle : (e : Editing) → IsEditing e → HoldsHistory e.session → get_or e.priors (last_of e) None ≡ None → CarriesOut Keys.Undo e (Ok tt) e
 undo_idle e is h none = idle Keys.Undo e is h (λ source. ap (λ (o : Option ℕ). gone_back o (state_of source e)) (last_prior e source None none))
     (λ source. ap (option_map Recorded.Back) (last_prior e source None none))
 
@@ -162,7 +162,7 @@ paste_plan e c is h first span short = record {
   short = short;
 }
 
-pub paste_too_long : (e : Editing) (c : CutSpan) → IsEditing e → HoldsHistory e.session → slice_get e.cuts 0 ≡ Some c → IsCutSpan e.session c → longest_text < current_len e + c.len → TakesKey Keys.Paste e (Err Fault.TooLong) e
+pub paste_too_long : (e : Editing) (c : CutSpan) → IsEditing e → HoldsHistory e.session → slice_get e.cuts 0 ≡ Some c → IsCutSpan e.session c → longest_text < current_len e + c.len → CarriesOut Keys.Paste e (Err Fault.TooLong) e
 paste_too_long e c is h first span long = long_kept Keys.Paste e (Some (last_of e)) (e.place + c.len) (λ source. replaced (last_text source e) e.place 0 (put_in source e c)) (paste_does e c first) longer
   where
     longer : (source : ℕ → ℕ → ℕ) → longest_text < length (replaced (last_text source e) e.place 0 (put_in source e c))
@@ -175,7 +175,7 @@ paste_too_long e c is h first span long = long_kept Keys.Paste e (Some (last_of 
         let all = length-replaced (last_text source e) e.place 0 (put_in source e c) (omega (arith, len, inside)) in
         omega (arith, len, all, put, long)
 
-pub paste_idle : (e : Editing) → IsEditing e → HoldsHistory e.session → slice_get e.cuts 0 ≡ None → TakesKey Keys.Paste e (Ok tt) e
+pub paste_idle : (e : Editing) → IsEditing e → HoldsHistory e.session → slice_get e.cuts 0 ≡ None → CarriesOut Keys.Paste e (Ok tt) e
 paste_idle e is h none = idle Keys.Paste e is h (λ source. ap (λ (cs : List CutSpan). pasted cs (state_of source e)) (none_is e.cuts none)) (λ source. ap (λ (cs : List CutSpan). pasting cs (state_of source e)) (none_is e.cuts none))
 
 -- ---- the bytes from the mark to the place, cut
@@ -200,13 +200,13 @@ cut_plan e m is h mark inside other =
       short = omega (arith, short);
     }
 
-pub cut_idle_here : (e : Editing) (m : ℕ) → IsEditing e → HoldsHistory e.session → e.mark ≡ Some m → m ≡ e.place → TakesKey Keys.Cut e (Ok tt) e
+pub cut_idle_here : (e : Editing) (m : ℕ) → IsEditing e → HoldsHistory e.session → e.mark ≡ Some m → m ≡ e.place → CarriesOut Keys.Cut e (Ok tt) e
 cut_idle_here e m is h mark same =
     let test : (m == e.place) ≡ true = eq-eqb m e.place same in
     idle Keys.Cut e is h (λ source. ap (λ (o : Option ℕ). cut_to o (state_of source e)) mark ∙ taken_so (m == e.place) (state_of source e) (cut_out (state_of source e) (min m e.place) (max m e.place)) test)
     (λ source. ap (λ (o : Option ℕ). cutting o (state_of source e)) mark ∙ taken_so (m == e.place) None (Some (Recorded.Delete (last_revision (state_of source e)) (min m e.place) (max m e.place - min m e.place))) test)
 
-pub cut_idle : (e : Editing) → IsEditing e → HoldsHistory e.session → e.mark ≡ None → TakesKey Keys.Cut e (Ok tt) e
+pub cut_idle : (e : Editing) → IsEditing e → HoldsHistory e.session → e.mark ≡ None → CarriesOut Keys.Cut e (Ok tt) e
 cut_idle e is h mark = idle Keys.Cut e is h (λ source. ap (λ (o : Option ℕ). cut_to o (state_of source e)) mark) (λ source. ap (λ (o : Option ℕ). cutting o (state_of source e)) mark)
 
 -- what was cut lies in the revision that it was cut from
@@ -221,7 +221,7 @@ cut_lies e mid m prior q is h k inside other r =
 
 -- ---- no revision
 
-pub left_stays : (e : Editing) → IsEditing e → HoldsHistory e.session → 0 < e.place → TakesKey Keys.Left e (Ok tt) (record e { place = e.place - 1 })
+pub left_stays : (e : Editing) → IsEditing e → HoldsHistory e.session → 0 < e.place → CarriesOut Keys.Left e (Ok tt) (record e { place = e.place - 1 })
 left_stays e is h some =
     let test = lt-ltb 0 e.place some in
     stays Keys.Left e (record e { place = e.place - 1 }) is h (record {
@@ -231,10 +231,10 @@ left_stays e is h some =
       session = refl;
     })
 
-pub left_idle : (e : Editing) → IsEditing e → HoldsHistory e.session → e.place ≡ 0 → TakesKey Keys.Left e (Ok tt) e
+pub left_idle : (e : Editing) → IsEditing e → HoldsHistory e.session → e.place ≡ 0 → CarriesOut Keys.Left e (Ok tt) e
 left_idle e is h none = idle Keys.Left e is h (λ source. left_so (nat_lt 0 e.place) (record (state_of source e) { place = e.place - 1 }) (state_of source e) (le-ltb 0 e.place (omega (arith, none)))) (λ source. refl)
 
-pub right_stays : (e : Editing) → IsEditing e → HoldsHistory e.session → e.place < current_len e → TakesKey Keys.Right e (Ok tt) (record e { place = e.place + 1 })
+pub right_stays : (e : Editing) → IsEditing e → HoldsHistory e.session → e.place < current_len e → CarriesOut Keys.Right e (Ok tt) (record e { place = e.place + 1 })
 right_stays e is h some =
     let test : (source : ℕ → ℕ → ℕ) → nat_lt e.place (length (current (state_of source e))) ≡ true = λ source. current_test e h source ∙ lt-ltb e.place (current_len e) some in
     stays Keys.Right e (record e { place = e.place + 1 }) is h (record {
@@ -244,13 +244,13 @@ right_stays e is h some =
       session = refl;
     })
 
-pub right_idle : (e : Editing) → IsEditing e → HoldsHistory e.session → current_len e ≤ e.place → TakesKey Keys.Right e (Ok tt) e
+pub right_idle : (e : Editing) → IsEditing e → HoldsHistory e.session → current_len e ≤ e.place → CarriesOut Keys.Right e (Ok tt) e
 right_idle e is h none = idle Keys.Right e is h
     (λ source. left_so (nat_lt e.place (length (current (state_of source e)))) (record (state_of source e) { place = e.place + 1 }) (state_of source e) (current_test e h source ∙ le-ltb e.place (current_len e) none))
     (λ source. refl)
 
-pub mark_stays : (e : Editing) → IsEditing e → HoldsHistory e.session → TakesKey Keys.Mark e (Ok tt) (record e { mark = Some e.place })
+pub mark_stays : (e : Editing) → IsEditing e → HoldsHistory e.session → CarriesOut Keys.Mark e (Ok tt) (record e { mark = Some e.place })
 mark_stays e is h = stays Keys.Mark e (record e { mark = Some e.place }) is h (record { texts = λ source. refl; edit = λ source. refl; does = λ source. refl; session = refl })
 
-pub drop_cut_stays : (e : Editing) → IsEditing e → HoldsHistory e.session → TakesKey Keys.DropCut e (Ok tt) (record e { cuts = drop 1 e.cuts })
+pub drop_cut_stays : (e : Editing) → IsEditing e → HoldsHistory e.session → CarriesOut Keys.DropCut e (Ok tt) (record e { cuts = drop 1 e.cuts })
 drop_cut_stays e is h = stays Keys.DropCut e (record e { cuts = drop 1 e.cuts }) is h (record { texts = λ source. refl; edit = λ source. refl; does = λ source. refl; session = refl })

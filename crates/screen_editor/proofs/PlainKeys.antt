@@ -12,7 +12,7 @@ use Rattle.screen_editor.specs.Editing.{Editing, IsEditing}
 use Rattle.screen_editor.specs.Keys.{key_of, moves_by_lines}
 use Rattle.screen_editor.specs.Refusals.{WasRefused}
 use Rattle.screen_editor.specs.Revising.{IsPlainFault, TakesPlain}
-use Rattle.screen_editor.specs.Taking.{IsFaultBy, MetBy, TakesKey}
+use Rattle.screen_editor.specs.Taking.{IsFaultBy, MetBy, CarriesOut}
 use Rattle.screen_editor.proofs.KeyPlans.{idle}
 
 -- ---- keys that look for line breaks
@@ -84,12 +84,12 @@ plain_fault b old (Fault.Edit (Edit.Node n)) new h = (h.0, was_refused b old (Ed
 plain_fault b old (Fault.Edit Edit.TooManyPieces) new h = (h.0, was_refused b old Edit.TooManyPieces new h.1)
 plain_fault b old (Fault.Edit Edit.Memory) new h = (h, tt)
 
-of_key : (b : ℕ) (old : Editing) (result : Result (Unit {0}) KeyFault) (new : Editing) → TakesKey (key_of b) old result new → TakesPlain b old result new
+of_key : (b : ℕ) (old : Editing) (result : Result (Unit {0}) KeyFault) (new : Editing) → CarriesOut (key_of b) old result new → TakesPlain b old result new
 of_key b old (Ok done) new t = record { done = t.done; command = t.command; kept = tt; too_long = t.too_long; too_many = t.too_many; fault = tt; sources = t.sources }
 of_key b old (Err f) new t = record { done = tt; command = tt; kept = t.kept; too_long = t.too_long; too_many = t.too_many; fault = plain_fault b old f new t.fault; sources = t.sources }
 
-pub takes_plain : {key : Key} {old : Editing} {result : Result (Unit {0}) KeyFault} {new : Editing} (b : ℕ) → key ≡ key_of b → TakesKey key old result new → TakesPlain b old result new
-takes_plain {key} {old} {result} {new} b same t = of_key b old result new (subst (λ (k : Key). TakesKey k old result new) same t)
+pub takes_plain : {key : Key} {old : Editing} {result : Result (Unit {0}) KeyFault} {new : Editing} (b : ℕ) → key ≡ key_of b → CarriesOut key old result new → TakesPlain b old result new
+takes_plain {key} {old} {result} {new} b same t = of_key b old result new (subst (λ (k : Key). CarriesOut k old result new) same t)
 
 -- ---- keys that do nothing here
 

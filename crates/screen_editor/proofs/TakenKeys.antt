@@ -11,7 +11,8 @@ use Rattle.screen_editor.specs.declared.key.Step.TheVariants.{Going, Save, Leave
 use Rattle.screen_editor.specs.Editing.{Editing}
 use Rattle.screen_editor.specs.Keys.{answer_of, ends}
 use Rattle.screen_editor.specs.Refusals.{IsKeyFault}
-use Rattle.screen_editor.specs.Runs.{Passes}
+use Rattle.screen_editor.specs.Revising.{GrowsTooLong}
+use Rattle.screen_editor.specs.Runs.{IsReason, Passes}
 
 -- a session has as many texts as revisions
 pub text_count : (source : ℕ → ℕ → ℕ) (v : SessionValue) → length (texts_of source v) ≡ length v.revisions
@@ -50,6 +51,13 @@ refused_ends_nothing stated failures before now b old new fault h =
         | inr neither ↦ rw (other.0, neither.0) refl
       ]
     ]
+
+-- a refused key has its reason
+pub reason : {T : Type 0} (stated : T → Stated) (failures : T → ℕ) (before now : T) (b : ℕ) (old new : Editing) (fault : KeyFault) → (fault ≡ Key.TooLong → GrowsTooLong b old) → IsKeyFault stated failures before now b old fault new
+    → IsReason b old fault new
+reason stated failures before now b old new Key.TooLong long h = long refl
+reason stated failures before now b old new (Key.Edit f) long h = h
+reason stated failures before now b old new (Key.Source f) long h = h.0
 
 -- a key that is taken behind a frame, whose making changed nothing that the key sees
 pub passes_after : (st later : Stated) (b : ℕ) (old same new : Editing) → later ≡ st → same ≡ old → Passes later b same new → Passes st b old new

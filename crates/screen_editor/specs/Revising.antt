@@ -46,7 +46,7 @@ abbrev pub GrowsTooLong : ℕ → Editing → Type 0
 GrowsTooLong b e = (source : ℕ → ℕ → ℕ) → longest_text < length (current (step b (state_of source e)))
 
 -- A key is taken, as the machine says, or refused. It is too long exactly where its text would be; else, where there are too many
--- revisions, that or want of memory is told; the reasons to read fail only where a source failed.
+-- revisions, that or want of memory is told; a source's fault is told only where a read of it failed, and of no text that can be read.
 pub record TakesKey {T : Type 0} (stated : T → Stated) (failures : T → ℕ) (b : ℕ) (old : EditorValue T) (result : Result Step KeyFault) (new : EditorValue T) : Type 0 where
   pub step : OnOk result (IsStep (stated old.sources) b old.editing new.editing)
   pub answer : IfOk result (λ a. a ≡ answer_of b)

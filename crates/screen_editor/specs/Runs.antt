@@ -1,5 +1,5 @@
 -- What a run takes, shows and answers.
-use Rattle.std.specs.Prelude.{◌≡◌, ◌⊎◌, ℕ, ◌≤◌, false, List, [], ◌∷◌, ◌++◌, length, take, slice_get, All, Option, Some, Result, Ok, Err, IfOk, IfErr, IsErrOf}
+use Rattle.std.specs.Prelude.{◌≡◌, ◌⊎◌, ℕ, ◌≤◌, false, List, [], ◌∷◌, ◌++◌, IsTrue, length, take, slice_get, All, Option, Some, Result, Ok, Err, IfOk, IfErr, IsErrOf}
 use Rattle.std.specs.Global.{Vec}
 use Rattle.std.specs.List.{flat_map, list_any}
 use Rattle.std.specs.Io.KnownBytes.{Appends, Consumes, IsAtEnd}
@@ -11,15 +11,16 @@ use Rattle.screen_editor.specs.declared.fault.End.TheVariants.{Save, Leave}
 use Rattle.screen_editor.specs.declared.fault.FrameFault.{FrameFault}
 use Rattle.screen_editor.specs.declared.fault.FrameFault.TheVariants as Frames
 use Rattle.screen_editor.specs.declared.fault.KeyFault.{KeyFault}
+use Rattle.screen_editor.specs.declared.fault.KeyFault.TheVariants as Key
 use Rattle.screen_editor.specs.declared.running.TheConstants.{MOST_KEYS}
 use Rattle.screen_editor.specs.declared.fault.RunFault.{RunFault}
 use Rattle.screen_editor.specs.declared.fault.RunFault.TheVariants.{Read, Write, Frame, TooManyKeys}
 use Rattle.screen_editor.specs.Editing.{Editing, EditorValue, EachCurrent, state_of}
-use Rattle.screen_editor.specs.Keys.{ends}
-use Rattle.screen_editor.specs.Revising.{IsStep, IsRefusedBy}
+use Rattle.screen_editor.specs.Keys.{ends, moves_by_lines}
+use Rattle.screen_editor.specs.Revising.{GrowsTooLong, IsStep, IsRefusedBy}
 use Rattle.byte_output.specs.Prefix.{AppendsPrefix}
 use Rattle.screen_editor.specs.Frame.{frame_of}
-use Rattle.screen_editor.specs.Refusals.{IsFrameFault}
+use Rattle.screen_editor.specs.Refusals.{IsEditFault, IsFrameFault, MakesRevision}
 
 -- the bytes that show it, whatever bytes the sources have that agree with what they state, where each cell of the text is stated
 abbrev pub IsFrame : Stated → Editing → List ℕ → Type 0
@@ -33,9 +34,15 @@ pub record MakesFrame {T : Type 0} (stated : T → Stated) (failures : T → ℕ
   pub reads : Reads stated failures old.sources new.sources
   pub kept : new.editing ≡ old.editing
 
--- a key makes the machine's step, or is refused
+-- why a key may be refused: its text would be too long; its command was refused; or a line break was looked for, and a read failed
+abbrev pub IsReason : ℕ → Editing → KeyFault → Editing → Type 0
+IsReason b old Key.TooLong new = GrowsTooLong b old
+IsReason b old (Key.Edit fault) new = MakesRevision b old × IsEditFault b old fault new
+IsReason b old (Key.Source fault) new = IsTrue (moves_by_lines b)
+
+-- a key makes the machine's step, or is refused for a reason
 abbrev pub Passes : Stated → ℕ → Editing → Editing → Type 0
-Passes st b old new = IsStep st b old new ⊎ ((f : KeyFault) × IsRefusedBy f old new)
+Passes st b old new = IsStep st b old new ⊎ ((f : KeyFault) × IsRefusedBy f old new × IsReason b old f new)
 
 -- each state follows from the one before it
 abbrev pub Follow : Stated → Editing → List ℕ → List Editing → Type 0

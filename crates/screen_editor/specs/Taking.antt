@@ -65,7 +65,7 @@ IsFaultBy key old (Fault.Edit fault) new = MakesOne key old × MetBy key old fau
 IsFaultBy key old (Fault.Source fault) new = ⊥
 
 -- what a key does to all but the sources and the message
-pub record TakesKey (key : Key) (old : Editing) (result : Result (Unit {0}) KeyFault) (new : Editing) : Type 0 where
+pub record CarriesOut (key : Key) (old : Editing) (result : Result (Unit {0}) KeyFault) (new : Editing) : Type 0 where
   pub done : OnOk result (Does key old new)
   pub command : OnOk result (RecordsEdit key old new)
   pub kept : OnErr result (KeepsAll old new)

@@ -4,7 +4,7 @@ ghost use Rattle.screen_editor.specs.declared.key.Key.TheVariants as Keys;
 ghost use Rattle.std.specs.Prelude.{◌≡◌, false};
 ghost use Rattle.screen_editor.specs.Keys.{moves_by_lines};
 ghost use Rattle.screen_editor.specs.Revising.{TakesPlain};
-ghost use Rattle.screen_editor.specs.Taking.{TakesKey};
+ghost use Rattle.screen_editor.specs.Taking.{CarriesOut};
 
 use crate::cut_span::CutSpan;
 use crate::fault::KeyFault;
@@ -51,7 +51,7 @@ impl Workspace {
 
     /// Goes to the byte before.
     pub(crate) fn move_left(&mut self) -> Result<(), KeyFault>
-        ensures { TakesKey Keys.Left self.old result self.new }
+        ensures { CarriesOut Keys.Left self.old result self.new }
     {
         let _last = self.last();
         let place = self.place();
@@ -63,7 +63,7 @@ impl Workspace {
 
     /// Goes to the byte after.
     pub(crate) fn move_right(&mut self) -> Result<(), KeyFault>
-        ensures { TakesKey Keys.Right self.old result self.new }
+        ensures { CarriesOut Keys.Right self.old result self.new }
     {
         let _last = self.last();
         let place = self.place();
@@ -75,7 +75,7 @@ impl Workspace {
 
     /// The mark is set at the place.
     pub(crate) fn mark_here(&mut self) -> Result<(), KeyFault>
-        ensures { TakesKey Keys.Mark self.old result self.new }
+        ensures { CarriesOut Keys.Mark self.old result self.new }
     {
         let _last = self.last();
         self.set_mark();
@@ -84,7 +84,7 @@ impl Workspace {
 
     /// The latest cut span is no longer kept.
     pub(crate) fn forget_cut(&mut self) -> Result<(), KeyFault>
-        ensures { TakesKey Keys.DropCut self.old result self.new }
+        ensures { CarriesOut Keys.DropCut self.old result self.new }
     {
         let _last = self.last();
         self.drop_cut();
@@ -93,7 +93,7 @@ impl Workspace {
 
     /// A byte is put in at the place.
     pub(crate) fn type_byte(&mut self, byte: u8) -> Result<(), KeyFault>
-        ensures { TakesKey (Keys.Typed byte) self.old result self.new }
+        ensures { CarriesOut (Keys.Typed byte) self.old result self.new }
     {
         let (last, place) = (self.last(), self.place());
         if self.len() >= LONGEST_TEXT {
@@ -109,7 +109,7 @@ impl Workspace {
 
     /// The byte before the place goes out.
     pub(crate) fn erase_before(&mut self) -> Result<(), KeyFault>
-        ensures { TakesKey Keys.EraseBefore self.old result self.new }
+        ensures { CarriesOut Keys.EraseBefore self.old result self.new }
     {
         let (last, place) = (self.last(), self.place());
         if place == 0 {
@@ -125,7 +125,7 @@ impl Workspace {
 
     /// The byte at the place goes out.
     pub(crate) fn erase_at(&mut self) -> Result<(), KeyFault>
-        ensures { TakesKey Keys.EraseAt self.old result self.new }
+        ensures { CarriesOut Keys.EraseAt self.old result self.new }
     {
         let (last, place) = (self.last(), self.place());
         if place >= self.len() {
@@ -141,7 +141,7 @@ impl Workspace {
 
     /// The text goes back to the one before its last change.
     pub(crate) fn undo(&mut self) -> Result<(), KeyFault>
-        ensures { TakesKey Keys.Undo self.old result self.new }
+        ensures { CarriesOut Keys.Undo self.old result self.new }
     {
         let last = self.last();
         let Some(back) = self.prior(last) else {
@@ -154,7 +154,7 @@ impl Workspace {
 
     /// The rope of the text is balanced.
     pub(crate) fn balance(&mut self) -> Result<(), KeyFault>
-        ensures { TakesKey Keys.Balance self.old result self.new }
+        ensures { CarriesOut Keys.Balance self.old result self.new }
     {
         let (last, place) = (self.last(), self.place());
         self.revise(Command::Balance { r: last }, Some(last), place)
@@ -162,7 +162,7 @@ impl Workspace {
 
     /// The bytes of the latest cut span are put in at the place.
     pub(crate) fn paste(&mut self) -> Result<(), KeyFault>
-        ensures { TakesKey Keys.Paste self.old result self.new }
+        ensures { CarriesOut Keys.Paste self.old result self.new }
     {
         let (last, place) = (self.last(), self.place());
         let Some(span) = self.latest_cut() else {
@@ -183,7 +183,7 @@ impl Workspace {
 
     /// The bytes between the mark and the place go out, and their span is kept.
     pub(crate) fn cut(&mut self) -> Result<(), KeyFault>
-        ensures { TakesKey Keys.Cut self.old result self.new }
+        ensures { CarriesOut Keys.Cut self.old result self.new }
     {
         let (last, place) = (self.last(), self.place());
         let Some(mark) = self.mark() else {

@@ -1,5 +1,5 @@
-use Rattle.std.proofs.Common.{inl, inr}
-use Rattle.screen_editor.proofs.TakenKeys.{going_ends_nothing, passes_after, refused_ends_nothing}
+use Rattle.std.proofs.Common.{inl, inr, ap, Err}
+use Rattle.screen_editor.proofs.TakenKeys.{going_ends_nothing, passes_after, reason, refused_ends_nothing}
 use Rattle.screen_editor.proofs.editor.Editor.turn.Goals as goal
 
 pub returns-in-Ok-Going-clause-turn : goal.returns-in-Ok-Going-clause-turn
@@ -19,7 +19,7 @@ returns-in-Err-clause-turn g c = (
   refused_ends_nothing g.R.Sources.stated g.R.Sources.failures c.show.new.self.sources c.key.new.self.sources c.in-Some.byte c.show.new.self.editing c.key.new.self.editing c.in-Err.field-0 c.in-Err.ensures.fault,
   record {
     key = rw c.in-Some.is at c.in_ok-byte.ensures.key;
-    passes = passes_after (g.R.Sources.stated c.args.self.now.sources) (g.R.Sources.stated c.show.new.self.sources) c.in-Some.byte c.args.self.now.editing c.show.new.self.editing c.key.new.self.editing c.show.ensures.reads.same c.show.ensures.kept (inr (c.in-Err.field-0, c.in-Err.ensures.refused));
+    passes = passes_after (g.R.Sources.stated c.args.self.now.sources) (g.R.Sources.stated c.show.new.self.sources) c.in-Some.byte c.args.self.now.editing c.show.new.self.editing c.key.new.self.editing c.show.ensures.reads.same c.show.ensures.kept (inr (c.in-Err.field-0, c.in-Err.ensures.refused, reason g.R.Sources.stated g.R.Sources.failures c.show.new.self.sources c.key.new.self.sources c.in-Some.byte c.show.new.self.editing c.key.new.self.editing c.in-Err.field-0 (λ e. c.in-Err.ensures.too_long.0 (ap Err e)) c.in-Err.ensures.fault));
     shown = c.in_ok-show.ensures.shown;
   },
 )
