@@ -13,6 +13,7 @@ use crate::fault::ReadFault;
 use crate::header::Header;
 use crate::node::{has_unused_node_field, is_unknown_node};
 use crate::number::{u8_in, u16_in, u32_in, u64_in};
+use rope_node::TEXT_LIMIT;
 
 /// A kind of record.
 pub trait Records {
@@ -79,7 +80,7 @@ impl Records for SourceRecords {
 
     #[tactic(auto, unfolding(crate::specs::Reading::source_record_fault))]
     fn check(bytes: &[u8]) -> Result<(), ReadFault> {
-        if u64_in(bytes, 0) >= 1 << 40 {
+        if u64_in(bytes, 0) >= TEXT_LIMIT {
             return Err(ReadFault::Count);
         }
         Ok(())

@@ -3,8 +3,8 @@
 ghost use Rattle.std.specs.Prelude.{◌≡◌, ◌+◌, ◌<◌, ◌≤◌, ◌^◌, ◌↔◌, length, IsTrue};
 ghost use Rattle.span_certificate.specs.Parts.{AreRopes, IsInRange, len_of};
 
-use crate::node_rules::{TEXT_LIMIT, is_inside};
-use rope_node::{NodeSpace, rope_len};
+use crate::node_rules::is_inside;
+use rope_node::{NodeSpace, TEXT_LIMIT, rope_len};
 use span_certificate::{Edit, Roots};
 
 /// Whether text `r` is there.

@@ -7,7 +7,7 @@ ghost use Rattle.image_reader.specs.Accepted.{IsGoodNode};
 ghost use Rattle.session_checker.specs.NodeRules.{HasGoodLength, HasGoodDepth, BreaksFirst};
 
 use image_reader::Image;
-use rope_node::{NodeId, NodeView};
+use rope_node::{MOST_DEPTH, NodeId, NodeView, TEXT_LIMIT};
 
 /// A rule of nodes.
 #[derive(Clone, Copy)]
@@ -21,11 +21,6 @@ pub enum NodeRule {
     /// Each span lies inside the pool, the source or the base.
     Span,
 }
-
-/// The first length, in bytes, that is over the limit.
-pub const TEXT_LIMIT: u64 = 1 << 40;
-
-const DEPTH_LIMIT: u32 = 64;
 
 fn has_good_references(image: &Image, id: u32, view: NodeView) -> bool
     ensures { IsTrue result ↔ HasGoodReferences (image_table image.now) id view }
@@ -69,7 +64,7 @@ fn has_good_depth(image: &Image, id: u32, view: NodeView, depth: u8) -> bool
     requires references { HasGoodReferences (image_table image.now) id view }
     ensures { IsTrue result ↔ HasGoodDepth (image_table image.now) depth view }
 {
-    depth as u32 == depth_of(image, id, view) && depth as u32 <= DEPTH_LIMIT
+    depth as u32 == depth_of(image, id, view) && depth as u32 <= u32::from(MOST_DEPTH)
 }
 
 /// Whether the `len` places from `start` on end at `end` or before.

@@ -4,7 +4,7 @@ use Rattle.rope_node.specs.declared.node.NodeId.{NodeId}
 use Rattle.rope_node.specs.declared.node.NodeView.{NodeView}
 use Rattle.rope_node.specs.declared.node.NodeView.TheVariants.{Lit, Src, Fun, Cat, Sub}
 use Rattle.rope_node.specs.Table.{Table, view_at, len_at, IsLeaf, IsSound, HasTrueRecords}
-use Rattle.span_certificate.specs.declared.descent.LeafSpan.{LeafSpan}
+use Rattle.span_certificate.specs.declared.descent.SpanPlace.{SpanPlace}
 use Rattle.span_certificate.specs.Leads.{Leads, here, in_left, in_right, in_base, LeadsToLeaf}
 use Rattle.span_certificate.specs.Descents.{LeadsToSpan}
 
@@ -112,7 +112,7 @@ over_border t n y q x p k o l r e before behind way lead =
     elim (after_cat l r down.0 down.1 e) [ inl w ↦ absurd (omega (arith, w.0)) | inr w ↦ absurd (omega (arith, w.0)) ]
 
 -- a descent that has come to a leaf has found the one leaf span
-pub same_span : (t : Table) (n y q : ℕ) (x : NodeId) (p : ℕ) (v : NodeView) (s : LeafSpan) → IsLeaf (view_at t x.0) → v ≡ view_at t x.0 → IsOnTheWay t n y q x.0 p → LeadsToSpan t n y q s
+pub same_span : (t : Table) (n y q : ℕ) (x : NodeId) (p : ℕ) (v : NodeView) (s : SpanPlace) → IsLeaf (view_at t x.0) → v ≡ view_at t x.0 → IsOnTheWay t n y q x.0 p → LeadsToSpan t n y q s
     → record { leaf = x; start = p; view = v } ≡ s
 same_span t n y q x p v s leaf is way lead =
     let same = at_leaf (way.forth s.leaf.0 s.start lead.leads).0 leaf in

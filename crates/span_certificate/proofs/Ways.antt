@@ -6,7 +6,7 @@ use Rattle.rope_node.specs.declared.node.NodeId.{NodeId}
 use Rattle.rope_node.specs.declared.node.NodeView.TheVariants.{Cat, Sub}
 use Rattle.rope_node.specs.Table.{Table, view_at, len_at, IsLeaf, IsSound, HasTrueRecords}
 use Rattle.span_certificate.specs.declared.describe.Description.{Description}
-use Rattle.span_certificate.specs.declared.descent.LeafSpan.{LeafSpan}
+use Rattle.span_certificate.specs.declared.descent.SpanPlace.{SpanPlace}
 use Rattle.span_certificate.specs.Leads.{Leads, here, in_left, in_right, in_base, leaf_description, HasDescription}
 use Rattle.span_certificate.specs.Descents.{LeadsToSpan}
 use Rattle.span_certificate.proofs.Descents.{children_of_cat, base_of_sub, not_leaf_cat, not_leaf_sub}
@@ -89,22 +89,22 @@ over_border_to t n k o y q x p l r away e before behind way lead =
     elim (after_cat_to l r (way.forth lead) away e) [ inl w ↦ absurd (omega (arith, w.0)) | inr w ↦ absurd (omega (arith, w.0)) ]
 
 -- where a descent ends, its leaf's description is the span's
-pub described_by_leaf : (t : Table) (coded : ℕ → Coded) (n x p : ℕ) (s : LeafSpan) → ((s' : LeafSpan) → (Some s ≡ Some s') ↔ LeadsToSpan t n x p s') → (d : Description)
+pub described_by_leaf : (t : Table) (coded : ℕ → Coded) (n x p : ℕ) (s : SpanPlace) → ((s' : SpanPlace) → (Some s ≡ Some s') ↔ LeadsToSpan t n x p s') → (d : Description)
     → (leaf_description (coded s.leaf.0) s.start s.view ≡ Some d) ↔ HasDescription t coded n x p d
 described_by_leaf t coded n x p s found d = (
   λ e. let here = (found s).0 refl in (s.leaf.0, s.start, here.leads, rw (← here.view) e),
   λ (k, o, lead, e).
-      let end : LeafSpan = record { leaf = record { 0 = k }; start = o; view = view_at t k } in
+      let end : SpanPlace = record { leaf = record { 0 = k }; start = o; view = view_at t k } in
       let same : Some s ≡ Some end = (found end).1 (record { leads = lead; view = refl }) in
       let is : s ≡ end = cc in
-      subst (λ (z : LeafSpan). leaf_description (coded z.leaf.0) z.start z.view ≡ Some d) (sym is) e,
+      subst (λ (z : SpanPlace). leaf_description (coded z.leaf.0) z.start z.view ≡ Some d) (sym is) e,
 )
 
-pub described_by_none : (t : Table) (coded : ℕ → Coded) (n x p : ℕ) → ((s' : LeafSpan) → (None ≡ Some s') ↔ LeadsToSpan t n x p s') → (d : Description) → (None ≡ Some d) ↔ HasDescription t coded n x p d
+pub described_by_none : (t : Table) (coded : ℕ → Coded) (n x p : ℕ) → ((s' : SpanPlace) → (None ≡ Some s') ↔ LeadsToSpan t n x p s') → (d : Description) → (None ≡ Some d) ↔ HasDescription t coded n x p d
 described_by_none t coded n x p found d = (
   λ e. absurd cc,
   λ (k, o, lead, e).
-      let end : LeafSpan = record { leaf = record { 0 = k }; start = o; view = view_at t k } in
+      let end : SpanPlace = record { leaf = record { 0 = k }; start = o; view = view_at t k } in
       let same : None ≡ Some end = (found end).1 (record { leads = lead; view = refl }) in
       absurd cc,
 )

@@ -1,19 +1,19 @@
 -- What descents hand on: a leaf span, with what its leaf is.
 use Rattle.std.specs.Prelude.{◌≡◌, ℕ, ◌+◌, ◌<◌, ◌≤◌, length}
 use Rattle.rope_node.specs.Table.{Table, view_at, len_at, IsLeaf}
-use Rattle.span_certificate.specs.declared.descent.LeafSpan.{LeafSpan}
+use Rattle.span_certificate.specs.declared.descent.SpanPlace.{SpanPlace}
 use Rattle.span_certificate.specs.declared.walk.Span.{Span}
 use Rattle.span_certificate.specs.declared.walk.Reached.{Reached}
 use Rattle.span_certificate.specs.Leads.{LeadsToLeaf}
 use Rattle.span_certificate.specs.Steps.{IsReached}
 
 -- n bytes from its start on lie in the leaf
-pub record IsLeafSpan (t : Table) (n : ℕ) (s : LeafSpan) : Type 0 where
+pub record IsSpanPlace (t : Table) (n : ℕ) (s : SpanPlace) : Type 0 where
   pub there : s.leaf.0 < length t.nodes
   pub inside : s.start + n ≤ len_at t s.leaf.0
 
 -- the n bytes of node x from p on lead to it
-pub record LeadsToSpan (t : Table) (n x p : ℕ) (s : LeafSpan) : Type 0 where
+pub record LeadsToSpan (t : Table) (n x p : ℕ) (s : SpanPlace) : Type 0 where
   pub leads : LeadsToLeaf t n s.leaf.0 s.start x p
   pub view : s.view ≡ view_at t s.leaf.0
 

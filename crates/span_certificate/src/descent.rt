@@ -2,14 +2,14 @@
 
 ghost use Rattle.std.specs.Prelude.{◌≡◌, ◌+◌, ◌<◌, ◌≤◌, ◌↔◌, length, Some, IfSome};
 ghost use Rattle.rope_node.specs.Table.{len_at};
-ghost use Rattle.span_certificate.specs.Descents.{IsLeafSpan, LeadsToSpan};
-ghost use Rattle.span_certificate.specs.declared.descent.LeafSpan.{LeafSpan};
+ghost use Rattle.span_certificate.specs.Descents.{IsSpanPlace, LeadsToSpan};
+ghost use Rattle.span_certificate.specs.declared.descent.SpanPlace.{SpanPlace};
 
 use rope_node::{NodeId, NodeSpace, NodeView};
 
 /// Where a span lies in a leaf.
 #[derive(Clone, Copy, Debug, PartialEq, Eq)]
-pub struct LeafSpan {
+pub struct SpanPlace {
     pub leaf: NodeId,
     /// Its first byte, counted from the leaf's.
     pub start: u64,
@@ -19,12 +19,12 @@ pub struct LeafSpan {
 
 /// The leaf span to which the `len` bytes of `node` from `place` on lead, or nothing where they lie in
 /// no one leaf.
-pub fn leaf_span<S: NodeSpace>(space: &S, node: NodeId, place: u64, len: u64) -> Option<LeafSpan>
+pub fn leaf_span<S: NodeSpace>(space: &S, node: NodeId, place: u64, len: u64) -> Option<SpanPlace>
     requires there { node.0 < length (S.table space.now).nodes }
     requires not_empty { 1 ≤ len }
     requires inside { place + len ≤ len_at (S.table space.now) node.0 }
-    ensures inside { IfSome result (IsLeafSpan (S.table space.now) len) }
-    ensures leads { (s : LeafSpan)
+    ensures inside { IfSome result (IsSpanPlace (S.table space.now) len) }
+    ensures leads { (s : SpanPlace)
         → (result ≡ Some s) ↔ LeadsToSpan (S.table space.now) len node.0 place s }
 {
     let mut leaf = node;
@@ -48,7 +48,7 @@ pub fn leaf_span<S: NodeSpace>(space: &S, node: NodeId, place: u64, len: u64) ->
                 start += i;
             }
             NodeView::Lit { .. } | NodeView::Src { .. } | NodeView::Fun => {
-                return Some(LeafSpan { leaf, start, view });
+                return Some(SpanPlace { leaf, start, view });
             }
         }
     }

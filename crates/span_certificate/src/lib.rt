@@ -15,7 +15,7 @@ mod walk;
 
 pub use bytes::{Run, same_bytes};
 pub use cover::{Verdict, verify};
-pub use descent::{LeafSpan, leaf_span};
+pub use descent::{SpanPlace, leaf_span};
 pub use describe::{Description, describe_leaf};
 pub use edit::Edit;
 pub use exact::{describe_part, part_leads};
