@@ -31,6 +31,9 @@ printf a-x > dash
 printf 'a\303\251' > accent
 printf '\377' > highest
 : > nothing
+printf 'ab\025c\030' > keys_saved
+printf 'ab\025c\003' > keys_left
+printf 'ab\025c' > keys_ended
 
 # What the program has to write: the text of a file of tests/data, or what printf makes of the column.
 expected() {
@@ -111,6 +114,20 @@ an image is not shown beside a source too many;show one_insert 1 abc;;1;;refused
 an image is not shown beside 256 sources;show one_insert 1 $(yes abc | head -n 256);;1;;refused S4\n
 an image to show that is not there;show missing 0;;3;;read\n
 a text on a full device;show one_insert 1;;3;/dev/full;write\n
+keys are shown and saved;edit saved;keys_saved;0;edit.txt;
+the saved image shows its last text;show saved 4;;0;ac;
+the saved image shows what undo gave;show saved 3;;0;a;
+the saved image shows the text before;show saved 2;;0;ab;
+keys that leave are shown;edit unsaved;keys_left;0;edit.txt;
+keys that end are shown;edit unsaved;keys_ended;0;edit.txt;
+neither is saved;check unsaved;;3;;read\n
+a file is shown where no key comes;edit unsaved abc;nothing;0;edit_abc.txt;
+an image on a full device;edit /dev/full;keys_saved;3;edit.txt;write\n
+an image in a folder that is not there;edit missing/image;keys_saved;3;edit.txt;write\n
+frames on a full device;edit unsaved;keys_saved;3;/dev/full;write\n
+no image behind them;check unsaved;;3;;read\n
+a file to edit that is not there;edit unsaved missing;keys_saved;3;;read\n
+keys that are a folder;edit unsaved abc;folder;3;edit_abc.txt;read\n
 a part of a file;cut 1 3 abcde;;0;bcd;
 a part past the end ends with the file;cut 3 10 abcde;;0;de;
 a part behind the end is empty;cut 9 1 abcde;;0;;

@@ -1,13 +1,12 @@
 -- What is told of the text of a revision's root is told of the revision.
-use Rattle.std.proofs.Common.{◌≡◌, ℕ, ◌<◌, List, length, Option, sym, ap, subst, ◌∙◌}
+use Rattle.std.proofs.Common.{◌≡◌, ℕ, List, Option, sym, ap, subst, ◌∙◌}
 use Rattle.rope_node.specs.declared.node.NodeId.{NodeId}
-use Rattle.rope_node.specs.Denotes.{IsRope, rope_cells, rope_len, text}
+use Rattle.rope_node.specs.Denotes.{rope_cells, rope_len, text}
 use Rattle.lazy_file.specs.SourceTexts.{Stated}
 use Rattle.cord_position.specs.Fetched.{AreStated, IsStated}
 use Rattle.cord_position.proofs.Spans.{each_cell}
 use Rattle.cord_search.specs.Stated.{OfText}
 use Rattle.image_reader.specs.Value.{ImageValue, image_table}
-use Rattle.image_reader.specs.Accepted.{revision_at}
 use Rattle.session_checker.specs.Faithful.{IsRootOf, revision_text}
 use Rattle.session_checker.proofs.RevisionTexts.{text_of_root}
 use Rattle.cord_tools.specs.Answers.{OfRevision, revision_cells}

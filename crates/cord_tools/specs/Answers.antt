@@ -21,7 +21,7 @@ use Rattle.session_checker.specs.Codes.{fault_code}
 use Rattle.cord_tools.specs.Faults.{check_fault, read_fault}
 use Rattle.cord_tools.specs.Unread.{IsUnread}
 use Rattle.cord_tools.specs.declared.fault.ToolFault.{ToolFault}
-use Rattle.cord_tools.specs.declared.fault.ToolFault.TheVariants.{Memory, Read, Write, Refused, Source, NoRevision, PatternTooLong, Rope}
+use Rattle.cord_tools.specs.declared.fault.ToolFault.TheVariants.{Memory, Read, Write, Refused, NoRevision}
 use Rattle.cord_tools.specs.declared.status.Status.{Status}
 use Rattle.cord_tools.specs.declared.status.Status.TheVariants.{Success, Failure}
 

@@ -13,6 +13,13 @@ use Rattle.cord_search.specs.declared.fault.PutFault.{PutFault}
 use Rattle.cord_search.specs.declared.fault.PutFault.TheVariants as Put
 use Rattle.session_checker.specs.declared.fault.CheckFault.{CheckFault}
 use Rattle.session_checker.specs.declared.fault.CheckFault.TheVariants as Check
+use Rattle.edit_commands.specs.declared.fault.EditFault.{EditFault}
+use Rattle.edit_commands.specs.declared.fault.EditFault.TheVariants as Edit
+use Rattle.screen_editor.specs.declared.fault.EditorFault.{EditorFault}
+use Rattle.screen_editor.specs.declared.fault.EditorFault.TheVariants as Editor
+use Rattle.screen_editor.specs.declared.fault.FrameFault.TheVariants as Frame
+use Rattle.screen_editor.specs.declared.fault.RunFault.{RunFault}
+use Rattle.screen_editor.specs.declared.fault.RunFault.TheVariants as Run
 use Rattle.cord_tools.specs.declared.fault.ToolFault.{ToolFault}
 use Rattle.cord_tools.specs.declared.fault.ToolFault.TheVariants as Tool
 use Rattle.cord_tools.specs.declared.fault.ToolFault.TheVariants.{Memory, Read, Write, PatternTooLong, Rope}
@@ -63,6 +70,31 @@ rope_fault (Balance.Node Node.BadSpan) = Rope (Balance.Node Node.BadSpan)
 rope_fault (Balance.Node Node.TooManySources) = Rope (Balance.Node Node.TooManySources)
 rope_fault (Balance.Node Node.Memory) = Memory
 
+-- what the refusal of a first revision comes to
+abbrev pub edit_fault : EditFault → ToolFault
+edit_fault Edit.NoRevision = Tool.Edit Edit.NoRevision
+edit_fault Edit.NoSource = Tool.Edit Edit.NoSource
+edit_fault Edit.Range = Tool.Edit Edit.Range
+edit_fault Edit.EmptyText = Tool.Edit Edit.EmptyText
+edit_fault Edit.TooManyRevisions = Tool.Edit Edit.TooManyRevisions
+edit_fault Edit.TooManyRows = Tool.Edit Edit.TooManyRows
+edit_fault (Edit.Node fault) = Tool.Edit (Edit.Node fault)
+edit_fault Edit.TooManyPieces = Tool.Edit Edit.TooManyPieces
+edit_fault Edit.Memory = Memory
+
+abbrev pub editor_fault : EditorFault → ToolFault
+editor_fault Editor.TooLong = Tool.TextTooLong
+editor_fault (Editor.Edit fault) = edit_fault fault
+editor_fault Editor.Memory = Memory
+
+-- what ended a run of the editor comes to
+abbrev pub run_fault : RunFault → ToolFault
+run_fault Run.Read = Read
+run_fault Run.Write = Write
+run_fault (Run.Frame (Frame.Source fault)) = read_fault fault
+run_fault (Run.Frame Frame.Memory) = Memory
+run_fault Run.TooManyKeys = Tool.TooManyKeys
+
 -- what may stop a tool that asks for nothing that could be refused
 abbrev pub IsStop : ToolFault → Type 0
 IsStop fault = (fault ≡ Write) ⊎ ((fault ≡ Read) ⊎ (fault ≡ Memory))
@@ -76,4 +108,7 @@ IsJoinFault (Rope fault) = fault ≡ Balance.Node Node.TooLong
 IsJoinFault (Tool.Refused f) = ⊥
 IsJoinFault (Tool.Source f) = ⊥
 IsJoinFault Tool.NoRevision = ⊥
+IsJoinFault (Tool.Edit f) = ⊥
+IsJoinFault Tool.TextTooLong = ⊥
+IsJoinFault Tool.TooManyKeys = ⊥
 IsJoinFault PatternTooLong = ⊥

@@ -16,7 +16,7 @@ use Rattle.cord_search.specs.Places.{IsFirst, IsFirstPlace, search_limit}
 use Rattle.cord_tools.specs.Faults.{IsJoinFault, IsStop}
 use Rattle.cord_tools.specs.Unread.{ReadsCells}
 use Rattle.cord_tools.specs.declared.fault.ToolFault.{ToolFault}
-use Rattle.cord_tools.specs.declared.fault.ToolFault.TheVariants.{Memory, Read, Write, Refused, Source, NoRevision, PatternTooLong, Rope}
+use Rattle.cord_tools.specs.declared.fault.ToolFault.TheVariants.{Memory, Read, Write, PatternTooLong, Rope}
 use Rattle.cord_tools.specs.declared.status.Status.{Status}
 use Rattle.cord_tools.specs.declared.status.Status.TheVariants.{Success, Failure}
 

@@ -1,4 +1,5 @@
 pub mod Answers
+pub mod Editing
 pub mod Faults
 pub mod Files
 pub mod Outcomes

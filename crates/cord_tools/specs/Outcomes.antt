@@ -1,10 +1,9 @@
 -- How a run of the program ends.
 use Rattle.std.specs.Prelude.{ℕ}
 use Rattle.cord_tools.specs.declared.fault.ToolFault.{ToolFault}
-use Rattle.cord_tools.specs.declared.fault.ToolFault.TheVariants.{Memory, Read, Write, Refused, Source, NoRevision, PatternTooLong, Rope}
+use Rattle.cord_tools.specs.declared.fault.ToolFault.TheVariants.{Memory, Read, Write, Refused, Source, NoRevision, PatternTooLong, Rope, Edit, TextTooLong, TooManyKeys}
 use Rattle.cord_tools.specs.declared.outcome.Outcome.{Outcome}
 use Rattle.cord_tools.specs.declared.outcome.Outcome.TheVariants.{Answered, Ended, Misused}
-use Rattle.cord_tools.specs.declared.status.Status.{Status}
 use Rattle.cord_tools.specs.declared.status.Status.TheVariants.{Success, Failure}
 
 -- 1 after a refusal, and 3 where the tool was stopped
@@ -14,6 +13,9 @@ fault_status (Source fault) = 1
 fault_status NoRevision = 1
 fault_status PatternTooLong = 1
 fault_status (Rope fault) = 1
+fault_status (Edit fault) = 1
+fault_status TextTooLong = 1
+fault_status TooManyKeys = 1
 fault_status Memory = 3
 fault_status Read = 3
 fault_status Write = 3

@@ -1,13 +1,15 @@
 //! Why a tool ended without its answer.
 
 ghost use Rattle.std.specs.Prelude.{◌≡◌};
-ghost use Rattle.cord_tools.specs.Faults.{add_fault, check_fault, find_fault, put_fault, read_fault, rope_fault};
+ghost use Rattle.cord_tools.specs.Faults.{add_fault, check_fault, edit_fault, editor_fault, find_fault, put_fault, read_fault, rope_fault, run_fault};
 
 use byte_output::WriteFault;
 use cord_search::{FindFault, PutFault};
+use edit_commands::EditFault;
 use lazy_file::{AddFault, SourceFault};
 use node_table::NodeFault;
 use rebalance::BalanceFault;
+use screen_editor::{EditorFault, FrameFault, RunFault};
 use session_checker::CheckFault;
 use std::alloc::AllocError;
 use thiserror::Error;
@@ -40,6 +42,15 @@ pub enum ToolFault {
     /// The rope of joined files is refused: its text is too long.
     #[error("refused {0}")]
     Rope(BalanceFault),
+    /// The first revision of an edited session is refused.
+    #[error("refused {0}")]
+    Edit(EditFault),
+    /// The file to be edited has more than 2,147,483,647 bytes.
+    #[error("refused K1")]
+    TextTooLong,
+    /// The editor took 16,777,216 keys, and none ended its run.
+    #[error("refused K2")]
+    TooManyKeys,
 }
 
 impl From<AddFault> for ToolFault {
@@ -124,6 +135,43 @@ impl From<BalanceFault> for ToolFault {
         match fault {
             BalanceFault::Node(NodeFault::Memory) => ToolFault::Memory,
             _ => ToolFault::Rope(fault),
+        }
+    }
+}
+
+impl From<EditFault> for ToolFault {
+    ghost from_gives = { λ e f. f ≡ edit_fault e };
+
+    fn from(fault: EditFault) -> ToolFault {
+        match fault {
+            EditFault::Memory => ToolFault::Memory,
+            _ => ToolFault::Edit(fault),
+        }
+    }
+}
+
+impl From<EditorFault> for ToolFault {
+    ghost from_gives = { λ e f. f ≡ editor_fault e };
+
+    fn from(fault: EditorFault) -> ToolFault {
+        match fault {
+            EditorFault::TooLong => ToolFault::TextTooLong,
+            EditorFault::Edit(fault) => ToolFault::from(fault),
+            EditorFault::Memory => ToolFault::Memory,
+        }
+    }
+}
+
+impl From<RunFault> for ToolFault {
+    ghost from_gives = { λ e f. f ≡ run_fault e };
+
+    fn from(fault: RunFault) -> ToolFault {
+        match fault {
+            RunFault::Read => ToolFault::Read,
+            RunFault::Write => ToolFault::Write,
+            RunFault::Frame(FrameFault::Source(fault)) => ToolFault::from(fault),
+            RunFault::Frame(FrameFault::Memory) => ToolFault::Memory,
+            RunFault::TooManyKeys => ToolFault::TooManyKeys,
         }
     }
 }

@@ -4,6 +4,7 @@
 mod check;
 mod cmp;
 mod cut;
+mod edit;
 mod fault;
 mod files;
 mod find;
@@ -17,6 +18,7 @@ mod status;
 pub use check::{refuse_check, run_check, run_stdin};
 pub use cmp::run_cmp;
 pub use cut::run_cut;
+pub use edit::run_edit;
 pub use fault::ToolFault;
 pub use find::run_find;
 pub use join::run_join;

@@ -26,7 +26,10 @@ fn fault_status(fault: ToolFault) -> u8
         | ToolFault::Source(_)
         | ToolFault::NoRevision
         | ToolFault::PatternTooLong
-        | ToolFault::Rope(_) => 1,
+        | ToolFault::Rope(_)
+        | ToolFault::Edit(_)
+        | ToolFault::TextTooLong
+        | ToolFault::TooManyKeys => 1,
         ToolFault::Memory | ToolFault::Read | ToolFault::Write => 3,
     }
 }

@@ -1,6 +1,7 @@
 -- The program's command line, and what an action holds of it.
 use Rattle.std.specs.Prelude.{◌≡◌, ◌⊎◌, ◌∷◌, ⊤, ℕ, true, List, [], Option, Some, None, Ok, String}
 use Rattle.std.specs.Prelude.{codes, map, string_bytes, unwrap_or}
+use Rattle.std.specs.Option.{option_map}
 use Rattle.std.specs.Str.Parse.{ParsesUnsigned}
 use Rattle.std.specs.declared.num.ParseIntError.{ParseIntError}
 use Rattle.clap.specs.Words.{App, Kinds, Row, Rule, Text, all_of, fault_of, first_of, new_app}
@@ -9,7 +10,7 @@ use Rattle.clap.specs.Kinds.{or_else}
 use Rattle.clap.specs.declared.builder.action.ArgAction.TheVariants.{Append}
 use Rattle.clap.specs.declared.error.kind.ErrorKind.TheVariants.{ValueValidation}
 use Rattle.cord_words.specs.declared.action.Action.{Action}
-use Rattle.cord_words.specs.declared.action.Action.TheVariants.{CheckInput, Check, Show, Cut, Join, Find, Cmp}
+use Rattle.cord_words.specs.declared.action.Action.TheVariants.{CheckInput, Check, Show, Cut, Join, Find, Cmp, Edit}
 
 -- ---- the words that the program takes
 
@@ -64,10 +65,18 @@ abbrev pub cmp_app : App
 cmp_app = with_rule (with_rule (new_app (codes "cmp")) (required_rule (codes "FIRST")))
     (required_rule (codes "SECOND"))
 
+-- one value or none
+abbrev pub optional_file_rule : Rule
+optional_file_rule = new_rule (codes "FILE")
+
+-- `edit IMAGE [FILE]`
+abbrev pub edit_app : App
+edit_app = with_rule (with_rule (new_app (codes "edit")) image_rule) optional_file_rule
+
 unfoldable pub cordkit_app : App
 cordkit_app = with_subcommand (with_subcommand (with_subcommand (with_subcommand (with_subcommand
-    (with_subcommand (new_app (codes "cordkit")) check_app.top) show_app.top) cut_app.top)
-    join_app.top) find_app.top) cmp_app.top
+    (with_subcommand (with_subcommand (new_app (codes "cordkit")) check_app.top) show_app.top)
+    cut_app.top) join_app.top) find_app.top) cmp_app.top) edit_app.top
 
 -- ---- what was given
 
@@ -113,6 +122,9 @@ Holds given (Find start pattern file) = Gives given (codes "find") (λ rows.
     × (file.now ≡ text_of rows (codes "FILE")))
 Holds given (Cmp first second) = Gives given (codes "cmp") (λ rows.
     (first.now ≡ text_of rows (codes "FIRST")) × (second.now ≡ text_of rows (codes "SECOND")))
+Holds given (Edit image file) = Gives given (codes "edit") (λ rows.
+    (image.now ≡ text_of rows (codes "IMAGE"))
+    × (option_map (λ f. f.now) file ≡ first_of (codes "FILE") rows))
 
 abbrev pub IsOneOf : List Text → Text → Type 0
 IsOneOf [] n = ⊥
@@ -120,7 +132,7 @@ IsOneOf (x ∷ xs) n = (n ≡ x) ⊎ IsOneOf xs n
 
 abbrev pub subcommand_names : List Text
 subcommand_names = codes "check" ∷ codes "show" ∷ codes "cut" ∷ codes "join" ∷ codes "find"
-    ∷ codes "cmp" ∷ []
+    ∷ codes "cmp" ∷ codes "edit" ∷ []
 
 -- the subcommand that was given, if any, is one of the program's own, and not `help`
 abbrev pub IsKnown : Option (Text × List Row) → Type 0

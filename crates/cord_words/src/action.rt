@@ -38,4 +38,9 @@ pub enum Action<'a> {
         first: &'a str,
         second: &'a str,
     },
+    /// Edit a text on the screen, which begins as that of a file or empty. Save its session as an image.
+    Edit {
+        image: &'a str,
+        file: Option<&'a str>,
+    },
 }

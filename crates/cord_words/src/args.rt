@@ -3,7 +3,8 @@
 ghost use Rattle.std.specs.Prelude.{◌≡◌, IfOk, false};
 ghost use Rattle.clap.specs.Words.{App, Rule, app_of, new_app, rule_of, with_rule};
 ghost use Rattle.clap.specs.declared.builder.command.Command.TheViews.{out-Command as fields_of};
-ghost use Rattle.cord_words.specs.Words.{file_rule, image_rule, required_rule, sources_rule, start_rule};
+ghost use Rattle.cord_words.specs.Words.{file_rule, image_rule, optional_file_rule};
+ghost use Rattle.cord_words.specs.Words.{required_rule, sources_rule, start_rule};
 
 use clap::{Arg, ArgAction, Command};
 use std::alloc::{AllocError, Global};
@@ -74,4 +75,12 @@ pub fn file<'a>(alloc: Global) -> Arg<'a>
     ensures local { result.global ≡ false }
 {
     required(alloc, "FILE", "The file")
+}
+
+/// `[FILE]`
+pub fn optional_file<'a>(alloc: Global) -> Arg<'a>
+    ensures rule { rule_of result ≡ optional_file_rule }
+    ensures local { result.global ≡ false }
+{
+    Arg::new(alloc, "FILE").help("The file of the text to begin with")
 }

@@ -11,7 +11,7 @@ ghost use Rattle.cord_words.specs.Refusals.{FailsAs};
 
 use crate::action::Action;
 use crate::fault::WordsFault;
-use crate::{args, check, cmp, cut, find, join, show};
+use crate::{args, check, cmp, cut, edit, find, join, show};
 use clap::{ArgMatches, Command};
 use std::alloc::{AllocError, Global};
 
@@ -73,6 +73,7 @@ fn action_of<'a>(
         Some(("join", given)) => Ok(join::action(alloc, given)?),
         Some(("find", given)) => find::action(alloc, command, given),
         Some(("cmp", given)) => Ok(cmp::action(given)),
+        Some(("edit", given)) => Ok(edit::action(given)),
         Some(_) => unreachable!(),
     }
 }
@@ -112,5 +113,6 @@ fn cordkit<'a>(alloc: Global) -> Result<Command<'a>, AllocError>
     let command = add_subcommand(command, cut::command(alloc));
     let command = add_subcommand(command, join::command(alloc));
     let command = add_subcommand(command, find::command(alloc));
-    add_subcommand(command, cmp::command(alloc))
+    let command = add_subcommand(command, cmp::command(alloc));
+    add_subcommand(command, edit::command(alloc))
 }

@@ -1,7 +1,8 @@
 //! The arguments of a subcommand, as they were given.
 
 ghost use Rattle.std.specs.Prelude.{◌≡◌, ◌∷◌, [], IfOk, IfErr, map};
-ghost use Rattle.clap.specs.Words.{found_of, rows_of};
+ghost use Rattle.std.specs.Option.{option_map};
+ghost use Rattle.clap.specs.Words.{first_of, found_of, rows_of};
 ghost use Rattle.clap.specs.declared.error.kind.ErrorKind.TheVariants.{ValueValidation};
 ghost use Rattle.cord_words.specs.Words.{IsNumber, ReadsAs, text_of, texts_of};
 ghost use Rattle.cord_words.specs.Refusals.{FailsAs};
@@ -16,6 +17,13 @@ pub fn text<'a>(given: &ArgMatches<'a>, id: &str) -> &'a str
     ensures { result.now ≡ text_of (rows_of (found_of given.now)) id.now }
 {
     given.get_str(id).unwrap_or("")
+}
+
+/// The text of an argument, if it has one.
+pub fn optional_text<'a>(given: &ArgMatches<'a>, id: &str) -> Option<&'a str>
+    ensures { option_map (λ text. text.now) result ≡ first_of id.now (rows_of (found_of given.now)) }
+{
+    given.get_str(id)
 }
 
 /// The texts of an argument in their order, and none where it was not given.

@@ -7,6 +7,7 @@ mod check;
 mod cmp;
 mod command_line;
 mod cut;
+mod edit;
 mod fault;
 mod find;
 mod given;

@@ -5,7 +5,7 @@ ghost use Rattle.std.specs.Prelude.{◌≡◌, IfOk, length};
 
 use cord_tools::{
     Outcome, Status, ToolFault, exit_status, read_source, refuse_check, run_check, run_cmp,
-    run_cut, run_find, run_join, run_show, run_stdin, sources_of,
+    run_cut, run_edit, run_find, run_join, run_show, run_stdin, sources_of,
 };
 use cord_words::{Action, WordsFault, words};
 use std::fs::File;
@@ -101,6 +101,53 @@ fn compare(rt: &HostRuntime, first: &str, second: &str) -> Result<Status, ToolFa
     run_cmp(rt.alloc(), &mut sources, &mut io::writer(rt))
 }
 
+/// A file that is made, or emptied, when its first byte is written.
+#[derive(Drop)]
+struct LateFile<'a> {
+    rt: &'a HostRuntime,
+    path: &'a str,
+    file: Option<File>,
+}
+
+impl io::Write for LateFile<'_> {
+    fn write(&mut self, bytes: &[u8]) -> io::Result<usize> {
+        match &mut self.file {
+            Some(file) => file.write(bytes),
+            None => {
+                let mut file = File::create(self.rt, self.path)?;
+                let n = file.write(bytes)?;
+                self.file = Some(file);
+                Ok(n)
+            }
+        }
+    }
+
+    fn flush(&mut self) -> io::Result<()> {
+        Ok(())
+    }
+}
+
+/// Edits a file, or an empty text, and saves the session. The image is opened when it is saved.
+fn edit(rt: &HostRuntime, image: &str, file: Option<&str>) -> Result<Status, ToolFault> {
+    let texts = match file {
+        Some(file) => source_texts(rt, &[file])?,
+        None => Vec::new(rt.alloc()),
+    };
+    let sources = sources_of(rt.alloc(), texts.as_slice())?;
+    let mut image = LateFile {
+        rt,
+        path: image,
+        file: None,
+    };
+    run_edit(
+        rt.alloc(),
+        sources,
+        &mut rt.reader(),
+        &mut io::writer(rt),
+        &mut image,
+    )
+}
+
 /// Does what the words ask for. The image is opened and the sources are read before anything is written.
 fn run(rt: &HostRuntime, action: &Action) -> Result<Status, ToolFault> {
     match action {
@@ -119,6 +166,7 @@ fn run(rt: &HostRuntime, action: &Action) -> Result<Status, ToolFault> {
             file,
         } => find(rt, *start, pattern.as_bytes(), file),
         Action::Cmp { first, second } => compare(rt, first, second),
+        Action::Edit { image, file } => edit(rt, image, *file),
     }
 }
 

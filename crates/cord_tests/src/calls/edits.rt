@@ -275,7 +275,13 @@ fn up_to(seed: &mut u64, most: usize) -> usize {
 }
 
 /// The bytes before place `p`, then `x`, then the bytes from place `q` on.
-fn spliced<R: AllocGlobal + Abort>(rt: &R, old: &[u8], p: usize, x: &[u8], q: usize) -> Vec<u8> {
+pub(super) fn spliced<R: AllocGlobal + Abort>(
+    rt: &R,
+    old: &[u8],
+    p: usize,
+    x: &[u8],
+    q: usize,
+) -> Vec<u8> {
     let mut bytes: Vec<u8> = Vec::new(rt.alloc());
     for part in [
         old.get(..p).expect(rt, "a front"),

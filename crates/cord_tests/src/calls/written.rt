@@ -125,9 +125,9 @@ fn a_source_that_no_read_succeeds_of_is_accepted(rt: HostRuntime) {
 
 /// Takes so many bytes, and then fails.
 #[derive(Drop)]
-struct Short<'a> {
-    taken: &'a mut Vec<u8>,
-    room: usize,
+pub(super) struct Short<'a> {
+    pub(super) taken: &'a mut Vec<u8>,
+    pub(super) room: usize,
 }
 
 impl io::Write for Short<'_> {

@@ -1,11 +1,11 @@
-use Rattle.std.proofs.Common.{◌≡◌, ◌∙◌, Err, ap, sym, arith}
+use Rattle.std.proofs.Common.{◌≡◌, ◌∙◌, ap, arith}
 use Rattle.std.proofs.lemmas.Result.{err_from_is_err_and}
 use Rattle.function_leaf.specs.Coded.{coded_byte}
 use Rattle.function_leaf.specs.declared.coded.Coded.{Coded}
 use Rattle.node_table.specs.Held.{Held, table_of}
 use Rattle.cord_search.specs.Order.{order}
 use Rattle.cord_tools.proofs.Spans.{of_files, part_kept, whole_cells}
-use Rattle.cord_tools.proofs.UnreadCells.{not_read, reads_nothing, two_unread}
+use Rattle.cord_tools.proofs.UnreadCells.{two_unread}
 use Rattle.cord_tools.proofs.cmp.order_of.Goals as goal
 
 pub returns-clause-order : goal.returns-clause-order

@@ -1,4 +1,4 @@
-use Rattle.std.proofs.Common.{◌≡◌, ◌∙◌, ℕ, List, ap, inr, refl}
+use Rattle.std.proofs.Common.{◌≡◌, ◌∙◌, ap, inr, refl}
 use Rattle.std.specs.Io.KnownBytes.{Appends}
 use Rattle.std.proofs.lemmas.Result.{err_from_is_err_and}
 use Rattle.function_leaf.specs.Coded.{coded_byte}

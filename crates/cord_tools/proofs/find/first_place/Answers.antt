@@ -1,11 +1,11 @@
-use Rattle.std.proofs.Common.{◌≡◌, ℕ, List, ◌∙◌, Err, ap, drop, sym, arith}
+use Rattle.std.proofs.Common.{◌≡◌, ℕ, List, ◌∙◌, ap, drop, arith}
 use Rattle.std.proofs.lemmas.Result.{err_from_is_err_and}
 use Rattle.function_leaf.specs.Coded.{coded_byte}
 use Rattle.function_leaf.specs.declared.coded.Coded.{Coded}
 use Rattle.node_table.specs.Held.{Held, table_of}
 use Rattle.cord_search.specs.Places.{IsFirst}
 use Rattle.cord_tools.proofs.Spans.{of_part, of_whole, whole_cells}
-use Rattle.cord_tools.proofs.UnreadCells.{find_unread, not_read, reads_nothing}
+use Rattle.cord_tools.proofs.UnreadCells.{find_unread}
 use Rattle.cord_tools.proofs.find.first_place.Goals as goal
 
 pub returns-clause-found : goal.returns-clause-found

@@ -8,7 +8,6 @@ use Rattle.lazy_file.proofs.LaterReads.{reads_then}
 use Rattle.lazy_file.specs.SourceTexts.{Stated}
 use Rattle.image_reader.specs.Value.{image_table}
 use Rattle.cord_tools.specs.Answers.{OfRevision, revision_cells}
-use Rattle.cord_tools.proofs.Bytes.{Keeps-same}
 use Rattle.cord_tools.proofs.RevisionCells.{root_cells, root_told}
 use Rattle.cord_tools.proofs.ToolFaults.{check_refused, show_stopped}
 use Rattle.cord_tools.proofs.UnreadCells.{later_unread, put_unheld, put_unread}

@@ -9,4 +9,5 @@ returns c =
     let three = c.add_subcommand-command-3.ensures _ _ two c.command-3.ensures.app in
     let four = c.add_subcommand-command-4.ensures _ _ three c.command-4.ensures.app in
     let five = c.add_subcommand-command-5.ensures _ _ four c.command-5.ensures.app in
-    c.add_subcommand.ensures _ _ five c.command-6.ensures.app
+    let six = c.add_subcommand-command-6.ensures _ _ five c.command-6.ensures.app in
+    c.add_subcommand.ensures _ _ six c.command-7.ensures.app

@@ -1,0 +1,236 @@
+#!/bin/sh
+# Runs bin/cordedit in a terminal of 80 columns and 24 rows that tmux keeps, with the built program, or the one that $1 names. It
+# types keys, and compares the screens, the saved image and the terminal's mode with what they have to be. The last line is
+# 'N passed, M failed'; the status is not 0 where a case failed. Where there is no tmux it says so, and nothing is tried.
+set -u
+top=$(cd "$(dirname "$0")/.." && pwd)
+program=${1:-$top/crates/cordkit/out/cordkit}
+case $program in
+/*) ;;
+*) program=$PWD/$program ;;
+esac
+if ! command -v tmux > /dev/null; then
+    echo "there is no tmux here: nothing was tried"
+    echo "0 passed, 0 failed"
+    exit 0
+fi
+if ! [ -x "$program" ]; then
+    echo "there is no program $program" >&2
+    echo "0 passed, 1 failed"
+    exit 1
+fi
+room=$(mktemp -d) || exit 1
+
+# A tmux of its own, which no other one sees, and another one for each session.
+session=0
+in_tmux() {
+    LC_ALL=C.UTF-8 tmux -f "$room/tmux.conf" -S "$room/socket$session" "$@"
+}
+
+trap 'in_tmux kill-server 2> /dev/null; rm -rf "$room"' EXIT
+trap 'exit 1' HUP INT TERM
+cd "$room" || exit 1
+
+cat > tmux.conf << 'CONF'
+set -g status off
+set -g escape-time 0
+set -g default-terminal screen
+CONF
+
+# What runs in the terminal: cordedit with its words, then what became of the status and of the mode. The file `editor` has its
+# process.
+cat > session.sh << 'SESSION'
+before=$(stty -g)
+got=0
+sh -c 'echo $$ > editor; exec "$@"' sh "$CORDEDIT" "$@" || got=$?
+[ "$(stty -g)" = "$before" ] && mode=restored || mode=changed
+echo "status $got, mode $mode"
+read -r answer
+echo "read $answer"
+sleep 600
+SESSION
+
+passed=0
+failed=0
+
+passes() {
+    passed=$((passed + 1))
+}
+
+fails() {
+    failed=$((failed + 1))
+    echo "FAILED: $1"
+}
+
+is_same() {
+    if [ "$2" = "$3" ]; then
+        passes
+    else
+        fails "$1: '$2' for '$3'"
+    fi
+}
+
+# Starts cordedit on these words in a terminal of its own.
+start() {
+    in_tmux kill-server 2> /dev/null
+    session=$((session + 1))
+    rm -f editor
+    in_tmux new-session -d -x 80 -y 24 -e "CORDKIT=$program" -e "CORDEDIT=$top/bin/cordedit" sh session.sh "$@"
+}
+
+# Types text as it stands, and keys by their names.
+type_text() {
+    in_tmux send-keys -l "$1"
+}
+
+press() {
+    in_tmux send-keys "$@"
+}
+
+# The screen, and where the cursor stands, as column and row counted from 0.
+shown() {
+    in_tmux capture-pane -p
+    in_tmux display-message -p 'cursor #{cursor_x} #{cursor_y}'
+}
+
+# 23 rows, of which the first ones are these, the row of the status, and the cursor.
+wanted() {
+    status=$1
+    cursor=$2
+    shift 2
+    rows=0
+    for row; do
+        printf '%s\n' "$row"
+        rows=$((rows + 1))
+    done
+    while [ "$rows" -lt 23 ]; do
+        echo
+        rows=$((rows + 1))
+    done
+    printf '%s\n%s\n' "$status" "cursor $cursor"
+}
+
+# Waits, ten seconds at most, until the screen is the wanted one: a case of this name.
+screen() {
+    name=$1
+    shift
+    wanted "$@" > wanted
+    tries=0
+    while shown > shown 2>&1; ! cmp -s shown wanted; do
+        tries=$((tries + 1))
+        if [ "$tries" -ge 100 ]; then
+            fails "$name, where the screen is:"
+            cat shown
+            return
+        fi
+        sleep 0.1
+    done
+    passes
+}
+
+# The same, until the first rows are these: what the session writes once the editor is gone.
+ended() {
+    name=$1
+    shift
+    printf '%s\n' "$@" > wanted
+    tries=0
+    while in_tmux capture-pane -p 2> /dev/null | head -n $# > shown; ! cmp -s shown wanted; do
+        tries=$((tries + 1))
+        if [ "$tries" -ge 100 ]; then
+            fails "$name, where the screen begins:"
+            cat shown
+            return
+        fi
+        sleep 0.1
+    done
+    passes
+}
+
+text_of() {
+    "$program" show "$@" | od -An -tx1 | tr -d ' \n'
+}
+
+# A text that is typed, and every kind of key.
+start image
+screen 'the first frame' 'rev 0 byte 0 of 0' '0 0'
+type_text ab
+screen 'two bytes are typed' 'rev 2 byte 2 of 2' '2 0' ab
+press Enter
+screen 'a line is ended' 'rev 3 byte 3 of 3' '0 1' ab
+type_text cde
+screen 'a second line is typed' 'rev 6 byte 6 of 6' '3 1' ab cde
+press C-b
+screen 'left' 'rev 6 byte 5 of 6' '2 1' ab cde
+press C-p
+screen 'up to the same column' 'rev 6 byte 2 of 6' '2 0' ab cde
+press C-a C-f
+screen 'to the start of the line, and right' 'rev 6 byte 1 of 6' '1 0' ab cde
+press C-n
+screen 'down to the same column' 'rev 6 byte 4 of 6' '1 1' ab cde
+press C-a C-Space C-e
+screen 'the mark, and the end of the line' 'rev 6 byte 6 of 6' '3 1' ab cde
+press C-w
+screen 'the second line is cut' 'rev 7 byte 3 of 3' '0 1' ab
+press C-p C-y
+screen 'it is pasted before the first one' 'rev 8 byte 3 of 6' '3 0' cdeab
+press C-u
+screen 'the paste is undone' 'rev 9 byte 3 of 3' '0 1' ab
+press C-u
+screen 'the cut is undone' 'rev 10 byte 3 of 6' '0 1' ab cde
+press BSpace
+screen 'the line break is erased' 'rev 11 byte 2 of 5' '2 0' abcde
+press C-d
+screen 'a byte is erased' 'rev 12 byte 2 of 4' '2 0' abde
+press C-l C-g C-v C-s C-q C-z
+screen 'a balance, and keys that do nothing' 'rev 13 byte 2 of 4' '2 0' abde
+press C-x
+ended 'saved' 'status 0, mode restored'
+type_text back
+press Enter
+ended 'the terminal echoes and reads lines' 'status 0, mode restored' back 'read back'
+case $("$program" check image) in
+'accepted 14 revisions '*) passes ;;
+*) fails 'the image is accepted' ;;
+esac
+is_same 'the last revision' "$(text_of image 13)" 61626465
+is_same 'the revision of the paste' "$(text_of image 8)" 63646561620a
+is_same 'the first revision' "$(text_of image 0)" ''
+
+# The text of a file, with a byte that is shown as a question mark.
+printf 'one\n\ttwo\n' > file
+start copy file
+screen 'a file' 'rev 0 byte 0 of 9' '0 0' one '?two'
+type_text x
+screen 'a byte before it' 'rev 1 byte 1 of 10' '1 0' xone '?two'
+press C-x
+ended 'saved beside its file' 'status 0, mode restored'
+case $("$program" check copy file) in
+'accepted 2 revisions '*) passes ;;
+*) fails 'the image with its file is accepted' ;;
+esac
+is_same 'the text over the file' "$(text_of copy 1 file)" 786f6e650a0974776f0a
+
+# Ways out.
+start none
+screen 'before it is left' 'rev 0 byte 0 of 0' '0 0'
+press C-c
+ended 'left' 'status 0, mode restored'
+is_same 'no image is written' "$(ls none 2> /dev/null)" ''
+start missing/image
+screen 'before a save that fails' 'rev 0 byte 0 of 0' '0 0'
+press C-x
+ended 'a message comes behind the screen' write 'status 3, mode restored'
+start image missing
+ended 'a file that is not there' read 'status 3, mode restored'
+start none
+screen 'before a signal' 'rev 0 byte 0 of 0' '0 0'
+kill -TERM "$(cat editor)"
+ended 'a signal' 'status 143, mode restored'
+
+# Keys that are no terminal's.
+got=0
+printf 'a\030' | CORDKIT=$program "$top/bin/cordedit" piped > frames || got=$?
+is_same 'keys from a pipe' "$got $(text_of piped 1)" '0 61'
+
+echo "$passed passed, $failed failed"
+[ "$failed" = 0 ]
