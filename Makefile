@@ -21,6 +21,7 @@ bench:
 	sh bench/show.sh
 	sh bench/rope.sh
 	sh bench/tools.sh
+	sh bench/edit.sh
 
 refuse:
 	sh bench/refuse.sh

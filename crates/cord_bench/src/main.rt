@@ -1,9 +1,10 @@
 //! Times what runs often. The numbers differ from run to run, so they go to standard error.
-//! With the word `image` it writes an image to standard output instead.
+//! With the word `image` it writes an image to standard output instead, and with the word `keys` it times the editor.
 #![tactic(auto)]
 
 mod balancing;
 mod images;
+mod keys;
 mod pool;
 mod ropes;
 mod sessions;
@@ -14,6 +15,7 @@ use std::env;
 fn main(rt: HostRuntime) -> Result<()> {
     match env::args(&rt)?.nth(1) {
         Some(word) if word.as_str() == "image" => images::write_image(&rt),
+        Some(word) if word.as_str() == "keys" => keys::time(&rt),
         _ => time(&rt),
     }
 }

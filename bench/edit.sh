@@ -1,0 +1,33 @@
+#!/bin/sh
+# Times a key with its frame, typed at the end and in the middle of 1 MB and of 64 MB, beside vim, where it is installed, on the same texts.
+set -eu
+cd "$(dirname "$0")/.."
+bench=crates/cord_bench/out/cord_bench
+[ -x "$bench" ] || (cd crates/cord_bench && rt run > /dev/null 2>&1)
+echo "cordkit:"
+"$bench" keys 2>&1
+command -v vim > /dev/null || exit 0
+room=$(mktemp -d)
+trap 'rm -rf "$room"' EXIT
+awk 'BEGIN { while (n++ < 60) line = line "x"; while (size < 67108864) { print line; size += 61 } }' > "$room/large"
+head -c 1048576 "$room/large" > "$room/small"
+typed=$(awk 'BEGIN { while (n++ < 2000) text = text "x"; print text }')
+
+# How many microseconds vim takes for a script of keys, its start and end with it.
+taken() {
+    printf '%s' "$1" > "$room/keys"
+    start=$(date +%s%N)
+    vim -u NONE -s "$room/keys" "$2" > /dev/null 2>&1 || true
+    end=$(date +%s%N)
+    echo $(((end - start) / 1000))
+}
+
+echo "vim -u NONE -s:"
+leave=$(printf '\033:q!\r.'); leave=${leave%.}
+for file in small large; do
+    for where in 'GA' '50%A'; do
+        none=$(taken "$where$leave" "$room/$file")
+        all=$(taken "$where$typed$leave" "$room/$file")
+        echo "$(((all - none) / 2000)) us a key, by $where in $(wc -c < "$room/$file") bytes"
+    done
+done
