@@ -1,6 +1,9 @@
 pub mod Appending
 pub mod Consecutive
 pub mod Growth
+pub mod Lending
+pub mod Making
 pub mod Pieces
 pub mod Spans
+pub mod Steps
 pub mod PoolGrowth

@@ -3,6 +3,7 @@
 
 mod block;
 mod fault;
+mod lent;
 mod piece;
 mod placed;
 mod pool;
