@@ -2,8 +2,8 @@ pub mod Appending
 pub mod Consecutive
 pub mod Growth
 pub mod Lending
+pub mod Literals
 pub mod Making
 pub mod Pieces
-pub mod Spans
-pub mod Steps
 pub mod PoolGrowth
+pub mod Spans

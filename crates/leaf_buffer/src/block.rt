@@ -1,7 +1,8 @@
 //! A block of the pool: memory that is taken once, written from the front, and never moved.
 
-ghost use Rattle.std.specs.Prelude.{◌≡◌, ◌+◌, ◌<◌, ◌≤◌, ◌++◌, length, IfOk};
+ghost use Rattle.std.specs.Prelude.{◌≡◌, ℕ, ◌+◌, ◌<◌, ◌≤◌, ◌++◌, [], length, IfOk};
 
+use crate::room::{Deed, Room, give, take};
 use std::alloc::{AllocError, Global};
 use std::marker::Model;
 
@@ -9,32 +10,50 @@ use std::marker::Model;
 pub const BLOCK_SIZE: usize = 65_536;
 
 /// A block, seen as the bytes that were written into it.
-#[derive(Drop)]
 pub(crate) struct Block {
-    bytes: Vec<u8>,
+    alloc: Global,
+    /// Where the block begins.
+    first: *mut u8,
+    /// How many bytes were written.
+    len: usize,
+    room: Room,
+    deed: Deed<Global>,
 }
 
 impl Model for Block {
-    ghost use Rattle.std.specs.Prelude.{ℕ, List, ◌≤◌, vec_len, vec_capacity};
+    ghost use Rattle.std.specs.Prelude.{◌≡◌, ℕ, List, ◌≤◌, length};
 
     ghost Value = { List ℕ };
 
     ghost use Rattle.leaf_buffer.specs.declared.block.TheConstants.{BLOCK_SIZE};
 
-    ghost view = { λ b. b.bytes.items };
+    ghost view = { λ b. b.room.bytes };
 
-    ghost invariant = { λ b. BLOCK_SIZE ≤ vec_capacity b.bytes };
+    ghost invariant = { λ b. (b.room.first ≡ b.first) × (b.deed.first ≡ b.first) × (b.deed.alloc ≡ b.alloc)
+        × (b.len ≡ length b.room.bytes) × (b.len ≤ BLOCK_SIZE) };
 }
 
 impl Block {
+    /// A block that holds nothing yet.
+    pub(crate) fn new(alloc: Global) -> Result<Block, AllocError>
+        ensures { IfOk result (λ block. block ≡ []) }
+    {
+        let (first, room, deed) = take(&alloc)?;
+        Ok(Block {
+            alloc,
+            first,
+            len: 0,
+            room,
+            deed,
+        })
+    }
+
     /// A new block that begins with these bytes.
     pub(crate) fn with(alloc: Global, bytes: &[u8]) -> Result<Block, AllocError>
         requires { length bytes.now ≤ BLOCK_SIZE }
         ensures { IfOk result (λ block. block ≡ bytes.now) }
     {
-        let mut block = Block {
-            bytes: Vec::with_capacity(alloc, BLOCK_SIZE)?,
-        };
+        let mut block = Block::new(alloc)?;
         block.append(bytes);
         Ok(block)
     }
@@ -44,20 +63,33 @@ impl Block {
         requires { length self.old + length bytes.now ≤ BLOCK_SIZE }
         ensures { self.new ≡ self.old ++ bytes.now }
     {
-        let done = self.bytes.extend_from_slice(bytes);
-        prove!(done.is_ok());
+        self.room.append(self.first, self.len, bytes);
+        self.len += bytes.len();
     }
 
     /// The bytes that were written.
     pub(crate) fn as_slice(&self) -> &[u8]
         ensures { result.now ≡ self.now }
     {
-        self.bytes.as_slice()
+        self.room.slice(self.first, self.len)
     }
 
     pub(crate) fn len(&self) -> usize
         ensures { result ≡ length self.now }
     {
-        self.bytes.len()
+        self.len
+    }
+}
+
+impl Drop for Block {
+    fn drop(self) {
+        let Block {
+            alloc,
+            first,
+            len: _,
+            room,
+            deed,
+        } = self;
+        give(&alloc, first, room, deed);
     }
 }

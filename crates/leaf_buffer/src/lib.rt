@@ -7,6 +7,7 @@ mod lent;
 mod piece;
 mod placed;
 mod pool;
+mod room;
 mod run;
 
 pub use block::BLOCK_SIZE;
