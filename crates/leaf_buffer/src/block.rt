@@ -1,6 +1,6 @@
 //! A block of the pool: memory that is taken once, written from the front, and never moved.
 
-ghost use Rattle.std.specs.Prelude.{◌≡◌, ℕ, ◌+◌, ◌<◌, ◌≤◌, ◌++◌, [], length, IfOk};
+ghost use Rattle.std.specs.Prelude.{◌≡◌, ◌+◌, ◌≤◌, ◌++◌, [], length, IfOk};
 
 use crate::room::{Deed, Room, give, take};
 use std::alloc::{AllocError, Global};
