@@ -1,5 +1,7 @@
+pub mod HereLaws
 pub mod LeafCells
 pub mod LeafParts
 pub mod Outcomes
 pub mod RopeBytes
 pub mod Spans
+pub mod StepLaws

@@ -1,3 +1,4 @@
 pub mod Fetched
 pub mod Position
 pub mod Runs
+pub mod Steps

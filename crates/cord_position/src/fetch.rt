@@ -4,8 +4,10 @@ ghost use Rattle.std.specs.Prelude.{◌≡◌, ◌↔◌, ◌<◌, ◌≤◌, �
 ghost use Rattle.rope_node.specs.Denotes.{rope_len, rope_depth, IsRope};
 ghost use Rattle.rope_node.specs.Path.{rope_visits};
 ghost use Rattle.cord_position.specs.Fetched.{IsFetched, ReadsSpan, rope_cell};
+ghost use Rattle.cord_position.specs.Steps.{AreStepBytes, IsHere};
 
 use crate::leaf::leaf_byte;
+use crate::path::Step;
 use lazy_file::{SourceFault, Sources};
 use rope_node::{NodeSpace, Rope, find_leaf};
 
@@ -38,4 +40,38 @@ pub fn fetch_byte<S: NodeSpace, T: Sources>(
         }
         _ => Ok((None, 0)),
     }
+}
+
+/// The byte at a place of a rope, by the step that holds the place; at the end, none.
+///
+/// # Errors
+///
+/// A source's fault, where the byte is one of that source and the read of it failed.
+#[inline]
+pub fn fetch_here<S: NodeSpace, T: Sources>(
+    space: &S,
+    sources: &mut T,
+    rope: Rope,
+    here: Step,
+    bytes: &[u8],
+    place: u64,
+) -> Result<Option<u8>, SourceFault>
+    requires here { IsHere (S.table space.now) rope place here }
+    requires bytes { AreStepBytes (S.table space.now) here bytes.now }
+    ensures byte { IfOk result
+        (IsFetched (S.table space.now) (T.stated sources.old) rope place) }
+    ensures inside { IfOk result
+        (λ found. IsSome found ↔ place < rope_len (S.table space.now) rope) }
+    ensures reads { ReadsSpan T.stated T.failures sources.old sources.new
+        (rope_cell (S.table space.now) rope) place (place + 1) result }
+{
+    let offset = place - here.first;
+    if offset < bytes.len() as u64 {
+        return Ok(Some(bytes[offset as usize]));
+    }
+    if offset >= here.len {
+        return Ok(None);
+    }
+    let byte = leaf_byte(space, sources, here.node, here.skipped + offset)?;
+    Ok(Some(byte))
 }

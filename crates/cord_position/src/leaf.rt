@@ -23,6 +23,7 @@ fn source_byte<T: Sources>(sources: &mut T, s: u32, place: u64) -> Result<u8, So
 }
 
 /// The byte of a leaf at the place `start`.
+#[inline(never)]
 pub fn leaf_byte<S: NodeSpace, T: Sources>(
     space: &S,
     sources: &mut T,

@@ -4,6 +4,7 @@
 mod fetch;
 mod fill;
 mod leaf;
+mod path;
 mod position;
 mod run;
 

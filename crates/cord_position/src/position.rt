@@ -6,11 +6,14 @@ ghost use Rattle.cord_position.specs.Fetched.{IsFetched, ReadsSpan};
 ghost use Rattle.cord_position.specs.Position.{bytes_here, cell_of, cells_here, left_here, text_len};
 ghost use Rattle.cord_position.specs.Runs.{rope_span, AreBytesOf, IsRun};
 
-use crate::fetch::fetch_byte;
+use crate::fetch::fetch_here;
 use crate::fill::fill_part;
-use crate::run::{find_run, literal_span};
+use crate::path::{Path, Step, holds, seek};
+use crate::run::{find_run, literal_run, step_bytes};
 use lazy_file::{SourceFault, Sources};
 use rope_node::{NodeSpace, Rope, rope_len};
+use smallvec::SmallVec;
+use std::alloc::Global;
 use std::marker::Model;
 
 /// A place of a rope's text: that of a byte, or the end behind the last one.
@@ -19,31 +22,48 @@ pub struct Pos<'a, S: NodeSpace> {
     space: &'a S,
     rope: Rope,
     place: u64,
+    /// The last step to the leaf that holds the place. At the end it may be any, or empty.
+    here: Step,
+    /// The bytes of that step, where its leaf is a literal.
+    bytes: &'a [u8],
+    path: Path,
 }
 
 impl<'a, S: NodeSpace> Model for Pos<'a, S> {
-    ghost use Rattle.cord_position.specs.Position.{Position, IsPosition};
+    ghost use Rattle.cord_position.specs.Position.{Position};
+    ghost use Rattle.cord_position.specs.Steps.{IsPlaced};
 
     ghost Value = { Position S };
 
     ghost view = { λ a. record { space = a.space.now; rope = a.rope; index = a.place } };
 
-    ghost invariant = { λ a. IsPosition (S.table a.space.now) a.rope a.place };
+    ghost invariant = { λ a. IsPlaced (S.table a.space.now) a.rope a.place a.here a.bytes.now a.path };
 }
 
 impl<'a, S: NodeSpace> Pos<'a, S> {
-    /// The place `i` of a rope, or its end where `i` is past it.
-    pub fn set(space: &'a S, rope: Rope, i: u64) -> Pos<'a, S>
+    /// The place `i` of a rope, or its end where `i` is past it. It takes no memory.
+    pub fn set(alloc: Global, space: &'a S, rope: Rope, i: u64) -> Pos<'a, S>
         requires { IsRope (S.table space.now) rope }
         ensures space { result.space ≡ space.now }
         ensures rope { result.rope ≡ rope }
         ensures index { result.index ≡ min i (rope_len (S.table space.now) rope) }
     {
-        let place = i.min(rope_len(space, rope));
-        Pos { space, rope, place }
+        let _count = space.count();
+        let end = rope_len(space, rope);
+        let mut pos = Pos {
+            space,
+            rope,
+            place: end,
+            here: Step::default(),
+            bytes: &[],
+            path: SmallVec::new(alloc),
+        };
+        pos.move_to(i.min(end));
+        pos
     }
 
     /// Whether a byte stands here, and not the end.
+    #[inline]
     pub fn valid(&self) -> bool
         ensures { IsTrue result ↔ self.now.index < text_len S.table self.now }
     {
@@ -51,6 +71,7 @@ impl<'a, S: NodeSpace> Pos<'a, S> {
     }
 
     /// The place, counted from the text's first byte.
+    #[inline]
     pub fn index(&self) -> u64
         ensures index { result ≡ self.now.index }
         ensures limit { result < 2 ^ 40 }
@@ -63,6 +84,7 @@ impl<'a, S: NodeSpace> Pos<'a, S> {
     /// # Errors
     ///
     /// A source's fault, where the byte is one of that source and the read of it failed.
+    #[inline]
     pub fn fetch<T: Sources>(&self, sources: &mut T) -> Result<Option<u8>, SourceFault>
         ensures byte { IfOk result (IsFetched (S.table self.now.space) (T.stated sources.old)
             self.now.rope self.now.index) }
@@ -71,25 +93,29 @@ impl<'a, S: NodeSpace> Pos<'a, S> {
         ensures reads { ReadsSpan T.stated T.failures sources.old sources.new
             (cell_of S.table self.now) self.now.index (self.now.index + 1) result }
     {
-        let (byte, _) = fetch_byte(self.space, sources, self.rope, self.place)?;
-        Ok(byte)
+        fetch_here(
+            self.space, sources, self.rope, self.here, self.bytes, self.place,
+        )
     }
 
     /// Moves to the next place, and answers whether it moved: at the end it stays.
+    #[inline]
     pub fn next(&mut self) -> bool
         ensures moved { IsTrue result ↔ self.old.index < text_len S.table self.old }
         ensures index { self.new.index ≡ min (self.old.index + 1) (text_len S.table self.old) }
         ensures space { self.new.space ≡ self.old.space }
         ensures rope { self.new.rope ≡ self.old.rope }
     {
-        let moves = self.place < rope_len(self.space, self.rope);
+        let to = self.place + 1;
+        let moves = holds(self.here, to) || self.place < rope_len(self.space, self.rope);
         if moves {
-            self.place += 1;
+            self.move_to(to);
         }
         moves
     }
 
     /// Moves to the place before, and answers whether it moved: at the text's first byte it stays.
+    #[inline]
     pub fn prev(&mut self) -> bool
         ensures moved { IsTrue result ↔ 0 < self.old.index }
         ensures index { self.new.index ≡ self.old.index - 1 }
@@ -98,7 +124,7 @@ impl<'a, S: NodeSpace> Pos<'a, S> {
     {
         let moves = self.place > 0;
         if moves {
-            self.place -= 1;
+            self.move_to(self.place - 1);
         }
         moves
     }
@@ -110,10 +136,32 @@ impl<'a, S: NodeSpace> Pos<'a, S> {
         ensures rope { self.new.rope ≡ self.old.rope }
     {
         let left = rope_len(self.space, self.rope) - self.place;
-        self.place += n.min(left);
+        self.move_to(self.place + n.min(left));
+    }
+
+    /// Moves to a place.
+    #[inline]
+    fn move_to(&mut self, to: u64)
+        requires { to ≤ text_len S.table self.old }
+        ensures index { self.new.index ≡ to }
+        ensures space { self.new.space ≡ self.old.space }
+        ensures rope { self.new.rope ≡ self.old.rope }
+    {
+        self.place = to;
+        if holds(self.here, to) {
+            return;
+        }
+        match self.rope {
+            Some(root) if to < self.space.len(root) => {
+                self.here = seek(self.space, root, &mut self.path, to);
+                self.bytes = step_bytes(self.space, self.here);
+            }
+            _ => {}
+        }
     }
 
     /// How many bytes there are from here to the end of the present leaf's span; at the end, 0.
+    #[inline]
     pub fn run_left(&self) -> u64
         ensures exact { result ≡ left_here S.table self.now }
         ensures inside { self.now.index + result ≤ text_len S.table self.now }
@@ -121,22 +169,20 @@ impl<'a, S: NodeSpace> Pos<'a, S> {
             (IsRun (S.table self.now.space) self.now.rope self.now.index) }
         ensures some { self.now.index < text_len S.table self.now → 1 ≤ result }
     {
-        match find_run(self.space, self.rope, self.place) {
+        match find_run(self.space, self.rope, self.here, self.place) {
             Some(span) => span.len,
             None => 0,
         }
     }
 
     /// The bytes from here to the end of the present leaf's span, where the leaf is a literal; elsewhere and at the end, none.
+    #[inline]
     pub fn run_bytes(&self) -> &[u8]
         ensures exact { result.now ≡ bytes_here S.table self.now }
         ensures cells { 1 ≤ length result.now
             → map Byte result.now ≡ cells_here S.table self.now (left_here S.table self.now) }
     {
-        match find_run(self.space, self.rope, self.place) {
-            Some(span) => literal_span(self.space, span),
-            None => &[],
-        }
+        literal_run(self.space, self.rope, self.here, self.bytes, self.place)
     }
 
     /// Writes the bytes from here to the end of the present leaf's span into the buffer, as many as it takes, and answers how many.
@@ -158,7 +204,7 @@ impl<'a, S: NodeSpace> Pos<'a, S> {
             ReadsSpan T.stated T.failures sources.old sources.new
             (cell_of S.table self.now) self.now.index (self.now.index + n) result }
     {
-        let Some(span) = find_run(self.space, self.rope, self.place) else {
+        let Some(span) = find_run(self.space, self.rope, self.here, self.place) else {
             return Ok(0);
         };
         let n = span.len.min(buffer.len() as u64) as usize;

@@ -2,27 +2,35 @@
 
 ghost use Rattle.std.specs.Prelude.{◌≡◌, ◌↔◌, ◌<◌, ◌≤◌, ◌+◌, None, map, length, IfSome};
 ghost use Rattle.rope_node.specs.Table.{view_at, len_at};
-ghost use Rattle.rope_node.specs.Denotes.{Byte, rope_len, IsRope};
-ghost use Rattle.cord_position.specs.Fetched.{leaf_part};
-ghost use Rattle.cord_position.specs.Runs.{rope_span, span_bytes, IsRun};
+ghost use Rattle.rope_node.specs.Denotes.{Byte, rope_len};
+ghost use Rattle.cord_position.specs.Fetched.{leaf_part, rope_part};
+ghost use Rattle.cord_position.specs.Runs.{rope_span, run_bytes, run_left, span_bytes, IsRun};
+ghost use Rattle.cord_position.specs.Steps.{AreStepBytes, IsHere};
 
-use rope_node::{LeafSpan, NodeSpace, NodeView, Rope, find_span};
+use crate::path::Step;
+use rope_node::{LeafSpan, NodeSpace, NodeView, Rope};
 
-/// The leaf span that the bytes of a rope from `i` on begin with; at the end and past it, none.
-pub fn find_run<S: NodeSpace>(space: &S, rope: Rope, i: u64) -> Option<LeafSpan>
-    requires { IsRope (S.table space.now) rope }
-    ensures exact { result ≡ rope_span (S.table space.now) rope i }
-    ensures run { IfSome result (IsRun (S.table space.now) rope i) }
-    ensures none { result ≡ None ↔ rope_len (S.table space.now) rope ≤ i }
+/// The leaf span that the bytes of a rope from a place on begin with, by the step that holds the place; at the end, none.
+#[inline]
+pub fn find_run<S: NodeSpace>(space: &S, rope: Rope, here: Step, place: u64) -> Option<LeafSpan>
+    requires { IsHere (S.table space.now) rope place here }
+    ensures exact { result ≡ rope_span (S.table space.now) rope place }
+    ensures run { IfSome result (IsRun (S.table space.now) rope place) }
+    ensures none { result ≡ None ↔ rope_len (S.table space.now) rope ≤ place }
 {
-    match rope {
-        Some(node) if i < space.len(node) => Some(find_span(space, node, i)),
-        _ => None,
+    let offset = place - here.first;
+    if offset >= here.len {
+        return None;
     }
+    Some(LeafSpan {
+        leaf: here.node,
+        start: here.skipped + offset,
+        len: here.len - offset,
+    })
 }
 
 /// The bytes of a span of a literal; of a span of any other leaf, none.
-pub fn literal_span<S: NodeSpace>(space: &S, span: LeafSpan) -> &[u8]
+fn literal_span<S: NodeSpace>(space: &S, span: LeafSpan) -> &[u8]
     requires there { span.leaf.0 < length (S.table space.now).nodes }
     requires inside { span.start + span.len ≤ len_at (S.table space.now) span.leaf.0 }
     ensures exact { result.now ≡ span_bytes (S.table space.now) (Some span) }
@@ -33,4 +41,43 @@ pub fn literal_span<S: NodeSpace>(space: &S, span: LeafSpan) -> &[u8]
         NodeView::Lit { .. } => &space.literal(span.leaf, span.start)[..span.len as usize],
         _ => &[],
     }
+}
+
+/// The bytes of a step to a literal; of any other step, none.
+#[inline(never)]
+pub fn step_bytes<S: NodeSpace>(space: &S, step: Step) -> &[u8]
+    requires there { step.node.0 < length (S.table space.now).nodes }
+    requires inside { step.skipped + step.len ≤ len_at (S.table space.now) step.node.0 }
+    ensures { AreStepBytes (S.table space.now) step result.now }
+{
+    literal_span(
+        space,
+        LeafSpan {
+            leaf: step.node,
+            start: step.skipped,
+            len: step.len,
+        },
+    )
+}
+
+/// The bytes from a place to the end of its leaf's span, where the leaf is a literal; elsewhere and at the end, none.
+#[inline]
+pub fn literal_run<'b, S: NodeSpace>(
+    space: &S,
+    rope: Rope,
+    here: Step,
+    bytes: &'b [u8],
+    place: u64,
+) -> &'b [u8]
+    requires here { IsHere (S.table space.now) rope place here }
+    requires bytes { AreStepBytes (S.table space.now) here bytes.now }
+    ensures exact { result.now ≡ run_bytes (S.table space.now) rope place }
+    ensures cells { 1 ≤ length result.now → map Byte result.now
+        ≡ rope_part (S.table space.now) rope place (run_left (S.table space.now) rope place) }
+{
+    let offset = place - here.first;
+    if offset >= bytes.len() as u64 {
+        return &[];
+    }
+    &bytes[offset as usize..]
 }

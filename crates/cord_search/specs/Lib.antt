@@ -1,4 +1,5 @@
 pub mod Order
 pub mod Places
+pub mod Reached
 pub mod Stated
 pub mod Faults

@@ -7,8 +7,10 @@ ghost use Rattle.cord_search.specs.Order.{order};
 ghost use Rattle.cord_search.specs.Stated.{OfTexts, OrdersParts, ReadsTwoSpans, longer};
 
 use crate::text_bytes::byte_at;
+use cord_position::Pos;
 use lazy_file::{SourceFault, Sources};
 use rope_node::{NodeSpace, Rope, rope_len};
+use std::alloc::Global;
 use std::cmp::Ordering;
 
 /// The order of `n` bytes of one text from `i` on and `n` bytes of another from `j` on, or of as many as there are.
@@ -17,6 +19,7 @@ use std::cmp::Ordering;
 ///
 /// A source's fault, where a byte is one of that source and the read of it failed.
 pub fn ncmp<S: NodeSpace, T: Sources>(
+    alloc: Global,
     space: &S,
     sources: &mut T,
     x: Rope,
@@ -33,15 +36,19 @@ pub fn ncmp<S: NodeSpace, T: Sources>(
         (rope_cell (S.table space.now) x) i
         (rope_cell (S.table space.now) y) j n result }
 {
+    let mut first = Pos::set(alloc, space, x, i);
+    let mut second = Pos::set(alloc, space, y, j);
     for k in 0..n {
-        let a = byte_at(space, sources, x, i, k)?;
-        let b = byte_at(space, sources, y, j, k)?;
+        let a = byte_at(&first, space, sources, x, i, k)?;
+        let b = byte_at(&second, space, sources, y, j, k)?;
         if a != b {
             return Ok(a.cmp(&b));
         }
         if a.is_none() {
             return Ok(Ordering::Equal);
         }
+        first.next();
+        second.next();
     }
     Ok(Ordering::Equal)
 }
@@ -52,6 +59,7 @@ pub fn ncmp<S: NodeSpace, T: Sources>(
 ///
 /// A source's fault, where a byte is one of that source and the read of it failed.
 pub fn cmp<S: NodeSpace, T: Sources>(
+    alloc: Global,
     space: &S,
     sources: &mut T,
     x: Rope,
@@ -68,5 +76,5 @@ pub fn cmp<S: NodeSpace, T: Sources>(
         (longer (S.table space.now) x y) result }
 {
     let n = rope_len(space, x).max(rope_len(space, y));
-    ncmp(space, sources, x, 0, y, 0, n)
+    ncmp(alloc, space, sources, x, 0, y, 0, n)
 }

@@ -12,4 +12,5 @@ pub use compare::{cmp, ncmp};
 pub use fault::{FindFault, PutFault};
 pub use pattern::{PATTERN_LIMIT, find};
 pub use single_bytes::{chr, rchr};
+pub use text_bytes::byte_at;
 pub use write::put;

@@ -5,19 +5,23 @@ ghost use Rattle.rope_node.specs.Denotes.{IsRope, rope_len};
 ghost use Rattle.lazy_file.specs.SourceTexts.{Reads};
 ghost use Rattle.cord_position.specs.Fetched.{EachCell, IsReadable, ReadsSpan, rope_cell};
 ghost use Rattle.cord_search.specs.Places.{IsFromOn, search_limit};
+ghost use Rattle.cord_search.specs.Reached.{StandsAtPlace};
 ghost use Rattle.cord_search.specs.Stated.{FindsFirst, OfSpan};
 ghost use Rattle.cord_search.specs.Faults.{IsFindFault};
 
 use crate::fault::FindFault;
 use crate::text_bytes::byte_at;
+use cord_position::Pos;
 use lazy_file::{SourceFault, Sources};
 use rope_node::{NodeSpace, Rope, rope_len};
+use std::alloc::Global;
 
 /// The most bytes in a pattern.
 pub const PATTERN_LIMIT: usize = 4096;
 
 /// Whether the bytes from `place` on begin with the pattern.
-fn stands_at<S: NodeSpace, T: Sources>(
+fn begins_with<S: NodeSpace, T: Sources>(
+    alloc: Global,
     space: &S,
     sources: &mut T,
     x: Rope,
@@ -31,12 +35,41 @@ fn stands_at<S: NodeSpace, T: Sources>(
     ensures reads { ReadsSpan T.stated T.failures sources.old sources.new
         (rope_cell (S.table space.now) x) place (place + length pattern.now) result }
 {
+    let mut pos = Pos::set(alloc, space, x, place);
     for k in 0..pattern.len() {
-        if byte_at(space, sources, x, place, k as u64)? != Some(pattern[k]) {
+        if byte_at(&pos, space, sources, x, place, k as u64)? != Some(pattern[k]) {
             return Ok(false);
         }
+        pos.next();
     }
     Ok(true)
+}
+
+/// The same, by a position that stands at `place`. Where the first byte is another one, no more is read.
+fn stands_at<S: NodeSpace, T: Sources>(
+    alloc: Global,
+    pos: &Pos<'_, S>,
+    space: &S,
+    sources: &mut T,
+    x: Rope,
+    place: u64,
+    pattern: &[u8],
+) -> Result<bool, SourceFault>
+    requires rope { IsRope (S.table space.now) x }
+    requires here { StandsAtPlace S.table pos.now space.now x place }
+    ensures stands { IfOk result (λ stands. OfSpan (S.table space.now) (T.stated sources.old)
+        x place (place + length pattern.now)
+        (λ t. (stands ≡ true) ↔ (take (length pattern.now) (drop place t) ≡ pattern.now))) }
+    ensures reads { ReadsSpan T.stated T.failures sources.old sources.new
+        (rope_cell (S.table space.now) x) place (place + length pattern.now) result }
+{
+    if pattern.is_empty() {
+        return Ok(true);
+    }
+    if byte_at(pos, space, sources, x, place, 0)? != Some(pattern[0]) {
+        return Ok(false);
+    }
+    begins_with(alloc, space, sources, x, place, pattern)
 }
 
 /// The first place from `start` on at which the pattern stands. An empty pattern stands at each place up to the text's end.
@@ -45,6 +78,7 @@ fn stands_at<S: NodeSpace, T: Sources>(
 ///
 /// `F1` for a pattern longer than `PATTERN_LIMIT`. A source's fault, where a byte is one of that source and the read of it failed.
 pub fn find<S: NodeSpace, T: Sources>(
+    alloc: Global,
     space: &S,
     sources: &mut T,
     x: Rope,
@@ -68,10 +102,12 @@ pub fn find<S: NodeSpace, T: Sources>(
         return Err(FindFault::PatternTooLong);
     }
     let places = (rope_len(space, x) + 1).saturating_sub(pattern.len() as u64);
+    let mut pos = Pos::set(alloc, space, x, start);
     for place in start..places {
-        if stands_at(space, sources, x, place, pattern)? {
+        if stands_at(alloc, &pos, space, sources, x, place, pattern)? {
             return Ok(Some(place));
         }
+        pos.next();
     }
     Ok(None)
 }

@@ -7,8 +7,10 @@ ghost use Rattle.cord_search.specs.Places.{IsFromOn, IsUpTo};
 ghost use Rattle.cord_search.specs.Stated.{FindsFirst, FindsLast};
 
 use crate::text_bytes::byte_at;
+use cord_position::Pos;
 use lazy_file::{SourceFault, Sources};
 use rope_node::{NodeSpace, Rope, rope_len};
+use std::alloc::Global;
 
 /// The first place of the byte `c` from `i` on.
 ///
@@ -16,6 +18,7 @@ use rope_node::{NodeSpace, Rope, rope_len};
 ///
 /// A source's fault, where a byte is one of that source and the read of it failed.
 pub fn chr<S: NodeSpace, T: Sources>(
+    alloc: Global,
     space: &S,
     sources: &mut T,
     x: Rope,
@@ -29,10 +32,12 @@ pub fn chr<S: NodeSpace, T: Sources>(
     ensures reads { ReadsSpan T.stated T.failures sources.old sources.new
         (rope_cell (S.table space.now) x) i (rope_len (S.table space.now) x) result }
 {
+    let mut pos = Pos::set(alloc, space, x, i);
     for place in i..rope_len(space, x) {
-        if byte_at(space, sources, x, place, 0)? == Some(c) {
+        if byte_at(&pos, space, sources, x, place, 0)? == Some(c) {
             return Ok(Some(place));
         }
+        pos.next();
     }
     Ok(None)
 }
@@ -43,6 +48,7 @@ pub fn chr<S: NodeSpace, T: Sources>(
 ///
 /// A source's fault, where a byte is one of that source and the read of it failed.
 pub fn rchr<S: NodeSpace, T: Sources>(
+    alloc: Global,
     space: &S,
     sources: &mut T,
     x: Rope,
@@ -57,9 +63,11 @@ pub fn rchr<S: NodeSpace, T: Sources>(
         (rope_cell (S.table space.now) x) 0 (i + 1) result }
 {
     let mut place = rope_len(space, x).min(i.saturating_add(1));
+    let mut pos = Pos::set(alloc, space, x, place);
     while place > 0 {
         place -= 1;
-        if byte_at(space, sources, x, place, 0)? == Some(c) {
+        pos.prev();
+        if byte_at(&pos, space, sources, x, place, 0)? == Some(c) {
             return Ok(Some(place));
         }
     }

@@ -1,31 +1,37 @@
 //! A text's bytes one by one.
 
-ghost use Rattle.std.specs.Prelude.{◌+◌, IfOk};
-ghost use Rattle.rope_node.specs.Denotes.{IsRope};
+ghost use Rattle.std.specs.Prelude.{◌↔◌, ◌<◌, ◌+◌, IfOk, IsSome};
+ghost use Rattle.rope_node.specs.Denotes.{IsRope, rope_len};
 ghost use Rattle.cord_position.specs.Fetched.{IsFetched, ReadsSpan, rope_cell};
+ghost use Rattle.cord_search.specs.Reached.{StandsAtPlace};
 
-use cord_position::fetch_byte;
+use cord_position::Pos;
 use lazy_file::{SourceFault, Sources};
 use rope_node::{NodeSpace, Rope, rope_len};
 
-/// The byte `k` behind `start`, if the text goes so far.
+/// The byte `k` behind `start`, if the text goes so far, by a position that stands there, or at the end.
+///
+/// # Errors
+///
+/// A source's fault, where the byte is one of that source and the read of it failed.
+#[inline]
 pub fn byte_at<S: NodeSpace, T: Sources>(
+    pos: &Pos<'_, S>,
     space: &S,
     sources: &mut T,
     rope: Rope,
     start: u64,
     k: u64,
 ) -> Result<Option<u8>, SourceFault>
-    requires { IsRope (S.table space.now) rope }
+    requires rope { IsRope (S.table space.now) rope }
+    requires here { StandsAtPlace S.table pos.now space.now rope (start + k) }
     ensures byte { IfOk result
         (IsFetched (S.table space.now) (T.stated sources.old) rope (start + k)) }
+    ensures inside { IfOk result
+        (λ found. IsSome found ↔ start + k < rope_len (S.table space.now) rope) }
     ensures reads { ReadsSpan T.stated T.failures sources.old sources.new
         (rope_cell (S.table space.now) rope) (start + k) (start + k + 1) result }
 {
-    let len = rope_len(space, rope);
-    if start >= len || k >= len - start {
-        return Ok(None);
-    }
-    let (byte, _) = fetch_byte(space, sources, rope, start + k)?;
-    Ok(byte)
+    let _len = rope_len(space, rope);
+    pos.fetch(sources)
 }

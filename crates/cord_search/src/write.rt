@@ -6,6 +6,7 @@ ghost use Rattle.rope_node.specs.Denotes.{IsRope, rope_len};
 ghost use Rattle.lazy_file.specs.SourceTexts.{Reads};
 ghost use Rattle.cord_position.specs.Fetched.{EachCell, IsReadable, ReadsSpan, rope_cell};
 ghost use Rattle.byte_output.specs.Prefix.{AppendsPrefix};
+ghost use Rattle.cord_search.specs.Reached.{StandsAtPlace};
 ghost use Rattle.cord_search.specs.Stated.{OfSpan, OfText};
 ghost use Rattle.cord_search.specs.Faults.{IsPutFault};
 ghost use Rattle.cord_search.specs.declared.fault.PutFault.TheVariants.{Write};
@@ -13,23 +14,29 @@ ghost use Rattle.cord_search.specs.declared.fault.PutFault.TheVariants.{Write};
 use crate::fault::PutFault;
 use crate::text_bytes::byte_at;
 use byte_output::write_bytes;
+use cord_position::Pos;
 use lazy_file::{SourceFault, Sources};
 use rope_node::{NodeSpace, Rope, rope_len};
+use std::alloc::Global;
 use std::io;
 
 /// How many bytes are fetched before they are written.
 const CHUNK: usize = 4096;
 
-/// Fetches the bytes from `start` on into the whole chunk.
+/// Fetches the bytes from `start` on into the whole chunk. The position goes behind the last of them.
 fn fill<S: NodeSpace, T: Sources>(
+    pos: &mut Pos<'_, S>,
     space: &S,
     sources: &mut T,
     x: Rope,
     start: u64,
     chunk: &mut [u8],
 ) -> Result<(), SourceFault>
-    requires { IsRope (S.table space.now) x }
+    requires rope { IsRope (S.table space.now) x }
+    requires here { StandsAtPlace S.table pos.old space.now x start }
     ensures length { length chunk.new ≡ length chunk.old }
+    ensures here { OnOk result
+        (StandsAtPlace S.table pos.new space.now x (start + length chunk.old)) }
     ensures bytes { OnOk result (OfSpan (S.table space.now) (T.stated sources.old) x
         start (start + length chunk.old) (λ t. start + length chunk.old ≤ length t
         → chunk.new ≡ take (length chunk.old) (drop start t))) }
@@ -37,8 +44,9 @@ fn fill<S: NodeSpace, T: Sources>(
         (rope_cell (S.table space.now) x) start (start + length chunk.old) result }
 {
     for j in 0..chunk.len() {
-        let found = byte_at(space, sources, x, start, j as u64)?;
+        let found = byte_at(pos, space, sources, x, start, j as u64)?;
         chunk[j] = found.unwrap_or(0);
+        pos.next();
     }
     Ok(())
 }
@@ -49,6 +57,7 @@ fn fill<S: NodeSpace, T: Sources>(
 ///
 /// `Write`, where the writer failed or took no byte. A source's fault, where a byte is one of that source and the read of it failed.
 pub fn put<S: NodeSpace, T: Sources, W: io::Write>(
+    alloc: Global,
     space: &S,
     sources: &mut T,
     x: Rope,
@@ -67,11 +76,12 @@ pub fn put<S: NodeSpace, T: Sources, W: io::Write>(
         (IsReadable (T.stated sources.old)) → IfErr result (λ e. e ≡ Write) }
 {
     let len = rope_len(space, x);
+    let mut pos = Pos::set(alloc, space, x, 0);
     let mut chunk = [0; CHUNK];
     let mut done = 0;
     while done < len {
         let count = (len - done).min(CHUNK as u64) as usize;
-        fill(space, sources, x, done, &mut chunk[..count])?;
+        fill(&mut pos, space, sources, x, done, &mut chunk[..count])?;
         write_bytes(writer, &chunk[..count])?;
         done += count as u64;
     }

@@ -47,7 +47,7 @@ fn order_of<T: Sources>(alloc: Global, sources: &mut T) -> Result<Ordering, Tool
     let mut store = store_of(alloc, sources)?;
     let first = part(&mut store, 0, 0, u64::MAX)?;
     let second = part(&mut store, 1, 0, u64::MAX)?;
-    Ok(cmp(&store, sources, first, second)?)
+    Ok(cmp(alloc, &store, sources, first, second)?)
 }
 
 /// Compares the bytes of the first two sources. It writes the line `less`, `equal` or `greater`, and answers `Success` where they are

@@ -29,6 +29,6 @@ pub fn run_cut<T: Sources, W: io::Write>(
 {
     let mut store = store_of(alloc, sources)?;
     let rope = part(&mut store, 0, start, count)?;
-    put(&store, sources, rope, writer)?;
+    put(alloc, &store, sources, rope, writer)?;
     Ok(())
 }

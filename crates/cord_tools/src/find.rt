@@ -42,7 +42,7 @@ fn first_place<T: Sources>(
     }
     let mut store = store_of(alloc, sources)?;
     let file = part(&mut store, 0, 0, u64::MAX)?;
-    Ok(find(&store, sources, file, start, pattern)?)
+    Ok(find(alloc, &store, sources, file, start, pattern)?)
 }
 
 /// Writes the line of the first place of the pattern in the first source, from its byte `start` on, and answers `Success`. Where the

@@ -96,6 +96,6 @@ pub fn run_join<T: Sources, W: io::Write>(
 {
     let mut store = store_of(alloc, sources)?;
     let rope = join_sources(&mut store)?;
-    put(&store, sources, rope, writer)?;
+    put(alloc, &store, sources, rope, writer)?;
     Ok(())
 }

@@ -35,7 +35,7 @@ pub fn run_show<R: io::Read + Drop, S: Sources, W: io::Write>(
     }
     let k = revision as u32;
     match image.root(k) {
-        Some(root) => Ok(put(&image, sources, root, writer)?),
+        Some(root) => Ok(put(alloc, &image, sources, root, writer)?),
         None => Err(ToolFault::NoRevision),
     }
 }

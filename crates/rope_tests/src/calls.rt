@@ -8,3 +8,4 @@ mod positions;
 mod ropes;
 mod searches;
 mod tables;
+mod walks;

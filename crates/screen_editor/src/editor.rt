@@ -40,6 +40,7 @@ impl<R: Sources + Drop> Model for Editor<R> {
 
 /// Where a key leads that looks for line breaks.
 fn line_place<R: Sources>(
+    alloc: Global,
     sources: &mut R,
     workspace: &Workspace,
     key: Key,
@@ -52,21 +53,26 @@ fn line_place<R: Sources>(
     let space = workspace.session().space();
     let (root, place) = (workspace.root(), workspace.place());
     match key {
-        Key::LineStart => Ok(Some(line_start(space, sources, root, place)?)),
-        Key::LineEnd => Ok(Some(line_end(space, sources, root, place)?)),
-        Key::Up => Ok(Some(place_up(space, sources, root, place)?)),
-        Key::Down => Ok(Some(place_down(space, sources, root, place)?)),
+        Key::LineStart => Ok(Some(line_start(alloc, space, sources, root, place)?)),
+        Key::LineEnd => Ok(Some(line_end(alloc, space, sources, root, place)?)),
+        Key::Up => Ok(Some(place_up(alloc, space, sources, root, place)?)),
+        Key::Down => Ok(Some(place_down(alloc, space, sources, root, place)?)),
         _ => Ok(None),
     }
 }
 
 /// What a key does but for the message.
-fn take<R: Sources>(sources: &mut R, workspace: &mut Workspace, byte: u8) -> Result<(), KeyFault>
+fn take<R: Sources>(
+    alloc: Global,
+    sources: &mut R,
+    workspace: &mut Workspace,
+    byte: u8,
+) -> Result<(), KeyFault>
     ensures { Takes R.stated R.failures byte sources.old workspace.old result sources.new workspace.new }
 {
     // The workspace keeps its rules, as its last revision says.
     let _last = workspace.last();
-    match line_place(sources, workspace, Key::of(byte)) {
+    match line_place(alloc, sources, workspace, Key::of(byte)) {
         Ok(Some(place)) => {
             workspace.move_to(place);
             Ok(())
@@ -78,6 +84,7 @@ fn take<R: Sources>(sources: &mut R, workspace: &mut Workspace, byte: u8) -> Res
 
 /// Takes a key. A refused one changes the message alone.
 fn take_key<R: Sources>(
+    alloc: Global,
     sources: &mut R,
     workspace: &mut Workspace,
     byte: u8,
@@ -87,7 +94,7 @@ fn take_key<R: Sources>(
         (record { sources = sources.new; editing = workspace.new }) }
     ensures sizes { workspace.new.session.held.sources ≡ workspace.old.session.held.sources }
 {
-    if let Err(fault) = take(sources, workspace, byte) {
+    if let Err(fault) = take(alloc, sources, workspace, byte) {
         workspace.tell(Some(fault));
         return Err(fault);
     }
@@ -155,7 +162,7 @@ impl<R: Sources + Drop> Editor<R> {
     pub fn key(&mut self, byte: u8) -> Result<Step, KeyFault>
         ensures { TakesKey R.stated R.failures byte self.old result self.new }
     {
-        take_key(&mut self.sources, &mut self.workspace, byte)
+        take_key(self.alloc, &mut self.sources, &mut self.workspace, byte)
     }
 
     /// What the screen shows.

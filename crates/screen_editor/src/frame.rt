@@ -69,10 +69,10 @@ pub fn frame_about<S: NodeSpace, T: Sources>(
     ensures reads { ReadsToShow T.stated T.failures sources.old sources.new
         (rope_cell (S.table space.now) rope) (rope_len (S.table space.now) rope) result }
 {
-    let window = window_about(space, sources, rope, place)?;
+    let window = window_about(alloc, space, sources, rope, place)?;
     let left = SCREEN_COLUMNS * (window.column / SCREEN_COLUMNS);
     let mut out = Vec::from_slice(alloc, CLEAR)?;
-    push_rows(space, sources, rope, window.top, left, &mut out)?;
+    push_rows(alloc, space, sources, rope, window.top, left, &mut out)?;
     let line = status(alloc, revision, place, rope_len(space, rope), message)?;
     out.extend_from_slice(line.as_bytes())?;
     let end = cursor(alloc, window.row + 1, window.column - left + 1)?;

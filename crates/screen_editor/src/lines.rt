@@ -9,6 +9,7 @@ ghost use Rattle.screen_editor.specs.Lines.{line_start, line_end, place_up, plac
 use cord_search::{chr, rchr};
 use lazy_file::{SourceFault, Sources};
 use rope_node::{NodeSpace, Rope, rope_len};
+use std::alloc::Global;
 
 const LINE_BREAK: u8 = 0x0A;
 
@@ -18,6 +19,7 @@ const LINE_BREAK: u8 = 0x0A;
 ///
 /// A source's fault, where a byte is one of that source and the read of it failed.
 pub fn line_start<S: NodeSpace, T: Sources>(
+    alloc: Global,
     space: &S,
     sources: &mut T,
     rope: Rope,
@@ -35,7 +37,7 @@ pub fn line_start<S: NodeSpace, T: Sources>(
     if place == 0 {
         return Ok(0);
     }
-    match rchr(space, sources, rope, place - 1, LINE_BREAK)? {
+    match rchr(alloc, space, sources, rope, place - 1, LINE_BREAK)? {
         Some(found) => Ok(found + 1),
         None => Ok(0),
     }
@@ -47,6 +49,7 @@ pub fn line_start<S: NodeSpace, T: Sources>(
 ///
 /// A source's fault, where a byte is one of that source and the read of it failed.
 pub fn line_end<S: NodeSpace, T: Sources>(
+    alloc: Global,
     space: &S,
     sources: &mut T,
     rope: Rope,
@@ -61,7 +64,7 @@ pub fn line_end<S: NodeSpace, T: Sources>(
     ensures reads { ReadsSpan T.stated T.failures sources.old sources.new
         (rope_cell (S.table space.now) rope) 0 (rope_len (S.table space.now) rope) result }
 {
-    let found = chr(space, sources, rope, place, LINE_BREAK)?;
+    let found = chr(alloc, space, sources, rope, place, LINE_BREAK)?;
     Ok(found.unwrap_or(rope_len(space, rope)))
 }
 
@@ -71,6 +74,7 @@ pub fn line_end<S: NodeSpace, T: Sources>(
 ///
 /// A source's fault, where a byte is one of that source and the read of it failed.
 pub fn place_up<S: NodeSpace, T: Sources>(
+    alloc: Global,
     space: &S,
     sources: &mut T,
     rope: Rope,
@@ -84,11 +88,11 @@ pub fn place_up<S: NodeSpace, T: Sources>(
     ensures reads { ReadsSpan T.stated T.failures sources.old sources.new
         (rope_cell (S.table space.now) rope) 0 (rope_len (S.table space.now) rope) result }
 {
-    let start = line_start(space, sources, rope, place)?;
+    let start = line_start(alloc, space, sources, rope, place)?;
     if start == 0 {
         return Ok(place);
     }
-    let above = line_start(space, sources, rope, start - 1)?;
+    let above = line_start(alloc, space, sources, rope, start - 1)?;
     Ok((above + (place - start)).min(start - 1))
 }
 
@@ -98,6 +102,7 @@ pub fn place_up<S: NodeSpace, T: Sources>(
 ///
 /// A source's fault, where a byte is one of that source and the read of it failed.
 pub fn place_down<S: NodeSpace, T: Sources>(
+    alloc: Global,
     space: &S,
     sources: &mut T,
     rope: Rope,
@@ -111,11 +116,11 @@ pub fn place_down<S: NodeSpace, T: Sources>(
     ensures reads { ReadsSpan T.stated T.failures sources.old sources.new
         (rope_cell (S.table space.now) rope) 0 (rope_len (S.table space.now) rope) result }
 {
-    let end = line_end(space, sources, rope, place)?;
+    let end = line_end(alloc, space, sources, rope, place)?;
     if end == rope_len(space, rope) {
         return Ok(place);
     }
-    let start = line_start(space, sources, rope, place)?;
-    let below = line_end(space, sources, rope, end + 1)?;
+    let start = line_start(alloc, space, sources, rope, place)?;
+    let below = line_end(alloc, space, sources, rope, end + 1)?;
     Ok((end + 1 + (place - start)).min(below))
 }

@@ -10,9 +10,11 @@ ghost use Rattle.screen_editor.specs.Rows.{lines_from, rows_in, PushesLine};
 
 use crate::fault::FrameFault;
 use crate::lines::line_end;
-use cord_position::fetch_byte;
+use cord_position::Pos;
+use cord_search::byte_at;
 use lazy_file::Sources;
 use rope_node::{NodeSpace, Rope, rope_len};
+use std::alloc::Global;
 
 const SCREEN_ROWS: u32 = 23;
 
@@ -30,6 +32,7 @@ fn glyph(byte: u8) -> u8
 
 /// Appends the bytes from `start` up to `end`, as they are shown.
 fn push_glyphs<S: NodeSpace, T: Sources>(
+    alloc: Global,
     space: &S,
     sources: &mut T,
     rope: Rope,
@@ -45,9 +48,11 @@ fn push_glyphs<S: NodeSpace, T: Sources>(
     ensures reads { ReadsToShow T.stated T.failures sources.old sources.new
         (rope_cell (S.table space.now) rope) (rope_len (S.table space.now) rope) result }
 {
+    let mut pos = Pos::set(alloc, space, rope, start);
     for place in start..end {
-        let (byte, _) = fetch_byte(space, sources, rope, place)?;
+        let byte = byte_at(&pos, space, sources, rope, place, 0)?;
         out.push(glyph(byte.unwrap_or(0)))?;
+        pos.next();
     }
     Ok(())
 }
@@ -55,6 +60,7 @@ fn push_glyphs<S: NodeSpace, T: Sources>(
 /// Appends what is shown of the line that begins at `start`, from the column `left` on. It answers where the next
 /// line begins, or that there is none.
 fn push_line<S: NodeSpace, T: Sources>(
+    alloc: Global,
     space: &S,
     sources: &mut T,
     rope: Rope,
@@ -70,10 +76,11 @@ fn push_line<S: NodeSpace, T: Sources>(
     ensures reads { ReadsToShow T.stated T.failures sources.old sources.new
         (rope_cell (S.table space.now) rope) (rope_len (S.table space.now) rope) result }
 {
-    let end = line_end(space, sources, rope, start)?;
+    let end = line_end(alloc, space, sources, rope, start)?;
     let rest = (end - start).saturating_sub(left);
     let from = end - rest;
     push_glyphs(
+        alloc,
         space,
         sources,
         rope,
@@ -91,6 +98,7 @@ fn push_line<S: NodeSpace, T: Sources>(
 
 /// Appends the same of the line that begins at `start`, or nothing behind the last line.
 fn push_line_at<S: NodeSpace, T: Sources>(
+    alloc: Global,
     space: &S,
     sources: &mut T,
     rope: Rope,
@@ -107,7 +115,7 @@ fn push_line_at<S: NodeSpace, T: Sources>(
         (rope_cell (S.table space.now) rope) (rope_len (S.table space.now) rope) result }
 {
     match start {
-        Some(start) => push_line(space, sources, rope, start, left, out),
+        Some(start) => push_line(alloc, space, sources, rope, start, left, out),
         None => Ok(None),
     }
 }
@@ -118,6 +126,7 @@ fn push_line_at<S: NodeSpace, T: Sources>(
 ///
 /// `Source`, where a byte or a line break could not be read. `Memory`, where memory was refused.
 pub fn push_rows<S: NodeSpace, T: Sources>(
+    alloc: Global,
     space: &S,
     sources: &mut T,
     rope: Rope,
@@ -134,7 +143,7 @@ pub fn push_rows<S: NodeSpace, T: Sources>(
 {
     let mut next = Some(top);
     for row in 0..SCREEN_ROWS {
-        next = push_line_at(space, sources, rope, next, left, out)?;
+        next = push_line_at(alloc, space, sources, rope, next, left, out)?;
         out.extend_from_slice(b"\r\n")?;
     }
     Ok(())

@@ -10,6 +10,7 @@ ghost use Rattle.screen_editor.specs.Rows.{IsAbove, IsWindow};
 use crate::lines::line_start;
 use lazy_file::{SourceFault, Sources};
 use rope_node::{NodeSpace, Rope, rope_len};
+use std::alloc::Global;
 
 /// How many lines stand above the cursor's, where there are so many.
 const LINES_ABOVE: u64 = 11;
@@ -27,6 +28,7 @@ pub struct Window {
 /// Goes back from a line's start by 11 lines, or to the text's start. It answers where the line begins that it came
 /// to, and how many lines it went.
 fn go_back<S: NodeSpace, T: Sources>(
+    alloc: Global,
     space: &S,
     sources: &mut T,
     rope: Rope,
@@ -46,7 +48,7 @@ fn go_back<S: NodeSpace, T: Sources>(
     let mut top = start;
     let mut row = 0;
     while row < LINES_ABOVE && top > 0 {
-        top = line_start(space, sources, rope, top - 1)?;
+        top = line_start(alloc, space, sources, rope, top - 1)?;
         row += 1;
     }
     Ok((top, row))
@@ -58,6 +60,7 @@ fn go_back<S: NodeSpace, T: Sources>(
 ///
 /// A source's fault, where a byte is one of that source and the read of it failed.
 pub fn window_about<S: NodeSpace, T: Sources>(
+    alloc: Global,
     space: &S,
     sources: &mut T,
     rope: Rope,
@@ -74,8 +77,8 @@ pub fn window_about<S: NodeSpace, T: Sources>(
         (rope_cell (S.table space.now) rope) 0 (rope_len (S.table space.now) rope) result }
 {
     prove!(place <= rope_len(space, rope));
-    let start = line_start(space, sources, rope, place)?;
-    let (top, row) = go_back(space, sources, rope, start)?;
+    let start = line_start(alloc, space, sources, rope, place)?;
+    let (top, row) = go_back(alloc, space, sources, rope, start)?;
     Ok(Window {
         top,
         row,

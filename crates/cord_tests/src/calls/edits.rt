@@ -30,7 +30,7 @@ fn text<R: AllocGlobal + Abort>(rt: &R, session: &Session, k: u32) -> Vec<u8> {
     assert!(rt; space.has(root));
     let mut sources = MemSources::new(rt.alloc());
     let mut bytes: Vec<u8> = Vec::new(rt.alloc());
-    put(space, &mut sources, root, &mut bytes).expect(rt, "a text");
+    put(rt.alloc(), space, &mut sources, root, &mut bytes).expect(rt, "a text");
     bytes
 }
 

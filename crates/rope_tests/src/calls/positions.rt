@@ -115,7 +115,7 @@ fn texts(rt: &(impl AllocGlobal + Abort)) -> MemSources<'static> {
 #[test]
 fn a_place_past_the_end_is_the_end(rt: HostRuntime) {
     let mut sources = texts(&rt);
-    let mut pos = Pos::set(&Sample, ALL, 11);
+    let mut pos = Pos::set(rt.alloc(), &Sample, ALL, 11);
     assert_eq!(rt; pos.index(), 10);
     assert!(rt; !pos.valid());
     assert_eq!(rt; pos.fetch(&mut sources), Ok(None));
@@ -128,7 +128,7 @@ fn a_place_past_the_end_is_the_end(rt: HostRuntime) {
 #[test]
 fn steps_go_to_both_ends_and_stay(rt: HostRuntime) {
     let mut sources = texts(&rt);
-    let mut pos = Pos::set(&Sample, ALL, 0);
+    let mut pos = Pos::set(rt.alloc(), &Sample, ALL, 0);
     assert!(rt; !pos.prev());
     assert_eq!(rt; pos.index(), 0);
     for byte in *b"abcdef\0\x01\x02\x03" {
@@ -141,12 +141,12 @@ fn steps_go_to_both_ends_and_stay(rt: HostRuntime) {
 
 #[test]
 fn a_skip_ends_at_the_end(rt: HostRuntime) {
-    let mut pos = Pos::set(&Sample, ALL, 2);
+    let mut pos = Pos::set(rt.alloc(), &Sample, ALL, 2);
     pos.skip(3);
     assert_eq!(rt; pos.index(), 5);
     pos.skip(u64::MAX);
     assert_eq!(rt; (pos.index(), pos.valid()), (10, false));
-    let mut none = Pos::set(&Sample, None, 1);
+    let mut none = Pos::set(rt.alloc(), &Sample, None, 1);
     none.skip(1);
     assert_eq!(rt; (none.index(), none.valid()), (0, false));
 }
@@ -162,7 +162,7 @@ fn a_run_ends_with_its_leaf(rt: HostRuntime) {
         (6, 4, ""),
         (9, 1, ""),
     ] {
-        let pos = Pos::set(&Sample, ALL, i);
+        let pos = Pos::set(rt.alloc(), &Sample, ALL, i);
         assert_eq!(rt; pos.run_left(), left, "at {i}");
         assert_eq!(rt; pos.run_bytes(), bytes.as_bytes(), "at {i}");
     }
@@ -180,18 +180,18 @@ fn a_buffer_takes_a_run(rt: HostRuntime) {
         (10, 0, *b"....."),
     ] {
         let mut buffer = *b".....";
-        let filled = Pos::set(&Sample, ALL, i).fill(&mut sources, &mut buffer);
+        let filled = Pos::set(rt.alloc(), &Sample, ALL, i).fill(&mut sources, &mut buffer);
         assert_eq!(rt; filled, Ok(n), "at {i}");
         assert_eq!(rt; buffer, bytes, "at {i}");
     }
     let mut two = *b"..";
     assert_eq!(rt;
-        Pos::set(&Sample, ALL, 3).fill(&mut sources, &mut two),
+        Pos::set(rt.alloc(), &Sample, ALL, 3).fill(&mut sources, &mut two),
         Ok(2)
     );
     assert_eq!(rt; &two, b"de");
     assert_eq!(rt;
-        Pos::set(&Sample, ALL, 0).fill(&mut sources, &mut []),
+        Pos::set(rt.alloc(), &Sample, ALL, 0).fill(&mut sources, &mut []),
         Ok(0)
     );
 }
@@ -199,7 +199,7 @@ fn a_buffer_takes_a_run(rt: HostRuntime) {
 #[test]
 fn a_fill_gives_its_sources_fault(rt: HostRuntime) {
     let mut none = MemSources::new(rt.alloc());
-    let pos = Pos::set(&Sample, ALL, 0);
+    let pos = Pos::set(rt.alloc(), &Sample, ALL, 0);
     let mut one = *b".";
     assert_eq!(rt; pos.fill(&mut none, &mut one), Err(SourceFault::BadSource));
     assert_eq!(rt; pos.fetch(&mut none), Err(SourceFault::BadSource));

@@ -56,7 +56,7 @@ fn patterns_stand_across_leaves(rt: HostRuntime) {
         (0, b"abcdef", None),
         (u64::MAX, b"a", None),
     ] {
-        let answer = find(&store, &mut sources, text, start, pattern);
+        let answer = find(rt.alloc(), &store, &mut sources, text, start, pattern);
         assert_eq!(rt; answer, Ok(found), "{start}");
     }
 }
@@ -66,9 +66,9 @@ fn patterns_have_a_limit(rt: HostRuntime) {
     let store: Store<Coded> = Store::new(rt.alloc());
     let mut sources = MemSources::new(rt.alloc());
     let pattern = [b'a'; 4097];
-    let answer = find(&store, &mut sources, None, 0, &pattern);
+    let answer = find(rt.alloc(), &store, &mut sources, None, 0, &pattern);
     assert_eq!(rt; answer, Err(FindFault::PatternTooLong));
-    let shorter = find(&store, &mut sources, None, 0, &pattern[1..]);
+    let shorter = find(rt.alloc(), &store, &mut sources, None, 0, &pattern[1..]);
     assert_eq!(rt; shorter, Ok(None));
 }
 
@@ -84,8 +84,8 @@ fn order_of(
     let y = store.from_bytes(texts[1]).expect(rt, "a rope");
     assert!(rt; store.has(x) && store.has(y));
     let order = match part {
-        Some((i, j, n)) => ncmp(&store, &mut sources, x, i, y, j, n),
-        None => cmp(&store, &mut sources, x, y),
+        Some((i, j, n)) => ncmp(rt.alloc(), &store, &mut sources, x, i, y, j, n),
+        None => cmp(rt.alloc(), &store, &mut sources, x, y),
     };
     order.expect(rt, "an order")
 }
@@ -130,10 +130,21 @@ fn bytes_have_a_first_and_a_last_place(rt: HostRuntime) {
         (9, None, Some(2)),
         (u64::MAX, None, Some(2)),
     ] {
-        assert_eq!(rt; chr(&store, &mut sources, text, i, b'a'), Ok(first), "{i}");
-        assert_eq!(rt; rchr(&store, &mut sources, text, i, b'a'), Ok(last), "{i}");
+        assert_eq!(rt;
+            chr(rt.alloc(), &store, &mut sources, text, i, b'a'),
+            Ok(first),
+            "{i}"
+        );
+        assert_eq!(rt;
+            rchr(rt.alloc(), &store, &mut sources, text, i, b'a'),
+            Ok(last),
+            "{i}"
+        );
     }
-    assert_eq!(rt; rchr(&store, &mut sources, text, 9, b'c'), Ok(None));
+    assert_eq!(rt;
+        rchr(rt.alloc(), &store, &mut sources, text, 9, b'c'),
+        Ok(None)
+    );
 }
 
 /// Takes `room` bytes, one a write.
@@ -182,7 +193,10 @@ fn text_is_written(rt: HostRuntime) {
     let text = three_leaves(&rt, &mut store, &mut sources);
     assert!(rt; store.has(text));
     let mut sink = Sink::with_room(8);
-    assert_eq!(rt; put(&store, &mut sources, text, &mut sink), Ok(()));
+    assert_eq!(rt;
+        put(rt.alloc(), &store, &mut sources, text, &mut sink),
+        Ok(())
+    );
     assert_eq!(rt; sink.taken(), b"abcde".as_slice());
 }
 
@@ -193,7 +207,7 @@ fn prefix_is_written_where_no_more_is_taken(rt: HostRuntime) {
     let text = three_leaves(&rt, &mut store, &mut sources);
     assert!(rt; store.has(text));
     let mut full = Sink::with_room(3);
-    let outcome = put(&store, &mut sources, text, &mut full);
+    let outcome = put(rt.alloc(), &store, &mut sources, text, &mut full);
     assert_eq!(rt; outcome, Err(PutFault::Write));
     assert_eq!(rt; full.taken(), b"abc".as_slice());
 }
@@ -205,6 +219,9 @@ fn text_is_written_to_memory(rt: HostRuntime) {
     let text = three_leaves(&rt, &mut store, &mut sources);
     assert!(rt; store.has(text));
     let mut bytes: Vec<u8> = Vec::new(rt.alloc());
-    assert_eq!(rt; put(&store, &mut sources, text, &mut bytes), Ok(()));
+    assert_eq!(rt;
+        put(rt.alloc(), &store, &mut sources, text, &mut bytes),
+        Ok(())
+    );
     assert_eq!(rt; bytes.as_slice(), b"abcde".as_slice());
 }

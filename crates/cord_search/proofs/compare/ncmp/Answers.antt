@@ -6,6 +6,7 @@ use Rattle.std.proofs.lemmas.Result.{err_from_is_err_and}
 use Rattle.lazy_file.proofs.LaterReads.{reads_then}
 use Rattle.rope_node.specs.Denotes.{rope_cells, text}
 use Rattle.cord_search.proofs.Fetches.{fetched_at}
+use Rattle.cord_search.proofs.Reaching.{next_place}
 use Rattle.cord_search.proofs.Options.{same_found, other_found}
 use Rattle.cord_search.proofs.Orders.{rest_differs, rest_same, rest_ended, rest_none, rest_past}
 use Rattle.cord_search.proofs.TwoSpans.{failed_first, failed_second}
@@ -68,6 +69,8 @@ returns-in_err-b-clause-reads g c =
 pub loop-k-preserved : goal.loop-k-preserved
 loop-k-preserved g c = record {
   reads = reads_then c.loop-k.invariant.reads (reads_then c.in_ok-a.ensures.reads.reads c.in_ok-b.ensures.reads.reads);
+  at_first = next_place g.S.NodeSpace.table c.loop-k.first c.next.new.self c.args.space.now c.args.x (c.args.i + c.loop-k.k) (c.args.i + (c.loop-k.k + 1)) (omega arith) c.next.ensures.space c.next.ensures.rope c.next.ensures.index c.loop-k.invariant.at_first;
+  at_second = next_place g.S.NodeSpace.table c.loop-k.second c.next-in-loop-k.new.self c.args.space.now c.args.y (c.args.j + c.loop-k.k) (c.args.j + (c.loop-k.k + 1)) (omega arith) c.next-in-loop-k.ensures.space c.next-in-loop-k.ensures.rope c.next-in-loop-k.ensures.index c.loop-k.invariant.at_second;
   told = λ source agrees m le first second.
       let t = g.S.NodeSpace.table c.args.space.now in
       let st = g.T.Sources.stated c.args.sources.now in

@@ -2,6 +2,7 @@ use Rattle.std.proofs.Common.{◌+◌, ◌≤◌, ℕ}
 use Rattle.rope_node.specs.Denotes.{rope_cells, text}
 use Rattle.lazy_file.specs.SourceTexts.{Agrees, Reads}
 use Rattle.cord_position.specs.Fetched.{EachCell, IsStated, rope_cell}
+use Rattle.cord_search.specs.Reached.{StandsAtPlace}
 use Rattle.cord_search.proofs.Orders.{IsOrderOfRest}
 use Rattle.cord_search.proofs.compare.ncmp.Given as goal
 
@@ -12,6 +13,8 @@ invariant-loop-k g l =
     let st = g.T.Sources.stated l.initial.sources in
     record {
       reads : Reads g.T.Sources.stated g.T.Sources.failures l.initial.sources l.sources;
+      at_first : StandsAtPlace g.S.NodeSpace.table l.first l.space l.x (l.i + l.k);
+      at_second : StandsAtPlace g.S.NodeSpace.table l.second l.space l.y (l.j + l.k);
       told : (source : ℕ → ℕ → ℕ) → Agrees st source → (m : ℕ) → m ≤ l.n
           → EachCell (rope_cell t l.x) l.i (l.i + m) (IsStated st) → EachCell (rope_cell t l.y) l.j (l.j + m) (IsStated st)
           → IsOrderOfRest l.i l.j m l.k (text source (rope_cells t l.x)) (text source (rope_cells t l.y));

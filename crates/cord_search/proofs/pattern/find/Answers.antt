@@ -7,6 +7,7 @@ use Rattle.lazy_file.proofs.LaterReads.{reads_then}
 use Rattle.rope_node.specs.Denotes.{rope_cells, rope_len, text}
 use Rattle.cord_search.specs.Places.{StandsAt}
 use Rattle.cord_search.proofs.Fetches.{told_before, text_length}
+use Rattle.cord_search.proofs.Reaching.{next_place}
 use Rattle.cord_search.proofs.Standing.{none_more, none_past}
 use Rattle.cord_search.proofs.pattern.find.Goals as goal
 
@@ -29,6 +30,7 @@ returns-then-branch-clause-found g c source agrees stated =
 pub loop-place-preserved : goal.loop-place-preserved
 loop-place-preserved g c = record {
   reads = reads_then c.loop-place.invariant.reads c.in_ok-stands_at.ensures.reads.reads;
+  at = next_place g.S.NodeSpace.table c.loop-place.pos c.next.new.self c.args.space.now c.args.x (c.loop-place.place) (c.loop-place.place + 1) (omega arith) c.next.ensures.space c.next.ensures.rope c.next.ensures.index c.loop-place.invariant.at;
   told = λ end far source agrees stated.
       let t = g.S.NodeSpace.table c.args.space.now in
       let st = g.T.Sources.stated c.args.sources.now in

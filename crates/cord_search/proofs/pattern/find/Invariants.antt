@@ -1,5 +1,6 @@
 use Rattle.std.proofs.Common.{◌+◌, ◌<◌, ◌≤◌, ℕ, length}
 use Rattle.lazy_file.specs.SourceTexts.{Reads}
+use Rattle.cord_search.specs.Reached.{StandsAtPlace}
 use Rattle.cord_search.specs.Stated.{OfSpan}
 use Rattle.cord_search.specs.Places.{StandsAt}
 use Rattle.cord_search.proofs.pattern.find.Given as goal
@@ -8,6 +9,7 @@ use Rattle.cord_search.proofs.pattern.find.Given as goal
 abbrev pub invariant-loop-place : goal.invariant-loop-place
 invariant-loop-place g l = record {
   reads : Reads g.T.Sources.stated g.T.Sources.failures l.initial.sources l.sources;
+  at : StandsAtPlace g.S.NodeSpace.table l.pos l.space l.x l.place;
   told : (end : ℕ) → l.place + length l.pattern ≤ end + 1 → OfSpan (g.S.NodeSpace.table l.space) (g.T.Sources.stated l.initial.sources) l.x l.start end
       (λ t. (j : ℕ) → l.start ≤ j → j < l.place → ¬ StandsAt l.pattern t j);
 }

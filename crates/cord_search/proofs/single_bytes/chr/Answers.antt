@@ -8,6 +8,7 @@ use Rattle.rope_node.specs.Denotes.{rope_cells, rope_len, text}
 use Rattle.cord_position.proofs.Spans.{failed_in}
 use Rattle.cord_search.specs.Places.{StandsAt}
 use Rattle.cord_search.proofs.Fetches.{fetched_at, text_length}
+use Rattle.cord_search.proofs.Reaching.{next_place}
 use Rattle.cord_search.proofs.Options.{same_found, other_found}
 use Rattle.cord_search.proofs.Standing.{byte_stands, byte_read, none_more, none_past}
 use Rattle.cord_search.proofs.single_bytes.chr.Goals as goal
@@ -43,6 +44,7 @@ returns-in_err-byte_at-clause-reads g c =
 pub loop-place-preserved : goal.loop-place-preserved
 loop-place-preserved g c = record {
   reads = reads_then c.loop-place.invariant.reads c.in_ok-byte_at.ensures.reads.reads;
+  at = next_place g.S.NodeSpace.table c.loop-place.pos c.next.new.self c.args.space.now c.args.x (c.loop-place.place) (c.loop-place.place + 1) (omega arith) c.next.ensures.space c.next.ensures.rope c.next.ensures.index c.loop-place.invariant.at;
   told = λ source agrees stated.
       let t = g.S.NodeSpace.table c.args.space.now in
       let st = g.T.Sources.stated c.args.sources.now in

@@ -1,6 +1,7 @@
 use Rattle.std.proofs.Common.{◌<◌, ◌≤◌, ℕ, ◌∷◌, []}
 use Rattle.lazy_file.specs.SourceTexts.{Reads}
 use Rattle.cord_search.specs.Stated.{OfSpan}
+use Rattle.cord_search.specs.Reached.{StandsAtPlace}
 use Rattle.cord_search.specs.Places.{StandsAt}
 use Rattle.cord_search.proofs.single_bytes.chr.Given as goal
 
@@ -8,6 +9,7 @@ use Rattle.cord_search.proofs.single_bytes.chr.Given as goal
 abbrev pub invariant-loop-place : goal.invariant-loop-place
 invariant-loop-place g l = record {
   reads : Reads g.T.Sources.stated g.T.Sources.failures l.initial.sources l.sources;
+  at : StandsAtPlace g.S.NodeSpace.table l.pos l.space l.x l.place;
   told : OfSpan (g.S.NodeSpace.table l.space) (g.T.Sources.stated l.initial.sources) l.x l.i l.place
       (λ t. (j : ℕ) → l.i ≤ j → j < l.place → ¬ StandsAt (l.c ∷ []) t j);
 }

@@ -7,6 +7,7 @@ use Rattle.rope_node.specs.Denotes.{rope_cells, text}
 use Rattle.cord_position.proofs.Spans.{failed_in}
 use Rattle.cord_search.specs.Places.{StandsAt}
 use Rattle.cord_search.proofs.Fetches.{fetched_at}
+use Rattle.cord_search.proofs.Reaching.{place_before}
 use Rattle.cord_search.proofs.Options.{same_found, other_found}
 use Rattle.cord_search.proofs.Standing.{byte_stands, byte_read, none_more_down}
 use Rattle.cord_search.proofs.single_bytes.rchr.Goals as goal
@@ -45,6 +46,7 @@ loop-place-preserved g c = record {
   reads = reads_then c.loop-place.invariant.reads c.in_ok-byte_at.ensures.reads.reads;
   until = omega (arith, c.loop-place.invariant.until);
   inside = omega (arith, c.loop-place.invariant.inside);
+  at = place_before g.S.NodeSpace.table c.loop-place.pos c.prev.new.self c.args.space.now c.args.x c.loop-place.place c.loop-place.invariant.inside c.prev.ensures.space c.prev.ensures.rope c.prev.ensures.index c.loop-place.invariant.at;
   told = λ source agrees stated.
       let t = g.S.NodeSpace.table c.args.space.now in
       let st = g.T.Sources.stated c.args.sources.now in

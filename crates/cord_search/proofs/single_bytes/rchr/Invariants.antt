@@ -2,6 +2,7 @@ use Rattle.std.proofs.Common.{◌+◌, ◌≤◌, ℕ, ◌∷◌, []}
 use Rattle.rope_node.specs.Denotes.{rope_len}
 use Rattle.lazy_file.specs.SourceTexts.{Reads}
 use Rattle.cord_search.specs.Stated.{OfSpan}
+use Rattle.cord_search.specs.Reached.{StandsAtPlace}
 use Rattle.cord_search.specs.Places.{StandsAt}
 use Rattle.cord_search.proofs.single_bytes.rchr.Given as goal
 
@@ -11,6 +12,7 @@ invariant-loop-place g l = record {
   reads : Reads g.T.Sources.stated g.T.Sources.failures l.initial.sources l.sources;
   until : l.place ≤ l.i + 1;
   inside : l.place ≤ rope_len (g.S.NodeSpace.table l.space) l.x;
+  at : StandsAtPlace g.S.NodeSpace.table l.pos l.space l.x l.place;
   told : OfSpan (g.S.NodeSpace.table l.space) (g.T.Sources.stated l.initial.sources) l.x l.place (l.i + 1)
       (λ t. (j : ℕ) → l.place ≤ j → j ≤ l.i → ¬ StandsAt (l.c ∷ []) t j);
 }

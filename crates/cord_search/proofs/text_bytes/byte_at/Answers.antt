@@ -1,16 +1,16 @@
-use Rattle.std.proofs.Common.{◌+◌, ◌≤◌, sym, arith}
-use Rattle.std.proofs.lemmas.Option.{slice_get_past}
-use Rattle.rope_node.specs.Denotes.{rope_cells, text}
-use Rattle.cord_search.proofs.Fetches.{text_length}
+use Rattle.std.proofs.Common.{◌+◌, sym, ◌∙◌}
+use Rattle.cord_search.proofs.Reaching.{fetched_there, inside_there, reads_there}
 use Rattle.cord_search.proofs.text_bytes.byte_at.Goals as goal
-use Rattle.cord_search.proofs.text_bytes.byte_at.Goals.{then-start-len-via-then-start-len, then-start-len-via-else-start-len+then-k-len}
 
-pub returns-then-start-len-clause-byte : goal.returns-then-start-len-clause-byte
-returns-then-start-len-clause-byte g c source agrees stated =
-    let t = g.S.NodeSpace.table c.args.space.now in
-    let past : c.rope_len-len.result ≤ c.args.start + c.args.k =
-    elim c.then-start-len.branch [
-      | then-start-len-via-then-start-len w ↦ omega (arith, w.if-start-len.true)
-      | then-start-len-via-else-start-len+then-k-len w ↦ omega (arith, w.if-start-len.false, w.if-k-len.true)
-    ] in
-    sym (slice_get_past (text source (rope_cells t c.args.rope)) (c.args.start + c.args.k) (omega (arith, past, text_length t c.args.rope source, c.rope_len-len.ensures.cells)))
+pub returns-clause-byte : goal.returns-clause-byte
+returns-clause-byte g c =
+    fetched_there g.S.NodeSpace.table c.args.pos.now c.args.space.now c.args.rope (c.args.start + c.args.k) (g.T.Sources.stated c.args.sources.now) c.fetch.result c.requires.here
+    (sym c.rope_len-len.ensures.cells ∙ c.rope_len-len.ensures.exact) c.fetch.ensures.byte
+
+pub returns-clause-inside : goal.returns-clause-inside
+returns-clause-inside g c = inside_there g.S.NodeSpace.table c.args.pos.now c.args.space.now c.args.rope (c.args.start + c.args.k) c.fetch.result c.requires.here c.fetch.ensures.inside
+
+pub returns-clause-reads : goal.returns-clause-reads
+returns-clause-reads g c =
+    reads_there g.T.Sources.stated g.T.Sources.failures c.args.sources.now c.fetch.new.sources g.S.NodeSpace.table c.args.pos.now c.args.space.now c.args.rope (c.args.start + c.args.k) c.fetch.result c.requires.here
+    (sym c.rope_len-len.ensures.cells ∙ c.rope_len-len.ensures.exact) c.fetch.ensures.reads

@@ -7,12 +7,14 @@ use Rattle.std.proofs.lemmas.Result.{err_from_is_err_and}
 use Rattle.cord_position.proofs.Spans.{failed_in}
 use Rattle.rope_node.specs.Denotes.{rope_cells, text}
 use Rattle.cord_search.proofs.Fetches.{fetched_at}
+use Rattle.cord_search.proofs.Reaching.{next_place}
 use Rattle.cord_search.proofs.Chunks.{chunk_more}
 use Rattle.cord_search.proofs.write.fill.Goals as goal
 
 pub loop-j-preserved : goal.loop-j-preserved
 loop-j-preserved g c = record {
   reads = reads_then c.loop-j.invariant.reads c.in_ok-found.ensures.reads.reads;
+  at = next_place g.S.NodeSpace.table c.loop-j.pos c.next.new.self c.args.space.now c.args.x (c.args.start + c.loop-j.j) (c.args.start + (c.loop-j.j + 1)) (omega arith) c.next.ensures.space c.next.ensures.rope c.next.ensures.index c.loop-j.invariant.at;
   told = λ source agrees stated held.
       let t = g.S.NodeSpace.table c.args.space.now in
       let st = g.T.Sources.stated c.args.sources.now in

@@ -1,5 +1,5 @@
 use Rattle.cord_position.specs.Fetched.{rope_cell}
-use Rattle.std.proofs.Common.{◌≡◌, ◌+◌, ◌≤◌, length, take, drop, subst, arith}
+use Rattle.std.proofs.Common.{◌≡◌, ℕ, ◌+◌, ◌≤◌, length, take, drop, subst, arith}
 use Rattle.std.specs.Io.KnownBytes.{Appends}
 use Rattle.std.proofs.lemmas.List.{take_all, length-append, length-drop, length-take-le}
 use Rattle.std.proofs.lemmas.Result.{err_from_is_err_and}
@@ -7,6 +7,7 @@ use Rattle.lazy_file.proofs.LaterReads.{reads_then}
 use Rattle.rope_node.specs.Denotes.{rope_cells, rope_len, text}
 use Rattle.cord_position.proofs.Spans.{failed_in}
 use Rattle.byte_output.proofs.Appended.{Appends-then, Appends-then_prefix}
+use Rattle.cord_search.specs.Reached.{StandsAtPlace}
 use Rattle.cord_search.proofs.Chunks.{chunk_part}
 use Rattle.cord_search.proofs.Fetches.{told_before, text_length}
 use Rattle.cord_search.proofs.write.put.Goals as goal
@@ -33,6 +34,9 @@ returns-in_err-write_bytes-clause-err g c =
 pub loop-done-preserved : goal.loop-done-preserved
 loop-done-preserved g c = record {
   reads = reads_then c.loop-done.invariant.reads c.in_ok-fill.ensures.reads.reads;
+  at = (let count = c.min-count.result in
+      let inside : count ≤ length c.loop-done.chunk = omega (arith, c.min-count.ensures, c.loop-done.invariant.chunk) in
+      subst (λ (n : ℕ). StandsAtPlace g.S.NodeSpace.table c.fill.new.pos c.args.space.now c.args.x (c.loop-done.done + n)) (length-take-le count c.loop-done.chunk inside) c.in_ok-fill.ensures.here);
   told = λ source agrees stated.
       let t = g.S.NodeSpace.table c.args.space.now in
       let st = g.T.Sources.stated c.args.sources.now in

@@ -1,0 +1,81 @@
+-- The steps from a rope's root down to the leaf that holds a place.
+use Rattle.std.specs.Prelude.{◌≡◌, ℕ, ◌+◌, ◌-◌, ◌<◌, ◌≤◌, min, map, List, Option, Some, slice_get}
+use Rattle.std.specs.Prelude.{length}
+use Rattle.smallvec.specs.SmallVec.{SmallVec}
+use Rattle.rope_node.specs.declared.node.NodeId.{NodeId}
+use Rattle.rope_node.specs.declared.node.LeafSpan.{LeafSpan}
+use Rattle.rope_node.specs.Table.{Table, view_at, len_at, depth_at, IsLeaf, IsSound, HasTrueRecords}
+use Rattle.rope_node.specs.Denotes.{Byte, rope_len, IsRope}
+use Rattle.rope_node.specs.Path.{shortened, span_at}
+use Rattle.cord_position.specs.declared.path.Step.{Step}
+use Rattle.cord_position.specs.Fetched.{leaf_part}
+use Rattle.cord_position.specs.Position.{IsPosition}
+use Rattle.cord_position.specs.Runs.{rope_span, span_bytes}
+
+-- the place is one of the step's bytes
+abbrev pub Holds : Step → ℕ → Type 0
+Holds x i = (x.first ≤ i) × (i < x.first + x.len)
+
+-- the rope's bytes from place first on, len of them, are the node's from its byte skipped on, leaf span by leaf span
+pub record IsStep (t : Table) (rope : Option NodeId) (x : Step) : Type 0 where
+  pub there : x.node.0 < length t.nodes
+  pub in_node : x.skipped + x.len ≤ len_at t x.node.0
+  pub in_rope : x.first + x.len ≤ rope_len t rope
+  pub spans : (i : ℕ) → Holds x i
+      → rope_span t rope i ≡ Some (shortened ((x.first + x.len) - i) (span_at t x.node.0 (x.skipped + (i - x.first))))
+
+-- a step with n steps above it
+pub record IsStepAt (t : Table) (rope : Option NodeId) (n : ℕ) (x : Step) : Type 0 where
+  pub step : IsStep t rope x
+  pub deep : depth_at t x.node.0 + n ≤ 64
+
+-- the steps of a path, from the root on
+abbrev pub AreSteps : Table → Option NodeId → List Step → Type 0
+AreSteps t rope steps = (n : ℕ) (x : Step) → slice_get steps n ≡ Some x → IsStepAt t rope n x
+
+-- a path, with room for the longest one
+pub record IsPath (t : Table) (rope : Option NodeId) (path : SmallVec Step) : Type 0 where
+  pub steps : AreSteps t rope path.items
+  pub room : path.capacity ≡ 65
+
+-- a step to a leaf
+pub record IsLeafStep (t : Table) (rope : Option NodeId) (x : Step) : Type 0 where
+  pub step : IsStep t rope x
+  pub leaf : IsLeaf (view_at t x.node.0)
+
+-- the parts of a step to a concatenation that its children have, where the left one has so many bytes
+abbrev pub left_step : Step → NodeId → ℕ → Step
+left_step x l left = record x { node = l; len = min x.len (left - x.skipped) }
+
+abbrev pub right_step : Step → NodeId → ℕ → Step
+right_step x r left = let cut = left - x.skipped in
+    record { node = r; first = x.first + cut; skipped = x.skipped - left; len = x.len - cut }
+
+-- the part of a step to a substring that its base has, which begins so many bytes before it
+abbrev pub base_step : Step → NodeId → ℕ → Step
+base_step x b i = record x { node = b; skipped = x.skipped + i }
+
+-- what is left of a step from a place on, as a span of its node
+abbrev pub span_from : Step → ℕ → LeafSpan
+span_from x i = record { leaf = x.node; start = x.skipped + (i - x.first); len = x.len - (i - x.first) }
+
+-- the step is empty or leads to a leaf, and holds the place where that is before the rope's end
+pub record IsHere (t : Table) (rope : Option NodeId) (i : ℕ) (x : Step) : Type 0 where
+  pub sound : IsSound t
+  pub true_records : HasTrueRecords t
+  pub root : IsRope t rope
+  pub begun : x.first ≤ i
+  pub held : i < rope_len t rope → i < x.first + x.len
+  pub leaf : 1 ≤ x.len → IsLeafStep t rope x
+
+-- the bytes of a step to a literal; of any other step, none
+pub record AreStepBytes (t : Table) (x : Step) (bytes : List ℕ) : Type 0 where
+  pub exact : bytes ≡ span_bytes t (Some (span_from x x.first))
+  pub cells : 1 ≤ length bytes → map Byte bytes ≡ leaf_part t x.node x.skipped x.len
+
+-- a place of a rope, with the step to its leaf, the bytes of that step and the path to it
+pub record IsPlaced (t : Table) (rope : Option NodeId) (i : ℕ) (x : Step) (bytes : List ℕ) (path : SmallVec Step) : Type 0 where
+  pub position : IsPosition t rope i
+  pub here : IsHere t rope i x
+  pub literal : AreStepBytes t x bytes
+  pub way : IsPath t rope path

@@ -1,0 +1,107 @@
+-- Positions that go through a text: where they stand next, and what is read there.
+use Rattle.std.proofs.Common.{◌≡◌, ℕ, ◌+◌, ◌-◌, ◌<◌, ◌≤◌, min, length, Option, Some, None, refl, inl, inr, sym, subst, ap, ◌∙◌, arith}
+use Rattle.std.specs.Prelude.{◌↔◌, Result, Ok, Err, IfOk, IfErr, IsSome}
+use Rattle.std.proofs.lemmas.Bool.{cases_lt}
+use Rattle.std.proofs.lemmas.List.{get_or_past, length-map}
+use Rattle.std.proofs.lemmas.Option.{slice_get_past}
+use Rattle.rope_node.specs.declared.node.NodeId.{NodeId}
+use Rattle.rope_node.specs.Table.{Table}
+use Rattle.rope_node.specs.Denotes.{Cell, Byte, cell_byte, cells, rope_cells, rope_len, text}
+use Rattle.lazy_file.specs.SourceTexts.{Reads, Stated}
+use Rattle.lazy_file.proofs.LaterReads.{reads_then}
+use Rattle.cord_position.proofs.Spans.{failed_in}
+use Rattle.lazy_file.specs.declared.faults.SourceFault.{SourceFault}
+use Rattle.cord_position.specs.Fetched.{IsFaultIn, IsFetched, IsReadable, IsStated, ReadsSpan, rope_cell}
+use Rattle.cord_position.specs.Position.{Position, text_len}
+use Rattle.cord_search.specs.Reached.{StandsAtPlace}
+
+-- one place on, and one back
+pub next_place : {S : Type 0} (table : S → Table) (old new : Position S) (s : S) (x : Option NodeId) (p q : ℕ) → q ≡ p + 1
+    → new.space ≡ old.space → new.rope ≡ old.rope → new.index ≡ min (old.index + 1) (text_len table old) → StandsAtPlace table old s x p → StandsAtPlace table new s x q
+next_place table old new s x p q is space rope index at =
+    let len : text_len table old ≡ rope_len (table s) x = ap (λ y. rope_len (table y) old.rope) at.space ∙ ap (rope_len (table s)) at.rope in
+    record {
+      space = space ∙ at.space;
+      rope = rope ∙ at.rope;
+      index = omega (arith, is, index, len, at.index);
+    }
+
+pub place_before : {S : Type 0} (table : S → Table) (old new : Position S) (s : S) (x : Option NodeId) (p : ℕ) → p ≤ rope_len (table s) x
+    → new.space ≡ old.space → new.rope ≡ old.rope → new.index ≡ old.index - 1 → StandsAtPlace table old s x p → StandsAtPlace table new s x (p - 1)
+place_before table old new s x p inside space rope index at = record {
+  space = space ∙ at.space;
+  rope = rope ∙ at.rope;
+  index = omega (arith, inside, index, at.index);
+}
+
+-- past the end there is no source's cell
+cell_past : (t : Table) (x : Option NodeId) (p : ℕ) → length (rope_cells t x) ≤ p → rope_cell t x p ≡ Byte 0
+cell_past t None p past = refl
+cell_past t (Some id) p past = get_or_past (cells t id.0) p (Byte 0) past
+
+-- a byte at the end is one at any place past it
+pub fetched_past_end : (t : Table) (st : Stated) (x : Option NodeId) (p : ℕ) (found : Option ℕ) → length (rope_cells t x) ≡ rope_len t x → IsFetched t st x (min p (rope_len t x)) found → IsFetched t st x p found
+fetched_past_end t st x p found long h =
+    elim (cases_lt p (rope_len t x)) [
+      | inl lt ↦ let same : min p (rope_len t x) ≡ p = omega (arith, lt) in subst (λ (q : ℕ). IsFetched t st x q found) same h
+      | inr past ↦ λ source agrees stated.
+          let end : min p (rope_len t x) ≡ rope_len t x = omega (arith, past) in
+          let u = text source (rope_cells t x) in
+          let whole : length u ≡ rope_len t x = length-map (rope_cells t x) (cell_byte source) ∙ long in
+          let at = subst (λ (q : ℕ). IsFetched t st x q found) end h in
+          at source agrees (subst (IsStated st) (sym (cell_past t x (rope_len t x) (omega (arith, long)))) tt)
+          ∙ slice_get_past u (rope_len t x) (omega (arith, whole)) ∙ sym (slice_get_past u p (omega (arith, whole, past)))
+    ]
+
+-- the same of a read of it
+no_fault : {T X : Type 0} (stated : T → Stated) (failures : T → ℕ) (old new : T) (t : Table) (x : Option NodeId) (i j k l : ℕ) (r : Result X SourceFault)
+    → length (rope_cells t x) ≤ i → IfErr r (IsFaultIn stated failures old new (rope_cell t x) i j) → IfErr r (IsFaultIn stated failures old new (rope_cell t x) k l)
+no_fault stated failures old new t x i j k l (Ok v) past fault = tt
+no_fault stated failures old new t x i j k l (Err e) past fault =
+    let no = sym (cell_past t x fault.place (omega (arith, past, fault.from))) ∙ fault.read.is in absurd cc
+
+pub reads_past_end : {T X : Type 0} (stated : T → Stated) (failures : T → ℕ) (old new : T) (t : Table) (x : Option NodeId) (p : ℕ) (r : Result X SourceFault) → length (rope_cells t x) ≡ rope_len t x
+    → ReadsSpan stated failures old new (rope_cell t x) (min p (rope_len t x)) (min p (rope_len t x) + 1) r → ReadsSpan stated failures old new (rope_cell t x) p (p + 1) r
+reads_past_end stated failures old new t x p r long h =
+    elim (cases_lt p (rope_len t x)) [
+      | inl lt ↦ let same : min p (rope_len t x) ≡ p = omega (arith, lt) in subst (λ (q : ℕ). ReadsSpan stated failures old new (rope_cell t x) q (q + 1) r) same h
+      | inr past ↦
+          let end : length (rope_cells t x) ≤ min p (rope_len t x) = omega (arith, past, long) in
+          record {
+            reads = h.reads;
+            fault = no_fault stated failures old new t x (min p (rope_len t x)) (min p (rope_len t x) + 1) p (p + 1) r end h.fault;
+            succeeds = λ readable. h.succeeds (λ q above below. subst (IsReadable (stated old)) (sym (cell_past t x q (omega (arith, end, above)))) tt);
+          }
+    ]
+
+-- what a position reads is the byte of the place
+pub fetched_there : {S : Type 0} (table : S → Table) (here : Position S) (s : S) (x : Option NodeId) (p : ℕ) (st : Stated) (r : Result (Option ℕ) SourceFault)
+    → StandsAtPlace table here s x p → length (rope_cells (table s) x) ≡ rope_len (table s) x
+    → IfOk r (IsFetched (table here.space) st here.rope here.index) → IfOk r (IsFetched (table s) st x p)
+fetched_there table here s x p st (Err e) at long h = tt
+fetched_there table here s x p st (Ok found) at long h =
+    let in_space = subst (λ z. IsFetched (table z) st here.rope here.index found) at.space h in
+    let in_rope = subst (λ y. IsFetched (table s) st y here.index found) at.rope in_space in
+    fetched_past_end (table s) st x p found long (subst (λ (q : ℕ). IsFetched (table s) st x q found) at.index in_rope)
+
+-- there is one exactly where the place is inside the text
+pub inside_there : {S : Type 0} (table : S → Table) (here : Position S) (s : S) (x : Option NodeId) (p : ℕ) (r : Result (Option ℕ) SourceFault) → StandsAtPlace table here s x p
+    → IfOk r (λ found. IsSome found ↔ here.index < text_len table here) → IfOk r (λ found. IsSome found ↔ p < rope_len (table s) x)
+inside_there table here s x p (Err e) at h = tt
+inside_there table here s x p (Ok found) at h =
+    let len : text_len table here ≡ rope_len (table s) x = ap (λ y. rope_len (table y) here.rope) at.space ∙ ap (rope_len (table s)) at.rope in
+    (λ some. omega (arith, h.0 some, at.index, len), λ below. h.1 (omega (arith, below, at.index, len)))
+
+pub reads_there : {T X S : Type 0} (stated : T → Stated) (failures : T → ℕ) (old new : T) (table : S → Table) (here : Position S) (s : S) (x : Option NodeId) (p : ℕ) (r : Result X SourceFault)
+    → StandsAtPlace table here s x p → length (rope_cells (table s) x) ≡ rope_len (table s) x
+    → ReadsSpan stated failures old new (rope_cell (table here.space) here.rope) here.index (here.index + 1) r → ReadsSpan stated failures old new (rope_cell (table s) x) p (p + 1) r
+reads_there stated failures old new table here s x p r at long h =
+    let in_space = subst (λ z. ReadsSpan stated failures old new (rope_cell (table z) here.rope) here.index (here.index + 1) r) at.space h in
+    let in_rope = subst (λ y. ReadsSpan stated failures old new (rope_cell (table s) y) here.index (here.index + 1) r) at.rope in_space in
+    reads_past_end stated failures old new (table s) x p r long (subst (λ (q : ℕ). ReadsSpan stated failures old new (rope_cell (table s) x) q (q + 1) r) at.index in_rope)
+
+-- a call that reads after another one reads as if from the start
+pub reads_after : {T X : Type 0} (stated : T → Stated) (failures : T → ℕ) (old mid new : T) (cell : ℕ → Cell) (i j : ℕ) (r : Result X SourceFault)
+    → Reads stated failures old mid → ReadsSpan stated failures mid new cell i j r → ReadsSpan stated failures old new cell i j r
+reads_after stated failures old mid new cell i j (Ok v) before h = record { reads = reads_then before h.reads; fault = tt; succeeds = λ readable. refl }
+reads_after stated failures old mid new cell i j (Err e) before h = failed_in stated failures old mid new cell i j i j e before h (omega arith) (omega arith)
