@@ -1,7 +1,7 @@
 -- What the step to the present leaf says of a place: its leaf span, its run, its byte and the bytes from it on.
-use Rattle.std.proofs.Common.{◌≡◌, ℕ, ◌+◌, ◌-◌, ◌<◌, ◌≤◌, List, [], ◌∷◌, ◌⊎◌, inl, inr, min, map, length, take, drop, get_or, refl, sym, ap, subst, ◌∙◌, arith, Option, Some, None}
+use Rattle.std.proofs.Common.{◌≡◌, ℕ, ◌+◌, ◌-◌, ◌<◌, ◌≤◌, List, [], inl, inr, min, map, length, take, drop, get_or, refl, sym, ap, subst, ◌∙◌, arith, Option, Some, None}
 use Rattle.std.proofs.lemmas.Bool.{cases_lt, lt-ltb, le-ltb}
-use Rattle.std.proofs.lemmas.List.{length-take, length-map, drop-take, drop-drop, drop-map, drop_all, take_all, get_or-map, get_or-take, get_or-drop}
+use Rattle.std.proofs.lemmas.List.{length-take, drop-take, drop-drop, drop-map, drop_all, take_all, get_or-map, get_or-take, get_or-drop}
 use Rattle.rope_node.specs.declared.node.NodeId.{NodeId}
 use Rattle.rope_node.specs.declared.node.LeafSpan.{LeafSpan}
 use Rattle.rope_node.specs.declared.node.NodeView.{NodeView}
@@ -12,7 +12,7 @@ use Rattle.rope_node.specs.Path.{span_at, shortened, rest_of}
 use Rattle.rope_node.proofs.LeafSpans.{begins, span_step}
 use Rattle.lazy_file.specs.SourceTexts.{Stated}
 use Rattle.cord_position.specs.declared.path.Step.{Step}
-use Rattle.cord_position.specs.Fetched.{IsByteOf, IsFetched, rope_cell, rope_part, leaf_part}
+use Rattle.cord_position.specs.Fetched.{IsByteOf, IsFetched, rope_cell, rope_part}
 use Rattle.cord_position.specs.Runs.{rope_span, run_bytes, run_left, span_bytes, span_len, IsRun}
 use Rattle.cord_position.specs.Steps.{AreStepBytes, Holds, IsHere, IsLeafStep, span_from}
 use Rattle.cord_position.proofs.LeafParts.{run_cells}

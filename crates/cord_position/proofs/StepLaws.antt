@@ -1,19 +1,16 @@
 -- Laws of steps: the root's, each child's, and those of a path.
-use Rattle.std.proofs.Common.{◌≡◌, ℕ, zero, suc, ◌+◌, ◌-◌, ◌<◌, ◌≤◌, List, [], ◌∷◌, ◌++◌, ◌⊎◌, inl, inr, min, length, refl, sym, ap, subst, ◌∙◌, arith, Some, None}
+use Rattle.std.proofs.Common.{◌≡◌, ℕ, zero, suc, ◌+◌, ◌-◌, ◌<◌, ◌≤◌, List, [], ◌∷◌, ◌++◌, ◌⊎◌, inl, inr, length, refl, sym, ap, subst, ◌∙◌, arith, Some}
 use Rattle.std.specs.Prelude.{Option, slice_get}
 use Rattle.std.proofs.lemmas.Bool.{cases_lt, lt-ltb, le-ltb}
 use Rattle.std.proofs.lemmas.List.{length-append}
 use Rattle.rope_node.specs.declared.node.NodeId.{NodeId}
-use Rattle.rope_node.specs.declared.node.LeafSpan.{LeafSpan}
-use Rattle.rope_node.specs.declared.node.NodeView.{NodeView}
-use Rattle.rope_node.specs.declared.node.NodeView.TheVariants.{Lit, Src, Fun, Cat, Sub}
-use Rattle.rope_node.specs.Table.{Table, view_at, len_at, depth_at, IsLeaf, IsSound, HasTrueRecords}
+use Rattle.rope_node.specs.declared.node.NodeView.TheVariants.{Cat, Sub}
+use Rattle.rope_node.specs.Table.{Table, view_at, len_at, IsSound, HasTrueRecords}
 use Rattle.rope_node.specs.Path.{span_at, shortened}
 use Rattle.rope_node.proofs.LeafSpans.{begins, span_step}
 use Rattle.cord_position.specs.declared.path.Step.{Step}
-use Rattle.cord_position.specs.Runs.{rope_span}
 use Rattle.smallvec.specs.SmallVec.{SmallVec, small_vec_len}
-use Rattle.cord_position.specs.Steps.{Holds, IsStep, IsStepAt, AreSteps, IsPath, IsLeafStep, left_step, right_step, base_step}
+use Rattle.cord_position.specs.Steps.{Holds, IsStepAt, AreSteps, IsPath, left_step, right_step, base_step}
 
 -- the root's own step
 pub root_step : (t : Table) → IsSound t → HasTrueRecords t → (root : NodeId) (n : ℕ) → root.0 < length t.nodes → n ≡ len_at t root.0

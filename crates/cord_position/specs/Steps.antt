@@ -1,6 +1,5 @@
 -- The steps from a rope's root down to the leaf that holds a place.
-use Rattle.std.specs.Prelude.{◌≡◌, ℕ, ◌+◌, ◌-◌, ◌<◌, ◌≤◌, min, map, List, Option, Some, slice_get}
-use Rattle.std.specs.Prelude.{length}
+use Rattle.std.specs.Prelude.{◌≡◌, ℕ, ◌+◌, ◌-◌, ◌<◌, ◌≤◌, min, map, List, length, Option, Some, slice_get}
 use Rattle.smallvec.specs.SmallVec.{SmallVec}
 use Rattle.rope_node.specs.declared.node.NodeId.{NodeId}
 use Rattle.rope_node.specs.declared.node.LeafSpan.{LeafSpan}

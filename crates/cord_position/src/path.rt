@@ -42,7 +42,8 @@ pub fn holds(step: Step, place: u64) -> bool
     step.first <= place && place - step.first < step.len
 }
 
-/// Takes the steps that do not hold the place off the path's end, and the last one that holds it. Where none is left, that is the root's.
+/// Takes the steps that do not hold the place off the path's end, and the last one that does, which it gives. Where none does, that is
+/// the root's.
 fn climb<S: NodeSpace>(space: &S, root: NodeId, path: &mut Path, place: u64) -> Step
     requires there { root.0 < length (S.table space.now).nodes }
     requires inside { place < len_at (S.table space.now) root.0 }
@@ -64,7 +65,7 @@ fn climb<S: NodeSpace>(space: &S, root: NodeId, path: &mut Path, place: u64) -> 
     }
 }
 
-/// The part of a step's left or right child that the step's place lies in. The left child has `left` bytes.
+/// What the left or the right child has of a step, whichever holds the place. The left child has `left` bytes.
 fn side_of(step: Step, l: NodeId, r: NodeId, left: u64, place: u64) -> Step
     requires holds { Holds step place }
     requires limit { step.skipped + step.len < TEXT_LIMIT }
@@ -89,7 +90,7 @@ fn side_of(step: Step, l: NodeId, r: NodeId, left: u64, place: u64) -> Step
     }
 }
 
-/// Goes down from a step that holds the place to a leaf's, and puts the steps on the path.
+/// Goes down from a step that holds the place to a leaf's, and puts them and those between on the path.
 fn descend<S: NodeSpace>(space: &S, root: NodeId, path: &mut Path, from: Step, place: u64) -> Step
     requires path { IsPath (S.table space.now) (Some root) path.old }
     requires step { IsStepAt (S.table space.now) (Some root) (small_vec_len path.old) from }
@@ -115,7 +116,7 @@ fn descend<S: NodeSpace>(space: &S, root: NodeId, path: &mut Path, from: Step, p
     }
 }
 
-/// Leads the path to the leaf that holds the place, and gives the last step.
+/// Leads the path to the leaf that holds the place, from where it leaves the path, and gives the last step.
 #[inline(never)]
 pub fn seek<S: NodeSpace>(space: &S, root: NodeId, path: &mut Path, place: u64) -> Step
     requires there { root.0 < length (S.table space.now).nodes }

@@ -22,9 +22,9 @@ pub struct Pos<'a, S: NodeSpace> {
     space: &'a S,
     rope: Rope,
     place: u64,
-    /// The last step to the leaf that holds the place. At the end it may be any, or empty.
+    /// The path's last step, to the leaf that holds the place. At the end it may be an earlier one, or empty.
     here: Step,
-    /// The bytes of that step, where its leaf is a literal.
+    /// The bytes of that step, where its leaf is a literal; else none.
     bytes: &'a [u8],
     path: Path,
 }
@@ -139,7 +139,7 @@ impl<'a, S: NodeSpace> Pos<'a, S> {
         self.move_to(self.place + n.min(left));
     }
 
-    /// Moves to a place.
+    /// Moves to a place. Where the last step does not hold it, the path leads there.
     #[inline]
     fn move_to(&mut self, to: u64)
         requires { to ≤ text_len S.table self.old }

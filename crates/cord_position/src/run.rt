@@ -1,4 +1,5 @@
-//! The run of a rope's bytes from a place to the end of its leaf's span.
+//! The run of a rope's bytes from a place to the end of its leaf's span. Where a step is known, the space and the rope are there for
+//! the contract alone.
 
 ghost use Rattle.std.specs.Prelude.{◌≡◌, ◌↔◌, ◌<◌, ◌≤◌, ◌+◌, None, map, length, IfSome};
 ghost use Rattle.rope_node.specs.Table.{view_at, len_at};

@@ -1,7 +1,7 @@
-use Rattle.std.proofs.Common.{Some, ◌++◌, [], ◌∷◌, ◌≡◌, ℕ, length, ◌-◌, ◌<◌, ap, subst, sym, arith}
+use Rattle.std.proofs.Common.{Some, [], ◌∷◌, ◌≡◌, ℕ, length, ◌-◌, ◌<◌, ap, subst, sym, arith}
 use Rattle.std.proofs.lemmas.List.{length-take}
 use Rattle.cord_position.specs.declared.path.Step.{Step}
-use Rattle.cord_position.specs.Steps.{AreSteps, IsPath, IsStepAt}
+use Rattle.cord_position.specs.Steps.{AreSteps, IsStepAt}
 use Rattle.cord_position.proofs.StepLaws.{path_before, path_last, root_step}
 use Rattle.cord_position.proofs.path.climb.Goals as goal
 

@@ -1,5 +1,4 @@
 use Rattle.std.proofs.Common.{Some}
-use Rattle.smallvec.specs.SmallVec.{small_vec_len}
 use Rattle.cord_position.proofs.StepLaws.{IsOnWay}
 use Rattle.cord_position.proofs.path.descend.Given as goal
 

@@ -1,4 +1,4 @@
-use Rattle.std.proofs.Common.{◌≡◌, ◌-◌, ap, drop, length, map, take, ◌∙◌, arith}
+use Rattle.std.proofs.Common.{◌-◌, ap, drop, length, map, ◌∙◌, arith}
 use Rattle.std.proofs.lemmas.List.{length-drop, take_all}
 use Rattle.rope_node.specs.Denotes.{Byte}
 use Rattle.cord_position.proofs.HereLaws.{bytes_from, cells_from}
