@@ -1,7 +1,7 @@
 pub mod Fetches
 pub mod Options
 pub mod Orders
+pub mod Pieces
 pub mod Reaching
 pub mod Standing
-pub mod Chunks
 pub mod TwoSpans

@@ -1,5 +1,5 @@
 -- Positions that go through a text: where they stand next, and what is read there.
-use Rattle.std.proofs.Common.{◌≡◌, ℕ, ◌+◌, ◌-◌, ◌<◌, ◌≤◌, min, length, Option, Some, None, refl, inl, inr, sym, subst, ap, ◌∙◌, arith}
+use Rattle.std.proofs.Common.{◌≡◌, ℕ, ◌+◌, ◌-◌, ◌<◌, ◌≤◌, min, length, take, drop, Option, Some, None, refl, inl, inr, sym, subst, ap, ◌∙◌, List, arith}
 use Rattle.std.specs.Prelude.{◌↔◌, Result, Ok, Err, IfOk, IfErr, IsSome}
 use Rattle.std.proofs.lemmas.Bool.{cases_lt}
 use Rattle.std.proofs.lemmas.List.{get_or_past, length-map}
@@ -7,13 +7,30 @@ use Rattle.std.proofs.lemmas.Option.{slice_get_past}
 use Rattle.rope_node.specs.declared.node.NodeId.{NodeId}
 use Rattle.rope_node.specs.Table.{Table}
 use Rattle.rope_node.specs.Denotes.{Cell, Byte, cell_byte, cells, rope_cells, rope_len, text}
-use Rattle.lazy_file.specs.SourceTexts.{Reads, Stated}
+use Rattle.lazy_file.specs.SourceTexts.{Agrees, Reads, Stated}
 use Rattle.lazy_file.proofs.LaterReads.{reads_then}
 use Rattle.cord_position.proofs.Spans.{failed_in}
 use Rattle.lazy_file.specs.declared.faults.SourceFault.{SourceFault}
-use Rattle.cord_position.specs.Fetched.{IsFaultIn, IsFetched, IsReadable, IsStated, ReadsSpan, rope_cell}
+use Rattle.cord_position.specs.Fetched.{EachCell, IsFaultIn, IsFetched, IsReadable, IsStated, ReadsSpan, rope_cell}
 use Rattle.cord_position.specs.Position.{Position, text_len}
 use Rattle.cord_search.specs.Reached.{StandsAtPlace}
+use Rattle.cord_search.specs.Pieces.{IsPiece, IsPieceHere}
+use Rattle.cord_search.proofs.Pieces.{piece_all}
+
+-- the text of a position is as long as its rope's
+pub there_len : {S : Type 0} (table : S → Table) (here : Position S) (s : S) (x : Option NodeId) (p : ℕ) → StandsAtPlace table here s x p → text_len table here ≡ rope_len (table s) x
+there_len table here s x p at = ap (λ y. rope_len (table y) here.rope) at.space ∙ ap (rope_len (table s)) at.rope
+
+-- n places on
+pub later_place : {S : Type 0} (table : S → Table) (old new : Position S) (s : S) (x : Option NodeId) (p n : ℕ)
+    → new.space ≡ old.space → new.rope ≡ old.rope → new.index ≡ min (old.index + n) (text_len table old) → StandsAtPlace table old s x p → StandsAtPlace table new s x (p + n)
+later_place table old new s x p n space rope index at =
+    let len = there_len table old s x p at in
+    record {
+      space = space ∙ at.space;
+      rope = rope ∙ at.rope;
+      index = omega (arith, index, len, at.index);
+    }
 
 -- one place on, and one back
 pub next_place : {S : Type 0} (table : S → Table) (old new : Position S) (s : S) (x : Option NodeId) (p q : ℕ) → q ≡ p + 1
@@ -60,16 +77,16 @@ no_fault stated failures old new t x i j k l (Ok v) past fault = tt
 no_fault stated failures old new t x i j k l (Err e) past fault =
     let no = sym (cell_past t x fault.place (omega (arith, past, fault.from))) ∙ fault.read.is in absurd cc
 
-pub reads_past_end : {T X : Type 0} (stated : T → Stated) (failures : T → ℕ) (old new : T) (t : Table) (x : Option NodeId) (p : ℕ) (r : Result X SourceFault) → length (rope_cells t x) ≡ rope_len t x
-    → ReadsSpan stated failures old new (rope_cell t x) (min p (rope_len t x)) (min p (rope_len t x) + 1) r → ReadsSpan stated failures old new (rope_cell t x) p (p + 1) r
-reads_past_end stated failures old new t x p r long h =
+reads_past_end : {T X : Type 0} (stated : T → Stated) (failures : T → ℕ) (old new : T) (t : Table) (x : Option NodeId) (p n : ℕ) (r : Result X SourceFault) → length (rope_cells t x) ≡ rope_len t x
+    → ReadsSpan stated failures old new (rope_cell t x) (min p (rope_len t x)) (min p (rope_len t x) + n) r → ReadsSpan stated failures old new (rope_cell t x) p (p + n) r
+reads_past_end stated failures old new t x p n r long h =
     elim (cases_lt p (rope_len t x)) [
-      | inl lt ↦ let same : min p (rope_len t x) ≡ p = omega (arith, lt) in subst (λ (q : ℕ). ReadsSpan stated failures old new (rope_cell t x) q (q + 1) r) same h
+      | inl lt ↦ let same : min p (rope_len t x) ≡ p = omega (arith, lt) in subst (λ (q : ℕ). ReadsSpan stated failures old new (rope_cell t x) q (q + n) r) same h
       | inr past ↦
           let end : length (rope_cells t x) ≤ min p (rope_len t x) = omega (arith, past, long) in
           record {
             reads = h.reads;
-            fault = no_fault stated failures old new t x (min p (rope_len t x)) (min p (rope_len t x) + 1) p (p + 1) r end h.fault;
+            fault = no_fault stated failures old new t x (min p (rope_len t x)) (min p (rope_len t x) + n) p (p + n) r end h.fault;
             succeeds = λ readable. h.succeeds (λ q above below. subst (IsReadable (stated old)) (sym (cell_past t x q (omega (arith, end, above)))) tt);
           }
     ]
@@ -92,13 +109,40 @@ inside_there table here s x p (Ok found) at h =
     let len : text_len table here ≡ rope_len (table s) x = ap (λ y. rope_len (table y) here.rope) at.space ∙ ap (rope_len (table s)) at.rope in
     (λ some. omega (arith, h.0 some, at.index, len), λ below. h.1 (omega (arith, below, at.index, len)))
 
-pub reads_there : {T X S : Type 0} (stated : T → Stated) (failures : T → ℕ) (old new : T) (table : S → Table) (here : Position S) (s : S) (x : Option NodeId) (p : ℕ) (r : Result X SourceFault)
+pub reads_there : {T X S : Type 0} (stated : T → Stated) (failures : T → ℕ) (old new : T) (table : S → Table) (here : Position S) (s : S) (x : Option NodeId) (p n : ℕ) (r : Result X SourceFault)
     → StandsAtPlace table here s x p → length (rope_cells (table s) x) ≡ rope_len (table s) x
-    → ReadsSpan stated failures old new (rope_cell (table here.space) here.rope) here.index (here.index + 1) r → ReadsSpan stated failures old new (rope_cell (table s) x) p (p + 1) r
-reads_there stated failures old new table here s x p r at long h =
-    let in_space = subst (λ z. ReadsSpan stated failures old new (rope_cell (table z) here.rope) here.index (here.index + 1) r) at.space h in
-    let in_rope = subst (λ y. ReadsSpan stated failures old new (rope_cell (table s) y) here.index (here.index + 1) r) at.rope in_space in
-    reads_past_end stated failures old new (table s) x p r long (subst (λ (q : ℕ). ReadsSpan stated failures old new (rope_cell (table s) x) q (q + 1) r) at.index in_rope)
+    → ReadsSpan stated failures old new (rope_cell (table here.space) here.rope) here.index (here.index + n) r → ReadsSpan stated failures old new (rope_cell (table s) x) p (p + n) r
+reads_there stated failures old new table here s x p n r at long h =
+    let in_space = subst (λ z. ReadsSpan stated failures old new (rope_cell (table z) here.rope) here.index (here.index + n) r) at.space h in
+    let in_rope = subst (λ y. ReadsSpan stated failures old new (rope_cell (table s) y) here.index (here.index + n) r) at.rope in_space in
+    reads_past_end stated failures old new (table s) x p n r long (subst (λ (q : ℕ). ReadsSpan stated failures old new (rope_cell (table s) x) q (q + n) r) at.index in_rope)
+
+-- where a read from a position on failed
+pub failed_there : {T X Y S : Type 0} (stated : T → Stated) (failures : T → ℕ) (old mid new : T) (table : S → Table) (here : Position S) (s : S) (x : Option NodeId) (i j p n : ℕ) (e : SourceFault)
+    → Reads stated failures old mid → StandsAtPlace table here s x p → length (rope_cells (table s) x) ≡ rope_len (table s) x
+    → ReadsSpan {X = X} stated failures mid new (rope_cell (table here.space) here.rope) here.index (here.index + n) (Err e) → i ≤ p → p + n ≤ j
+    → ReadsSpan {X = Y} stated failures old new (rope_cell (table s) x) i j (Err e)
+failed_there stated failures old mid new table here s x i j p n e before at long h from until =
+    let there = reads_there stated failures mid new table here s x p n (Err e) at long h in
+    failed_in stated failures old mid new (rope_cell (table s) x) i j p (p + n) e before there from until
+
+-- the bytes from a position on are those from its place on
+pub piece_there : {S : Type 0} (table : S → Table) (here : Position S) (s : S) (x : Option NodeId) (p : ℕ) (st : Stated) (bytes : List ℕ) → StandsAtPlace table here s x p
+    → here.index + length bytes ≤ text_len table here → IsPieceHere table st here bytes → IsPiece (table s) st x p bytes
+piece_there table here s x p st bytes at inside piece =
+    let in_space = subst (λ z. IsPiece (table z) st here.rope here.index bytes) at.space piece in
+    let in_rope = subst (λ y. IsPiece (table s) st y here.index bytes) at.rope in_space in
+    elim (cases_lt 0 (length bytes)) [
+      | inl some ↦ let same : here.index ≡ p = omega (arith, some, inside, there_len table here s x p at, at.index) in subst (λ (q : ℕ). IsPiece (table s) st x q bytes) same in_rope
+      | inr none ↦ λ source agrees k lt. absurd (omega (arith, none, lt))
+    ]
+
+-- they are the text's where their cells are stated, over later sources too
+pub bytes_there : {S : Type 0} (table : S → Table) (here : Position S) (s : S) (x : Option NodeId) (p : ℕ) (old new : Stated) (bytes : List ℕ) (source : ℕ → ℕ → ℕ) → StandsAtPlace table here s x p
+    → here.index + length bytes ≤ text_len table here → IsPieceHere table new here bytes → new ≡ old → Agrees old source → EachCell (rope_cell (table s) x) p (p + length bytes) (IsStated old)
+    → bytes ≡ take (length bytes) (drop p (text source (rope_cells (table s) x)))
+bytes_there table here s x p old new bytes source at inside piece same agrees stated =
+    piece_all (table s) old new x p bytes source same agrees (piece_there table here s x p new bytes at inside piece) stated
 
 -- a call that reads after another one reads as if from the start
 pub reads_after : {T X : Type 0} (stated : T → Stated) (failures : T → ℕ) (old mid new : T) (cell : ℕ → Cell) (i j : ℕ) (r : Result X SourceFault)

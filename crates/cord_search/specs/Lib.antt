@@ -1,4 +1,5 @@
 pub mod Order
+pub mod Pieces
 pub mod Places
 pub mod Reached
 pub mod Stated

@@ -4,6 +4,7 @@
 mod compare;
 mod fault;
 mod pattern;
+mod runs;
 mod single_bytes;
 mod text_bytes;
 mod write;

@@ -12,44 +12,13 @@ ghost use Rattle.cord_search.specs.Faults.{IsPutFault};
 ghost use Rattle.cord_search.specs.declared.fault.PutFault.TheVariants.{Write};
 
 use crate::fault::PutFault;
-use crate::text_bytes::byte_at;
+use crate::runs::{PIECE, next_run};
 use byte_output::write_bytes;
 use cord_position::Pos;
-use lazy_file::{SourceFault, Sources};
+use lazy_file::Sources;
 use rope_node::{NodeSpace, Rope, rope_len};
 use std::alloc::Global;
 use std::io;
-
-/// How many bytes are fetched before they are written.
-const CHUNK: usize = 4096;
-
-/// Fetches the bytes from `start` on into the whole chunk. The position goes behind the last of them.
-fn fill<S: NodeSpace, T: Sources>(
-    pos: &mut Pos<'_, S>,
-    space: &S,
-    sources: &mut T,
-    x: Rope,
-    start: u64,
-    chunk: &mut [u8],
-) -> Result<(), SourceFault>
-    requires rope { IsRope (S.table space.now) x }
-    requires here { StandsAtPlace S.table pos.old space.now x start }
-    ensures length { length chunk.new ≡ length chunk.old }
-    ensures here { OnOk result
-        (StandsAtPlace S.table pos.new space.now x (start + length chunk.old)) }
-    ensures bytes { OnOk result (OfSpan (S.table space.now) (T.stated sources.old) x
-        start (start + length chunk.old) (λ t. start + length chunk.old ≤ length t
-        → chunk.new ≡ take (length chunk.old) (drop start t))) }
-    ensures reads { ReadsSpan T.stated T.failures sources.old sources.new
-        (rope_cell (S.table space.now) x) start (start + length chunk.old) result }
-{
-    for j in 0..chunk.len() {
-        let found = byte_at(pos, space, sources, x, start, j as u64)?;
-        chunk[j] = found.unwrap_or(0);
-        pos.next();
-    }
-    Ok(())
-}
 
 /// Writes a rope's text, and nothing else. Where it fails, a prefix of the text was written.
 ///
@@ -77,13 +46,14 @@ pub fn put<S: NodeSpace, T: Sources, W: io::Write>(
 {
     let len = rope_len(space, x);
     let mut pos = Pos::set(alloc, space, x, 0);
-    let mut chunk = [0; CHUNK];
+    let mut buffer = [0; PIECE];
     let mut done = 0;
     while done < len {
-        let count = (len - done).min(CHUNK as u64) as usize;
-        fill(&mut pos, space, sources, x, done, &mut chunk[..count])?;
-        write_bytes(writer, &chunk[..count])?;
-        done += count as u64;
+        let run = next_run(&pos, sources, len - done, &mut buffer)?;
+        write_bytes(writer, run)?;
+        let count = run.len() as u64;
+        pos.skip(count);
+        done += count;
     }
     Ok(())
 }

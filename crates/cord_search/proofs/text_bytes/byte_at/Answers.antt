@@ -12,5 +12,5 @@ returns-clause-inside g c = inside_there g.S.NodeSpace.table c.args.pos.now c.ar
 
 pub returns-clause-reads : goal.returns-clause-reads
 returns-clause-reads g c =
-    reads_there g.T.Sources.stated g.T.Sources.failures c.args.sources.now c.fetch.new.sources g.S.NodeSpace.table c.args.pos.now c.args.space.now c.args.rope (c.args.start + c.args.k) c.fetch.result c.requires.here
+    reads_there g.T.Sources.stated g.T.Sources.failures c.args.sources.now c.fetch.new.sources g.S.NodeSpace.table c.args.pos.now c.args.space.now c.args.rope (c.args.start + c.args.k) 1 c.fetch.result c.requires.here
     (sym c.rope_len-len.ensures.cells ∙ c.rope_len-len.ensures.exact) c.fetch.ensures.reads
