@@ -103,9 +103,12 @@ pub piece_bytes : (t : Table) (st : Stated) (rope : Option NodeId) (i q : ℕ) (
 piece_bytes t st rope i q bytes source agrees piece le stated =
     first_bytes bytes (text source (rope_cells t rope)) i q le (λ k lt. piece source agrees k (omega (arith, lt, le)) (stated (i + k) (omega arith) (omega (arith, lt))))
 
--- a whole piece over later sources
+-- the same over later sources, and of the whole piece
+pub piece_first : (t : Table) (old new : Stated) (rope : Option NodeId) (i q : ℕ) (bytes : List ℕ) (source : ℕ → ℕ → ℕ) → new ≡ old → Agrees old source → IsPiece t new rope i bytes → q ≤ length bytes
+    → ((p : ℕ) → i ≤ p → p < i + q → IsStated old (rope_cell t rope p)) → take q bytes ≡ take q (drop i (text source (rope_cells t rope)))
+piece_first t old new rope i q bytes source same agrees piece le stated = piece_bytes t old rope i q bytes source agrees (subst (λ st. IsPiece t st rope i bytes) same piece) le stated
+
 pub piece_all : (t : Table) (old new : Stated) (rope : Option NodeId) (i : ℕ) (bytes : List ℕ) (source : ℕ → ℕ → ℕ) → new ≡ old → Agrees old source → IsPiece t new rope i bytes
     → ((p : ℕ) → i ≤ p → p < i + length bytes → IsStated old (rope_cell t rope p)) → bytes ≡ take (length bytes) (drop i (text source (rope_cells t rope)))
 piece_all t old new rope i bytes source same agrees piece stated =
-    let earlier = subst (λ st. IsPiece t st rope i bytes) same piece in
-    sym (take_all (length bytes) bytes (omega arith)) ∙ piece_bytes t old rope i (length bytes) bytes source agrees earlier (omega arith) stated
+    sym (take_all (length bytes) bytes (omega arith)) ∙ piece_first t old new rope i (length bytes) bytes source same agrees piece (omega arith) stated

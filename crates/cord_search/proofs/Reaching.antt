@@ -15,7 +15,7 @@ use Rattle.cord_position.specs.Fetched.{EachCell, IsFaultIn, IsFetched, IsReadab
 use Rattle.cord_position.specs.Position.{Position, text_len}
 use Rattle.cord_search.specs.Reached.{StandsAtPlace}
 use Rattle.cord_search.specs.Pieces.{IsPiece, IsPieceHere}
-use Rattle.cord_search.proofs.Pieces.{piece_all}
+use Rattle.cord_search.proofs.Pieces.{piece_all, piece_first}
 
 -- the text of a position is as long as its rope's
 pub there_len : {S : Type 0} (table : S → Table) (here : Position S) (s : S) (x : Option NodeId) (p : ℕ) → StandsAtPlace table here s x p → text_len table here ≡ rope_len (table s) x
@@ -143,6 +143,19 @@ pub bytes_there : {S : Type 0} (table : S → Table) (here : Position S) (s : S)
     → bytes ≡ take (length bytes) (drop p (text source (rope_cells (table s) x)))
 bytes_there table here s x p old new bytes source at inside piece same agrees stated =
     piece_all (table s) old new x p bytes source same agrees (piece_there table here s x p new bytes at inside piece) stated
+
+pub first_there : {S : Type 0} (table : S → Table) (here : Position S) (s : S) (x : Option NodeId) (p q : ℕ) (old new : Stated) (bytes : List ℕ) (source : ℕ → ℕ → ℕ) → StandsAtPlace table here s x p
+    → here.index + length bytes ≤ text_len table here → IsPieceHere table new here bytes → new ≡ old → Agrees old source → q ≤ length bytes → EachCell (rope_cell (table s) x) p (p + q) (IsStated old)
+    → take q bytes ≡ take q (drop p (text source (rope_cells (table s) x)))
+first_there table here s x p q old new bytes source at inside piece same agrees le stated =
+    piece_first (table s) old new x p q bytes source same agrees (piece_there table here s x p new bytes at inside piece) le stated
+
+-- whether bytes are left there
+pub some_there : {S : Type 0} (table : S → Table) (here : Position S) (s : S) (x : Option NodeId) (p m : ℕ) (bytes : List ℕ) → StandsAtPlace table here s x p
+    → here.index + length bytes ≤ text_len table here → (here.index < text_len table here → 1 ≤ m → 1 ≤ length bytes) → 1 ≤ m → (1 ≤ length bytes) ↔ (p < rope_len (table s) x)
+some_there table here s x p m bytes at inside some more =
+    let len = there_len table here s x p at in
+    (λ held. omega (arith, held, inside, len, at.index), λ below. some (omega (arith, below, len, at.index)) more)
 
 -- a call that reads after another one reads as if from the start
 pub reads_after : {T X : Type 0} (stated : T → Stated) (failures : T → ℕ) (old mid new : T) (cell : ℕ → Cell) (i j : ℕ) (r : Result X SourceFault)

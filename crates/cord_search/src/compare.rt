@@ -1,17 +1,32 @@
 //! The order of texts.
 
-ghost use Rattle.std.specs.Prelude.{◌≡◌, IfOk};
+ghost use Rattle.std.specs.Prelude.{◌≡◌, ◌≤◌, min, length, take, IfOk};
 ghost use Rattle.rope_node.specs.Denotes.{IsRope};
 ghost use Rattle.cord_position.specs.Fetched.{rope_cell};
 ghost use Rattle.cord_search.specs.Order.{order};
 ghost use Rattle.cord_search.specs.Stated.{OfTexts, OrdersParts, ReadsTwoSpans, longer};
 
-use crate::text_bytes::byte_at;
+use crate::runs::{PIECE, next_run};
 use cord_position::Pos;
 use lazy_file::{SourceFault, Sources};
 use rope_node::{NodeSpace, Rope, rope_len};
 use std::alloc::Global;
 use std::cmp::Ordering;
+
+/// How many bytes two runs can be compared by, and the order of these; where one of them is empty, that of the runs.
+fn compare_runs(left: &[u8], right: &[u8]) -> (u64, Ordering)
+    ensures count { result.0 ≡ min (length left.now) (length right.now) }
+    ensures order { 1 ≤ min (length left.now) (length right.now)
+        → result.1 ≡ order (take result.0 left.now) (take result.0 right.now) }
+    ensures empty { min (length left.now) (length right.now) ≡ 0
+        → result.1 ≡ order left.now right.now }
+{
+    let count = left.len().min(right.len());
+    if count == 0 {
+        return (0, left.cmp(right));
+    }
+    (count as u64, left[..count].cmp(&right[..count]))
+}
 
 /// The order of `n` bytes of one text from `i` on and `n` bytes of another from `j` on, or of as many as there are.
 ///
@@ -36,19 +51,22 @@ pub fn ncmp<S: NodeSpace, T: Sources>(
         (rope_cell (S.table space.now) x) i
         (rope_cell (S.table space.now) y) j n result }
 {
+    let _lens = (rope_len(space, x), rope_len(space, y));
     let mut first = Pos::set(alloc, space, x, i);
     let mut second = Pos::set(alloc, space, y, j);
-    for k in 0..n {
-        let a = byte_at(&first, space, sources, x, i, k)?;
-        let b = byte_at(&second, space, sources, y, j, k)?;
-        if a != b {
-            return Ok(a.cmp(&b));
+    let mut left_buffer = [0; PIECE];
+    let mut right_buffer = [0; PIECE];
+    let mut k = 0;
+    while k < n {
+        let left = next_run(&first, sources, n - k, &mut left_buffer)?;
+        let right = next_run(&second, sources, n - k, &mut right_buffer)?;
+        let (count, order) = compare_runs(left, right);
+        if count == 0 || order != Ordering::Equal {
+            return Ok(order);
         }
-        if a.is_none() {
-            return Ok(Ordering::Equal);
-        }
-        first.next();
-        second.next();
+        first.skip(count);
+        second.skip(count);
+        k += count;
     }
     Ok(Ordering::Equal)
 }

@@ -1,4 +1,4 @@
-use Rattle.std.proofs.Common.{◌+◌, ◌≤◌, ℕ}
+use Rattle.std.proofs.Common.{◌+◌, ◌-◌, ◌≤◌, ℕ}
 use Rattle.rope_node.specs.Denotes.{rope_cells, text}
 use Rattle.lazy_file.specs.SourceTexts.{Agrees, Reads}
 use Rattle.cord_position.specs.Fetched.{EachCell, IsStated, rope_cell}
@@ -13,9 +13,13 @@ invariant-loop-k g l =
     let st = g.T.Sources.stated l.initial.sources in
     record {
       reads : Reads g.T.Sources.stated g.T.Sources.failures l.initial.sources l.sources;
-      at_first : StandsAtPlace g.S.NodeSpace.table l.first l.space l.x (l.i + l.k);
-      at_second : StandsAtPlace g.S.NodeSpace.table l.second l.space l.y (l.j + l.k);
+      inside : l.k ≤ l.n;
+      at_first : StandsAtPlace g.S.NodeSpace.table l.first l.space l.fn.x (l.fn.i + l.k);
+      at_second : StandsAtPlace g.S.NodeSpace.table l.second l.space l.fn.y (l.fn.j + l.k);
       told : (source : ℕ → ℕ → ℕ) → Agrees st source → (m : ℕ) → m ≤ l.n
-          → EachCell (rope_cell t l.x) l.i (l.i + m) (IsStated st) → EachCell (rope_cell t l.y) l.j (l.j + m) (IsStated st)
-          → IsOrderOfRest l.i l.j m l.k (text source (rope_cells t l.x)) (text source (rope_cells t l.y));
+          → EachCell (rope_cell t l.fn.x) l.fn.i (l.fn.i + m) (IsStated st) → EachCell (rope_cell t l.fn.y) l.fn.j (l.fn.j + m) (IsStated st)
+          → IsOrderOfRest l.fn.i l.fn.j m l.k (text source (rope_cells t l.fn.x)) (text source (rope_cells t l.fn.y));
     }
+
+abbrev pub decreases-loop-k : goal.decreases-loop-k
+decreases-loop-k g l = l.n - l.k
