@@ -84,7 +84,14 @@ fn text<R: AllocGlobal + Abort>(
     let space = session.space();
     assert!(rt; space.has(root));
     let mut bytes: Vec<u8> = Vec::new(rt.alloc());
-    put(rt.alloc(), space, &mut sources(rt, source), root, &mut bytes).expect(rt, "a text");
+    put(
+        rt.alloc(),
+        space,
+        &mut sources(rt, source),
+        root,
+        &mut bytes,
+    )
+    .expect(rt, "a text");
     bytes
 }
 
