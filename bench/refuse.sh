@@ -50,6 +50,31 @@ refuse_allocations() {
     spared=$((spared - 1))
 }
 
+# Each allocation of a run of the editor in turn. A key that wanted it is refused, and the run goes on: what is saved at its end is
+# accepted. A frame or the beginning that wanted it stops the run, behind the frames before and with no image.
+refuse_keys() {
+    "$program" edit "$folder/saved" "$folder/abc" < "$folder/keys" > "$folder/frames"
+    number=1
+    while :; do
+        rm -f "$folder/saved"
+        status=0
+        REFUSE=$number COUNTED=$folder/counted LD_PRELOAD=$shim "$program" edit "$folder/saved" "$folder/abc" \
+            < "$folder/keys" > "$out" 2> "$err" || status=$?
+        if [ "$status" = 0 ]; then
+            "$program" check "$folder/saved" "$folder/abc" > /dev/null || fail "what allocation $number left"
+            spared=$((spared + 1))
+        else
+            head -c "$(wc -c < "$out")" "$folder/frames" | cmp -s - "$out" || fail "frames before allocation $number"
+            [ ! -e "$folder/saved" ] || fail "an image without allocation $number"
+            is_stopped "allocation $number of edit" memory "$(cat "$out")"
+        fi
+        [ "$(cat "$folder/counted")" -ge "$number" ] || break
+        number=$((number + 1))
+    done
+    cmp -s "$out" "$folder/frames" || fail "edit"
+    spared=$((spared - 1))
+}
+
 # the image of an empty text beside a source of 3 bytes
 one_source() {
     printf 'CORDSESS\0\0\0\1\0\0\0\1\0\0\0\0\0\0\0\1'
@@ -69,6 +94,12 @@ refuse_allocations stdout check "$folder/image"
 refuse_allocations "$folder/abc" show "$folder/image" 1
 refuse_allocations "$folder/accepted" check "$folder/one_source" "$folder/abc"
 refuse_allocations "$folder/nothing" show "$folder/one_source" 0 "$folder/abc"
+tr -d '[:space:]' < ../cord_vectors/data/bytes_row_over_a_source.hex | tr a-f A-F | basenc --base16 -d > "$folder/bytes"
+echo "accepted 1 revisions 1 nodes 1 rows" > "$folder/accepted_bytes"
+refuse_allocations "$folder/accepted_bytes" check "$folder/bytes" "$folder/abc"
+refuse_allocations "$folder/abc" show "$folder/bytes" 0 "$folder/abc"
+printf 'x\0y\006z\027\031\031\025\005\020\014q\030' > "$folder/keys"
+refuse_keys
 printf b > "$folder/b"
 printf abcb > "$folder/abcb"
 echo 2 > "$folder/two"

@@ -6,11 +6,11 @@ ghost use Rattle.rope_node.specs.Denotes.{IsRope};
 ghost use Rattle.rope_node.specs.Extends.{Extends};
 ghost use Rattle.node_table.specs.Held.{table_of};
 
-use crate::ropes::{LINE, MEGABYTE, place};
+use crate::ropes::{LINE, MEGABYTE, doubled, place};
 use anyhow::Result;
 use function_leaf::Coded;
 use node_table::NodeFault;
-use rebalance::{BalanceFault, append_any, cat_any, substr_any};
+use rebalance::{BalanceFault, append_any, balance, cat_any, substr_any};
 use rope_node::{NodeSpace, Rope};
 use rope_store::Store;
 use std::time::Instant;
@@ -124,6 +124,15 @@ fn time_leaves(rt: &HostRuntime, leaves: u32) -> Result<()> {
     report(rt, "a leaf joined", leaves, start, store.count())
 }
 
+fn time_balance(rt: &HostRuntime) -> Result<()> {
+    let mut store = Store::new(rt.alloc());
+    let byte = store.from_bytes(b"x")?;
+    let text = doubled(&mut store, byte, 20)?;
+    let start = Instant::now(rt)?;
+    balance(&mut store, text)?;
+    report(rt, "a leaf balanced", 1 << 20, start, store.count())
+}
+
 fn time_typing(rt: &HostRuntime) -> Result<()> {
     let mut store = Store::new(rt.alloc());
     let text = open(&mut store)?;
@@ -159,6 +168,7 @@ pub fn time(rt: &HostRuntime) -> Result<()> {
     for leaves in LEAVES {
         time_leaves(rt, leaves)?;
     }
+    time_balance(rt)?;
     time_typing(rt)?;
     time_bursts(rt)?;
     time_insertions(rt)

@@ -27,6 +27,7 @@ fn time(rt: &HostRuntime) -> Result<()> {
     ropes::time_joins(rt)?;
     ropes::time_substrings(rt)?;
     ropes::time_fetches(rt)?;
+    ropes::time_walks(rt)?;
     balancing::time(rt)?;
     sessions::time(rt)
 }

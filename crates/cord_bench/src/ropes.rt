@@ -6,7 +6,7 @@ ghost use Rattle.rope_node.specs.Denotes.{IsRope};
 ghost use Rattle.node_table.specs.Held.{table_of};
 
 use anyhow::Result;
-use cord_position::fetch_byte;
+use cord_position::{Pos, fetch_byte};
 use function_leaf::Coded;
 use lazy_file::{MemSources, SourceFault};
 use node_table::NodeFault;
@@ -55,15 +55,24 @@ fn join(store: &mut Store<Coded>, left: Rope, right: Rope) -> Result<(), NodeFau
     Ok(())
 }
 
+/// A text joined with itself, and that with itself, so many times.
+pub fn doubled(store: &mut Store<Coded>, text: Rope, times: u32) -> Result<Rope, NodeFault>
+    requires { IsRope (table_of coded_byte store.old) text }
+    ensures { IfOk result (IsRope (table_of coded_byte store.new)) }
+{
+    let mut text = text;
+    for _ in 0..times {
+        text = store.cat(text, text)?;
+    }
+    Ok(text)
+}
+
 /// A text of a megabyte: a line, doubled fourteen times.
 fn megabyte(store: &mut Store<Coded>) -> Result<Rope, NodeFault>
     ensures { IfOk result (IsRope (table_of coded_byte store.new)) }
 {
-    let mut text = store.from_bytes(LINE)?;
-    for _ in 0..14 {
-        text = store.cat(text, text)?;
-    }
-    Ok(text)
+    let line = store.from_bytes(LINE)?;
+    doubled(store, line, 14)
 }
 
 /// Parts of a text, at random places.
@@ -86,6 +95,22 @@ fn fetch(alloc: Global, store: &Store<Coded>, text: Rope) -> Result<u8, SourceFa
         if let (Some(byte), _) = fetch_byte(store, &mut sources, text, place(k, MEGABYTE))? {
             all ^= byte;
         }
+    }
+    Ok(all)
+}
+
+/// Bytes of a text, one after the other, put into one.
+fn walk(alloc: Global, store: &Store<Coded>, text: Rope) -> Result<u8, SourceFault>
+    requires { IsRope (table_of coded_byte store.now) text }
+{
+    let mut sources = MemSources::new(alloc);
+    let mut pos = Pos::set(alloc, store, text, 0);
+    let mut all = 0;
+    for _ in 0..COUNT {
+        if let Some(byte) = pos.fetch(&mut sources)? {
+            all ^= byte;
+        }
+        pos.next();
     }
     Ok(all)
 }
@@ -126,4 +151,12 @@ pub fn time_fetches(rt: &HostRuntime) -> Result<()> {
     let start = Instant::now(rt)?;
     fetch(rt.alloc(), &store, text)?;
     report(rt, "a fetch in a megabyte", start)
+}
+
+pub fn time_walks(rt: &HostRuntime) -> Result<()> {
+    let mut store = Store::new(rt.alloc());
+    let text = megabyte(&mut store)?;
+    let start = Instant::now(rt)?;
+    walk(rt.alloc(), &store, text)?;
+    report(rt, "the next byte, by a position", start)
 }
