@@ -1,5 +1,5 @@
 -- What a block of memory owns, and what it may be read through.
-use Rattle.std.specs.Prelude.{◌≡◌, ℕ, ◌+◌, ◌-◌, List, length}
+use Rattle.std.specs.Prelude.{◌≡◌, ℕ, ◌+◌, ◌-◌, List, [], length}
 use base.Fraction.{full_share}
 use base.Fml.{Lft, Fml, fsep, froom}
 use mir.Syntax.{Ty, w8, ty_int, ty_array}
@@ -24,3 +24,7 @@ room_owns p xs = fsep (bytes full_share xs (block_of p) (count_of p)) (froom (ba
 -- these bytes lie at p, and may be read while l lasts
 abbrev pub lent_bytes : Ptr → List ℕ → Lft → Fml
 lent_bytes p xs l = elements_shared u8 xs (block_of p) (count_of p) l
+
+-- a block that was taken at p: its owner is of p and nothing was written, and the right to give it back is of p and of this allocator
+abbrev pub IsTaken : {A : Type 0} → Ptr → Ptr → List ℕ → Ptr → A → A → Type 0
+IsTaken p owner written right by alloc = (owner ≡ p) × (written ≡ []) × (right ≡ p) × (by ≡ alloc)

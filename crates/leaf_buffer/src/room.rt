@@ -3,7 +3,7 @@
 ghost use Rattle.std.specs.Prelude.{◌≡◌, ℕ, List, ◌+◌, ◌<◌, ◌≤◌, [], ◌∷◌, ◌++◌, length, IfOk};
 ghost use denote.RawPtr.{Ptr};
 ghost use Rattle.leaf_buffer.specs.declared.block.TheConstants.{BLOCK_SIZE};
-ghost use Rattle.leaf_buffer.specs.Memory.{IsPlaced, bare, room_owns, lent_bytes};
+ghost use Rattle.leaf_buffer.specs.Memory.{IsPlaced, bare, room_owns, lent_bytes, IsTaken};
 
 use crate::block::BLOCK_SIZE;
 use std::alloc::{AllocError, Allocator};
@@ -36,7 +36,7 @@ impl<A: Allocator> Model for Deed<A> {
 
 /// A block that holds nothing yet.
 pub(crate) fn take<A: Allocator>(alloc: &A) -> Result<(*mut u8, Room, Deed<A>), AllocError>
-    ensures { IfOk result (λ r. (r.1.first ≡ r.0) × (r.1.bytes ≡ []) × (r.2.first ≡ r.0) × (r.2.alloc ≡ alloc.now)) }
+    ensures { IfOk result (λ r. IsTaken r.0 r.1.first r.1.bytes r.2.first r.2.alloc alloc.now) }
 {
     match alloc.allocate(BLOCK_SIZE, 1) {
         Ok(first) => Ok((first, Room {}, Deed { by: PhantomData })),
