@@ -1,6 +1,7 @@
+pub mod BytePieces
 pub mod Fetches
-pub mod Options
 pub mod Orders
+pub mod PatternPieces
 pub mod Pieces
 pub mod Reaching
 pub mod Standing

@@ -1,9 +1,9 @@
--- The order of texts, byte by byte.
-use Rattle.std.proofs.Common.{◌≡◌, ◌↔◌, ◌⊎◌, ℕ, ◌+◌, ◌-◌, ◌<◌, ◌≤◌, min, List, [], ◌∷◌, ◌++◌, length, take, drop, Option, Some, None, true, false, ◌==◌, inl, inr, refl, subst, sym, ap, arith, ◌∙◌}
+-- The order of texts, run by run.
+use Rattle.std.proofs.Common.{◌≡◌, ◌↔◌, ◌⊎◌, ℕ, ◌+◌, ◌-◌, ◌<◌, ◌≤◌, min, List, [], ◌∷◌, ◌++◌, length, take, drop, Option, Some, None, Bool, true, false, ◌==◌, inl, inr, refl, subst, sym, ap, arith, ◌∙◌}
 use Rattle.std.specs.Prelude.{Result, Ok, Err, IfOk}
 use Rattle.std.specs.declared.cmp.Ordering.{Ordering}
 use Rattle.std.specs.declared.cmp.Ordering.TheVariants.{Less, Equal, Greater}
-use Rattle.std.specs.Ordering.{nat_cmp, ordering_index, ordering_then}
+use Rattle.std.specs.Ordering.{bool_cmp, nat_cmp, ordering_index, ordering_then}
 use Rattle.std.specs.Cmp.{nat_cmp_is}
 use Rattle.std.proofs.lemmas.Map.Lookups.{exact_unsigned}
 use Rattle.std.proofs.lemmas.List.{drop-drop, take_all, take-take, length-drop, length-map, length-take, length-take-le, get_or_past}
@@ -144,29 +144,27 @@ rest_same t u left right i j m k c inleft inright first second equal so_far =
           ∙ rw (left_over, there, thence) refl
     ]
 
--- texts of which one has ended are in the order of what is left of them
-order_ended : (left right xs ys : List ℕ) → min (length left) (length right) ≡ 0 → (1 ≤ length left) ↔ (1 ≤ length xs) → (1 ≤ length right) ↔ (1 ≤ length ys) → order left right ≡ order xs ys
-order_ended [] [] [] [] none first second = refl
-order_ended [] [] (x ∷ xs) ys none first second = absurd (omega (arith, first.1 (omega arith)))
-order_ended [] [] [] (y ∷ ys) none first second = absurd (omega (arith, second.1 (omega arith)))
-order_ended [] (b ∷ ds) (x ∷ xs) ys none first second = absurd (omega (arith, first.1 (omega arith)))
-order_ended [] (b ∷ ds) [] [] none first second = absurd (omega (arith, second.0 (omega arith)))
-order_ended [] (b ∷ ds) [] (y ∷ ys) none first second = refl
-order_ended (a ∷ cs) [] xs (y ∷ ys) none first second = absurd (omega (arith, second.1 (omega arith)))
-order_ended (a ∷ cs) [] [] [] none first second = absurd (omega (arith, first.0 (omega arith)))
-order_ended (a ∷ cs) [] (x ∷ xs) [] none first second = refl
-order_ended (a ∷ cs) (b ∷ ds) xs ys none first second = absurd (omega (arith, none))
+-- texts of which one has ended are in the order of what is left of them: whether there is something
+order_ended : (a b : Bool) (xs ys : List ℕ) → (a ≡ true → b ≡ true → ⊥) → (a ≡ true) ↔ (1 ≤ length xs) → (b ≡ true) ↔ (1 ≤ length ys) → bool_cmp a b ≡ order xs ys
+order_ended true true xs ys one first second = absurd (one refl refl)
+order_ended false b (x ∷ xs) ys one first second = let no = first.1 (omega arith) in absurd cc
+order_ended true false [] ys one first second = absurd (omega (arith, first.0 refl))
+order_ended a false xs (y ∷ ys) one first second = let no = second.1 (omega arith) in absurd cc
+order_ended false true [] [] one first second = absurd (omega (arith, second.0 refl))
+order_ended false true [] (y ∷ ys) one first second = refl
+order_ended false false [] [] one first second = refl
+order_ended true false (x ∷ xs) [] one first second = refl
 
-pub rest_ended : (t u left right : List ℕ) (i j n m k : ℕ) → m ≤ n → k < n → min (length left) (length right) ≡ 0 → (1 ≤ length left) ↔ (i + k < length t) → (1 ≤ length right) ↔ (j + k < length u)
-    → (m ≡ n) ⊎ (order_of_parts i j m t u ≡ Equal → ⊥) → IsOrderOfRest i j m k t u → order left right ≡ order_of_parts i j m t u
-rest_ended t u left right i j n m k le lt none first second which so_far =
+pub rest_ended : (t u : List ℕ) (a b : Bool) (i j n m k : ℕ) → k < n → (a ≡ true → b ≡ true → ⊥) → (a ≡ true) ↔ (i + k < length t) → (b ≡ true) ↔ (j + k < length u)
+    → (m ≡ n) ⊎ (order_of_parts i j m t u ≡ Equal → ⊥) → IsOrderOfRest i j m k t u → bool_cmp a b ≡ order_of_parts i j m t u
+rest_ended t u a b i j n m k lt one first second which so_far =
     elim (cases_lt k m) [
       | inl some ↦
           let xs = take (m - k) (drop (i + k) t) in
           let ys = take (m - k) (drop (j + k) u) in
           let long : length xs ≡ min (m - k) (length t - (i + k)) = length-take (m - k) (drop (i + k) t) ∙ ap (min (m - k)) (length-drop (i + k) t) in
           let wide : length ys ≡ min (m - k) (length u - (j + k)) = length-take (m - k) (drop (j + k) u) ∙ ap (min (m - k)) (length-drop (j + k) u) in
-          order_ended left right xs ys none
+          order_ended a b xs ys one
           (λ h. omega (arith, first.0 h, long, some), λ h. first.1 (omega (arith, h, long)))
           (λ h. omega (arith, second.0 h, wide, some), λ h. second.1 (omega (arith, h, wide)))
           ∙ sym so_far

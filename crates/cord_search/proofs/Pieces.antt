@@ -1,9 +1,14 @@
 -- Bytes of one run are the text's.
-use Rattle.std.proofs.Common.{◌≡◌, ℕ, zero, suc, ◌+◌, ◌<◌, ◌≤◌, List, [], map, length, take, drop, get_or, Option, Some, None, refl, sym, ap, subst, ◌∙◌, arith}
-use Rattle.std.specs.Prelude.{IfSome, slice_get}
+use Rattle.std.proofs.Common.{◌≡◌, ℕ, zero, suc, ◌+◌, ◌-◌, ◌<◌, ◌≤◌, min, List, [], ◌++◌, map, length, take, drop, get_or, Option, Some, None, refl, inl, inr, sym, ap, subst, ◌∙◌, arith}
+use Rattle.std.specs.Prelude.{Result, Ok, Err, IfSome, IfOk, slice_get}
+use Rattle.std.proofs.lemmas.Bool.{cases_lt}
+use Rattle.lazy_file.specs.declared.faults.SourceFault.{SourceFault}
 use Rattle.std.specs.List.{slice_range, range_with_len}
 use Rattle.std.proofs.Math.ListN as ListN
-use Rattle.std.proofs.lemmas.List.{get_or-map, get_or-take, get_or-drop, get_or_default, ext_get_or, take_all, length-take, length-take-le, length-drop, map-id}
+use Rattle.std.proofs.lemmas.List.{get_or-append-add, get_or_append_left, length-append, get_or-map, get_or-take, get_or-drop, get_or_default, ext_get_or, take_all, length-take, length-take-le, take-take, length-drop, map-id}
+use Rattle.std.proofs.lemmas.Slice.{take-put_mid}
+use borrow.Rule.Slice.PartMut.{post_of, put_mid}
+use Rattle.std.proofs.Math.Seq.{take-append-add}
 use Rattle.std.proofs.lemmas.List.FromFn.{length-range_with_len}
 use Rattle.std.proofs.lemmas.Option.{slice_get-get_or, slice_get_within, get_or_from_slice_get}
 use Rattle.std.proofs.lemmas.Simd.{map-map}
@@ -82,6 +87,37 @@ filled_piece t st rope i n None bytes run inside few are source agrees k lt stat
 filled_piece t st rope i n (Some x) bytes run inside few are source agrees k lt stated =
     let all = part_stated t st rope i n (λ p below. run_stated t st rope i x run k p (omega (arith, lt, few, inside)) (omega (arith, below, inside)) stated) in
     byte_of_part (text source (rope_cells t rope)) bytes i n k (are source agrees all ∙ sym (span-map (cell_byte source) n i (rope_cells t rope))) lt
+
+pub filled_run : (t : Table) (st : Stated) (rope : Option NodeId) (i m : ℕ) (span : Option LeafSpan) (buffer : List ℕ) (r : Result ℕ SourceFault) → IfSome span (IsRun t rope i) → IfOk r (λ n. n ≡ min (span_len span) m)
+    → IfOk r (λ n. AreBytesOf st (rope_part t rope i n) (take n buffer)) → IfOk r (λ n. IsPiece t st rope i (take n buffer))
+filled_run t st rope i m span buffer (Err e) run count are = tt
+filled_run t st rope i m span buffer (Ok n) run count are = filled_piece t st rope i n span (take n buffer) run (omega (arith, count)) (omega (arith, length-take n buffer)) are
+
+-- one piece behind the other
+pub piece_after : (t : Table) (st : Stated) (rope : Option NodeId) (i d : ℕ) (xs ys : List ℕ) → length xs ≡ d → IsPiece t st rope i xs → IsPiece t st rope (i + d) ys → IsPiece t st rope i (xs ++ ys)
+piece_after t st rope i d xs ys long first second source agrees k lt stated =
+    elim (cases_lt k (length xs)) [
+      | inl below ↦
+          slice_get-get_or (xs ++ ys) k 0 lt ∙ ap Some (get_or_append_left xs ys 0 k below) ∙ sym (slice_get-get_or xs k 0 below) ∙ first source agrees k below stated
+      | inr past ↦
+          let j = k - length xs in
+          let is : k ≡ length xs + j = omega (arith, past) in
+          let there : (i + d) + j ≡ i + k = omega (arith, past, long) in
+          let held : j < length ys = omega (arith, lt, past, length-append xs ys) in
+          slice_get-get_or (xs ++ ys) k 0 lt ∙ ap Some (ap (λ (p : ℕ). get_or (xs ++ ys) p 0) is ∙ get_or-append-add xs ys j 0) ∙ sym (slice_get-get_or ys j 0 held)
+          ∙ second source agrees j held (subst (λ (p : ℕ). IsStated st (rope_cell t rope p)) (sym there) stated) ∙ ap (slice_get (text source (rope_cells t rope))) there
+    ]
+
+-- what is written behind the first bytes of a buffer
+pub written_behind : (xs ys : List ℕ) (d k n : ℕ) → d ≤ length xs → n ≤ length ys → take (d + n) (put_mid d k xs ys) ≡ take d xs ++ take n ys
+written_behind xs ys d k n inside le =
+    sym (take-take (d + n) (d + length ys) (put_mid d k xs ys) (omega (arith, le)))
+    ∙ ap (take (d + n)) (take-put_mid d k xs ys (d + length ys) refl inside)
+    ∙ ap (λ (m : ℕ). take (m + n) (take d xs ++ ys)) (sym (length-take-le d xs inside))
+    ∙ take-append-add (take d xs) ys n
+
+pub length_written : (xs ys : List ℕ) (d k n : ℕ) → d ≤ length xs → n ≤ length ys → d + n ≤ length (put_mid d k xs ys)
+length_written xs ys d k n inside le = omega (arith, length-append (take d xs) (ys ++ post_of d k xs), length-append ys (post_of d k xs), length-take-le d xs inside, le)
 
 -- the first bytes of a piece are the text's where their cells are stated
 pub first_bytes : (xs u : List ℕ) (i q : ℕ) → q ≤ length xs → ((k : ℕ) → k < q → slice_get xs k ≡ slice_get u (i + k)) → take q xs ≡ take q (drop i u)

@@ -1,6 +1,6 @@
 -- Positions that go through a text: where they stand next, and what is read there.
-use Rattle.std.proofs.Common.{◌≡◌, ℕ, ◌+◌, ◌-◌, ◌<◌, ◌≤◌, min, length, take, drop, Option, Some, None, refl, inl, inr, sym, subst, ap, ◌∙◌, List, arith}
-use Rattle.std.specs.Prelude.{◌↔◌, Result, Ok, Err, IfOk, IfErr, IsSome}
+use Rattle.std.proofs.Common.{◌≡◌, Bool, true, ℕ, ◌+◌, ◌<◌, ◌≤◌, min, length, take, drop, Option, Some, None, refl, inl, inr, sym, subst, ap, ◌∙◌, List, arith}
+use Rattle.std.specs.Prelude.{◌↔◌, Result, Ok, Err, IfOk, IfErr, IsSome, slice_get}
 use Rattle.std.proofs.lemmas.Bool.{cases_lt}
 use Rattle.std.proofs.lemmas.List.{get_or_past, length-map}
 use Rattle.std.proofs.lemmas.Option.{slice_get_past}
@@ -8,7 +8,6 @@ use Rattle.rope_node.specs.declared.node.NodeId.{NodeId}
 use Rattle.rope_node.specs.Table.{Table}
 use Rattle.rope_node.specs.Denotes.{Cell, Byte, cell_byte, cells, rope_cells, rope_len, text}
 use Rattle.lazy_file.specs.SourceTexts.{Agrees, Reads, Stated}
-use Rattle.lazy_file.proofs.LaterReads.{reads_then}
 use Rattle.cord_position.proofs.Spans.{failed_in}
 use Rattle.lazy_file.specs.declared.faults.SourceFault.{SourceFault}
 use Rattle.cord_position.specs.Fetched.{EachCell, IsFaultIn, IsFetched, IsReadable, IsStated, ReadsSpan, rope_cell}
@@ -21,6 +20,10 @@ use Rattle.cord_search.proofs.Pieces.{piece_all, piece_first}
 pub there_len : {S : Type 0} (table : S → Table) (here : Position S) (s : S) (x : Option NodeId) (p : ℕ) → StandsAtPlace table here s x p → text_len table here ≡ rope_len (table s) x
 there_len table here s x p at = ap (λ y. rope_len (table y) here.rope) at.space ∙ ap (rope_len (table s)) at.rope
 
+-- a position that was set to a place stands there
+pub set_there : {S : Type 0} (table : S → Table) (here : Position S) (s : S) (x : Option NodeId) (p : ℕ) → here.space ≡ s → here.rope ≡ x → here.index ≡ min p (rope_len (table s) x) → StandsAtPlace table here s x p
+set_there table here s x p space rope index = record { space = space; rope = rope; index = index }
+
 -- n places on
 pub later_place : {S : Type 0} (table : S → Table) (old new : Position S) (s : S) (x : Option NodeId) (p n : ℕ)
     → new.space ≡ old.space → new.rope ≡ old.rope → new.index ≡ min (old.index + n) (text_len table old) → StandsAtPlace table old s x p → StandsAtPlace table new s x (p + n)
@@ -32,7 +35,7 @@ later_place table old new s x p n space rope index at =
       index = omega (arith, index, len, at.index);
     }
 
--- one place on, and one back
+-- one place on
 pub next_place : {S : Type 0} (table : S → Table) (old new : Position S) (s : S) (x : Option NodeId) (p q : ℕ) → q ≡ p + 1
     → new.space ≡ old.space → new.rope ≡ old.rope → new.index ≡ min (old.index + 1) (text_len table old) → StandsAtPlace table old s x p → StandsAtPlace table new s x q
 next_place table old new s x p q is space rope index at =
@@ -42,14 +45,6 @@ next_place table old new s x p q is space rope index at =
       rope = rope ∙ at.rope;
       index = omega (arith, is, index, len, at.index);
     }
-
-pub place_before : {S : Type 0} (table : S → Table) (old new : Position S) (s : S) (x : Option NodeId) (p : ℕ) → p ≤ rope_len (table s) x
-    → new.space ≡ old.space → new.rope ≡ old.rope → new.index ≡ old.index - 1 → StandsAtPlace table old s x p → StandsAtPlace table new s x (p - 1)
-place_before table old new s x p inside space rope index at = record {
-  space = space ∙ at.space;
-  rope = rope ∙ at.rope;
-  index = omega (arith, inside, index, at.index);
-}
 
 -- past the end there is no source's cell
 cell_past : (t : Table) (x : Option NodeId) (p : ℕ) → length (rope_cells t x) ≤ p → rope_cell t x p ≡ Byte 0
@@ -150,15 +145,38 @@ pub first_there : {S : Type 0} (table : S → Table) (here : Position S) (s : S)
 first_there table here s x p q old new bytes source at inside piece same agrees le stated =
     piece_first (table s) old new x p q bytes source same agrees (piece_there table here s x p new bytes at inside piece) le stated
 
--- whether bytes are left there
-pub some_there : {S : Type 0} (table : S → Table) (here : Position S) (s : S) (x : Option NodeId) (p m : ℕ) (bytes : List ℕ) → StandsAtPlace table here s x p
-    → here.index + length bytes ≤ text_len table here → (here.index < text_len table here → 1 ≤ m → 1 ≤ length bytes) → 1 ≤ m → (1 ≤ length bytes) ↔ (p < rope_len (table s) x)
-some_there table here s x p m bytes at inside some more =
-    let len = there_len table here s x p at in
-    (λ held. omega (arith, held, inside, len, at.index), λ below. some (omega (arith, below, len, at.index)) more)
+pub byte_there : {S : Type 0} (table : S → Table) (here : Position S) (s : S) (x : Option NodeId) (p k : ℕ) (old new : Stated) (bytes : List ℕ) (source : ℕ → ℕ → ℕ) → StandsAtPlace table here s x p
+    → here.index + length bytes ≤ text_len table here → IsPieceHere table new here bytes → new ≡ old → Agrees old source → k < length bytes → IsStated old (rope_cell (table s) x (p + k))
+    → slice_get bytes k ≡ slice_get (text source (rope_cells (table s) x)) (p + k)
+byte_there table here s x p k old new bytes source at inside piece same agrees lt stated =
+    let there = subst (λ st. IsPiece (table s) st x p bytes) same (piece_there table here s x p new bytes at inside piece) in
+    there source agrees k lt stated
 
--- a call that reads after another one reads as if from the start
-pub reads_after : {T X : Type 0} (stated : T → Stated) (failures : T → ℕ) (old mid new : T) (cell : ℕ → Cell) (i j : ℕ) (r : Result X SourceFault)
-    → Reads stated failures old mid → ReadsSpan stated failures mid new cell i j r → ReadsSpan stated failures old new cell i j r
-reads_after stated failures old mid new cell i j (Ok v) before h = record { reads = reads_then before h.reads; fault = tt; succeeds = λ readable. refl }
-reads_after stated failures old mid new cell i j (Err e) before h = failed_in stated failures old mid new cell i j i j e before h (omega arith) (omega arith)
+-- whether bytes are left there
+pub valid_there : {S : Type 0} (table : S → Table) (here : Position S) (s : S) (x : Option NodeId) (p : ℕ) (valid : Bool) → StandsAtPlace table here s x p
+    → (valid ≡ true) ↔ (here.index < text_len table here) → (valid ≡ true) ↔ (p < rope_len (table s) x)
+valid_there table here s x p valid at is =
+    let len = there_len table here s x p at in
+    (λ yes. omega (arith, is.0 yes, len, at.index), λ below. is.1 (omega (arith, below, len, at.index)))
+
+-- the bytes from a place on are those from its position on, and so is a read
+pub piece_back : {S : Type 0} (table : S → Table) (here : Position S) (s : S) (x : Option NodeId) (p : ℕ) (st : Stated) (bytes : List ℕ) → here.space ≡ s → here.rope ≡ x → p ≡ here.index
+    → IsPiece (table s) st x p bytes → IsPieceHere table st here bytes
+piece_back table here s x p st bytes space rope index piece =
+    let in_space = subst (λ z. IsPiece (table z) st x p bytes) (sym space) piece in
+    let in_rope = subst (λ y. IsPiece (table here.space) st y p bytes) (sym rope) in_space in
+    subst (λ (q : ℕ). IsPiece (table here.space) st here.rope q bytes) index in_rope
+
+pub reads_back : {T X S : Type 0} (stated : T → Stated) (failures : T → ℕ) (old new : T) (table : S → Table) (here : Position S) (s : S) (x : Option NodeId) (p n : ℕ) (r : Result X SourceFault) → here.space ≡ s → here.rope ≡ x → p ≡ here.index
+    → ReadsSpan stated failures old new (rope_cell (table s) x) p (p + n) r → ReadsSpan stated failures old new (rope_cell (table here.space) here.rope) here.index (here.index + n) r
+reads_back stated failures old new table here s x p n r space rope index h =
+    let in_space = subst (λ z. ReadsSpan stated failures old new (rope_cell (table z) x) p (p + n) r) (sym space) h in
+    let in_rope = subst (λ y. ReadsSpan stated failures old new (rope_cell (table here.space) y) p (p + n) r) (sym rope) in_space in
+    subst (λ (q : ℕ). ReadsSpan stated failures old new (rope_cell (table here.space) here.rope) q (q + n) r) index in_rope
+
+-- a call that reads some of the cells reads no others
+pub reads_more : {T X : Type 0} (stated : T → Stated) (failures : T → ℕ) (old new : T) (cell : ℕ → Cell) (i j k : ℕ) (r : Result X SourceFault) → k ≤ j
+    → ReadsSpan stated failures old new cell i k r → ReadsSpan stated failures old new cell i j r
+reads_more stated failures old new cell i j k (Ok v) le h = record { reads = h.reads; fault = tt; succeeds = λ readable. refl }
+reads_more stated failures old new cell i j k (Err e) le h =
+    failed_in stated failures old old new cell i j i k e (record { same = refl; later = omega arith }) h (omega arith) le

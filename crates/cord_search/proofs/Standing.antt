@@ -1,19 +1,10 @@
 -- Where a pattern stands, byte by byte.
-use Rattle.std.proofs.Common.{◌≡◌, ℕ, zero, suc, ◌+◌, ◌<◌, ◌≤◌, List, [], ◌∷◌, ◌++◌, length, take, drop, get_or, Some, inl, inr, sym, subst, ap, ◌∙◌, arith}
+use Rattle.std.proofs.Common.{◌≡◌, ℕ, zero, suc, ◌+◌, ◌<◌, ◌≤◌, List, [], ◌∷◌, length, take, drop, get_or, Some, inl, inr, sym, ap, ◌∙◌, arith}
 use Rattle.std.proofs.lemmas.Bool.{cases_lt}
 use Rattle.std.specs.Prelude.{slice_get}
 use Rattle.std.proofs.lemmas.List.{get_or-drop, get_or-take, length-drop, length-take}
-use Rattle.std.proofs.lemmas.Option.{same_Some, slice_get_within, slice_get-get_or, get_or_from_slice_get}
-use Rattle.std.proofs.lemmas.Grind.{take_at_read}
+use Rattle.std.proofs.lemmas.Option.{same_Some, slice_get_within, slice_get-get_or}
 use Rattle.cord_search.specs.Places.{StandsAt}
-
--- one byte more of the pattern
-pub pattern_more : (t s : List ℕ) (place k : ℕ) → slice_get t (place + k) ≡ Some (get_or s k 0) → k < length s → take k (drop place t) ≡ take k s → take (k + 1) (drop place t) ≡ take (k + 1) s
-pattern_more t s place k at inside same =
-    let held = slice_get_within t (place + k) (get_or s k 0) at in
-    let rest : k < length (drop place t) = omega (arith, held, length-drop place t) in
-    let byte : get_or (drop place t) k 0 ≡ get_or s k 0 = get_or-drop place t k 0 ∙ get_or_from_slice_get t (place + k) (get_or s k 0) 0 at in
-    (take_at_read (drop place t) k 0 rest).1 ∙ ap (λ xs. xs ++ get_or (drop place t) k 0 ∷ []) same ∙ ap (λ x. take k s ++ x ∷ []) byte ∙ sym (take_at_read s k 0 inside).1
 
 -- a pattern that stands at a place has each of its bytes there
 pub pattern_byte : (t s : List ℕ) (place k : ℕ) → take (length s) (drop place t) ≡ s → k < length s → slice_get t (place + k) ≡ Some (get_or s k 0)
@@ -37,26 +28,10 @@ byte_stands t place b at = record {
 pub byte_read : (t : List ℕ) (place b : ℕ) → StandsAt (b ∷ []) t place → slice_get t place ≡ Some b
 byte_read t place b stands = ap (slice_get t) (omega arith) ∙ pattern_byte t (b ∷ []) place 0 stands.same (omega arith)
 
--- one place more at which it does not stand
-pub none_more : (s t : List ℕ) (start k : ℕ) → ((j : ℕ) → start ≤ j → j < k → ¬ StandsAt s t j) → ¬ StandsAt s t k → (j : ℕ) → start ≤ j → j < k + 1 → ¬ StandsAt s t j
-none_more s t start k before here j from lt stands =
-    elim (cases_lt j k) [
-      | inl below ↦ before j from below stands
-      | inr past ↦ here (subst (StandsAt s t) (omega (arith, past, lt)) stands)
-    ]
-
--- and none where too few bytes are left
+-- it stands at no place where too few bytes are left
 pub none_past : (s t : List ℕ) (start k : ℕ) → ((j : ℕ) → start ≤ j → j < k → ¬ StandsAt s t j) → length t < k + length s → (j : ℕ) → start ≤ j → ¬ StandsAt s t j
 none_past s t start k before short j from stands =
     elim (cases_lt j k) [
       | inl below ↦ before j from below stands
       | inr past ↦ absurd (omega (arith, stands.inside, short, past))
-    ]
-
--- one place more, going down
-pub none_more_down : (s t : List ℕ) (end k : ℕ) → ((j : ℕ) → k + 1 ≤ j → j ≤ end → ¬ StandsAt s t j) → ¬ StandsAt s t k → (j : ℕ) → k ≤ j → j ≤ end → ¬ StandsAt s t j
-none_more_down s t end k after here j from until stands =
-    elim (cases_lt k j) [
-      | inl above ↦ after j (omega (arith, above)) until stands
-      | inr past ↦ here (subst (StandsAt s t) (omega (arith, past, from)) stands)
     ]

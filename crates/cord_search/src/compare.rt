@@ -1,6 +1,6 @@
 //! The order of texts.
 
-ghost use Rattle.std.specs.Prelude.{◌≡◌, ◌≤◌, min, length, take, IfOk};
+ghost use Rattle.std.specs.Prelude.{◌≡◌, min, length, take, IfOk};
 ghost use Rattle.rope_node.specs.Denotes.{IsRope};
 ghost use Rattle.cord_position.specs.Fetched.{rope_cell};
 ghost use Rattle.cord_search.specs.Order.{order};
@@ -13,18 +13,12 @@ use rope_node::{NodeSpace, Rope, rope_len};
 use std::alloc::Global;
 use std::cmp::Ordering;
 
-/// How many bytes two runs can be compared by, and the order of these; where one of them is empty, that of the runs.
+/// How many bytes two runs both have, and the order of these.
 fn compare_runs(left: &[u8], right: &[u8]) -> (u64, Ordering)
     ensures count { result.0 ≡ min (length left.now) (length right.now) }
-    ensures order { 1 ≤ min (length left.now) (length right.now)
-        → result.1 ≡ order (take result.0 left.now) (take result.0 right.now) }
-    ensures empty { min (length left.now) (length right.now) ≡ 0
-        → result.1 ≡ order left.now right.now }
+    ensures order { result.1 ≡ order (take result.0 left.now) (take result.0 right.now) }
 {
     let count = left.len().min(right.len());
-    if count == 0 {
-        return (0, left.cmp(right));
-    }
     (count as u64, left[..count].cmp(&right[..count]))
 }
 
@@ -58,10 +52,14 @@ pub fn ncmp<S: NodeSpace, T: Sources>(
     let mut right_buffer = [0; PIECE];
     let mut k = 0;
     while k < n {
-        let left = next_run(&first, sources, n - k, &mut left_buffer)?;
-        let right = next_run(&second, sources, n - k, &mut right_buffer)?;
+        let most = first.run_left().min(second.run_left()).min(n - k);
+        if most == 0 {
+            return Ok(first.valid().cmp(&second.valid()));
+        }
+        let left = next_run(&first, sources, most, &mut left_buffer)?;
+        let right = next_run(&second, sources, most, &mut right_buffer)?;
         let (count, order) = compare_runs(left, right);
-        if count == 0 || order != Ordering::Equal {
+        if order != Ordering::Equal {
             return Ok(order);
         }
         first.skip(count);

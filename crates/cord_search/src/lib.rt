@@ -1,4 +1,4 @@
-//! Comparison and search of the texts of ropes, and a text written to its end, byte by byte.
+//! Comparison and search of the texts of ropes, and a text written to its end, run by run.
 #![tactic(auto)]
 
 mod compare;

@@ -1,75 +1,82 @@
 //! The first place of a pattern.
 
-ghost use Rattle.std.specs.Prelude.{◌≡◌, ◌↔◌, ◌<◌, ◌≤◌, ◌+◌, true, length, take, drop, IfOk, IfErr, IsErrOf, IsOk};
-ghost use Rattle.rope_node.specs.Denotes.{IsRope, rope_len};
+ghost use Rattle.std.specs.Prelude.{◌↔◌, ◌<◌, ◌≤◌, ℕ, [], length, IfOk, IfErr, IsErrOf, IsOk};
+ghost use Rattle.rope_node.specs.Denotes.{IsRope, rope_cells, rope_len, text};
 ghost use Rattle.lazy_file.specs.SourceTexts.{Reads};
 ghost use Rattle.cord_position.specs.Fetched.{EachCell, IsReadable, ReadsSpan, rope_cell};
-ghost use Rattle.cord_search.specs.Places.{IsFromOn, search_limit};
-ghost use Rattle.cord_search.specs.Reached.{StandsAtPlace};
-ghost use Rattle.cord_search.specs.Stated.{FindsFirst, OfSpan};
+ghost use Rattle.cord_search.specs.Places.{IsFirst, IsFromOn, search_limit};
+ghost use Rattle.cord_search.specs.Stated.{FindsFirst};
 ghost use Rattle.cord_search.specs.Faults.{IsFindFault};
 
 use crate::fault::FindFault;
-use crate::text_bytes::byte_at;
+use crate::runs::{WINDOW, next_window};
 use cord_position::Pos;
 use lazy_file::{SourceFault, Sources};
+use memchr::memmem::Finder;
 use rope_node::{NodeSpace, Rope, rope_len};
 use std::alloc::Global;
 
 /// The most bytes in a pattern.
 pub const PATTERN_LIMIT: usize = 4096;
 
-/// Whether the bytes from `place` on begin with the pattern.
-fn begins_with<S: NodeSpace, T: Sources>(
-    alloc: Global,
-    space: &S,
-    sources: &mut T,
-    x: Rope,
-    place: u64,
-    pattern: &[u8],
-) -> Result<bool, SourceFault>
+/// The first place from `start` on, which is `start` itself unless the text ends before it.
+fn find_empty<S: NodeSpace>(space: &S, x: Rope, start: u64) -> Option<u64>
     requires { IsRope (S.table space.now) x }
-    ensures stands { IfOk result (λ stands. OfSpan (S.table space.now) (T.stated sources.old)
-        x place (place + length pattern.now)
-        (λ t. (stands ≡ true) ↔ (take (length pattern.now) (drop place t) ≡ pattern.now))) }
-    ensures reads { ReadsSpan T.stated T.failures sources.old sources.new
-        (rope_cell (S.table space.now) x) place (place + length pattern.now) result }
+    ensures inside { IsFromOn [] start (rope_len (S.table space.now) x) result }
+    ensures found { (source : ℕ → ℕ → ℕ)
+        → IsFirst [] (text source (rope_cells (S.table space.now) x)) start result }
 {
-    let mut pos = Pos::set(alloc, space, x, place);
-    for k in 0..pattern.len() {
-        if byte_at(&pos, space, sources, x, place, k as u64)? != Some(pattern[k]) {
-            return Ok(false);
-        }
-        pos.next();
+    if start > rope_len(space, x) {
+        return None;
     }
-    Ok(true)
+    Some(start)
 }
 
-/// The same, by a position that stands at `place`. Where the first byte is another one, no more is read.
-fn stands_at<S: NodeSpace, T: Sources>(
+/// The first place from `start` on at which a pattern of some bytes stands, window by window: each begins where a place was not yet
+/// looked at.
+fn find_some<S: NodeSpace, T: Sources>(
     alloc: Global,
-    pos: &Pos<'_, S>,
     space: &S,
     sources: &mut T,
     x: Rope,
-    place: u64,
+    start: u64,
     pattern: &[u8],
-) -> Result<bool, SourceFault>
+) -> Result<Option<u64>, SourceFault>
     requires rope { IsRope (S.table space.now) x }
-    requires here { StandsAtPlace S.table pos.now space.now x place }
-    ensures stands { IfOk result (λ stands. OfSpan (S.table space.now) (T.stated sources.old)
-        x place (place + length pattern.now)
-        (λ t. (stands ≡ true) ↔ (take (length pattern.now) (drop place t) ≡ pattern.now))) }
+    requires some { 1 ≤ length pattern.now }
+    requires few { length pattern.now ≤ search_limit }
+    ensures inside { IfOk result (IsFromOn pattern.now start (rope_len (S.table space.now) x)) }
+    ensures found { IfOk result
+        (FindsFirst (S.table space.now) (T.stated sources.old) x pattern.now start) }
     ensures reads { ReadsSpan T.stated T.failures sources.old sources.new
-        (rope_cell (S.table space.now) x) place (place + length pattern.now) result }
+        (rope_cell (S.table space.now) x) start (rope_len (S.table space.now) x) result }
 {
-    if pattern.is_empty() {
-        return Ok(true);
+    let len = rope_len(space, x);
+    let need = pattern.len();
+    let places = (len + 1).saturating_sub(need as u64);
+    let finder = Finder::new(pattern);
+    let mut pos = Pos::set(alloc, space, x, start);
+    let mut buffer = [0; WINDOW];
+    let mut place = start;
+    while place < places {
+        let window = next_window(
+            alloc,
+            &pos,
+            space,
+            sources,
+            x,
+            need,
+            len - place,
+            &mut buffer,
+        )?;
+        if let Some(k) = finder.find(window) {
+            return Ok(Some(place + k as u64));
+        }
+        let count = (window.len() - need + 1) as u64;
+        pos.skip(count);
+        place += count;
     }
-    if byte_at(pos, space, sources, x, place, 0)? != Some(pattern[0]) {
-        return Ok(false);
-    }
-    begins_with(alloc, space, sources, x, place, pattern)
+    Ok(None)
 }
 
 /// The first place from `start` on at which the pattern stands. An empty pattern stands at each place up to the text's end.
@@ -101,13 +108,8 @@ pub fn find<S: NodeSpace, T: Sources>(
     if pattern.len() > PATTERN_LIMIT {
         return Err(FindFault::PatternTooLong);
     }
-    let places = (rope_len(space, x) + 1).saturating_sub(pattern.len() as u64);
-    let mut pos = Pos::set(alloc, space, x, start);
-    for place in start..places {
-        if stands_at(alloc, &pos, space, sources, x, place, pattern)? {
-            return Ok(Some(place));
-        }
-        pos.next();
+    if pattern.is_empty() {
+        return Ok(find_empty(space, x, start));
     }
-    Ok(None)
+    Ok(find_some(alloc, space, sources, x, start, pattern)?)
 }

@@ -1,16 +1,41 @@
 //! The next bytes of a text, as many as lie together.
 
-ghost use Rattle.std.specs.Prelude.{◌<◌, ◌≤◌, ◌+◌, length, IfOk};
-ghost use Rattle.cord_position.specs.Fetched.{ReadsSpan};
+ghost use Rattle.std.specs.Prelude.{◌≡◌, ◌<◌, ◌≤◌, ◌+◌, length, take, IfOk, OnOk};
+ghost use Rattle.rope_node.specs.Denotes.{IsRope, rope_len};
+ghost use Rattle.cord_position.specs.Fetched.{ReadsSpan, rope_cell};
 ghost use Rattle.cord_position.specs.Position.{cell_of, text_len};
-ghost use Rattle.cord_search.specs.Pieces.{IsPieceHere};
+ghost use Rattle.cord_search.specs.Pieces.{IsPiece, IsPieceHere};
 
 use cord_position::Pos;
 use lazy_file::{SourceFault, Sources};
-use rope_node::NodeSpace;
+use rope_node::{NodeSpace, Rope, rope_len};
+use std::alloc::Global;
 
 /// How many bytes of a run are read at once where it is no literal.
 pub const PIECE: usize = 4096;
+
+/// How many bytes a window holds: twice as many as a pattern.
+pub const WINDOW: usize = 8192;
+
+/// Writes the bytes from a position to the end of its leaf's span into the buffer, as many as it takes, and answers how many.
+fn fill_run<S: NodeSpace, T: Sources>(
+    pos: &Pos<'_, S>,
+    sources: &mut T,
+    buffer: &mut [u8],
+) -> Result<usize, SourceFault>
+    ensures length { length buffer.new ≡ length buffer.old }
+    ensures bytes { IfOk result (λ n. IsPieceHere S.table (T.stated sources.old)
+        pos.now (take n buffer.new)) }
+    ensures most { IfOk result (λ n. n ≤ length buffer.old) }
+    ensures inside { IfOk result (λ n. pos.now.index + n ≤ text_len S.table pos.now) }
+    ensures some { IfOk result (λ n. pos.now.index < text_len S.table pos.now
+        → 1 ≤ length buffer.old → 1 ≤ n) }
+    ensures reads { ReadsSpan T.stated T.failures sources.old sources.new
+        (cell_of S.table pos.now) pos.now.index (pos.now.index + length buffer.old) result }
+{
+    let _left = pos.run_left();
+    pos.fill(sources, buffer)
+}
 
 /// The next bytes from a position on, at most `most`: a literal's where they lie, any other leaf's in the buffer.
 pub fn next_run<'r, S: NodeSpace, T: Sources>(
@@ -36,6 +61,67 @@ pub fn next_run<'r, S: NodeSpace, T: Sources>(
         return Ok(&run[..n]);
     }
     let n = most.min(PIECE as u64) as usize;
-    let n = pos.fill(sources, &mut buffer[..n])?;
+    let n = fill_run(pos, sources, &mut buffer[..n])?;
+    Ok(&buffer[..n])
+}
+
+/// Writes the bytes from `place` on into the whole buffer, run by run.
+fn gather<S: NodeSpace, T: Sources>(
+    alloc: Global,
+    space: &S,
+    sources: &mut T,
+    x: Rope,
+    place: u64,
+    buffer: &mut [u8],
+) -> Result<(), SourceFault>
+    requires rope { IsRope (S.table space.now) x }
+    requires inside { place + length buffer.old ≤ rope_len (S.table space.now) x }
+    ensures length { length buffer.new ≡ length buffer.old }
+    ensures bytes { OnOk result
+        (IsPiece (S.table space.now) (T.stated sources.old) x place buffer.new) }
+    ensures reads { ReadsSpan T.stated T.failures sources.old sources.new
+        (rope_cell (S.table space.now) x) place (place + length buffer.old) result }
+{
+    let _len = rope_len(space, x);
+    let mut pos = Pos::set(alloc, space, x, place);
+    let mut done = 0;
+    while done < buffer.len() {
+        let count = fill_run(&pos, sources, &mut buffer[done..])?;
+        pos.skip(count as u64);
+        done += count;
+    }
+    Ok(())
+}
+
+/// The next bytes from a position on, at least `need` and at most `most`: a literal's where they lie, if they are enough, and else
+/// those of as many runs as the buffer takes.
+pub fn next_window<'r, S: NodeSpace, T: Sources>(
+    alloc: Global,
+    pos: &'r Pos<'_, S>,
+    space: &S,
+    sources: &mut T,
+    x: Rope,
+    need: usize,
+    most: u64,
+    buffer: &'r mut [u8; WINDOW],
+) -> Result<&'r [u8], SourceFault>
+    requires rope { IsRope (S.table space.now) x }
+    requires here { (pos.now.space ≡ space.now) × (pos.now.rope ≡ x) }
+    requires need { (1 ≤ need) × (need ≤ most) × (need ≤ 8192) }
+    requires inside { pos.now.index + most ≤ rope_len (S.table space.now) x }
+    ensures bytes { IfOk result
+        (λ window. IsPieceHere S.table (T.stated sources.old) pos.now window.now) }
+    ensures enough { IfOk result (λ window. need ≤ length window.now) }
+    ensures most { IfOk result (λ window. length window.now ≤ most) }
+    ensures reads { ReadsSpan T.stated T.failures sources.old sources.new
+        (cell_of S.table pos.now) pos.now.index (pos.now.index + most) result }
+{
+    let run = pos.run_bytes();
+    if run.len() >= need {
+        let n = most.min(run.len() as u64) as usize;
+        return Ok(&run[..n]);
+    }
+    let n = most.min(WINDOW as u64) as usize;
+    gather(alloc, space, sources, x, pos.index(), &mut buffer[..n])?;
     Ok(&buffer[..n])
 }

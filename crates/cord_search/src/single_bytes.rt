@@ -6,9 +6,10 @@ ghost use Rattle.cord_position.specs.Fetched.{ReadsSpan, rope_cell};
 ghost use Rattle.cord_search.specs.Places.{IsFromOn, IsUpTo};
 ghost use Rattle.cord_search.specs.Stated.{FindsFirst, FindsLast};
 
-use crate::text_bytes::byte_at;
+use crate::runs::{PIECE, WINDOW, next_run, next_window};
 use cord_position::Pos;
 use lazy_file::{SourceFault, Sources};
+use memchr::{memchr, memrchr};
 use rope_node::{NodeSpace, Rope, rope_len};
 use std::alloc::Global;
 
@@ -32,12 +33,18 @@ pub fn chr<S: NodeSpace, T: Sources>(
     ensures reads { ReadsSpan T.stated T.failures sources.old sources.new
         (rope_cell (S.table space.now) x) i (rope_len (S.table space.now) x) result }
 {
+    let len = rope_len(space, x);
     let mut pos = Pos::set(alloc, space, x, i);
-    for place in i..rope_len(space, x) {
-        if byte_at(&pos, space, sources, x, place, 0)? == Some(c) {
-            return Ok(Some(place));
+    let mut buffer = [0; PIECE];
+    let mut place = i;
+    while place < len {
+        let run = next_run(&pos, sources, len - place, &mut buffer)?;
+        if let Some(k) = memchr(c, run) {
+            return Ok(Some(place + k as u64));
         }
-        pos.next();
+        let count = run.len() as u64;
+        pos.skip(count);
+        place += count;
     }
     Ok(None)
 }
@@ -62,14 +69,26 @@ pub fn rchr<S: NodeSpace, T: Sources>(
     ensures reads { ReadsSpan T.stated T.failures sources.old sources.new
         (rope_cell (S.table space.now) x) 0 (i + 1) result }
 {
-    let mut place = rope_len(space, x).min(i.saturating_add(1));
-    let mut pos = Pos::set(alloc, space, x, place);
-    while place > 0 {
-        place -= 1;
-        pos.prev();
-        if byte_at(&pos, space, sources, x, place, 0)? == Some(c) {
-            return Ok(Some(place));
+    let mut end = rope_len(space, x).min(i.saturating_add(1));
+    let mut buffer = [0; WINDOW];
+    while end > 0 {
+        let from = end.saturating_sub(PIECE as u64);
+        let count = end - from;
+        let pos = Pos::set(alloc, space, x, from);
+        let window = next_window(
+            alloc,
+            &pos,
+            space,
+            sources,
+            x,
+            count as usize,
+            count,
+            &mut buffer,
+        )?;
+        if let Some(k) = memrchr(c, window) {
+            return Ok(Some(from + k as u64));
         }
+        end = from;
     }
     Ok(None)
 }

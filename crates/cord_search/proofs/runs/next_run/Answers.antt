@@ -1,12 +1,11 @@
-use Rattle.std.proofs.Common.{◌≡◌, ◌+◌, ◌≤◌, min, length, take, drop, inl, inr, refl, sym, subst, ◌∙◌, arith}
+use Rattle.std.proofs.Common.{◌+◌, ◌≤◌, length, take, drop, inl, inr, refl, sym, subst, ◌∙◌, arith}
 use Rattle.std.proofs.lemmas.Bool.{cases_lt, eqb-false}
-use Rattle.std.proofs.lemmas.List.{length-take, take_all, take_at}
+use Rattle.std.proofs.lemmas.List.{length-take, take-append-le}
 use Rattle.std.proofs.lemmas.Result.{err_from_is_err_and}
-use Rattle.cord_position.specs.Position.{cell_of, left_here}
-use Rattle.cord_position.specs.Runs.{rope_span}
+use Rattle.cord_position.specs.Position.{cell_of}
 use Rattle.cord_position.proofs.Spans.{failed_in}
-use Rattle.cord_search.specs.Pieces.{IsPiece}
-use Rattle.cord_search.proofs.Pieces.{literal_piece, filled_piece}
+use Rattle.cord_search.specs.Pieces.{IsPieceHere}
+use Rattle.cord_search.proofs.Pieces.{literal_piece}
 use Rattle.cord_search.proofs.runs.next_run.Goals as goal
 
 pub returns-then-not-is_empty-clause-bytes : goal.returns-then-not-is_empty-clause-bytes
@@ -24,19 +23,15 @@ returns-in_err-n-clause-reads g c =
     let p = err_from_is_err_and c.from_residual.result c.from_residual.ensures.1 in
     let here = c.args.pos.now in
     let part = take c.min-n-2.result c.args.buffer.now in
-    rw (p.1, p.2) (failed_in g.T.Sources.stated g.T.Sources.failures c.args.sources.now c.args.sources.now c.fill.new.sources (cell_of g.S.NodeSpace.table here) here.index (here.index + c.args.most)
-    here.index (here.index + min (left_here g.S.NodeSpace.table here) (length part)) _ (record { same = refl; later = omega arith }) c.in_err-n.ensures.reads
+    rw (p.1, p.2) (failed_in g.T.Sources.stated g.T.Sources.failures c.args.sources.now c.args.sources.now c.fill_run.new.sources (cell_of g.S.NodeSpace.table here) here.index (here.index + c.args.most)
+    here.index (here.index + length part) _ (record { same = refl; later = omega arith }) c.in_err-n.ensures.reads
     (omega arith) (omega (arith, c.min-most.ensures, c.min-n-2.ensures, length-take c.min-n-2.result c.args.buffer.now)))
 
 pub returns-clause-bytes : goal.returns-clause-bytes
 returns-clause-bytes g c =
     let here = c.args.pos.now in
-    let t = g.S.NodeSpace.table here.space in
-    let st = g.T.Sources.stated c.args.sources.now in
     let n = c.in_ok-n.n in
-    let filled = c.fill.new.buffer in
+    let filled = c.fill_run.new.buffer in
     let rest = drop c.min-n-2.result c.args.buffer.now in
-    let long = length-take c.min-n-2.result c.args.buffer.now in
-    let whole : length filled ≡ n = omega (arith, c.in_ok-n.ensures.count, c.in_ok-n.ensures.length, long, c.min-n-2.ensures, c.min-most.ensures, c.run_left.ensures.exact) in
-    let bytes = filled_piece t st here.rope here.index n (rope_span t here.rope here.index) (take n filled) c.run_left.ensures.run (omega (arith, c.in_ok-n.ensures.count)) (omega (arith, length-take n filled)) c.in_ok-n.ensures.bytes in
-    subst (IsPiece t st here.rope here.index) (take_all n filled (omega (arith, whole)) ∙ sym (take_at filled rest n whole)) bytes
+    let inside : n ≤ length filled = omega (arith, c.in_ok-n.ensures.most, c.in_ok-n.ensures.length) in
+    subst (IsPieceHere g.S.NodeSpace.table (g.T.Sources.stated c.args.sources.now) here) (sym (take-append-le n filled rest inside)) c.in_ok-n.ensures.bytes

@@ -1,4 +1,5 @@
-use Rattle.std.proofs.Common.{◌<◌, ◌≤◌, ℕ, ◌∷◌, []}
+use Rattle.std.proofs.Common.{◌<◌, ◌≤◌, ◌-◌, ℕ, max, ◌∷◌, []}
+use Rattle.rope_node.specs.Denotes.{rope_len}
 use Rattle.lazy_file.specs.SourceTexts.{Reads}
 use Rattle.cord_search.specs.Stated.{OfSpan}
 use Rattle.cord_search.specs.Reached.{StandsAtPlace}
@@ -9,7 +10,12 @@ use Rattle.cord_search.proofs.single_bytes.chr.Given as goal
 abbrev pub invariant-loop-place : goal.invariant-loop-place
 invariant-loop-place g l = record {
   reads : Reads g.T.Sources.stated g.T.Sources.failures l.initial.sources l.sources;
-  at : StandsAtPlace g.S.NodeSpace.table l.pos l.space l.x l.place;
-  told : OfSpan (g.S.NodeSpace.table l.space) (g.T.Sources.stated l.initial.sources) l.x l.i l.place
-      (λ t. (j : ℕ) → l.i ≤ j → j < l.place → ¬ StandsAt (l.c ∷ []) t j);
+  from : l.fn.i ≤ l.place;
+  inside : l.place ≤ max l.fn.i (rope_len (g.S.NodeSpace.table l.space) l.fn.x);
+  at : StandsAtPlace g.S.NodeSpace.table l.pos l.space l.fn.x l.place;
+  told : OfSpan (g.S.NodeSpace.table l.space) (g.T.Sources.stated l.initial.sources) l.fn.x l.fn.i l.place
+      (λ t. (j : ℕ) → l.fn.i ≤ j → j < l.place → ¬ StandsAt (l.fn.c ∷ []) t j);
 }
+
+abbrev pub decreases-loop-place : goal.decreases-loop-place
+decreases-loop-place g l = l.len - l.place

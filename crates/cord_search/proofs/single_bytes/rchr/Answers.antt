@@ -1,63 +1,70 @@
-use Rattle.cord_position.specs.Fetched.{rope_cell}
-use Rattle.std.proofs.Common.{◌≡◌, ◌+◌, ◌-◌, ◌≤◌, ℕ, ◌∷◌, [], Some, refl, sym, ◌∙◌, arith}
+use Rattle.std.proofs.Common.{◌≡◌, ◌+◌, ◌-◌, ◌<◌, ◌≤◌, ℕ, List, length, ◌∷◌, [], sym, ◌∙◌, arith}
 use Rattle.std.specs.Prelude.{slice_get}
 use Rattle.std.proofs.lemmas.Result.{err_from_is_err_and}
 use Rattle.lazy_file.proofs.LaterReads.{reads_then}
 use Rattle.rope_node.specs.Denotes.{rope_cells, text}
-use Rattle.cord_position.proofs.Spans.{failed_in}
-use Rattle.cord_search.specs.Places.{StandsAt}
-use Rattle.cord_search.proofs.Fetches.{fetched_at}
-use Rattle.cord_search.proofs.Reaching.{place_before}
-use Rattle.cord_search.proofs.Options.{same_found, other_found}
-use Rattle.cord_search.proofs.Standing.{byte_stands, byte_read, none_more_down}
+use Rattle.cord_position.specs.Position.{text_len}
+use Rattle.cord_search.proofs.BytePieces.{byte_found, no_byte_in, nowhere_up_to}
+use Rattle.cord_search.proofs.Reaching.{byte_there, failed_there, set_there, there_len}
 use Rattle.cord_search.proofs.single_bytes.rchr.Goals as goal
 
-pub returns-then-eq-clause-found : goal.returns-then-eq-clause-found
-returns-then-eq-clause-found g c source agrees stated =
+pub returns-in_err-window-clause-reads : goal.returns-in_err-window-clause-reads
+returns-in_err-window-clause-reads g c =
+    let p = err_from_is_err_and c.from_residual.result c.from_residual.ensures.1 in
+    let from : ℕ = c.saturating_sub-from.result in
+    let n : ℕ = c.loop-end.end - from in
+    let at = set_there g.S.NodeSpace.table c.set-pos.result c.args.space.now c.args.x from c.set-pos.ensures.space c.set-pos.ensures.rope c.set-pos.ensures.index in
+    rw (p.1, p.2) (failed_there g.T.Sources.stated g.T.Sources.failures c.args.sources.now c.loop-end.sources c.next_window.new.sources g.S.NodeSpace.table c.set-pos.result c.args.space.now c.args.x
+    0 (c.args.i + 1) from n c.in_err-window.field-0.0 c.loop-end.invariant.reads at (sym c.rope_len.ensures.cells ∙ c.rope_len.ensures.exact) c.in_err-window.ensures.reads
+    (omega arith) (omega (arith, c.loop-end.invariant.until, c.saturating_sub-from.ensures)))
+
+pub returns-in-Some-clause-found : goal.returns-in-Some-clause-found
+returns-in-Some-clause-found g c source agrees stated =
     let t = g.S.NodeSpace.table c.args.space.now in
     let st = g.T.Sources.stated c.args.sources.now in
     let u = text source (rope_cells t c.args.x) in
-    let place = c.loop-place.place - 1 in
-    let at : c.in_ok-byte_at.field-0 ≡ slice_get u place = fetched_at t st (g.T.Sources.stated c.loop-place.sources) c.args.x (place + 0) place c.in_ok-byte_at.field-0 c.loop-place.invariant.reads.same (omega arith) c.in_ok-byte_at.ensures.byte source agrees (stated place (omega arith) (omega (arith, c.loop-place.invariant.until, c.loop-place-test.true))) in
-    let found = same_found c.in_ok-byte_at.field-0 (Some c.args.c) (sym c.eq.ensures ∙ c.if-eq.true) in
-    let after : (j : ℕ) → place + 1 ≤ j → j ≤ c.args.i → ¬ StandsAt (c.args.c ∷ []) u j = λ j above. c.loop-place.invariant.told source agrees (λ p over below. stated p (omega (arith, over)) (omega (arith, below))) j (omega (arith, above, c.loop-place-test.true)) in
+    let from : ℕ = c.saturating_sub-from.result in
+    let end : ℕ = c.loop-end.end in
+    let window : List ℕ = c.in_ok-window.window.now in
+    let k : ℕ = c.in-Some.k in
+    let found = c.in-Some.ensures in
+    let long : from + length window ≡ end = omega (arith, c.in_ok-window.ensures.most, c.in_ok-window.ensures.enough, c.saturating_sub-from.ensures) in
+    let at = set_there g.S.NodeSpace.table c.set-pos.result c.args.space.now c.args.x from c.set-pos.ensures.space c.set-pos.ensures.rope c.set-pos.ensures.index in
+    let inside : c.set-pos.result.index + length window ≤ text_len g.S.NodeSpace.table c.set-pos.result = omega (arith, there_len g.S.NodeSpace.table c.set-pos.result c.args.space.now c.args.x from at, long, c.loop-end.invariant.inside, c.set-pos.ensures.index) in
+    let same : (p : ℕ) → k ≤ p → p < length window → slice_get window p ≡ slice_get u (from + p) = λ p low lt.
+    byte_there g.S.NodeSpace.table c.set-pos.result c.args.space.now c.args.x from p st (g.T.Sources.stated c.loop-end.sources) window source at inside c.in_ok-window.ensures.bytes
+    c.loop-end.invariant.reads.same agrees lt (stated (from + p) (omega (arith, low)) (omega (arith, lt, long, c.loop-end.invariant.until))) in
+    let after = c.loop-end.invariant.told source agrees (λ p above below. stated p (omega (arith, above, long, found.0.high)) (omega (arith, below))) in
+    let none = no_byte_in u window from c.args.c (k + 1) (length window) found.0.after (λ p low high. same p (omega (arith, low)) high) in
     record {
-      until = omega (arith, c.loop-place.invariant.until, c.loop-place-test.true);
-      stands = byte_stands u place c.args.c (sym at ∙ found);
-      none_after = λ j above. after j (omega (arith, above));
+      until = omega (arith, c.loop-end.invariant.until, long, found.0.high);
+      stands = byte_found u window from c.args.c k found.0.high found.1 (same k (omega arith) found.0.high);
+      none_after = λ j above. nowhere_up_to (c.args.c ∷ []) u (from + (k + 1)) end c.args.i (λ j' low high. none j' low (omega (arith, high, long))) after j (omega (arith, above));
     }
 
-pub returns-then-eq-clause-reads : goal.returns-then-eq-clause-reads
-returns-then-eq-clause-reads g c = record {
-  reads = reads_then c.loop-place.invariant.reads c.in_ok-byte_at.ensures.reads.reads;
-  fault = tt;
-  succeeds = λ readable. refl;
-}
-
-pub returns-in_err-byte_at-clause-reads : goal.returns-in_err-byte_at-clause-reads
-returns-in_err-byte_at-clause-reads g c =
-    let p = err_from_is_err_and c.from_residual.result c.from_residual.ensures.1 in
-    let t = g.S.NodeSpace.table c.args.space.now in
-    rw (p.1, p.2) (failed_in g.T.Sources.stated g.T.Sources.failures c.args.sources.now c.loop-place.sources c.byte_at.new.sources (rope_cell t c.args.x) 0 (c.args.i + 1) ((c.loop-place.place - 1) + 0) (((c.loop-place.place - 1) + 0) + 1) _
-    c.loop-place.invariant.reads c.in_err-byte_at.ensures.reads (omega arith) (omega (arith, c.loop-place-test.true, c.loop-place.invariant.until)))
-
-pub loop-place-preserved : goal.loop-place-preserved
-loop-place-preserved g c = record {
-  reads = reads_then c.loop-place.invariant.reads c.in_ok-byte_at.ensures.reads.reads;
-  until = omega (arith, c.loop-place.invariant.until);
-  inside = omega (arith, c.loop-place.invariant.inside);
-  at = place_before g.S.NodeSpace.table c.loop-place.pos c.prev.new.self c.args.space.now c.args.x c.loop-place.place c.loop-place.invariant.inside c.prev.ensures.space c.prev.ensures.rope c.prev.ensures.index c.loop-place.invariant.at;
+pub loop-end-preserved : goal.loop-end-preserved
+loop-end-preserved g c = record {
+  reads = reads_then c.loop-end.invariant.reads c.in_ok-window.ensures.reads.reads;
+  until = omega (arith, c.loop-end.invariant.until, c.saturating_sub-from.ensures);
+  inside = omega (arith, c.loop-end.invariant.inside, c.saturating_sub-from.ensures);
   told = λ source agrees stated.
       let t = g.S.NodeSpace.table c.args.space.now in
       let st = g.T.Sources.stated c.args.sources.now in
       let u = text source (rope_cells t c.args.x) in
-      let place = c.loop-place.place - 1 in
-      let at : c.in_ok-byte_at.field-0 ≡ slice_get u place = fetched_at t st (g.T.Sources.stated c.loop-place.sources) c.args.x (place + 0) place c.in_ok-byte_at.field-0 c.loop-place.invariant.reads.same (omega arith) c.in_ok-byte_at.ensures.byte source agrees (stated place (omega arith) (omega (arith, c.loop-place.invariant.until, c.loop-place-test.true))) in
-      let after : (j : ℕ) → place + 1 ≤ j → j ≤ c.args.i → ¬ StandsAt (c.args.c ∷ []) u j = λ j above. c.loop-place.invariant.told source agrees (λ p over below. stated p (omega (arith, over)) (omega (arith, below))) j (omega (arith, above, c.loop-place-test.true)) in
-      let here : ¬ StandsAt (c.args.c ∷ []) u place = λ stands. other_found c.in_ok-byte_at.field-0 (Some c.args.c) (sym c.eq.ensures ∙ c.if-eq.false) (at ∙ byte_read u place c.args.c stands) in
-      none_more_down (c.args.c ∷ []) u c.args.i place after here;
+      let from : ℕ = c.saturating_sub-from.result in
+      let end : ℕ = c.loop-end.end in
+      let window : List ℕ = c.in_ok-window.window.now in
+      let long : from + length window ≡ end = omega (arith, c.in_ok-window.ensures.most, c.in_ok-window.ensures.enough, c.saturating_sub-from.ensures) in
+      let at = set_there g.S.NodeSpace.table c.set-pos.result c.args.space.now c.args.x from c.set-pos.ensures.space c.set-pos.ensures.rope c.set-pos.ensures.index in
+      let inside : c.set-pos.result.index + length window ≤ text_len g.S.NodeSpace.table c.set-pos.result = omega (arith, there_len g.S.NodeSpace.table c.set-pos.result c.args.space.now c.args.x from at, long, c.loop-end.invariant.inside, c.set-pos.ensures.index) in
+      let same : (p : ℕ) → 0 ≤ p → p < length window → slice_get window p ≡ slice_get u (from + p) = λ p low lt.
+      byte_there g.S.NodeSpace.table c.set-pos.result c.args.space.now c.args.x from p st (g.T.Sources.stated c.loop-end.sources) window source at inside c.in_ok-window.ensures.bytes
+      c.loop-end.invariant.reads.same agrees lt (stated (from + p) (omega arith) (omega (arith, lt, long, c.loop-end.invariant.until))) in
+      let after = c.loop-end.invariant.told source agrees (λ p above below. stated p (omega (arith, above, long)) (omega (arith, below))) in
+      let none = no_byte_in u window from c.args.c 0 (length window) c.in_default.ensures same in
+      nowhere_up_to (c.args.c ∷ []) u from end c.args.i (λ j low high. none j (omega (arith, low)) (omega (arith, high, long))) after;
 }
 
 pub returns-clause-found : goal.returns-clause-found
 returns-clause-found g c source agrees stated j until =
-    c.loop-place.invariant.told source agrees (λ p above below. stated p (omega arith) (omega (arith, below))) j (omega (arith, c.loop-place-test.false)) until
+    c.loop-end.invariant.told source agrees (λ p above below. stated p (omega arith) (omega (arith, below))) j (omega (arith, c.loop-end-test.false)) until

@@ -2,20 +2,18 @@ use Rattle.std.proofs.Common.{◌+◌, ◌≤◌, ℕ, ◌∷◌, []}
 use Rattle.rope_node.specs.Denotes.{rope_len}
 use Rattle.lazy_file.specs.SourceTexts.{Reads}
 use Rattle.cord_search.specs.Stated.{OfSpan}
-use Rattle.cord_search.specs.Reached.{StandsAtPlace}
 use Rattle.cord_search.specs.Places.{StandsAt}
 use Rattle.cord_search.proofs.single_bytes.rchr.Given as goal
 
 -- the sources are as they were, but that reads may have failed
-abbrev pub invariant-loop-place : goal.invariant-loop-place
-invariant-loop-place g l = record {
+abbrev pub invariant-loop-end : goal.invariant-loop-end
+invariant-loop-end g l = record {
   reads : Reads g.T.Sources.stated g.T.Sources.failures l.initial.sources l.sources;
-  until : l.place ≤ l.i + 1;
-  inside : l.place ≤ rope_len (g.S.NodeSpace.table l.space) l.x;
-  at : StandsAtPlace g.S.NodeSpace.table l.pos l.space l.x l.place;
-  told : OfSpan (g.S.NodeSpace.table l.space) (g.T.Sources.stated l.initial.sources) l.x l.place (l.i + 1)
-      (λ t. (j : ℕ) → l.place ≤ j → j ≤ l.i → ¬ StandsAt (l.c ∷ []) t j);
+  until : l.end ≤ l.fn.i + 1;
+  inside : l.end ≤ rope_len (g.S.NodeSpace.table l.space) l.fn.x;
+  told : OfSpan (g.S.NodeSpace.table l.space) (g.T.Sources.stated l.initial.sources) l.fn.x l.end (l.fn.i + 1)
+      (λ t. (j : ℕ) → l.end ≤ j → j ≤ l.fn.i → ¬ StandsAt (l.fn.c ∷ []) t j);
 }
 
-abbrev pub decreases-loop-place : goal.decreases-loop-place
-decreases-loop-place g l = l.place
+abbrev pub decreases-loop-end : goal.decreases-loop-end
+decreases-loop-end g l = l.end
