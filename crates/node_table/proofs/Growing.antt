@@ -1,7 +1,8 @@
 -- A table that grows keeps its rules.
-use Rattle.std.proofs.Common.{◌≡◌, ℕ, zero, suc, ◌+◌, ◌-◌, ◌^◌, ◌<◌, ◌≤◌, inl, inr, Bool, true, false, if◌then◌else◌, List, [], ◌∷◌, ◌++◌, map, length, get_or, Option, Some, None, Result, Ok, Err, refl, sym, ap, subst, ◌∙◌, arith}
-use Rattle.std.specs.Prelude.{OnOk, OnErr}
+use Rattle.std.proofs.Common.{◌≡◌, ℕ, zero, suc, ◌+◌, ◌-◌, ◌<◌, ◌≤◌, inl, inr, Bool, true, false, if◌then◌else◌, List, [], ◌∷◌, ◌++◌, map, length, get_or, Option, Some, None, Result, Ok, Err, refl, sym, ap, subst, ◌∙◌, arith}
+use Rattle.std.specs.Prelude.{All, OnOk, OnErr}
 use Rattle.std.proofs.lemmas.Bool.{cases_lt}
+use Rattle.std.proofs.lemmas.List.Elements.{All-nil, All-from_get_or}
 use Rattle.std.proofs.lemmas.List.{length-append, length-map, get_or_append_left, get_or-append_right, get_or-map, map-append}
 use Rattle.function_leaf.specs.Optional.{answer_of}
 use Rattle.leaf_buffer.specs.declared.pool.TheConstants.{POOL_LIMIT}
@@ -11,12 +12,14 @@ use Rattle.rope_node.specs.declared.limits.TheConstants.{MOST_NODES, MOST_SOURCE
 use Rattle.rope_node.specs.declared.node.NodeId.{NodeId}
 use Rattle.rope_node.specs.declared.node.NodeView.{NodeView}
 use Rattle.rope_node.specs.declared.node.NodeView.TheVariants.{Lit, Src, Fun, Cat, Sub}
-use Rattle.rope_node.specs.Table.{Node, node_at, no_node, IsSoundNode, IsTrueNode, IsSound, HasTrueRecords}
+use Rattle.rope_node.specs.Table.{Node, Table, node_at, no_node, depth_of, IsSoundNode, IsTrueNode, IsSound, HasTrueRecords}
 use Rattle.rope_node.specs.Extends.{Extends}
 use Rattle.rope_node.proofs.Extensions.{sound_kept, true_kept}
 use Rattle.rope_node.proofs.Ropes.{extends_itself}
+use Rattle.node_table.specs.declared.entry.Entry.{Entry}
 use Rattle.node_table.specs.declared.record.Record.{Record}
 use Rattle.node_table.specs.declared.fault.NodeFault.{NodeFault}
+use Rattle.node_table.specs.Entries.{record_of, stored_function, CanStore, IsStorable}
 use Rattle.node_table.specs.Held.{Held, IsKept, IsGoodNode, IsKeptNode, CanHold, table_of, with_records, held_of, node_of, function_of}
 
 -- ---- the table of a store that was kept
@@ -144,5 +147,46 @@ held_put {F} h before old pool sources put reserved after view same is =
 
 -- ---- the record of a node
 
-pub node_of_record : {F : Type 0} (records : List (Record F)) (id : ℕ) (r : Record F) → id < length records → r ≡ get_or records id r → get_or (map node_of records) id no_node ≡ node_of r
-node_of_record records id r inside is = get_or-map node_of records id r no_node inside ∙ ap node_of (sym is)
+pub node_of_entry : {F : Type 0} (entries : List (Entry F)) (id : ℕ) (e : Entry F) → id < length entries → e ≡ get_or entries id e → get_or (map node_of (map record_of entries)) id no_node ≡ node_of (record_of e)
+node_of_entry {F} entries id e inside is =
+    let behind : id < length (map (record_of {F = F}) entries) = rw length-map inside in
+    get_or-map node_of (map record_of entries) id (record_of e) no_node behind
+    ∙ ap node_of (get_or-map record_of entries id e (record_of e) inside ∙ ap record_of (sym is))
+
+pub function_of_entry : {F : Type 0} (entries : List (Entry F)) (id : ℕ) (e : Entry F) → id < length entries → e ≡ get_or entries id e → get_or (map function_of (map record_of entries)) id None ≡ stored_function e.kind
+function_of_entry {F} entries id e inside is =
+    let behind : id < length (map (record_of {F = F}) entries) = rw length-map inside in
+    get_or-map function_of (map record_of entries) id (record_of e) None behind
+    ∙ ap function_of (get_or-map record_of entries id e (record_of e) inside ∙ ap record_of (sym is))
+
+-- ---- what can be held can be stored
+
+storable : {F : Type 0} (t : Table) (pool : Contents) (n : ℕ) (v : NodeView) (d : ℕ) (f : Option F) → d ≡ depth_of t v → IsKeptNode pool n v f → CanStore v d f
+storable t pool n (Lit a) d f is k = (is, k.0)
+storable t pool n (Src s a) d f is k = (is, k)
+storable t pool n Fun d None is k = absurd k
+storable t pool n Fun d (Some f) is k = is
+storable t pool n (Cat l r) d f is k = k
+storable t pool n (Sub b i) d f is k = k
+
+storable_record : {F : Type 0} (meaning : F → ℕ → ℕ) (h : Held F) (pool : Contents) (records : List (Record F)) → length h.functions ≡ length h.nodes → CanHold meaning h pool records → (d : Record F) (i : ℕ) → i < length records → IsStorable (get_or records i d)
+storable_record {F} meaning h pool records same can d i inside =
+    let id : ℕ = length h.nodes + i in
+    let r : Record F = get_or records i d in
+    let g : IsGoodNode meaning (with_records h pool records) id = can.nodes id (omega arith) (omega (arith, inside)) in
+    let at : id - length h.nodes ≡ i = omega arith in
+    let node : get_or (h.nodes ++ map node_of records) id no_node ≡ node_of r =
+    get_or-append_right h.nodes (map node_of records) (length h.nodes) id no_node refl (omega arith)
+    ∙ ap (λ (k : ℕ). get_or (map node_of records) k no_node) at
+    ∙ get_or-map node_of records i d no_node inside in
+    let function : get_or (h.functions ++ map function_of records) id None ≡ function_of r =
+    get_or-append_right h.functions (map function_of records) (length h.nodes) id None same (omega arith)
+    ∙ ap (λ (k : ℕ). get_or (map function_of records) k None) at
+    ∙ get_or-map function_of records i d None inside in
+    let kept : IsKeptNode pool r.len r.view r.function = rw (node, function) at g.kept in
+    let depth : r.depth ≡ depth_of (table_of meaning (with_records h pool records)) r.view = rw node at g.true_record.depth in
+    storable (table_of meaning (with_records h pool records)) pool r.len r.view r.depth r.function depth kept
+
+pub all_storable : {F : Type 0} (meaning : F → ℕ → ℕ) (h : Held F) (pool : Contents) (records : List (Record F)) → length h.functions ≡ length h.nodes → CanHold meaning h pool records → All (IsStorable {F = F}) records
+all_storable {F} meaning h pool [] same can = All-nil (IsStorable {F = F})
+all_storable {F} meaning h pool (r ∷ rs) same can = All-from_get_or (IsStorable {F = F}) (r ∷ rs) r (storable_record meaning h pool (r ∷ rs) same can r)

@@ -1,4 +1,6 @@
+pub mod Blocks
 pub mod Codes
+pub mod Entries
 pub mod Held
 pub mod NodeLists
 pub mod Puts

@@ -1,6 +1,9 @@
 //! A table of nodes that only grows: its records, their functions, the pool of its literals and its sources.
 #![tactic(auto)]
 
+mod block;
+mod blocks;
+mod entry;
 mod fault;
 mod new_nodes;
 mod node_table;

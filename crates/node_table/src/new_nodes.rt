@@ -1,8 +1,11 @@
 //! The nodes that one call makes.
 
-ghost use Rattle.std.specs.Prelude.{◌≡◌, ◌+◌, ◌≤◌, ◌++◌, ◌∷◌, [], length, vec_len, vec_capacity};
+ghost use Rattle.std.specs.Prelude.{◌≡◌, ◌+◌, ◌^◌, ◌<◌, ◌≤◌, ◌++◌, ◌∷◌, [], All, length, map};
+ghost use Rattle.node_table.specs.Entries.{record_of, IsStorable};
 ghost use Rattle.node_table.specs.NodeLists.{listed};
 
+use crate::blocks::Blocks;
+use crate::entry::Entry;
 use crate::record::Record;
 use function_leaf::LeafFn;
 
@@ -29,32 +32,35 @@ impl<F: LeafFn> NewNodes<F> {
     }
 }
 
-/// Lists this node behind the others, where there is room for it.
-fn put_one<F: LeafFn>(records: &mut Vec<Record<F>>, node: Record<F>)
-    requires { vec_len records.old + 1 ≤ vec_capacity records.old }
-    ensures items { records.new.items ≡ records.old.items ++ node ∷ [] }
-    ensures len { vec_len records.new ≡ vec_len records.old + 1 }
-    ensures room { vec_capacity records.old ≤ vec_capacity records.new }
+/// Stores this node behind the others, where there is room for it.
+fn put_one<F: LeafFn>(entries: &mut Blocks<Entry<F>>, node: Record<F>)
+    requires storable { IsStorable node }
+    requires room { 1 ≤ entries.old.room }
+    requires limit { length entries.old.items + 1 < 2 ^ 32 }
+    ensures items { map record_of entries.new.items ≡ map record_of entries.old.items ++ node ∷ [] }
+    ensures room { entries.old.room ≡ entries.new.room + 1 }
+    ensures len { length entries.new.items ≡ length entries.old.items + 1 }
 {
-    let done = records.push(node);
-    prove!(done.is_ok());
+    entries.push(Entry::of(node));
 }
 
-/// Lists these nodes behind the others, where there is room for them.
-pub(crate) fn put_behind<F: LeafFn>(records: &mut Vec<Record<F>>, nodes: NewNodes<F>)
-    requires { vec_len records.old + length (listed nodes) ≤ vec_capacity records.old }
-    ensures { records.new.items ≡ records.old.items ++ listed nodes }
+/// Stores these nodes behind the others, where there is room for them.
+pub(crate) fn put_behind<F: LeafFn>(entries: &mut Blocks<Entry<F>>, nodes: NewNodes<F>)
+    requires storable { All IsStorable (listed nodes) }
+    requires room { length (listed nodes) ≤ entries.old.room }
+    requires limit { length entries.old.items + length (listed nodes) < 2 ^ 32 }
+    ensures { map record_of entries.new.items ≡ map record_of entries.old.items ++ listed nodes }
 {
     match nodes {
-        NewNodes::One(a) => put_one(records, a),
+        NewNodes::One(a) => put_one(entries, a),
         NewNodes::Two(a, b) => {
-            put_one(records, a);
-            put_one(records, b);
+            put_one(entries, a);
+            put_one(entries, b);
         }
         NewNodes::Three(a, b, c) => {
-            put_one(records, a);
-            put_one(records, b);
-            put_one(records, c);
+            put_one(entries, a);
+            put_one(entries, b);
+            put_one(entries, c);
         }
     }
 }

@@ -1,14 +1,17 @@
 //! The table.
 
-ghost use Rattle.std.specs.Prelude.{◌≡◌, ◌↔◌, ◌+◌, ◌<◌, ◌≤◌, [], length, IsTrue, OnOk, OnErr, IfErr};
+ghost use Rattle.std.specs.Prelude.{◌≡◌, ◌↔◌, ◌+◌, ◌<◌, ◌≤◌, [], length, get_or, None, IsTrue, OnOk, OnErr, IfErr};
 ghost use Rattle.leaf_buffer.specs.Contents.{appended, extended, CanExtend, KeepsPieces, Takes};
-ghost use Rattle.node_table.specs.Held.{Held, held_of, CanHold};
+ghost use Rattle.rope_node.specs.Table.{no_node};
+ghost use Rattle.node_table.specs.Entries.{record_of, stored_function};
+ghost use Rattle.node_table.specs.Held.{Held, held_of, node_of, CanHold, IsKept};
 ghost use Rattle.node_table.specs.NodeLists.{listed};
 ghost use Rattle.node_table.specs.Puts.{AddsSource, Puts, PutsGrown};
 
+use crate::blocks::Blocks;
+use crate::entry::Entry;
 use crate::fault::NodeFault;
 use crate::new_nodes::{NewNodes, put_behind};
-use crate::record::Record;
 use function_leaf::LeafFn;
 use leaf_buffer::{BLOCK_SIZE, POOL_LIMIT, Piece, Pool};
 use rope_node::{MOST_NODES, MOST_SOURCES, NodeId, Rope, TEXT_LIMIT};
@@ -18,19 +21,21 @@ use std::marker::Model;
 /// A sound table of nodes with true records. Nodes are put behind the others and never change.
 #[derive(Drop)]
 pub struct NodeTable<F: LeafFn> {
-    pub(crate) records: Vec<Record<F>>,
+    pub(crate) entries: Blocks<Entry<F>>,
     pub(crate) pool: Pool,
     pub(crate) sources: Vec<u64>,
 }
 
 impl<F: LeafFn> Model for NodeTable<F> {
+    ghost use Rattle.std.specs.Prelude.{map};
+    ghost use Rattle.node_table.specs.Entries.{record_of};
     ghost use Rattle.node_table.specs.Held.{Held, held_of, IsKept};
 
     ghost Value = { Held F };
 
-    ghost view = { λ a. held_of a.records.items a.pool a.sources.items };
+    ghost view = { λ a. held_of (map record_of a.entries.items) a.pool a.sources.items };
 
-    ghost invariant = { λ a. IsKept F.meaning (held_of a.records.items a.pool a.sources.items) };
+    ghost invariant = { λ a. IsKept F.meaning (held_of (map record_of a.entries.items) a.pool a.sources.items) };
 }
 
 /// Puts these bytes at the pool's end, in one block.
@@ -54,7 +59,7 @@ impl<F: LeafFn> NodeTable<F> {
         ensures { result ≡ held_of [] (record { bytes = []; borders = []; room = 0 }) [] }
     {
         NodeTable {
-            records: Vec::new(alloc),
+            entries: Blocks::new(alloc),
             pool: Pool::new(alloc),
             sources: Vec::new(alloc),
         }
@@ -88,11 +93,21 @@ impl<F: LeafFn> NodeTable<F> {
         self.pool.can_extend(piece, count)
     }
 
+    // What is stored of a node of the table.
+    pub(crate) fn entry(&self, id: NodeId) -> &Entry<F>
+        requires { id.0 < length self.now.nodes }
+        ensures node { get_or self.now.nodes id.0 no_node ≡ node_of (record_of result.now) }
+        ensures function { get_or self.now.functions id.0 None ≡ stored_function result.now.kind }
+        ensures held { IsKept F.meaning self.now }
+    {
+        self.entries.at(id.0 as usize)
+    }
+
     // Whether the table takes `count` nodes more.
     fn has_room(&self, count: u32) -> bool
         ensures { IsTrue result ↔ (length self.now.nodes + count ≤ MOST_NODES) }
     {
-        count <= MOST_NODES - self.records.len() as u32
+        count <= MOST_NODES - self.entries.len()
     }
 
     // Whether the pool takes `count` bytes more.
@@ -113,7 +128,7 @@ impl<F: LeafFn> NodeTable<F> {
         requires nodes { CanHold F.meaning self.old (appended self.old.pool bytes.now) (listed nodes) }
         ensures { Puts F.meaning self.old bytes.now (listed nodes) result self.new }
     {
-        let first = self.records.len() as u32;
+        let first = self.entries.len();
         let count = nodes.count();
         if !self.has_room(count) {
             return Err(NodeFault::TableFull);
@@ -121,9 +136,9 @@ impl<F: LeafFn> NodeTable<F> {
         if !self.has_pool_room(bytes.len()) {
             return Err(NodeFault::PoolFull);
         }
-        self.records.reserve(count as usize)?;
+        self.entries.reserve(count as usize)?;
         append(&mut self.pool, bytes)?;
-        put_behind(&mut self.records, nodes);
+        put_behind(&mut self.entries, nodes);
         Ok(Some(NodeId(first + (count - 1))))
     }
 
@@ -138,14 +153,14 @@ impl<F: LeafFn> NodeTable<F> {
         requires nodes { CanHold F.meaning self.old (extended self.old.pool bytes.now) (listed nodes) }
         ensures { PutsGrown F.meaning self.old bytes.now (listed nodes) result self.new }
     {
-        let first = self.records.len() as u32;
+        let first = self.entries.len();
         let count = nodes.count();
         if !self.has_room(count) {
             return Err(NodeFault::TableFull);
         }
-        self.records.reserve(count as usize)?;
+        self.entries.reserve(count as usize)?;
         self.pool.extend(bytes);
-        put_behind(&mut self.records, nodes);
+        put_behind(&mut self.entries, nodes);
         Ok(Some(NodeId(first + (count - 1))))
     }
 }

@@ -1,4 +1,4 @@
-//! One node as a table keeps it.
+//! One node as it is put into a table.
 
 ghost use Rattle.std.specs.Prelude.{◌≡◌};
 ghost use Rattle.node_table.specs.Records.{literal_record, source_record, function_record, concatenation_record, part_record};

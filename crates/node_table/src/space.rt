@@ -1,5 +1,6 @@
 //! The table as a space of nodes.
 
+use crate::entry::EntryKind;
 use crate::node_table::NodeTable;
 use function_leaf::{Coded, LeafFn};
 use leaf_buffer::Piece;
@@ -11,28 +12,28 @@ impl<F: LeafFn> NodeSpace for NodeTable<F> {
     ghost table = { λ h. table_of F.meaning h };
 
     fn count(&self) -> u32 {
-        self.records.len() as u32
+        self.entries.len()
     }
 
     fn node(&self, id: NodeId) -> NodeView {
-        self.records[id.0 as usize].view
+        self.entry(id).view()
     }
 
     fn len(&self, id: NodeId) -> u64 {
-        self.records[id.0 as usize].len
+        self.entry(id).len
     }
 
     fn depth(&self, id: NodeId) -> u8 {
-        self.records[id.0 as usize].depth
+        self.entry(id).depth()
     }
 
     fn literal(&self, id: NodeId, off: u64) -> &[u8] {
-        let record = &self.records[id.0 as usize];
-        match record.view {
-            NodeView::Lit { a } => {
+        let entry = self.entry(id);
+        match entry.kind {
+            EntryKind::Literal { a } => {
                 let piece = Piece {
                     start: a as u32,
-                    len: record.len as u32,
+                    len: entry.len as u32,
                 };
                 match self.pool.get(piece) {
                     Some(bytes) => &bytes[off as usize..],
@@ -44,9 +45,9 @@ impl<F: LeafFn> NodeSpace for NodeTable<F> {
     }
 
     fn fun_byte(&self, id: NodeId, i: u64) -> u8 {
-        match self.records[id.0 as usize].function {
-            Some(function) => function.byte(i),
-            None => unreachable!(),
+        match self.entry(id).kind {
+            EntryKind::Function(function) => function.byte(i),
+            _ => unreachable!(),
         }
     }
 
@@ -77,9 +78,9 @@ impl CodedSpace for NodeTable<Coded> {
     ghost answered = { λ h id. answers_as_filled (get_or h.functions id None) };
 
     fn coded(&self, id: NodeId) -> Coded {
-        match self.records[id.0 as usize].function {
-            Some(function) => function,
-            None => unreachable!(),
+        match self.entry(id).kind {
+            EntryKind::Function(function) => function,
+            _ => unreachable!(),
         }
     }
 }

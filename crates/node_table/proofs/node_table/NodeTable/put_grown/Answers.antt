@@ -1,12 +1,13 @@
-use Rattle.std.proofs.Common.{◌≡◌, ◌+◌, ◌-◌, ◌<◌, ◌≤◌, length, Some, sym, ap, subst, ◌∙◌, arith}
+use Rattle.std.proofs.Common.{◌≡◌, ◌+◌, ◌<◌, ◌≤◌, length, map, sym, ap, subst, ◌∙◌, arith}
 use Rattle.std.proofs.lemmas.List.{length-map, length-append}
 use Rattle.leaf_buffer.specs.declared.pool.TheConstants.{POOL_LIMIT}
 use Rattle.leaf_buffer.specs.Contents.{Contents, extended}
 use Rattle.leaf_buffer.proofs.PoolGrowth.{PoolGrows, grows_extended}
 use Rattle.rope_node.specs.declared.limits.TheConstants.{MOST_NODES}
+use Rattle.node_table.specs.Entries.{record_of}
 use Rattle.node_table.specs.Held.{Held, CanHold, node_of}
 use Rattle.node_table.specs.NodeLists.{listed}
-use Rattle.node_table.proofs.Growing.{kept_put, held_put, last_put}
+use Rattle.node_table.proofs.Growing.{all_storable, kept_put, held_put, last_put}
 use Rattle.node_table.proofs.node_table.NodeTable.put_grown.Goals as goal
 
 pub invariant_of-self-2 : goal.invariant_of-self-2
@@ -16,27 +17,34 @@ invariant_of-self-2 g c =
     let bytes = c.args.bytes.now in
     let pool = c.extend.new.self in
     let new = listed c.args.nodes in
-    let nodes : length h.nodes ≡ length c.self.inside.records.items = sym (ap (λ (k : Held _). length k.nodes) c.self.view_is) ∙ length-map c.self.inside.records.items node_of in
-    let few : length c.self.inside.records.items + length new ≤ MOST_NODES = omega (arith, nodes, c.count-count.ensures.exact, c.has_room.ensures.0 c.if-not-has_room.false) in
+    let before = map record_of c.self.inside.entries.items in
+    let entries : length before ≡ length c.self.inside.entries.items = length-map c.self.inside.entries.items record_of in
+    let nodes : length h.nodes ≡ length before = sym (ap (λ (k : Held _). length k.nodes) c.self.view_is) ∙ length-map before node_of in
+    let few : length before + length new ≤ MOST_NODES = omega (arith, nodes, c.count-count.ensures.exact, c.has_room.ensures.0 c.if-not-has_room.false) in
     let grown : pool ≡ extended old bytes = c.extend.ensures.new in
     let len : length pool.bytes ≡ length old.bytes + length bytes = rw grown (length-append old.bytes bytes) in
     let grows : PoolGrows old pool = rw grown (grows_extended old bytes c.self.invariant.borders) in
     let short : length pool.bytes < POOL_LIMIT = omega (arith, len, sym (ap (λ (k : Held _). length k.pool.bytes) c.self.view_is), c.requires.takes.limit) in
     let can = subst (λ (p : Contents). CanHold g.F.LeafFn.meaning h p new) (ap (λ (p : Contents). extended p bytes) (sym (ap (λ (k : Held _). k.pool) c.self.view_is)) ∙ sym grown) c.requires.nodes in
-    kept_put g.F.LeafFn.meaning h c.self.inside.records.items old pool c.self.inside.sources.items new c.reserve.new.self.items c.put_behind.new.records.items c.self.view_is c.self.invariant can grows short few c.reserve.ensures.items c.put_behind.ensures
+    kept_put g.F.LeafFn.meaning h before old pool c.self.inside.sources.items new (map record_of c.reserve.new.self.items) (map record_of c.put_behind.new.entries.items) c.self.view_is c.self.invariant can grows short few (ap (λ xs. map record_of xs) c.reserve.ensures.items) c.put_behind.ensures
 
 pub returns : goal.returns
 returns g c =
     let h = c.args.self.now in
     let new = listed c.args.nodes in
-    let nodes : length h.nodes ≡ length c.self.inside.records.items = sym (ap (λ (k : Held _). length k.nodes) c.self.view_is) ∙ length-map c.self.inside.records.items node_of in
+    let before = map record_of c.self.inside.entries.items in
+    let entries : length before ≡ length c.self.inside.entries.items = length-map c.self.inside.entries.items record_of in
+    let nodes : length h.nodes ≡ length before = sym (ap (λ (k : Held _). length k.nodes) c.self.view_is) ∙ length-map before node_of in
     let pool : c.extend.new.self ≡ extended h.pool c.args.bytes.now = c.extend.ensures.new ∙ ap (λ (k : Held _). extended k.pool c.args.bytes.now) c.self.view_is in
     let few : length h.nodes + length new ≤ MOST_NODES = omega (arith, c.count-count.ensures.exact, c.has_room.ensures.0 c.if-not-has_room.false) in
     record {
-      ok = rw (← pool) (held_put h c.self.inside.records.items c.self.inside.pool c.extend.new.self c.self.inside.sources.items new c.reserve.new.self.items c.put_behind.new.records.items c.self.view_is c.reserve.ensures.items c.put_behind.ensures);
-      rope = last_put h new _ (omega (arith, nodes, c.len-first.ensures, c.count-count.ensures.exact));
+      ok = rw (← pool) (held_put h before c.self.inside.pool c.extend.new.self c.self.inside.sources.items new (map record_of c.reserve.new.self.items) (map record_of c.put_behind.new.entries.items) c.self.view_is (ap (λ xs. map record_of xs) c.reserve.ensures.items) c.put_behind.ensures);
+      rope = last_put h new _ (omega (arith, entries, nodes, c.len-first.ensures, c.count-count.ensures.exact));
       held = invariant_of-self-2 g c;
       table_full = (λ e. absurd cc, λ full. absurd (omega (arith, full, few)));
       faults = tt;
       err = tt;
     }
+
+pub put_behind-requires-clause-storable : goal.put_behind-requires-clause-storable
+put_behind-requires-clause-storable g c = all_storable g.F.LeafFn.meaning c.args.self.now (extended c.args.self.now.pool c.args.bytes.now) (listed c.args.nodes) (subst (λ (h : Held _). length h.functions ≡ length h.nodes) c.self.view_is c.self.invariant.functions) c.requires.nodes

@@ -1,0 +1,85 @@
+//! One node as a table stores it.
+
+ghost use Rattle.std.specs.Prelude.{◌≡◌};
+ghost use Rattle.node_table.specs.Entries.{record_of, stored_view, stored_depth, stored_function, CanStore, IsStorable};
+
+use crate::record::Record;
+use function_leaf::{Coded, LeafFn};
+use rope_node::{NodeId, NodeView};
+
+/// What a node is, with the function of one that is a function, and with the depth of one that is no leaf.
+#[derive(Clone, Copy)]
+pub(crate) enum EntryKind<F: LeafFn> {
+    Literal { a: u64 },
+    Source { s: u32, a: u64 },
+    Function(F),
+    Concatenation { l: NodeId, depth: u8, r: NodeId },
+    Part { b: NodeId, depth: u8, i: u64 },
+}
+
+/// A node's record in less space.
+#[derive(Clone, Copy)]
+pub(crate) struct Entry<F: LeafFn> {
+    pub(crate) kind: EntryKind<F>,
+    /// The length in bytes.
+    pub(crate) len: u64,
+}
+
+// A table of coded functions takes 32 bytes for a node.
+const _: () = prove!(size_of::<Entry<Coded>>() <= 32);
+
+/// What is stored of a node of this view and depth.
+fn kind_of<F: LeafFn>(view: NodeView, depth: u8, function: Option<F>) -> EntryKind<F>
+    requires { CanStore view depth function }
+    ensures view { stored_view result ≡ view }
+    ensures depth { stored_depth result ≡ depth }
+    ensures function { stored_function result ≡ function }
+{
+    match view {
+        NodeView::Lit { a } => EntryKind::Literal { a },
+        NodeView::Src { s, a } => EntryKind::Source { s, a },
+        NodeView::Fun => match function {
+            Some(function) => EntryKind::Function(function),
+            None => unreachable!(),
+        },
+        NodeView::Cat { l, r } => EntryKind::Concatenation { l, depth, r },
+        NodeView::Sub { b, i } => EntryKind::Part { b, depth, i },
+    }
+}
+
+impl<F: LeafFn> Entry<F> {
+    /// What is stored of this node.
+    pub(crate) fn of(node: Record<F>) -> Entry<F>
+        requires { IsStorable node }
+        ensures { record_of result ≡ node }
+    {
+        Entry {
+            kind: kind_of(node.view, node.depth, node.function),
+            len: node.len,
+        }
+    }
+
+    /// What the node is.
+    pub(crate) fn view(&self) -> NodeView
+        ensures { result ≡ (record_of self.now).view }
+    {
+        match self.kind {
+            EntryKind::Literal { a } => NodeView::Lit { a },
+            EntryKind::Source { s, a } => NodeView::Src { s, a },
+            EntryKind::Function(_) => NodeView::Fun,
+            EntryKind::Concatenation { l, r, .. } => NodeView::Cat { l, r },
+            EntryKind::Part { b, i, .. } => NodeView::Sub { b, i },
+        }
+    }
+
+    /// The node's depth, which is 0 for a leaf.
+    pub(crate) fn depth(&self) -> u8
+        ensures { result ≡ (record_of self.now).depth }
+    {
+        match self.kind {
+            EntryKind::Concatenation { depth, .. } => depth,
+            EntryKind::Part { depth, .. } => depth,
+            _ => 0,
+        }
+    }
+}
