@@ -110,17 +110,17 @@ wanted() {
     printf '%s\n%s\n' "$status" "cursor $cursor"
 }
 
-# Waits, ten seconds at most, until the screen is the wanted one: a case of this name.
-screen() {
+# Waits, ten seconds at most, until what a command prints is the file `wanted`: a case of this name.
+awaits() {
     name=$1
-    shift
-    wanted "$@" > wanted
+    what=$2
+    shift 2
     tries=0
-    while shown > shown 2>&1; ! cmp -s shown wanted; do
+    while "$@" > printed 2> /dev/null; ! cmp -s printed wanted; do
         tries=$((tries + 1))
         if [ "$tries" -ge 100 ]; then
-            fails "$name, where the screen is:"
-            cat shown
+            fails "$name, where $what:"
+            cat printed
             return
         fi
         sleep 0.1
@@ -128,22 +128,23 @@ screen() {
     passes
 }
 
-# The same, until the first rows are these: what the session writes once the editor is gone.
+screen() {
+    name=$1
+    shift
+    wanted "$@" > wanted
+    awaits "$name" 'the screen is' shown
+}
+
+first_rows() {
+    in_tmux capture-pane -p | head -n "$1"
+}
+
+# What the session writes once the editor is gone.
 ended() {
     name=$1
     shift
     printf '%s\n' "$@" > wanted
-    tries=0
-    while in_tmux capture-pane -p 2> /dev/null | head -n $# > shown; ! cmp -s shown wanted; do
-        tries=$((tries + 1))
-        if [ "$tries" -ge 100 ]; then
-            fails "$name, where the screen begins:"
-            cat shown
-            return
-        fi
-        sleep 0.1
-    done
-    passes
+    awaits "$name" 'the screen begins' first_rows $#
 }
 
 text_of() {
