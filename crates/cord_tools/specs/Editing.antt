@@ -10,7 +10,7 @@ use Rattle.screen_editor.specs.declared.fault.End.{End}
 use Rattle.screen_editor.specs.declared.fault.End.TheVariants.{Save, Leave}
 use Rattle.screen_editor.specs.declared.fault.RunFault.{RunFault}
 use Rattle.screen_editor.specs.Editing.{Editing}
-use Rattle.screen_editor.specs.Refusals.{IsNewFault}
+use Rattle.screen_editor.specs.Refusals.{IsNewFault, IsTooLong}
 use Rattle.screen_editor.specs.Revising.{IsMade}
 use Rattle.screen_editor.specs.Runs.{IsRun}
 use Rattle.session_image.specs.Written.{IsTrusted, Writes, image_of}
@@ -39,10 +39,10 @@ Concludes (Ok Save) last before now result = SavesImage last before now result
 Concludes (Ok Leave) last before now result = (result ≡ Ok Success) × Keeps before now
 Concludes (Err fault) last before now result = (result ≡ Err (run_fault fault)) × Keeps before now
 
--- Over sources that state this there is no editor, or one whose run takes these keys and shows its states; behind the key Save the image
+-- Over sources that state this there is no editor, or the first one is not too long, and there is one whose run takes these keys and shows its states; behind the key Save the image
 -- of its last state is written.
 pub data EditsFile (st : Stated) (keys_before keys_left shown_before shown_now before now : Option (List ℕ)) (result : Result Status ToolFault) : Type 0 where
   not_made : (fault : EditorFault) → IsNewFault st fault → result ≡ Err (editor_fault fault)
       → Keeps keys_before keys_left → Keeps shown_before shown_now → Keeps before now → EditsFile st keys_before keys_left shown_before shown_now before now result
-  ran : (first last : Editing) (end : Result End RunFault) → IsMade st.sizes first → IsRun st keys_before keys_left shown_before shown_now first last end
+  ran : (first last : Editing) (end : Result End RunFault) → ¬ IsTooLong st → IsMade st.sizes first → IsRun st keys_before keys_left shown_before shown_now first last end
       → Concludes end last before now result → EditsFile st keys_before keys_left shown_before shown_now before now result
