@@ -3,7 +3,9 @@
 use function_leaf::Coded;
 use leaf_buffer::Piece;
 use node_table::{NodeFault, NodeTable};
-use rope_node::NodeSpace;
+use rope_node::{NodeId, NodeSpace, NodeView};
+use rope_store::Store;
+use std::process::Abort;
 use std::test::Fail;
 
 #[test]
@@ -30,6 +32,33 @@ fn there_are_at_most_255_sources(rt: HostRuntime) {
     }
     assert_eq!(&rt; table.add_source(1), Err(NodeFault::TooManySources));
     assert_eq!(&rt; table.source_count(), 255);
+}
+
+fn put_leaf(rt: &impl Abort, store: &mut Store<Coded>, s: u8, a: u64, n: u64) {
+    store
+        .from_source(u32::from(s), a, n)
+        .expect(rt, "a leaf of a source");
+}
+
+// Three blocks of nodes: each node stays as it was put when there are more.
+#[test]
+fn nine_thousand_nodes_are_each_what_was_put(rt: HostRuntime) {
+    let mut store = Store::<Coded>::new(rt.alloc());
+    let s = store.add_source(20_000).expect(&rt, "a source");
+    for n in 1..9_001 {
+        put_leaf(&rt, &mut store, s, n, n);
+    }
+    assert_eq!(&rt; store.count(), 9_000);
+    for k in 0..store.count() {
+        let n = u64::from(k) + 1;
+        let leaf = NodeView::Src {
+            s: u32::from(s),
+            a: n,
+        };
+        assert_eq!(&rt; store.node(NodeId(k)), leaf);
+        assert_eq!(&rt; NodeSpace::len(&store, NodeId(k)), n);
+        assert_eq!(&rt; NodeSpace::depth(&store, NodeId(k)), 0);
+    }
 }
 
 #[test]
