@@ -126,7 +126,8 @@ fn time_leaves(rt: &HostRuntime, leaves: u32) -> Result<()> {
 
 fn time_balance(rt: &HostRuntime) -> Result<()> {
     let mut store = Store::new(rt.alloc());
-    let byte = store.from_bytes(b"x")?;
+    let source = store.add_source(1)?;
+    let byte = store.from_source(u32::from(source), 0, 1)?;
     let text = doubled(&mut store, byte, 20)?;
     let start = Instant::now(rt)?;
     balance(&mut store, text)?;

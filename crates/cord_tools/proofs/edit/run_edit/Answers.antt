@@ -13,7 +13,7 @@ returns-in_err-editor g c =
 pub returns : goal.returns
 returns g c =
     let st = g.S.Sources.stated in
-    EditsFile.ran c.in_ok-editor.editor.editing c.run-end.new.self.editing c.run-end.result c.in_ok-editor.ensures.too_long.1 c.in_ok-editor.ensures.made
+    EditsFile.ran c.in_ok-editor.editor.editing c.run-end.new.self.editing c.run-end.result (λ long. (let refused = c.in_ok-editor.ensures.too_long.1 long in absurd cc)) c.in_ok-editor.ensures.made
     (subst (λ sources. IsRun (st sources) (g.K.Read.remaining c.args.keys.now) (g.K.Read.remaining c.run-end.new.keys) (g.W.Write.contents c.args.screen.now) (g.W.Write.contents c.run-end.new.screen) c.in_ok-editor.editor.editing c.run-end.new.self.editing c.run-end.result)
     c.in_ok-editor.ensures.sources c.run-end.ensures.run)
     c.conclude.ensures
