@@ -1,91 +1,117 @@
--- Slots that are filled with the pieces of a node's bytes.
-use Rattle.std.proofs.Common.{◌≡◌, ℕ, ◌+◌, ◌-◌, ◌*◌, ◌^◌, ◌<◌, ◌≤◌, Bool, List, [], ◌++◌, length, take, drop, Option, None, refl, sym, ap, ◌∙◌, arith, zero, suc, get_or, replicate, zero-add}
-use Rattle.std.proofs.lemmas.List.{append-nil, length-take, length-drop, drop-drop}
-use Rattle.std.proofs.Math.Seq.{take-add, take-length}
+-- Slots that are filled with the pieces of spans.
+use Rattle.std.proofs.Common.{◌≡◌, ℕ, ◌+◌, ◌*◌, ◌^◌, ◌<◌, ◌≤◌, Bool, List, [], ◌++◌, length, take, drop, Option, None, Result, Ok, Err, refl, sym, ap, ◌∙◌, arith, zero, suc, get_or, replicate, length-append}
+use Rattle.std.proofs.lemmas.List.{append_assoc, length-take, length-drop}
+use Rattle.std.proofs.Math.Seq.{take-length}
+use Rattle.std.specs.Prelude.{IfOk}
+use Rattle.rope_store.specs.declared.endings.TheConstants.{MOST_MERGED}
+use Rattle.rope_node.specs.declared.limits.TheConstants.{TEXT_LIMIT}
 use Rattle.rope_node.specs.declared.node.NodeId.{NodeId}
 use Rattle.rope_node.specs.Table.{Table, len_at, IsSound, HasTrueRecords}
-use Rattle.rope_node.specs.Denotes.{cells, rope_cells}
+use Rattle.rope_node.specs.Denotes.{Cell, cells, rope_cells}
 use Rattle.rope_node.proofs.Cells.{cells_length}
-use Rattle.rope_node.proofs.Extensions.{cells_kept}
+use Rattle.node_table.specs.declared.fault.NodeFault.{NodeFault}
 use Rattle.node_table.specs.Held.{Held, table_of}
 use Rattle.rebalance.specs.declared.pieces.Span.{Span}
-use Rattle.rebalance.specs.Pieces.{pieces, IsFirst}
-use Rattle.rebalance.specs.Slots.{full_slots, slots_cells, slot_count, AreSlots, IsSpread}
-use Rattle.rebalance.specs.Steps.{Grows}
-use Rattle.rebalance.proofs.PieceCounts.{pieces_kept}
+use Rattle.rebalance.specs.Balancing.{text_with, Fills, FillsSpan}
+use Rattle.rebalance.specs.Pieces.{span_cells, span_pieces, IsOfBase, IsOfChildren}
+use Rattle.rebalance.specs.Slots.{full_slots, slots_cells, slot_count, AreSlots, Inserts, IsSpread}
+use Rattle.rebalance.specs.Steps.{AddsNodes, Grows, Steps}
+use Rattle.rebalance.proofs.Gathered.{spread_text}
 use Rattle.rebalance.proofs.SlotLists.{cells_stay}
-use Rattle.rebalance.proofs.StepLaws.{grows_itself, grows_through}
+use Rattle.rebalance.proofs.Splits.{span_cells_kept, span_pieces_kept}
+use Rattle.rebalance.proofs.StepLaws.{grows_itself, ok_map, refused_through, steps_after}
 
--- so many of the len bytes of a node from start on are in the slots
-pub record IsFilled {F : Type 0} (meaning : F → ℕ → ℕ) (old : Held F) (keep : Bool) (node start len done : ℕ) (slots : List (Option NodeId)) (new : Held F) : Type 0 where
-  pub sound : IsSound (table_of meaning old)
-  pub there : node < length old.nodes
-  pub inside : done ≤ len
-  pub put : ℕ
-  pub count : put + pieces keep (table_of meaning old) node (start + done) (len - done) ≡ pieces keep (table_of meaning old) node start len
-  pub spread : IsSpread (table_of meaning new) (length old.nodes + 2 * put) (take done (drop start (cells (table_of meaning old) node))) 0 slots None
-  pub grows : Grows meaning old (length old.nodes + 2 * put) (length old.pool.bytes + 31 * put) new
+-- the slots are the same text in other words
+spread_is : {t : Table} {most most' : ℕ} {text text' : List Cell} {m : ℕ} {slots : List (Option NodeId)} → IsSpread t most text m slots None → text ≡ text' → most ≤ most' → IsSpread t most' text' m slots None
+spread_is spread same more = record {
+  are = spread.are;
+  empty = spread.empty;
+  is_rope = tt;
+  whole = spread.whole ∙ same;
+  nodes = omega (arith, spread.nodes, more);
+}
 
-pub first_count : (keep : Bool) (t : Table) (node start n : ℕ) → 0 + pieces keep t node (start + 0) (n - 0) ≡ pieces keep t node start n
-first_count keep t node start n =
-    let at : start + 0 ≡ start = omega arith in
-    let all : n - 0 ≡ n = omega arith in
-    rw (at, all) (zero-add _)
-
-pub filled_first : {F : Type 0} (meaning : F → ℕ → ℕ) (h : Held F) (keep : Bool) → IsSound (table_of meaning h) → (node start len : ℕ) → node < length h.nodes → (slots : List (Option NodeId)) → AreSlots (table_of meaning h) slots → slots_cells (table_of meaning h) slots ≡ [] → full_slots slots ≡ 0
-    → IsFilled meaning h keep node start len 0 slots h
-filled_first meaning h keep s node start len there slots are empty none =
+-- no bytes
+pub fills_nothing : {F A : Type 0} (meaning : F → ℕ → ℕ) (h : Held F) (keep : Bool) (slots : List (Option NodeId)) (p : Span) (a : A) → p.len ≡ 0 → AreSlots (table_of meaning h) slots → FillsSpan meaning h keep slots p (Ok a) slots h
+fills_nothing meaning h keep slots p a none are =
     let t = table_of meaning h in
+    let text : span_cells t p ≡ [] = rw none refl in
     record {
-      sound = s;
-      there = there;
-      inside = omega arith;
-      put = 0;
-      count = first_count keep t node start len;
+      steps = record { grows = grows_itself meaning h _ _ (omega arith) (omega arith); fault = tt };
       spread = record {
         are = are;
         empty = λ i lt. absurd (omega (arith, lt));
         is_rope = tt;
-        whole = rw empty refl;
-        nodes = omega (arith, none);
+        whole = ap (λ cs. slots_cells t slots ++ cs) (sym text);
+        nodes = omega arith;
       };
-      grows = grows_itself meaning h _ _ (omega arith) (omega arith);
     }
 
--- the text with one piece more
-pub filled_text : {F : Type 0} (meaning : F → ℕ → ℕ) (old now next : Held F) (keep : Bool) (node start len done : ℕ) (slots : List (Option NodeId)) (rope : Option NodeId) (x : Span) → IsFilled meaning old keep node start len done slots now → IsSound (table_of meaning now)
-    → IsFirst keep (table_of meaning now) node (start + done) (len - done) x → Grows meaning now (length now.nodes + 1) (length now.pool.bytes + 31) next → rope_cells (table_of meaning next) rope ≡ take x.len (drop x.start (cells (table_of meaning now) x.node.0))
-    → slots_cells (table_of meaning next) slots ++ rope_cells (table_of meaning next) rope ≡ take (done + x.len) (drop start (cells (table_of meaning old) node))
-filled_text meaning old now next keep node start len done slots rope x filled s found first text =
-    let t0 = table_of meaning old in
-    let t = table_of meaning now in
-    let t1 = table_of meaning next in
-    let all = cells t0 node in
-    let same : cells t node ≡ all = cells_kept t0 t filled.sound filled.grows.kept node filled.there in
-    let before : slots_cells t1 slots ≡ take done (drop start all) =
-    cells_stay t t1 s first.kept slots filled.spread.are ∙ sym (append-nil (slots_cells t slots)) ∙ filled.spread.whole in
-    let place : take x.len (drop done (drop start all)) ≡ take x.len (drop (start + done) all) = ap (take x.len) (drop-drop done start all) ∙ ap (λ (j : ℕ). take x.len (drop j all)) (omega arith) in
-    let here : rope_cells t1 rope ≡ take x.len (drop done (drop start all)) = text ∙ sym found.cells ∙ ap (λ cs. take x.len (drop (start + done) cs)) same ∙ sym place in
-    rw (before, here) (sym (take-add done x.len (drop start all)))
+-- what is refused at first
+pub fills_refused : {F A B : Type 0} (meaning : F → ℕ → ℕ) (old new : Held F) (slots after : List (Option NodeId)) (p n b : ℕ) (text : List Cell) (e : NodeFault) → Steps {A = A} meaning old n b (Err e) new → n ≤ length old.nodes + (full_slots slots + 2 * p) → b ≤ length old.pool.bytes + MOST_MERGED * p → Fills {A = B} meaning old slots p text (Err e) after new
+fills_refused meaning old new slots after p n b text e steps nodes bytes = record {
+  steps = refused_through e (grows_itself meaning old (length old.nodes) (length old.pool.bytes) (omega arith) (omega arith)) steps nodes bytes;
+  spread = tt;
+}
 
--- the count with one piece more
-filled_on : {F : Type 0} (meaning : F → ℕ → ℕ) (old now : Held F) (keep : Bool) (node start len done : ℕ) (slots : List (Option NodeId)) (x : Span) → IsFilled meaning old keep node start len done slots now → IsFirst keep (table_of meaning now) node (start + done) (len - done) x
-    → pieces keep (table_of meaning old) node (start + done) (len - done) ≡ 1 + pieces keep (table_of meaning old) node (start + (done + x.len)) (len - (done + x.len))
-filled_on meaning old now keep node start len done slots x filled found =
-    let t0 = table_of meaning old in
-    let t = table_of meaning now in
-    let at : (start + done) + x.len ≡ start + (done + x.len) = omega arith in
-    let rest : (len - done) - x.len ≡ len - (done + x.len) = omega arith in
-    let here = pieces_kept keep t0 t filled.sound filled.grows.kept node (start + done) (len - done) filled.there in
-    let behind = pieces_kept keep t0 t filled.sound filled.grows.kept node (start + (done + x.len)) (len - (done + x.len)) filled.there in
-    let count = rw (at, rest) at found.count in
-    omega (arith, here, behind, count)
+-- one piece
+pub piece_text : {F : Type 0} (meaning : F → ℕ → ℕ) (old mid : Held F) (slots : List (Option NodeId)) (rope : Option NodeId) (text : List Cell) (nodes bytes : ℕ) → IsSound (table_of meaning old) → AreSlots (table_of meaning old) slots → Grows meaning old nodes bytes mid → rope_cells (table_of meaning mid) rope ≡ text
+    → slots_cells (table_of meaning mid) slots ++ rope_cells (table_of meaning mid) rope ≡ slots_cells (table_of meaning old) slots ++ text
+piece_text meaning old mid slots rope text nodes bytes s are grows same = rw (same, cells_stay (table_of meaning old) (table_of meaning mid) s grows.kept slots are) refl
 
-pub filled_more : {F : Type 0} (meaning : F → ℕ → ℕ) (old now : Held F) (keep : Bool) (node start len done : ℕ) (slots : List (Option NodeId)) (x : Span) (filled : IsFilled meaning old keep node start len done slots now) → IsFirst keep (table_of meaning now) node (start + done) (len - done) x
-    → filled.put + 1 ≤ pieces keep (table_of meaning old) node start len
-filled_more meaning old now keep node start len done slots x filled found =
-    let on = filled_on meaning old now keep node start len done slots x filled found in
-    omega (arith, filled.count, on)
+pub fills_piece : {F A : Type 0} (meaning : F → ℕ → ℕ) (old mid new : Held F) (slots after : List (Option NodeId)) (rope : Option NodeId) (text : List Cell) (result : Result A NodeFault) → IsSound (table_of meaning old) → AreSlots (table_of meaning old) slots
+    → Grows meaning old (length old.nodes + 1) (length old.pool.bytes + MOST_MERGED) mid → rope_cells (table_of meaning mid) rope ≡ text → AddsNodes meaning mid (full_slots slots + 1) result new → IfOk result (λ _. Inserts meaning mid slots rope after new) → Fills meaning old slots 1 text result after new
+fills_piece meaning old mid new slots after rope text result s are first same steps spread =
+    let whole = piece_text meaning old mid slots rope text _ _ s are first same in
+    record {
+      steps = steps_after result first steps (omega (arith, first.few_nodes)) (omega (arith, first.few_bytes));
+      spread = ok_map result (λ a to. spread_is to whole (omega (arith, first.few_nodes))) spread;
+    }
+
+-- one span behind another
+pub fills_both : {F A B : Type 0} (meaning : F → ℕ → ℕ) (old mid new : Held F) (slots between after : List (Option NodeId)) (p q : ℕ) (xs ys : List Cell) (a : A) (result : Result B NodeFault) → Fills meaning old slots p xs (Ok a) between mid → Fills meaning mid between q ys result after new → Fills meaning old slots (p + q) (xs ++ ys) result after new
+fills_both meaning old mid new slots between after p q xs ys a result first second =
+    let grows = first.steps.grows in
+    let text : slots_cells (table_of meaning mid) between ++ ys ≡ slots_cells (table_of meaning old) slots ++ (xs ++ ys) =
+    ap (λ cs. cs ++ ys) (spread_text (table_of meaning mid) _ _ 0 between first.spread) ∙ append_assoc (slots_cells (table_of meaning old) slots) xs ys in
+    record {
+      steps = steps_after result grows second.steps (omega (arith, first.spread.nodes)) (omega (arith, grows.few_bytes));
+      spread = ok_map result (λ b to. spread_is to text (omega (arith, first.spread.nodes))) second.spread;
+    }
+
+-- ---- a span one step down
+
+pub fills_base : {F A : Type 0} (meaning : F → ℕ → ℕ) (old new : Held F) (keep : Bool) (slots after : List (Option NodeId)) (p base : Span) (result : Result A NodeFault) → IsOfBase keep (table_of meaning old) p base → FillsSpan meaning old keep slots base result after new → FillsSpan meaning old keep slots p result after new
+fills_base meaning old new keep slots after p base result of fills = rw (of.count, of.cells) fills
+
+pub fills_left : {F A B : Type 0} (meaning : F → ℕ → ℕ) (old mid : Held F) (keep : Bool) (slots between : List (Option NodeId)) (p left right : Span) (e : NodeFault) → IsOfChildren keep (table_of meaning old) p left right → FillsSpan {A = A} meaning old keep slots left (Err e) between mid → FillsSpan {A = B} meaning old keep slots p (Err e) between mid
+fills_left meaning old mid keep slots between p left right e of fills = fills_refused meaning old mid slots between _ _ _ _ e fills.steps (omega (arith, of.count)) (omega (arith, of.count))
+
+pub fills_children : {F A B : Type 0} (meaning : F → ℕ → ℕ) (old mid new : Held F) (keep : Bool) (slots between after : List (Option NodeId)) (p left right : Span) (a : A) (result : Result B NodeFault) → IsSound (table_of meaning old) → IsOfChildren keep (table_of meaning old) p left right
+    → FillsSpan meaning old keep slots left (Ok a) between mid → FillsSpan meaning mid keep between right result after new → FillsSpan meaning old keep slots p result after new
+fills_children meaning old mid new keep slots between after p left right a result s of first second =
+    let t = table_of meaning old in
+    let kept = first.steps.grows.kept in
+    let count = span_pieces_kept keep t (table_of meaning mid) s kept right of.right_below.span in
+    let cells = span_cells_kept t (table_of meaning mid) s kept right of.right_below.span in
+    let second' = rw (count, cells) at second in
+    rw (of.count, of.cells) (fills_both meaning old mid new slots between after (span_pieces keep t left) (span_pieces keep t right) (span_cells t left) (span_cells t right) a result first second')
+
+-- the left span leaves the text short, and then the right one makes it whole
+pub left_short : (keep : Bool) (t : Table) (slots : List (Option NodeId)) (p left right : Span) → IsOfChildren keep t p left right → length (text_with t slots p) < TEXT_LIMIT → length (text_with t slots left) < TEXT_LIMIT
+left_short keep t slots p left right of short =
+    let text = slots_cells t slots in
+    omega (arith, short, length-append text (span_cells t p), length-append text (span_cells t left), length-append (span_cells t left) (span_cells t right), ap length of.cells)
+
+pub right_text : {F A : Type 0} (meaning : F → ℕ → ℕ) (old mid : Held F) (keep : Bool) (slots between : List (Option NodeId)) (p left right : Span) (a : A) → IsSound (table_of meaning old) → IsOfChildren keep (table_of meaning old) p left right → FillsSpan meaning old keep slots left (Ok a) between mid
+    → text_with (table_of meaning mid) between right ≡ text_with (table_of meaning old) slots p
+right_text meaning old mid keep slots between p left right a s of first =
+    let t = table_of meaning old in
+    let t1 = table_of meaning mid in
+    let cells = span_cells_kept t t1 s first.steps.grows.kept right of.right_below.span in
+    rw (of.cells, cells, spread_text t1 _ _ 0 between first.spread) (append_assoc (slots_cells t slots) (span_cells t left) (span_cells t right))
+
+-- ---- all of a text
 
 -- a part of a node's text is short
 pub part_short : (t : Table) → IsSound t → HasTrueRecords t → (node start n : ℕ) → node < length t.nodes → length (take n (drop start (cells t node))) < 2 ^ 40
@@ -109,29 +135,3 @@ none_at (suc n) (suc m) = none_at n m
 
 pub no_slots : (t : Table) → AreSlots t (replicate slot_count None)
 no_slots t = record { size = refl; each = λ m. rw (none_at slot_count m) tt }
-
--- one piece more
-pub filled_step : {F : Type 0} (meaning : F → ℕ → ℕ) (old now next new : Held F) (keep : Bool) (node start len done : ℕ) (slots slots' : List (Option NodeId)) (rope : Option NodeId) (x : Span) → IsFilled meaning old keep node start len done slots now → IsSound (table_of meaning now)
-    → IsFirst keep (table_of meaning now) node (start + done) (len - done) x → Grows meaning now (length now.nodes + 1) (length now.pool.bytes + 31) next → rope_cells (table_of meaning next) rope ≡ take x.len (drop x.start (cells (table_of meaning now) x.node.0))
-    → Grows meaning next (length next.nodes + (full_slots slots + 1)) (length next.pool.bytes) new → IsSpread (table_of meaning new) (length next.nodes + (full_slots slots + 1)) (slots_cells (table_of meaning next) slots ++ rope_cells (table_of meaning next) rope) 0 slots' None
-    → IsFilled meaning old keep node start len (done + x.len) slots' new
-filled_step meaning old now next new keep node start len done slots slots' rope x filled s found first text second spread =
-    let on = filled_on meaning old now keep node start len done slots x filled found in
-    let whole = filled_text meaning old now next keep node start len done slots rope x filled s found first text in
-    let there : Grows meaning old (length next.nodes) (length next.pool.bytes) next = grows_through filled.grows first (omega arith) (omega arith) in
-    record {
-      sound = filled.sound;
-      there = filled.there;
-      inside = omega (arith, found.few, filled.inside);
-      put = filled.put + 1;
-      count = omega (arith, filled.count, on);
-      spread = record {
-        are = spread.are;
-        empty = spread.empty;
-        is_rope = tt;
-        whole = spread.whole ∙ whole;
-        nodes = omega (arith, spread.nodes, first.few_nodes, filled.spread.nodes);
-      };
-      grows = grows_through there second
-          (omega (arith, spread.nodes, first.few_nodes, filled.spread.nodes)) (omega (arith, second.few_bytes, first.few_bytes, filled.grows.few_bytes));
-    }

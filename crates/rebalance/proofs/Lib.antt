@@ -5,6 +5,7 @@ pub mod SlotLists
 pub mod SlotSteps
 pub mod PieceCounts
 pub mod PieceWays
+pub mod Splits
 pub mod StepLaws
 pub mod Filling
 pub mod StoreCalls

@@ -1,7 +1,6 @@
 -- Laws of the count of pieces.
-use Rattle.std.proofs.Common.{◌≡◌, ℕ, zero, suc, ◌+◌, ◌-◌, ◌<◌, ◌≤◌, min, eqb, leb, Bool, true, false, ◌&&◌, if◌then◌else◌, inl, inr, length, Option, Some, None, refl, ap, ◌∙◌, arith}
-use Rattle.std.proofs.lemmas.Bool.{and_left, and_right, cond_both, eqb-true, leb-true}
-use Rattle.std.proofs.lemmas.Bool.Decides.{eqb_tells}
+use Rattle.std.proofs.Common.{◌≡◌, ℕ, zero, suc, ◌+◌, ◌-◌, ◌<◌, ◌≤◌, min, eqb, leb, Bool, true, false, ◌&&◌, if◌then◌else◌, length, Option, Some, None, refl, ap, ◌∙◌, arith}
+use Rattle.std.proofs.lemmas.Bool.{cond_both, eqb-true, leb-true}
 use Rattle.rope_node.specs.declared.node.NodeId.{NodeId}
 use Rattle.rope_node.specs.declared.node.NodeView.{NodeView}
 use Rattle.rope_node.specs.declared.node.NodeView.TheVariants.{Lit, Src, Fun, Cat, Sub}
@@ -72,15 +71,26 @@ pub sub_pieces : (keep : Bool) (t : Table) → IsSound t → (id i n : ℕ) → 
 sub_pieces keep t s id i zero inside b start e free = refl
 sub_pieces keep t s id i (suc n) inside b start e free = pieces_step keep t s id i (suc n) inside (omega arith) (Sub b start) e free
 
--- ---- what is kept
+-- ---- at most a piece a byte
 
--- a span that does not begin at the node's first byte is not all of it
-pub later_not_kept : (keep : Bool) (t : Table) (id i n : ℕ) → 1 ≤ i → is_kept keep t id i n ≡ false
-later_not_kept keep t id i n some =
-    and_right keep _ (and_left (eqb i 0) _ (elim (eqb_tells i 0) [
-      | inl (e, is) ↦ absurd (omega (arith, is, some))
-      | inr (e, other) ↦ e
-    ]))
+node_few : (t : Table) (f : ℕ → ℕ → ℕ → ℕ) (i n : ℕ) (v : NodeView) → 1 ≤ n → ((c j k : ℕ) → f c j k ≤ k) → node_pieces t f i n v ≤ n
+node_few t f i n (Lit a) some few = some
+node_few t f i n (Src s a) some few = some
+node_few t f i n Fun some few = some
+node_few t f i n (Cat l r) some few = omega (arith, few l.0 i (min n (len_at t l.0 - i)), few r.0 (i - len_at t l.0) (n - (len_at t l.0 - i)))
+node_few t f i n (Sub b start) some few = few b.0 (start + i) n
+
+few_in : (keep : Bool) (t : Table) (m id i n : ℕ) → pieces_in keep t m id i n ≤ n
+few_in keep t zero id i n = omega arith
+few_in keep t (suc m) id i zero = omega arith
+few_in keep t (suc m) id i (suc n) =
+    cond_both (is_kept keep t id i (suc n)) 1 (node_pieces t (pieces_in keep t m) i (suc n) (view_at t id)) (λ (c : ℕ). c ≤ suc n) (λ e. omega arith)
+    (λ e. node_few t (pieces_in keep t m) i (suc n) (view_at t id) (omega arith) (λ c j k. few_in keep t m c j k))
+
+pub few_pieces : (keep : Bool) (t : Table) (id i n : ℕ) → pieces keep t id i n ≤ n
+few_pieces keep t id i n = few_in keep t (suc id) id i n
+
+-- ---- what is kept
 
 both_are : (a b : Bool) → (a && b) ≡ true → (a ≡ true) × (b ≡ true)
 both_are true b h = (refl, h)

@@ -1,5 +1,5 @@
 -- What putting a rope together anew does.
-use Rattle.std.specs.Prelude.{◌≡◌, ◌↔◌, ℕ, ◌+◌, ◌*◌, ◌<◌, ◌≤◌, Bool, List, length, take, drop, Option, Some, None, Result, IfOk, IsErrOf}
+use Rattle.std.specs.Prelude.{◌≡◌, ◌↔◌, ℕ, ◌+◌, ◌*◌, ◌<◌, ◌≤◌, Bool, List, ◌++◌, length, take, drop, Option, Some, None, Result, IfOk, IsErrOf}
 use Rattle.rope_store.specs.declared.endings.TheConstants.{MOST_MERGED}
 use Rattle.leaf_buffer.specs.declared.pool.TheConstants.{POOL_LIMIT}
 use Rattle.rope_node.specs.declared.limits.TheConstants.{MOST_NODES}
@@ -12,10 +12,11 @@ use Rattle.node_table.specs.declared.fault.NodeFault.TheVariants.{TooLong, TooDe
 use Rattle.node_table.specs.Held.{Held, table_of, KeepsFunctions}
 use Rattle.rebalance.specs.declared.fault.BalanceFault.{BalanceFault}
 use Rattle.rebalance.specs.declared.fault.BalanceFault.TheVariants.{TooManyPieces, Node}
-use Rattle.rebalance.specs.Steps.{AddsPieces}
-use Rattle.rebalance.specs.Slots.{Spreads}
+use Rattle.rebalance.specs.declared.pieces.Span.{Span}
+use Rattle.rebalance.specs.Steps.{AddsPieces, Steps}
+use Rattle.rebalance.specs.Slots.{full_slots, slots_cells, Spreads}
 use Rattle.node_table.specs.declared.fault.NodeFault.{NodeFault}
-use Rattle.rebalance.specs.Pieces.{all_pieces, pieces, rope_pieces, most_pieces}
+use Rattle.rebalance.specs.Pieces.{all_pieces, pieces, rope_pieces, span_cells, span_pieces, most_pieces}
 
 -- a rope as long as its depth asks for, but for one
 abbrev pub IsNearlyBalanced : Table → Option NodeId → Type 0
@@ -49,11 +50,20 @@ IsPart meaning old node start len new rope = rope_cells (table_of meaning new) r
 abbrev pub StepsThrough : {F : Type 0} {A : Type 0} → (F → ℕ → ℕ) → Held F → Bool → NodeId → ℕ → ℕ → Result A NodeFault → Held F → Type 0
 StepsThrough meaning old keep node start len result new = AddsPieces meaning old (pieces keep (table_of meaning old) node.0 start len) result new
 
--- the slots are these bytes, put together from their pieces
-abbrev pub IsFilled : {F : Type 0} → (F → ℕ → ℕ) → Held F → Bool → NodeId → ℕ → ℕ → List (Option NodeId) → Held F → Type 0
-IsFilled meaning old keep node start len slots new =
+-- the text of the slots, and then of a span
+abbrev pub text_with : Table → List (Option NodeId) → Span → List Cell
+text_with t slots span = slots_cells t slots ++ span_cells t span
+
+-- a step that puts a text of p pieces behind that of the slots
+pub record Fills {F : Type 0} {A : Type 0} (meaning : F → ℕ → ℕ) (old : Held F) (slots : List (Option NodeId)) (p : ℕ) (text : List Cell) (result : Result A NodeFault) (after : List (Option NodeId)) (new : Held F) : Type 0 where
+  pub steps : Steps meaning old (length old.nodes + (full_slots slots + 2 * p)) (length old.pool.bytes + MOST_MERGED * p) result new
+  pub spread : IfOk result (λ _. Spreads meaning old (full_slots slots + 2 * p) (slots_cells (table_of meaning old) slots ++ text) 0 after new None)
+
+-- and so for a span and its pieces
+abbrev pub FillsSpan : {F : Type 0} {A : Type 0} → (F → ℕ → ℕ) → Held F → Bool → List (Option NodeId) → Span → Result A NodeFault → List (Option NodeId) → Held F → Type 0
+FillsSpan meaning old keep slots span result after new =
     let t = table_of meaning old in
-    Spreads meaning old (2 * pieces keep t node.0 start len) (take len (drop start (cells t node.0))) 0 slots new None
+    Fills meaning old slots (span_pieces keep t span) (span_cells t span) result after new
 
 -- all of a rope is put together from its pieces
 abbrev pub RebuildsRope : {F : Type 0} → (F → ℕ → ℕ) → Held F → Bool → Option NodeId → Result (Option NodeId) BalanceFault → Held F → Type 0

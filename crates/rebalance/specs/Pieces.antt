@@ -1,13 +1,15 @@
 -- The pieces that a text goes through: spans of leaves and, where nodes are kept, whole nodes that are longer than their depth asks for.
-use Rattle.std.specs.Prelude.{◌≡◌, ◌⊎◌, ℕ, zero, suc, ◌+◌, ◌-◌, ◌<◌, ◌≤◌, min, Bool, true, false, ◌&&◌, nat_eq, nat_le, if◌then◌else◌, List, length, map, take, drop, Option, Some, None}
+use Rattle.std.specs.Prelude.{◌≡◌, ◌⊎◌, ℕ, zero, suc, ◌+◌, ◌-◌, ◌<◌, ◌≤◌, min, Bool, true, false, ◌&&◌, nat_eq, nat_le, if◌then◌else◌, List, ◌++◌, length, map, take, drop, Option, Some, None}
 use Rattle.std.specs.List.{range_with_len}
 use Rattle.rope_node.specs.declared.node.NodeId.{NodeId}
 use Rattle.rope_node.specs.declared.node.NodeView.{NodeView}
 use Rattle.rope_node.specs.declared.node.NodeView.TheVariants.{Lit, Src, Fun, Cat, Sub}
 use Rattle.rope_node.specs.Balance.{fibonacci}
 use Rattle.rope_node.specs.Table.{Table, view_at, len_at, depth_at, IsLeaf}
-use Rattle.rope_node.specs.Denotes.{cells}
+use Rattle.rope_node.specs.Denotes.{Cell, cells}
 use Rattle.rebalance.specs.declared.pieces.Span.{Span}
+use Rattle.rebalance.specs.declared.pieces.Split.{Split}
+use Rattle.rebalance.specs.declared.pieces.Split.TheVariants.{Piece, Base, Children}
 
 -- whether the n bytes of a node from i on are a piece: where nodes are kept, all of one whose length is at least the Fibonacci number
 -- at its depth and three
@@ -69,15 +71,40 @@ IsWhole t p = (p.len ≡ len_at t p.node.0) × (fibonacci (depth_at t p.node.0 +
 abbrev pub IsPieceSpan : Table → Span → Type 0
 IsPieceSpan t p = IsLeaf (view_at t p.node.0) ⊎ IsWhole t p
 
--- the first piece of the n bytes of a node from i on
-pub record IsFirst (keep : Bool) (t : Table) (id i n : ℕ) (p : Span) : Type 0 where
+-- the cells of a span, and how many pieces it goes through
+abbrev pub span_cells : Table → Span → List Cell
+span_cells t p = take p.len (drop p.start (cells t p.node.0))
+
+abbrev pub span_pieces : Bool → Table → Span → ℕ
+span_pieces keep t p = pieces keep t p.node.0 p.start p.len
+
+-- its bytes are there
+pub record IsSpan (t : Table) (p : Span) : Type 0 where
   pub there : p.node.0 < length t.nodes
-  pub is : IsPieceSpan t p
-  pub some : 1 ≤ p.len
-  pub few : p.len ≤ n
   pub inside : p.start + p.len ≤ len_at t p.node.0
-  pub cells : take p.len (drop i (cells t id)) ≡ take p.len (drop p.start (cells t p.node.0))
-  pub count : pieces keep t id i n ≡ 1 + pieces keep t id (i + p.len) (n - p.len)
+
+-- it is a span of an earlier node
+pub record IsBelow (t : Table) (p below : Span) : Type 0 where
+  pub span : IsSpan t below
+  pub earlier : below.node.0 < p.node.0
+
+-- it has the cells and the pieces of a span below it, or of two, one behind the other
+pub record IsOfBase (keep : Bool) (t : Table) (p base : Span) : Type 0 where
+  pub below : IsBelow t p base
+  pub cells : span_cells t p ≡ span_cells t base
+  pub count : span_pieces keep t p ≡ span_pieces keep t base
+
+pub record IsOfChildren (keep : Bool) (t : Table) (p left right : Span) : Type 0 where
+  pub left_below : IsBelow t p left
+  pub right_below : IsBelow t p right
+  pub cells : span_cells t p ≡ span_cells t left ++ span_cells t right
+  pub count : span_pieces keep t p ≡ span_pieces keep t left + span_pieces keep t right
+
+-- what a span is, one step down
+abbrev pub IsSplit : Bool → Table → Span → Split → Type 0
+IsSplit keep t p Piece = IsPieceSpan t p × (span_pieces keep t p ≡ 1)
+IsSplit keep t p (Base base) = IsOfBase keep t p base
+IsSplit keep t p (Children left right) = IsOfChildren keep t p left right
 
 -- the n bytes from i on of a node of this view lie in one child of it
 abbrev pub LiesInChild : Table → ℕ → ℕ → NodeView → Type 0

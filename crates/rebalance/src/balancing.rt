@@ -1,15 +1,16 @@
 //! A rope put together anew.
 
-ghost use Rattle.std.specs.Prelude.{◌≡◌, ◌+◌, ◌<◌, ◌≤◌, ◌↔◌, [], length, IfOk, IsTrue, None};
+ghost use Rattle.std.specs.Prelude.{◌≡◌, ◌+◌, ◌<◌, ◌≤◌, ◌↔◌, length, IfOk, IsTrue};
+ghost use Rattle.rope_node.specs.declared.limits.TheConstants.{TEXT_LIMIT};
 ghost use Rattle.rope_node.specs.Table.{len_at};
 ghost use Rattle.rope_node.specs.Denotes.{IsRope};
 ghost use Rattle.node_table.specs.Held.{table_of};
-ghost use Rattle.rebalance.specs.Balancing.{IsFilled, IsNearlyBalanced, IsPart, Rebalances, RebuildsPart, RebuildsRope, StepsThrough};
-ghost use Rattle.rebalance.specs.Pieces.{pieces, all_pieces, most_pieces};
-ghost use Rattle.rebalance.specs.Slots.{full_slots, slots_cells, AreSlots};
+ghost use Rattle.rebalance.specs.Balancing.{text_with, Fills, FillsSpan, IsNearlyBalanced, IsPart, Rebalances, RebuildsPart, RebuildsRope, StepsThrough};
+ghost use Rattle.rebalance.specs.Pieces.{all_pieces, most_pieces, span_cells, span_pieces, IsPieceSpan, IsSpan};
+ghost use Rattle.rebalance.specs.Slots.{AreSlots};
 
 use crate::fault::BalanceFault;
-use crate::pieces::{find_piece, has_few_pieces, piece};
+use crate::pieces::{Span, Split, has_few_pieces, piece, step_down, whole};
 use crate::slots::{SLOTS, insert, join_below};
 use function_leaf::LeafFn;
 use node_table::NodeFault;
@@ -53,10 +54,7 @@ pub(crate) fn rope_has_few_pieces<F: LeafFn>(store: &Store<F>, rope: Rope, keep:
 {
     match rope {
         None => true,
-        Some(node) => {
-            let len = NodeSpace::len(store, node);
-            has_few_pieces(store, keep, node, 0, len)
-        }
+        Some(node) => has_few_pieces(store, keep, whole(store, node)),
     }
 }
 
@@ -70,11 +68,12 @@ pub(crate) fn rebuild_rope<F: LeafFn>(
     requires few { all_pieces keep (table_of F.meaning store.old) rope ≤ most_pieces }
     ensures { RebuildsRope F.meaning store.old keep rope result store.new }
 {
+    let _count = store.count();
     let Some(node) = rope else {
         return Ok(None);
     };
-    let len = NodeSpace::len(store, node);
-    rebuild_few(store, keep, node, 0, len)
+    let span = whole(store, node);
+    rebuild_few(store, keep, span)
 }
 
 /// The bytes of a node from `start` on as such a rope.
@@ -89,76 +88,81 @@ pub(crate) fn balance_part<F: LeafFn>(
     requires inside { start + len ≤ len_at (table_of F.meaning store.old) node.0 }
     ensures { RebuildsPart F.meaning store.old keep node start len result store.new }
 {
-    if !has_few_pieces(store, keep, node, start, len) {
+    let span = Span { node, start, len };
+    if !has_few_pieces(store, keep, span) {
         return Err(BalanceFault::TooManyPieces);
     }
-    rebuild_few(store, keep, node, start, len)
+    rebuild_few(store, keep, span)
 }
 
-/// The bytes of a node from `start` on, which go through few pieces, as such a rope.
+/// A span that goes through few pieces as such a rope.
 fn rebuild_few<F: LeafFn>(
     store: &mut Store<F>,
     keep: bool,
-    node: NodeId,
-    start: u64,
-    len: u64,
+    span: Span,
 ) -> Result<Rope, BalanceFault>
-    requires there { node.0 < length store.old.nodes }
-    requires inside { start + len ≤ len_at (table_of F.meaning store.old) node.0 }
-    requires few { pieces keep (table_of F.meaning store.old) node.0 start len ≤ most_pieces }
-    ensures { RebuildsPart F.meaning store.old keep node start len result store.new }
+    requires span { IsSpan (table_of F.meaning store.old) span }
+    requires few { span_pieces keep (table_of F.meaning store.old) span ≤ most_pieces }
+    ensures { RebuildsPart F.meaning store.old keep span.node span.start span.len result store.new }
 {
-    Ok(rebuild(store, keep, node, start, len)?)
+    Ok(rebuild(store, keep, span)?)
 }
 
-/// The bytes of a node from `start` on put together from their pieces.
-fn rebuild<F: LeafFn>(
-    store: &mut Store<F>,
-    keep: bool,
-    node: NodeId,
-    start: u64,
-    len: u64,
-) -> Result<Rope, NodeFault>
-    requires there { node.0 < length store.old.nodes }
-    requires inside { start + len ≤ len_at (table_of F.meaning store.old) node.0 }
-    ensures steps { StepsThrough F.meaning store.old keep node start len result store.new }
+/// A span put together from its pieces.
+fn rebuild<F: LeafFn>(store: &mut Store<F>, keep: bool, span: Span) -> Result<Rope, NodeFault>
+    requires { IsSpan (table_of F.meaning store.old) span }
+    ensures steps { StepsThrough F.meaning store.old keep span.node span.start span.len result store.new }
     ensures is_rope { IfOk result (λ rope. IsRope (table_of F.meaning store.new) rope) }
-    ensures text { IfOk result (IsPart F.meaning store.old node start len store.new) }
+    ensures text { IfOk result (IsPart F.meaning store.old span.node span.start span.len store.new) }
     ensures shallow { IfOk result (λ rope. IsNearlyBalanced (table_of F.meaning store.new) rope) }
 {
     let _count = store.count();
     let mut slots = [None; 60];
-    fill(store, &mut slots, keep, node, start, len)?;
+    fill(store, &mut slots, keep, span)?;
     let _count = store.count();
     join_below(store, &mut slots, SLOTS)
 }
 
-/// Puts the pieces of a node's bytes from `start` on into slots, one behind the other.
+/// Puts a span's pieces behind the text of the slots. It goes to each node on the way once, and calls itself as deep as the node is,
+/// which is at most 64.
 fn fill<F: LeafFn>(
     store: &mut Store<F>,
     slots: &mut [Rope],
     keep: bool,
-    node: NodeId,
-    start: u64,
-    len: u64,
+    span: Span,
 ) -> Result<(), NodeFault>
-    requires there { node.0 < length store.old.nodes }
-    requires inside { start + len ≤ len_at (table_of F.meaning store.old) node.0 }
+    requires span { IsSpan (table_of F.meaning store.old) span }
     requires slots { AreSlots (table_of F.meaning store.old) slots.old }
-    requires empty { slots_cells (table_of F.meaning store.old) slots.old ≡ [] }
-    requires none { full_slots slots.old ≡ 0 }
-    ensures steps { StepsThrough F.meaning store.old keep node start len result store.new }
-    ensures spread { IfOk result (λ _. IsFilled F.meaning store.old keep node start len slots.new store.new) }
+    requires short { length (text_with (table_of F.meaning store.old) slots.old span) < TEXT_LIMIT }
+    ensures { FillsSpan F.meaning store.old keep slots.old span result slots.new store.new }
 {
-    let _len = NodeSpace::len(store, node);
-    let mut done = 0;
-    while done < len {
-        let _count = store.count();
-        let span = find_piece(store, keep, node, start + done, len - done);
-        let rope = piece(store, span)?;
-        let _count = store.count();
-        insert(store, slots, rope)?;
-        done += span.len;
+    let _count = store.count();
+    if span.len == 0 {
+        return Ok(());
     }
-    Ok(())
+    match step_down(store, keep, span) {
+        Split::Piece => put(store, slots, span),
+        Split::Base(base) => fill(store, slots, keep, base),
+        Split::Children(left, right) => {
+            fill(store, slots, keep, left)?;
+            let _count = store.count();
+            fill(store, slots, keep, right)
+        }
+    }
+}
+
+/// Puts a span that is one piece behind the text of the slots.
+fn put<F: LeafFn>(store: &mut Store<F>, slots: &mut [Rope], span: Span) -> Result<(), NodeFault>
+    requires span { IsSpan (table_of F.meaning store.old) span }
+    requires piece { IsPieceSpan (table_of F.meaning store.old) span }
+    requires some { 1 ≤ span.len }
+    requires slots { AreSlots (table_of F.meaning store.old) slots.old }
+    requires short { length (text_with (table_of F.meaning store.old) slots.old span) < TEXT_LIMIT }
+    ensures { Fills F.meaning store.old slots.old 1
+        (span_cells (table_of F.meaning store.old) span) result slots.new store.new }
+{
+    let _count = store.count();
+    let rope = piece(store, span)?;
+    let _count = store.count();
+    insert(store, slots, rope)
 }

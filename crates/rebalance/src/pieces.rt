@@ -1,10 +1,10 @@
 //! The pieces that a rope's text is put together from.
 
-ghost use Rattle.std.specs.Prelude.{◌≡◌, ◌↔◌, ◌⊎◌, ◌+◌, ◌<◌, ◌≤◌, length, map, take, drop, IsTrue, IfOk};
+ghost use Rattle.std.specs.Prelude.{◌≡◌, ◌↔◌, ◌+◌, ◌<◌, ◌≤◌, min, length, take, IsTrue, IfOk};
 ghost use Rattle.rope_node.specs.Table.{view_at, len_at, IsLeaf, IsFunction};
 ghost use Rattle.rope_node.specs.Denotes.{Byte, cells, rope_cells};
 ghost use Rattle.node_table.specs.Held.{table_of};
-ghost use Rattle.rebalance.specs.Pieces.{answered_bytes, is_kept, pieces, most_pieces, IsFirst, IsPieceSpan};
+ghost use Rattle.rebalance.specs.Pieces.{answered_bytes, is_kept, most_pieces, span_pieces, IsPieceSpan, IsSpan, IsSplit};
 ghost use Rattle.rebalance.specs.Balancing.{IsPart};
 ghost use Rattle.rebalance.specs.Slots.{IsPiece};
 ghost use Rattle.rebalance.specs.Steps.{AddsPiece};
@@ -21,7 +21,7 @@ const MOST_PIECES: u32 = 1 << 20;
 /// The shortest part of a function leaf that is a part, in bytes; a shorter one is a literal.
 const SHORTEST_PART: u64 = 32;
 
-/// Bytes of a node, as a piece of a text is: a span of a leaf, or all of a node.
+/// Bytes of a node.
 #[derive(Clone, Copy)]
 pub(crate) struct Span {
     pub(crate) node: NodeId,
@@ -29,6 +29,19 @@ pub(crate) struct Span {
     pub(crate) start: u64,
     /// How many bytes it has.
     pub(crate) len: u64,
+}
+
+/// All the bytes of a node.
+pub(crate) fn whole<F: LeafFn>(store: &Store<F>, node: NodeId) -> Span
+    requires { node.0 < length store.now.nodes }
+    ensures is { result ≡ record { node = node; start = 0; len = len_at (table_of F.meaning store.now) node.0 } }
+    ensures span { IsSpan (table_of F.meaning store.now) result }
+{
+    Span {
+        node,
+        start: 0,
+        len: NodeSpace::len(store, node),
+    }
 }
 
 /// Whether this span, where nodes are kept, is a piece as it is: all of a node that leaves room for one more above it.
@@ -41,82 +54,81 @@ fn is_kept<F: LeafFn>(store: &Store<F>, keep: bool, node: NodeId, start: u64, le
         && fibonacci(NodeSpace::depth(store, node) + 3) <= len
 }
 
-/// The first piece of the bytes of a node from `start` on. It costs one descent.
-pub(crate) fn find_piece<F: LeafFn>(
-    store: &Store<F>,
-    keep: bool,
-    node: NodeId,
-    start: u64,
-    len: u64,
-) -> Span
-    requires there { node.0 < length store.now.nodes }
-    requires some { 1 ≤ len }
-    requires inside { start + len ≤ len_at (table_of F.meaning store.now) node.0 }
-    ensures { IsFirst keep (table_of F.meaning store.now) node.0 start len result }
+/// What a span's bytes are: one piece, or bytes of the nodes below.
+#[derive(Clone, Copy)]
+pub(crate) enum Split {
+    /// One piece.
+    Piece,
+    /// Bytes of the base.
+    Base(Span),
+    /// Bytes of the left child, and then of the right one. One of these spans may be empty.
+    Children(Span, Span),
+}
+
+/// What a span's bytes are, one step down.
+pub(crate) fn step_down<F: LeafFn>(store: &Store<F>, keep: bool, span: Span) -> Split
+    requires span { IsSpan (table_of F.meaning store.now) span }
+    requires some { 1 ≤ span.len }
+    ensures { IsSplit keep (table_of F.meaning store.now) span result }
 {
     let _count = store.count();
-    let mut below = node;
-    let mut place = start;
-    let mut room = len;
-    'down: loop {
-        if is_kept(store, keep, below, place, room) {
-            return Span {
-                node: below,
-                start: place,
-                len: room,
+    let Span { node, start, len } = span;
+    if is_kept(store, keep, node, start, len) {
+        return Split::Piece;
+    }
+    match store.node(node) {
+        NodeView::Cat { l, r } => {
+            let left = NodeSpace::len(store, l);
+            let skipped = start.min(left);
+            let count = len.min(left - skipped);
+            let first = Span {
+                node: l,
+                start: skipped,
+                len: count,
             };
+            let second = Span {
+                node: r,
+                start: start - skipped,
+                len: len - count,
+            };
+            Split::Children(first, second)
         }
-        match store.node(below) {
-            NodeView::Cat { l, r } => {
-                let left = NodeSpace::len(store, l);
-                if place < left {
-                    below = l;
-                    room = room.min(left - place);
-                } else {
-                    below = r;
-                    place -= left;
-                }
-            }
-            NodeView::Sub { b, i } => {
-                below = b;
-                place += i;
-            }
-            NodeView::Lit { .. } | NodeView::Src { .. } | NodeView::Fun => {
-                return Span {
-                    node: below,
-                    start: place,
-                    len: room,
-                };
-            }
+        NodeView::Sub { b, i } => Split::Base(Span {
+            node: b,
+            start: start + i,
+            len,
+        }),
+        NodeView::Lit { .. } | NodeView::Src { .. } | NodeView::Fun => Split::Piece,
+    }
+}
+
+/// How many pieces a span goes through, or `most` where they are more. It goes past no more than those.
+fn count_pieces<F: LeafFn>(store: &Store<F>, keep: bool, span: Span, most: u32) -> u32
+    requires { IsSpan (table_of F.meaning store.now) span }
+    ensures { result ≡ min most (span_pieces keep (table_of F.meaning store.now) span) }
+{
+    let _count = store.count();
+    if most == 0 || span.len == 0 {
+        return 0;
+    }
+    match step_down(store, keep, span) {
+        Split::Piece => 1,
+        Split::Base(base) => count_pieces(store, keep, base, most),
+        Split::Children(left, right) => {
+            let count = count_pieces(store, keep, left, most);
+            count + count_pieces(store, keep, right, most - count)
         }
     }
 }
 
-/// Whether the bytes of a node from `start` on go through at most as many pieces as a rope is put together from. It goes past no more
-/// than those.
-pub(crate) fn has_few_pieces<F: LeafFn>(
-    store: &Store<F>,
-    keep: bool,
-    node: NodeId,
-    start: u64,
-    len: u64,
-) -> bool
-    requires there { node.0 < length store.now.nodes }
-    requires inside { start + len ≤ len_at (table_of F.meaning store.now) node.0 }
-    ensures { IsTrue result ↔ (pieces keep (table_of F.meaning store.now) node.0 start len ≤ most_pieces) }
+/// Whether a span goes through at most as many pieces as a rope is put together from. Each piece has a byte, so few bytes are not
+/// walked.
+pub(crate) fn has_few_pieces<F: LeafFn>(store: &Store<F>, keep: bool, span: Span) -> bool
+    requires { IsSpan (table_of F.meaning store.now) span }
+    ensures { IsTrue result ↔ (span_pieces keep (table_of F.meaning store.now) span ≤ most_pieces) }
 {
-    let _len = NodeSpace::len(store, node);
-    let mut count = 0;
-    let mut done = 0;
-    while done < len {
-        let span = find_piece(store, keep, node, start + done, len - done);
-        if count == MOST_PIECES {
-            return false;
-        }
-        count += 1;
-        done += span.len;
-    }
-    true
+    span.len <= u64::from(MOST_PIECES)
+        || count_pieces(store, keep, span, MOST_PIECES + 1) <= MOST_PIECES
 }
 
 /// A piece as a rope: the node where it is all of it, else a part of a leaf that holds no leaf for a few bytes.

@@ -12,7 +12,7 @@ pub join_below-requires-clause-short : goal.join_below-requires-clause-short
 join_below-requires-clause-short g c =
     let meaning = g.F.LeafFn.meaning in
     let text = spread_text (table_of meaning c.fill.new.store) _ _ 0 c.fill.new.slots c.in_ok-fill.ensures.spread in
-    rw text (part_short (table_of meaning c.args.store.now) c.count-count.ensures.sound c.count-count.ensures.true_records c.args.node.0 c.args.start c.args.len c.requires.there)
+    rw text (part_short (table_of meaning c.args.store.now) c.count-count.ensures.sound c.count-count.ensures.true_records c.args.span.node.0 c.args.span.start c.args.span.len c.requires.there)
 
 pub returns-clause-steps : goal.returns-clause-steps
 returns-clause-steps g c =
