@@ -3,5 +3,6 @@ pub mod LeafCells
 pub mod LeafParts
 pub mod Outcomes
 pub mod RopeBytes
+pub mod RunPeriods
 pub mod Spans
 pub mod StepLaws

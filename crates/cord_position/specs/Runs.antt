@@ -6,7 +6,7 @@ use Rattle.rope_node.specs.Table.{Table, view_at, len_at, literal_bytes, IsLeaf}
 use Rattle.rope_node.specs.Denotes.{Cell, rope_len, text}
 use Rattle.rope_node.specs.Path.{span_at}
 use Rattle.lazy_file.specs.SourceTexts.{Agrees, Stated}
-use Rattle.cord_position.specs.Fetched.{AreStated, leaf_part, rope_part}
+use Rattle.cord_position.specs.Fetched.{AreStated, leaf_part, rope_cell, rope_part}
 
 -- the leaf span that a rope's bytes from place i on begin with; at the end and past it, none
 abbrev pub rope_span : Table → Option NodeId → ℕ → Option LeafSpan
@@ -42,3 +42,8 @@ pub record IsRun (t : Table) (rope : Option NodeId) (i : ℕ) (x : LeafSpan) : T
 -- the bytes that stated cells stand for, whatever bytes the sources have that agree with what they state
 abbrev pub AreBytesOf : Stated → List Cell → List ℕ → Type 0
 AreBytesOf st cs bytes = (source : ℕ → ℕ → ℕ) → Agrees st source → AreStated st cs → bytes ≡ text source cs
+
+-- the cells from place i of a rope to the end of their leaf's span are the same again after p of them
+pub record IsRunPeriod (t : Table) (rope : Option NodeId) (i p : ℕ) : Type 0 where
+  pub some : 1 ≤ p
+  pub same : (k : ℕ) → k + p < run_left t rope i → rope_cell t rope (i + (k + p)) ≡ rope_cell t rope (i + k)

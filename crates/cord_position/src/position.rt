@@ -4,12 +4,12 @@ ghost use Rattle.std.specs.Prelude.{◌≡◌, ◌↔◌, ◌<◌, ◌≤◌, �
 ghost use Rattle.rope_node.specs.Denotes.{Byte, rope_len, IsRope};
 ghost use Rattle.cord_position.specs.Fetched.{IsFetched, ReadsSpan};
 ghost use Rattle.cord_position.specs.Position.{bytes_here, cell_of, cells_here, left_here, text_len};
-ghost use Rattle.cord_position.specs.Runs.{rope_span, AreBytesOf, IsRun};
+ghost use Rattle.cord_position.specs.Runs.{rope_span, run_left, AreBytesOf, IsRun, IsRunPeriod};
 
 use crate::fetch::fetch_here;
 use crate::fill::fill_part;
 use crate::path::{Path, Step, holds, seek};
-use crate::run::{find_run, literal_run, step_bytes};
+use crate::run::{find_period, find_run, literal_run, step_bytes};
 use lazy_file::{SourceFault, Sources};
 use rope_node::{NodeSpace, Rope, rope_len};
 use smallvec::SmallVec;
@@ -173,6 +173,27 @@ impl<'a, S: NodeSpace> Pos<'a, S> {
             Some(span) => span.len,
             None => 0,
         }
+    }
+
+    /// The place of the first byte of the present leaf's span; at the end, the end.
+    pub fn run_start(&self) -> u64
+        ensures before { result ≤ self.now.index }
+        ensures same_end { result + run_left (S.table self.now.space) self.now.rope result
+            ≡ self.now.index + left_here S.table self.now }
+    {
+        if holds(self.here, self.place) {
+            self.here.first
+        } else {
+            self.place
+        }
+    }
+
+    /// After how many bytes those from here to the end of the present leaf's span repeat, where the leaf is a function that says so.
+    pub fn run_period(&self) -> Option<u64>
+        ensures { IfSome result
+            (IsRunPeriod (S.table self.now.space) self.now.rope self.now.index) }
+    {
+        find_period(self.space, self.rope, self.here, self.place)
     }
 
     /// The bytes from here to the end of the present leaf's span, where the leaf is a literal; elsewhere and at the end, none.

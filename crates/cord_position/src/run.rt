@@ -5,7 +5,7 @@ ghost use Rattle.std.specs.Prelude.{◌≡◌, ◌↔◌, ◌<◌, ◌≤◌, �
 ghost use Rattle.rope_node.specs.Table.{view_at, len_at};
 ghost use Rattle.rope_node.specs.Denotes.{Byte, rope_len};
 ghost use Rattle.cord_position.specs.Fetched.{leaf_part, rope_part};
-ghost use Rattle.cord_position.specs.Runs.{rope_span, run_bytes, run_left, span_bytes, IsRun};
+ghost use Rattle.cord_position.specs.Runs.{rope_span, run_bytes, run_left, span_bytes, IsRun, IsRunPeriod};
 ghost use Rattle.cord_position.specs.Steps.{AreStepBytes, IsHere};
 
 use crate::path::Step;
@@ -28,6 +28,18 @@ pub fn find_run<S: NodeSpace>(space: &S, rope: Rope, here: Step, place: u64) -> 
         start: here.skipped + offset,
         len: here.len - offset,
     })
+}
+
+/// After how many bytes those from a place to the end of its leaf's span repeat, where the leaf is a function that says so.
+pub fn find_period<S: NodeSpace>(space: &S, rope: Rope, here: Step, place: u64) -> Option<u64>
+    requires { IsHere (S.table space.now) rope place here }
+    ensures { IfSome result (IsRunPeriod (S.table space.now) rope place) }
+{
+    let span = find_run(space, rope, here, place)?;
+    match space.node(span.leaf) {
+        NodeView::Fun => space.period(span.leaf),
+        _ => None,
+    }
 }
 
 /// The bytes of a span of a literal; of a span of any other leaf, none.

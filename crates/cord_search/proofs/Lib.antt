@@ -4,5 +4,6 @@ pub mod Orders
 pub mod PatternPieces
 pub mod Pieces
 pub mod Reaching
+pub mod Repeats
 pub mod Standing
 pub mod TwoSpans

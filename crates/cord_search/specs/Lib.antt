@@ -4,3 +4,4 @@ pub mod Places
 pub mod Reached
 pub mod Stated
 pub mod Faults
+pub mod Skipped

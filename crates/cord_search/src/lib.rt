@@ -6,6 +6,7 @@ mod fault;
 mod pattern;
 mod runs;
 mod single_bytes;
+mod skips;
 mod text_bytes;
 mod write;
 

@@ -10,6 +10,7 @@ ghost use Rattle.cord_search.specs.Faults.{IsFindFault};
 
 use crate::fault::FindFault;
 use crate::runs::{WINDOW, next_window};
+use crate::skips::clear_ahead;
 use cord_position::Pos;
 use lazy_file::{SourceFault, Sources};
 use memchr::memmem::Finder;
@@ -73,8 +74,9 @@ fn find_some<S: NodeSpace, T: Sources>(
             return Ok(Some(place + k as u64));
         }
         let count = (window.len() - need + 1) as u64;
-        pos.skip(count);
-        place += count;
+        let clear = clear_ahead(&pos, need as u64, count);
+        pos.skip(clear);
+        place += clear;
     }
     Ok(None)
 }

@@ -7,6 +7,7 @@ ghost use Rattle.cord_search.specs.Places.{IsFromOn, IsUpTo};
 ghost use Rattle.cord_search.specs.Stated.{FindsFirst, FindsLast};
 
 use crate::runs::{PIECE, WINDOW, next_run, next_window};
+use crate::skips::{clear_ahead, clear_behind};
 use cord_position::Pos;
 use lazy_file::{SourceFault, Sources};
 use memchr::{memchr, memrchr};
@@ -42,9 +43,9 @@ pub fn chr<S: NodeSpace, T: Sources>(
         if let Some(k) = memchr(c, run) {
             return Ok(Some(place + k as u64));
         }
-        let count = run.len() as u64;
-        pos.skip(count);
-        place += count;
+        let clear = clear_ahead(&pos, 1, run.len() as u64);
+        pos.skip(clear);
+        place += clear;
     }
     Ok(None)
 }
@@ -88,7 +89,7 @@ pub fn rchr<S: NodeSpace, T: Sources>(
         if let Some(k) = memrchr(c, window) {
             return Ok(Some(from + k as u64));
         }
-        end = from;
+        end = clear_behind(alloc, &pos, space, x, count);
     }
     Ok(None)
 }

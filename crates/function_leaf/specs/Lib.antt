@@ -2,3 +2,4 @@ pub mod Coded
 pub mod Optional
 pub mod Padding
 pub mod Pattern
+pub mod Repeating

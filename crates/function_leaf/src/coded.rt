@@ -64,4 +64,12 @@ impl LeafFn for Coded {
             Coded::Cycle(pattern) => pattern.byte_at(i),
         }
     }
+
+    fn period(&self) -> Option<u64> {
+        Some(match self {
+            Coded::Fill(_) => 1,
+            Coded::Ramp(_) => 256,
+            Coded::Cycle(pattern) => pattern.as_slice().len() as u64,
+        })
+    }
 }

@@ -1,6 +1,7 @@
 //! What is a leaf, and its bytes written out.
-ghost use Rattle.std.specs.Prelude.{◌≡◌, ◌+◌, ◌<◌, ◌^◌, ℕ, length, map};
+ghost use Rattle.std.specs.Prelude.{◌≡◌, ◌+◌, ◌<◌, ◌^◌, ℕ, length, map, IfSome};
 ghost use Rattle.std.specs.List.{range_with_len};
+ghost use Rattle.function_leaf.specs.Repeating.{Repeats};
 
 /// A function from a place to a byte.
 pub trait LeafFn: Copy {
@@ -9,6 +10,10 @@ pub trait LeafFn: Copy {
     /// The byte at place `i`.
     fn byte(&self, i: u64) -> u8
         ensures { result ≡ meaning self.now i };
+
+    /// After how many bytes the function's bytes repeat, where that is known.
+    fn period(&self) -> Option<u64>
+        ensures { IfSome result (Repeats (meaning self.now)) };
 }
 
 /// Writes the bytes of `f` from place `from` on into the whole of `out`.

@@ -51,6 +51,13 @@ impl<F: LeafFn> NodeSpace for NodeTable<F> {
         }
     }
 
+    fn period(&self, id: NodeId) -> Option<u64> {
+        match self.entry(id).kind {
+            EntryKind::Function(function) => function.period(),
+            _ => unreachable!(),
+        }
+    }
+
     fn source_count(&self) -> u32 {
         self.sources.len() as u32
     }

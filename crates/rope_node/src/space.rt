@@ -1,12 +1,13 @@
 //! What every table of nodes offers.
 
-ghost use Rattle.std.specs.Prelude.{◌≡◌, ◌<◌, ◌≤◌, ◌^◌, ℕ, length, take, drop, get_or};
+ghost use Rattle.std.specs.Prelude.{◌≡◌, ◌<◌, ◌≤◌, ◌^◌, ℕ, length, take, drop, get_or, IfSome};
 ghost use Rattle.leaf_buffer.specs.declared.pool.TheConstants.{POOL_LIMIT};
 ghost use Rattle.rope_node.specs.declared.limits.TheConstants.{MOST_DEPTH, TEXT_LIMIT};
 ghost use Rattle.rope_node.specs.Denotes.{rope_cells, rope_len, IsRope};
 ghost use Rattle.rope_node.specs.Table.{Table, view_at, len_at, depth_at, IsSound, HasTrueRecords, IsLiteral, IsFunction, literal_from};
 ghost use Rattle.rope_node.specs.Coded.{AnswersCoded};
 ghost use Rattle.function_leaf.specs.declared.coded.Coded.{Coded};
+ghost use Rattle.function_leaf.specs.Repeating.{Repeats};
 
 use crate::node::{NodeId, NodeView, Rope};
 use function_leaf::Coded;
@@ -54,6 +55,12 @@ pub trait NodeSpace {
         requires there { id.0 < length (table self.now).nodes }
         requires function { IsFunction (view_at (table self.now) id.0) }
         ensures { result ≡ (table self.now).answer id.0 i };
+
+    /// After how many bytes those of the function at a node repeat, where that is known.
+    fn period(&self, id: NodeId) -> Option<u64>
+        requires there { id.0 < length (table self.now).nodes }
+        requires function { IsFunction (view_at (table self.now) id.0) }
+        ensures { IfSome result (Repeats ((table self.now).answer id.0)) };
 
     /// How many sources there are.
     fn source_count(&self) -> u32

@@ -40,6 +40,10 @@ impl<F: LeafFn> NodeSpace for Store<F> {
         self.table.fun_byte(id, i)
     }
 
+    fn period(&self, id: NodeId) -> Option<u64> {
+        self.table.period(id)
+    }
+
     fn source_count(&self) -> u32 {
         self.table.source_count()
     }

@@ -1,4 +1,4 @@
-use Rattle.std.proofs.Common.{◌≡◌, ◌+◌, ◌-◌, ◌<◌, ◌≤◌, ℕ, List, length, inl, inr, sym, subst, ◌∙◌, arith}
+use Rattle.std.proofs.Common.{◌≡◌, ◌+◌, ◌-◌, ◌<◌, ◌≤◌, ℕ, List, length, inl, inr, refl, sym, subst, ◌∙◌, arith}
 use Rattle.std.specs.Prelude.{slice_get}
 use Rattle.std.proofs.lemmas.Bool.{cases_lt}
 use Rattle.std.proofs.lemmas.Result.{err_from_is_err_and}
@@ -10,6 +10,7 @@ use Rattle.cord_search.proofs.BytePieces.{nowhere_in_both}
 use Rattle.cord_search.proofs.Fetches.{text_length}
 use Rattle.cord_search.proofs.PatternPieces.{pattern_found, no_pattern_in}
 use Rattle.cord_search.proofs.Reaching.{byte_there, failed_there, later_place, there_len}
+use Rattle.cord_search.proofs.Repeats.{clear_there}
 use Rattle.cord_search.proofs.Standing.{none_past}
 use Rattle.cord_search.proofs.pattern.find_some.Goals as goal
 
@@ -49,29 +50,34 @@ returns-in-Some-clause-found g c source agrees stated =
 
 pub loop-place-preserved : goal.loop-place-preserved
 loop-place-preserved g c =
+    let t = g.S.NodeSpace.table c.args.space.now in
     let s : List ℕ = c.args.pattern.now in
     let place : ℕ = c.loop-place.place in
     let window : List ℕ = c.in_ok-window.window.now in
     let enough : length s ≤ length window = c.in_ok-window.ensures.enough in
     let count : ℕ = (length window - length s) + 1 in
+    let clear : ℕ = c.clear_ahead-clear.result in
+    let len = there_len g.S.NodeSpace.table c.loop-place.pos c.args.space.now c.args.x place c.loop-place.invariant.at in
+    let fits : place + length window ≤ rope_len t c.args.x = omega (arith, c.in_ok-window.ensures.most, c.loop-place-test.true, c.saturating_sub-places.ensures, c.rope_len-len.ensures.exact) in
+    let left : place < rope_len t c.args.x = omega (arith, fits, enough, c.requires.some) in
     record {
       reads = reads_then c.loop-place.invariant.reads c.in_ok-window.ensures.reads.reads;
       from = omega (arith, c.loop-place.invariant.from);
-      inside = omega (arith, c.in_ok-window.ensures.most, enough, c.loop-place-test.true, c.saturating_sub-places.ensures);
-      at = later_place g.S.NodeSpace.table c.loop-place.pos c.skip.new.self c.args.space.now c.args.x place count c.skip.ensures.space c.skip.ensures.rope c.skip.ensures.index c.loop-place.invariant.at;
+      inside = omega (arith, c.clear_ahead-clear.ensures.inside, c.loop-place.invariant.at.index, len, left, c.saturating_sub-places.ensures, c.rope_len-len.ensures.exact);
+      at = later_place g.S.NodeSpace.table c.loop-place.pos c.skip.new.self c.args.space.now c.args.x place clear c.skip.ensures.space c.skip.ensures.rope c.skip.ensures.index c.loop-place.invariant.at;
       told = λ end far source agrees stated.
-          let t = g.S.NodeSpace.table c.args.space.now in
           let st = g.T.Sources.stated c.args.sources.now in
           let u = text source (rope_cells t c.args.x) in
-          let fits : place + length window ≤ rope_len t c.args.x = omega (arith, c.in_ok-window.ensures.most, c.loop-place-test.true, c.saturating_sub-places.ensures, c.rope_len-len.ensures.exact) in
-          let inside : c.loop-place.pos.index + length window ≤ text_len g.S.NodeSpace.table c.loop-place.pos = omega (arith, fits, there_len g.S.NodeSpace.table c.loop-place.pos c.args.space.now c.args.x place c.loop-place.invariant.at, c.loop-place.invariant.at.index) in
+          let more : count ≤ clear = c.clear_ahead-clear.ensures.more in
+          let inside : c.loop-place.pos.index + length window ≤ text_len g.S.NodeSpace.table c.loop-place.pos = omega (arith, fits, len, c.loop-place.invariant.at.index) in
           let same : (p : ℕ) → p < length window → slice_get window p ≡ slice_get u (place + p) = λ p lt.
           byte_there g.S.NodeSpace.table c.loop-place.pos c.args.space.now c.args.x place p st (g.T.Sources.stated c.loop-place.sources) window source c.loop-place.invariant.at inside c.in_ok-window.ensures.bytes
-          c.loop-place.invariant.reads.same agrees lt (stated (place + p) (omega (arith, c.loop-place.invariant.from)) (omega (arith, lt, far, enough))) in
+          c.loop-place.invariant.reads.same agrees lt (stated (place + p) (omega (arith, c.loop-place.invariant.from)) (omega (arith, lt, far, enough, more))) in
           let before = c.loop-place.invariant.told end (omega (arith, far)) source agrees stated in
           let nowhere : Nowhere (OccursAt window s) 0 (length window + 1) = subst (λ z. Nowhere (OccursAt window z) 0 (length window + 1)) c.new-finder.ensures c.in_default.ensures in
           let none = no_pattern_in u window s place count (length window) (λ k low high. nowhere k low (omega (arith, high, enough, c.requires.some))) (omega (arith, enough)) (omega arith) same in
-          nowhere_in_both s u c.args.start place (place + count) before none;
+          let also = clear_there g.S.NodeSpace.table c.loop-place.pos c.args.space.now c.args.x place (length s) count clear c.loop-place.invariant.at left c.clear_ahead-clear.ensures.clear in
+          nowhere_in_both s u c.args.start place (place + clear) before (also source s refl none);
     }
 
 pub returns-clause-found : goal.returns-clause-found

@@ -1,4 +1,4 @@
-use Rattle.std.proofs.Common.{◌≡◌, ◌+◌, ◌-◌, ◌<◌, ℕ, List, length, ◌∷◌, [], inl, inr, sym, ◌∙◌, arith}
+use Rattle.std.proofs.Common.{◌≡◌, ◌+◌, ◌-◌, ◌<◌, ℕ, List, length, ◌∷◌, [], inl, inr, refl, sym, ◌∙◌, arith}
 use Rattle.std.specs.Prelude.{slice_get}
 use Rattle.std.proofs.lemmas.Bool.{cases_lt}
 use Rattle.std.proofs.lemmas.Result.{err_from_is_err_and}
@@ -6,7 +6,8 @@ use Rattle.lazy_file.proofs.LaterReads.{reads_then}
 use Rattle.rope_node.specs.Denotes.{rope_cells, rope_len, text}
 use Rattle.cord_search.proofs.BytePieces.{byte_found, no_byte_in, nowhere_in_both}
 use Rattle.cord_search.proofs.Fetches.{text_length}
-use Rattle.cord_search.proofs.Reaching.{byte_there, failed_there, later_place}
+use Rattle.cord_search.proofs.Reaching.{byte_there, failed_there, later_place, there_len}
+use Rattle.cord_search.proofs.Repeats.{clear_there}
 use Rattle.cord_search.proofs.Standing.{none_past}
 use Rattle.cord_search.proofs.single_bytes.chr.Goals as goal
 
@@ -41,24 +42,29 @@ returns-in-Some-clause-found g c source agrees stated =
     }
 
 pub loop-place-preserved : goal.loop-place-preserved
-loop-place-preserved g c = record {
-  reads = reads_then c.loop-place.invariant.reads c.in_ok-run.ensures.reads.reads;
-  from = omega (arith, c.loop-place.invariant.from);
-  inside = omega (arith, c.in_ok-run.ensures.most, c.loop-place-test.true, c.rope_len-len.ensures.exact);
-  at = later_place g.S.NodeSpace.table c.loop-place.pos c.skip.new.self c.args.space.now c.args.x c.loop-place.place (length c.in_ok-run.run'.now) c.skip.ensures.space c.skip.ensures.rope c.skip.ensures.index c.loop-place.invariant.at;
-  told = λ source agrees stated.
-      let t = g.S.NodeSpace.table c.args.space.now in
-      let st = g.T.Sources.stated c.args.sources.now in
-      let u = text source (rope_cells t c.args.x) in
-      let place : ℕ = c.loop-place.place in
-      let run : List ℕ = c.in_ok-run.run'.now in
-      let same : (p : ℕ) → p < length run → slice_get run p ≡ slice_get u (place + p) = λ p lt.
-      byte_there g.S.NodeSpace.table c.loop-place.pos c.args.space.now c.args.x place p st (g.T.Sources.stated c.loop-place.sources) run source c.loop-place.invariant.at c.in_ok-run.ensures.inside c.in_ok-run.ensures.bytes
-      c.loop-place.invariant.reads.same agrees lt (stated (place + p) (omega (arith, c.loop-place.invariant.from)) (omega (arith, lt))) in
-      let before = c.loop-place.invariant.told source agrees (λ p above below. stated p above (omega (arith, below))) in
-      let none = no_byte_in u run place c.args.c 0 (length run) c.in_default.ensures (λ p low high. same p high) in
-      nowhere_in_both (c.args.c ∷ []) u c.args.i place (place + length run) before (λ j above. none j (omega (arith, above)));
-}
+loop-place-preserved g c =
+    let t = g.S.NodeSpace.table c.args.space.now in
+    let place : ℕ = c.loop-place.place in
+    let run : List ℕ = c.in_ok-run.run'.now in
+    let clear : ℕ = c.clear_ahead-clear.result in
+    let len = there_len g.S.NodeSpace.table c.loop-place.pos c.args.space.now c.args.x place c.loop-place.invariant.at in
+    let left : place < rope_len t c.args.x = omega (arith, c.loop-place-test.true, c.rope_len-len.ensures.exact) in
+    record {
+      reads = reads_then c.loop-place.invariant.reads c.in_ok-run.ensures.reads.reads;
+      from = omega (arith, c.loop-place.invariant.from);
+      inside = omega (arith, c.clear_ahead-clear.ensures.inside, c.loop-place.invariant.at.index, len, left);
+      at = later_place g.S.NodeSpace.table c.loop-place.pos c.skip.new.self c.args.space.now c.args.x place clear c.skip.ensures.space c.skip.ensures.rope c.skip.ensures.index c.loop-place.invariant.at;
+      told = λ source agrees stated.
+          let st = g.T.Sources.stated c.args.sources.now in
+          let u = text source (rope_cells t c.args.x) in
+          let same : (p : ℕ) → p < length run → slice_get run p ≡ slice_get u (place + p) = λ p lt.
+          byte_there g.S.NodeSpace.table c.loop-place.pos c.args.space.now c.args.x place p st (g.T.Sources.stated c.loop-place.sources) run source c.loop-place.invariant.at c.in_ok-run.ensures.inside c.in_ok-run.ensures.bytes
+          c.loop-place.invariant.reads.same agrees lt (stated (place + p) (omega (arith, c.loop-place.invariant.from)) (omega (arith, lt, c.clear_ahead-clear.ensures.more))) in
+          let before = c.loop-place.invariant.told source agrees (λ p above below. stated p above (omega (arith, below))) in
+          let none = no_byte_in u run place c.args.c 0 (length run) c.in_default.ensures (λ p low high. same p high) in
+          let also = clear_there g.S.NodeSpace.table c.loop-place.pos c.args.space.now c.args.x place 1 (length run) clear c.loop-place.invariant.at left c.clear_ahead-clear.ensures.clear in
+          nowhere_in_both (c.args.c ∷ []) u c.args.i place (place + clear) before (also source (c.args.c ∷ []) refl (λ j above. none j (omega (arith, above))));
+    }
 
 pub returns-clause-found : goal.returns-clause-found
 returns-clause-found g c source agrees stated =

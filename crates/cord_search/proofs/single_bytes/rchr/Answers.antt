@@ -1,4 +1,4 @@
-use Rattle.std.proofs.Common.{◌≡◌, ◌+◌, ◌-◌, ◌<◌, ◌≤◌, ℕ, List, length, ◌∷◌, [], sym, ◌∙◌, arith}
+use Rattle.std.proofs.Common.{◌≡◌, ◌+◌, ◌-◌, ◌<◌, ◌≤◌, ℕ, List, length, ◌∷◌, [], refl, sym, ◌∙◌, arith}
 use Rattle.std.specs.Prelude.{slice_get}
 use Rattle.std.proofs.lemmas.Result.{err_from_is_err_and}
 use Rattle.lazy_file.proofs.LaterReads.{reads_then}
@@ -43,27 +43,32 @@ returns-in-Some-clause-found g c source agrees stated =
     }
 
 pub loop-end-preserved : goal.loop-end-preserved
-loop-end-preserved g c = record {
-  reads = reads_then c.loop-end.invariant.reads c.in_ok-window.ensures.reads.reads;
-  until = omega (arith, c.loop-end.invariant.until, c.saturating_sub-from.ensures);
-  inside = omega (arith, c.loop-end.invariant.inside, c.saturating_sub-from.ensures);
-  told = λ source agrees stated.
-      let t = g.S.NodeSpace.table c.args.space.now in
-      let st = g.T.Sources.stated c.args.sources.now in
-      let u = text source (rope_cells t c.args.x) in
-      let from : ℕ = c.saturating_sub-from.result in
-      let end : ℕ = c.loop-end.end in
-      let window : List ℕ = c.in_ok-window.window.now in
-      let long : from + length window ≡ end = omega (arith, c.in_ok-window.ensures.most, c.in_ok-window.ensures.enough, c.saturating_sub-from.ensures) in
-      let at = set_there g.S.NodeSpace.table c.set-pos.result c.args.space.now c.args.x from c.set-pos.ensures.space c.set-pos.ensures.rope c.set-pos.ensures.index in
-      let inside : c.set-pos.result.index + length window ≤ text_len g.S.NodeSpace.table c.set-pos.result = omega (arith, there_len g.S.NodeSpace.table c.set-pos.result c.args.space.now c.args.x from at, long, c.loop-end.invariant.inside, c.set-pos.ensures.index) in
-      let same : (p : ℕ) → 0 ≤ p → p < length window → slice_get window p ≡ slice_get u (from + p) = λ p low lt.
-      byte_there g.S.NodeSpace.table c.set-pos.result c.args.space.now c.args.x from p st (g.T.Sources.stated c.loop-end.sources) window source at inside c.in_ok-window.ensures.bytes
-      c.loop-end.invariant.reads.same agrees lt (stated (from + p) (omega arith) (omega (arith, lt, long, c.loop-end.invariant.until))) in
-      let after = c.loop-end.invariant.told source agrees (λ p above below. stated p (omega (arith, above, long)) (omega (arith, below))) in
-      let none = no_byte_in u window from c.args.c 0 (length window) c.in_default.ensures same in
-      nowhere_up_to (c.args.c ∷ []) u from end c.args.i (λ j low high. none j (omega (arith, low)) (omega (arith, high, long))) after;
-}
+loop-end-preserved g c =
+    let t = g.S.NodeSpace.table c.args.space.now in
+    let from : ℕ = c.saturating_sub-from.result in
+    let end : ℕ = c.loop-end.end in
+    let clear : ℕ = c.clear_behind-end.result in
+    let index : c.set-pos.result.index ≡ from = omega (arith, c.set-pos.ensures.index, c.loop-end.invariant.inside, c.saturating_sub-from.ensures) in
+    let behind : clear ≤ from = omega (arith, c.clear_behind-end.ensures.before, index) in
+    record {
+      reads = reads_then c.loop-end.invariant.reads c.in_ok-window.ensures.reads.reads;
+      until = omega (arith, c.loop-end.invariant.until, c.saturating_sub-from.ensures, behind);
+      inside = omega (arith, c.loop-end.invariant.inside, c.saturating_sub-from.ensures, behind);
+      told = λ source agrees stated.
+          let st = g.T.Sources.stated c.args.sources.now in
+          let u = text source (rope_cells t c.args.x) in
+          let window : List ℕ = c.in_ok-window.window.now in
+          let long : from + length window ≡ end = omega (arith, c.in_ok-window.ensures.most, c.in_ok-window.ensures.enough, c.saturating_sub-from.ensures) in
+          let at = set_there g.S.NodeSpace.table c.set-pos.result c.args.space.now c.args.x from c.set-pos.ensures.space c.set-pos.ensures.rope c.set-pos.ensures.index in
+          let inside : c.set-pos.result.index + length window ≤ text_len g.S.NodeSpace.table c.set-pos.result = omega (arith, there_len g.S.NodeSpace.table c.set-pos.result c.args.space.now c.args.x from at, long, c.loop-end.invariant.inside, index) in
+          let same : (p : ℕ) → 0 ≤ p → p < length window → slice_get window p ≡ slice_get u (from + p) = λ p low lt.
+          byte_there g.S.NodeSpace.table c.set-pos.result c.args.space.now c.args.x from p st (g.T.Sources.stated c.loop-end.sources) window source at inside c.in_ok-window.ensures.bytes
+          c.loop-end.invariant.reads.same agrees lt (stated (from + p) (omega (arith, behind)) (omega (arith, lt, long, c.loop-end.invariant.until))) in
+          let after = c.loop-end.invariant.told source agrees (λ p above below. stated p (omega (arith, above, long, behind)) (omega (arith, below))) in
+          let none = no_byte_in u window from c.args.c 0 (length window) c.in_default.ensures same in
+          let also = c.clear_behind-end.ensures.clear source (c.args.c ∷ []) refl (λ j low high. none j (omega (arith, low, index)) (omega (arith, high, index, long))) in
+          nowhere_up_to (c.args.c ∷ []) u clear end c.args.i (λ j low high. also j low (omega (arith, high, index, long))) after;
+    }
 
 pub returns-clause-found : goal.returns-clause-found
 returns-clause-found g c source agrees stated j until =

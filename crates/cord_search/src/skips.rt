@@ -1,0 +1,54 @@
+//! How far a search skips places of a leaf that repeats.
+
+ghost use Rattle.std.specs.Prelude.{◌≡◌, ◌≤◌, ◌+◌};
+ghost use Rattle.rope_node.specs.Denotes.{IsRope};
+ghost use Rattle.cord_position.specs.Position.{text_len};
+ghost use Rattle.cord_search.specs.Skipped.{IsClearAlso};
+
+use cord_position::Pos;
+use rope_node::{NodeSpace, Rope, rope_len};
+use std::alloc::Global;
+
+/// At how many places from a position on a pattern of `need` bytes cannot stand, where it stands at none of the first `count`: at all
+/// whose bytes are in the present leaf's span, if the leaf repeats within these, and else at these alone.
+pub fn clear_ahead<S: NodeSpace>(pos: &Pos<'_, S>, need: u64, count: u64) -> u64
+    requires some { 1 ≤ need }
+    requires inside { pos.now.index + count + need ≤ text_len S.table pos.now + 1 }
+    ensures more { count ≤ result }
+    ensures inside { pos.now.index + result + need ≤ text_len S.table pos.now + 1 }
+    ensures clear { IsClearAlso (S.table pos.now.space) pos.now.rope need
+        pos.now.index (pos.now.index + count) pos.now.index (pos.now.index + result) }
+{
+    let reach = pos.run_left().saturating_sub(need - 1);
+    if reach <= count {
+        return count;
+    }
+    match pos.run_period() {
+        Some(period) if period <= count => reach,
+        _ => count,
+    }
+}
+
+/// The first place from which on a byte cannot stand, where it stands at none of `count` places from a position on: the first of the
+/// present leaf's span, if the leaf repeats within these, and else the position's.
+pub fn clear_behind<S: NodeSpace>(
+    alloc: Global,
+    pos: &Pos<'_, S>,
+    space: &S,
+    x: Rope,
+    count: u64,
+) -> u64
+    requires rope { IsRope (S.table space.now) x }
+    requires here { (pos.now.space ≡ space.now) × (pos.now.rope ≡ x) }
+    ensures before { result ≤ pos.now.index }
+    ensures clear { IsClearAlso (S.table space.now) x 1
+        pos.now.index (pos.now.index + count) result (pos.now.index + count) }
+{
+    let _len = rope_len(space, x);
+    let first = pos.run_start();
+    let start = Pos::set(alloc, space, x, first);
+    match start.run_period() {
+        Some(period) if period <= count.min(pos.run_left()) => first,
+        _ => pos.index(),
+    }
+}
