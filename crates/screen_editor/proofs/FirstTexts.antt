@@ -1,5 +1,5 @@
 -- The text of a session's first revision.
-use Rattle.std.proofs.Common.{◌≡◌, ℕ, ◌≤◌, inl, inr, List, [], ◌∷◌, ◌++◌, length, map, get_or, Some, Bool, true, false, refl, sym, ap, subst, arith, ◌∙◌}
+use Rattle.std.proofs.Common.{◌≡◌, ℕ, ◌≤◌, inl, inr, List, [], ◌∷◌, ◌++◌, length, map, get_or, Some, None, Bool, true, false, refl, sym, ap, subst, arith, ◌∙◌}
 use Rattle.std.specs.Prelude.{◌↔◌, slice_get, IsTrue}
 use Rattle.std.specs.List.{range_with_len}
 use Rattle.std.proofs.lemmas.List.{length-map}
@@ -13,10 +13,10 @@ use Rattle.edit_commands.specs.declared.revision.Revision.{Revision}
 use Rattle.edit_commands.specs.Applying.{Applies}
 use Rattle.edit_commands.specs.Building.{edit_with}
 use Rattle.edit_commands.specs.Session.{HoldsHistory, SessionValue, edits_of, session_table, text_givens, texts_of}
-use Rattle.screen_editor.specs.Editing.{longest_text}
+use Rattle.screen_editor.specs.Editing.{Editing, longest_text, state_of}
 use Rattle.screen_editor.specs.Opening.{IsFirst, first_command}
 use Rattle.screen_editor.specs.Refusals.{IsTooLong}
-use Rattle.screen_editor.specs.Revising.{first_text}
+use Rattle.screen_editor.specs.Revising.{IsMade, first_text}
 use Rattle.screen_editor.proofs.NewTexts.{text_len}
 
 alone : (ts : List (List ℕ)) (t : List ℕ) → length ts ≡ 1 → slice_get ts 0 ≡ Some t → ts ≡ t ∷ []
@@ -57,3 +57,8 @@ is_short test st h e = elim (cases_lt longest_text (get_or st.sizes 0 0)) [
   | inl long ↦ (let same : false ≡ true = sym e ∙ h.1 long in absurd cc)
   | inr short ↦ short
 ]
+
+-- an editor of such a session, at its first byte
+pub begun : (sizes : List ℕ) (v : SessionValue) (e : Editing) → IsFirst sizes v → e ≡ record { session = v; priors = None ∷ []; place = 0; mark = None; cuts = []; message = None } → IsMade sizes e
+begun sizes v e first is source =
+    ap (state_of source) is ∙ ap (λ (ts : List (List ℕ)). record { texts = ts; priors = None ∷ []; place = 0; mark = None; cuts = []; message = None }) (first.text source)
