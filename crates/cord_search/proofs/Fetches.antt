@@ -12,9 +12,8 @@ use Rattle.cord_search.specs.Stated.{OfSpan}
 pub told_before : (t : Table) (old new : Stated) (rope : Option NodeId) (i j : ℕ) (P : List ℕ → Type 0) → new ≡ old → OfSpan t new rope i j P → OfSpan t old rope i j P
 told_before t old new rope i j P same told = subst (λ st. OfSpan t st rope i j P) same told
 
--- the byte at a place itself
-pub fetched_at : (t : Table) (old new : Stated) (rope : Option NodeId) (at place : ℕ) (found : Option ℕ) → new ≡ old → at ≡ place → IsFetched t new rope at found → IsFetched t old rope place found
-fetched_at t old new rope at place found same is told = subst (λ p. IsFetched t old rope p found) is (subst (λ st. IsFetched t st rope at found) same told)
+pub fetched_at : (t : Table) (old new : Stated) (rope : Option NodeId) (place : ℕ) (found : Option ℕ) → new ≡ old → IsFetched t new rope place found → IsFetched t old rope place found
+fetched_at t old new rope place found same told = subst (λ st. IsFetched t st rope place found) same told
 
 pub text_length : (t : Table) (rope : Option NodeId) (source : ℕ → ℕ → ℕ) → length (text source (rope_cells t rope)) ≡ length (rope_cells t rope)
 text_length t rope source = length-map (rope_cells t rope) (cell_byte source)

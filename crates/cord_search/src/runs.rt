@@ -4,6 +4,7 @@ ghost use Rattle.std.specs.Prelude.{◌≡◌, ◌<◌, ◌≤◌, ◌+◌, leng
 ghost use Rattle.rope_node.specs.Denotes.{IsRope, rope_len};
 ghost use Rattle.cord_position.specs.Fetched.{ReadsSpan, rope_cell};
 ghost use Rattle.cord_position.specs.Position.{cell_of, text_len};
+ghost use Rattle.cord_search.specs.declared.runs.TheConstants.{WINDOW};
 ghost use Rattle.cord_search.specs.Pieces.{IsPiece, IsPieceHere};
 
 use cord_position::Pos;
@@ -107,7 +108,7 @@ pub fn next_window<'r, S: NodeSpace, T: Sources>(
 ) -> Result<&'r [u8], SourceFault>
     requires rope { IsRope (S.table space.now) x }
     requires here { (pos.now.space ≡ space.now) × (pos.now.rope ≡ x) }
-    requires need { (1 ≤ need) × (need ≤ most) × (need ≤ 8192) }
+    requires need { (1 ≤ need) × (need ≤ most) × (need ≤ WINDOW) }
     requires inside { pos.now.index + most ≤ rope_len (S.table space.now) x }
     ensures bytes { IfOk result
         (λ window. IsPieceHere S.table (T.stated sources.old) pos.now window.now) }

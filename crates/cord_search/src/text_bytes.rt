@@ -9,7 +9,7 @@ use cord_position::Pos;
 use lazy_file::{SourceFault, Sources};
 use rope_node::{NodeSpace, Rope, rope_len};
 
-/// The byte `k` behind `start`, if the text goes so far, by a position that stands there, or at the end.
+/// The byte at a place, if the text goes so far, by a position that stands there, or at the end.
 ///
 /// # Errors
 ///
@@ -20,17 +20,14 @@ pub fn byte_at<S: NodeSpace, T: Sources>(
     space: &S,
     sources: &mut T,
     rope: Rope,
-    start: u64,
-    k: u64,
+    place: u64,
 ) -> Result<Option<u8>, SourceFault>
     requires rope { IsRope (S.table space.now) rope }
-    requires here { StandsAtPlace S.table pos.now space.now rope (start + k) }
-    ensures byte { IfOk result
-        (IsFetched (S.table space.now) (T.stated sources.old) rope (start + k)) }
-    ensures inside { IfOk result
-        (λ found. IsSome found ↔ start + k < rope_len (S.table space.now) rope) }
+    requires here { StandsAtPlace S.table pos.now space.now rope place }
+    ensures byte { IfOk result (IsFetched (S.table space.now) (T.stated sources.old) rope place) }
+    ensures inside { IfOk result (λ found. IsSome found ↔ place < rope_len (S.table space.now) rope) }
     ensures reads { ReadsSpan T.stated T.failures sources.old sources.new
-        (rope_cell (S.table space.now) rope) (start + k) (start + k + 1) result }
+        (rope_cell (S.table space.now) rope) place (place + 1) result }
 {
     let _len = rope_len(space, rope);
     pos.fetch(sources)

@@ -17,7 +17,6 @@ use Rattle.screen_editor.specs.Editing.{Editing, longest_text, state_of}
 use Rattle.screen_editor.specs.Opening.{IsFirst, first_command}
 use Rattle.screen_editor.specs.Refusals.{IsTooLong}
 use Rattle.screen_editor.specs.Revising.{IsMade, first_text}
-use Rattle.screen_editor.specs.State.{start_of}
 use Rattle.screen_editor.proofs.NewTexts.{text_len}
 
 alone : (ts : List (List ℕ)) (t : List ℕ) → length ts ≡ 1 → slice_get ts 0 ≡ Some t → ts ≡ t ∷ []
@@ -60,6 +59,6 @@ is_short test st h e = elim (cases_lt longest_text (get_or st.sizes 0 0)) [
 ]
 
 -- an editor of such a session, at its first byte
-pub first_state : (sizes : List ℕ) (v : SessionValue) (e : Editing) → IsFirst sizes v → e ≡ record { session = v; priors = None ∷ []; place = 0; mark = None; cuts = []; message = None } → IsMade sizes e
-first_state sizes v e first is source =
-    ap (λ (e : Editing). state_of source e) is ∙ ap (λ (ts : List (List ℕ)). record (start_of []) { texts = ts }) (first.text source)
+pub begun : (sizes : List ℕ) (v : SessionValue) (e : Editing) → IsFirst sizes v → e ≡ record { session = v; priors = None ∷ []; place = 0; mark = None; cuts = []; message = None } → IsMade sizes e
+begun sizes v e first is source =
+    ap (state_of source) is ∙ ap (λ (ts : List (List ℕ)). record { texts = ts; priors = None ∷ []; place = 0; mark = None; cuts = []; message = None }) (first.text source)

@@ -21,9 +21,10 @@ use Rattle.screen_editor.specs.declared.fault.KeyFault.TheVariants as Fault
 use Rattle.screen_editor.specs.declared.key.Key.{Key}
 use Rattle.screen_editor.specs.Editing.{Editing, IsEditing, current_len, key_code, last_of, longest_text, state_of}
 use Rattle.screen_editor.specs.Machine.{done, edit_of, revised}
+use Rattle.screen_editor.specs.Refusals.{GrowsTooLong, IsPlainFault, MakesRevision}
 use Rattle.screen_editor.specs.Revising.{Does, KeepsAll}
 use Rattle.screen_editor.specs.State.{EditorState, current}
-use Rattle.screen_editor.specs.Taking.{IsFaultBy, IsInOrder, IsReviseFault, MakesOne, MakesTooLong, RevisesOrNot, CarriesOut}
+use Rattle.screen_editor.specs.Taking.{IsInOrder, IsReviseFault, RevisesOrNot, CarriesOut}
 use Rattle.screen_editor.proofs.NewTexts.{count_texts, edits_more, given_len, text_given, text_len, texts_more}
 
 pub no_source : ℕ → ℕ → ℕ
@@ -50,7 +51,7 @@ all_kept e = record {
 }
 
 -- a key whose text would be too long
-pub too_long_kept : (key : Key) (e : Editing) → MakesOne key e → MakesTooLong key e → CarriesOut key e (Err Fault.TooLong) e
+pub too_long_kept : (key : Key) (e : Editing) → MakesRevision key e → GrowsTooLong key e → CarriesOut key e (Err Fault.TooLong) e
 too_long_kept key e one long = record {
   done = tt;
   command = tt;
@@ -62,6 +63,20 @@ too_long_kept key e one long = record {
 }
 
 -- ---- no revision
+
+-- a key that leaves the texts as they are makes no revision, and no text that is too long
+pub makes_none : (key : Key) (e : Editing) → (done key (state_of no_source e)).texts ≡ texts_of no_source e.session → MakesRevision key e → ⊥
+makes_none key e same one =
+    let count : length (done key (state_of no_source e)).texts ≡ length e.session.revisions = ap length same ∙ count_texts e.session no_source in
+    let l = one no_source in
+    omega (arith, count, l)
+
+pub stays_short : (key : Key) (e : Editing) → IsEditing e → HoldsHistory e.session → (done key (state_of no_source e)).texts ≡ texts_of no_source e.session → GrowsTooLong key e → ⊥
+stays_short key e is h same long =
+    let len : length (current (done key (state_of no_source e))) ≡ current_len e = ap (λ (ts : List (List ℕ)). length (get_or ts (length ts - 1) [])) same ∙ current_text_len e h no_source in
+    let short = is.short (last_of e) (omega (arith, is.some)) in
+    let l = long no_source in
+    omega (arith, len, short, l)
 
 pub record Stays (key : Key) (old new : Editing) : Type 0 where
   pub texts : (source : ℕ → ℕ → ℕ) → (done key (state_of source old)).texts ≡ texts_of source old.session
@@ -78,24 +93,11 @@ stays key old new e h s = record {
         ∙ ap (λ (o : Option Edit). edits_of old.session.revisions ++ cons_option o []) (sym (s.edit source)),
   );
   kept = tt;
-  too_long = (λ x. absurd cc, λ long. absurd (past long));
-  too_many = λ one no full. absurd (none one);
+  too_long = (λ x. absurd cc, λ long. absurd (stays_short key old e h (s.texts no_source) long));
+  too_many = λ one no full. absurd (makes_none key old (s.texts no_source) one);
   fault = tt;
   sources = ap (λ (v : SessionValue). v.held.sources) s.session;
 }
-  where
-    past : MakesTooLong key old → ⊥
-    past long =
-        let len : length (current (done key (state_of no_source old))) ≡ current_len old = ap (λ (ts : List (List ℕ)). length (get_or ts (length ts - 1) [])) (s.texts no_source) ∙ current_text_len old h no_source in
-        let short = e.short (last_of old) (omega (arith, e.some)) in
-        let l = long no_source in
-        omega (arith, len, short, l)
-
-    none : MakesOne key old → ⊥
-    none one =
-        let count : length (done key (state_of no_source old)).texts ≡ length old.session.revisions = ap length (s.texts no_source) ∙ count_texts old.session no_source in
-        let l = one no_source in
-        omega (arith, count, l)
 
 pub idle : (key : Key) (e : Editing) → IsEditing e → HoldsHistory e.session → ((source : ℕ → ℕ → ℕ) → done key (state_of source e) ≡ state_of source e)
     → ((source : ℕ → ℕ → ℕ) → edit_of 0 key (state_of source e) ≡ None) → CarriesOut key e (Ok tt) e
@@ -133,11 +135,11 @@ pub record IsPlan (key : Key) (e : Editing) (command : Command) (prior : Option 
   pub short : result_len e.session command ≤ longest_text
 
 -- it makes one revision, and its text is not too long
-makes_one : (key : Key) (e : Editing) (command : Command) (prior : Option ℕ) (q : ℕ) (cuts : List CutSpan) → IsPlan key e command prior q cuts → MakesOne key e
+makes_one : (key : Key) (e : Editing) (command : Command) (prior : Option ℕ) (q : ℕ) (cuts : List CutSpan) → IsPlan key e command prior q cuts → MakesRevision key e
 makes_one key e command prior q cuts p source =
     ap (λ (s : EditorState). length s.texts) (p.does source) ∙ count_revised source e (text_given (texts_of source e.session) command)
 
-not_long : (key : Key) (e : Editing) (command : Command) (prior : Option ℕ) (q : ℕ) (cuts : List CutSpan) → HoldsHistory e.session → IsPlan key e command prior q cuts → MakesTooLong key e → ⊥
+not_long : (key : Key) (e : Editing) (command : Command) (prior : Option ℕ) (q : ℕ) (cuts : List CutSpan) → HoldsHistory e.session → IsPlan key e command prior q cuts → GrowsTooLong key e → ⊥
 not_long key e command prior q cuts h p long =
     let len : length (current (done key (state_of no_source e))) ≡ result_len e.session command =
     ap (λ (s : EditorState). length (current s)) (p.does no_source) ∙ ap length (current_revised no_source e (text_given (texts_of no_source e.session) command)) ∙ given_len e.session h no_source command p.order in
@@ -167,8 +169,8 @@ plan_taken key old command prior q cuts mid new h p r is = record {
         ∙ ap (λ (ts : List (List ℕ)). record { texts = ts; priors = old.priors ++ prior ∷ []; place = q; mark = None; cuts = cuts; message = option_map key_code old.message }) (texts_more old.session command mid.session p.order r.revises.applies source)
         ∙ sym (p.does source)
 
-plan_fault : (key : Key) (old : Editing) (command : Command) (f : KeyFault) (new : Editing) → ((a : ℕ) (source : ℕ → ℕ → ℕ) → edit_of a key (state_of source old) ≡ Some (edit_with a command)) → MakesOne key old
-    → IsReviseFault command old f new → IsFaultBy key old f new
+plan_fault : (key : Key) (old : Editing) (command : Command) (f : KeyFault) (new : Editing) → ((a : ℕ) (source : ℕ → ℕ → ℕ) → edit_of a key (state_of source old) ≡ Some (edit_with a command)) → MakesRevision key old
+    → IsReviseFault command old f new → IsPlainFault key old f new
 plan_fault key old command Fault.TooLong new edit one h = absurd h
 plan_fault key old command (Fault.Source f) new edit one h = absurd h
 plan_fault key old command (Fault.Edit Edit.NoRevision) new edit one h = absurd h
@@ -179,7 +181,7 @@ plan_fault key old command (Fault.Edit Edit.TooManyRevisions) new edit one h = (
 plan_fault key old command (Fault.Edit Edit.TooManyRows) new edit one h = (one, record { command = command; place = 0; edit = edit 0; met = h })
 plan_fault key old command (Fault.Edit (Edit.Node n)) new edit one h = (one, record { command = command; place = 0; edit = edit 0; met = h })
 plan_fault key old command (Fault.Edit Edit.TooManyPieces) new edit one h = (one, record { command = command; place = 0; edit = edit 0; met = h })
-plan_fault key old command (Fault.Edit Edit.Memory) new edit one h = one
+plan_fault key old command (Fault.Edit Edit.Memory) new edit one h = (one, tt)
 
 pub plan_refused : (key : Key) (old : Editing) (command : Command) (prior : Option ℕ) (q : ℕ) (cuts : List CutSpan) (f : KeyFault) (new : Editing) → HoldsHistory old.session → IsPlan key old command prior q cuts
     → RevisesOrNot command prior q old (Err f) new → CarriesOut key old (Err f) new

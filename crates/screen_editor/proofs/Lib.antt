@@ -1,7 +1,6 @@
 pub mod FirstTexts
 pub mod MadeFrames
 pub mod ToldKeys
-pub mod KeyKinds
 pub mod TakenKeys
 pub mod ManyTurns
 pub mod CurrentTexts

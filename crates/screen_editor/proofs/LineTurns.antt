@@ -1,5 +1,5 @@
 -- Keys that look for line breaks.
-use Rattle.std.proofs.Common.{◌≡◌, ℕ, ◌+◌, ◌-◌, ◌<◌, ◌≤◌, List, [], length, get_or, Result, Ok, Err, Option, Some, None, true, false, refl, sym, ap, subst, arith, ◌∙◌, append-nil}
+use Rattle.std.proofs.Common.{◌≡◌, ℕ, ◌-◌, List, [], get_or, Result, Ok, Err, Option, Some, None, true, false, refl, sym, ap, subst, ◌∙◌, append-nil}
 use Rattle.std.specs.Prelude.{IsTrue, IfErr, OnOk, IsErrOf, IsOk}
 use Rattle.std.proofs.Math.ListN.{get_or-map}
 use Rattle.std.proofs.lemmas.Option.{same_Some}
@@ -18,15 +18,15 @@ use Rattle.screen_editor.specs.declared.fault.KeyFault.{KeyFault}
 use Rattle.screen_editor.specs.declared.fault.KeyFault.TheVariants as Fault
 use Rattle.screen_editor.specs.declared.key.Key.{Key}
 use Rattle.screen_editor.specs.declared.key.Key.TheVariants.{Typed, EraseBefore, EraseAt, Left, Right, LineStart, LineEnd, Up, Down, Mark, Cut, Paste, DropCut, Undo, Balance, Save, Leave, Nothing}
-use Rattle.screen_editor.specs.Editing.{Editing, EachCurrent, IsEditing, current_cell, current_len, current_root, last_of, longest_text, state_of}
-use Rattle.screen_editor.specs.Keys.{key_of, moves_by_lines}
-use Rattle.screen_editor.specs.LineKeys.{DoesStated, IsLinePlace, Takes, line_place, looks_for_lines}
-use Rattle.screen_editor.specs.Machine.{done, edit_of, moved, step}
-use Rattle.screen_editor.specs.Refusals.{IsKeyFault, MakesRevision}
-use Rattle.screen_editor.specs.Revising.{GrowsTooLong, TakesPlain, IsPlainFault}
+use Rattle.screen_editor.specs.Editing.{Editing, EachCurrent, IsEditing, current_cell, current_len, current_root, last_of, state_of}
+use Rattle.screen_editor.specs.Keys.{looks_for_lines}
+use Rattle.screen_editor.specs.LineKeys.{DoesStated, IsLinePlace, Takes, line_place}
+use Rattle.screen_editor.specs.Machine.{done, edit_of, moved}
+use Rattle.screen_editor.specs.Refusals.{IsKeyFault, IsPlainFault}
 use Rattle.screen_editor.specs.State.{EditorState, current}
-use Rattle.screen_editor.proofs.KeyKinds.{looks_alike}
-use Rattle.screen_editor.proofs.NewTexts.{count_texts, text_len}
+use Rattle.screen_editor.specs.Taking.{CarriesOut}
+use Rattle.screen_editor.proofs.KeyPlans.{makes_none, no_source, stays_short}
+use Rattle.screen_editor.proofs.NewTexts.{count_texts}
 
 -- a read that failed, whatever it was to answer
 pub failed_alike : {T X Y : Type 0} (stated : T → Stated) (failures : T → ℕ) (old new : T) (cell : ℕ → Cell) (i j : ℕ) (f : SourceFault) → ReadsSpan {X = X} stated failures old new cell i j (Err f) → ReadsSpan {X = Y} stated failures old new cell i j (Err f)
@@ -49,9 +49,6 @@ current_text source e =
     ap (λ (n : ℕ). get_or (texts_of source e.session) (n - 1) []) (count_texts e.session source)
     ∙ get_or-map (text source) (cells_of e.session) (last_of e) []
     ∙ ap (text source) (get_or-map (rope_cells (session_table e.session)) (roots_of e.session.revisions) (last_of e) None)
-
-current_count : (source : ℕ → ℕ → ℕ) (e : Editing) → HoldsHistory e.session → length (current (state_of source e)) ≡ current_len e
-current_count source e history = ap (λ (n : ℕ). length (get_or (texts_of source e.session) (n - 1) [])) (count_texts e.session source) ∙ text_len e.session history source (last_of e)
 
 -- ---- such a key moves the place alone
 
@@ -115,27 +112,6 @@ same_texts Save s e = absurd cc
 same_texts Leave s e = absurd cc
 same_texts Nothing s e = absurd cc
 
--- ---- so it makes no revision, and no text that is too long
-
-nothing : ℕ → ℕ → ℕ
-nothing s p = 0
-
-no_more : (n : ℕ) → n ≡ n + 1 → ⊥
-no_more n e = omega (arith, e)
-
-makes_none : (b : ℕ) (e : Editing) → looks_for_lines (key_of b) ≡ true → MakesRevision b e → ⊥
-makes_none b e looks h = no_more (length e.session.revisions) (sym (ap length (same_texts (key_of b) (state_of nothing e) looks) ∙ count_texts e.session nothing) ∙ h nothing)
-
-stays_short : (b : ℕ) (e : Editing) → IsEditing e → HoldsHistory e.session → looks_for_lines (key_of b) ≡ true → GrowsTooLong b e → ⊥
-stays_short b e is history looks h =
-    let same : length (current (step b (state_of nothing e))) ≡ current_len e = ap (λ (ts : List (List ℕ)). length (get_or ts (length ts - 1) [])) (same_texts (key_of b) (state_of nothing e) looks) ∙ current_count nothing e history in
-    let short : current_len e ≤ longest_text = is.short (last_of e) (omega (arith, is.some)) in
-    let long : longest_text < length (current (step b (state_of nothing e))) = h nothing in
-    omega (arith, same, short, long)
-
-looks_so : (b : ℕ) → looks_for_lines (key_of b) ≡ true → IsTrue (moves_by_lines b)
-looks_so b e = sym (looks_alike b) ∙ e
-
 -- ---- what taking such a key does
 
 taken_is_taken : (f : KeyFault) → IsErrOf {T = Unit {0}} (Ok tt) f → ⊥
@@ -150,36 +126,36 @@ failed_is_failed f e = let same : false ≡ true = e in absurd cc
 keeps_itself : (v : SessionValue) → Keeps v v
 keeps_itself v = record { goes_on = goes_on_itself v.held; cells = refl }
 
-moved_state : (source : ℕ → ℕ → ℕ) (st : Stated) (b : ℕ) (old : Editing) (p : ℕ) → IsLinePlace st (key_of b) old p → Agrees st source → EachCurrent old (IsStated st) → state_of source (record old { place = p }) ≡ done (key_of b) (state_of source old)
-moved_state source st b old p h agrees stated =
-    sym (moves_there (key_of b) (state_of source old) p (subst (λ (t : List ℕ). line_place (key_of b) t old.place ≡ Some p) (sym (current_text source old)) (h.is source agrees stated)))
+moved_state : (source : ℕ → ℕ → ℕ) (st : Stated) (key : Key) (old : Editing) (p : ℕ) → IsLinePlace st key old p → Agrees st source → EachCurrent old (IsStated st) → state_of source (record old { place = p }) ≡ done key (state_of source old)
+moved_state source st key old p h agrees stated =
+    sym (moves_there key (state_of source old) p (subst (λ (t : List ℕ). line_place key t old.place ≡ Some p) (sym (current_text source old)) (h.is source agrees stated)))
 
-pub moved_takes : {T : Type 0} (stated : T → Stated) (failures : T → ℕ) (b : ℕ) (before now : T) (old new : Editing) (p : ℕ) → IsEditing old → HoldsHistory old.session
-    → IsLinePlace (stated before) (key_of b) old p → new ≡ record old { place = p } → Reads stated failures before now → Takes stated failures b before old (Ok tt) now new
-moved_takes {T} stated failures b before now old new p is history h e reads =
-    subst (λ (x : Editing). Takes stated failures b before old (Ok tt) now x) (sym e) (record {
-      done = λ source agrees told. moved_state source (stated before) b old p h agrees (told (looks_so b h.looks));
-      command = (0, λ source. rw (no_edit (key_of b) 0 (state_of source old) h.looks) (sym (append-nil (edits_of old.session.revisions))));
+pub moved_takes : {T : Type 0} (stated : T → Stated) (failures : T → ℕ) (key : Key) (before now : T) (old new : Editing) (p : ℕ) → IsEditing old → HoldsHistory old.session
+    → IsLinePlace (stated before) key old p → new ≡ record old { place = p } → Reads stated failures before now → Takes stated failures key before old (Ok tt) now new
+moved_takes {T} stated failures key before now old new p is history h e reads =
+    subst (λ (x : Editing). Takes stated failures key before old (Ok tt) now x) (sym e) (record {
+      done = λ source agrees told. moved_state source (stated before) key old p h agrees (told h.looks);
+      command = (0, λ source. rw (no_edit key 0 (state_of source old) h.looks) (sym (append-nil (edits_of old.session.revisions))));
       moves = λ _. refl;
       kept = tt;
-      too_long = ((λ told. absurd (taken_is_taken Fault.TooLong told)), (λ grows. absurd (stays_short b old is history h.looks grows)));
-      too_many = λ makes _ _. absurd (makes_none b old h.looks makes);
+      too_long = ((λ told. absurd (taken_is_taken Fault.TooLong told)), (λ grows. absurd (stays_short key old is history (same_texts key (state_of no_source old) h.looks) grows)));
+      too_many = λ makes _ _. absurd (makes_none key old (same_texts key (state_of no_source old) h.looks) makes);
       fault = tt;
       reads = reads;
       succeeds = λ _ f told. taken_is_taken (Fault.Source f) told;
       sources = refl;
     })
 
-pub failed_takes : {T : Type 0} (stated : T → Stated) (failures : T → ℕ) (b : ℕ) (before now : T) (old : Editing) (f : SourceFault) → IsEditing old → HoldsHistory old.session
-    → looks_for_lines (key_of b) ≡ true → ReadsSpan {X = Option ℕ} stated failures before now (current_cell old) 0 (current_len old) (Err f) → Takes stated failures b before old (Err (Fault.Source f)) now old
-failed_takes stated failures b before now old f is history looks h = record {
+pub failed_takes : {T : Type 0} (stated : T → Stated) (failures : T → ℕ) (key : Key) (before now : T) (old : Editing) (f : SourceFault) → IsEditing old → HoldsHistory old.session
+    → IsTrue (looks_for_lines key) → ReadsSpan {X = Option ℕ} stated failures before now (current_cell old) 0 (current_len old) (Err f) → Takes stated failures key before old (Err (Fault.Source f)) now old
+failed_takes stated failures key before now old f is history looks h = record {
   done = tt;
   command = tt;
   moves = tt;
   kept = record { keeps = keeps_itself old.session; revisions = refl; rest = refl };
-  too_long = ((λ told. absurd (other_fault f told)), (λ grows. absurd (stays_short b old is history looks grows)));
-  too_many = λ makes _ _. absurd (makes_none b old looks makes);
-  fault = (looks_so b looks, h.fault);
+  too_long = ((λ told. absurd (other_fault f told)), (λ grows. absurd (stays_short key old is history (same_texts key (state_of no_source old) looks) grows)));
+  too_many = λ makes _ _. absurd (makes_none key old (same_texts key (state_of no_source old) looks) makes);
+  fault = (looks, h.fault);
   reads = h.reads;
   succeeds = λ each _ _. failed_is_failed f (h.succeeds each);
   sources = refl;
@@ -187,18 +163,18 @@ failed_takes stated failures b before now old f is history looks h = record {
 
 -- ---- and any other key
 
-as_any_fault : {T : Type 0} (stated : T → Stated) (failures : T → ℕ) (before now : T) (b : ℕ) (old : Editing) (f : KeyFault) (new : Editing) → IsPlainFault b old f new → IsKeyFault stated failures before now b old f new
-as_any_fault stated failures before now b old Fault.TooLong new h = h
-as_any_fault stated failures before now b old (Fault.Edit f) new h = h
-as_any_fault stated failures before now b old (Fault.Source f) new h = absurd h
+as_any_fault : {T : Type 0} (stated : T → Stated) (failures : T → ℕ) (before now : T) (key : Key) (old : Editing) (f : KeyFault) (new : Editing) → IsPlainFault key old f new → IsKeyFault stated failures before now key old f new
+as_any_fault stated failures before now key old Fault.TooLong new h = h
+as_any_fault stated failures before now key old (Fault.Edit f) new h = h
+as_any_fault stated failures before now key old (Fault.Source f) new h = absurd h
 
-any_fault : {T : Type 0} (stated : T → Stated) (failures : T → ℕ) (before now : T) (b : ℕ) (old new : Editing) (result : Result (Unit {0}) KeyFault) → IfErr result (λ f. IsPlainFault b old f new) → IfErr result (λ f. IsKeyFault stated failures before now b old f new)
-any_fault stated failures before now b old new (Ok u) h = tt
-any_fault stated failures before now b old new (Err f) h = as_any_fault stated failures before now b old f new h
+any_fault : {T : Type 0} (stated : T → Stated) (failures : T → ℕ) (before now : T) (key : Key) (old new : Editing) (result : Result (Unit {0}) KeyFault) → IfErr result (λ f. IsPlainFault key old f new) → IfErr result (λ f. IsKeyFault stated failures before now key old f new)
+any_fault stated failures before now key old new (Ok u) h = tt
+any_fault stated failures before now key old new (Err f) h = as_any_fault stated failures before now key old f new h
 
-no_source : (b : ℕ) (old new : Editing) (result : Result (Unit {0}) KeyFault) (f : SourceFault) → IfErr result (λ k. IsPlainFault b old k new) → ¬ IsErrOf result (Fault.Source f)
-no_source b old new (Ok u) f h told = taken_is_taken (Fault.Source f) told
-no_source b old new (Err k) f h e = subst (λ (r : Result (Unit {0}) KeyFault). IsPlainFault b old (fault_of r) new) e h
+not_a_source : (key : Key) (old new : Editing) (result : Result (Unit {0}) KeyFault) (f : SourceFault) → IfErr result (λ k. IsPlainFault key old k new) → ¬ IsErrOf result (Fault.Source f)
+not_a_source key old new (Ok u) f h told = taken_is_taken (Fault.Source f) told
+not_a_source key old new (Err k) f h e = subst (λ (r : Result (Unit {0}) KeyFault). IsPlainFault key old (fault_of r) new) e h
   where
     fault_of : Result (Unit {0}) KeyFault → KeyFault
     fault_of (Ok u) = k
@@ -208,24 +184,24 @@ on_ok : {E : Type 0} (P Q : Type 0) (result : Result (Unit {0}) E) → (P → Q)
 on_ok P Q (Ok u) f h = f h
 on_ok P Q (Err e) f h = tt
 
-not_by_lines : (b : ℕ) → looks_for_lines (key_of b) ≡ false → IsTrue (moves_by_lines b) → ⊥
-not_by_lines b looks moves = let same : true ≡ false = sym moves ∙ sym (looks_alike b) ∙ looks in absurd cc
+not_by_lines : (key : Key) → looks_for_lines key ≡ false → IsTrue (looks_for_lines key) → ⊥
+not_by_lines key looks moves = let same : true ≡ false = sym moves ∙ looks in absurd cc
 
 on_any : {E : Type 0} (Q : Type 0) (result : Result (Unit {0}) E) → Q → OnOk result Q
 on_any Q (Ok u) q = q
 on_any Q (Err e) q = tt
 
-pub plain_takes : {T : Type 0} (stated : T → Stated) (failures : T → ℕ) (b : ℕ) (before now : T) (old new : Editing) (result : Result (Unit {0}) KeyFault) → looks_for_lines (key_of b) ≡ false
-    → TakesPlain b old result new → Reads stated failures before now → Takes stated failures b before old result now new
-plain_takes {T} stated failures b before now old new result looks h reads = record {
-  done = on_ok _ (DoesStated (stated before) b old new) result (λ does source agrees told. does source) h.done;
+pub plain_takes : {T : Type 0} (stated : T → Stated) (failures : T → ℕ) (key : Key) (before now : T) (old new : Editing) (result : Result (Unit {0}) KeyFault) → looks_for_lines key ≡ false
+    → CarriesOut key old result new → Reads stated failures before now → Takes stated failures key before old result now new
+plain_takes {T} stated failures key before now old new result looks h reads = record {
+  done = on_ok _ (DoesStated (stated before) key old new) result (λ does source agrees told. does source) h.done;
   command = h.command;
-  moves = on_any (IsTrue (moves_by_lines b) → new ≡ record old { place = new.place }) result (λ moves. absurd (not_by_lines b looks moves));
+  moves = on_any (IsTrue (looks_for_lines key) → new ≡ record old { place = new.place }) result (λ moves. absurd (not_by_lines key looks moves));
   kept = h.kept;
   too_long = h.too_long;
   too_many = h.too_many;
-  fault = any_fault stated failures before now b old new result h.fault;
+  fault = any_fault stated failures before now key old new result h.fault;
   reads = reads;
-  succeeds = λ each f. no_source b old new result f h.fault;
+  succeeds = λ each f. not_a_source key old new result f h.fault;
   sources = h.sources;
 }

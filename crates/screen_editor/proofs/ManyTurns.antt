@@ -1,10 +1,9 @@
 -- The turns of a run, one after the other.
-use Rattle.std.proofs.Common.{◌≡◌, ℕ, suc, ◌+◌, ◌<◌, ◌≤◌, inl, inr, List, [], ◌∷◌, ◌++◌, length, take, drop, Option, Some, None, false, refl, sym, ap, subst, arith, ◌∙◌, append_assoc, append-nil, Result, Ok, Err}
+use Rattle.std.proofs.Common.{◌≡◌, ℕ, suc, ◌+◌, ◌<◌, ◌≤◌, inl, inr, List, [], ◌∷◌, ◌++◌, length, take, drop, Option, Some, None, refl, sym, ap, subst, arith, ◌∙◌, append_assoc, append-nil, Result, Ok, Err}
 use Rattle.std.specs.Prelude.{slice_get}
 use Rattle.std.specs.List.{All}
 use Rattle.std.proofs.lemmas.List.{length-append}
-use Rattle.std.proofs.lemmas.List.Elements.{All-drop, All-head, All-same, All-take}
-use Rattle.std.proofs.lemmas.List.Folds.{list_any-append}
+use Rattle.std.proofs.lemmas.List.Elements.{All-drop, All-head, All-nil, All-push, All-same, All-take}
 use Rattle.std.proofs.Math.Seq.{take-append-add, take-append_seam, drop-append_seam}
 use Rattle.std.specs.Io.KnownBytes.{Appends, Consumes}
 use Rattle.std.proofs.KnownBytes.{Appends-nil, Appends-trans, Consumes-nil, Consumes-trans}
@@ -15,10 +14,11 @@ use Rattle.screen_editor.specs.declared.fault.End.{End}
 use Rattle.screen_editor.specs.declared.fault.End.TheVariants.{Save, Leave}
 use Rattle.screen_editor.specs.declared.fault.RunFault.{RunFault}
 use Rattle.screen_editor.specs.declared.fault.RunFault.TheVariants.{Read, Write, Frame, TooManyKeys}
+use Rattle.screen_editor.specs.declared.key.Step.{Step}
 use Rattle.screen_editor.specs.declared.running.TheConstants.{MOST_KEYS}
 use Rattle.screen_editor.specs.Editing.{Editing, EachCurrent, state_of}
 use Rattle.screen_editor.specs.Frame.{frame_of}
-use Rattle.screen_editor.specs.Keys.{ends}
+use Rattle.screen_editor.specs.Keys.{answer_to, key_of}
 use Rattle.screen_editor.specs.Runs.{Answers, EndsBy, Follow, GoesOn, IsFrame, IsRun, Passes, Shows, ShowsPrefix, frames_of}
 use Rattle.screen_editor.specs.Turns.{IsTurn, TakesNone, TakesOne}
 
@@ -124,11 +124,11 @@ pub record Ran (st : Stated) (keys_before keys_left before now : Option (List �
   pub on : GoesOn keys
   pub shown : Shows st before now (earlier old behind)
 
-pub ran_none : (st : Stated) (keys screen : Option (List ℕ)) (old : Editing) → Ran st keys keys screen screen old old 0
-ran_none st keys screen old = record { keys = []; behind = []; taken = Consumes-nil keys; count = refl; follow = tt; last = refl; on = refl; shown = shows_none st screen }
+abbrev Continues : ℕ → Type 0
+Continues b = answer_to (key_of b) ≡ Step.Going
 
-no_end : (keys : List ℕ) (b : ℕ) → GoesOn keys → ends b ≡ false → GoesOn (keys ++ b ∷ [])
-no_end keys b h k = rw (list_any-append ends keys (b ∷ []), h, k) refl
+pub ran_none : (st : Stated) (keys screen : Option (List ℕ)) (old : Editing) → Ran st keys keys screen screen old old 0
+ran_none st keys screen old = record { keys = []; behind = []; taken = Consumes-nil keys; count = refl; follow = tt; last = refl; on = All-nil Continues; shown = shows_none st screen }
 
 -- one more key: the states behind the keys, all but the last of them shown
 record Longer (st : Stated) (keys_before keys_left before now : Option (List ℕ)) (old new : Editing) (keys : List ℕ) : Type 0 where
@@ -138,28 +138,28 @@ record Longer (st : Stated) (keys_before keys_left before now : Option (List ℕ
   last : final old behind ≡ new
   shown : Shows st before now (earlier old behind)
 
-longer : (st : Stated) (keys_before keys_mid keys_left before mid now : Option (List ℕ)) (old cur new : Editing) (n b : ℕ)
-    → (h : Ran st keys_before keys_mid before mid old cur n) → TakesOne st keys_mid keys_left mid now b cur new → Longer st keys_before keys_left before now old new (h.keys ++ b ∷ [])
-longer st keys_before keys_mid keys_left before mid now old cur new n b h one = record {
+longer : (st : Stated) (keys_before keys_mid keys_left before mid now : Option (List ℕ)) (old cur new : Editing) (n : ℕ) (answer : Step)
+    → (h : Ran st keys_before keys_mid before mid old cur n) → (one : TakesOne st keys_mid keys_left mid now answer cur new) → Longer st keys_before keys_left before now old new (h.keys ++ one.byte ∷ [])
+longer st keys_before keys_mid keys_left before mid now old cur new n answer h one = record {
   behind = h.behind ++ new ∷ [];
-  taken = Consumes-trans keys_before keys_mid keys_left h.keys (b ∷ []) h.taken one.key;
-  follow = follow_more st old new h.keys h.behind b h.follow (subst (λ (e : Editing). Passes st b e new) (sym h.last) one.passes);
+  taken = Consumes-trans keys_before keys_mid keys_left h.keys (one.byte ∷ []) h.taken one.key;
+  follow = follow_more st old new h.keys h.behind one.byte h.follow (subst (λ (e : Editing). Passes st one.byte e new) (sym h.last) one.passes);
   last = final_more old new h.behind;
   shown = subst (Shows st before now) (sym (earlier_more old new h.behind)) (shows_more st before mid now (earlier old h.behind) (final old h.behind ∷ []) h.shown (subst (λ (e : Editing). Shows st mid now (e ∷ [])) (sym h.last) one.shown));
 }
 
 pub ran_more : (st : Stated) (keys_before keys_mid keys_left before mid now : Option (List ℕ)) (old cur new : Editing) (n : ℕ)
     → Ran st keys_before keys_mid before mid old cur n → IsTurn st keys_mid keys_left mid now cur new (Ok None) → Ran st keys_before keys_left before now old new (n + 1)
-ran_more st keys_before keys_mid keys_left before mid now old cur new n h (b, on, one) =
-    let l = longer st keys_before keys_mid keys_left before mid now old cur new n b h one in
+ran_more st keys_before keys_mid keys_left before mid now old cur new n h one =
+    let l = longer st keys_before keys_mid keys_left before mid now old cur new n Step.Going h one in
     record {
-      keys = h.keys ++ b ∷ [];
+      keys = h.keys ++ one.byte ∷ [];
       behind = l.behind;
       taken = l.taken;
-      count = length-append h.keys (b ∷ []) ∙ ap (λ k. k + 1) h.count;
+      count = length-append h.keys (one.byte ∷ []) ∙ ap (λ k. k + 1) h.count;
       follow = l.follow;
       last = l.last;
-      on = no_end h.keys b h.on on;
+      on = All-push Continues h.keys one.byte h.on one.answers;
       shown = l.shown;
     }
 
@@ -173,21 +173,21 @@ earlier_named : (st : Stated) (old : Editing) (keys : List ℕ) (behind : List E
 earlier_named st old keys behind follow = rw (follow_length st old keys behind follow) (sym (take_earlier old behind))
 
 -- by a key
-ended_by : (st : Stated) (keys_before keys_mid keys_left before mid now : Option (List ℕ)) (old cur new : Editing) (n b : ℕ) (result : Result End RunFault) → n < MOST_KEYS
-    → (h : Ran st keys_before keys_mid before mid old cur n) → TakesOne st keys_mid keys_left mid now b cur new
-    → ((keys : List ℕ) (states : List Editing) → EndsBy b keys → Shows st before now (take (length keys) states) → Answers st keys_left before now keys states result)
+ended_by : (st : Stated) (keys_before keys_mid keys_left before mid now : Option (List ℕ)) (old cur new : Editing) (n : ℕ) (answer : Step) (result : Result End RunFault) → n < MOST_KEYS
+    → (h : Ran st keys_before keys_mid before mid old cur n) → TakesOne st keys_mid keys_left mid now answer cur new
+    → ((keys : List ℕ) (states : List Editing) → EndsBy answer keys → Shows st before now (take (length keys) states) → Answers st keys_left before now keys states result)
     → IsRun st keys_before keys_left before now old new result
-ended_by st keys_before keys_mid keys_left before mid now old cur new n b result few h one answer =
-    let l = longer st keys_before keys_mid keys_left before mid now old cur new n b h one in
-    let keys = h.keys ++ b ∷ [] in
+ended_by st keys_before keys_mid keys_left before mid now old cur new n answer result few h one answers =
+    let l = longer st keys_before keys_mid keys_left before mid now old cur new n answer h one in
+    let keys = h.keys ++ one.byte ∷ [] in
     record {
       keys = keys;
       behind = l.behind;
       taken = l.taken;
-      few = omega (arith, length-append h.keys (b ∷ []), h.count, few);
+      few = omega (arith, length-append h.keys (one.byte ∷ []), h.count, few);
       follow = l.follow;
       last = last_named st old new keys l.behind l.follow l.last;
-      answers = answer keys (old ∷ l.behind) (h.keys, refl, h.on) (subst (Shows st before now) (earlier_named st old keys l.behind l.follow) l.shown);
+      answers = answers keys (old ∷ l.behind) (record { before = h.keys; last = one.byte; all = refl; answers = one.answers; on = h.on }) (subst (Shows st before now) (earlier_named st old keys l.behind l.follow) l.shown);
     }
 
 -- without a key
@@ -224,9 +224,9 @@ earlier_shown st keys_before keys_mid before mid now old cur n h k =
 pub ran_to_end : (st : Stated) (keys_before keys_mid keys_left before mid now : Option (List ℕ)) (old cur new : Editing) (n : ℕ) (end : End) → n < MOST_KEYS
     → Ran st keys_before keys_mid before mid old cur n → IsTurn st keys_mid keys_left mid now cur new (Ok (Some end)) → IsRun st keys_before keys_left before now old new (Ok end)
 ran_to_end st keys_before keys_mid keys_left before mid now old cur new n Save few h one =
-    ended_by st keys_before keys_mid keys_left before mid now old cur new n 0x18 (Ok Save) few h one (λ keys states by shown. (by, shown))
+    ended_by st keys_before keys_mid keys_left before mid now old cur new n Step.Save (Ok Save) few h one (λ keys states by shown. (by, shown))
 ran_to_end st keys_before keys_mid keys_left before mid now old cur new n Leave few h (inl one) =
-    ended_by st keys_before keys_mid keys_left before mid now old cur new n 0x03 (Ok Leave) few h one (λ keys states by shown. inl (by, shown))
+    ended_by st keys_before keys_mid keys_left before mid now old cur new n Step.Leave (Ok Leave) few h one (λ keys states by shown. inl (by, shown))
 ran_to_end st keys_before keys_mid keys_left before mid now old cur new n Leave few h (inr (none, end, shown)) =
     ended_without st keys_before keys_mid keys_left before mid now old cur new n (Ok Leave) (omega (arith, few)) h none (inr (h.on, end, all_shown st keys_before keys_mid before mid now old cur n h shown))
 

@@ -13,18 +13,14 @@ use Rattle.screen_editor.specs.declared.key.Key.{Key}
 use Rattle.screen_editor.specs.declared.key.Key.TheVariants.{Typed, EraseBefore, EraseAt, Left, Right, LineStart, LineEnd, Up, Down, Mark, Cut, Paste, DropCut, Undo, Balance, Save, Leave, Nothing}
 use Rattle.screen_editor.specs.declared.key.Step.{Step}
 use Rattle.screen_editor.specs.Editing.{Editing, key_code, state_of}
-use Rattle.screen_editor.specs.Keys.{key_of, moves_by_lines}
-use Rattle.screen_editor.specs.LineKeys.{Takes, answer_to, looks_for_lines}
+use Rattle.screen_editor.specs.Keys.{answer_to, looks_for_lines}
+use Rattle.screen_editor.specs.LineKeys.{Takes}
 use Rattle.screen_editor.specs.Machine.{done, message_after, step}
 use Rattle.screen_editor.specs.Refusals.{IsEditFault, IsKeyFault, WasRefused}
 use Rattle.screen_editor.specs.Revising.{IsRefusedBy, IsStep, KeepsAll, TakesKey}
 use Rattle.screen_editor.specs.State.{EditorState}
-use Rattle.screen_editor.proofs.KeyKinds.{answers_alike, looks_alike}
 
 -- ---- the message of a key
-
-abbrev step_with : Key → EditorState → EditorState
-step_with key s = record (done key s) { message = message_after key s.message }
 
 -- Save and Leave keep it
 pub saves : (key : Key) → key ≡ Save → answer_to key ≡ Step.Save
@@ -88,24 +84,24 @@ no_fault x g e = absurd cc
 
 -- ---- the message alone is new
 
-met_alike : (b : ℕ) (old : Editing) (f : EditFault) (new : Editing) (m : Option KeyFault) → WasRefused b old f new → WasRefused b old f (record new { message = m })
-met_alike b old f new m h = record { command = h.command; is = h.is; met = h.met }
+met_alike : (key : Key) (old : Editing) (f : EditFault) (new : Editing) (m : Option KeyFault) → WasRefused key old f new → WasRefused key old f (record new { message = m })
+met_alike key old f new m h = record { command = h.command; place = h.place; edit = h.edit; met = h.met }
 
-edit_fault_alike : (b : ℕ) (old : Editing) (f : EditFault) (new : Editing) (m : Option KeyFault) → IsEditFault b old f new → IsEditFault b old f (record new { message = m })
-edit_fault_alike b old Edit.TooManyRevisions new m h = h
-edit_fault_alike b old Edit.Memory new m h = h
-edit_fault_alike b old Edit.NoRevision new m h = met_alike b old Edit.NoRevision new m h
-edit_fault_alike b old Edit.NoSource new m h = met_alike b old Edit.NoSource new m h
-edit_fault_alike b old Edit.Range new m h = met_alike b old Edit.Range new m h
-edit_fault_alike b old Edit.EmptyText new m h = met_alike b old Edit.EmptyText new m h
-edit_fault_alike b old Edit.TooManyRows new m h = met_alike b old Edit.TooManyRows new m h
-edit_fault_alike b old (Edit.Node f) new m h = met_alike b old (Edit.Node f) new m h
-edit_fault_alike b old Edit.TooManyPieces new m h = met_alike b old Edit.TooManyPieces new m h
+edit_fault_alike : (key : Key) (old : Editing) (f : EditFault) (new : Editing) (m : Option KeyFault) → IsEditFault key old f new → IsEditFault key old f (record new { message = m })
+edit_fault_alike key old Edit.TooManyRevisions new m h = h
+edit_fault_alike key old Edit.Memory new m h = h
+edit_fault_alike key old Edit.NoRevision new m h = met_alike key old Edit.NoRevision new m h
+edit_fault_alike key old Edit.NoSource new m h = met_alike key old Edit.NoSource new m h
+edit_fault_alike key old Edit.Range new m h = met_alike key old Edit.Range new m h
+edit_fault_alike key old Edit.EmptyText new m h = met_alike key old Edit.EmptyText new m h
+edit_fault_alike key old Edit.TooManyRows new m h = met_alike key old Edit.TooManyRows new m h
+edit_fault_alike key old (Edit.Node f) new m h = met_alike key old (Edit.Node f) new m h
+edit_fault_alike key old Edit.TooManyPieces new m h = met_alike key old Edit.TooManyPieces new m h
 
-fault_alike : {T : Type 0} (stated : T → Stated) (failures : T → ℕ) (before now : T) (b : ℕ) (old : Editing) (f : KeyFault) (new : Editing) (m : Option KeyFault) → IsKeyFault stated failures before now b old f new → IsKeyFault stated failures before now b old f (record new { message = m })
-fault_alike stated failures before now b old Fault.TooLong new m h = h
-fault_alike stated failures before now b old (Fault.Edit f) new m h = (h.0, edit_fault_alike b old f new m h.1)
-fault_alike stated failures before now b old (Fault.Source f) new m h = h
+fault_alike : {T : Type 0} (stated : T → Stated) (failures : T → ℕ) (before now : T) (key : Key) (old : Editing) (f : KeyFault) (new : Editing) (m : Option KeyFault) → IsKeyFault stated failures before now key old f new → IsKeyFault stated failures before now key old f (record new { message = m })
+fault_alike stated failures before now key old Fault.TooLong new m h = h
+fault_alike stated failures before now key old (Fault.Edit f) new m h = (h.0, edit_fault_alike key old f new m h.1)
+fault_alike stated failures before now key old (Fault.Source f) new m h = h
 
 kept_texts : (old new : Editing) → KeepsAll old new → (source : ℕ → ℕ → ℕ) → texts_of source new.session ≡ texts_of source old.session
 kept_texts old new h source = ap (map (text source)) (ap (λ (rs : List Revision). cells_of (record { held = new.session.held; revisions = rs })) h.revisions ∙ h.keeps.cells)
@@ -122,10 +118,10 @@ is_refused f old new h = record {
   rest = ap (λ (e : Editing). record e { message = Some f }) h.rest;
 }
 
-pub refused_told : {T : Type 0} (stated : T → Stated) (failures : T → ℕ) (b : ℕ) (before now : T) (old new told : Editing) (f : KeyFault) → Takes stated failures b before old (Err f) now new → told ≡ record new { message = Some f }
-    → TakesKey stated failures b (record { sources = before; editing = old }) (Err f) (record { sources = now; editing = told })
-refused_told {T} stated failures b before now old new told f h e =
-    subst (λ (x : Editing). TakesKey stated failures b (record { sources = before; editing = old }) (Err f) (record { sources = now; editing = x })) (sym e) (record {
+pub refused_told : {T : Type 0} (stated : T → Stated) (failures : T → ℕ) (key : Key) (before now : T) (old new told : Editing) (f : KeyFault) → Takes stated failures key before old (Err f) now new → told ≡ record new { message = Some f }
+    → TakesKey stated failures key (record { sources = before; editing = old }) (Err f) (record { sources = now; editing = told })
+refused_told {T} stated failures key before now old new told f h e =
+    subst (λ (x : Editing). TakesKey stated failures key (record { sources = before; editing = old }) (Err f) (record { sources = now; editing = x })) (sym e) (record {
       step = tt;
       answer = tt;
       refused = is_refused f old new h.kept;
@@ -134,18 +130,18 @@ refused_told {T} stated failures b before now old new told f h e =
         | inl is ↦ inl (same_fault f (Fault.Edit Edit.TooManyRevisions) is)
         | inr is ↦ inr (same_fault f (Fault.Edit Edit.Memory) is)
       ];
-      fault = fault_alike stated failures before now b old f new (Some f) h.fault;
+      fault = fault_alike stated failures before now key old f new (Some f) h.fault;
       reads = h.reads;
       succeeds = λ each k is. h.succeeds each k (same_fault f (Fault.Source k) is);
     })
 
 -- ---- a key that was taken
 
-taken_key : {T : Type 0} (stated : T → Stated) (failures : T → ℕ) (b : ℕ) (before now : T) (old new told : Editing) (answer : Step) → Takes stated failures b before old (Ok tt) now new
-    → answer_to (key_of b) ≡ answer → IsStep (stated before) b old told → TakesKey stated failures b (record { sources = before; editing = old }) (Ok answer) (record { sources = now; editing = told })
-taken_key {T} stated failures b before now old new told answer h is step = record {
+taken_key : {T : Type 0} (stated : T → Stated) (failures : T → ℕ) (key : Key) (before now : T) (old new told : Editing) (answer : Step) → Takes stated failures key before old (Ok tt) now new
+    → answer_to key ≡ answer → IsStep (stated before) key old told → TakesKey stated failures key (record { sources = before; editing = old }) (Ok answer) (record { sources = now; editing = told })
+taken_key {T} stated failures key before now old new told answer h is step = record {
   step = step;
-  answer = sym is ∙ answers_alike b;
+  answer = sym is;
   refused = tt;
   too_long = ((λ no_such. absurd (no_fault answer Fault.TooLong no_such)), (λ grows. absurd (no_fault tt Fault.TooLong (h.too_long.1 grows))));
   too_many = λ makes short many. elim (h.too_many makes (λ no_such. no_fault tt Fault.TooLong no_such) many) [
@@ -158,30 +154,30 @@ taken_key {T} stated failures b before now old new told answer h is step = recor
 }
 
 -- one that clears the message
-pub going_told : {T : Type 0} (stated : T → Stated) (failures : T → ℕ) (b : ℕ) (before now : T) (old new told : Editing) → Takes stated failures b before old (Ok tt) now new
-    → answer_to (key_of b) ≡ Step.Going → told ≡ record new { message = None } → TakesKey stated failures b (record { sources = before; editing = old }) (Ok Step.Going) (record { sources = now; editing = told })
-going_told {T} stated failures b before now old new told h is e =
-    taken_key stated failures b before now old new told Step.Going h is
-    (subst (λ (x : Editing). IsStep (stated before) b old x) (sym e) (record {
-      state = λ source agrees whole. ap (λ (s : EditorState). record s { message = None }) (h.done source agrees whole) ∙ ap (λ (m : Option (List ℕ)). record (done (key_of b) (state_of source old)) { message = m }) (sym (cleared (key_of b) (state_of source old).message is));
+pub going_told : {T : Type 0} (stated : T → Stated) (failures : T → ℕ) (key : Key) (before now : T) (old new told : Editing) → Takes stated failures key before old (Ok tt) now new
+    → answer_to key ≡ Step.Going → told ≡ record new { message = None } → TakesKey stated failures key (record { sources = before; editing = old }) (Ok Step.Going) (record { sources = now; editing = told })
+going_told {T} stated failures key before now old new told h is e =
+    taken_key stated failures key before now old new told Step.Going h is
+    (subst (λ (x : Editing). IsStep (stated before) key old x) (sym e) (record {
+      state = λ source agrees whole. ap (λ (s : EditorState). record s { message = None }) (h.done source agrees whole) ∙ ap (λ (m : Option (List ℕ)). record (done key (state_of source old)) { message = m }) (sym (cleared key (state_of source old).message is));
       command = h.command;
       moves = λ by_lines. ap (λ (x : Editing). record x { message = None }) (h.moves by_lines);
     }))
 
 -- Save and Leave, which do nothing and keep it
-does_nothing : (key : Key) (s : EditorState) → (key ≡ Save) ⊎ (key ≡ Leave) → done key s ≡ step_with key s
-does_nothing key s (inl e) = subst (λ (k : Key). done k s ≡ step_with k s) (sym e) refl
-does_nothing key s (inr e) = subst (λ (k : Key). done k s ≡ step_with k s) (sym e) refl
+does_nothing : (key : Key) (s : EditorState) → (key ≡ Save) ⊎ (key ≡ Leave) → done key s ≡ step key s
+does_nothing key s (inl e) = subst (λ (k : Key). done k s ≡ step k s) (sym e) refl
+does_nothing key s (inr e) = subst (λ (k : Key). done k s ≡ step k s) (sym e) refl
 
-looks_for_none : (b : ℕ) → (key_of b ≡ Save) ⊎ (key_of b ≡ Leave) → IsTrue (moves_by_lines b) → ⊥
-looks_for_none b (inl e) h = let same : false ≡ true = ap looks_for_lines (sym e) ∙ looks_alike b ∙ h in absurd cc
-looks_for_none b (inr e) h = let same : false ≡ true = ap looks_for_lines (sym e) ∙ looks_alike b ∙ h in absurd cc
+looks_for_none : (key : Key) → (key ≡ Save) ⊎ (key ≡ Leave) → IsTrue (looks_for_lines key) → ⊥
+looks_for_none key (inl e) h = let same : false ≡ true = ap looks_for_lines (sym e) ∙ h in absurd cc
+looks_for_none key (inr e) h = let same : false ≡ true = ap looks_for_lines (sym e) ∙ h in absurd cc
 
-pub ending_told : {T : Type 0} (stated : T → Stated) (failures : T → ℕ) (b : ℕ) (before now : T) (old new : Editing) (answer : Step) → Takes stated failures b before old (Ok tt) now new
-    → answer_to (key_of b) ≡ answer → (key_of b ≡ Save) ⊎ (key_of b ≡ Leave) → TakesKey stated failures b (record { sources = before; editing = old }) (Ok answer) (record { sources = now; editing = new })
-ending_told {T} stated failures b before now old new answer h is ends =
-    taken_key stated failures b before now old new new answer h is (record {
-      state = λ source agrees whole. h.done source agrees whole ∙ does_nothing (key_of b) (state_of source old) ends;
+pub ending_told : {T : Type 0} (stated : T → Stated) (failures : T → ℕ) (key : Key) (before now : T) (old new : Editing) (answer : Step) → Takes stated failures key before old (Ok tt) now new
+    → answer_to key ≡ answer → (key ≡ Save) ⊎ (key ≡ Leave) → TakesKey stated failures key (record { sources = before; editing = old }) (Ok answer) (record { sources = now; editing = new })
+ending_told {T} stated failures key before now old new answer h is ends =
+    taken_key stated failures key before now old new new answer h is (record {
+      state = λ source agrees whole. h.done source agrees whole ∙ does_nothing key (state_of source old) ends;
       command = h.command;
-      moves = λ by_lines. absurd (looks_for_none b ends by_lines);
+      moves = λ by_lines. absurd (looks_for_none key ends by_lines);
     })

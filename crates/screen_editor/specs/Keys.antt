@@ -1,6 +1,5 @@
 -- What each byte from the keyboard asks for.
-use Rattle.std.specs.Prelude.{ℕ, Bool, ◌&&◌, ◌||◌, ◌==◌, nat_le, [], ◌∷◌, if◌then◌else◌}
-use Rattle.std.specs.List.{list_any}
+use Rattle.std.specs.Prelude.{ℕ, Bool, true, false, ◌&&◌, ◌||◌, ◌==◌, nat_le, if◌then◌else◌}
 use Rattle.screen_editor.specs.declared.key.Step.{Step}
 use Rattle.screen_editor.specs.declared.key.Key.{Key}
 use Rattle.screen_editor.specs.declared.key.Key.TheVariants.{Typed, EraseBefore, EraseAt, Left, Right, LineStart, LineEnd, Up, Down, Mark, Cut, Paste, DropCut, Undo, Balance, Save, Leave, Nothing}
@@ -27,14 +26,16 @@ key_of b =
     else (if b == 0x03 then Leave
     else Nothing)))))))))))))))))
 
--- the keys that look for line breaks: line start, line end, up, down
-abbrev pub moves_by_lines : ℕ → Bool
-moves_by_lines b = list_any (λ k. k == b) (0x01 ∷ 0x05 ∷ 0x10 ∷ 0x0E ∷ [])
-
--- the keys that end a run: save and leave
-abbrev pub ends : ℕ → Bool
-ends b = b == 0x18 || b == 0x03
+-- the keys that look for line breaks
+abbrev pub looks_for_lines : Key → Bool
+looks_for_lines LineStart = true
+looks_for_lines LineEnd = true
+looks_for_lines Up = true
+looks_for_lines Down = true
+looks_for_lines _ = false
 
 -- what a key answers
-abbrev pub answer_of : ℕ → Step
-answer_of b = if b == 0x18 then Step.Save else (if b == 0x03 then Step.Leave else Step.Going)
+abbrev pub answer_to : Key → Step
+answer_to Save = Step.Save
+answer_to Leave = Step.Leave
+answer_to _ = Step.Going

@@ -8,7 +8,6 @@ use Rattle.screen_editor.specs.declared.key.Key.{Key}
 use Rattle.screen_editor.specs.declared.key.Key.TheVariants.{Typed, EraseBefore, EraseAt, Left, Right, LineStart, LineEnd, Up, Down, Mark, Cut, Paste, DropCut, Undo, Balance, Save, Leave, Nothing}
 use Rattle.screen_editor.specs.declared.cut_span.CutSpan.{CutSpan}
 use Rattle.screen_editor.specs.declared.cut_span.TheConstants.{MOST_CUTS}
-use Rattle.screen_editor.specs.Keys.{key_of}
 use Rattle.screen_editor.specs.Lines.{line_start, line_end, place_up, place_down}
 use Rattle.screen_editor.specs.State.{EditorState, last_revision, text_of, prior_of, current}
 
@@ -66,16 +65,11 @@ message_after Save m = m
 message_after Leave m = m
 message_after _ m = None
 
-abbrev pub step : ℕ → EditorState → EditorState
-step b s = record (done (key_of b) s) { message = message_after (key_of b) s.message }
+abbrev pub step : Key → EditorState → EditorState
+step key s = record (done key s) { message = message_after key s.message }
 
 abbrev pub refused : List ℕ → EditorState → EditorState
 refused code s = record s { message = Some code }
-
--- the state after these keys, none of them refused
-abbrev pub after_keys : List ℕ → EditorState → EditorState
-after_keys [] s = s
-after_keys (b ∷ bs) s = after_keys bs (step b s)
 
 -- the command by which a key makes a revision, where it makes one; bytes typed stand in the pool from a on
 

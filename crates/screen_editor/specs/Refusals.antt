@@ -15,38 +15,45 @@ use Rattle.screen_editor.specs.declared.fault.EditorFault.TheVariants as New
 use Rattle.screen_editor.specs.declared.fault.FrameFault.{FrameFault}
 use Rattle.screen_editor.specs.declared.fault.FrameFault.TheVariants as Frame
 use Rattle.screen_editor.specs.declared.fault.KeyFault.{KeyFault}
-use Rattle.screen_editor.specs.declared.fault.KeyFault.TheVariants as Key
+use Rattle.screen_editor.specs.declared.fault.KeyFault.TheVariants as Fault
+use Rattle.screen_editor.specs.declared.key.Key.{Key}
 use Rattle.screen_editor.specs.Editing.{Editing, current_cell, current_len, longest_text, state_of}
-use Rattle.screen_editor.specs.Keys.{key_of, moves_by_lines}
+use Rattle.screen_editor.specs.Keys.{looks_for_lines}
 use Rattle.screen_editor.specs.Machine.{edit_of, step}
+use Rattle.screen_editor.specs.State.{current}
 
 -- the key makes a revision
-abbrev pub MakesRevision : ℕ → Editing → Type 0
-MakesRevision b e = (source : ℕ → ℕ → ℕ) → length (step b (state_of source e)).texts ≡ length e.session.revisions + 1
+abbrev pub MakesRevision : Key → Editing → Type 0
+MakesRevision key e = (source : ℕ → ℕ → ℕ) → length (step key (state_of source e)).texts ≡ length e.session.revisions + 1
 
--- the command that a key hands to the session; its edit is the key's, with its bytes at this place of the pool
-pub record IsCommandOf (b : ℕ) (e : Editing) (command : Command) : Type 0 where
-  pub place : ℕ
-  pub edit : (source : ℕ → ℕ → ℕ) → edit_of place (key_of b) (state_of source e) ≡ Some (edit_with place command)
+-- the text that a key would give has too many bytes
+abbrev pub GrowsTooLong : Key → Editing → Type 0
+GrowsTooLong key e = (source : ℕ → ℕ → ℕ) → longest_text < length (current (step key (state_of source e)))
 
--- the session's call met this on the way
-pub record WasRefused (b : ℕ) (old : Editing) (fault : EditFault) (new : Editing) : Type 0 where
+-- the session's call for the key's command, whose bytes stand at this place of the pool, met this on the way
+pub record WasRefused (key : Key) (old : Editing) (fault : EditFault) (new : Editing) : Type 0 where
   pub command : Command
-  pub is : IsCommandOf b old command
+  pub place : ℕ
+  pub edit : (source : ℕ → ℕ → ℕ) → edit_of place key (state_of source old) ≡ Some (edit_with place command)
   pub met : IsLaterFault old.session.held old.session.revisions command fault new.session.held
 
 -- there are too many revisions, the session's call met a limit, or memory was refused, to it or to the new revision's prior
-abbrev pub IsEditFault : ℕ → Editing → EditFault → Editing → Type 0
-IsEditFault b old Edit.TooManyRevisions new = MOST_REVISIONS ≤ length old.session.revisions
-IsEditFault b old Edit.Memory new = Unit {0}
-IsEditFault b old fault new = WasRefused b old fault new
+abbrev pub IsEditFault : Key → Editing → EditFault → Editing → Type 0
+IsEditFault key old Edit.TooManyRevisions new = MOST_REVISIONS ≤ length old.session.revisions
+IsEditFault key old Edit.Memory new = Unit {0}
+IsEditFault key old fault new = WasRefused key old fault new
 
--- a source's fault is one at the current text's cells; where a text is too long, the call says itself
-abbrev pub IsKeyFault : {T : Type 0} → (T → Stated) → (T → ℕ) → T → T → ℕ → Editing → KeyFault → Editing → Type 0
-IsKeyFault stated failures before now b old Key.TooLong new = MakesRevision b old
-IsKeyFault stated failures before now b old (Key.Edit fault) new = MakesRevision b old × IsEditFault b old fault new
-IsKeyFault stated failures before now b old (Key.Source fault) new =
-    IsTrue (moves_by_lines b) × IsFaultIn stated failures before now (current_cell old) 0 (current_len old) fault
+-- of a key that looks for no line break; where a text is too long, the call says itself
+abbrev pub IsPlainFault : Key → Editing → KeyFault → Editing → Type 0
+IsPlainFault key old Fault.TooLong new = MakesRevision key old
+IsPlainFault key old (Fault.Edit fault) new = MakesRevision key old × IsEditFault key old fault new
+IsPlainFault key old (Fault.Source fault) new = ⊥
+
+-- of any key: a source's fault is one at the current text's cells
+abbrev pub IsKeyFault : {T : Type 0} → (T → Stated) → (T → ℕ) → T → T → Key → Editing → KeyFault → Editing → Type 0
+IsKeyFault stated failures before now key old (Fault.Source fault) new =
+    IsTrue (looks_for_lines key) × IsFaultIn stated failures before now (current_cell old) 0 (current_len old) fault
+IsKeyFault stated failures before now key old fault new = IsPlainFault key old fault new
 
 -- a source's fault is one at these cells
 abbrev pub IsFrameFaultAt : {T : Type 0} → (T → Stated) → (T → ℕ) → T → T → (ℕ → Cell) → ℕ → FrameFault → Type 0

@@ -1,5 +1,5 @@
 -- What one key does, where it is taken and where it is refused.
-use Rattle.std.specs.Prelude.{◌≡◌, ◌↔◌, ◌⊎◌, ℕ, ◌≤◌, ◌<◌, IsTrue, List, [], ◌∷◌, ◌++◌, length, map, Option, Some, None, Result, IfOk, IfErr, OnOk, OnErr, IsErrOf}
+use Rattle.std.specs.Prelude.{◌≡◌, ◌↔◌, ◌⊎◌, ℕ, ◌≤◌, IsTrue, List, [], ◌∷◌, ◌++◌, length, map, Option, Some, None, Result, IfOk, IfErr, OnOk, IsErrOf}
 use Rattle.std.specs.List.{cons_option, range_with_len}
 use Rattle.lazy_file.specs.SourceTexts.{Agrees, Reads, Stated}
 use Rattle.lazy_file.specs.declared.faults.SourceFault.{SourceFault}
@@ -10,14 +10,14 @@ use Rattle.edit_commands.specs.declared.session.TheConstants.{MOST_REVISIONS}
 use Rattle.edit_commands.specs.Applying.{Applies, Keeps}
 use Rattle.edit_commands.specs.Session.{edits_of}
 use Rattle.screen_editor.specs.declared.fault.KeyFault.{KeyFault}
-use Rattle.screen_editor.specs.declared.fault.KeyFault.TheVariants as Key
+use Rattle.screen_editor.specs.declared.fault.KeyFault.TheVariants as Fault
 use Rattle.screen_editor.specs.declared.key.Key.{Key}
 use Rattle.screen_editor.specs.declared.key.Step.{Step}
-use Rattle.screen_editor.specs.Editing.{Editing, EditorValue, EachCurrent, key_code, longest_text, state_of}
-use Rattle.screen_editor.specs.Keys.{answer_of, key_of, moves_by_lines}
+use Rattle.screen_editor.specs.Editing.{Editing, EditorValue, EachCurrent, key_code, state_of}
+use Rattle.screen_editor.specs.Keys.{answer_to, looks_for_lines}
 use Rattle.screen_editor.specs.Machine.{done, edit_of, refused, step}
-use Rattle.screen_editor.specs.Refusals.{IsEditFault, IsKeyFault, MakesRevision}
-use Rattle.screen_editor.specs.State.{current, start_of}
+use Rattle.screen_editor.specs.Refusals.{GrowsTooLong, IsKeyFault, MakesRevision}
+use Rattle.screen_editor.specs.State.{start_of}
 
 -- what a key does but for the message, whatever bytes the sources have
 abbrev pub Does : Key → Editing → Editing → Type 0
@@ -29,10 +29,10 @@ RecordsEdit key old new = (place : ℕ) × ((source : ℕ → ℕ → ℕ) → e
 
 -- The new state is the machine's, whatever bytes the sources have that agree with what they state: of a key that looks for line breaks,
 -- where each cell of the text is stated; in any case such a key moves the place alone. The session records the key's command.
-pub record IsStep (st : Stated) (b : ℕ) (old new : Editing) : Type 0 where
-  pub state : (source : ℕ → ℕ → ℕ) → Agrees st source → (IsTrue (moves_by_lines b) → EachCurrent old (IsStated st)) → state_of source new ≡ step b (state_of source old)
-  pub command : RecordsEdit (key_of b) old new
-  pub moves : IsTrue (moves_by_lines b) → new ≡ record old { place = new.place; message = None }
+pub record IsStep (st : Stated) (key : Key) (old new : Editing) : Type 0 where
+  pub state : (source : ℕ → ℕ → ℕ) → Agrees st source → (IsTrue (looks_for_lines key) → EachCurrent old (IsStated st)) → state_of source new ≡ step key (state_of source old)
+  pub command : RecordsEdit key old new
+  pub moves : IsTrue (looks_for_lines key) → new ≡ record old { place = new.place; message = None }
 
 -- The message alone is new, whatever bytes the sources have. The session may have nodes and bytes more, to which nothing refers.
 pub record IsRefusedBy (fault : KeyFault) (old new : Editing) : Type 0 where
@@ -41,22 +41,18 @@ pub record IsRefusedBy (fault : KeyFault) (old new : Editing) : Type 0 where
   pub revisions : new.session.revisions ≡ old.session.revisions
   pub rest : new ≡ record old { session = new.session; message = Some fault }
 
--- the text that a key would give has too many bytes
-abbrev pub GrowsTooLong : ℕ → Editing → Type 0
-GrowsTooLong b e = (source : ℕ → ℕ → ℕ) → longest_text < length (current (step b (state_of source e)))
-
 -- A key is taken, as the machine says, or refused. It is too long exactly where its text would be; else, where there are too many
 -- revisions, that or want of memory is told; a source's fault is told only where a read of it failed, and of no text that can be read.
-pub record TakesKey {T : Type 0} (stated : T → Stated) (failures : T → ℕ) (b : ℕ) (old : EditorValue T) (result : Result Step KeyFault) (new : EditorValue T) : Type 0 where
-  pub step : OnOk result (IsStep (stated old.sources) b old.editing new.editing)
-  pub answer : IfOk result (λ a. a ≡ answer_of b)
+pub record TakesKey {T : Type 0} (stated : T → Stated) (failures : T → ℕ) (key : Key) (old : EditorValue T) (result : Result Step KeyFault) (new : EditorValue T) : Type 0 where
+  pub step : OnOk result (IsStep (stated old.sources) key old.editing new.editing)
+  pub answer : IfOk result (λ a. a ≡ answer_to key)
   pub refused : IfErr result (λ f. IsRefusedBy f old.editing new.editing)
-  pub too_long : IsErrOf result Key.TooLong ↔ GrowsTooLong b old.editing
-  pub too_many : MakesRevision b old.editing → ¬ IsErrOf result Key.TooLong → MOST_REVISIONS ≤ length old.editing.session.revisions
-      → IsErrOf result (Key.Edit Edit.TooManyRevisions) ⊎ IsErrOf result (Key.Edit Edit.Memory)
-  pub fault : IfErr result (λ f. IsKeyFault stated failures old.sources new.sources b old.editing f new.editing)
+  pub too_long : IsErrOf result Fault.TooLong ↔ GrowsTooLong key old.editing
+  pub too_many : MakesRevision key old.editing → ¬ IsErrOf result Fault.TooLong → MOST_REVISIONS ≤ length old.editing.session.revisions
+      → IsErrOf result (Fault.Edit Edit.TooManyRevisions) ⊎ IsErrOf result (Fault.Edit Edit.Memory)
+  pub fault : IfErr result (λ f. IsKeyFault stated failures old.sources new.sources key old.editing f new.editing)
   pub reads : Reads stated failures old.sources new.sources
-  pub succeeds : EachCurrent old.editing (IsReadable (stated old.sources)) → (f : SourceFault) → ¬ IsErrOf result (Key.Source f)
+  pub succeeds : EachCurrent old.editing (IsReadable (stated old.sources)) → (f : SourceFault) → ¬ IsErrOf result (Fault.Source f)
 
 -- ---- a revision more
 
@@ -70,24 +66,6 @@ pub record KeepsAll (old new : Editing) : Type 0 where
   pub keeps : Keeps old.session new.session
   pub revisions : new.session.revisions ≡ old.session.revisions
   pub rest : new ≡ record old { session = new.session }
-
--- ---- a key that looks for no line break
-
-abbrev pub IsPlainFault : ℕ → Editing → KeyFault → Editing → Type 0
-IsPlainFault b old Key.TooLong new = MakesRevision b old
-IsPlainFault b old (Key.Edit fault) new = MakesRevision b old × IsEditFault b old fault new
-IsPlainFault b old (Key.Source fault) new = ⊥
-
--- what such a key does to all but the sources and the message
-pub record TakesPlain (b : ℕ) (old : Editing) (result : Result (Unit {0}) KeyFault) (new : Editing) : Type 0 where
-  pub done : OnOk result (Does (key_of b) old new)
-  pub command : OnOk result (RecordsEdit (key_of b) old new)
-  pub kept : OnErr result (KeepsAll old new)
-  pub too_long : IsErrOf result Key.TooLong ↔ GrowsTooLong b old
-  pub too_many : MakesRevision b old → ¬ IsErrOf result Key.TooLong → MOST_REVISIONS ≤ length old.session.revisions
-      → IsErrOf result (Key.Edit Edit.TooManyRevisions) ⊎ IsErrOf result (Key.Edit Edit.Memory)
-  pub fault : IfErr result (λ f. IsPlainFault b old f new)
-  pub sources : new.session.held.sources ≡ old.session.held.sources
 
 -- ---- a new editor
 

@@ -1,7 +1,7 @@
 -- What a run takes, shows and answers.
-use Rattle.std.specs.Prelude.{◌≡◌, ◌⊎◌, ℕ, ◌≤◌, false, List, [], ◌∷◌, ◌++◌, IsTrue, length, take, slice_get, All, Option, Some, Result, Ok, Err, IfOk, IfErr, IsErrOf}
+use Rattle.std.specs.Prelude.{◌≡◌, ◌⊎◌, ℕ, ◌≤◌, List, [], ◌∷◌, ◌++◌, IsTrue, length, take, slice_get, All, Option, Some, Result, Ok, Err, IfOk, IfErr, IsErrOf}
 use Rattle.std.specs.Global.{Vec}
-use Rattle.std.specs.List.{flat_map, list_any}
+use Rattle.std.specs.List.{flat_map}
 use Rattle.std.specs.Io.KnownBytes.{Appends, Consumes, IsAtEnd}
 use Rattle.lazy_file.specs.SourceTexts.{Agrees, Reads, Stated}
 use Rattle.lazy_file.specs.declared.faults.SourceFault.{SourceFault}
@@ -11,16 +11,18 @@ use Rattle.screen_editor.specs.declared.fault.End.TheVariants.{Save, Leave}
 use Rattle.screen_editor.specs.declared.fault.FrameFault.{FrameFault}
 use Rattle.screen_editor.specs.declared.fault.FrameFault.TheVariants as Frames
 use Rattle.screen_editor.specs.declared.fault.KeyFault.{KeyFault}
-use Rattle.screen_editor.specs.declared.fault.KeyFault.TheVariants as Key
+use Rattle.screen_editor.specs.declared.fault.KeyFault.TheVariants as Fault
+use Rattle.screen_editor.specs.declared.key.Key.{Key}
+use Rattle.screen_editor.specs.declared.key.Step.{Step}
 use Rattle.screen_editor.specs.declared.running.TheConstants.{MOST_KEYS}
 use Rattle.screen_editor.specs.declared.fault.RunFault.{RunFault}
 use Rattle.screen_editor.specs.declared.fault.RunFault.TheVariants.{Read, Write, Frame, TooManyKeys}
 use Rattle.screen_editor.specs.Editing.{Editing, EditorValue, EachCurrent, state_of}
-use Rattle.screen_editor.specs.Keys.{ends, moves_by_lines}
-use Rattle.screen_editor.specs.Revising.{GrowsTooLong, IsStep, IsRefusedBy}
+use Rattle.screen_editor.specs.Keys.{answer_to, key_of, looks_for_lines}
+use Rattle.screen_editor.specs.Revising.{IsStep, IsRefusedBy}
 use Rattle.byte_output.specs.Prefix.{AppendsPrefix}
 use Rattle.screen_editor.specs.Frame.{frame_of}
-use Rattle.screen_editor.specs.Refusals.{IsEditFault, IsFrameFault, MakesRevision}
+use Rattle.screen_editor.specs.Refusals.{GrowsTooLong, IsEditFault, IsFrameFault, MakesRevision}
 
 -- the bytes that show it, whatever bytes the sources have that agree with what they state, where each cell of the text is stated
 abbrev pub IsFrame : Stated → Editing → List ℕ → Type 0
@@ -35,14 +37,14 @@ pub record MakesFrame {T : Type 0} (stated : T → Stated) (failures : T → ℕ
   pub kept : new.editing ≡ old.editing
 
 -- why a key may be refused: its text would be too long; its command was refused; or a line break was looked for, and a read failed
-abbrev pub IsReason : ℕ → Editing → KeyFault → Editing → Type 0
-IsReason b old Key.TooLong new = GrowsTooLong b old
-IsReason b old (Key.Edit fault) new = MakesRevision b old × IsEditFault b old fault new
-IsReason b old (Key.Source fault) new = IsTrue (moves_by_lines b)
+abbrev pub IsReason : Key → Editing → KeyFault → Editing → Type 0
+IsReason key old Fault.TooLong new = GrowsTooLong key old
+IsReason key old (Fault.Edit fault) new = MakesRevision key old × IsEditFault key old fault new
+IsReason key old (Fault.Source fault) new = IsTrue (looks_for_lines key)
 
--- a key makes the machine's step, or is refused for a reason
+-- a byte's key makes the machine's step, or is refused for a reason
 abbrev pub Passes : Stated → ℕ → Editing → Editing → Type 0
-Passes st b old new = IsStep st b old new ⊎ ((f : KeyFault) × IsRefusedBy f old new × IsReason b old f new)
+Passes st b old new = IsStep st (key_of b) old new ⊎ ((f : KeyFault) × IsRefusedBy f old new × IsReason (key_of b) old f new)
 
 -- each state follows from the one before it
 abbrev pub Follow : Stated → Editing → List ℕ → List Editing → Type 0
@@ -65,17 +67,22 @@ Shows st before now es = OfFrames st es (Appends before now)
 abbrev pub ShowsPrefix : Stated → Option (List ℕ) → Option (List ℕ) → List Editing → Type 0
 ShowsPrefix st before now es = OfFrames st es (AppendsPrefix before now)
 
--- the last of these keys, and none before it, is this one
-abbrev pub EndsBy : ℕ → List ℕ → Type 0
-EndsBy b keys = (before : List ℕ) × (keys ≡ before ++ b ∷ []) × (list_any ends before ≡ false)
-
+-- none of these keys ends a run
 abbrev pub GoesOn : List ℕ → Type 0
-GoesOn keys = list_any ends keys ≡ false
+GoesOn keys = All (λ b. answer_to (key_of b) ≡ Step.Going) keys
+
+-- the last of these keys, and none before it, ends the run, by this answer
+pub record EndsBy (answer : Step) (keys : List ℕ) : Type 0 where
+  pub before : List ℕ
+  pub last : ℕ
+  pub all : keys ≡ before ++ last ∷ []
+  pub answers : answer_to (key_of last) ≡ answer
+  pub on : GoesOn before
 
 -- what is answered once these keys are taken, with the states before them and behind each of them, and what is then shown
 abbrev pub Answers : Stated → Option (List ℕ) → Option (List ℕ) → Option (List ℕ) → List ℕ → List Editing → Result End RunFault → Type 0
-Answers st left before now keys states (Ok Save) = EndsBy 0x18 keys × Shows st before now (take (length keys) states)
-Answers st left before now keys states (Ok Leave) = (EndsBy 0x03 keys × Shows st before now (take (length keys) states)) ⊎ (GoesOn keys × IsAtEnd left × Shows st before now states)
+Answers st left before now keys states (Ok Save) = EndsBy Step.Save keys × Shows st before now (take (length keys) states)
+Answers st left before now keys states (Ok Leave) = (EndsBy Step.Leave keys × Shows st before now (take (length keys) states)) ⊎ (GoesOn keys × IsAtEnd left × Shows st before now states)
 Answers st left before now keys states (Err Read) = GoesOn keys × Shows st before now states
 Answers st left before now keys states (Err Write) = GoesOn keys × ShowsPrefix st before now states
 Answers st left before now keys states (Err (Frame f)) = GoesOn keys × Shows st before now (take (length keys) states)

@@ -1,20 +1,17 @@
 -- How a key that looks for no line break is carried out: by itself, or by one command of the session.
-use Rattle.std.specs.Prelude.{◌≡◌, ◌↔◌, ◌⊎◌, ℕ, ◌+◌, ◌≤◌, ◌<◌, length, Option, Some, Result, IfErr, OnOk, OnErr, IsErrOf}
+use Rattle.std.specs.Prelude.{◌≡◌, ◌↔◌, ◌⊎◌, ℕ, ◌+◌, ◌≤◌, ◌<◌, length, Option, Result, IfErr, OnOk, OnErr, IsErrOf}
 use Rattle.edit_commands.specs.declared.command.Command.{Command}
 use Rattle.edit_commands.specs.declared.command.Command.TheVariants.{Insert, Delete, Paste, Back, Balance}
-use Rattle.edit_commands.specs.declared.fault.EditFault.{EditFault}
 use Rattle.edit_commands.specs.declared.fault.EditFault.TheVariants as Edit
 use Rattle.edit_commands.specs.declared.session.TheConstants.{MOST_REVISIONS}
 use Rattle.edit_commands.specs.Applying.{IsLaterFault}
-use Rattle.edit_commands.specs.Building.{edit_with}
 use Rattle.edit_commands.specs.Session.{SessionValue, length_at}
 use Rattle.screen_editor.specs.declared.fault.KeyFault.{KeyFault}
 use Rattle.screen_editor.specs.declared.fault.KeyFault.TheVariants as Fault
 use Rattle.screen_editor.specs.declared.key.Key.{Key}
-use Rattle.screen_editor.specs.Editing.{Editing, longest_text, state_of}
-use Rattle.screen_editor.specs.Machine.{done, edit_of}
+use Rattle.screen_editor.specs.Editing.{Editing}
+use Rattle.screen_editor.specs.Refusals.{GrowsTooLong, IsPlainFault, MakesRevision}
 use Rattle.screen_editor.specs.Revising.{Does, KeepsAll, RecordsEdit, Revises}
-use Rattle.screen_editor.specs.State.{current}
 
 -- ---- a command
 
@@ -43,34 +40,13 @@ pub record RevisesOrNot (command : Command) (prior : Option ℕ) (q : ℕ) (old 
 
 -- ---- a key
 
--- the key makes a revision; the text that it would give has too many bytes
-abbrev pub MakesOne : Key → Editing → Type 0
-MakesOne key e = (source : ℕ → ℕ → ℕ) → length (done key (state_of source e)).texts ≡ length e.session.revisions + 1
-
-abbrev pub MakesTooLong : Key → Editing → Type 0
-MakesTooLong key e = (source : ℕ → ℕ → ℕ) → longest_text < length (current (done key (state_of source e)))
-
--- the session's call, with the key's command, met this on the way
-pub record MetBy (key : Key) (old : Editing) (fault : EditFault) (new : Editing) : Type 0 where
-  pub command : Command
-  pub place : ℕ
-  pub edit : (source : ℕ → ℕ → ℕ) → edit_of place key (state_of source old) ≡ Some (edit_with place command)
-  pub met : IsLaterFault old.session.held old.session.revisions command fault new.session.held
-
-abbrev pub IsFaultBy : Key → Editing → KeyFault → Editing → Type 0
-IsFaultBy key old Fault.TooLong new = MakesOne key old
-IsFaultBy key old (Fault.Edit Edit.TooManyRevisions) new = MakesOne key old × (MOST_REVISIONS ≤ length old.session.revisions)
-IsFaultBy key old (Fault.Edit Edit.Memory) new = MakesOne key old
-IsFaultBy key old (Fault.Edit fault) new = MakesOne key old × MetBy key old fault new
-IsFaultBy key old (Fault.Source fault) new = ⊥
-
 -- what a key does to all but the sources and the message
 pub record CarriesOut (key : Key) (old : Editing) (result : Result (Unit {0}) KeyFault) (new : Editing) : Type 0 where
   pub done : OnOk result (Does key old new)
   pub command : OnOk result (RecordsEdit key old new)
   pub kept : OnErr result (KeepsAll old new)
-  pub too_long : IsErrOf result Fault.TooLong ↔ MakesTooLong key old
-  pub too_many : MakesOne key old → ¬ IsErrOf result Fault.TooLong → MOST_REVISIONS ≤ length old.session.revisions
+  pub too_long : IsErrOf result Fault.TooLong ↔ GrowsTooLong key old
+  pub too_many : MakesRevision key old → ¬ IsErrOf result Fault.TooLong → MOST_REVISIONS ≤ length old.session.revisions
       → IsErrOf result (Fault.Edit Edit.TooManyRevisions) ⊎ IsErrOf result (Fault.Edit Edit.Memory)
-  pub fault : IfErr result (λ f. IsFaultBy key old f new)
+  pub fault : IfErr result (λ f. IsPlainFault key old f new)
   pub sources : new.session.held.sources ≡ old.session.held.sources

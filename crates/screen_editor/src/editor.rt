@@ -1,9 +1,10 @@
 //! The editor: a workspace over the sources that its text may lie in.
 
-ghost use Rattle.std.specs.Prelude.{◌≡◌, ◌↔◌, true, IfOk, IfErr, IsErrOf, OnErr};
+ghost use Rattle.std.specs.Prelude.{◌≡◌, ◌↔◌, IfOk, IfErr, IsErrOf, IsTrue, OnErr};
 ghost use Rattle.cord_position.specs.Fetched.{ReadsSpan};
 ghost use Rattle.screen_editor.specs.Editing.{IsEditor, current_cell, current_len};
-ghost use Rattle.screen_editor.specs.LineKeys.{FindsLinePlace, Takes, looks_for_lines};
+ghost use Rattle.screen_editor.specs.Keys.{key_of, looks_for_lines};
+ghost use Rattle.screen_editor.specs.LineKeys.{FindsLinePlace, Takes};
 ghost use Rattle.screen_editor.specs.Revising.{IsMade, TakesKey};
 ghost use Rattle.screen_editor.specs.Refusals.{IsNewFault, IsTooLong};
 ghost use Rattle.screen_editor.specs.Runs.{MakesFrame};
@@ -46,7 +47,7 @@ fn line_place<R: Sources>(
     key: Key,
 ) -> Result<Option<u64>, SourceFault>
     ensures place { IfOk result (FindsLinePlace (R.stated sources.old) key workspace.now) }
-    ensures looks { OnErr result (looks_for_lines key ≡ true) }
+    ensures looks { OnErr result (IsTrue (looks_for_lines key)) }
     ensures reads { ReadsSpan R.stated R.failures sources.old sources.new
         (current_cell workspace.now) 0 (current_len workspace.now) result }
 {
@@ -66,18 +67,18 @@ fn take<R: Sources>(
     alloc: Global,
     sources: &mut R,
     workspace: &mut Workspace,
-    byte: u8,
+    key: Key,
 ) -> Result<(), KeyFault>
-    ensures { Takes R.stated R.failures byte sources.old workspace.old result sources.new workspace.new }
+    ensures { Takes R.stated R.failures key sources.old workspace.old result sources.new workspace.new }
 {
     // The workspace keeps its rules, as its last revision says.
     let _last = workspace.last();
-    match line_place(alloc, sources, workspace, Key::of(byte)) {
+    match line_place(alloc, sources, workspace, key) {
         Ok(Some(place)) => {
             workspace.move_to(place);
             Ok(())
         }
-        Ok(None) => workspace.take(byte),
+        Ok(None) => workspace.take(key),
         Err(fault) => Err(KeyFault::Source(fault)),
     }
 }
@@ -87,18 +88,18 @@ fn take_key<R: Sources>(
     alloc: Global,
     sources: &mut R,
     workspace: &mut Workspace,
-    byte: u8,
+    key: Key,
 ) -> Result<Step, KeyFault>
-    ensures takes { TakesKey R.stated R.failures byte
+    ensures takes { TakesKey R.stated R.failures key
         (record { sources = sources.old; editing = workspace.old }) result
         (record { sources = sources.new; editing = workspace.new }) }
     ensures sizes { workspace.new.session.held.sources ≡ workspace.old.session.held.sources }
 {
-    if let Err(fault) = take(alloc, sources, workspace, byte) {
+    if let Err(fault) = take(alloc, sources, workspace, key) {
         workspace.tell(Some(fault));
         return Err(fault);
     }
-    match Key::of(byte) {
+    match key {
         Key::Save => Ok(Step::Save),
         Key::Leave => Ok(Step::Leave),
         _ => {
@@ -153,16 +154,21 @@ impl<R: Sources + Drop> Editor<R> {
         })
     }
 
-    /// Takes a key. A refused one changes the message alone.
+    /// Takes the key that a byte stands for. A refused one changes the message alone.
     ///
     /// # Errors
     ///
     /// `TooLong` where the text would have more than 2,147,483,647 bytes, `Edit` where the session or memory refused,
     /// `Source` where a line break was looked for and a read failed.
     pub fn key(&mut self, byte: u8) -> Result<Step, KeyFault>
-        ensures { TakesKey R.stated R.failures byte self.old result self.new }
+        ensures { TakesKey R.stated R.failures (key_of byte) self.old result self.new }
     {
-        take_key(self.alloc, &mut self.sources, &mut self.workspace, byte)
+        take_key(
+            self.alloc,
+            &mut self.sources,
+            &mut self.workspace,
+            Key::of(byte),
+        )
     }
 
     /// What the screen shows.

@@ -2,8 +2,7 @@
 
 ghost use Rattle.screen_editor.specs.declared.key.Key.TheVariants as Keys;
 ghost use Rattle.std.specs.Prelude.{◌≡◌, false};
-ghost use Rattle.screen_editor.specs.Keys.{moves_by_lines};
-ghost use Rattle.screen_editor.specs.Revising.{TakesPlain};
+ghost use Rattle.screen_editor.specs.Keys.{looks_for_lines};
 ghost use Rattle.screen_editor.specs.Taking.{CarriesOut};
 
 use crate::cut_span::CutSpan;
@@ -20,11 +19,11 @@ impl Workspace {
     ///
     /// `TooLong` where the text would have more than 2,147,483,647 bytes. Else `Edit`: the session refused the
     /// key's command, or memory was refused.
-    pub fn take(&mut self, byte: u8) -> Result<(), KeyFault>
-        requires { moves_by_lines byte ≡ false }
-        ensures { TakesPlain byte self.old result self.new }
+    pub fn take(&mut self, key: Key) -> Result<(), KeyFault>
+        requires { looks_for_lines key ≡ false }
+        ensures { CarriesOut key self.old result self.new }
     {
-        match Key::of(byte) {
+        match key {
             Key::Typed(byte) => self.type_byte(byte),
             Key::EraseBefore => self.erase_before(),
             Key::EraseAt => self.erase_at(),

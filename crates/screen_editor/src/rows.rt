@@ -50,7 +50,7 @@ fn push_glyphs<S: NodeSpace, T: Sources>(
 {
     let mut pos = Pos::set(alloc, space, rope, start);
     for place in start..end {
-        let byte = byte_at(&pos, space, sources, rope, place, 0)?;
+        let byte = byte_at(&pos, space, sources, rope, place)?;
         out.push(glyph(byte.unwrap_or(0)))?;
         pos.next();
     }

@@ -15,7 +15,7 @@ pub returns-in_err-byte-clause-reads : goal.returns-in_err-byte-clause-reads
 returns-in_err-byte-clause-reads g c =
     let p = err_from_is_err_and c.from_residual.result c.from_residual.ensures.1 in
     let t = g.S.NodeSpace.table c.args.space.now in
-    rw (p.1, p.2) (failed_read g.T.Sources.stated g.T.Sources.failures c.args.sources.now c.loop-place.sources c.byte_at.new.sources (rope_cell t c.args.rope) (rope_len t c.args.rope) (c.loop-place.place + 0) ((c.loop-place.place + 0) + 1) _
+    rw (p.1, p.2) (failed_read g.T.Sources.stated g.T.Sources.failures c.args.sources.now c.loop-place.sources c.byte_at.new.sources (rope_cell t c.args.rope) (rope_len t c.args.rope) c.loop-place.place (c.loop-place.place + 1) _
     c.loop-place.invariant.reads c.in_err-byte.ensures.reads (omega (arith, c.loop-place-test.true, c.requires.end)))
 
 pub loop-place-preserved : goal.loop-place-preserved
@@ -28,8 +28,8 @@ loop-place-preserved g c = record {
       let u = text source (rope_cells t c.args.rope) in
       let place = c.loop-place.place in
       let below : place < rope_len t c.args.rope = omega (arith, c.loop-place-test.true, c.requires.end) in
-      let at : c.in_ok-byte.byte ≡ slice_get u place = fetched_at t st (g.T.Sources.stated c.loop-place.sources) c.args.rope (place + 0) place c.in_ok-byte.byte c.loop-place.invariant.reads.same (omega arith) c.in_ok-byte.ensures.byte source agrees (stated place (omega arith) below) in
-      let inside = found_inside u place c.in_ok-byte.byte at (c.in_ok-byte.ensures.inside.1 (omega (arith, below))) in
+      let at : c.in_ok-byte.byte ≡ slice_get u place = fetched_at t st (g.T.Sources.stated c.loop-place.sources) c.args.rope place c.in_ok-byte.byte c.loop-place.invariant.reads.same c.in_ok-byte.ensures.byte source agrees (stated place (omega arith) below) in
+      let inside = found_inside u place c.in_ok-byte.byte at (c.in_ok-byte.ensures.inside.1 below) in
       let shown : c.glyph.result ≡ glyph c.unwrap_or.result = c.glyph.ensures in
       c.in_ok-push.ensures.items ∙ ap (λ (b : ℕ). c.loop-place.out.items ++ b ∷ []) (shown ∙ ap glyph c.unwrap_or.ensures)
       ∙ glyph_more u c.args.out.now.items c.loop-place.out.items c.args.start place c.in_ok-byte.byte at inside (omega (arith, c.loop-place.auto.place)) (c.loop-place.invariant.told source agrees stated);

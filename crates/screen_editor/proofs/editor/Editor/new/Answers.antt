@@ -1,5 +1,5 @@
-use Rattle.screen_editor.proofs.FirstTexts.{first_state}
+use Rattle.screen_editor.proofs.FirstTexts.{begun}
 use Rattle.screen_editor.proofs.editor.Editor.new.Goals as goal
 
 pub returns-clause-made : goal.returns-clause-made
-returns-clause-made g c = first_state (g.R.Sources.stated c.args.sources).sizes c.in_ok-session.session c.in_ok-workspace.workspace c.in_ok-session.ensures.first c.in_ok-workspace.ensures
+returns-clause-made g c = begun (g.R.Sources.stated c.args.sources).sizes c.in_ok-session.session c.in_ok-workspace.workspace c.in_ok-session.ensures.first c.in_ok-workspace.ensures
