@@ -140,6 +140,10 @@ impl NodeSpace for Checked<'_> {
         self.tables.fun_byte(id, i)
     }
 
+    fn period(&self, id: NodeId) -> Option<u64> {
+        self.tables.period(id)
+    }
+
     fn source_count(&self) -> u32 {
         self.tables.source_count()
     }

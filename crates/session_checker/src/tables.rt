@@ -86,6 +86,10 @@ impl NodeSpace for Tables<'_> {
         self.image.coded(id).byte(i)
     }
 
+    fn period(&self, id: NodeId) -> Option<u64> {
+        self.image.coded(id).period()
+    }
+
     fn source_count(&self) -> u32 {
         self.image.source_count()
     }

@@ -68,6 +68,10 @@ impl LeafFn for Pairs {
     fn byte(&self, i: u64) -> u8 {
         (i / 2 % 256) as u8
     }
+
+    fn period(&self) -> Option<u64> {
+        None
+    }
 }
 
 #[test]

@@ -82,6 +82,10 @@ impl NodeSpace for Sample {
         (i % 256) as u8
     }
 
+    fn period(&self, _id: NodeId) -> Option<u64> {
+        Some(256)
+    }
+
     fn source_count(&self) -> u32 {
         2
     }

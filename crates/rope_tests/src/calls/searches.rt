@@ -225,3 +225,75 @@ fn text_is_written_to_memory(rt: HostRuntime) {
     );
     assert_eq!(rt; bytes.as_slice(), b"abcde".as_slice());
 }
+
+/// The most bytes in a text.
+const LONGEST: u64 = (1 << 40) - 1;
+
+#[test]
+fn absent_patterns_of_leaves_that_repeat(rt: HostRuntime) {
+    let mut store: Store<Coded> = Store::new(rt.alloc());
+    let mut sources = MemSources::new(rt.alloc());
+    let cycle = Coded::cycle(b"abc").expect(&rt, "three bytes");
+    for f in [Coded::fill(b'a'), Coded::ramp(b'a'), cycle] {
+        let text = store.from_fn(f, LONGEST).expect(&rt, "a leaf");
+        assert!(rt; store.has(text));
+        let found = find(rt.alloc(), &store, &mut sources, text, 0, b"ba");
+        assert_eq!(rt; found, Ok(None));
+    }
+    for f in [Coded::fill(b'a'), cycle] {
+        let text = store.from_fn(f, LONGEST).expect(&rt, "a leaf");
+        assert!(rt; store.has(text));
+        let first = chr(rt.alloc(), &store, &mut sources, text, 0, b'x');
+        assert_eq!(rt; first, Ok(None));
+        let last = rchr(rt.alloc(), &store, &mut sources, text, LONGEST, b'x');
+        assert_eq!(rt; last, Ok(None));
+    }
+}
+
+#[test]
+fn patterns_of_the_longest_text(rt: HostRuntime) {
+    let mut store: Store<Coded> = Store::new(rt.alloc());
+    let mut sources = MemSources::new(rt.alloc());
+    let text = store
+        .from_fn(Coded::fill(b'a'), LONGEST)
+        .expect(&rt, "a leaf");
+    assert!(rt; store.has(text));
+    for (start, found) in [
+        (0, Some(0)),
+        (1_099_511_627_773, Some(1_099_511_627_773)),
+        (1_099_511_627_774, None),
+        (u64::MAX, None),
+    ] {
+        let answer = find(rt.alloc(), &store, &mut sources, text, start, b"aa");
+        assert_eq!(rt; answer, Ok(found), "{start}");
+    }
+}
+
+#[test]
+fn patterns_at_the_joints_of_leaves_that_repeat(rt: HostRuntime) {
+    let mut store: Store<Coded> = Store::new(rt.alloc());
+    let mut sources = MemSources::new(rt.alloc());
+    let front = store.from_bytes(b"xy").expect(&rt, "a leaf");
+    let most = store
+        .from_fn(Coded::fill(b'a'), LONGEST - 4)
+        .expect(&rt, "a leaf");
+    let back = store.from_bytes(b"bc").expect(&rt, "a leaf");
+    let text = joined(&rt, &mut store, front, most);
+    let text = joined(&rt, &mut store, text, back);
+    assert!(rt; store.has(text));
+    for (pattern, found) in [
+        (&b"ya"[..], Some(1)),
+        (b"yaa", Some(1)),
+        (b"aabc", Some(LONGEST - 4)),
+        (b"abc", Some(LONGEST - 3)),
+        (b"bc", Some(LONGEST - 2)),
+        (b"ac", None),
+    ] {
+        let answer = find(rt.alloc(), &store, &mut sources, text, 0, pattern);
+        assert_eq!(rt; answer, Ok(found), "{pattern:?}");
+    }
+    let first = chr(rt.alloc(), &store, &mut sources, text, 2, b'b');
+    assert_eq!(rt; first, Ok(Some(LONGEST - 2)));
+    let last = rchr(rt.alloc(), &store, &mut sources, text, LONGEST - 3, b'y');
+    assert_eq!(rt; last, Ok(Some(1)));
+}
