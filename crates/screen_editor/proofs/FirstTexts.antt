@@ -13,7 +13,8 @@ use Rattle.edit_commands.specs.declared.revision.Revision.{Revision}
 use Rattle.edit_commands.specs.Applying.{Applies}
 use Rattle.edit_commands.specs.Building.{edit_with}
 use Rattle.edit_commands.specs.Session.{HoldsHistory, SessionValue, edits_of, session_table, text_givens, texts_of}
-use Rattle.screen_editor.specs.Editing.{Editing, longest_text, state_of}
+use Rattle.screen_editor.specs.declared.workspace.TheConstants.{LONGEST_TEXT}
+use Rattle.screen_editor.specs.Editing.{Editing, state_of}
 use Rattle.screen_editor.specs.Opening.{IsFirst, first_command}
 use Rattle.screen_editor.specs.Refusals.{IsTooLong}
 use Rattle.screen_editor.specs.Revising.{IsMade, first_text}
@@ -33,7 +34,7 @@ first_len : (source : ℕ → ℕ → ℕ) (sizes : List ℕ) → length (first_
 first_len source [] = refl
 first_len source (n ∷ sizes) = length-map (range_with_len 0 n) (source 0) ∙ length-range_with_len 0 n
 
-pub first_made : (sizes : List ℕ) (old new : SessionValue) (k : ℕ) → Applies old (first_command old.held.sources) k new → old.held.sources ≡ sizes → old.revisions ≡ [] → HoldsHistory new → get_or sizes 0 0 ≤ longest_text → IsFirst sizes new
+pub first_made : (sizes : List ℕ) (old new : SessionValue) (k : ℕ) → Applies old (first_command old.held.sources) k new → old.held.sources ≡ sizes → old.revisions ≡ [] → HoldsHistory new → get_or sizes 0 0 ≤ LONGEST_TEXT → IsFirst sizes new
 first_made sizes old new k applies is_sources none history short =
     let h = subst (λ (s : List ℕ). Applies old (first_command s) k new) is_sources applies in
     let sources : new.held.sources ≡ sizes = h.keeps.goes_on.sources ∙ is_sources in
@@ -52,8 +53,8 @@ first_made sizes old new k applies is_sources none history short =
     texts_are sizes new edit history command one given source =
         alone (texts_of source new) (first_text source sizes) ((history.texts source).whole ∙ one) ((history.texts source).each 0 edit command ∙ given source)
 
-pub is_short : (test : Bool) (st : Stated) → (IsTrue test) ↔ IsTooLong st → test ≡ false → get_or st.sizes 0 0 ≤ longest_text
-is_short test st h e = elim (cases_lt longest_text (get_or st.sizes 0 0)) [
+pub is_short : (test : Bool) (st : Stated) → (IsTrue test) ↔ IsTooLong st → test ≡ false → get_or st.sizes 0 0 ≤ LONGEST_TEXT
+is_short test st h e = elim (cases_lt LONGEST_TEXT (get_or st.sizes 0 0)) [
   | inl long ↦ (let same : false ≡ true = sym e ∙ h.1 long in absurd cc)
   | inr short ↦ short
 ]

@@ -19,7 +19,8 @@ use Rattle.screen_editor.specs.declared.cut_span.CutSpan.{CutSpan}
 use Rattle.screen_editor.specs.declared.fault.KeyFault.{KeyFault}
 use Rattle.screen_editor.specs.declared.fault.KeyFault.TheVariants as Fault
 use Rattle.screen_editor.specs.declared.key.Key.{Key}
-use Rattle.screen_editor.specs.Editing.{Editing, IsEditing, current_len, key_code, last_of, longest_text, state_of}
+use Rattle.screen_editor.specs.declared.workspace.TheConstants.{LONGEST_TEXT}
+use Rattle.screen_editor.specs.Editing.{Editing, IsEditing, current_len, key_code, last_of, state_of}
 use Rattle.screen_editor.specs.Machine.{done, edit_of, revised}
 use Rattle.screen_editor.specs.Refusals.{GrowsTooLong, IsPlainFault, MakesRevision}
 use Rattle.screen_editor.specs.Revising.{Does, KeepsAll}
@@ -122,17 +123,17 @@ count_revised source e t = length-append (texts_of source e.session) (t ∷ []) 
 
 -- a key whose text would be too long is refused
 pub long_kept : (key : Key) (e : Editing) (prior : Option ℕ) (q : ℕ) (t : (ℕ → ℕ → ℕ) → List ℕ) → ((source : ℕ → ℕ → ℕ) → done key (state_of source e) ≡ revised (state_of source e) (t source) prior q)
-    → ((source : ℕ → ℕ → ℕ) → longest_text < length (t source)) → CarriesOut key e (Err Fault.TooLong) e
+    → ((source : ℕ → ℕ → ℕ) → LONGEST_TEXT < length (t source)) → CarriesOut key e (Err Fault.TooLong) e
 long_kept key e prior q t does long = too_long_kept key e
     (λ source. ap (λ (s : EditorState). length s.texts) (does source) ∙ count_revised source e (t source))
-    (λ source. subst (λ n. longest_text < n) (sym (ap (λ (s : EditorState). length (current s)) (does source) ∙ ap length (current_revised source e (t source)))) (long source))
+    (λ source. subst (λ n. LONGEST_TEXT < n) (sym (ap (λ (s : EditorState). length (current s)) (does source) ∙ ap length (current_revised source e (t source)))) (long source))
 
 -- the command by which the key does its work on this session, with the revision's prior, the place and the cut spans that it leaves
 pub record IsPlan (key : Key) (e : Editing) (command : Command) (prior : Option ℕ) (q : ℕ) (cuts : List CutSpan) : Type 0 where
   pub edit : (a : ℕ) (source : ℕ → ℕ → ℕ) → edit_of a key (state_of source e) ≡ Some (edit_with a command)
   pub does : (source : ℕ → ℕ → ℕ) → done key (state_of source e) ≡ record (revised (state_of source e) (text_given (texts_of source e.session) command) prior q) { cuts = cuts }
   pub order : IsInOrder e.session command
-  pub short : result_len e.session command ≤ longest_text
+  pub short : result_len e.session command ≤ LONGEST_TEXT
 
 -- it makes one revision, and its text is not too long
 makes_one : (key : Key) (e : Editing) (command : Command) (prior : Option ℕ) (q : ℕ) (cuts : List CutSpan) → IsPlan key e command prior q cuts → MakesRevision key e

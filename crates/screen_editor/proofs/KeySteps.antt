@@ -13,7 +13,8 @@ use Rattle.screen_editor.specs.declared.cut_span.CutSpan.{CutSpan}
 use Rattle.screen_editor.specs.declared.cut_span.TheConstants.{MOST_CUTS}
 use Rattle.screen_editor.specs.declared.fault.KeyFault.TheVariants as Fault
 use Rattle.screen_editor.specs.declared.key.Key.TheVariants as Keys
-use Rattle.screen_editor.specs.Editing.{Editing, IsCutSpan, IsEditing, current_len, last_of, longest_text, state_of}
+use Rattle.screen_editor.specs.declared.workspace.TheConstants.{LONGEST_TEXT}
+use Rattle.screen_editor.specs.Editing.{Editing, IsCutSpan, IsEditing, current_len, last_of, state_of}
 use Rattle.screen_editor.specs.Machine.{cut_out, cut_to, cutting, done, edited, gone_back, pasted, pasting, revised}
 use Rattle.screen_editor.specs.State.{current, last_revision, prior_of}
 use Rattle.screen_editor.specs.Taking.{RevisesOrNot, CarriesOut}
@@ -44,7 +45,7 @@ left_so test x y e = ap (λ (t : Bool). if t then x else y) e
 
 -- ---- a byte typed
 
-pub typed_plan : (e : Editing) (b : ℕ) (bytes : Bor (List ℕ)) → IsEditing e → HoldsHistory e.session → current_len e < longest_text → bytes.now ≡ b ∷ []
+pub typed_plan : (e : Editing) (b : ℕ) (bytes : Bor (List ℕ)) → IsEditing e → HoldsHistory e.session → current_len e < LONGEST_TEXT → bytes.now ≡ b ∷ []
     → IsPlan (Keys.Typed b) e (Insert (last_of e) e.place bytes) (Some (last_of e)) (e.place + 1) e.cuts
 typed_plan e b bytes is h short byte =
     let one : length bytes.now ≡ 1 = ap length byte in
@@ -56,10 +57,10 @@ typed_plan e b bytes is h short byte =
       short = omega (arith, one, short);
     }
 
-pub typed_too_long : (e : Editing) (b : ℕ) → IsEditing e → HoldsHistory e.session → longest_text ≤ current_len e → CarriesOut (Keys.Typed b) e (Err Fault.TooLong) e
+pub typed_too_long : (e : Editing) (b : ℕ) → IsEditing e → HoldsHistory e.session → LONGEST_TEXT ≤ current_len e → CarriesOut (Keys.Typed b) e (Err Fault.TooLong) e
 typed_too_long e b is h long = long_kept (Keys.Typed b) e (Some (last_of e)) (e.place + 1) (λ source. replaced (last_text source e) e.place 0 (b ∷ [])) (λ source. edited_at source e e.place 0 (b ∷ []) (e.place + 1)) longer
   where
-    longer : (source : ℕ → ℕ → ℕ) → longest_text < length (replaced (last_text source e) e.place 0 (b ∷ []))
+    longer : (source : ℕ → ℕ → ℕ) → LONGEST_TEXT < length (replaced (last_text source e) e.place 0 (b ∷ []))
     longer source =
         let len = text_len e.session h source (last_of e) in
         let inside = is.place in
@@ -153,7 +154,7 @@ paste_does : (e : Editing) (c : CutSpan) → slice_get e.cuts 0 ≡ Some c → (
     → done Keys.Paste (state_of source e) ≡ revised (state_of source e) (replaced (last_text source e) e.place 0 (put_in source e c)) (Some (last_of e)) (e.place + c.len)
 paste_does e c first source = ap (λ (cs : List CutSpan). pasted cs (state_of source e)) (first_is e.cuts c first) ∙ edited_at source e e.place 0 (put_in source e c) (e.place + c.len)
 
-pub paste_plan : (e : Editing) (c : CutSpan) → IsEditing e → HoldsHistory e.session → slice_get e.cuts 0 ≡ Some c → IsCutSpan e.session c → current_len e + c.len ≤ longest_text
+pub paste_plan : (e : Editing) (c : CutSpan) → IsEditing e → HoldsHistory e.session → slice_get e.cuts 0 ≡ Some c → IsCutSpan e.session c → current_len e + c.len ≤ LONGEST_TEXT
     → IsPlan Keys.Paste e (Paste (last_of e) e.place c.revision c.start c.len) (Some (last_of e)) (e.place + c.len) e.cuts
 paste_plan e c is h first span short = record {
   edit = λ a source. ap (λ (cs : List CutSpan). pasting cs (state_of source e)) (first_is e.cuts c first) ∙ ap (λ n. Some (Recorded.Paste n e.place c.revision c.start c.len)) (number e source);
@@ -162,10 +163,10 @@ paste_plan e c is h first span short = record {
   short = short;
 }
 
-pub paste_too_long : (e : Editing) (c : CutSpan) → IsEditing e → HoldsHistory e.session → slice_get e.cuts 0 ≡ Some c → IsCutSpan e.session c → longest_text < current_len e + c.len → CarriesOut Keys.Paste e (Err Fault.TooLong) e
+pub paste_too_long : (e : Editing) (c : CutSpan) → IsEditing e → HoldsHistory e.session → slice_get e.cuts 0 ≡ Some c → IsCutSpan e.session c → LONGEST_TEXT < current_len e + c.len → CarriesOut Keys.Paste e (Err Fault.TooLong) e
 paste_too_long e c is h first span long = long_kept Keys.Paste e (Some (last_of e)) (e.place + c.len) (λ source. replaced (last_text source e) e.place 0 (put_in source e c)) (paste_does e c first) longer
   where
-    longer : (source : ℕ → ℕ → ℕ) → longest_text < length (replaced (last_text source e) e.place 0 (put_in source e c))
+    longer : (source : ℕ → ℕ → ℕ) → LONGEST_TEXT < length (replaced (last_text source e) e.place 0 (put_in source e c))
     longer source =
         let len = text_len e.session h source (last_of e) in
         let from = text_len e.session h source c.revision in

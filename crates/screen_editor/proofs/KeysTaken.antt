@@ -8,13 +8,14 @@ use Rattle.screen_editor.specs.declared.cut_span.CutSpan.{CutSpan}
 use Rattle.screen_editor.specs.declared.cut_span.TheConstants.{MOST_CUTS}
 use Rattle.screen_editor.specs.declared.fault.KeyFault.{KeyFault}
 use Rattle.screen_editor.specs.declared.key.Key.TheVariants as Keys
-use Rattle.screen_editor.specs.Editing.{Editing, IsCutSpan, IsEditing, current_len, last_of, longest_text}
+use Rattle.screen_editor.specs.declared.workspace.TheConstants.{LONGEST_TEXT}
+use Rattle.screen_editor.specs.Editing.{Editing, IsCutSpan, IsEditing, current_len, last_of}
 use Rattle.screen_editor.specs.Taking.{RevisesOrNot, CarriesOut}
 use Rattle.screen_editor.proofs.KeyPlans.{plan_refused, plan_taken, plan_takes}
 use Rattle.screen_editor.proofs.KeySteps.{balance_plan, cut_lies, cut_plan, erase_at_plan, erase_before_plan, paste_plan, span_cut, typed_plan, undo_plan}
 
 module _ {e new : Editing} {result : Result (Unit {0}) KeyFault} {r p : ℕ} (is : IsEditing e) (h : HoldsHistory e.session) (last : r ≡ last_of e) where
-  pub typed_takes : {bytes : Bor (List ℕ)} (b : ℕ) → p ≡ e.place → current_len e < longest_text → bytes.now ≡ b ∷ [] → RevisesOrNot (Insert r p bytes) (Some r) (p + 1) e result new → CarriesOut (Keys.Typed b) e result new
+  pub typed_takes : {bytes : Bor (List ℕ)} (b : ℕ) → p ≡ e.place → current_len e < LONGEST_TEXT → bytes.now ≡ b ∷ [] → RevisesOrNot (Insert r p bytes) (Some r) (p + 1) e result new → CarriesOut (Keys.Typed b) e result new
   typed_takes {bytes} b place short byte done = plan_takes (Keys.Typed b) e _ _ _ result new h (typed_plan e b bytes is h short byte) (rw (last, place) at done)
 
   pub erase_before_takes : p ≡ e.place → 0 < p → RevisesOrNot (Delete r (p - 1) 1) (Some r) (p - 1) e result new → CarriesOut Keys.EraseBefore e result new
@@ -30,7 +31,7 @@ module _ {e new : Editing} {result : Result (Unit {0}) KeyFault} {r p : ℕ} (is
   undo_takes {j} back before prior place done =
       plan_takes Keys.Undo e _ _ _ result new h (undo_plan e j is h (ap (λ n. get_or e.priors n None) (sym last) ∙ sym back) (omega (arith, before, last))) (rw (prior, place) at done)
 
-  pub paste_takes : (c : CutSpan) → p ≡ e.place → Some c ≡ slice_get e.cuts 0 → IsCutSpan e.session c → c.len + current_len e ≤ longest_text → RevisesOrNot (Paste r p c.revision c.start c.len) (Some r) (p + c.len) e result new → CarriesOut Keys.Paste e result new
+  pub paste_takes : (c : CutSpan) → p ≡ e.place → Some c ≡ slice_get e.cuts 0 → IsCutSpan e.session c → c.len + current_len e ≤ LONGEST_TEXT → RevisesOrNot (Paste r p c.revision c.start c.len) (Some r) (p + c.len) e result new → CarriesOut Keys.Paste e result new
   paste_takes c place first span short done = plan_takes Keys.Paste e _ _ _ result new h (paste_plan e c is h (sym first) span (omega (arith, short))) (rw (last, place) at done)
 
 module _ {e mid : Editing} {r p m start most : ℕ} (is : IsEditing e) (h : HoldsHistory e.session) (last : r ≡ last_of e) (place : p ≡ e.place) (mark : Some m ≡ e.mark) (inside : m ≤ current_len e) (other : m ≡ p → ⊥)

@@ -20,7 +20,8 @@ use Rattle.edit_commands.specs.Refusals.{bytes_of, is_empty_text, is_full, is_ou
 use Rattle.edit_commands.specs.Session.{SessionValue, HoldsHistory, IsSession, length_at, texts_of}
 use Rattle.screen_editor.specs.declared.cut_span.CutSpan.{CutSpan}
 use Rattle.screen_editor.specs.declared.fault.KeyFault.TheVariants as Fault
-use Rattle.screen_editor.specs.Editing.{Editing, IsCutSpan, IsEditing, longest_text}
+use Rattle.screen_editor.specs.declared.workspace.TheConstants.{LONGEST_TEXT}
+use Rattle.screen_editor.specs.Editing.{Editing, IsCutSpan, IsEditing}
 use Rattle.screen_editor.specs.Taking.{IsInOrder, IsReviseFault}
 use Rattle.screen_editor.proofs.NewTexts.{count_texts, given_len, text_given, text_len, texts_more}
 
@@ -73,7 +74,7 @@ abbrev pub with_revision : Editing → SessionValue → Option ℕ → ℕ → E
 with_revision old session prior q = record old { session = session; priors = old.priors ++ prior ∷ []; place = q; mark = None }
 
 pub revised_kept : (old : Editing) (prior : Option ℕ) (q n : ℕ) (session : SessionValue) → IsEditing old → IsSession session → LengthsMore old.session n session
-    → n ≤ longest_text → q ≤ n → IfSome prior (λ j. j < length old.session.revisions) → IsEditing (with_revision old session prior q)
+    → n ≤ LONGEST_TEXT → q ≤ n → IfSome prior (λ j. j < length old.session.revisions) → IsEditing (with_revision old session prior q)
 revised_kept old prior q n session e s l short place given =
     let count = l.count in
     let last : length session.revisions - 1 ≡ length old.session.revisions = omega (arith, count) in
@@ -84,8 +85,8 @@ revised_kept old prior q n session e s l short place given =
       priors = length-append old.priors (prior ∷ []) ∙ ap (λ n. n + 1) e.priors ∙ sym count;
       earlier = earlier_after old.priors prior e.earlier (subst (λ n. IfSome prior (λ j. j < n)) (sym e.priors) given);
       short = λ k lt. elim (cases_lt k (length old.session.revisions)) [
-        | inl before ↦ subst (λ m. m ≤ longest_text) (sym (l.earlier k before)) (e.short k before)
-        | inr ge ↦ let same : length old.session.revisions ≡ k = omega (arith, ge, lt, count) in subst (λ m. m ≤ longest_text) (sym l.last ∙ ap (length_at session) same) short
+        | inl before ↦ subst (λ m. m ≤ LONGEST_TEXT) (sym (l.earlier k before)) (e.short k before)
+        | inr ge ↦ let same : length old.session.revisions ≡ k = omega (arith, ge, lt, count) in subst (λ m. m ≤ LONGEST_TEXT) (sym l.last ∙ ap (length_at session) same) short
       ];
       place = subst (λ m. q ≤ m) (sym len) place;
       mark = tt;
@@ -107,7 +108,7 @@ refused_kept old session e h keeps same s k =
       some = omega (arith, count, e.some);
       priors = e.priors ∙ sym count;
       earlier = e.earlier;
-      short = λ i lt. subst (λ m. m ≤ longest_text) (sym (at i)) (e.short i (omega (arith, lt, count)));
+      short = λ i lt. subst (λ m. m ≤ LONGEST_TEXT) (sym (at i)) (e.short i (omega (arith, lt, count)));
       place = subst (λ m. old.place ≤ m) (sym len) e.place;
       mark = subst (λ n. IfSome old.mark (λ m. m ≤ n)) (sym len) e.mark;
       few_cuts = e.few_cuts;
@@ -131,7 +132,7 @@ one_test b e = or_from b false e refl
 two_tests : (a b : Bool) → a ≡ false → b ≡ false → (a || (b || false)) ≡ false
 two_tests a b e f = or_from a (b || false) e (one_test b f)
 
-no_reason : (v : SessionValue) (command : Command) → IsInOrder v command → result_len v command ≤ longest_text → HasNoReason v command
+no_reason : (v : SessionValue) (command : Command) → IsInOrder v command → result_len v command ≤ LONGEST_TEXT → HasNoReason v command
 no_reason v New o short = absurd o
 no_reason v (Open s) o short = absurd o
 no_reason v (Insert r p bytes) o short = record {
@@ -189,7 +190,7 @@ is_later old command Edit.TooManyPieces new h = h
 is_later old command Edit.Memory new h = tt
 
 -- a command in order is refused at once only where there are too many revisions
-pub fault_in_order : (old : Editing) (command : Command) (f : EditFault) (new : Editing) → IsInOrder old.session command → result_len old.session command ≤ longest_text
+pub fault_in_order : (old : Editing) (command : Command) (f : EditFault) (new : Editing) → IsInOrder old.session command → result_len old.session command ≤ LONGEST_TEXT
     → AppliesOrNot old.session command (Err f) new.session → IsReviseFault command old (Fault.Edit f) new
 fault_in_order old command f new o short a = elim (cases_Bool (is_full old.session)) [
   | inl full ↦
@@ -207,7 +208,7 @@ fault_in_order old command f new o short a = elim (cases_Bool (is_full old.sessi
     same_fault : (f g : EditFault) → Path (Result ℕ EditFault) (Err f) (Err g) → f ≡ g
     same_fault f g e = cc
 
-pub full_in_order : (old : Editing) (command : Command) (result : Result ℕ EditFault) (session : SessionValue) → IsInOrder old.session command → result_len old.session command ≤ longest_text
+pub full_in_order : (old : Editing) (command : Command) (result : Result ℕ EditFault) (session : SessionValue) → IsInOrder old.session command → result_len old.session command ≤ LONGEST_TEXT
     → AppliesOrNot old.session command result session → MOST_REVISIONS ≤ length old.session.revisions → result ≡ Err Edit.TooManyRevisions
 full_in_order old command result session o short a full =
     let refused = refusal_without old.session command (no_reason old.session command o short) in
@@ -224,7 +225,7 @@ pub applied_number : (old : SessionValue) (command : Command) (k : ℕ) (new : S
 applied_number old command k new a = subst (λ n. Applies old command n new) a.number a
 
 pub after_revision : (old : Editing) (command : Command) (k : ℕ) (prior : Option ℕ) (q : ℕ) (session : SessionValue) → IsEditing old → HoldsHistory old.session → AppliesOrNot old.session command (Ok k) session → IsSession session → HoldsHistory session
-    → IsInOrder old.session command → result_len old.session command ≤ longest_text → q ≤ result_len old.session command → IfSome prior (λ j. j < length old.session.revisions)
+    → IsInOrder old.session command → result_len old.session command ≤ LONGEST_TEXT → q ≤ result_len old.session command → IfSome prior (λ j. j < length old.session.revisions)
     → IsEditing (with_revision old session prior q)
 after_revision old command k prior q session e h a s history o short place given =
     revised_kept old prior q (result_len old.session command) session e s (lengths_more old.session command session h history o (applied_number old.session command k session a.made)) short place given

@@ -10,6 +10,7 @@ use Rattle.std.proofs.lemmas.List.Splits.{slice_split_none, slice_split_first}
 use Rattle.std.proofs.lemmas.List.Sums.{fails_before_first}
 use Rattle.std.proofs.lemmas.Option.{slice_get_within, unwrap_or-slice_get}
 use Rattle.std.proofs.lemmas.Grind.{take_at_read, flat_map-append}
+use Rattle.screen_editor.specs.declared.rows.TheConstants.{SCREEN_COLUMNS}
 use Rattle.screen_editor.specs.Lines.{is_break, line_end}
 use Rattle.screen_editor.specs.Frame.{glyph}
 use Rattle.screen_editor.specs.Rows.{shown_of, lines_from, row_in, PushesLine}
@@ -43,16 +44,16 @@ take_least m n xs =
 
 -- the part of a line that is shown, taken from the text
 part_shown : (t : List ℕ) (start left end n : ℕ) → start ≤ end → end ≤ length t → n ≡ end - start - left
-    → take (end - n + min n 80 - (end - n)) (drop (end - n) t) ≡ take 80 (drop left (take (end - start) (drop start t)))
+    → take (end - n + min n SCREEN_COLUMNS - (end - n)) (drop (end - n) t) ≡ take SCREEN_COLUMNS (drop left (take (end - start) (drop start t)))
 part_shown t start left end n from inside is =
     elim (cases_lt left (end - start)) [
       | inl short ↦
           let same : end - start ≡ left + n = omega (arith, short, is) in
           let place : end - n ≡ start + left = omega (arith, short, from, is) in
-          let count : start + left + min n 80 - (start + left) ≡ min n 80 = omega arith in
-          rw (same, drop-take left n (drop start t), drop-drop left start t, take_least 80 n (drop (start + left) t), place, count) refl
+          let count : start + left + min n SCREEN_COLUMNS - (start + left) ≡ min n SCREEN_COLUMNS = omega arith in
+          rw (same, drop-take left n (drop start t), drop-drop left start t, take_least SCREEN_COLUMNS n (drop (start + left) t), place, count) refl
       | inr past ↦
-          let none : end - n + min n 80 - (end - n) ≡ 0 = omega (arith, past, is) in
+          let none : end - n + min n SCREEN_COLUMNS - (end - n) ≡ 0 = omega (arith, past, is) in
           let gone : drop left (take (end - start) (drop start t)) ≡ [] = drop_all left (take (end - start) (drop start t)) (rw (length-take (end - start) (drop start t)) (omega (arith, past))) in
           rw (gone, none) refl
     ]
@@ -69,17 +70,17 @@ first_of xs =
     ]
 
 line_shown : (t old new : List ℕ) (start left end n : ℕ) → start ≤ end → end ≤ length t → end ≡ line_end t start → n ≡ end - start - left
-    → new ≡ old ++ map glyph (take (end - n + min n 80 - (end - n)) (drop (end - n) t))
+    → new ≡ old ++ map glyph (take (end - n + min n SCREEN_COLUMNS - (end - n)) (drop (end - n) t))
     → new ≡ old ++ shown_of left (get_or (lines_from t (Some start)) 0 [])
 line_shown t old new start left end n from inside is rest pushed =
     let len : end - start ≡ position_or_len is_break (drop start t) = omega (arith, is) in
     pushed ∙ ap (λ (xs : List ℕ). old ++ map glyph xs) (part_shown t start left end n from inside rest)
-    ∙ ap (λ (k : ℕ). old ++ map glyph (take 80 (drop left (take k (drop start t))))) len
+    ∙ ap (λ (k : ℕ). old ++ map glyph (take SCREEN_COLUMNS (drop left (take k (drop start t))))) len
     ∙ ap (λ (xs : List ℕ). old ++ shown_of left xs) (sym (first_of (drop start t)))
 
 -- behind a line with a break the next one begins
 pub line_then : (t old new : List ℕ) (start left end n : ℕ) → start ≤ end → end < length t → end ≡ line_end t start → n ≡ end - start - left
-    → new ≡ old ++ map glyph (take (end - n + min n 80 - (end - n)) (drop (end - n) t))
+    → new ≡ old ++ map glyph (take (end - n + min n SCREEN_COLUMNS - (end - n)) (drop (end - n) t))
     → PushesLine t (Some start) left (Some (end + 1)) old new
 line_then t old new start left end n from inside is rest pushed =
     let xs = drop start t in
@@ -93,7 +94,7 @@ line_then t old new start left end n from inside is rest pushed =
 
 -- behind the last one no line begins
 pub line_last : (t old new : List ℕ) (start left end n : ℕ) → start ≤ end → end ≡ length t → end ≡ line_end t start → n ≡ end - start - left
-    → new ≡ old ++ map glyph (take (end - n + min n 80 - (end - n)) (drop (end - n) t))
+    → new ≡ old ++ map glyph (take (end - n + min n SCREEN_COLUMNS - (end - n)) (drop (end - n) t))
     → PushesLine t (Some start) left None old new
 line_last t old new start left end n from whole is rest pushed =
     let xs = drop start t in

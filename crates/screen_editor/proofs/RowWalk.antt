@@ -2,6 +2,7 @@
 use Rattle.std.proofs.Common.{◌≡◌, ℕ, ◌+◌, List, [], ◌∷◌, ◌++◌, drop, get_or, Option, Some, sym, ap, ◌∙◌}
 use Rattle.std.specs.List.{flat_map, range_with_len, slice_split}
 use Rattle.std.proofs.lemmas.List.{drop-drop, get_or-drop}
+use Rattle.screen_editor.specs.declared.rows.TheConstants.{SCREEN_ROWS}
 use Rattle.screen_editor.specs.Lines.{is_break}
 use Rattle.screen_editor.specs.Frame.{first_column, first_line, rows_of_text}
 use Rattle.screen_editor.specs.Rows.{lines_from, row_in, rows_in, shown_of, IsWindow, PushesLine}
@@ -26,7 +27,7 @@ row_more t top left k next after old now shown at line =
 pub rows_of_window : (t : List ℕ) (p top row column : ℕ) → IsWindow t p top row column → rows_in (lines_from t (Some top)) (first_column t p) ≡ rows_of_text t p
 rows_of_window t p top row column window =
     ap (λ (lines : List (List ℕ)). rows_in lines (first_column t p)) window.lines
-    ∙ ap (λ (line : ℕ → List ℕ). flat_map (λ k. shown_of (first_column t p) (line k) ++ 0x0D ∷ 0x0A ∷ []) (range_with_len 0 23)) (same_lines (first_line t p) (slice_split is_break t))
+    ∙ ap (λ (line : ℕ → List ℕ). flat_map (λ k. shown_of (first_column t p) (line k) ++ 0x0D ∷ 0x0A ∷ []) (range_with_len 0 SCREEN_ROWS)) (same_lines (first_line t p) (slice_split is_break t))
   where
     same_lines : (n : ℕ) (lines : List (List ℕ)) → ◌≡◌ {A = ℕ → List ℕ} (λ k. get_or (drop n lines) k []) (λ k. get_or lines (n + k) [])
     same_lines n lines = simp get_or-drop

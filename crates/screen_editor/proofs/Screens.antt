@@ -3,6 +3,7 @@ use Rattle.std.proofs.Common.{◌≡◌, ℕ, ◌+◌, ◌-◌, ◌*◌, ◌/◌
 use Rattle.std.specs.Prelude.{codes}
 use Rattle.std.specs.Option.{option_map}
 use Rattle.screen_editor.specs.declared.fault.KeyFault.{KeyFault}
+use Rattle.screen_editor.specs.declared.rows.TheConstants.{SCREEN_COLUMNS}
 use Rattle.screen_editor.specs.Editing.{key_code}
 use Rattle.screen_editor.specs.Lines.{column}
 use Rattle.screen_editor.specs.Frame.{control, cursor_of, first_column, first_line, line_of, rows_of_text, screen_of, status_of}
@@ -14,13 +15,13 @@ four_parts : (a r s c a' r' s' c' x y z : List ℕ) → x ≡ a ++ r → y ≡ x
 four_parts a r s c a' r' s' c' x y z hx hy hz ha hr hs hc = cc
 
 pub screen_is : (t : List ℕ) (p revision top row behind left len : ℕ) (message : Option KeyFault) (clear shown line named end all : List ℕ)
-    → IsWindow t p top row behind → left ≡ 80 * (behind / 80) → len ≡ length t
+    → IsWindow t p top row behind → left ≡ SCREEN_COLUMNS * (behind / SCREEN_COLUMNS) → len ≡ length t
     → clear ≡ control (codes "2J") ++ control (codes "H") → shown ≡ clear ++ rows_in (lines_from t (Some top)) left
     → line ≡ status_of revision p len (option_map key_code message) → named ≡ shown ++ line
     → end ≡ cursor_at (row + 1) (behind - left + 1) → all ≡ named ++ end
     → all ≡ screen_of t p revision (option_map key_code message)
 screen_is t p revision top row behind left len message clear shown line named end all window left_is long cleared rows status second cursor third =
-    let first : left ≡ first_column t p = left_is ∙ ap (λ (n : ℕ). 80 * (n / 80)) window.column in
+    let first : left ≡ first_column t p = left_is ∙ ap (λ (n : ℕ). SCREEN_COLUMNS * (n / SCREEN_COLUMNS)) window.column in
     let text : rows_in (lines_from t (Some top)) left ≡ rows_of_text t p = ap (rows_in (lines_from t (Some top))) first ∙ rows_of_window t p top row behind window in
     let words : line ≡ status_of revision p (length t) (option_map key_code message) = status ∙ ap (λ (n : ℕ). status_of revision p n (option_map key_code message)) long in
     let place : end ≡ cursor_of t p = cursor ∙ ap (λ (n : ℕ). cursor_at (n + 1) (behind - left + 1)) window.row ∙ ap (λ (n : ℕ). cursor_at (line_of t p - first_line t p + 1) (n - left + 1)) window.column ∙ ap (λ (n : ℕ). cursor_at (line_of t p - first_line t p + 1) (column t p - n + 1)) first in

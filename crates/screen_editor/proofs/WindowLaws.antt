@@ -5,6 +5,7 @@ use Rattle.std.proofs.lemmas.Bool.{cases_Bool, cases_lt}
 use Rattle.std.proofs.lemmas.List.{drop_all}
 use Rattle.std.proofs.lemmas.List.Splits.{slice_split-cons_yes, slice_split-cons_no}
 use Rattle.std.proofs.lemmas.List.Sums.{count_by_more_yes, count_by_more_no, suffix_len-take_yes, suffix_len-take_no, sum_by-cons}
+use Rattle.screen_editor.specs.declared.window.TheConstants.{LINES_ABOVE}
 use Rattle.screen_editor.specs.Lines.{is_break, column, line_start}
 use Rattle.screen_editor.specs.Frame.{first_line, line_of}
 use Rattle.screen_editor.specs.Rows.{IsAbove, IsLineStart, IsWindow}
@@ -111,12 +112,12 @@ lines_behind [] (suc s) begins le = absurd (omega (arith, le))
 lines_behind (x ∷ xs) (suc s) begins le = lines_more x xs s (lines_behind xs s) begins (omega (arith, le))
 
 -- the line that was come to is the first that is shown
-pub window_is : (t : List ℕ) (p start top row : ℕ) → p ≤ length t → start ≡ line_start t p → top ≤ p → row ≤ 11 → (row < 11 → top ≡ 0) → IsAbove t start top row → IsWindow t p top row (p - start)
+pub window_is : (t : List ℕ) (p start top row : ℕ) → p ≤ length t → start ≡ line_start t p → top ≤ p → row ≤ LINES_ABOVE → (row < LINES_ABOVE → top ≡ 0) → IsAbove t start top row → IsWindow t p top row (p - start)
 window_is t p start top row le is inside few all above =
     let at = begins_at t p le in
     let begins : IsLineStart t start = subst (IsLineStart t) (sym is) at.begins in
     let lines : line_of t p ≡ line_of t top + row = sym at.lines ∙ ap (line_of t) (sym is) ∙ above.lines begins in
-    let none : row < 11 → line_of t top ≡ 0 = λ lt. ap (line_of t) (all lt) in
+    let none : row < LINES_ABOVE → line_of t top ≡ 0 = λ lt. ap (line_of t) (all lt) in
     let first : line_of t top ≡ first_line t p = first_is (line_of t p) (line_of t top) row lines few none in
     record {
       lines = lines_behind t top (above.begins begins) (omega (arith, inside, le)) ∙ ap (λ (n : ℕ). drop n (slice_split is_break t)) first;
@@ -124,9 +125,9 @@ window_is t p start top row le is inside few all above =
       column = ap (λ (s : ℕ). p - s) is ∙ column_is t p;
     }
   where
-    first_is : (l m k : ℕ) → l ≡ m + k → k ≤ 11 → (k < 11 → m ≡ 0) → m ≡ l - 11
+    first_is : (l m k : ℕ) → l ≡ m + k → k ≤ LINES_ABOVE → (k < LINES_ABOVE → m ≡ 0) → m ≡ l - LINES_ABOVE
     first_is l m k e few none =
-        elim (cases_lt k 11) [
+        elim (cases_lt k LINES_ABOVE) [
           | inl fewer ↦ let zero' = none fewer in omega (arith, e, fewer, zero')
           | inr whole ↦ omega (arith, e, few, whole)
         ]

@@ -13,11 +13,8 @@ use Rattle.screen_editor.specs.declared.cut_span.CutSpan.{CutSpan}
 use Rattle.screen_editor.specs.declared.cut_span.TheConstants.{MOST_CUTS}
 use Rattle.screen_editor.specs.declared.fault.KeyFault.{KeyFault}
 use Rattle.screen_editor.specs.declared.fault.KeyFault.TheVariants as Key
+use Rattle.screen_editor.specs.declared.workspace.TheConstants.{LONGEST_TEXT}
 use Rattle.screen_editor.specs.State.{EditorState}
-
--- the most bytes of a text that is edited
-abbrev pub longest_text : ℕ
-longest_text = 2147483647
 
 -- the code that a message names
 abbrev pub edit_code : EditFault → List ℕ
@@ -87,7 +84,7 @@ pub record IsEditing (e : Editing) : Type 0 where
   pub some : 1 ≤ length e.session.revisions
   pub priors : length e.priors ≡ length e.session.revisions
   pub earlier : (k j : ℕ) → slice_get e.priors k ≡ Some (Some j) → j < k
-  pub short : (k : ℕ) → k < length e.session.revisions → length_at e.session k ≤ longest_text
+  pub short : (k : ℕ) → k < length e.session.revisions → length_at e.session k ≤ LONGEST_TEXT
   pub place : e.place ≤ current_len e
   pub mark : IfSome e.mark (λ m. m ≤ current_len e)
   pub few_cuts : length e.cuts ≤ MOST_CUTS

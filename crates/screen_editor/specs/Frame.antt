@@ -2,19 +2,10 @@
 use Rattle.std.specs.Prelude.{ℕ, ◌+◌, ◌-◌, ◌*◌, ◌/◌, ◌&&◌, nat_le, if◌then◌else◌, List, [], ◌∷◌, ◌++◌, length, map, take, drop, get_or, Option, Some, None, codes}
 use Rattle.std.specs.List.{slice_split, count_by, flat_map, range_with_len}
 use Rattle.std.specs.Fmt.{decimal}
+use Rattle.screen_editor.specs.declared.rows.TheConstants.{SCREEN_COLUMNS, SCREEN_ROWS}
+use Rattle.screen_editor.specs.declared.window.TheConstants.{LINES_ABOVE}
 use Rattle.screen_editor.specs.Lines.{is_break, column}
 use Rattle.screen_editor.specs.State.{EditorState, last_revision, current}
-
--- how many rows of text there are, and how many columns
-abbrev pub screen_rows : ℕ
-screen_rows = 23
-
-abbrev pub screen_columns : ℕ
-screen_columns = 80
-
--- how many lines stand above the cursor's, where there are so many
-abbrev pub lines_above : ℕ
-lines_above = 11
 
 -- a control sequence: ESC [ and the rest
 abbrev pub control : List ℕ → List ℕ
@@ -25,20 +16,20 @@ abbrev pub line_of : List ℕ → ℕ → ℕ
 line_of t p = count_by is_break (take p t)
 
 abbrev pub first_line : List ℕ → ℕ → ℕ
-first_line t p = line_of t p - lines_above
+first_line t p = line_of t p - LINES_ABOVE
 
 abbrev pub first_column : List ℕ → ℕ → ℕ
-first_column t p = screen_columns * (column t p / screen_columns)
+first_column t p = SCREEN_COLUMNS * (column t p / SCREEN_COLUMNS)
 
 abbrev pub glyph : ℕ → ℕ
 glyph b = if nat_le 0x20 b && nat_le b 0x7E then b else 0x3F
 
 -- row k of the screen
 abbrev pub row_of : List ℕ → ℕ → ℕ → List ℕ
-row_of t p k = map glyph (take screen_columns (drop (first_column t p) (get_or (slice_split is_break t) (first_line t p + k) []))) ++ 0x0D ∷ 0x0A ∷ []
+row_of t p k = map glyph (take SCREEN_COLUMNS (drop (first_column t p) (get_or (slice_split is_break t) (first_line t p + k) []))) ++ 0x0D ∷ 0x0A ∷ []
 
 abbrev pub rows_of_text : List ℕ → ℕ → List ℕ
-rows_of_text t p = flat_map (row_of t p) (range_with_len 0 screen_rows)
+rows_of_text t p = flat_map (row_of t p) (range_with_len 0 SCREEN_ROWS)
 
 abbrev pub message_of : Option (List ℕ) → List ℕ
 message_of None = []

@@ -3,7 +3,7 @@ use Rattle.std.specs.Prelude.{◌≡◌, ℕ, ◌≤◌, List, [], ◌∷◌, le
 use Rattle.edit_commands.specs.declared.command.Command.{Command}
 use Rattle.edit_commands.specs.declared.command.Command.TheVariants.{New, Open}
 use Rattle.edit_commands.specs.Session.{SessionValue, length_at, texts_of}
-use Rattle.screen_editor.specs.Editing.{longest_text}
+use Rattle.screen_editor.specs.declared.workspace.TheConstants.{LONGEST_TEXT}
 use Rattle.screen_editor.specs.Revising.{first_text}
 
 abbrev pub first_command : List ℕ → Command
@@ -15,4 +15,4 @@ pub record IsFirst (sizes : List ℕ) (v : SessionValue) : Type 0 where
   pub sources : v.held.sources ≡ sizes
   pub one : length v.revisions ≡ 1
   pub text : (source : ℕ → ℕ → ℕ) → texts_of source v ≡ first_text source sizes ∷ []
-  pub short : length_at v 0 ≤ longest_text
+  pub short : length_at v 0 ≤ LONGEST_TEXT

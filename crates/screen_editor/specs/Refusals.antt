@@ -17,7 +17,8 @@ use Rattle.screen_editor.specs.declared.fault.FrameFault.TheVariants as Frame
 use Rattle.screen_editor.specs.declared.fault.KeyFault.{KeyFault}
 use Rattle.screen_editor.specs.declared.fault.KeyFault.TheVariants as Fault
 use Rattle.screen_editor.specs.declared.key.Key.{Key}
-use Rattle.screen_editor.specs.Editing.{Editing, current_cell, current_len, longest_text, state_of}
+use Rattle.screen_editor.specs.declared.workspace.TheConstants.{LONGEST_TEXT}
+use Rattle.screen_editor.specs.Editing.{Editing, current_cell, current_len, state_of}
 use Rattle.screen_editor.specs.Keys.{looks_for_lines}
 use Rattle.screen_editor.specs.Machine.{edit_of, step}
 use Rattle.screen_editor.specs.State.{current}
@@ -28,7 +29,7 @@ MakesRevision key e = (source : ℕ → ℕ → ℕ) → length (step key (state
 
 -- the text that a key would give has too many bytes
 abbrev pub GrowsTooLong : Key → Editing → Type 0
-GrowsTooLong key e = (source : ℕ → ℕ → ℕ) → longest_text < length (current (step key (state_of source e)))
+GrowsTooLong key e = (source : ℕ → ℕ → ℕ) → LONGEST_TEXT < length (current (step key (state_of source e)))
 
 -- the session's call for the key's command, whose bytes stand at this place of the pool, met this on the way
 pub record WasRefused (key : Key) (old : Editing) (fault : EditFault) (new : Editing) : Type 0 where
@@ -72,7 +73,7 @@ pub record ReadsToShow {T X : Type 0} (stated : T → Stated) (failures : T → 
 
 -- the first source is too long
 abbrev pub IsTooLong : Stated → Type 0
-IsTooLong st = longest_text < get_or st.sizes 0 0
+IsTooLong st = LONGEST_TEXT < get_or st.sizes 0 0
 
 -- a first revision is in range and short, so the session has none of these reasons to refuse it
 abbrev pub IsStartFault : EditFault → Type 0

@@ -2,12 +2,13 @@
 use Rattle.std.specs.Prelude.{◌≡◌, ℕ, ◌+◌, ◌-◌, ◌≤◌, true, codes, List, [], ◌∷◌, ◌++◌, map, take, drop, get_or, Option, Some, None}
 use Rattle.std.specs.List.{slice_split, flat_map, range_with_len}
 use Rattle.std.specs.Fmt.{decimal}
+use Rattle.screen_editor.specs.declared.rows.TheConstants.{SCREEN_COLUMNS, SCREEN_ROWS}
 use Rattle.screen_editor.specs.Lines.{is_break, column}
-use Rattle.screen_editor.specs.Frame.{control, first_line, glyph, line_of, screen_columns, screen_rows}
+use Rattle.screen_editor.specs.Frame.{control, first_line, glyph, line_of}
 
 -- what is shown of a line from this column on
 abbrev pub shown_of : ℕ → List ℕ → List ℕ
-shown_of left line = map glyph (take screen_columns (drop left line))
+shown_of left line = map glyph (take SCREEN_COLUMNS (drop left line))
 
 -- the lines from the one that begins at this place, or none
 abbrev pub lines_from : List ℕ → Option ℕ → List (List ℕ)
@@ -19,7 +20,7 @@ abbrev pub row_in : List (List ℕ) → ℕ → ℕ → List ℕ
 row_in lines left k = shown_of left (get_or lines k []) ++ 0x0D ∷ 0x0A ∷ []
 
 abbrev pub rows_in : List (List ℕ) → ℕ → List ℕ
-rows_in lines left = flat_map (row_in lines left) (range_with_len 0 screen_rows)
+rows_in lines left = flat_map (row_in lines left) (range_with_len 0 SCREEN_ROWS)
 
 -- what is appended for the line that begins at start, or for none, and where the next one begins
 pub record PushesLine (t : List ℕ) (start : Option ℕ) (left : ℕ) (next : Option ℕ) (old new : List ℕ) : Type 0 where

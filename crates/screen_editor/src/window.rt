@@ -4,7 +4,7 @@ ghost use Rattle.std.specs.Prelude.{◌≡◌, ◌<◌, ◌≤◌, IfOk};
 ghost use Rattle.rope_node.specs.Denotes.{IsRope, rope_len};
 ghost use Rattle.cord_position.specs.Fetched.{ReadsSpan, rope_cell};
 ghost use Rattle.cord_search.specs.Stated.{OfText};
-ghost use Rattle.screen_editor.specs.Frame.{lines_above};
+ghost use Rattle.screen_editor.specs.declared.window.TheConstants.{LINES_ABOVE};
 ghost use Rattle.screen_editor.specs.Rows.{IsAbove, IsWindow};
 
 use crate::lines::line_start;
@@ -37,8 +37,8 @@ fn go_back<S: NodeSpace, T: Sources>(
     requires rope { IsRope (S.table space.now) rope }
     requires start { start ≤ rope_len (S.table space.now) rope }
     ensures inside { IfOk result (λ x. x.0 ≤ start) }
-    ensures few { IfOk result (λ x. x.1 ≤ lines_above) }
-    ensures all { IfOk result (λ x. x.1 < lines_above → x.0 ≡ 0) }
+    ensures few { IfOk result (λ x. x.1 ≤ LINES_ABOVE) }
+    ensures all { IfOk result (λ x. x.1 < LINES_ABOVE → x.0 ≡ 0) }
     ensures back { IfOk result (λ x. OfText (S.table space.now) (T.stated sources.old) rope
         (λ t. IsAbove t start x.0 x.1)) }
     ensures reads { ReadsSpan T.stated T.failures sources.old sources.new
@@ -69,7 +69,7 @@ pub fn window_about<S: NodeSpace, T: Sources>(
     requires rope { IsRope (S.table space.now) rope }
     requires place { place ≤ rope_len (S.table space.now) rope }
     ensures top { IfOk result (λ w. w.top ≤ rope_len (S.table space.now) rope) }
-    ensures row { IfOk result (λ w. w.row ≤ lines_above) }
+    ensures row { IfOk result (λ w. w.row ≤ LINES_ABOVE) }
     ensures column { IfOk result (λ w. w.column ≤ place) }
     ensures is { IfOk result (λ w. OfText (S.table space.now) (T.stated sources.old) rope
         (λ t. IsWindow t place w.top w.row w.column)) }

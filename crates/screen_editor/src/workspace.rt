@@ -6,7 +6,8 @@ ghost use Rattle.rope_node.specs.Denotes.{IsRope};
 ghost use Rattle.edit_commands.specs.Refusals.{result_len};
 ghost use Rattle.edit_commands.specs.Session.{HoldsHistory, length_at, session_table};
 ghost use Rattle.screen_editor.specs.declared.cut_span.TheConstants.{MOST_CUTS};
-ghost use Rattle.screen_editor.specs.Editing.{IsCutSpan, IsEditing, current_len, current_root, last_of, longest_text};
+ghost use Rattle.screen_editor.specs.declared.workspace.TheConstants.{LONGEST_TEXT};
+ghost use Rattle.screen_editor.specs.Editing.{IsCutSpan, IsEditing, current_len, current_root, last_of};
 ghost use Rattle.screen_editor.specs.Taking.{IsInOrder, RevisesOrNot};
 
 use crate::cut_span::{CutSpan, MOST_CUTS};
@@ -69,7 +70,7 @@ impl Workspace {
     /// `AllocError` where memory is refused.
     pub fn new(alloc: Global, session: Session) -> Result<Workspace, AllocError>
         requires one { length session.revisions ≡ 1 }
-        requires short { length_at session 0 ≤ longest_text }
+        requires short { length_at session 0 ≤ LONGEST_TEXT }
         ensures { IfOk result (λ made. made ≡ record {
           session = session;
           priors = None ∷ [];
@@ -130,7 +131,7 @@ impl Workspace {
     /// The length of the current text.
     pub fn len(&self) -> u64
         ensures value { result ≡ current_len self.now }
-        ensures short { result ≤ longest_text }
+        ensures short { result ≤ LONGEST_TEXT }
     {
         rope_len(self.session.space(), self.root())
     }
@@ -162,7 +163,7 @@ impl Workspace {
     pub(crate) fn len_of(&self, k: u32) -> u64
         requires { k < length self.now.session.revisions }
         ensures value { result ≡ length_at self.now.session k }
-        ensures short { result ≤ longest_text }
+        ensures short { result ≤ LONGEST_TEXT }
     {
         rope_len(self.session.space(), Roots::root(&self.session, k))
     }
@@ -222,7 +223,7 @@ impl Workspace {
         place: u64,
     ) -> Result<(), KeyFault>
         requires order { IsInOrder self.old.session command }
-        requires short { result_len self.old.session command ≤ longest_text }
+        requires short { result_len self.old.session command ≤ LONGEST_TEXT }
         requires place { place ≤ result_len self.old.session command }
         requires prior { IfSome prior (λ j. j < length self.old.session.revisions) }
         ensures done { RevisesOrNot command.entry prior place self.old result self.new }

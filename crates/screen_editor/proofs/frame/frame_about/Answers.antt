@@ -1,6 +1,7 @@
 use Rattle.std.proofs.Common.{◌≡◌, ◌++◌, ◌∙◌, Some, ◌*◌, ◌/◌, length, refl, sym}
 use Rattle.rope_node.specs.Denotes.{rope_cells, rope_len, text}
 use Rattle.cord_search.proofs.Fetches.{told_before, text_length}
+use Rattle.screen_editor.specs.declared.rows.TheConstants.{SCREEN_COLUMNS}
 use Rattle.screen_editor.specs.Rows.{lines_from, rows_in}
 use Rattle.screen_editor.proofs.Screens.{screen_is}
 use Rattle.screen_editor.proofs.frame.frame_about.Goals as goal
@@ -10,7 +11,7 @@ returns-clause-bytes g c source agrees stated =
     let t = g.S.NodeSpace.table c.args.space.now in
     let u = text source (rope_cells t c.args.rope) in
     let window = c.in_ok-window.window in
-    let left = 80 * (window.column / 80) in
+    let left = SCREEN_COLUMNS * (window.column / SCREEN_COLUMNS) in
     let long : c.rope_len.result ≡ length u = c.rope_len.ensures.cells ∙ sym (text_length t c.args.rope source) in
     let rows = told_before t (g.T.Sources.stated c.args.sources.now) (g.T.Sources.stated c.window_about.new.sources) c.args.rope 0 (rope_len t c.args.rope) (λ v. c.push_rows.new.out.items ≡ c.in_ok-out.out.items ++ rows_in (lines_from v (Some window.top)) left) c.in_ok-window.ensures.reads.reads.same c.in_ok-push_rows.ensures.rows source agrees stated in
     screen_is u c.args.place c.args.revision window.top window.row window.column left c.rope_len.result c.args.message c.in_ok-out.out.items c.push_rows.new.out.items c.as_bytes.result.now c.extend_from_slice.new.self.items c.as_bytes-2.result.now c.extend_from_slice-2.new.self.items

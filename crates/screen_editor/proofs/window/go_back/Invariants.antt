@@ -1,6 +1,7 @@
 use Rattle.std.proofs.Common.{◌-◌, ◌≤◌}
 use Rattle.lazy_file.specs.SourceTexts.{Reads}
 use Rattle.cord_search.specs.Stated.{OfText}
+use Rattle.screen_editor.specs.declared.window.TheConstants.{LINES_ABOVE}
 use Rattle.screen_editor.specs.Rows.{IsAbove}
 use Rattle.screen_editor.proofs.window.go_back.Given as goal
 
@@ -9,9 +10,9 @@ abbrev pub invariant-loop-row : goal.invariant-loop-row
 invariant-loop-row g l = record {
   reads : Reads g.T.Sources.stated g.T.Sources.failures l.initial.sources l.sources;
   inside : l.top ≤ l.start;
-  few : l.row ≤ 11;
+  few : l.row ≤ LINES_ABOVE;
   told : OfText (g.S.NodeSpace.table l.space) (g.T.Sources.stated l.initial.sources) l.rope (λ t. IsAbove t l.start l.top l.row);
 }
 
 abbrev pub decreases-loop-row : goal.decreases-loop-row
-decreases-loop-row g l = 11 - l.row
+decreases-loop-row g l = LINES_ABOVE - l.row

@@ -1,34 +1,7 @@
-use Rattle.std.proofs.Common.{inl, inr, sym, ap, Err}
+use Rattle.std.proofs.Common.{inr, ap, Err}
 use Rattle.screen_editor.specs.Keys.{key_of}
 use Rattle.screen_editor.proofs.TakenKeys.{passes_after, reason, refused_goes_on}
 use Rattle.screen_editor.proofs.editor.Editor.turn.Goals as goal
-
-pub returns-in-Ok-Save-clause-turn : goal.returns-in-Ok-Save-clause-turn
-returns-in-Ok-Save-clause-turn g c = record {
-  byte = c.in-Some.byte;
-  key = rw c.in-Some.is at c.in_ok-byte.ensures.key;
-  answers = sym (rw c.in-Ok-Save.field-0-is at c.in-Ok-Save.ensures.answer);
-  passes = passes_after (g.R.Sources.stated c.args.self.now.sources) (g.R.Sources.stated c.show.new.self.sources) c.in-Some.byte c.args.self.now.editing c.show.new.self.editing c.key.new.self.editing c.show.ensures.reads.same c.show.ensures.kept (inl c.in-Ok-Save.ensures.step);
-  shown = c.in_ok-show.ensures.shown;
-}
-
-pub returns-in-Ok-Leave-clause-turn : goal.returns-in-Ok-Leave-clause-turn
-returns-in-Ok-Leave-clause-turn g c = inl (record {
-  byte = c.in-Some.byte;
-  key = rw c.in-Some.is at c.in_ok-byte.ensures.key;
-  answers = sym (rw c.in-Ok-Leave.field-0-is at c.in-Ok-Leave.ensures.answer);
-  passes = passes_after (g.R.Sources.stated c.args.self.now.sources) (g.R.Sources.stated c.show.new.self.sources) c.in-Some.byte c.args.self.now.editing c.show.new.self.editing c.key.new.self.editing c.show.ensures.reads.same c.show.ensures.kept (inl c.in-Ok-Leave.ensures.step);
-  shown = c.in_ok-show.ensures.shown;
-})
-
-pub returns-in-Ok-Going-clause-turn : goal.returns-in-Ok-Going-clause-turn
-returns-in-Ok-Going-clause-turn g c = record {
-  byte = c.in-Some.byte;
-  key = rw c.in-Some.is at c.in_ok-byte.ensures.key;
-  answers = sym (rw c.in-Ok-Going.field-0-is at c.in-Ok-Going.ensures.answer);
-  passes = passes_after (g.R.Sources.stated c.args.self.now.sources) (g.R.Sources.stated c.show.new.self.sources) c.in-Some.byte c.args.self.now.editing c.show.new.self.editing c.key.new.self.editing c.show.ensures.reads.same c.show.ensures.kept (inl c.in-Ok-Going.ensures.step);
-  shown = c.in_ok-show.ensures.shown;
-}
 
 pub returns-in-Err-clause-turn : goal.returns-in-Err-clause-turn
 returns-in-Err-clause-turn g c = record {

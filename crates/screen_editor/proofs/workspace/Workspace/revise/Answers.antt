@@ -1,6 +1,7 @@
 use Rattle.std.proofs.Common.{◌≡◌, [], ◌∷◌, ◌++◌, sym, subst, rules, ◌≤◌, ◌<◌, length, IfSome}
 use Rattle.edit_commands.specs.Refusals.{result_len}
-use Rattle.screen_editor.specs.Editing.{Editing, longest_text}
+use Rattle.screen_editor.specs.declared.workspace.TheConstants.{LONGEST_TEXT}
+use Rattle.screen_editor.specs.Editing.{Editing}
 use Rattle.screen_editor.specs.Taking.{IsInOrder}
 use Rattle.screen_editor.proofs.Revising.{after_fault, after_revision}
 use Rattle.screen_editor.proofs.workspace.Workspace.revise.Goals as goal
@@ -18,7 +19,7 @@ invariant_of-self-2 c =
     rw pushed (
       after_revision before c.args.command c.in_default.field-0 c.args.prior c.args.place c.apply-applied.new.self c.self.invariant.0 c.count-before.ensures.history c.in_default.ensures c.count-after.ensures.session c.count-after.ensures.history
           (subst (λ (e : Editing). IsInOrder e.session c.args.command) (sym c.self.view_is) c.requires.order)
-          (subst (λ (e : Editing). result_len e.session c.args.command ≤ longest_text) (sym c.self.view_is) c.requires.short)
+          (subst (λ (e : Editing). result_len e.session c.args.command ≤ LONGEST_TEXT) (sym c.self.view_is) c.requires.short)
           (subst (λ (e : Editing). c.args.place ≤ result_len e.session c.args.command) (sym c.self.view_is) c.requires.place)
           (subst (λ (e : Editing). IfSome c.args.prior (λ j. j < length e.session.revisions)) (sym c.self.view_is) c.requires.prior),
       c.self.invariant.1,
