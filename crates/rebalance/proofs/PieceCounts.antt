@@ -37,10 +37,6 @@ pieces_step keep t s id i (suc n) inside some v is free =
     (λ c j o lt. steps_enough keep t s id (suc c) c j o (omega arith) lt (omega arith))
     ∙ ap (node_pieces t (pieces keep t) i (suc n)) is
 
--- no bytes go through nothing
-pub no_pieces : (keep : Bool) (t : Table) (id i : ℕ) → pieces keep t id i 0 ≡ 0
-no_pieces keep t id i = refl
-
 -- what is kept is one piece, and so is a span of a leaf
 pub one_kept : (keep : Bool) (t : Table) (id i n : ℕ) → 1 ≤ n → is_kept keep t id i n ≡ true → pieces keep t id i n ≡ 1
 one_kept keep t id i zero some is = absurd (omega arith)
