@@ -3,6 +3,7 @@
 
 mod balance;
 mod functions;
+mod patterns;
 mod pools;
 mod positions;
 mod ropes;

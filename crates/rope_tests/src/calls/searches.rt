@@ -24,7 +24,7 @@ fn source_leaf<'a>(
         .expect(rt, "a leaf")
 }
 
-fn joined(rt: &impl Abort, store: &mut Store<Coded>, l: Rope, r: Rope) -> Rope {
+pub(super) fn joined(rt: &impl Abort, store: &mut Store<Coded>, l: Rope, r: Rope) -> Rope {
     assert!(rt; store.has(l) && store.has(r));
     store.cat(l, r).expect(rt, "a rope")
 }
