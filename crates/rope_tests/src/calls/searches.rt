@@ -229,18 +229,21 @@ fn text_is_written_to_memory(rt: HostRuntime) {
 /// The most bytes in a text.
 const LONGEST: u64 = (1 << 40) - 1;
 
+fn cycle(rt: &impl Abort, pattern: &[u8]) -> Coded {
+    Coded::cycle(pattern).expect(rt, "a cycle")
+}
+
 #[test]
 fn absent_patterns_of_leaves_that_repeat(rt: HostRuntime) {
     let mut store: Store<Coded> = Store::new(rt.alloc());
     let mut sources = MemSources::new(rt.alloc());
-    let cycle = Coded::cycle(b"abc").expect(&rt, "three bytes");
-    for f in [Coded::fill(b'a'), Coded::ramp(b'a'), cycle] {
+    for f in [Coded::fill(b'a'), Coded::ramp(b'a'), cycle(&rt, b"abc")] {
         let text = store.from_fn(f, LONGEST).expect(&rt, "a leaf");
         assert!(rt; store.has(text));
         let found = find(rt.alloc(), &store, &mut sources, text, 0, b"ba");
         assert_eq!(rt; found, Ok(None));
     }
-    for f in [Coded::fill(b'a'), cycle] {
+    for f in [Coded::fill(b'a'), cycle(&rt, b"abc")] {
         let text = store.from_fn(f, LONGEST).expect(&rt, "a leaf");
         assert!(rt; store.has(text));
         let first = chr(rt.alloc(), &store, &mut sources, text, 0, b'x');
