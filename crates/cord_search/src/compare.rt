@@ -6,7 +6,7 @@ ghost use Rattle.cord_position.specs.Fetched.{rope_cell};
 ghost use Rattle.cord_search.specs.Order.{order};
 ghost use Rattle.cord_search.specs.Stated.{OfTexts, OrdersParts, ReadsTwoSpans, longer};
 
-use crate::runs::{PIECE, next_run};
+use crate::runs::{WINDOW, next_run};
 use cord_position::Pos;
 use lazy_file::{SourceFault, Sources};
 use rope_node::{NodeSpace, Rope, rope_len};
@@ -48,8 +48,8 @@ pub fn ncmp<S: NodeSpace, T: Sources>(
     let _lens = (rope_len(space, x), rope_len(space, y));
     let mut first = Pos::set(alloc, space, x, i);
     let mut second = Pos::set(alloc, space, y, j);
-    let mut left_buffer = [0; PIECE];
-    let mut right_buffer = [0; PIECE];
+    let mut left_buffer = [0; WINDOW];
+    let mut right_buffer = [0; WINDOW];
     let mut k = 0;
     while k < n {
         let most = first.run_left().min(second.run_left()).min(n - k);

@@ -4,7 +4,6 @@ ghost use Rattle.std.specs.Prelude.{◌≡◌, ◌<◌, ◌≤◌, ◌+◌, leng
 ghost use Rattle.rope_node.specs.Denotes.{IsRope, rope_len};
 ghost use Rattle.cord_position.specs.Fetched.{ReadsSpan, rope_cell};
 ghost use Rattle.cord_position.specs.Position.{cell_of, text_len};
-ghost use Rattle.cord_search.specs.declared.runs.TheConstants.{WINDOW};
 ghost use Rattle.cord_search.specs.Pieces.{IsPiece, IsPieceHere};
 
 use cord_position::Pos;
@@ -12,11 +11,11 @@ use lazy_file::{SourceFault, Sources};
 use rope_node::{NodeSpace, Rope, rope_len};
 use std::alloc::Global;
 
-/// How many bytes of a run are read at once where it is no literal.
+/// How many bytes are looked at at once where the answer is often near.
 pub const PIECE: usize = 4096;
 
-/// How many bytes a window holds: twice as many as a pattern.
-pub const WINDOW: usize = 8192;
+/// How many bytes are read at once where the whole text is gone through.
+pub const WINDOW: usize = 65_536;
 
 /// Writes the bytes from a position to the end of its leaf's span into the buffer, as many as it takes, and answers how many.
 fn fill_run<S: NodeSpace, T: Sources>(
@@ -43,8 +42,9 @@ pub fn next_run<'r, S: NodeSpace, T: Sources>(
     pos: &'r Pos<'_, S>,
     sources: &mut T,
     most: u64,
-    buffer: &'r mut [u8; PIECE],
+    buffer: &'r mut [u8],
 ) -> Result<&'r [u8], SourceFault>
+    requires room { 1 ≤ length buffer.old }
     ensures bytes { IfOk result
         (λ run. IsPieceHere S.table (T.stated sources.old) pos.now run.now) }
     ensures most { IfOk result (λ run. length run.now ≤ most) }
@@ -61,7 +61,7 @@ pub fn next_run<'r, S: NodeSpace, T: Sources>(
         let n = most.min(run.len() as u64) as usize;
         return Ok(&run[..n]);
     }
-    let n = most.min(PIECE as u64) as usize;
+    let n = most.min(buffer.len() as u64) as usize;
     let n = fill_run(pos, sources, &mut buffer[..n])?;
     Ok(&buffer[..n])
 }
@@ -104,11 +104,11 @@ pub fn next_window<'r, S: NodeSpace, T: Sources>(
     x: Rope,
     need: usize,
     most: u64,
-    buffer: &'r mut [u8; WINDOW],
+    buffer: &'r mut [u8],
 ) -> Result<&'r [u8], SourceFault>
     requires rope { IsRope (S.table space.now) x }
     requires here { (pos.now.space ≡ space.now) × (pos.now.rope ≡ x) }
-    requires need { (1 ≤ need) × (need ≤ most) × (need ≤ WINDOW) }
+    requires need { (1 ≤ need) × (need ≤ most) × (need ≤ length buffer.old) }
     requires inside { pos.now.index + most ≤ rope_len (S.table space.now) x }
     ensures bytes { IfOk result
         (λ window. IsPieceHere S.table (T.stated sources.old) pos.now window.now) }
@@ -122,7 +122,7 @@ pub fn next_window<'r, S: NodeSpace, T: Sources>(
         let n = most.min(run.len() as u64) as usize;
         return Ok(&run[..n]);
     }
-    let n = most.min(WINDOW as u64) as usize;
+    let n = most.min(buffer.len() as u64) as usize;
     gather(alloc, space, sources, x, pos.index(), &mut buffer[..n])?;
     Ok(&buffer[..n])
 }

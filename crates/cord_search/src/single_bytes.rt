@@ -6,7 +6,7 @@ ghost use Rattle.cord_position.specs.Fetched.{ReadsSpan, rope_cell};
 ghost use Rattle.cord_search.specs.Places.{IsFromOn, IsUpTo};
 ghost use Rattle.cord_search.specs.Stated.{FindsFirst, FindsLast};
 
-use crate::runs::{PIECE, WINDOW, next_run, next_window};
+use crate::runs::{PIECE, next_run, next_window};
 use crate::skips::{clear_ahead, clear_behind};
 use cord_position::Pos;
 use lazy_file::{SourceFault, Sources};
@@ -71,7 +71,7 @@ pub fn rchr<S: NodeSpace, T: Sources>(
         (rope_cell (S.table space.now) x) 0 (i + 1) result }
 {
     let mut end = rope_len(space, x).min(i.saturating_add(1));
-    let mut buffer = [0; WINDOW];
+    let mut buffer = [0; PIECE];
     while end > 0 {
         let from = end.saturating_sub(PIECE as u64);
         let count = end - from;

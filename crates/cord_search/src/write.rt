@@ -12,7 +12,7 @@ ghost use Rattle.cord_search.specs.Faults.{IsPutFault};
 ghost use Rattle.cord_search.specs.declared.fault.PutFault.TheVariants.{Write};
 
 use crate::fault::PutFault;
-use crate::runs::{PIECE, next_run};
+use crate::runs::{PIECE, WINDOW, next_window};
 use byte_output::write_bytes;
 use cord_position::Pos;
 use lazy_file::Sources;
@@ -46,12 +46,14 @@ pub fn put<S: NodeSpace, T: Sources, W: io::Write>(
 {
     let len = rope_len(space, x);
     let mut pos = Pos::set(alloc, space, x, 0);
-    let mut buffer = [0; PIECE];
+    let mut buffer = [0; WINDOW];
     let mut done = 0;
     while done < len {
-        let run = next_run(&pos, sources, len - done, &mut buffer)?;
-        write_bytes(writer, run)?;
-        let count = run.len() as u64;
+        let left = len - done;
+        let need = left.min(PIECE as u64) as usize;
+        let window = next_window(alloc, &pos, space, sources, x, need, left, &mut buffer)?;
+        write_bytes(writer, window)?;
+        let count = window.len() as u64;
         pos.skip(count);
         done += count;
     }

@@ -32,6 +32,6 @@ returns-clause-bytes g c =
     let st = g.T.Sources.stated c.args.sources.now in
     let n = c.min-n-2.result in
     let filled = c.gather.new.buffer in
-    let whole : length filled ≡ n = omega (arith, c.in_ok-gather.ensures.length, length-take n c.args.buffer.now, c.told-buffer, c.min-n-2.ensures) in
+    let whole : length filled ≡ n = omega (arith, c.in_ok-gather.ensures.length, length-take n c.args.buffer.now, c.min-n-2.ensures) in
     let piece = piece_back g.S.NodeSpace.table here c.args.space.now c.args.x c.index.result st filled c.requires.here.0 c.requires.here.1 c.index.ensures.index c.in_ok-gather.ensures.bytes in
     subst (IsPieceHere g.S.NodeSpace.table st here) (sym (take_at filled (post_of 0 n c.args.buffer.now) n whole)) piece

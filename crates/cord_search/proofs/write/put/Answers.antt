@@ -1,4 +1,4 @@
-use Rattle.std.proofs.Common.{◌-◌, length, sym, subst, ◌∙◌, arith}
+use Rattle.std.proofs.Common.{◌+◌, ◌-◌, ◌≤◌, length, sym, subst, ◌∙◌, arith}
 use Rattle.std.specs.Io.KnownBytes.{Appends}
 use Rattle.std.proofs.lemmas.List.{take_all}
 use Rattle.std.proofs.lemmas.Result.{err_from_is_err_and}
@@ -7,21 +7,22 @@ use Rattle.rope_node.specs.Denotes.{rope_cells, rope_len, text}
 use Rattle.byte_output.specs.Prefix.{AppendsPrefix}
 use Rattle.byte_output.proofs.Appended.{Appends-then, Appends-then_prefix}
 use Rattle.cord_search.proofs.Fetches.{text_length}
-use Rattle.cord_search.proofs.Reaching.{later_place, bytes_there, failed_there}
+use Rattle.cord_position.specs.Position.{text_len}
+use Rattle.cord_search.proofs.Reaching.{later_place, bytes_there, failed_there, there_len}
 use Rattle.cord_search.proofs.write.put.Goals as goal
 
-pub returns-in_err-run-clause-err : goal.returns-in_err-run-clause-err
-returns-in_err-run-clause-err g c =
+pub returns-in_err-window-clause-err : goal.returns-in_err-window-clause-err
+returns-in_err-window-clause-err g c =
     let p = err_from_is_err_and c.from_residual.result c.from_residual.ensures.1 in
     rw p.1 (λ source agrees stated. (c.loop-done.done, c.loop-done.invariant.told source agrees stated))
 
-pub returns-in_err-run-clause-fault : goal.returns-in_err-run-clause-fault
-returns-in_err-run-clause-fault g c =
+pub returns-in_err-window-clause-fault : goal.returns-in_err-window-clause-fault
+returns-in_err-window-clause-fault g c =
     let p = err_from_is_err_and c.from_residual.result c.from_residual.ensures.1 in
     let t = g.S.NodeSpace.table c.args.space.now in
     let n = c.rope_len-len.result - c.loop-done.done in
-    let h = failed_there {Y = Unit {0}} g.T.Sources.stated g.T.Sources.failures c.args.sources.now c.loop-done.sources c.next_run.new.sources g.S.NodeSpace.table c.loop-done.pos c.args.space.now c.args.x
-    0 (rope_len t c.args.x) c.loop-done.done n c.in_err-run.field-0.0 c.loop-done.invariant.reads c.loop-done.invariant.at (sym c.rope_len-len.ensures.cells ∙ c.rope_len-len.ensures.exact) c.in_err-run.ensures.reads
+    let h = failed_there {Y = Unit {0}} g.T.Sources.stated g.T.Sources.failures c.args.sources.now c.loop-done.sources c.next_window.new.sources g.S.NodeSpace.table c.loop-done.pos c.args.space.now c.args.x
+    0 (rope_len t c.args.x) c.loop-done.done n c.in_err-window.field-0.0 c.loop-done.invariant.reads c.loop-done.invariant.at (sym c.rope_len-len.ensures.cells ∙ c.rope_len-len.ensures.exact) c.in_err-window.ensures.reads
     (omega arith) (omega (arith, c.rope_len-len.ensures.exact, c.loop-done-test.true)) in
     rw (p.1, p.2) h.fault
 
@@ -30,24 +31,26 @@ returns-in_err-write_bytes-clause-err g c =
     let p = err_from_is_err_and c.from_residual-in_err-write_bytes.result c.from_residual-in_err-write_bytes.ensures.1 in
     rw p.1 (λ source agrees stated.
     let u = text source (rope_cells (g.S.NodeSpace.table c.args.space.now) c.args.x) in
-    let run = c.in_ok-run.run'.now in
+    let run = c.in_ok-window.window.now in
+    let fits : c.loop-done.pos.index + length run ≤ text_len g.S.NodeSpace.table c.loop-done.pos = omega (arith, c.in_ok-window.ensures.most, c.loop-done-test.true, c.rope_len-len.ensures.exact, there_len g.S.NodeSpace.table c.loop-done.pos c.args.space.now c.args.x c.loop-done.done c.loop-done.invariant.at, c.loop-done.invariant.at.index) in
     let bytes = bytes_there g.S.NodeSpace.table c.loop-done.pos c.args.space.now c.args.x c.loop-done.done (g.T.Sources.stated c.args.sources.now) (g.T.Sources.stated c.loop-done.sources) run source
-    c.loop-done.invariant.at c.in_ok-run.ensures.inside c.in_ok-run.ensures.bytes c.loop-done.invariant.reads.same agrees
-    (λ p above below. stated p (omega arith) (omega (arith, below, c.in_ok-run.ensures.most, c.rope_len-len.ensures.exact, c.loop-done-test.true))) in
+    c.loop-done.invariant.at fits c.in_ok-window.ensures.bytes c.loop-done.invariant.reads.same agrees
+    (λ p above below. stated p (omega arith) (omega (arith, below, c.in_ok-window.ensures.most, c.rope_len-len.ensures.exact, c.loop-done-test.true))) in
     Appends-then_prefix (g.W.Write.contents c.args.writer.now) (g.W.Write.contents c.loop-done.writer) (g.W.Write.contents c.write_bytes.new.writer) c.loop-done.done (length run) u
     (c.loop-done.invariant.told source agrees stated) (subst (AppendsPrefix (g.W.Write.contents c.loop-done.writer) (g.W.Write.contents c.write_bytes.new.writer)) bytes c.in_err-write_bytes.ensures.err))
 
 pub loop-done-preserved : goal.loop-done-preserved
 loop-done-preserved g c = record {
-  reads = reads_then c.loop-done.invariant.reads c.in_ok-run.ensures.reads.reads;
-  inside = omega (arith, c.in_ok-run.ensures.most, c.rope_len-len.ensures.exact, c.loop-done-test.true);
-  at = later_place g.S.NodeSpace.table c.loop-done.pos c.skip.new.self c.args.space.now c.args.x c.loop-done.done (length c.in_ok-run.run'.now) c.skip.ensures.space c.skip.ensures.rope c.skip.ensures.index c.loop-done.invariant.at;
+  reads = reads_then c.loop-done.invariant.reads c.in_ok-window.ensures.reads.reads;
+  inside = omega (arith, c.in_ok-window.ensures.most, c.rope_len-len.ensures.exact, c.loop-done-test.true);
+  at = later_place g.S.NodeSpace.table c.loop-done.pos c.skip.new.self c.args.space.now c.args.x c.loop-done.done (length c.in_ok-window.window.now) c.skip.ensures.space c.skip.ensures.rope c.skip.ensures.index c.loop-done.invariant.at;
   told = λ source agrees stated.
       let u = text source (rope_cells (g.S.NodeSpace.table c.args.space.now) c.args.x) in
-      let run = c.in_ok-run.run'.now in
+      let run = c.in_ok-window.window.now in
+      let fits : c.loop-done.pos.index + length run ≤ text_len g.S.NodeSpace.table c.loop-done.pos = omega (arith, c.in_ok-window.ensures.most, c.loop-done-test.true, c.rope_len-len.ensures.exact, there_len g.S.NodeSpace.table c.loop-done.pos c.args.space.now c.args.x c.loop-done.done c.loop-done.invariant.at, c.loop-done.invariant.at.index) in
       let bytes = bytes_there g.S.NodeSpace.table c.loop-done.pos c.args.space.now c.args.x c.loop-done.done (g.T.Sources.stated c.args.sources.now) (g.T.Sources.stated c.loop-done.sources) run source
-      c.loop-done.invariant.at c.in_ok-run.ensures.inside c.in_ok-run.ensures.bytes c.loop-done.invariant.reads.same agrees
-      (λ p above below. stated p (omega arith) (omega (arith, below, c.in_ok-run.ensures.most, c.rope_len-len.ensures.exact, c.loop-done-test.true))) in
+      c.loop-done.invariant.at fits c.in_ok-window.ensures.bytes c.loop-done.invariant.reads.same agrees
+      (λ p above below. stated p (omega arith) (omega (arith, below, c.in_ok-window.ensures.most, c.rope_len-len.ensures.exact, c.loop-done-test.true))) in
       Appends-then (g.W.Write.contents c.args.writer.now) (g.W.Write.contents c.loop-done.writer) (g.W.Write.contents c.write_bytes.new.writer) c.loop-done.done (length run) u
       (c.loop-done.invariant.told source agrees stated) (subst (Appends (g.W.Write.contents c.loop-done.writer) (g.W.Write.contents c.write_bytes.new.writer)) bytes c.in_ok-write_bytes.ensures.ok);
 }
