@@ -1,4 +1,9 @@
 pub mod AgreedBytes
+pub mod BlockReads
+pub mod DeviceLists
+pub mod DeviceReads
+pub mod FileLists
+pub mod KeptLists
 pub mod LaterReads
 pub mod MemoryTexts
 pub mod ReadOutcomes

@@ -1,3 +1,5 @@
+pub mod DeviceTexts
 pub mod Faults
+pub mod KeptBlocks
 pub mod ReadFaults
 pub mod SourceTexts

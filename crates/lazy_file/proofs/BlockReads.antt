@@ -1,0 +1,54 @@
+-- What a read by a block gives, and that each block that is kept stays one of its source.
+use Rattle.std.proofs.Common.{◌≡◌, ℕ, ◌+◌, ◌*◌, ◌-◌, ◌≤◌, Bool, true, List, Vec, drop, get_or, length, take, arith, ap, refl, subst, sym, inl, inr, ◌∙◌, drop-drop, length-take, length-drop}
+use Rattle.std.specs.Prelude.{◌++◌, Option, Some, None, Result, OnOk}
+use Rattle.std.proofs.lemmas.List.{take-take}
+use Rattle.std.proofs.lemmas.Result.{on_ok_weaker}
+use Rattle.std.proofs.lemmas.Slice.{between_is}
+use Rattle.lazy_file.proofs.DeviceReads.{bytes_then}
+use Rattle.lazy_file.specs.DeviceTexts.{AreBytesAt, AreBytesOf, DeviceText, no_device, source_text}
+use Rattle.lazy_file.specs.KeptBlocks.{AreKept, CopiesKept, IsBlockOf, Kept, KeepsOne}
+use Rattle.lazy_file.specs.declared.kept_blocks.TheConstants.{BLOCK_SIZE}
+
+-- a part of bytes that stand at off
+pub part_at : (text : Option (List ℕ)) (off from : ℕ) (block part : List ℕ) → AreBytesAt text off block
+    → part ≡ take (length part) (drop from block) → AreBytesAt text (off + from) part
+part_at None off from block part h is = h
+part_at (Some t) off from block part h is =
+    let n = length part in
+    let rest = length block - from in
+    let few : n ≤ rest = omega (arith, ap length is, length-take n (drop from block), length-drop from block) in
+    let cut : drop from block ≡ take rest (drop from (drop off t)) = ap (drop from) h ∙ sym (between_is (drop off t) from (length block)) in
+    let front : take n (take rest (drop from (drop off t))) ≡ take n (drop from (drop off t)) = take-take n rest (drop from (drop off t)) few in
+    is ∙ ap (take n) cut ∙ front ∙ ap (take n) (drop-drop from off t)
+
+module _ {A : Type 0} (ds : List DeviceText) (old new : Kept A) where
+  -- a block was looked up
+  pub kept_moved : {from : ℕ} {key : ℕ × ℕ} {part : List ℕ} {copied : Bool} → AreKept ds old → CopiesKept old new key from part copied → AreKept ds new
+  kept_moved h copies = λ key block there. h key block (copies.kept key block there)
+
+  -- one more block is kept
+  pub kept_with : (key : ℕ × ℕ) (block : Vec ℕ A) → AreKept ds old → KeepsOne old new key block → IsBlockOf ds key block.items → AreKept ds new
+  kept_with key block h one is = λ other bytes there. elim (one other bytes there) [
+    | inl was ↦ h other bytes was
+    | inr new ↦ subst (λ k. IsBlockOf ds k bytes.items) (sym new.0) (subst (λ b. IsBlockOf ds key b.items) (sym new.1) is)
+  ]
+
+-- a part of a kept block
+pub part_of_kept : {A : Type 0} (ds : List DeviceText) (old new : Kept A) (key : ℕ × ℕ) (from : ℕ) (part : List ℕ) → AreKept ds old
+    → CopiesKept old new key from part true → AreBytesOf ds key.0 (key.1 * BLOCK_SIZE + from) part
+part_of_kept ds old new key from part h copies =
+    let found = copies.found refl in
+    part_at (source_text (get_or ds key.0 no_device)) (key.1 * BLOCK_SIZE) from found.0.items part (h key found.0 found.1).bytes found.2
+
+-- a part of a block that was read
+pub part_of_read : (ds : List DeviceText) (key : ℕ × ℕ) (from : ℕ) (block part : List ℕ) → AreBytesOf ds key.0 (key.1 * BLOCK_SIZE) block
+    → part ≡ take (length part) (drop from block) → AreBytesOf ds key.0 (key.1 * BLOCK_SIZE + from) part
+part_of_read ds key from block part h is = part_at (source_text (get_or ds key.0 no_device)) (key.1 * BLOCK_SIZE) from block part h is
+
+-- the bytes of two blocks, where the second begins at the end of what was read of the first
+pub two_parts : {X E : Type 0} (r : Result X E) (ds after : List DeviceText) (s off place next : ℕ) (front back : List ℕ) → after ≡ ds
+    → place ≡ off → next ≡ off + length front
+    → AreBytesOf ds s place front → OnOk r (AreBytesOf after s next back) → OnOk r (AreBytesOf ds s off (front ++ back))
+two_parts r ds after s off place next front back same here there first second =
+    let one : AreBytesOf ds s off front = rw here at first in
+    on_ok_weaker r (λ h. bytes_then (source_text (get_or ds s no_device)) off front back one (rw (same, there) at h)) second

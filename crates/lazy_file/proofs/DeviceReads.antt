@@ -1,0 +1,54 @@
+-- What reads of a device give, one after the other.
+use Rattle.std.proofs.Common.{◌≡◌, ℕ, ◌+◌, ◌-◌, ◌≤◌, List, ◌++◌, drop, length, take, arith, sym, ap, ◌∙◌, take-add, drop-drop, length-append, length-take-le, length-drop}
+use Rattle.std.specs.Prelude.{Option, Some, None, Ok}
+use Rattle.std.proofs.Math.Seq.{take-append-add}
+use Rattle.std.proofs.lemmas.List.{take-append-le}
+use borrow.Rule.Slice.PartMut.{put_mid, post_of}
+use Rattle.lazy_file.specs.DeviceTexts.{AreBytesAt, DeviceText, ReadsAt}
+
+-- bytes that stand there, and more that stand behind them
+pub bytes_then : (text : Option (List ℕ)) (off : ℕ) (xs ys : List ℕ) → AreBytesAt text off xs → AreBytesAt text (off + length xs) ys → AreBytesAt text off (xs ++ ys)
+bytes_then None off xs ys h k = tt
+bytes_then (Some t) off xs ys h k =
+    let whole : take (length xs + length ys) (drop off t) ≡ take (length xs) (drop off t) ++ take (length ys) (drop (length xs) (drop off t)) = take-add (length xs) (length ys) (drop off t) in
+    let next : drop (length xs) (drop off t) ≡ drop (off + length xs) t = drop-drop (length xs) off t in
+    rw (length-append xs ys, whole, next, ← h, ← k)
+
+-- the first done bytes of a buffer, which was old, are filled
+pub record Filled {D : Type 0} (stated : D → DeviceText) (failures : D → ℕ) (start now : D) (off done : ℕ) (old buffer : List ℕ) : Type 0 where
+  pub same : stated now ≡ stated start
+  pub later : failures start ≤ failures now
+  pub len : length buffer ≡ length old
+  pub inside : done ≤ length buffer
+  pub bytes : AreBytesAt (stated start).text off (take done buffer)
+
+front_of : (done count : ℕ) (buffer part : List ℕ) → done ≤ length buffer → count ≤ length part
+    → take (done + count) (put_mid done (length buffer - done) buffer part) ≡ take done buffer ++ take count part
+front_of done count buffer part h k =
+    let front : length (take done buffer) ≡ done = length-take-le done buffer h in
+    let rest = post_of done (length buffer - done) buffer in
+    let cut : take (length (take done buffer) + count) (take done buffer ++ (part ++ rest)) ≡ take done buffer ++ take count (part ++ rest) = take-append-add (take done buffer) (part ++ rest) count in
+    ap (λ n. take (n + count) (put_mid done (length buffer - done) buffer part)) (sym front) ∙ cut ∙ ap (λ xs. take done buffer ++ xs) (take-append-le count part rest k)
+
+length_of : (done : ℕ) (buffer part : List ℕ) → done ≤ length buffer → length part ≡ length buffer - done
+    → length (put_mid done (length buffer - done) buffer part) ≡ length buffer
+length_of done buffer part h same =
+    let rest = post_of done (length buffer - done) buffer in
+    omega (arith, h, same, length-append (take done buffer) (part ++ rest), length-append part rest, length-take-le done buffer h, length-drop (length buffer - done) (drop done buffer), length-drop done buffer)
+
+-- one more read, into what was not filled
+pub filled_more : {D E : Type 0} (stated : D → DeviceText) (failures : D → ℕ) (start now next : D) (off done count : ℕ) (old buffer rest part : List ℕ)
+    → Filled stated failures start now off done old buffer → length part ≡ length buffer - done → length rest ≡ length buffer - done
+    → ReadsAt {E = E} stated failures now next (off + done) rest part (Ok count)
+    → Filled stated failures start next off (done + count) old (put_mid done (length buffer - done) buffer part)
+filled_more stated failures start now next off done count old buffer rest part f same was read =
+    let few : count ≤ length part = omega (arith, same, was, read.count) in
+    let front : length (take done buffer) ≡ done = length-take-le done buffer f.inside in
+    let here : AreBytesAt (stated start).text (off + length (take done buffer)) (take count part) = rw (front, ← f.same) read.bytes in
+    record {
+      same = read.same ∙ f.same;
+      later = omega (arith, f.later, read.later);
+      len = length_of done buffer part f.inside same ∙ f.len;
+      inside = omega (arith, length_of done buffer part f.inside same, few, same, f.inside);
+      bytes = rw (front_of done count buffer part f.inside few) (bytes_then (stated start).text off (take done buffer) (take count part) f.bytes here);
+    }

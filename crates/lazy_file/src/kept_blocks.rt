@@ -1,0 +1,51 @@
+//! Blocks of sources that are kept in memory, the last ones that were read.
+ghost use Rattle.std.specs.Prelude.{◌≡◌, IsTrue, drop, length, take};
+ghost use Rattle.lazy_file.specs.KeptBlocks.{CopiesKept, KeepsOne};
+
+use lru::LruCache;
+use std::alloc::AllocError;
+
+/// The bytes of a block; the last one of a source may be shorter.
+pub const BLOCK_SIZE: usize = 4096;
+
+/// Copies the bytes of a block from its place `from` on into the whole of `part`, and answers whether it has so many.
+fn copy_part(block: &[u8], from: usize, part: &mut [u8]) -> bool
+    ensures { IsTrue result → part.new ≡ take (length part.new) (drop from block.now) }
+{
+    let Some(end) = from.checked_add(part.len()) else {
+        return false;
+    };
+    if end > block.len() {
+        return false;
+    }
+    part.copy_from_slice(&block[from..end]);
+    true
+}
+
+/// Copies the bytes of the block under `key`, from its place `from` on, into the whole of `part`, and answers whether it did: not
+/// where no block is kept there, or a shorter one.
+pub(crate) fn copy_kept(
+    kept: &mut LruCache<(u8, u64), Vec<u8>>,
+    key: (u8, u64),
+    from: usize,
+    part: &mut [u8],
+) -> bool
+    ensures { CopiesKept kept.old.entries kept.new.entries key from part.new result }
+{
+    match kept.get(&key) {
+        Some(block) => copy_part(block, from, part),
+        None => false,
+    }
+}
+
+/// Keeps a block under `key`; where there are as many as may be, the one that was not used for longest goes.
+pub(crate) fn keep(
+    kept: &mut LruCache<(u8, u64), Vec<u8>>,
+    key: (u8, u64),
+    block: Vec<u8>,
+) -> Result<(), AllocError>
+    ensures { KeepsOne kept.old.entries kept.new.entries key block }
+{
+    kept.put(key, block)?;
+    Ok(())
+}
