@@ -9,9 +9,9 @@ use rope_store::Store;
 use std::alloc::AllocGlobal;
 use std::process::Abort;
 
-/// The first place of the pattern, place by place.
-fn plain_find(text: &[u8], pattern: &[u8]) -> Option<u64> {
-    for place in 0..text.len() {
+/// The first place of the pattern from `start` on, place by place.
+pub(super) fn plain_find(text: &[u8], start: u64, pattern: &[u8]) -> Option<u64> {
+    for place in start as usize..text.len() {
         if text
             .get(place..)
             .is_some_and(|rest| rest.starts_with(pattern))
@@ -19,7 +19,7 @@ fn plain_find(text: &[u8], pattern: &[u8]) -> Option<u64> {
             return Some(place as u64);
         }
     }
-    if pattern.is_empty() {
+    if pattern.is_empty() && start <= text.len() as u64 {
         return Some(text.len() as u64);
     }
     None
@@ -90,7 +90,7 @@ fn look_for_each(
             let found = find(rt.alloc(), store, sources, rope, 0, pattern);
             assert_eq!(rt;
                 found,
-                Ok(plain_find(text, pattern)),
+                Ok(plain_find(text, 0, pattern)),
                 "{text:?} {pattern:?}"
             );
         }
@@ -203,7 +203,7 @@ fn longest_pattern_over_a_leaf_for_each_byte(rt: HostRuntime) {
     for start in [0, 1, 2047, 4096] {
         let pattern = text.get(start..start + 4096).expect(&rt, "a pattern");
         let found = find(rt.alloc(), &store, &mut sources, rope, 0, pattern);
-        assert_eq!(&rt; found, Ok(plain_find(text.as_slice(), pattern)));
+        assert_eq!(&rt; found, Ok(plain_find(text.as_slice(), 0, pattern)));
         assert_eq!(&rt; found, Ok(Some(start as u64)));
     }
 }
