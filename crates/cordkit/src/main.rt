@@ -8,10 +8,15 @@ use cord_tools::{
     run_cut, run_edit, run_find, run_join, run_show, run_stdin, sources_of,
 };
 use cord_words::{Action, WordsFault, words};
+use lazy_file::{FileDevice, FileSources};
 use std::fs::File;
 use std::io::ErrorKind;
+use std::num::NonZeroUsize;
 use std::process::ExitCode;
 use std::{env, fs, io};
+
+/// So many blocks of the files are kept in memory.
+const BLOCKS: usize = 256;
 
 /// Opens an input.
 fn open(rt: &HostRuntime, path: &str) -> Result<File, ToolFault> {
@@ -27,7 +32,7 @@ fn open(rt: &HostRuntime, path: &str) -> Result<File, ToolFault> {
     }
 }
 
-/// Reads the sources, in the order of their paths.
+/// Reads the sources whole, in the order of their paths.
 fn source_texts(rt: &HostRuntime, paths: &[&str]) -> Result<Vec<Vec<u8>>, ToolFault>
     ensures { IfOk result (λ texts. length texts.items ≡ length paths.entry.now) }
 {
@@ -65,40 +70,84 @@ fn show(rt: &HostRuntime, image: &str, revision: u64, paths: &[&str]) -> Result<
     Ok(Status::Success)
 }
 
-/// Writes a part of a file. Here and below, files are read before anything is written.
+/// Whether all of them are files that tell their size. A pipe does not, nor does a file that the system makes as it is read.
+fn tell_their_size(rt: &HostRuntime, paths: &[&str]) -> bool {
+    for path in paths {
+        match fs::metadata(rt, path) {
+            Ok(metadata) if metadata.is_file() && metadata.len() > 0 => {}
+            _ => return false,
+        }
+    }
+    true
+}
+
+/// The files as sources that are read where they lie, in the order of their paths.
+fn opened_files(rt: &HostRuntime, paths: &[&str]) -> Result<FileSources<FileDevice>, ToolFault>
+    ensures { IfOk result (λ sources. length sources ≡ length paths.entry.now) }
+{
+    let blocks = NonZeroUsize::new(BLOCKS).unwrap_or(NonZeroUsize::MIN);
+    let mut sources = FileSources::new(rt.alloc(), blocks)?;
+    for path in paths {
+        let file = open(rt, path)?;
+        let Ok(metadata) = file.metadata() else {
+            return Err(ToolFault::Read);
+        };
+        sources
+            .add(FileDevice::new(file, metadata.len()))
+            .map_err(|refused| refused.fault)?;
+    }
+    Ok(sources)
+}
+
+/// Writes a part of a file.
 fn cut(rt: &HostRuntime, start: u64, count: u64, file: &str) -> Result<Status, ToolFault> {
-    let texts = source_texts(rt, &[file])?;
-    let mut sources = sources_of(rt.alloc(), texts.as_slice())?;
-    run_cut(rt.alloc(), &mut sources, start, count, &mut io::writer(rt))?;
+    if tell_their_size(rt, &[file]) {
+        let mut sources = opened_files(rt, &[file])?;
+        run_cut(rt.alloc(), &mut sources, start, count, &mut io::writer(rt))?;
+    } else {
+        let texts = source_texts(rt, &[file])?;
+        let mut sources = sources_of(rt.alloc(), texts.as_slice())?;
+        run_cut(rt.alloc(), &mut sources, start, count, &mut io::writer(rt))?;
+    }
     Ok(Status::Success)
 }
 
 /// Writes files, one behind the other.
 fn join(rt: &HostRuntime, files: &[&str]) -> Result<Status, ToolFault> {
-    let texts = source_texts(rt, files)?;
-    let mut sources = sources_of(rt.alloc(), texts.as_slice())?;
-    run_join(rt.alloc(), &mut sources, &mut io::writer(rt))?;
+    if tell_their_size(rt, files) {
+        let mut sources = opened_files(rt, files)?;
+        run_join(rt.alloc(), &mut sources, &mut io::writer(rt))?;
+    } else {
+        let texts = source_texts(rt, files)?;
+        let mut sources = sources_of(rt.alloc(), texts.as_slice())?;
+        run_join(rt.alloc(), &mut sources, &mut io::writer(rt))?;
+    }
     Ok(Status::Success)
 }
 
 /// Writes the first place of a pattern in a file.
 fn find(rt: &HostRuntime, start: u64, pattern: &[u8], file: &str) -> Result<Status, ToolFault> {
-    let texts = source_texts(rt, &[file])?;
-    let mut sources = sources_of(rt.alloc(), texts.as_slice())?;
-    run_find(
-        rt.alloc(),
-        &mut sources,
-        start,
-        pattern,
-        &mut io::writer(rt),
-    )
+    let mut writer = io::writer(rt);
+    if tell_their_size(rt, &[file]) {
+        let mut sources = opened_files(rt, &[file])?;
+        run_find(rt.alloc(), &mut sources, start, pattern, &mut writer)
+    } else {
+        let texts = source_texts(rt, &[file])?;
+        let mut sources = sources_of(rt.alloc(), texts.as_slice())?;
+        run_find(rt.alloc(), &mut sources, start, pattern, &mut writer)
+    }
 }
 
 /// Writes how a file compares with another.
 fn compare(rt: &HostRuntime, first: &str, second: &str) -> Result<Status, ToolFault> {
-    let texts = source_texts(rt, &[first, second])?;
-    let mut sources = sources_of(rt.alloc(), texts.as_slice())?;
-    run_cmp(rt.alloc(), &mut sources, &mut io::writer(rt))
+    if tell_their_size(rt, &[first, second]) {
+        let mut sources = opened_files(rt, &[first, second])?;
+        run_cmp(rt.alloc(), &mut sources, &mut io::writer(rt))
+    } else {
+        let texts = source_texts(rt, &[first, second])?;
+        let mut sources = sources_of(rt.alloc(), texts.as_slice())?;
+        run_cmp(rt.alloc(), &mut sources, &mut io::writer(rt))
+    }
 }
 
 /// A file that is made, or emptied, when its first byte is written.
