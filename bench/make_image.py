@@ -1,7 +1,7 @@
 #!/usr/bin/env python3
 """Writes data of the benchmarks to standard output. It knows the format's tables and nothing of the product's code.
 
-make_image.py literals [N]      the image of one insertion of N literals of 16 bytes (500,000 where no number is given)
+make_image.py literals [N [L]]  the image of one insertion of N literals of L bytes (500,000 of 16 where no number is given)
 make_image.py session           the image of a session of 1,000,000 nodes and 100,000 revisions of all commands
 make_image.py source            the text of the session's source
 """
@@ -16,13 +16,12 @@ SHARED, LEAF, BYTES = range(1, 4)
 
 # ---- one insertion of many literals
 
-LITERAL = 16
 
-
-def one_insertion(count):
+def one_insertion(count, size):
     image = Image([])
-    root = image.balanced([image.literal(i * LITERAL, LITERAL) for i in range(count)])
-    image.pool = bytearray(i * 7 % 251 for i in range(count * LITERAL))
+    root = image.balanced([image.literal(i * size, size) for i in range(count)])
+    turn = bytes(i * 7 % 251 for i in range(251))
+    image.pool = (turn * (count * size // 251 + 1))[: count * size]
     image.revise(NEW, None)
     image.revise(INSERT, root, r=0, n=len(image.pool), parts=[("pool", 0, len(image.pool))])
     return image
@@ -354,7 +353,8 @@ def main():
         sys.stdout.buffer.write(SOURCE)
         return
     if what == "literals":
-        image = one_insertion(int(sys.argv[2]) if len(sys.argv) > 2 else 500_000)
+        count, size = (int(word) for word in (sys.argv[2:4] + ["500000", "16"][len(sys.argv) - 2 :]))
+        image = one_insertion(count, size)
     else:
         session = Session()
         session.run(NODES, REVISIONS)

@@ -72,7 +72,8 @@ static uint64_t insert(crope text, uint64_t edits) {
     return text.size();
 }
 
-int main() {
+// appends, joins, substrings and fetches
+static uint64_t time_store() {
     uint64_t sum = 0;
     {
         auto start = Clock::now();
@@ -105,6 +106,14 @@ int main() {
             sum += text[place(k, text.size())];
         report("a fetch in a megabyte", start);
     }
+    return sum;
+}
+
+// With a word it times the operations alone, and else what an editor does.
+int main(int words, char **) {
+    uint64_t sum = 0;
+    if (words > 1)
+        return time_store() == 0;
     for (uint64_t leaves : {1000, 10000, 100000})
         sum += join_leaves(leaves);
     crope flat(std::string(1 << 20, 'x').c_str());

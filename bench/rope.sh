@@ -7,6 +7,27 @@ trap 'rm -f "$peer"' EXIT
 g++ -O2 -o "$peer" bench/rope.cc
 program=crates/cord_bench/out/cord_bench
 [ -x "$program" ] || (cd crates/cord_bench && rt run > /dev/null 2>&1)
+
+# the least of five runs of each line
+least() {
+    for _ in 1 2 3 4 5; do
+        "$@" 2>&1
+    done | awk '{ name = substr($0, 1, 36); time = substr($0, 37) + 0 }
+        !(name in best) { order[++count] = name; unit[name] = $NF }
+        !(name in best) || time < best[name] { best[name] = time }
+        END { for (k = 1; k <= count; k++) printf "%s %6d %s\n", order[k], best[order[k]], unit[order[k]] }'
+}
+
+echo "cordkit's store, a million of each, the least of five runs:"
+least "$program" store
+echo "libstdc++ ext/rope, the same:"
+least "$peer" store
+echo "cordkit, what an editor does:"
 "$program"
-echo "libstdc++ ext/rope:"
+echo "libstdc++ ext/rope, the same:"
 "$peer"
+if pkg-config --exists absl_cord 2> /dev/null; then
+    g++ -O2 -std=c++17 -o "$peer" bench/absl.cc $(pkg-config --cflags --libs absl_cord)
+    echo "absl::Cord:"
+    "$peer"
+fi

@@ -1,5 +1,5 @@
 #!/bin/sh
-# Times the tools over files beside the usual ones, on the same files of 64 MB, and compares what they print on small random files.
+# Times the tools over files beside the usual ones, on the same files of 256 MB, and compares what they print on small random files.
 set -eu
 cd "$(dirname "$0")/.."
 program=$PWD/crates/cordkit/out/cordkit
@@ -59,21 +59,33 @@ for n in 1 2 3 5 8 13 40 100 700 3000 9000; do
 done
 echo "answers on random files: $runs, each as cat, cmp, dd and grep give it"
 
-seconds() {
-    start=$(date +%s%N)
-    "$@" > out || true
-    end=$(date +%s%N)
-    echo $(((end - start) / 1000000))
+# the best of three runs into a file, in milliseconds
+best() {
+    for _ in 1 2 3; do
+        rm -f out
+        start=$(date +%s%N)
+        "$@" > out || true
+        end=$(date +%s%N)
+        echo $(((end - start) / 1000000))
+    done | sort -n | head -n 1
 }
 
-usual_cut() { tail -c +1000001 big | head -c 60000000; }
+# times a run of cordkit and one of the usual tool
+beside() {
+    name=$1
+    ours=$2
+    theirs=$3
+    echo "  $name  $ours, $theirs: $((ours * 100 / (theirs + 1))) % of it"
+}
 
-head -c 67108864 /dev/urandom > big
+usual_cut() { tail -c +1000001 big | head -c 250000000; }
+
+head -c 268435456 /dev/urandom > big
 cp big twin
 printf 'the needle at the end' >> big
 printf 'the needle at the end' >> twin
-echo "over files of 64 MB, in milliseconds:"
-echo "  cmp   $(seconds "$program" cmp big twin), cmp $(seconds cmp big twin)"
-echo "  join  $(seconds "$program" join big), cat $(seconds cat big)"
-echo "  cut   $(seconds "$program" cut 1000000 60000000 big), tail and head $(seconds usual_cut)"
-echo "  find  $(seconds "$program" find 0 'the needle at the end' big), grep $(seconds grep -obaF 'the needle at the end' big)"
+echo "over files of 256 MB, in milliseconds, with cmp, cat, tail and head, grep doing the same:"
+beside cmp "$(best "$program" cmp big twin)" "$(best cmp big twin)"
+beside join "$(best "$program" join big)" "$(best cat big)"
+beside cut "$(best "$program" cut 1000000 250000000 big)" "$(best usual_cut)"
+beside find "$(best "$program" find 0 'the needle at the end' big)" "$(best grep -obaF -m1 'the needle at the end' big)"

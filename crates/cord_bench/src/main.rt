@@ -1,5 +1,6 @@
 //! Times what runs often. The numbers differ from run to run, so they go to standard error.
-//! With the word `image` it writes an image to standard output instead, and with the word `keys` it times the editor.
+//! With the word `image` it writes an image to standard output instead, with `keys` it times the editor, and with `store` a million of each
+//! of the store's operations.
 #![tactic(auto)]
 
 mod balancing;
@@ -7,6 +8,7 @@ mod images;
 mod keys;
 mod pool;
 mod ropes;
+mod searching;
 mod sessions;
 
 use anyhow::Result;
@@ -16,18 +18,23 @@ fn main(rt: HostRuntime) -> Result<()> {
     match env::args(&rt)?.nth(1) {
         Some(word) if word.as_str() == "image" => images::write_image(&rt),
         Some(word) if word.as_str() == "keys" => keys::time(&rt),
+        Some(word) if word.as_str() == "store" => time_store(&rt),
         _ => time(&rt),
     }
 }
 
-fn time(rt: &HostRuntime) -> Result<()> {
-    pool::time(rt)?;
-    eprintln!(rt; "cordkit's store, {} of each:", ropes::COUNT)?;
+fn time_store(rt: &HostRuntime) -> Result<()> {
     ropes::time_appends(rt)?;
     ropes::time_joins(rt)?;
     ropes::time_substrings(rt)?;
     ropes::time_fetches(rt)?;
     ropes::time_walks(rt)?;
+    balancing::time_balance(rt)?;
+    searching::time(rt)
+}
+
+fn time(rt: &HostRuntime) -> Result<()> {
+    pool::time(rt)?;
     balancing::time(rt)?;
     sessions::time(rt)
 }
