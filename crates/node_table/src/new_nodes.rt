@@ -33,6 +33,7 @@ impl<F: LeafFn> NewNodes<F> {
 }
 
 /// Stores this node behind the others, where there is room for it.
+#[inline(always)]
 fn put_one<F: LeafFn>(entries: &mut Blocks<Entry<F>>, node: Record<F>)
     requires storable { IsStorable node }
     requires room { 1 ≤ entries.old.room }
@@ -45,6 +46,7 @@ fn put_one<F: LeafFn>(entries: &mut Blocks<Entry<F>>, node: Record<F>)
 }
 
 /// Stores these nodes behind the others, where there is room for them.
+#[inline(always)]
 pub(crate) fn put_behind<F: LeafFn>(entries: &mut Blocks<Entry<F>>, nodes: NewNodes<F>)
     requires storable { All IsStorable (listed nodes) }
     requires room { length (listed nodes) ≤ entries.old.room }

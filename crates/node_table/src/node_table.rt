@@ -123,6 +123,7 @@ impl<F: LeafFn> NodeTable<F> {
     /// # Errors
     ///
     /// `TableFull`, then `PoolFull`, then `Memory`.
+    #[inline(always)]
     pub fn put(&mut self, bytes: &[u8], nodes: NewNodes<F>) -> Result<Rope, NodeFault>
         requires short { length bytes.now ≤ BLOCK_SIZE }
         requires nodes { CanHold F.meaning self.old (appended self.old.pool bytes.now) (listed nodes) }
@@ -148,6 +149,7 @@ impl<F: LeafFn> NodeTable<F> {
     /// # Errors
     ///
     /// `TableFull`, then `Memory`.
+    #[inline(always)]
     pub fn put_grown(&mut self, bytes: &[u8], nodes: NewNodes<F>) -> Result<Rope, NodeFault>
         requires takes { Takes self.old.pool (length bytes.now) }
         requires nodes { CanHold F.meaning self.old (extended self.old.pool bytes.now) (listed nodes) }

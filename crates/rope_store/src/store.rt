@@ -87,6 +87,7 @@ impl<F: LeafFn> Store<F> {
     }
 
     /// Puts these bytes at the pool's end and these nodes behind the others, and answers the last of them.
+    #[inline(always)]
     pub(crate) fn make(&mut self, bytes: &[u8], nodes: NewNodes<F>) -> Result<Rope, NodeFault>
         requires short { length bytes.now ≤ BLOCK_SIZE }
         requires nodes { CanHold F.meaning self.old (appended self.old.pool bytes.now) (listed nodes) }
@@ -96,6 +97,7 @@ impl<F: LeafFn> Store<F> {
     }
 
     /// Lets the pool's last piece grow in place by these bytes, puts these nodes behind the others, and answers the last of them.
+    #[inline(always)]
     pub(crate) fn make_grown(&mut self, bytes: &[u8], nodes: NewNodes<F>) -> Result<Rope, NodeFault>
         requires takes { Takes self.old.pool (length bytes.now) }
         requires nodes { CanHold F.meaning self.old (extended self.old.pool bytes.now) (listed nodes) }
