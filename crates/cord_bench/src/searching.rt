@@ -18,8 +18,8 @@ use rope_store::Store;
 use std::alloc::Global;
 use std::time::Instant;
 
-/// So many insertions are made before the search.
-const INSERTIONS: u32 = 1000;
+/// So many insertions are made before a search.
+const INSERTIONS: [u32; 3] = [10, 100, 1000];
 
 /// What is looked for.
 const NEEDLE: &[u8] = b"the very end";
@@ -37,11 +37,11 @@ fn letters(rt: &HostRuntime) -> Result<Vec<u8>> {
 }
 
 /// A megabyte of a source with insertions at random places, and what is looked for at its end.
-fn edited(store: &mut Store<Coded>) -> Result<Rope, BalanceFault>
+fn edited(store: &mut Store<Coded>, insertions: u32) -> Result<Rope, BalanceFault>
     ensures { IfOk result (IsRope (table_of coded_byte store.new)) }
 {
     let text = open(store)?;
-    let text = insert_often(store, text, INSERTIONS)?;
+    let text = insert_often(store, text, insertions)?;
     let longer = store.append(text, NEEDLE)?;
     Ok(longer)
 }
@@ -71,26 +71,40 @@ fn find_plain_often(bytes: &[u8]) -> u64 {
     sum
 }
 
-pub fn time(rt: &HostRuntime) -> Result<()> {
+/// Prints how long a search took.
+fn report(rt: &HostRuntime, work: &str, insertions: u32, start: Instant) -> Result<()> {
+    let taken = start.elapsed(rt)?.as_micros() / TIMES as u128;
+    let line = format!(in rt.alloc(); "{work}, {insertions} insertions")?;
+    eprintln!(rt; "  {line:<34} {taken:>6} us")?;
+    Ok(())
+}
+
+fn time_after(rt: &HostRuntime, insertions: u32) -> Result<()> {
     let bytes = letters(rt)?;
     let mut sources = MemSources::new(rt.alloc());
     sources.add(bytes.as_slice())?;
     let mut store = Store::new(rt.alloc());
-    let text = edited(&mut store)?;
-    let start = Instant::now(rt)?;
-    let places = find_often(rt.alloc(), &store, &mut sources, text)?;
-    let rope = start.elapsed(rt)?.as_micros() / TIMES as u128;
+    let text = edited(&mut store, insertions)?;
     let mut plain = Vec::new(rt.alloc());
     if put(rt.alloc(), &store, &mut sources, text, &mut plain).is_err() {
         bail!("the text was not written whole");
     }
     let start = Instant::now(rt)?;
+    let places = find_often(rt.alloc(), &store, &mut sources, text)?;
+    report(rt, "a search", insertions, start)?;
+    let start = Instant::now(rt)?;
     let same = find_plain_often(plain.as_slice()) == places;
-    let piece = start.elapsed(rt)?.as_micros() / TIMES as u128;
+    report(rt, "one of plain bytes", insertions, start)?;
     if !same {
         bail!("the searches differ");
     }
-    eprintln!(rt; "  {:<34} {rope:>6} us", "a search of an edited megabyte")?;
-    eprintln!(rt; "  {:<34} {piece:>6} us", "a search of it in one piece")?;
+    Ok(())
+}
+
+/// Times a search for a pattern at the end of a megabyte after so many insertions.
+pub fn time(rt: &HostRuntime) -> Result<()> {
+    for insertions in INSERTIONS {
+        time_after(rt, insertions)?;
+    }
     Ok(())
 }
