@@ -1,7 +1,6 @@
 #!/bin/sh
 # Runs the built program, or the one that $1 names, on the cases of the table at the end, and compares what it writes and its
 # status with what the table says. The last line is 'N passed, M failed'; the status is not 0 where a case failed.
-# Texts of 2^40 bytes are not here, since the program holds its files in memory: cord_tests has `refused N1` of such sources.
 set -u
 top=$(cd "$(dirname "$0")/.." && pwd)
 program=${1:-$top/crates/cordkit/out/cordkit}
@@ -31,6 +30,11 @@ printf a-x > dash
 printf 'a\303\251' > accent
 printf '\377' > highest
 : > nothing
+yes abcdefg | head -c 10000 > long
+cp long long_twin
+printf b >> long_twin
+truncate -s 549755813888 half || exit 1
+truncate -s 1099511627776 too_long || exit 1
 printf 'ab\025c\030' > keys_saved
 printf 'ab\025c\003' > keys_left
 printf 'ab\025c' > keys_ended
@@ -136,16 +140,22 @@ the largest numbers cut nothing;cut 18446744073709551615 18446744073709551615 ab
 a part of a file that is not there;cut 0 1 missing;;3;;read\n
 a part of a folder;cut 0 1 folder;;3;;read\n
 a part on a full device;cut 0 1 abcde;;3;/dev/full;write\n
+a part over the border of two blocks;cut 4094 5 long;;0;g\nabc;
+a part of standard input;cut 1 3 /dev/stdin;abcde;0;bcd;
+a part of a file of 2^39 bytes;cut 549755813885 10 half;;0;\0000\0000\0000;
+a part of a file of 2^40 bytes;cut 0 1 too_long;;1;;refused S5\n
 files are joined in their order;join abcde ab highest;;0;abcdeab\0377;
 one file is joined;join abc;;0;abc;
 255 files are joined;join abc $(yes nothing | head -n 253) ab;;0;abcab;
 256 files are refused;join $(yes abc | head -n 256);;1;;refused S4\n
 nothing is joined where a file is not there;join abcde missing;;3;;read\n
 files on a full device;join abcde ab;;3;/dev/full;write\n
+files of 2^40 bytes together;join half half;;1;;refused N1\n
 a pattern is found;find 0 bcd abcde;;0;1\n;
 a pattern is found at its start;find 1 bcd abcde;;0;1\n;
 a pattern before the start is not found;find 2 bcd abcde;;1;;
 a pattern that does not occur;find 0 zz abcde;;1;;
+a pattern over the border of two blocks;find 4090 efg long;;0;4092\n;
 an empty pattern is found at the end;find 5 "" abcde;;0;5\n;
 an empty pattern is not found past the end;find 6 "" abcde;;1;;
 a pattern is its bytes;find 0 "$(printf '\303\251')" accent;;0;1\n;
@@ -154,6 +164,7 @@ a pattern of 4096 bytes is looked for;find 0 $(yes a | head -n 4096 | tr -d '\n'
 a pattern of 4097 bytes is refused;find 0 $(yes a | head -n 4097 | tr -d '\n') abcde;;1;;refused F1\n
 a file to look in that is not there;find 0 a missing;;3;;read\n
 a place on a full device;find 0 bcd abcde;;3;/dev/full;write\n
+a file of three blocks and a longer one;cmp long long_twin;;1;less\n;
 equal files;cmp abc abc;;0;equal\n;
 empty files are equal;cmp nothing nothing;;0;equal\n;
 a prefix is less;cmp ab abc;;1;less\n;
