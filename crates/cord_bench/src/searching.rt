@@ -94,7 +94,7 @@ fn time_after(rt: &HostRuntime, insertions: u32) -> Result<()> {
     report(rt, "a search", insertions, start)?;
     let start = Instant::now(rt)?;
     let same = find_plain_often(plain.as_slice()) == places;
-    report(rt, "one of plain bytes", insertions, start)?;
+    report(rt, "of plain bytes", insertions, start)?;
     if !same {
         bail!("the searches differ");
     }
