@@ -2,6 +2,7 @@
 
 use super::patterns::plain_find;
 use super::searches::joined;
+use super::{assert_same, assert_same_at};
 use cord_search::{chr, cmp, find, ncmp, put, rchr};
 use function_leaf::Coded;
 use lazy_file::MemSources;
@@ -102,7 +103,7 @@ fn look_for_patterns(
         );
     }
     let none = find(rt.alloc(), store, sources, text, 0, b"zzzzz");
-    assert_eq!(rt; none, Ok(None));
+    assert_same(rt, &none, &Ok(None));
 }
 
 fn look_for_bytes(
@@ -117,9 +118,9 @@ fn look_for_bytes(
     for _ in 0..10 {
         let i = below(seed, 31_000);
         let first = chr(rt.alloc(), store, sources, text, i, b'z');
-        assert_eq!(rt; first, Ok(plain_find(bytes, i, b"z")), "{i}");
+        assert_same_at(rt, &first, &Ok(plain_find(bytes, i, b"z")), &i);
         let last = rchr(rt.alloc(), store, sources, text, i, b'z');
-        assert_eq!(rt; last, Ok(plain_last(bytes, i, b'z')), "{i}");
+        assert_same_at(rt, &last, &Ok(plain_last(bytes, i, b'z')), &i);
     }
 }
 
@@ -141,7 +142,7 @@ fn compare(
     let (text, other) = ropes;
     assert!(rt; store.has(text) && store.has(other));
     let order = cmp(rt.alloc(), store, sources, text, other);
-    assert_eq!(rt; order, Ok(Ordering::Equal));
+    assert_same(rt, &order, &Ok(Ordering::Equal));
     for _ in 0..10 {
         let (i, j) = (below(seed, 31_000), below(seed, 31_000));
         let n = below(seed, 6000);
@@ -164,7 +165,7 @@ fn agree(rt: &(impl AllocGlobal + Abort), mixed: bool, most: u64) {
     assert!(rt; store.has(text));
     let mut written: Vec<u8> = Vec::new(rt.alloc());
     let outcome = put(rt.alloc(), &store, &mut sources, text, &mut written);
-    assert_eq!(rt; outcome, Ok(()));
+    assert_same(rt, &outcome, &Ok(()));
     assert!(rt; written.as_slice() == bytes.as_slice());
     look_for_patterns(rt, &store, &mut sources, text, bytes.as_slice(), &mut seed);
     look_for_bytes(rt, &store, &mut sources, text, bytes.as_slice(), &mut seed);

@@ -1,3 +1,4 @@
+use super::assert_same;
 use function_leaf::Coded;
 use node_table::NodeFault;
 use rebalance::{BalanceFault, append_any, balance, cat_any, is_balanced, substr_any};
@@ -73,8 +74,8 @@ fn doubled(rt: &impl Abort, store: &mut Store<Coded>, times: u32) -> Result<Rope
 
 fn assert_shape(rt: &impl Abort, store: &Store<Coded>, rope: Rope, len: u64, depth: u8) {
     assert!(rt; store.has(rope));
-    assert_eq!(rt; store.len(rope), len);
-    assert_eq!(rt; store.depth(rope), depth);
+    assert_same(rt, &store.len(rope), &len);
+    assert_same(rt, &store.depth(rope), &depth);
 }
 
 #[test]
@@ -85,7 +86,7 @@ fn eight_leaves_balance_to_depth_three(rt: HostRuntime) -> Result<(), Fail> {
     let count = store.count();
     let balanced = shallow(&rt, &mut store, rope)?;
     assert_shape(&rt, &store, balanced, 8, 3);
-    assert_eq!(rt; u64::from(store.count()), u64::from(count) + 7);
+    assert_same(&rt, &u64::from(store.count()), &(u64::from(count) + 7));
     assert!(rt; is_balanced(8, 3));
     Ok(())
 }
@@ -96,7 +97,11 @@ fn too_deep_is_balanced_first(rt: HostRuntime) -> Result<(), Fail> {
     let rope = chain(&rt, &mut store, 65)?;
     let leaf = chain(&rt, &mut store, 1)?;
     assert_shape(&rt, &store, rope, 65, 64);
-    assert_eq!(rt; cat(&rt, &mut store, rope, leaf), Err(NodeFault::TooDeep));
+    assert_same(
+        &rt,
+        &cat(&rt, &mut store, rope, leaf),
+        &Err(NodeFault::TooDeep),
+    );
     let both = joined(&rt, &mut store, rope, leaf)?;
     assert_shape(&rt, &store, both, 66, 8);
     Ok(())
@@ -109,7 +114,7 @@ fn part_of_the_deepest_is_a_part(rt: HostRuntime) -> Result<(), Fail> {
     assert_shape(&rt, &store, rope, 65, 64);
     let rope = part(&rt, &mut store, rope, 1, 64)?;
     assert!(rt; store.has(rope));
-    assert_eq!(rt; store.len(rope), 64);
+    assert_same(&rt, &store.len(rope), &64);
     Ok(())
 }
 
@@ -120,7 +125,7 @@ fn part_that_is_a_child_is_that_child(rt: HostRuntime) -> Result<(), Fail> {
     let count = store.count();
     let child = part(&rt, &mut store, rope, 0, 2)?;
     assert_shape(&rt, &store, child, 2, 1);
-    assert_eq!(rt; store.count(), count);
+    assert_same(&rt, &store.count(), &count);
     Ok(())
 }
 
@@ -131,7 +136,7 @@ fn append_to_the_deepest(rt: HostRuntime) -> Result<(), Fail> {
     assert_shape(&rt, &store, rope, 65, 64);
     let (longer, place) = appended(&rt, &mut store, rope, b"x")?;
     assert!(rt; store.has(longer));
-    assert_eq!(rt; (store.len(longer), place), (66, 0));
+    assert_same(&rt, &(store.len(longer), place), &(66, 0));
     Ok(())
 }
 
@@ -167,7 +172,7 @@ fn most_pieces_are_taken(rt: HostRuntime) -> Result<(), Fail> {
     let rope = doubled(&rt, &mut store, 20)?;
     let balanced = shallow(&rt, &mut store, rope)?;
     assert!(rt; store.has(balanced));
-    assert_eq!(rt; store.len(balanced), 1_048_576);
+    assert_same(&rt, &store.len(balanced), &1_048_576);
     Ok(())
 }
 
@@ -180,11 +185,12 @@ fn more_pieces_are_refused(rt: HostRuntime) -> Result<(), Fail> {
     let more = cat(&rt, &mut store, most, one)?;
     let count = store.count();
     for rope in [twice, more] {
-        assert_eq!(rt;
-            shallow(&rt, &mut store, rope),
-            Err(BalanceFault::TooManyPieces)
+        assert_same(
+            &rt,
+            &shallow(&rt, &mut store, rope),
+            &Err(BalanceFault::TooManyPieces),
         );
-        assert_eq!(rt; store.count(), count);
+        assert_same(&rt, &store.count(), &count);
     }
     Ok(())
 }
@@ -199,9 +205,9 @@ fn balanced_lengths_end_at_fibonacci_numbers(rt: HostRuntime) {
 #[test]
 fn nil_and_one_literal_stay(rt: HostRuntime) -> Result<(), Fail> {
     let mut store: Store<Coded> = Store::new(rt.alloc());
-    assert_eq!(rt; shallow(&rt, &mut store, None), Ok(None));
+    assert_same(&rt, &shallow(&rt, &mut store, None), &Ok(None));
     let rope = store.from_bytes(b"rope")?;
     assert!(rt; rope.is_some());
-    assert_eq!(rt; shallow(&rt, &mut store, rope), Ok(rope));
+    assert_same(&rt, &shallow(&rt, &mut store, rope), &Ok(rope));
     Ok(())
 }

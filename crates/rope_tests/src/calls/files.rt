@@ -1,5 +1,6 @@
 //! Sources that are devices.
 
+use super::assert_same;
 use lazy_file::{
     AddFault, BLOCK_SIZE, Device, DeviceError, FileDevice, FileSources, SourceFault, Sources,
 };
@@ -72,8 +73,8 @@ fn a_block_of_another_source_is_not_taken(rt: HostRuntime) {
     }
     for (s, text) in [(0, *b"aaaa"), (1, *b"bbbb"), (0, *b"aaaa")] {
         let mut buffer = *b"....";
-        assert_eq!(rt; sources.read(s, 0, &mut buffer), Ok(()));
-        assert_eq!(rt; buffer, text);
+        assert_same(&rt, &sources.read(s, 0, &mut buffer), &Ok(()));
+        assert_same(&rt, &buffer, &text);
     }
 }
 
@@ -84,13 +85,17 @@ fn a_failed_block_is_read_again(rt: HostRuntime) {
         fails_at: 2,
         ..Slice::new(&[7; 8192])
     };
-    assert_eq!(rt; sources.add(device).expect(&rt, "a source"), 0);
+    assert_same(&rt, &sources.add(device).expect(&rt, "a source"), &0);
     let mut byte = [0];
-    assert_eq!(rt; sources.read(0, 0, &mut byte), Ok(()));
-    assert_eq!(rt; byte, [7]);
-    assert_eq!(rt; sources.read(0, 4096, &mut byte), Err(SourceFault::Device));
-    assert_eq!(rt; sources.read(0, 4096, &mut byte), Ok(()));
-    assert_eq!(rt; byte, [7]);
+    assert_same(&rt, &sources.read(0, 0, &mut byte), &Ok(()));
+    assert_same(&rt, &byte, &[7]);
+    assert_same(
+        &rt,
+        &sources.read(0, 4096, &mut byte),
+        &Err(SourceFault::Device),
+    );
+    assert_same(&rt, &sources.read(0, 4096, &mut byte), &Ok(()));
+    assert_same(&rt, &byte, &[7]);
 }
 
 #[test]
@@ -102,12 +107,16 @@ fn a_device_may_give_one_byte_a_call(rt: HostRuntime) {
             fails_at,
             ..Slice::new(&[7; 4096])
         };
-        assert_eq!(rt; sources.add(device).expect(&rt, "a source"), 0);
+        assert_same(&rt, &sources.add(device).expect(&rt, "a source"), &0);
         let mut buffer = [0; 4096];
-        assert_eq!(rt; sources.read(0, 0, &mut buffer), read);
+        assert_same(&rt, &sources.read(0, 0, &mut buffer), &read);
         if read.is_ok() {
-            assert_eq!(rt; buffer.as_slice(), [7; 4096].as_slice());
-            assert_eq!(rt; sources.read(0, 0, &mut [0]), Err(SourceFault::Device));
+            assert_same(&rt, &buffer.as_slice(), &[7; 4096].as_slice());
+            assert_same(
+                &rt,
+                &sources.read(0, 0, &mut [0]),
+                &Err(SourceFault::Device),
+            );
         }
     }
 }
@@ -122,21 +131,26 @@ fn a_device_that_is_too_long_is_handed_back(rt: HostRuntime) {
     match sources.add(device) {
         Ok(_) => panic!(rt; "too long"),
         Err(refused) => {
-            assert_eq!(rt; refused.fault, AddFault::SourceTooLong);
-            assert_eq!(rt;
-                (refused.device.size, refused.device.text),
-                (1 << 40, &b"abc"[..])
+            assert_same(&rt, &refused.fault, &AddFault::SourceTooLong);
+            assert_same(
+                &rt,
+                &(refused.device.size, refused.device.text),
+                &(1 << 40, &b"abc"[..]),
             );
         }
     }
-    assert_eq!(rt; sources.count(), 0);
+    assert_same(&rt, &sources.count(), &0);
 }
 
 #[test]
 fn the_last_source_is_the_255th(rt: HostRuntime) {
     let mut sources = one_block(&rt);
     for s in 0..255 {
-        assert_eq!(rt; sources.add(Slice::new(b"a")).expect(&rt, "a source"), s);
+        assert_same(
+            &rt,
+            &sources.add(Slice::new(b"a")).expect(&rt, "a source"),
+            &s,
+        );
     }
     let device = Slice {
         size: 1 << 40,
@@ -145,33 +159,40 @@ fn the_last_source_is_the_255th(rt: HostRuntime) {
     match sources.add(device) {
         Ok(_) => panic!(rt; "too many"),
         Err(refused) => {
-            assert_eq!(rt; refused.fault, AddFault::TooManySources);
-            assert_eq!(rt; refused.device.text, b"abc".as_slice());
+            assert!(rt; refused.fault == AddFault::TooManySources);
+            assert_same(&rt, &refused.device.text, &b"abc".as_slice());
         }
     }
-    assert_eq!(rt; (sources.count(), sources.len(254)), (255, 1));
+    assert_same(&rt, &(sources.count(), sources.len(254)), &(255, 1));
 }
 
 #[test]
 fn a_span_outside_is_no_source(rt: HostRuntime) {
     let mut sources = one_block(&rt);
-    assert_eq!(rt;
-        sources.add(Slice::new(b"abcde")).expect(&rt, "a source"),
-        0
+    assert_same(
+        &rt,
+        &sources.add(Slice::new(b"abcde")).expect(&rt, "a source"),
+        &0,
     );
     let mut buffer = *b"...";
-    assert_eq!(rt; sources.read(0, 1, &mut buffer), Ok(()));
-    assert_eq!(rt; &buffer, b"bcd");
-    assert_eq!(rt;
-        sources.read(0, 4, &mut [0; 2]),
-        Err(SourceFault::BadSource)
+    assert_same(&rt, &sources.read(0, 1, &mut buffer), &Ok(()));
+    assert_same(&rt, &&buffer, &b"bcd");
+    assert_same(
+        &rt,
+        &sources.read(0, 4, &mut [0; 2]),
+        &Err(SourceFault::BadSource),
     );
-    assert_eq!(rt; sources.read(1, 0, &mut [0]), Err(SourceFault::BadSource));
-    assert_eq!(rt;
-        sources.read(0, u64::MAX, &mut [0]),
-        Err(SourceFault::BadSource)
+    assert_same(
+        &rt,
+        &sources.read(1, 0, &mut [0]),
+        &Err(SourceFault::BadSource),
     );
-    assert_eq!(rt; sources.read(0, 5, &mut []), Ok(()));
+    assert_same(
+        &rt,
+        &sources.read(0, u64::MAX, &mut [0]),
+        &Err(SourceFault::BadSource),
+    );
+    assert_same(&rt, &sources.read(0, 5, &mut []), &Ok(()));
 }
 
 #[test]
@@ -181,8 +202,12 @@ fn a_device_that_ends_early_is_short(rt: HostRuntime) {
         size: 5,
         ..Slice::new(b"abc")
     };
-    assert_eq!(rt; sources.add(device).expect(&rt, "a source"), 0);
-    assert_eq!(rt; sources.read(0, 0, &mut [0; 5]), Err(SourceFault::Short));
+    assert_same(&rt, &sources.add(device).expect(&rt, "a source"), &0);
+    assert_same(
+        &rt,
+        &sources.read(0, 0, &mut [0; 5]),
+        &Err(SourceFault::Short),
+    );
 }
 
 #[test]
@@ -196,12 +221,12 @@ fn long_and_short_reads_agree(rt: HostRuntime) {
         most: 3000,
         ..Slice::new(&text)
     };
-    assert_eq!(rt; sources.add(device).expect(&rt, "a source"), 0);
+    assert_same(&rt, &sources.add(device).expect(&rt, "a source"), &0);
     for n in [1, 7, 1000, BLOCK_SIZE - 1, BLOCK_SIZE, 5000, 10_000] {
         let mut read = [0; 10_000];
         let mut place = 0;
         for part in read.chunks_mut(n) {
-            assert_eq!(rt; sources.read(0, place, part), Ok(()));
+            assert_same(&rt, &sources.read(0, place, part), &Ok(()));
             place = place.saturating_add(n as u64);
         }
         assert!(rt; read == text, "by {n}");
@@ -217,10 +242,11 @@ fn a_file_is_a_device(rt: HostRuntime) {
     );
     assert!(rt; sources.add(FileDevice::new(file, 5)).is_ok());
     let mut buffer = *b"abc";
-    assert_eq!(rt; sources.read(0, 2, &mut buffer), Ok(()));
-    assert_eq!(rt; buffer, [0; 3]);
-    assert_eq!(rt;
-        sources.read(0, 3, &mut buffer),
-        Err(SourceFault::BadSource)
+    assert_same(&rt, &sources.read(0, 2, &mut buffer), &Ok(()));
+    assert_same(&rt, &buffer, &[0; 3]);
+    assert_same(
+        &rt,
+        &sources.read(0, 3, &mut buffer),
+        &Err(SourceFault::BadSource),
     );
 }

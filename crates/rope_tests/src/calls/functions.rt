@@ -1,11 +1,12 @@
+use super::assert_same;
 use function_leaf::{Coded, LeafFn, fill};
 
 #[test]
 fn cycles_have_1_to_16_bytes(rt: HostRuntime) {
     assert!(rt; Coded::cycle(b"").is_none());
     let longest = Coded::cycle(b"abcdefghijklmnop").expect(&rt, "sixteen bytes");
-    assert_eq!(rt; longest.byte(15), b'p');
-    assert_eq!(rt; longest.byte(16), b'a');
+    assert_same(&rt, &longest.byte(15), &b'p');
+    assert_same(&rt, &longest.byte(16), &b'a');
     assert!(rt; Coded::cycle(b"abcdefghijklmnopq").is_none());
 }
 
@@ -14,23 +15,23 @@ fn cycle_fills_from_a_place_inside(rt: HostRuntime) {
     let cycle = Coded::cycle(b"ab").expect(&rt, "two bytes");
     let mut out = [0; 4];
     fill(&cycle, 3, &mut out);
-    assert_eq!(rt; out.as_slice(), b"baba".as_slice());
+    assert_same(&rt, &out.as_slice(), &b"baba".as_slice());
 }
 
 #[test]
 fn ramp_wraps(rt: HostRuntime) {
     let ramp = Coded::ramp(0xFE);
-    assert_eq!(rt; ramp.byte(3), 0x01);
+    assert_same(&rt, &ramp.byte(3), &0x01);
     let mut out = [0; 3];
     fill(&ramp, 0, &mut out);
-    assert_eq!(rt; out, [0xFE, 0xFF, 0x00]);
+    assert_same(&rt, &out, &[0xFE, 0xFF, 0x00]);
 }
 
 #[test]
 fn fill_has_one_byte_everywhere(rt: HostRuntime) {
     let mut out = [0; 2];
     fill(&Coded::fill(b'x'), 1 << 40, &mut out);
-    assert_eq!(rt; out.as_slice(), b"xx".as_slice());
+    assert_same(&rt, &out.as_slice(), &b"xx".as_slice());
 }
 
 #[test]
@@ -49,7 +50,7 @@ fn coded_functions_are_told_apart(rt: HostRuntime) {
 fn pattern_is_read_back(rt: HostRuntime) {
     match &Coded::cycle(b"abc") {
         Some(Coded::Cycle(pattern)) => {
-            assert_eq!(rt; pattern.as_slice(), b"abc".as_slice());
+            assert_same(&rt, &pattern.as_slice(), &b"abc".as_slice());
             assert!(rt; pattern.is_same(pattern));
         }
         _ => panic!(rt; "a cycle"),
@@ -78,5 +79,5 @@ impl LeafFn for Pairs {
 fn leaf_function_of_the_test(rt: HostRuntime) {
     let mut out = [0; 4];
     fill(&Pairs, 509, &mut out);
-    assert_eq!(rt; out, [254, 255, 255, 0]);
+    assert_same(&rt, &out, &[254, 255, 255, 0]);
 }

@@ -1,5 +1,6 @@
 //! Patterns in texts of many leaves, beside a plain search.
 
+use super::assert_same;
 use super::searches::joined;
 use cord_search::find;
 use function_leaf::Coded;
@@ -109,7 +110,7 @@ fn look_in_texts(
     let mut store: Store<Coded> = Store::new(rt.alloc());
     let mut sources = MemSources::new(rt.alloc());
     let s = u32::from(store.add_source(2048).expect(rt, "a source"));
-    assert_eq!(rt; sources.add(all).map(u32::from), Ok(s));
+    assert_same(rt, &sources.add(all).map(u32::from), &Ok(s));
     for k in 0..texts {
         let number = first.saturating_add(k);
         let text = word(rt, all, number, len);
@@ -197,13 +198,13 @@ fn longest_pattern_over_a_leaf_for_each_byte(rt: HostRuntime) {
     let mut store: Store<Coded> = Store::new(rt.alloc());
     let mut sources = MemSources::new(rt.alloc());
     let s = u32::from(store.add_source(8192).expect(&rt, "a source"));
-    assert_eq!(&rt; sources.add(text.as_slice()).map(u32::from), Ok(s));
+    assert_same(&rt, &sources.add(text.as_slice()).map(u32::from), &Ok(s));
     let rope = byte_leaves(&rt, &mut store, s);
     assert!(&rt; store.has(rope));
     for start in [0, 1, 2047, 4096] {
         let pattern = text.get(start..start + 4096).expect(&rt, "a pattern");
         let found = find(rt.alloc(), &store, &mut sources, rope, 0, pattern);
-        assert_eq!(&rt; found, Ok(plain_find(text.as_slice(), 0, pattern)));
-        assert_eq!(&rt; found, Ok(Some(start as u64)));
+        assert_same(&rt, &found, &Ok(plain_find(text.as_slice(), 0, pattern)));
+        assert_same(&rt, &found, &Ok(Some(start as u64)));
     }
 }

@@ -1,5 +1,6 @@
 //! Positions in a rope of two parts of sources, a literal and a function.
 
+use super::assert_same;
 use cord_position::Pos;
 use function_leaf::Coded;
 use lazy_file::{MemSources, SourceFault, Sources};
@@ -120,13 +121,13 @@ fn texts(rt: &(impl AllocGlobal + Abort)) -> MemSources<'static> {
 fn a_place_past_the_end_is_the_end(rt: HostRuntime) {
     let mut sources = texts(&rt);
     let mut pos = Pos::set(rt.alloc(), &Sample, ALL, 11);
-    assert_eq!(rt; pos.index(), 10);
+    assert_same(&rt, &pos.index(), &10);
     assert!(rt; !pos.valid());
-    assert_eq!(rt; pos.fetch(&mut sources), Ok(None));
-    assert_eq!(rt; pos.run_left(), 0);
+    assert_same(&rt, &pos.fetch(&mut sources), &Ok(None));
+    assert_same(&rt, &pos.run_left(), &0);
     assert!(rt; pos.run_bytes().is_empty());
     assert!(rt; !pos.next());
-    assert_eq!(rt; pos.index(), 10);
+    assert_same(&rt, &pos.index(), &10);
 }
 
 #[test]
@@ -134,25 +135,25 @@ fn steps_go_to_both_ends_and_stay(rt: HostRuntime) {
     let mut sources = texts(&rt);
     let mut pos = Pos::set(rt.alloc(), &Sample, ALL, 0);
     assert!(rt; !pos.prev());
-    assert_eq!(rt; pos.index(), 0);
+    assert_same(&rt, &pos.index(), &0);
     for byte in *b"abcdef\0\x01\x02\x03" {
-        assert_eq!(rt; pos.fetch(&mut sources), Ok(Some(byte)));
+        assert_same(&rt, &pos.fetch(&mut sources), &Ok(Some(byte)));
         assert!(rt; pos.next());
     }
     assert!(rt; !pos.next() && pos.prev());
-    assert_eq!(rt; pos.index(), 9);
+    assert_same(&rt, &pos.index(), &9);
 }
 
 #[test]
 fn a_skip_ends_at_the_end(rt: HostRuntime) {
     let mut pos = Pos::set(rt.alloc(), &Sample, ALL, 2);
     pos.skip(3);
-    assert_eq!(rt; pos.index(), 5);
+    assert_same(&rt, &pos.index(), &5);
     pos.skip(u64::MAX);
-    assert_eq!(rt; (pos.index(), pos.valid()), (10, false));
+    assert_same(&rt, &(pos.index(), pos.valid()), &(10, false));
     let mut none = Pos::set(rt.alloc(), &Sample, None, 1);
     none.skip(1);
-    assert_eq!(rt; (none.index(), none.valid()), (0, false));
+    assert_same(&rt, &(none.index(), none.valid()), &(0, false));
 }
 
 #[test]
@@ -189,14 +190,16 @@ fn a_buffer_takes_a_run(rt: HostRuntime) {
         assert_eq!(rt; buffer, bytes, "at {i}");
     }
     let mut two = *b"..";
-    assert_eq!(rt;
-        Pos::set(rt.alloc(), &Sample, ALL, 3).fill(&mut sources, &mut two),
-        Ok(2)
+    assert_same(
+        &rt,
+        &Pos::set(rt.alloc(), &Sample, ALL, 3).fill(&mut sources, &mut two),
+        &Ok(2),
     );
-    assert_eq!(rt; &two, b"de");
-    assert_eq!(rt;
-        Pos::set(rt.alloc(), &Sample, ALL, 0).fill(&mut sources, &mut []),
-        Ok(0)
+    assert_same(&rt, &&two, &b"de");
+    assert_same(
+        &rt,
+        &Pos::set(rt.alloc(), &Sample, ALL, 0).fill(&mut sources, &mut []),
+        &Ok(0),
     );
 }
 
@@ -205,7 +208,11 @@ fn a_fill_gives_its_sources_fault(rt: HostRuntime) {
     let mut none = MemSources::new(rt.alloc());
     let pos = Pos::set(rt.alloc(), &Sample, ALL, 0);
     let mut one = *b".";
-    assert_eq!(rt; pos.fill(&mut none, &mut one), Err(SourceFault::BadSource));
-    assert_eq!(rt; pos.fetch(&mut none), Err(SourceFault::BadSource));
-    assert_eq!(rt; pos.fill(&mut none, &mut []), Ok(0));
+    assert_same(
+        &rt,
+        &pos.fill(&mut none, &mut one),
+        &Err(SourceFault::BadSource),
+    );
+    assert_same(&rt, &pos.fetch(&mut none), &Err(SourceFault::BadSource));
+    assert_same(&rt, &pos.fill(&mut none, &mut []), &Ok(0));
 }

@@ -1,6 +1,7 @@
 //! Searches of the longest texts: their leaves repeat, and no search goes through them byte by byte.
 
 use super::searches::joined;
+use super::{assert_same, assert_same_at};
 use cord_search::{chr, find, rchr};
 use function_leaf::Coded;
 use lazy_file::MemSources;
@@ -45,27 +46,28 @@ fn patterns_of_the_longest_text(rt: HostRuntime) {
         (1_099_511_627_774, None),
         (u64::MAX, None),
     ] {
-        assert_eq!(rt;
-            place_in(&rt, Coded::fill(b'a'), start, b"aa"),
-            found,
-            "{start}"
+        assert_same_at(
+            &rt,
+            &place_in(&rt, Coded::fill(b'a'), start, b"aa"),
+            &found,
+            &start,
         );
     }
 }
 
 #[test]
 fn absent_patterns_of_leaves_that_repeat(rt: HostRuntime) {
-    assert_eq!(rt; place_in(&rt, Coded::fill(b'a'), 0, b"ba"), None);
-    assert_eq!(rt; place_in(&rt, Coded::ramp(b'a'), 0, b"ba"), None);
+    assert_same(&rt, &place_in(&rt, Coded::fill(b'a'), 0, b"ba"), &None);
+    assert_same(&rt, &place_in(&rt, Coded::ramp(b'a'), 0, b"ba"), &None);
     let cycle = Coded::cycle(b"abc").expect(&rt, "a cycle");
-    assert_eq!(rt; place_in(&rt, cycle, 0, b"ba"), None);
+    assert_same(&rt, &place_in(&rt, cycle, 0, b"ba"), &None);
 }
 
 #[test]
 fn absent_bytes_of_leaves_that_repeat(rt: HostRuntime) {
-    assert_eq!(rt; places_in(&rt, Coded::fill(b'a'), b'x'), (None, None));
+    assert_same(&rt, &places_in(&rt, Coded::fill(b'a'), b'x'), &(None, None));
     let cycle = Coded::cycle(b"abc").expect(&rt, "a cycle");
-    assert_eq!(rt; places_in(&rt, cycle, b'x'), (None, None));
+    assert_same(&rt, &places_in(&rt, cycle, b'x'), &(None, None));
 }
 
 /// `xy`, then as many `a` as there can be, then `bc`.
@@ -94,7 +96,7 @@ fn patterns_at_the_joints_of_a_leaf_that_repeats(rt: HostRuntime) {
         (b"ac", None),
     ] {
         let answer = find(rt.alloc(), &store, &mut sources, text, 0, pattern);
-        assert_eq!(rt; answer, Ok(found), "{pattern:?}");
+        assert_same_at(&rt, &answer, &Ok(found), &pattern);
     }
 }
 
@@ -105,7 +107,7 @@ fn bytes_at_the_joints_of_a_leaf_that_repeats(rt: HostRuntime) {
     let text = longest_between(&rt, &mut store);
     assert!(rt; store.has(text));
     let first = chr(rt.alloc(), &store, &mut sources, text, 2, b'b');
-    assert_eq!(rt; first, Ok(Some(LONGEST - 2)));
+    assert_same(&rt, &first, &Ok(Some(LONGEST - 2)));
     let last = rchr(rt.alloc(), &store, &mut sources, text, LONGEST - 3, b'y');
-    assert_eq!(rt; last, Ok(Some(1)));
+    assert_same(&rt, &last, &Ok(Some(1)));
 }

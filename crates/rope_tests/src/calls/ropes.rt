@@ -1,3 +1,4 @@
+use super::assert_same;
 use function_leaf::Coded;
 use node_table::NodeFault;
 use rope_node::{CodedSpace, NodeId, NodeSpace, NodeView, Rope};
@@ -55,14 +56,14 @@ fn shape(rt: &impl Abort, store: &Store<Coded>, rope: Rope) -> (NodeView, u64, u
 fn functions_are_one_leaf(rt: HostRuntime) -> Result<(), Fail> {
     let mut store: Store<Coded> = Store::new(rt.alloc());
     let rope = function(&rt, &mut store, Coded::ramp(b'a'), 2);
-    assert_eq!(rt; rope, Some(NodeId(0)));
-    assert_eq!(rt; shape(&rt, &store, rope), (NodeView::Fun, 2, 0));
+    assert_same(&rt, &rope, &Some(NodeId(0)));
+    assert_same(&rt, &shape(&rt, &store, rope), &(NodeView::Fun, 2, 0));
     let rope = chars(&mut store, b'a', 3)?;
-    assert_eq!(rt; rope, Some(NodeId(1)));
-    assert_eq!(rt; shape(&rt, &store, rope), (NodeView::Fun, 3, 0));
-    assert_eq!(rt; function(&rt, &mut store, Coded::ramp(0), 0), None);
-    assert_eq!(rt; chars(&mut store, b'a', 0), Ok(None));
-    assert_eq!(rt; store.count(), 2);
+    assert_same(&rt, &rope, &Some(NodeId(1)));
+    assert_same(&rt, &shape(&rt, &store, rope), &(NodeView::Fun, 3, 0));
+    assert_same(&rt, &function(&rt, &mut store, Coded::ramp(0), 0), &None);
+    assert_same(&rt, &chars(&mut store, b'a', 0), &Ok(None));
+    assert_same(&rt, &store.count(), &2);
     Ok(())
 }
 
@@ -75,7 +76,7 @@ fn function_leaf_answers_its_bytes(rt: HostRuntime) {
     assert!(rt; store.has(Some(node)));
     match store.node(node) {
         NodeView::Fun => {
-            assert_eq!(rt; store.fun_byte(node, 2), b'c');
+            assert_same(&rt, &store.fun_byte(node, 2), &b'c');
             assert!(rt; store.coded(node).is_same(&Coded::ramp(b'a')));
         }
         _ => panic!(rt; "a function"),
@@ -86,17 +87,29 @@ fn function_leaf_answers_its_bytes(rt: HostRuntime) {
 fn texts_end_below_their_limit(rt: HostRuntime) -> Result<(), Fail> {
     let mut store: Store<Coded> = Store::new(rt.alloc());
     let rope = chars(&mut store, b'a', (1 << 40) - 1)?;
-    assert_eq!(rt; shape(&rt, &store, rope), (NodeView::Fun, (1 << 40) - 1, 0));
-    assert_eq!(rt; chars(&mut store, b'a', 1 << 40), Err(NodeFault::TooLong));
+    assert_same(
+        &rt,
+        &shape(&rt, &store, rope),
+        &(NodeView::Fun, (1 << 40) - 1, 0),
+    );
+    assert_same(
+        &rt,
+        &chars(&mut store, b'a', 1 << 40),
+        &Err(NodeFault::TooLong),
+    );
     Ok(())
 }
 
 #[test]
 fn spans_lie_in_their_source(rt: HostRuntime) {
     let mut store: Store<Coded> = Store::new(rt.alloc());
-    assert_eq!(rt; source(&rt, &mut store, 3), 0);
-    assert_eq!(rt; part_of_source(&mut store, 0, 1, 2), Ok(Some(NodeId(0))));
-    assert_eq!(rt; part_of_source(&mut store, 0, 3, 0), Ok(None));
+    assert_same(&rt, &source(&rt, &mut store, 3), &0);
+    assert_same(
+        &rt,
+        &part_of_source(&mut store, 0, 1, 2),
+        &Ok(Some(NodeId(0))),
+    );
+    assert_same(&rt, &part_of_source(&mut store, 0, 3, 0), &Ok(None));
     for (s, a, n) in [(0, 2, 2), (0, 4, 0), (0, u64::MAX, u64::MAX), (1, 0, 0)] {
         assert_eq!(rt;
             part_of_source(&mut store, s, a, n),
@@ -104,31 +117,40 @@ fn spans_lie_in_their_source(rt: HostRuntime) {
             "{n} from {a} of {s}"
         );
     }
-    assert_eq!(rt; store.count(), 1);
+    assert_same(&rt, &store.count(), &1);
 }
 
 #[test]
 fn there_are_at_most_255_sources(rt: HostRuntime) {
     let mut store: Store<Coded> = Store::new(rt.alloc());
     for s in 0..255 {
-        assert_eq!(rt; store.add_source(3), Ok(s));
+        assert_same(&rt, &store.add_source(3), &Ok(s));
     }
-    assert_eq!(rt; store.add_source(3), Err(NodeFault::TooManySources));
-    assert_eq!(rt; part_of_source(&mut store, 254, 0, 3), Ok(Some(NodeId(0))));
-    assert_eq!(rt;
-        part_of_source(&mut store, 255, 0, 0),
-        Err(NodeFault::BadSpan)
+    assert_same(&rt, &store.add_source(3), &Err(NodeFault::TooManySources));
+    assert_same(
+        &rt,
+        &part_of_source(&mut store, 254, 0, 3),
+        &Ok(Some(NodeId(0))),
+    );
+    assert_same(
+        &rt,
+        &part_of_source(&mut store, 255, 0, 0),
+        &Err(NodeFault::BadSpan),
     );
 }
 
 #[test]
 fn bytes_are_one_literal(rt: HostRuntime) {
     let mut store: Store<Coded> = Store::new(rt.alloc());
-    assert_eq!(rt; literal(&rt, &mut store, b""), None);
-    assert_eq!(rt; literal(&rt, &mut store, b"ab"), Some(NodeId(0)));
+    assert_same(&rt, &literal(&rt, &mut store, b""), &None);
+    assert_same(&rt, &literal(&rt, &mut store, b"ab"), &Some(NodeId(0)));
     let rope = literal(&rt, &mut store, b"cde");
-    assert_eq!(rt; rope, Some(NodeId(1)));
-    assert_eq!(rt; shape(&rt, &store, rope), (NodeView::Lit { a: 2 }, 3, 0));
+    assert_same(&rt, &rope, &Some(NodeId(1)));
+    assert_same(
+        &rt,
+        &shape(&rt, &store, rope),
+        &(NodeView::Lit { a: 2 }, 3, 0),
+    );
 }
 
 #[test]
@@ -137,10 +159,14 @@ fn short_literals_become_one(rt: HostRuntime) -> Result<(), Fail> {
     let ab = literal(&rt, &mut store, b"ab");
     let cd = literal(&rt, &mut store, b"cd");
     let both = cat(&rt, &mut store, ab, cd)?;
-    assert_eq!(rt; shape(&rt, &store, both), (NodeView::Lit { a: 4 }, 4, 0));
-    assert_eq!(rt; store.pool_len(), 8);
-    assert_eq!(rt; cat(&rt, &mut store, None, ab), Ok(ab));
-    assert_eq!(rt; cat(&rt, &mut store, ab, None), Ok(ab));
+    assert_same(
+        &rt,
+        &shape(&rt, &store, both),
+        &(NodeView::Lit { a: 4 }, 4, 0),
+    );
+    assert_same(&rt, &store.pool_len(), &8);
+    assert_same(&rt, &cat(&rt, &mut store, None, ab), &Ok(ab));
+    assert_same(&rt, &cat(&rt, &mut store, ab, None), &Ok(ab));
     Ok(())
 }
 
@@ -154,8 +180,8 @@ fn longer_literals_are_concatenated(rt: HostRuntime) -> Result<(), Fail> {
         l: NodeId(0),
         r: NodeId(1),
     };
-    assert_eq!(rt; shape(&rt, &store, both), (view, 32, 1));
-    assert_eq!(rt; (store.count(), store.pool_len()), (3, 32));
+    assert_same(&rt, &shape(&rt, &store, both), &(view, 32, 1));
+    assert_same(&rt, &(store.count(), store.pool_len()), &(3, 32));
     Ok(())
 }
 
@@ -171,10 +197,11 @@ fn right_child_takes_a_literal(rt: HostRuntime) -> Result<(), Fail> {
         l: NodeId(0),
         r: NodeId(4),
     };
-    assert_eq!(rt; shape(&rt, &store, both), (view, 35, 1));
-    assert_eq!(rt;
-        shape(&rt, &store, Some(NodeId(4))),
-        (NodeView::Lit { a: 35 }, 4, 0)
+    assert_same(&rt, &shape(&rt, &store, both), &(view, 35, 1));
+    assert_same(
+        &rt,
+        &shape(&rt, &store, Some(NodeId(4))),
+        &(NodeView::Lit { a: 35 }, 4, 0),
     );
     Ok(())
 }
@@ -184,10 +211,14 @@ fn parts_of_a_literal(rt: HostRuntime) {
     let mut store: Store<Coded> = Store::new(rt.alloc());
     let x = literal(&rt, &mut store, b"abcde");
     let part = substr(&rt, &mut store, x, 1, 3);
-    assert_eq!(rt; shape(&rt, &store, part), (NodeView::Lit { a: 1 }, 3, 0));
-    assert_eq!(rt; substr(&rt, &mut store, x, 5, 1), None);
-    assert_eq!(rt; substr(&rt, &mut store, x, 2, 0), None);
-    assert_eq!(rt; substr(&rt, &mut store, x, 0, 9), x);
+    assert_same(
+        &rt,
+        &shape(&rt, &store, part),
+        &(NodeView::Lit { a: 1 }, 3, 0),
+    );
+    assert_same(&rt, &substr(&rt, &mut store, x, 5, 1), &None);
+    assert_same(&rt, &substr(&rt, &mut store, x, 2, 0), &None);
+    assert_same(&rt, &substr(&rt, &mut store, x, 0, 9), &x);
 }
 
 #[test]
@@ -200,7 +231,7 @@ fn parts_of_a_part(rt: HostRuntime) -> Result<(), Fail> {
         b: NodeId(0),
         i: 30,
     };
-    assert_eq!(rt; shape(&rt, &store, inner), (view, 30, 1));
+    assert_same(&rt, &shape(&rt, &store, inner), &(view, 30, 1));
     Ok(())
 }
 
@@ -214,9 +245,13 @@ fn chains_end_at_their_depth(rt: HostRuntime) -> Result<(), Fail> {
         chain = cat(&rt, &mut store, chain, byte)?;
     }
     let (_, len, depth) = shape(&rt, &store, chain);
-    assert_eq!(rt; (len, depth), (65, 64));
+    assert_same(&rt, &(len, depth), &(65, 64));
     let byte = part_of_source(&mut store, s, 65, 1)?;
-    assert_eq!(rt; cat(&rt, &mut store, chain, byte), Err(NodeFault::TooDeep));
+    assert_same(
+        &rt,
+        &cat(&rt, &mut store, chain, byte),
+        &Err(NodeFault::TooDeep),
+    );
     Ok(())
 }
 
@@ -225,10 +260,14 @@ fn literals_grow_in_place(rt: HostRuntime) {
     let mut store: Store<Coded> = Store::new(rt.alloc());
     let a = append(&rt, &mut store, None, b"a");
     let ab = append(&rt, &mut store, a, b"b");
-    assert_eq!(rt; shape(&rt, &store, a), (NodeView::Lit { a: 0 }, 1, 0));
-    assert_eq!(rt; shape(&rt, &store, ab), (NodeView::Lit { a: 0 }, 2, 0));
-    assert_eq!(rt; store.pool_len(), 2);
-    assert_eq!(rt; append(&rt, &mut store, ab, b""), ab);
+    assert_same(&rt, &shape(&rt, &store, a), &(NodeView::Lit { a: 0 }, 1, 0));
+    assert_same(
+        &rt,
+        &shape(&rt, &store, ab),
+        &(NodeView::Lit { a: 0 }, 2, 0),
+    );
+    assert_same(&rt, &store.pool_len(), &2);
+    assert_same(&rt, &append(&rt, &mut store, ab, b""), &ab);
 }
 
 #[test]
@@ -237,9 +276,17 @@ fn older_literals_are_copied(rt: HostRuntime) {
     let ab = literal(&rt, &mut store, b"ab");
     let other = literal(&rt, &mut store, b"x");
     let abc = append(&rt, &mut store, ab, b"c");
-    assert_eq!(rt; shape(&rt, &store, abc), (NodeView::Lit { a: 4 }, 3, 0));
-    assert_eq!(rt; shape(&rt, &store, other), (NodeView::Lit { a: 2 }, 1, 0));
-    assert_eq!(rt; (store.count(), store.pool_len()), (4, 7));
+    assert_same(
+        &rt,
+        &shape(&rt, &store, abc),
+        &(NodeView::Lit { a: 4 }, 3, 0),
+    );
+    assert_same(
+        &rt,
+        &shape(&rt, &store, other),
+        &(NodeView::Lit { a: 2 }, 1, 0),
+    );
+    assert_same(&rt, &(store.count(), store.pool_len()), &(4, 7));
 }
 
 #[test]
@@ -253,7 +300,11 @@ fn plain_concatenation_makes_one_node(rt: HostRuntime) -> Result<(), Fail> {
     };
     assert!(rt; store.has(Some(l)) && store.has(Some(r)));
     let both = store.cat_plain(l, r)?;
-    assert_eq!(rt; shape(&rt, &store, both), (NodeView::Cat { l, r }, 4, 1));
-    assert_eq!(rt; (store.count(), store.pool_len()), (3, 4));
+    assert_same(
+        &rt,
+        &shape(&rt, &store, both),
+        &(NodeView::Cat { l, r }, 4, 1),
+    );
+    assert_same(&rt, &(store.count(), store.pool_len()), &(3, 4));
     Ok(())
 }

@@ -1,5 +1,6 @@
 //! Comparison, search and a write of texts over several leaves.
 
+use super::{assert_same, assert_same_at};
 use cord_search::{FindFault, PutFault, chr, cmp, find, ncmp, put, rchr};
 use function_leaf::Coded;
 use lazy_file::MemSources;
@@ -18,7 +19,7 @@ fn source_leaf<'a>(
     text: &'a [u8],
 ) -> Rope {
     let s = u32::from(store.add_source(text.len() as u64).expect(rt, "a source"));
-    assert_eq!(rt; sources.add(text).map(u32::from), Ok(s));
+    assert_same(rt, &sources.add(text).map(u32::from), &Ok(s));
     store
         .from_source(s, 0, text.len() as u64)
         .expect(rt, "a leaf")
@@ -57,7 +58,7 @@ fn patterns_stand_across_leaves(rt: HostRuntime) {
         (u64::MAX, b"a", None),
     ] {
         let answer = find(rt.alloc(), &store, &mut sources, text, start, pattern);
-        assert_eq!(rt; answer, Ok(found), "{start}");
+        assert_same_at(&rt, &answer, &Ok(found), &start);
     }
 }
 
@@ -67,9 +68,9 @@ fn patterns_have_a_limit(rt: HostRuntime) {
     let mut sources = MemSources::new(rt.alloc());
     let pattern = [b'a'; 4097];
     let answer = find(rt.alloc(), &store, &mut sources, None, 0, &pattern);
-    assert_eq!(rt; answer, Err(FindFault::PatternTooLong));
+    assert_same(&rt, &answer, &Err(FindFault::PatternTooLong));
     let shorter = find(rt.alloc(), &store, &mut sources, None, 0, &pattern[1..]);
-    assert_eq!(rt; shorter, Ok(None));
+    assert_same(&rt, &shorter, &Ok(None));
 }
 
 /// The order of parts of two texts, or of the whole texts where no part is given.
@@ -100,7 +101,7 @@ fn parts_are_compared(rt: HostRuntime) {
         ((9, u64::MAX, u64::MAX), Ordering::Equal),
     ] {
         let order = order_of(&rt, [b"abc", b"xbd"], Some(part));
-        assert_eq!(rt; order, want, "{part:?}");
+        assert_same_at(&rt, &order, &want, &part);
     }
 }
 
@@ -113,7 +114,7 @@ fn texts_are_compared(rt: HostRuntime) {
         (b"", b"", Ordering::Equal),
     ] {
         let order = order_of(&rt, [x, y], None);
-        assert_eq!(rt; order, want, "{x:?}");
+        assert_same_at(&rt, &order, &want, &x);
     }
 }
 
@@ -130,20 +131,23 @@ fn bytes_have_a_first_and_a_last_place(rt: HostRuntime) {
         (9, None, Some(2)),
         (u64::MAX, None, Some(2)),
     ] {
-        assert_eq!(rt;
-            chr(rt.alloc(), &store, &mut sources, text, i, b'a'),
-            Ok(first),
-            "{i}"
+        assert_same_at(
+            &rt,
+            &chr(rt.alloc(), &store, &mut sources, text, i, b'a'),
+            &Ok(first),
+            &i,
         );
-        assert_eq!(rt;
-            rchr(rt.alloc(), &store, &mut sources, text, i, b'a'),
-            Ok(last),
-            "{i}"
+        assert_same_at(
+            &rt,
+            &rchr(rt.alloc(), &store, &mut sources, text, i, b'a'),
+            &Ok(last),
+            &i,
         );
     }
-    assert_eq!(rt;
-        rchr(rt.alloc(), &store, &mut sources, text, 9, b'c'),
-        Ok(None)
+    assert_same(
+        &rt,
+        &rchr(rt.alloc(), &store, &mut sources, text, 9, b'c'),
+        &Ok(None),
     );
 }
 
@@ -193,11 +197,12 @@ fn text_is_written(rt: HostRuntime) {
     let text = three_leaves(&rt, &mut store, &mut sources);
     assert!(rt; store.has(text));
     let mut sink = Sink::with_room(8);
-    assert_eq!(rt;
-        put(rt.alloc(), &store, &mut sources, text, &mut sink),
-        Ok(())
+    assert_same(
+        &rt,
+        &put(rt.alloc(), &store, &mut sources, text, &mut sink),
+        &Ok(()),
     );
-    assert_eq!(rt; sink.taken(), b"abcde".as_slice());
+    assert_same(&rt, &sink.taken(), &b"abcde".as_slice());
 }
 
 #[test]
@@ -208,8 +213,8 @@ fn prefix_is_written_where_no_more_is_taken(rt: HostRuntime) {
     assert!(rt; store.has(text));
     let mut full = Sink::with_room(3);
     let outcome = put(rt.alloc(), &store, &mut sources, text, &mut full);
-    assert_eq!(rt; outcome, Err(PutFault::Write));
-    assert_eq!(rt; full.taken(), b"abc".as_slice());
+    assert_same(&rt, &outcome, &Err(PutFault::Write));
+    assert_same(&rt, &full.taken(), &b"abc".as_slice());
 }
 
 #[test]
@@ -219,9 +224,10 @@ fn text_is_written_to_memory(rt: HostRuntime) {
     let text = three_leaves(&rt, &mut store, &mut sources);
     assert!(rt; store.has(text));
     let mut bytes: Vec<u8> = Vec::new(rt.alloc());
-    assert_eq!(rt;
-        put(rt.alloc(), &store, &mut sources, text, &mut bytes),
-        Ok(())
+    assert_same(
+        &rt,
+        &put(rt.alloc(), &store, &mut sources, text, &mut bytes),
+        &Ok(()),
     );
-    assert_eq!(rt; bytes.as_slice(), b"abcde".as_slice());
+    assert_same(&rt, &bytes.as_slice(), &b"abcde".as_slice());
 }

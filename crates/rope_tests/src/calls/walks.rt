@@ -1,5 +1,6 @@
 //! Positions that walk through many leaves, beside a plain list of their bytes.
 
+use super::{assert_same, assert_same_at};
 use cord_position::Pos;
 use function_leaf::Coded;
 use lazy_file::MemSources;
@@ -39,7 +40,7 @@ fn four_leaves(
     sources: &mut MemSources<'static>,
 ) -> Sample {
     let source = u32::from(store.add_source(4).expect(rt, "a source"));
-    assert_eq!(rt; sources.add(b"xdey").map(u32::from), Ok(source));
+    assert_same(rt, &sources.add(b"xdey").map(u32::from), &Ok(source));
     let abc = store.from_bytes(b"abc").expect(rt, "a literal");
     let de = store.from_source(source, 1, 2).expect(rt, "a leaf");
     let fgh = store.from_fn(Coded::ramp(b'f'), 3).expect(rt, "a function");
@@ -86,11 +87,11 @@ fn walk(
     assert!(rt; store.has(sample.rope));
     let mut pos = Pos::set(rt.alloc(), store, sample.rope, 0);
     for (i, byte) in sample.bytes.iter().enumerate() {
-        assert_eq!(rt; pos.index(), i as u64);
-        assert_eq!(rt; pos.fetch(sources), Ok(Some(*byte)), "{i}");
+        assert_same(rt, &pos.index(), &(i as u64));
+        assert_same_at(rt, &pos.fetch(sources), &Ok(Some(*byte)), &i);
         assert!(rt; pos.next());
     }
-    assert_eq!(rt; pos.fetch(sources), Ok(None));
+    assert_same(rt, &pos.fetch(sources), &Ok(None));
     assert!(rt; !pos.next());
     for byte in sample.bytes.iter().rev() {
         assert!(rt; pos.prev());
@@ -115,11 +116,11 @@ fn count_runs(
         let rest = sample.bytes.get(pos.index() as usize..).unwrap_or(&[]);
         let mut buffer = [0; 8];
         let filled = pos.fill(sources, &mut buffer).unwrap_or(0);
-        assert_eq!(rt; filled as u64, pos.run_left());
-        assert_eq!(rt; buffer.get(..filled), rest.get(..filled));
+        assert_same(rt, &(filled as u64), &pos.run_left());
+        assert_same(rt, &buffer.get(..filled), &rest.get(..filled));
         let literal = pos.run_bytes();
         if !literal.is_empty() {
-            assert_eq!(rt; Some(literal), buffer.get(..filled));
+            assert_same(rt, &Some(literal), &buffer.get(..filled));
         }
         pos.skip(filled as u64);
     }
@@ -173,7 +174,7 @@ fn parts_of_parts_down_to_the_greatest_depth(rt: HostRuntime) {
             sample = joined_and_cut(&rt, &mut store, &leaves, &sample);
         }
     }
-    assert_eq!(rt; depth(&rt, &store, sample.rope), 64);
+    assert_same(&rt, &depth(&rt, &store, sample.rope), &64);
     walk(&rt, &store, &mut sources, &sample);
     jump(&rt, &store, &mut sources, &sample);
     count_runs(&rt, &store, &mut sources, &sample);
