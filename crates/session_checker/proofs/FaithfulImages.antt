@@ -23,7 +23,7 @@ use Rattle.image_reader.specs.declared.revision.Revision.{Revision}
 use Rattle.image_reader.specs.Value.{ImageValue, IsImage, image_table, function_at, coded_at}
 use Rattle.image_reader.specs.Accepted.{AreGoodNodes, no_revision, revision_at, roots_before, parts_at, rows_at, KeepsRules}
 use Rattle.session_checker.specs.RevisionRules.{HasStatedRows, HasRowsOverNoSource, AreGoodOver}
-use Rattle.session_checker.specs.Faithful.{source_text, givens, commands, texts_cells, texts, HasTrueRecordsOf, EachRevision, IsFaithful}
+use Rattle.session_checker.specs.Faithful.{source_text, givens, commands, texts_cells, texts, HasTrueRecordsOf, EachRevision, GivesText, IsFaithful}
 use Rattle.session_checker.proofs.SoundTables.{sound_table, true_table}
 use Rattle.session_checker.proofs.EarlierRevisions.{earlier_ropes}
 use Rattle.span_certificate.proofs.PartsInRange.{parts_in_range}
@@ -99,45 +99,41 @@ joined : (v : ImageValue) → IsSound (image_table v) → HasTrueRecords (image_
     → result_of (givens_of (image_table v)) (map (rope_cells (image_table v)) (roots_before v k)) (revision_at v k).edit ≡ Some (parts_cells (image_table v) (parts_at v k))
 joined v s h k is rules = parts_joined (image_table v) s h (roots_before v k) (revision_at v k).edit is.ropes rules.command
 
-history : (v : ImageValue) (st : Stated) → IsSound (image_table v) → HasTrueRecords (image_table v) → AreGoodOver v st → (source : ℕ → ℕ → ℕ) → Agrees st source → EachRevision v (HasStatedRows v st)
-    → IsHistory (givens v source) (commands v) (texts v source)
-history v st s h good source agrees stated = record {
-  whole = length-map v.revisions (λ (r : Revision). text source (rope_cells (image_table v) r.root)) ∙ sym (length-map v.revisions (λ (r : Revision). r.edit));
-  each = λ k e at.
-      let c = command_is v k e at in
-      let g = good k c.0 in
-      let is = ready_of v st good k c.0 in
-      let before = map (rope_cells (image_table v)) (roots_before v k) in
-      let same = covered_text (image_table v) s h (coded_at v) (answered v) source (parts_at v k) (revision_at v k).root (rows_at v k) is.parts g.rules.root.0 (g.rows source agrees (stated k c.0)) in
-      let result : result_of (givens v source) (take k (texts v source)) (revision_at v k).edit ≡ Some (text source (rope_cells (image_table v) (revision_at v k).root)) =
-      ap (λ (x : Givens ℕ). result_of x (take k (texts v source)) (revision_at v k).edit) (givens_mapped v source)
-      ∙ ap (λ (xs : List (List ℕ)). result_of (mapped_givens (cell_byte source) (givens_of (image_table v))) xs (revision_at v k).edit) (texts_before v source k)
-      ∙ result_mapped (cell_byte source) (givens_of (image_table v)) before (revision_at v k).edit
-      ∙ ap (option_map (text source)) (joined v s h k is g.rules)
-      ∙ ap Some same in
-      at_revision v (λ (r : Revision). text source (rope_cells (image_table v) r.root)) k c.0
-      ∙ sym result
-      ∙ ap (result_of (givens v source) (take k (texts v source))) c.1;
-}
+-- a revision's command gives its text, where what its rows of bytes are over is stated, and its cells, where that is no source
+text_given : (v : ImageValue) (st : Stated) → IsSound (image_table v) → HasTrueRecords (image_table v) → AreGoodOver v st → (source : ℕ → ℕ → ℕ) → Agrees st source
+    → EachRevision v (λ k. HasStatedRows v st k → GivesText (givens v source) (commands v) (texts v source) k)
+text_given v st s h good source agrees k lt stated e at =
+    let c = command_is v k e at in
+    let g = good k lt in
+    let is = ready_of v st good k lt in
+    let before = map (rope_cells (image_table v)) (roots_before v k) in
+    let same = covered_text (image_table v) s h (coded_at v) (answered v) source (parts_at v k) (revision_at v k).root (rows_at v k) is.parts g.rules.root.0 (g.rows source agrees stated) in
+    let result : result_of (givens v source) (take k (texts v source)) (revision_at v k).edit ≡ Some (text source (rope_cells (image_table v) (revision_at v k).root)) =
+    ap (λ (x : Givens ℕ). result_of x (take k (texts v source)) (revision_at v k).edit) (givens_mapped v source)
+    ∙ ap (λ (xs : List (List ℕ)). result_of (mapped_givens (cell_byte source) (givens_of (image_table v))) xs (revision_at v k).edit) (texts_before v source k)
+    ∙ result_mapped (cell_byte source) (givens_of (image_table v)) before (revision_at v k).edit
+    ∙ ap (option_map (text source)) (joined v s h k is g.rules)
+    ∙ ap Some same in
+    at_revision v (λ (r : Revision). text source (rope_cells (image_table v) r.root)) k lt
+    ∙ sym result
+    ∙ ap (result_of (givens v source) (take k (texts v source))) c.1
 
-history_of_cells : (v : ImageValue) (st : Stated) → IsSound (image_table v) → HasTrueRecords (image_table v) → AreGoodOver v st → EachRevision v (HasRowsOverNoSource v) → IsHistory (givens_of (image_table v)) (commands v) (texts_cells v)
-history_of_cells v st s h good none = record {
-  whole = length-map v.revisions (λ (r : Revision). rope_cells (image_table v) r.root) ∙ sym (length-map v.revisions (λ (r : Revision). r.edit));
-  each = λ k e at.
-      let c = command_is v k e at in
-      let g = good k c.0 in
-      let is = ready_of v st good k c.0 in
-      let some = agreeing st in
-      let covers = g.rows some.0 some.1 (no_source_stated (image_table v) st (parts_at v k) (revision_at v k).root (rows_at v k) (none k c.0)) in
-      let same = covered_cells (image_table v) s h (coded_at v) (answered v) some.0 (parts_at v k) (revision_at v k).root (rows_at v k) is.parts g.rules.root.0 covers (none k c.0) in
-      let result : result_of (givens_of (image_table v)) (take k (texts_cells v)) (revision_at v k).edit ≡ Some (rope_cells (image_table v) (revision_at v k).root) =
-      ap (λ (xs : List (List Cell)). result_of (givens_of (image_table v)) xs (revision_at v k).edit) (cells_before v k)
-      ∙ joined v s h k is g.rules
-      ∙ ap Some same in
-      at_revision v (λ (r : Revision). rope_cells (image_table v) r.root) k c.0
-      ∙ sym result
-      ∙ ap (result_of (givens_of (image_table v)) (take k (texts_cells v))) c.1;
-}
+cells_given : (v : ImageValue) (st : Stated) → IsSound (image_table v) → HasTrueRecords (image_table v) → AreGoodOver v st
+    → EachRevision v (λ k. HasRowsOverNoSource v k → GivesText (givens_of (image_table v)) (commands v) (texts_cells v) k)
+cells_given v st s h good k lt none e at =
+    let c = command_is v k e at in
+    let g = good k lt in
+    let is = ready_of v st good k lt in
+    let some = agreeing st in
+    let covers = g.rows some.0 some.1 (no_source_stated (image_table v) st (parts_at v k) (revision_at v k).root (rows_at v k) none) in
+    let same = covered_cells (image_table v) s h (coded_at v) (answered v) some.0 (parts_at v k) (revision_at v k).root (rows_at v k) is.parts g.rules.root.0 covers none in
+    let result : result_of (givens_of (image_table v)) (take k (texts_cells v)) (revision_at v k).edit ≡ Some (rope_cells (image_table v) (revision_at v k).root) =
+    ap (λ (xs : List (List Cell)). result_of (givens_of (image_table v)) xs (revision_at v k).edit) (cells_before v k)
+    ∙ joined v s h k is g.rules
+    ∙ ap Some same in
+    at_revision v (λ (r : Revision). rope_cells (image_table v) r.root) k lt
+    ∙ sym result
+    ∙ ap (result_of (givens_of (image_table v)) (take k (texts_cells v))) c.1
 
 -- ---- an image whose nodes and revisions keep their rules
 
@@ -159,6 +155,20 @@ faithful v st is nodes revisions =
     let table = true_records_of v st is nodes revisions in
     record {
       true_records = table;
-      history = λ source agrees stated. history v st table.sound table.true_records revisions source agrees stated;
-      cells = history_of_cells v st table.sound table.true_records revisions;
+      each_text = text_given v st table.sound table.true_records revisions;
+      each_cells = cells_given v st table.sound table.true_records revisions;
     }
+
+-- So all texts are the history of the commands, where what rows of bytes are over is stated, and all cells are, where that is no source.
+pub texts_history : (v : ImageValue) (st : Stated) → IsFaithful v st → (source : ℕ → ℕ → ℕ) → Agrees st source → EachRevision v (HasStatedRows v st)
+    → IsHistory (givens v source) (commands v) (texts v source)
+texts_history v st is source agrees stated = record {
+  whole = length-map v.revisions (λ (r : Revision). text source (rope_cells (image_table v) r.root)) ∙ sym (length-map v.revisions (λ (r : Revision). r.edit));
+  each = λ k e at. let c = command_is v k e at in is.each_text source agrees k c.0 (stated k c.0) e at;
+}
+
+pub cells_history : (v : ImageValue) (st : Stated) → IsFaithful v st → EachRevision v (HasRowsOverNoSource v) → IsHistory (givens_of (image_table v)) (commands v) (texts_cells v)
+cells_history v st is none = record {
+  whole = length-map v.revisions (λ (r : Revision). rope_cells (image_table v) r.root) ∙ sym (length-map v.revisions (λ (r : Revision). r.edit));
+  each = λ k e at. let c = command_is v k e at in is.each_cells k c.0 (none k c.0) e at;
+}

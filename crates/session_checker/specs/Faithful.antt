@@ -1,12 +1,12 @@
 -- What an accepted image is: each revision's root denotes the text that the commands give, and each record is true.
-use Rattle.std.specs.Prelude.{◌≡◌, ℕ, ◌<◌, Bool, List, [], length, map, get_or, slice_get, Option}
+use Rattle.std.specs.Prelude.{◌≡◌, ℕ, ◌<◌, Bool, List, [], length, map, take, get_or, slice_get, Option, Some}
 use Rattle.std.specs.List.{range_with_len}
 use Rattle.rope_node.specs.declared.node.NodeId.{NodeId}
 use Rattle.rope_node.specs.Table.{len_at, IsSound, HasTrueRecords}
 use Rattle.rope_node.specs.Denotes.{Cell, cells, rope_cells, IsRope, text}
 use Rattle.rope_node.specs.Path.{rope_visits}
 use Rattle.span_certificate.specs.declared.edit.Edit.{Edit}
-use Rattle.span_certificate.specs.Commands.{Givens, IsHistory}
+use Rattle.span_certificate.specs.Commands.{Givens, result_of}
 use Rattle.span_certificate.specs.Parts.{givens_of}
 use Rattle.lazy_file.specs.SourceTexts.{Agrees, Stated}
 use Rattle.cord_position.specs.Fetched.{IsStated, rope_cell}
@@ -80,11 +80,17 @@ pub record HasTrueRecordsOf (v : ImageValue) : Type 0 where
 abbrev pub EachRevision : ImageValue → (ℕ → Type 0) → Type 0
 EachRevision v P = (k : ℕ) → k < length v.revisions → P k
 
+-- command k gives text k, of the texts before it
+abbrev pub GivesText : {C : Type 0} → Givens C → List Edit → List (List C) → ℕ → Type 0
+GivesText g commands texts k =
+    (e : Edit) → slice_get commands k ≡ Some e → slice_get texts k ≡ result_of g (take k texts) e
+
 pub record IsFaithful (v : ImageValue) (st : Stated) : Type 0 where
   pub true_records : HasTrueRecordsOf v
-  -- Each revision's text is what its command gives of the texts before it, over any bytes that agree with what the sources state,
-  -- where they state what rows of bytes are over.
-  pub history : (source : ℕ → ℕ → ℕ) → Agrees st source → EachRevision v (HasStatedRows v st)
-      → IsHistory (givens v source) (commands v) (texts v source)
-  -- the same cell for cell, and so whatever bytes the sources hold, where no row of bytes is over a source
-  pub cells : EachRevision v (HasRowsOverNoSource v) → IsHistory (givens_of (image_table v)) (commands v) (texts_cells v)
+  -- Each revision's text is what its command gives of the texts before it, over any bytes that agree with what the
+  -- sources state, where they state what this revision's rows of bytes are over.
+  pub each_text : (source : ℕ → ℕ → ℕ) → Agrees st source
+      → EachRevision v (λ k. HasStatedRows v st k → GivesText (givens v source) (commands v) (texts v source) k)
+  -- the same cell for cell, and so whatever bytes the sources hold, where none of its rows of bytes is over a source
+  pub each_cells : EachRevision v (λ k. HasRowsOverNoSource v k
+      → GivesText (givens_of (image_table v)) (commands v) (texts_cells v) k)
