@@ -1,4 +1,4 @@
--- Over texts in memory an answer is exact: nothing that keeps the rules is refused, and there is one first fault.
+-- What keeps the rules is not refused: over texts in memory, where there is one first fault and so one answer, and where no read is needed.
 use Rattle.std.proofs.Common.{◌≡◌, ℕ, ◌+◌, ◌<◌, leb, ltb, List, length, get_or, Some, None, refl, sym, ap, subst, ◌∙◌, arith, inl, inr}
 use Rattle.std.specs.Prelude.{slice_index, ◌⊎◌, Result, Ok, Err, IsOk, IfErr}
 use Rattle.std.proofs.lemmas.Bool.{and_parts, ltb-true, cases_order}
@@ -9,12 +9,12 @@ use Rattle.lazy_file.proofs.MemoryTexts.{stated_text}
 use Rattle.std.proofs.lemmas.List.{length-map}
 use Rattle.cord_position.specs.Fetched.{IsReadable, IsStated}
 use Rattle.span_certificate.specs.Covers.{IsFirstBad}
-use Rattle.span_certificate.proofs.MadeRows.{own_rows_readable}
+use Rattle.span_certificate.proofs.MadeRows.{no_source_readable, no_source_stated, own_rows_readable}
 use Rattle.image_reader.specs.declared.fault.ReadFault.{ReadFault}
 use Rattle.image_reader.specs.Value.{ImageValue, IsImage, image_table, coded_at}
 use Rattle.image_reader.specs.Spelling.{spelling}
 use Rattle.image_reader.specs.Reading.{fault_of, image_of}
-use Rattle.image_reader.specs.Accepted.{HasSources, IsGoodNode, revision_at, parts_at, rows_at, HasGoodMark, KeepsRules, HasGoodRows}
+use Rattle.image_reader.specs.Accepted.{HasSources, IsAlwaysAccepted, IsGoodNode, revision_at, parts_at, rows_at, HasGoodMark, KeepsRules, HasGoodRows}
 use Rattle.image_reader.proofs.WholeImages.{whole_again}
 use Rattle.session_checker.specs.declared.fault.CheckFault.{CheckFault}
 use Rattle.session_checker.specs.declared.fault.CheckFault.TheVariants as faults
@@ -22,8 +22,9 @@ use Rattle.session_checker.specs.declared.node_rules.NodeRule.{NodeRule}
 use Rattle.session_checker.specs.declared.node_rules.NodeRule.TheVariants.{Reference, Length, Depth, Span}
 use Rattle.session_checker.specs.SourceRules.{IsFirstSourceFault, count, other_length}
 use Rattle.session_checker.specs.NodeRules.{Breaks, BreaksFirst, fault_at, IsFirstNodeFault}
-use Rattle.session_checker.specs.RevisionRules.{HasStatedRows, HasReadableRows, IsGoodOver, AreGoodOver, IsCommandInRange, HasRootOfParts, IsFirstBadRow, BreaksRule, BreaksRows, IsFirstRevisionFault}
-use Rattle.session_checker.specs.Accepted.{StatesAll, HasGoodTables, IsFirstTableFault, IsAccepted, IsFirstFault, IsExact}
+use Rattle.session_checker.specs.RevisionRules.{HasStatedRows, HasStatedBefore, HasReadableRows, HasRowsOverNoSource, IsGoodOver, AreGoodOver, IsCommandInRange, HasRootOfParts, IsFirstBadRow, BreaksRule, BreaksRows, IsFirstRevisionFault}
+use Rattle.session_checker.specs.Accepted.{StatesAll, HasGoodTables, IsFirstTableFault, IsAccepted, IsFirstFault, IsExact, NeedsNoRead}
+use Rattle.session_checker.specs.Faithful.{EachRevision}
 use Rattle.session_checker.proofs.SoundTables.{sound_table}
 use Rattle.session_checker.proofs.FaithfulImages.{ready, agreeing}
 
@@ -104,6 +105,9 @@ stated_cell st all (Place s p) readable =
 stated_rows : (v : ImageValue) (st : Stated) → StatesAll st → (k : ℕ) → HasReadableRows v st k → HasStatedRows v st k
 stated_rows v st all k readable j lt i d inside = stated_cell st all _ (readable j lt i d inside)
 
+stated_before : (v : ImageValue) (st : Stated) (k n : ℕ) → HasStatedRows v st k → HasStatedBefore v st k n
+stated_before v st k n stated i below lt = stated i lt
+
 -- an image over texts in memory, whose tables are good
 pub record IsOver (v : ImageValue) (st : Stated) : Type 0 where
   pub image : IsImage v
@@ -154,25 +158,27 @@ broken_rule v st k (faults.Mark x) h = mark (ap faults.Mark h.0) h.1 h.2 h.3
 broken_rule v st k (faults.Rows x j) h = absurd h
 broken_rule v st k (faults.Source e) h = absurd h
 
-broken_rows : {T : Type 0} (stated : T → Stated) (failures : T → ℕ) (old new : T) (v : ImageValue) (k : ℕ) (f : CheckFault) → StatesAll (stated old) → HasReadableRows v (stated old) k → KeepsRules v k → BreaksRows stated failures old new v k f → Broken v (stated old) k f
-broken_rows stated failures old new v k (faults.Read e) all readable rules h = absurd h
-broken_rows stated failures old new v k faults.SourceCount all readable rules h = absurd h
-broken_rows stated failures old new v k (faults.SourceLength s) all readable rules h = absurd h
-broken_rows stated failures old new v k (faults.Reference id) all readable rules h = absurd h
-broken_rows stated failures old new v k (faults.Length id) all readable rules h = absurd h
-broken_rows stated failures old new v k (faults.Depth id) all readable rules h = absurd h
-broken_rows stated failures old new v k (faults.Span id) all readable rules h = absurd h
-broken_rows stated failures old new v k (faults.Command x) all readable rules h = absurd h
-broken_rows stated failures old new v k (faults.Root x) all readable rules h = absurd h
-broken_rows stated failures old new v k (faults.Mark x) all readable rules h = absurd h
-broken_rows stated failures old new v k (faults.Rows x j) all readable rules h = row j (ap (λ (r : ℕ). faults.Rows r j) h.0) rules h.1 (stated_rows v (stated old) all k readable)
-broken_rows stated failures old new v k (faults.Source e) all readable rules h = absurd (h.unreadable readable)
+broken_rows : {T : Type 0} (stated : T → Stated) (failures : T → ℕ) (old new : T) (v : ImageValue) (k : ℕ) (f : CheckFault) → HasStatedRows v (stated old) k → HasReadableRows v (stated old) k → KeepsRules v k → BreaksRows stated failures old new v k f → Broken v (stated old) k f
+broken_rows stated failures old new v k (faults.Read e) are readable rules h = absurd h
+broken_rows stated failures old new v k faults.SourceCount are readable rules h = absurd h
+broken_rows stated failures old new v k (faults.SourceLength s) are readable rules h = absurd h
+broken_rows stated failures old new v k (faults.Reference id) are readable rules h = absurd h
+broken_rows stated failures old new v k (faults.Length id) are readable rules h = absurd h
+broken_rows stated failures old new v k (faults.Depth id) are readable rules h = absurd h
+broken_rows stated failures old new v k (faults.Span id) are readable rules h = absurd h
+broken_rows stated failures old new v k (faults.Command x) are readable rules h = absurd h
+broken_rows stated failures old new v k (faults.Root x) are readable rules h = absurd h
+broken_rows stated failures old new v k (faults.Mark x) are readable rules h = absurd h
+broken_rows stated failures old new v k (faults.Rows x j) are readable rules h = row j (ap (λ (r : ℕ). faults.Rows r j) h.0) rules h.1 are
+broken_rows stated failures old new v k (faults.Source e) are readable rules h = absurd (h.unreadable readable)
 
 broken_at : {T : Type 0} (stated : T → Stated) (failures : T → ℕ) (old new : T) (v : ImageValue) (f : CheckFault) → IsOver v (stated old) → (first : IsFirstRevisionFault stated failures old new v f) → Broken v (stated old) first.k f
 broken_at stated failures old new v f is first =
     elim first.breaks [
       | inl rule ↦ broken_rule v (stated old) first.k f rule
-      | inr rows ↦ broken_rows stated failures old new v first.k f is.all (readable_rows v (stated old) is first.k first.earlier rows.0) rows.0 rows.1
+      | inr rows ↦
+          let readable = readable_rows v (stated old) is first.k first.earlier rows.0 in
+          broken_rows stated failures old new v first.k f (stated_rows v (stated old) is.all first.k readable) readable rows.0 rows.1
     ]
 
 not_good : (v : ImageValue) (st : Stated) (k : ℕ) (f : CheckFault) → Broken v st k f → IsGoodOver v st k → ⊥
@@ -181,7 +187,7 @@ not_good v st k f (root e in_range bad) g = bad g.rules.root
 not_good v st k f (mark e in_range is_root bad) g = bad g.rules.mark
 not_good v st k f (row j e rules bad stated) g =
     let some = agreeing st in
-    no_bad_row v some.0 k j (g.rows some.0 some.1 stated) (bad some.0 some.1 stated)
+    no_bad_row v some.0 k j (g.rows some.0 some.1 stated) (bad some.0 some.1 (stated_before v st k (j + 1) stated))
 
 one_broken : (v : ImageValue) (st : Stated) (k : ℕ) (f g : CheckFault) → Broken v st k f → Broken v st k g → f ≡ g
 one_broken v st k f g (command e bad) (command d also) = e ∙ sym d
@@ -201,7 +207,7 @@ one_broken v st k f g (row i e rules bad stated) (root d in_range also) = absurd
 one_broken v st k f g (row i e rules bad stated) (mark d in_range is_root also) = absurd (also rules.mark)
 one_broken v st k f g (row i e rules bad stated) (row j d too also again) =
     let some = agreeing st in
-    e ∙ ap (faults.Rows k) (one_bad_row v some.0 k i j (bad some.0 some.1 stated) (also some.0 some.1 stated)) ∙ sym d
+    e ∙ ap (faults.Rows k) (one_bad_row v some.0 k i j (bad some.0 some.1 (stated_before v st k (i + 1) stated)) (also some.0 some.1 (stated_before v st k (j + 1) stated))) ∙ sym d
 
 -- no revision of an image that keeps the rules has a fault
 pub no_revision_fault : {T : Type 0} (stated : T → Stated) (failures : T → ℕ) (old new : T) (v : ImageValue) (f : CheckFault) → IsOver v (stated old) → AreGoodOver v (stated old) → IsFirstRevisionFault stated failures old new v f → ⊥
@@ -224,6 +230,47 @@ no_read_fault : (bytes : List ℕ) (v : ImageValue) (e : ReadFault) → IsImage 
 no_read_fault bytes v e is spelled fault =
     let none : Some e ≡ None = sym fault ∙ ap fault_of spelled ∙ (whole_again v is).0 in
     absurd cc
+
+-- ---- images that need no read
+
+-- rows over no source are stated, and can be read
+broken_unread : {T : Type 0} (stated : T → Stated) (failures : T → ℕ) (old new : T) (v : ImageValue) (f : CheckFault) → EachRevision v (HasRowsOverNoSource v) → (first : IsFirstRevisionFault stated failures old new v f) → Broken v (stated old) first.k f
+broken_unread stated failures old new v f none first =
+    let st = stated old in
+    let rows = rows_at v first.k in
+    let root = (revision_at v first.k).root in
+    let here = none first.k first.there in
+    elim first.breaks [
+      | inl rule ↦ broken_rule v st first.k f rule
+      | inr broken ↦
+          broken_rows stated failures old new v first.k f (no_source_stated (image_table v) st (parts_at v first.k) root rows here)
+          (no_source_readable (image_table v) st (parts_at v first.k) root rows here) broken.0 broken.1
+    ]
+
+-- what keeps the rules whatever the sources hold keeps them over what they state
+always_good : (v : ImageValue) (sizes : List ℕ) (st : Stated) → IsAlwaysAccepted v sizes → AreGoodOver v st
+always_good v sizes st always k lt = record {
+  rules = ((always (λ s p. 0)).revisions k lt).rules;
+  rows = λ source agrees stated. ((always source).revisions k lt).rows;
+}
+
+-- such an image has no fault over any sources of its lengths
+pub no_fault_unread : {T : Type 0} (stated : T → Stated) (failures : T → ℕ) (old new : T) (bytes : List ℕ) (f : CheckFault) → NeedsNoRead bytes (stated old).sizes → IsFirstFault stated failures old new bytes f → ⊥
+no_fault_unread stated failures old new bytes f a (inl read) = no_read_fault bytes a.v read.0 a.image a.spelled read.1
+no_fault_unread stated failures old new bytes f a (inr refused) =
+    let same = same_image a.v refused.v a.image refused.image (sym a.spelled ∙ refused.spelled) in
+    let st = stated old in
+    let always = subst (λ (w : ImageValue). IsAlwaysAccepted w st.sizes) same a.accepted in
+    let none = subst (λ (w : ImageValue). EachRevision w (HasRowsOverNoSource w)) same a.no_source in
+    let some = always (λ s p. 0) in
+    elim refused.fault [
+      | inl table ↦ no_table_fault refused.v st.sizes f (some.sources, some.nodes) table
+      | inr revision ↦
+          let first = revision.1 in
+          not_good refused.v st first.k f (broken_unread stated failures old new refused.v f none first) (always_good refused.v st.sizes st always first.k first.there)
+    ]
+
+-- ---- answers over texts in memory
 
 -- what is accepted has no fault
 no_fault : {T : Type 0} (stated : T → Stated) (failures : T → ℕ) (old new : T) (bytes : List ℕ) (f : CheckFault) → StatesAll (stated old) → IsAccepted bytes (stated old) → IsFirstFault stated failures old new bytes f → ⊥

@@ -1,12 +1,11 @@
 -- Faults of revisions, told from an earlier state of the sources on.
-use Rattle.std.proofs.Common.{◌≡◌, ℕ, ◌<◌, false, List, length, take, drop, sym, subst, inl, inr, arith}
-use Rattle.std.specs.Prelude.{◌↔◌, Err, IsErrOf, IfSome, slice_index}
+use Rattle.std.proofs.Common.{◌≡◌, ℕ, List, take, drop, sym, subst, inl, inr}
+use Rattle.std.specs.Prelude.{Err}
 use Rattle.rope_node.specs.Denotes.{Cell}
-use Rattle.lazy_file.specs.SourceTexts.{Reads, Stated, holds_span, text_at}
+use Rattle.lazy_file.specs.SourceTexts.{Reads, Stated}
 use Rattle.lazy_file.specs.declared.faults.SourceFault.{SourceFault}
-use Rattle.lazy_file.specs.declared.faults.SourceFault.TheVariants.{BadSource}
 use Rattle.cord_position.proofs.Spans.{later_fault}
-use Rattle.cord_position.specs.Fetched.{IsPlaceFault, IsFaultIn}
+use Rattle.cord_position.specs.Fetched.{IsFaultIn}
 use Rattle.span_certificate.specs.declared.part.Part.{Part}
 use Rattle.span_certificate.specs.declared.cover.Verdict.{Verdict}
 use Rattle.span_certificate.specs.Verdicts.{TellsRows, ReadsRows}

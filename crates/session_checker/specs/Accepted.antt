@@ -5,12 +5,13 @@ use Rattle.image_reader.specs.Value.{ImageValue, IsImage, image_table}
 use Rattle.image_reader.specs.Spelling.{spelling}
 use Rattle.image_reader.specs.Reading.{fault_of}
 use Rattle.image_reader.specs.declared.fault.ReadFault.{ReadFault}
-use Rattle.image_reader.specs.Accepted.{HasSources, AreGoodNodes}
+use Rattle.image_reader.specs.Accepted.{HasSources, AreGoodNodes, IsAlwaysAccepted}
 use Rattle.session_checker.specs.declared.fault.CheckFault.{CheckFault}
 use Rattle.session_checker.specs.declared.fault.CheckFault.TheVariants.{Read}
 use Rattle.session_checker.specs.SourceRules.{IsFirstSourceFault}
 use Rattle.session_checker.specs.NodeRules.{IsFirstNodeFault}
-use Rattle.session_checker.specs.RevisionRules.{AreGoodOver, IsFirstRevisionFault}
+use Rattle.session_checker.specs.RevisionRules.{HasRowsOverNoSource, AreGoodOver, IsFirstRevisionFault}
+use Rattle.session_checker.specs.Faithful.{EachRevision}
 
 -- every source states its text, and no read of what is there fails, as over texts in memory
 pub record StatesAll (st : Stated) : Type 0 where
@@ -32,6 +33,15 @@ pub record IsAccepted (bytes : List ℕ) (st : Stated) : Type 0 where
   pub spelled : bytes ≡ spelling v
   pub tables : HasGoodTables v st.sizes
   pub revisions : AreGoodOver v st
+
+-- The bytes spell an image that keeps its rules with sources of these lengths, whatever bytes they hold, and none of
+-- its rows of bytes is over a source. So does each image that a session writes.
+pub record NeedsNoRead (bytes : List ℕ) (sizes : List ℕ) : Type 0 where
+  pub v : ImageValue
+  pub image : IsImage v
+  pub spelled : bytes ≡ spelling v
+  pub accepted : IsAlwaysAccepted v sizes
+  pub no_source : EachRevision v (HasRowsOverNoSource v)
 
 -- the bytes spell an image in which this fault is the first
 pub record IsRefused {T : Type 0} (stated : T → Stated) (failures : T → ℕ) (old new : T) (bytes : List ℕ) (f : CheckFault) : Type 0 where

@@ -1,10 +1,10 @@
 -- Which rule a revision breaks first, in the order of the rules, and when a source's fault keeps its rows from being compared.
-use Rattle.std.specs.Prelude.{◌≡◌, ◌⊎◌, ℕ, ◌<◌, length}
+use Rattle.std.specs.Prelude.{◌≡◌, ◌⊎◌, ℕ, ◌+◌, ◌<◌, length}
 use Rattle.lazy_file.specs.SourceTexts.{Agrees, Stated}
 use Rattle.lazy_file.specs.declared.faults.SourceFault.{SourceFault}
 use Rattle.span_certificate.specs.Parts.{parts_len, IsInRange}
 use Rattle.span_certificate.specs.Covers.{IsFirstBad, MeetsNoSource}
-use Rattle.span_certificate.specs.Verdicts.{AreStatedRows, AreReadableRows, IsVerdictFault}
+use Rattle.span_certificate.specs.Verdicts.{AreStatedRows, AreStatedBefore, AreReadableRows, IsVerdictFault}
 use Rattle.image_reader.specs.Value.{ImageValue, image_table, coded_at}
 use Rattle.image_reader.specs.Accepted.{revision_at, roots_before, parts_at, rows_at, HasGoodRoot, HasGoodMark, KeepsRules, HasGoodRows}
 use Rattle.session_checker.specs.declared.fault.CheckFault.{CheckFault}
@@ -23,6 +23,10 @@ HasReadableRows v st k = AreReadableRows (image_table v) st (parts_at v k) (revi
 -- or over bytes alone, and no source
 abbrev pub HasRowsOverNoSource : ImageValue → ℕ → Type 0
 HasRowsOverNoSource v k = MeetsNoSource (image_table v) (parts_at v k) (revision_at v k).root (rows_at v k)
+
+-- each of its first n rows, if it is one of bytes, is over stated cells
+abbrev pub HasStatedBefore : ImageValue → Stated → ℕ → ℕ → Type 0
+HasStatedBefore v st k n = AreStatedBefore (image_table v) st (parts_at v k) (revision_at v k).root (rows_at v k) n
 
 -- its rows cover over any bytes that agree with what the sources state
 abbrev pub CoversStated : ImageValue → Stated → ℕ → Type 0
@@ -51,10 +55,11 @@ BreaksRule v k (Root x) = (x ≡ k) × IsCommandInRange v k × ¬ HasRootOfParts
 BreaksRule v k (Mark x) = (x ≡ k) × IsCommandInRange v k × HasRootOfParts v k × ¬ HasGoodMark (image_table v) (revision_at v k)
 BreaksRule v k other = ⊥
 
--- j is the first row of revision k that does not fit, over any bytes that agree with what the sources state
+-- j is the first row of revision k that does not fit, over any bytes that agree with what the sources state, where
+-- they state what the rows of bytes up to it are over
 abbrev pub IsFirstBadRow : ImageValue → Stated → ℕ → ℕ → Type 0
 IsFirstBadRow v st k j =
-    (source : ℕ → ℕ → ℕ) → Agrees st source → HasStatedRows v st k
+    (source : ℕ → ℕ → ℕ) → Agrees st source → HasStatedBefore v st k (j + 1)
     → IsFirstBad (image_table v) (coded_at v) source (parts_at v k) (revision_at v k).root (rows_at v k) j
 
 -- a read for a row of bytes of revision k failed so, and the rows before it fit
