@@ -1,6 +1,6 @@
 -- What keeps the rules is not refused: over texts in memory, where there is one first fault and so one answer, and where no read is needed.
 use Rattle.std.proofs.Common.{◌≡◌, ℕ, ◌+◌, ◌<◌, leb, ltb, List, length, get_or, Some, None, refl, sym, ap, subst, ◌∙◌, arith, inl, inr}
-use Rattle.std.specs.Prelude.{slice_index, ◌⊎◌, Result, Ok, Err, IsOk, IfErr}
+use Rattle.std.specs.Prelude.{slice_index, ◌⊎◌, Result, Ok, Err, IsOk, IfOk, IfErr}
 use Rattle.std.proofs.lemmas.Bool.{and_parts, ltb-true, cases_order}
 use Rattle.rope_node.specs.Table.{Table, Node}
 use Rattle.rope_node.specs.Denotes.{Cell, Byte, Place}
@@ -23,7 +23,7 @@ use Rattle.session_checker.specs.declared.node_rules.NodeRule.TheVariants.{Refer
 use Rattle.session_checker.specs.SourceRules.{IsFirstSourceFault, count, other_length}
 use Rattle.session_checker.specs.NodeRules.{Breaks, BreaksFirst, fault_at, IsFirstNodeFault}
 use Rattle.session_checker.specs.RevisionRules.{HasStatedRows, HasStatedBefore, HasReadableRows, HasRowsOverNoSource, IsGoodOver, AreGoodOver, IsCommandInRange, HasRootOfParts, IsFirstBadRow, BreaksRule, BreaksRows, IsFirstRevisionFault}
-use Rattle.session_checker.specs.Accepted.{StatesAll, HasGoodTables, IsFirstTableFault, IsAccepted, IsFirstFault, IsExact, NeedsNoRead}
+use Rattle.session_checker.specs.Accepted.{StatesAll, HasGoodTables, IsFirstTableFault, IsAccepted, IsFirstFault, IsExact, NeedsNoRead, Accepts}
 use Rattle.session_checker.specs.Faithful.{EachRevision}
 use Rattle.session_checker.proofs.SoundTables.{sound_table}
 use Rattle.session_checker.proofs.FaithfulImages.{ready, agreeing}
@@ -255,7 +255,7 @@ always_good v sizes st always k lt = record {
 }
 
 -- such an image has no fault over any sources of its lengths
-pub no_fault_unread : {T : Type 0} (stated : T → Stated) (failures : T → ℕ) (old new : T) (bytes : List ℕ) (f : CheckFault) → NeedsNoRead bytes (stated old).sizes → IsFirstFault stated failures old new bytes f → ⊥
+no_fault_unread : {T : Type 0} (stated : T → Stated) (failures : T → ℕ) (old new : T) (bytes : List ℕ) (f : CheckFault) → NeedsNoRead bytes (stated old).sizes → IsFirstFault stated failures old new bytes f → ⊥
 no_fault_unread stated failures old new bytes f a (inl read) = no_read_fault bytes a.v read.0 a.image a.spelled read.1
 no_fault_unread stated failures old new bytes f a (inr refused) =
     let same = same_image a.v refused.v a.image refused.image (sym a.spelled ∙ refused.spelled) in
@@ -269,6 +269,12 @@ no_fault_unread stated failures old new bytes f a (inr refused) =
           let first = revision.1 in
           not_good refused.v st first.k f (broken_unread stated failures old new refused.v f none first) (always_good refused.v st.sizes st always first.k first.there)
     ]
+
+-- an answer that spells the bytes where it accepts, and is right where it refuses, is that image
+pub accepts_unread : {T : Type 0} (stated : T → Stated) (failures : T → ℕ) (old new : T) (bytes : List ℕ) (r : Result ImageValue CheckFault)
+    → IfOk r (λ v. IsImage v × (bytes ≡ spelling v)) → IfErr r (IsFirstFault stated failures old new bytes) → (n : NeedsNoRead bytes (stated old).sizes) → Accepts r n.v
+accepts_unread stated failures old new bytes (Ok v) image refused n = record { ok = ap Ok (same_image v n.v image.0 n.image (sym image.1 ∙ n.spelled)) }
+accepts_unread stated failures old new bytes (Err f) image refused n = absurd (no_fault_unread stated failures old new bytes f n refused)
 
 -- ---- answers over texts in memory
 

@@ -102,38 +102,42 @@ joined v s h k is rules = parts_joined (image_table v) s h (roots_before v k) (r
 -- a revision's command gives its text, where what its rows of bytes are over is stated, and its cells, where that is no source
 text_given : (v : ImageValue) (st : Stated) → IsSound (image_table v) → HasTrueRecords (image_table v) → AreGoodOver v st → (source : ℕ → ℕ → ℕ) → Agrees st source
     → EachRevision v (λ k. HasStatedRows v st k → GivesText (givens v source) (commands v) (texts v source) k)
-text_given v st s h good source agrees k lt stated e at =
-    let c = command_is v k e at in
-    let g = good k lt in
-    let is = ready_of v st good k lt in
-    let before = map (rope_cells (image_table v)) (roots_before v k) in
-    let same = covered_text (image_table v) s h (coded_at v) (answered v) source (parts_at v k) (revision_at v k).root (rows_at v k) is.parts g.rules.root.0 (g.rows source agrees stated) in
-    let result : result_of (givens v source) (take k (texts v source)) (revision_at v k).edit ≡ Some (text source (rope_cells (image_table v) (revision_at v k).root)) =
-    ap (λ (x : Givens ℕ). result_of x (take k (texts v source)) (revision_at v k).edit) (givens_mapped v source)
-    ∙ ap (λ (xs : List (List ℕ)). result_of (mapped_givens (cell_byte source) (givens_of (image_table v))) xs (revision_at v k).edit) (texts_before v source k)
-    ∙ result_mapped (cell_byte source) (givens_of (image_table v)) before (revision_at v k).edit
-    ∙ ap (option_map (text source)) (joined v s h k is g.rules)
-    ∙ ap Some same in
-    at_revision v (λ (r : Revision). text source (rope_cells (image_table v) r.root)) k lt
-    ∙ sym result
-    ∙ ap (result_of (givens v source) (take k (texts v source))) c.1
+text_given v st s h good source agrees k lt stated = record {
+  gives = λ e at.
+      let c = command_is v k e at in
+      let g = good k lt in
+      let is = ready_of v st good k lt in
+      let before = map (rope_cells (image_table v)) (roots_before v k) in
+      let same = covered_text (image_table v) s h (coded_at v) (answered v) source (parts_at v k) (revision_at v k).root (rows_at v k) is.parts g.rules.root.0 (g.rows source agrees stated) in
+      let result : result_of (givens v source) (take k (texts v source)) (revision_at v k).edit ≡ Some (text source (rope_cells (image_table v) (revision_at v k).root)) =
+      ap (λ (x : Givens ℕ). result_of x (take k (texts v source)) (revision_at v k).edit) (givens_mapped v source)
+      ∙ ap (λ (xs : List (List ℕ)). result_of (mapped_givens (cell_byte source) (givens_of (image_table v))) xs (revision_at v k).edit) (texts_before v source k)
+      ∙ result_mapped (cell_byte source) (givens_of (image_table v)) before (revision_at v k).edit
+      ∙ ap (option_map (text source)) (joined v s h k is g.rules)
+      ∙ ap Some same in
+      at_revision v (λ (r : Revision). text source (rope_cells (image_table v) r.root)) k lt
+      ∙ sym result
+      ∙ ap (result_of (givens v source) (take k (texts v source))) c.1;
+}
 
 cells_given : (v : ImageValue) (st : Stated) → IsSound (image_table v) → HasTrueRecords (image_table v) → AreGoodOver v st
     → EachRevision v (λ k. HasRowsOverNoSource v k → GivesText (givens_of (image_table v)) (commands v) (texts_cells v) k)
-cells_given v st s h good k lt none e at =
-    let c = command_is v k e at in
-    let g = good k lt in
-    let is = ready_of v st good k lt in
-    let some = agreeing st in
-    let covers = g.rows some.0 some.1 (no_source_stated (image_table v) st (parts_at v k) (revision_at v k).root (rows_at v k) none) in
-    let same = covered_cells (image_table v) s h (coded_at v) (answered v) some.0 (parts_at v k) (revision_at v k).root (rows_at v k) is.parts g.rules.root.0 covers none in
-    let result : result_of (givens_of (image_table v)) (take k (texts_cells v)) (revision_at v k).edit ≡ Some (rope_cells (image_table v) (revision_at v k).root) =
-    ap (λ (xs : List (List Cell)). result_of (givens_of (image_table v)) xs (revision_at v k).edit) (cells_before v k)
-    ∙ joined v s h k is g.rules
-    ∙ ap Some same in
-    at_revision v (λ (r : Revision). rope_cells (image_table v) r.root) k lt
-    ∙ sym result
-    ∙ ap (result_of (givens_of (image_table v)) (take k (texts_cells v))) c.1
+cells_given v st s h good k lt none = record {
+  gives = λ e at.
+      let c = command_is v k e at in
+      let g = good k lt in
+      let is = ready_of v st good k lt in
+      let some = agreeing st in
+      let covers = g.rows some.0 some.1 (no_source_stated (image_table v) st (parts_at v k) (revision_at v k).root (rows_at v k) none) in
+      let same = covered_cells (image_table v) s h (coded_at v) (answered v) some.0 (parts_at v k) (revision_at v k).root (rows_at v k) is.parts g.rules.root.0 covers none in
+      let result : result_of (givens_of (image_table v)) (take k (texts_cells v)) (revision_at v k).edit ≡ Some (rope_cells (image_table v) (revision_at v k).root) =
+      ap (λ (xs : List (List Cell)). result_of (givens_of (image_table v)) xs (revision_at v k).edit) (cells_before v k)
+      ∙ joined v s h k is g.rules
+      ∙ ap Some same in
+      at_revision v (λ (r : Revision). rope_cells (image_table v) r.root) k lt
+      ∙ sym result
+      ∙ ap (result_of (givens_of (image_table v)) (take k (texts_cells v))) c.1;
+}
 
 -- ---- an image whose nodes and revisions keep their rules
 
@@ -164,11 +168,11 @@ pub texts_history : (v : ImageValue) (st : Stated) → IsFaithful v st → (sour
     → IsHistory (givens v source) (commands v) (texts v source)
 texts_history v st is source agrees stated = record {
   whole = length-map v.revisions (λ (r : Revision). text source (rope_cells (image_table v) r.root)) ∙ sym (length-map v.revisions (λ (r : Revision). r.edit));
-  each = λ k e at. let c = command_is v k e at in is.each_text source agrees k c.0 (stated k c.0) e at;
+  each = λ k e at. let c = command_is v k e at in (is.each_text source agrees k c.0 (stated k c.0)).gives e at;
 }
 
 pub cells_history : (v : ImageValue) (st : Stated) → IsFaithful v st → EachRevision v (HasRowsOverNoSource v) → IsHistory (givens_of (image_table v)) (commands v) (texts_cells v)
 cells_history v st is none = record {
   whole = length-map v.revisions (λ (r : Revision). rope_cells (image_table v) r.root) ∙ sym (length-map v.revisions (λ (r : Revision). r.edit));
-  each = λ k e at. let c = command_is v k e at in is.each_cells k c.0 (none k c.0) e at;
+  each = λ k e at. let c = command_is v k e at in (is.each_cells k c.0 (none k c.0)).gives e at;
 }

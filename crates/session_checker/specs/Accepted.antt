@@ -1,5 +1,5 @@
 -- Which bytes are accepted with which sources, by local rules on records, and which fault the others have first.
-use Rattle.std.specs.Prelude.{◌≡◌, ℕ, ◌<◌, true, List, length, ◌⊎◌, Some, IsSome, Result, Err, IsOk}
+use Rattle.std.specs.Prelude.{◌≡◌, ℕ, ◌<◌, true, List, length, ◌⊎◌, Some, IsSome, Result, Ok, Err, IsOk}
 use Rattle.lazy_file.specs.SourceTexts.{Stated, text_at}
 use Rattle.image_reader.specs.Value.{ImageValue, IsImage, image_table}
 use Rattle.image_reader.specs.Spelling.{spelling}
@@ -42,6 +42,10 @@ pub record NeedsNoRead (bytes : List ℕ) (sizes : List ℕ) : Type 0 where
   pub spelled : bytes ≡ spelling v
   pub accepted : IsAlwaysAccepted v sizes
   pub no_source : EachRevision v (HasRowsOverNoSource v)
+
+-- an answer that is this image
+pub record Accepts (r : Result ImageValue CheckFault) (v : ImageValue) : Type 0 where
+  pub ok : r ≡ Ok v
 
 -- the bytes spell an image in which this fault is the first
 pub record IsRefused {T : Type 0} (stated : T → Stated) (failures : T → ℕ) (old new : T) (bytes : List ℕ) (f : CheckFault) : Type 0 where

@@ -81,9 +81,8 @@ abbrev pub EachRevision : ImageValue → (ℕ → Type 0) → Type 0
 EachRevision v P = (k : ℕ) → k < length v.revisions → P k
 
 -- command k gives text k, of the texts before it
-abbrev pub GivesText : {C : Type 0} → Givens C → List Edit → List (List C) → ℕ → Type 0
-GivesText g commands texts k =
-    (e : Edit) → slice_get commands k ≡ Some e → slice_get texts k ≡ result_of g (take k texts) e
+pub record GivesText {C : Type 0} (g : Givens C) (commands : List Edit) (texts : List (List C)) (k : ℕ) : Type 0 where
+  pub gives : (e : Edit) → slice_get commands k ≡ Some e → slice_get texts k ≡ result_of g (take k texts) e
 
 pub record IsFaithful (v : ImageValue) (st : Stated) : Type 0 where
   pub true_records : HasTrueRecordsOf v

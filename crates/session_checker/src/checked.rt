@@ -7,7 +7,7 @@ ghost use Rattle.image_reader.specs.Accepted.{HasSources, revision_at};
 ghost use Rattle.image_reader.specs.Value.{IsImage, image_table};
 ghost use Rattle.image_reader.specs.Spelling.{spelling};
 ghost use Rattle.lazy_file.specs.SourceTexts.{Reads};
-ghost use Rattle.session_checker.specs.Accepted.{IsAccepted, IsFirstFault, IsExact, NeedsNoRead};
+ghost use Rattle.session_checker.specs.Accepted.{IsAccepted, IsFirstFault, IsExact, NeedsNoRead, Accepts};
 ghost use Rattle.session_checker.specs.Faithful.{IsFaithful, HasTrueRecordsOf, IsRevisionOf, IsRootOf, IsMarkOf, IsFetchedOf, fetch_visits, fetched_cell};
 
 use crate::fault::CheckFault;
@@ -194,7 +194,7 @@ pub fn check<'a, S: Sources>(bytes: &'a [u8], sources: &mut S) -> Result<Checked
     // Over texts in memory all that keeps the rules is accepted, and all else refused by its first fault.
     ensures exact { IsExact S.stated S.failures sources.old sources.new bytes.now result }
     // What keeps the rules and needs no read of the sources is accepted, even where every read would fail.
-    ensures always { NeedsNoRead bytes.now (S.stated sources.old).sizes → IsOk result }
+    ensures always { (n : NeedsNoRead bytes.now (S.stated sources.old).sizes) → Accepts result n.v }
     ensures reads { Reads S.stated S.failures sources.old sources.new }
 {
     let image = match Image::read(bytes) {
