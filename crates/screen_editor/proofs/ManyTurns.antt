@@ -19,7 +19,7 @@ use Rattle.screen_editor.specs.declared.running.TheConstants.{MOST_KEYS}
 use Rattle.screen_editor.specs.Editing.{Editing, EachCurrent, state_of}
 use Rattle.screen_editor.specs.Frame.{frame_of}
 use Rattle.screen_editor.specs.Keys.{answer_to, key_of}
-use Rattle.screen_editor.specs.Runs.{Answers, EndsBy, Follow, GoesOn, IsFrame, IsRun, Passes, Shows, ShowsPrefix, frames_of}
+use Rattle.screen_editor.specs.Runs.{Answers, EndsBy, Follow, GoesOn, IsFrame, IsRun, MayGoOn, Passes, Shows, ShowsPrefix, frames_of}
 use Rattle.screen_editor.specs.Turns.{IsTurn, TakesNone, TakesOne}
 
 -- ---- states: all but the last, and the last
@@ -205,6 +205,10 @@ ended_without st keys_before keys_mid keys_left before mid now old cur new n res
   answers = answer;
 }
 
+-- another key may follow these
+may_go_on : (keys : List ℕ) (n : ℕ) → GoesOn keys → length keys ≡ n → n < MOST_KEYS → MayGoOn keys
+may_go_on keys n on count few = (on, subst (λ (k : ℕ). k < MOST_KEYS) (sym count) few)
+
 -- all the states are shown, or a prefix, or all but the last
 all_shown : (st : Stated) (keys_before keys_mid before mid now : Option (List ℕ)) (old cur : Editing) (n : ℕ) → (h : Ran st keys_before keys_mid before mid old cur n) → Shows st mid now (cur ∷ [])
     → Shows st before now (old ∷ h.behind)
@@ -228,16 +232,16 @@ ran_to_end st keys_before keys_mid keys_left before mid now old cur new n Save f
 ran_to_end st keys_before keys_mid keys_left before mid now old cur new n Leave few h (inl one) =
     ended_by st keys_before keys_mid keys_left before mid now old cur new n Step.Leave (Ok Leave) few h one (λ keys states by shown. inl (by, shown))
 ran_to_end st keys_before keys_mid keys_left before mid now old cur new n Leave few h (inr (none, end, shown)) =
-    ended_without st keys_before keys_mid keys_left before mid now old cur new n (Ok Leave) (omega (arith, few)) h none (inr (h.on, end, all_shown st keys_before keys_mid before mid now old cur n h shown))
+    ended_without st keys_before keys_mid keys_left before mid now old cur new n (Ok Leave) (omega (arith, few)) h none (inr (may_go_on h.keys n h.on h.count few, end, all_shown st keys_before keys_mid before mid now old cur n h shown))
 
 pub ran_to_fault : (st : Stated) (keys_before keys_mid keys_left before mid now : Option (List ℕ)) (old cur new : Editing) (n : ℕ) (fault : RunFault) → n < MOST_KEYS
     → Ran st keys_before keys_mid before mid old cur n → IsTurn st keys_mid keys_left mid now cur new (Err fault) → IsRun st keys_before keys_left before now old new (Err fault)
 ran_to_fault st keys_before keys_mid keys_left before mid now old cur new n Read few h (none, shown) =
-    ended_without st keys_before keys_mid keys_left before mid now old cur new n (Err Read) (omega (arith, few)) h none (h.on, all_shown st keys_before keys_mid before mid now old cur n h shown)
+    ended_without st keys_before keys_mid keys_left before mid now old cur new n (Err Read) (omega (arith, few)) h none (may_go_on h.keys n h.on h.count few, all_shown st keys_before keys_mid before mid now old cur n h shown)
 ran_to_fault st keys_before keys_mid keys_left before mid now old cur new n Write few h (none, shown) =
-    ended_without st keys_before keys_mid keys_left before mid now old cur new n (Err Write) (omega (arith, few)) h none (h.on, prefix_shown st keys_before keys_mid before mid now old cur n h shown)
+    ended_without st keys_before keys_mid keys_left before mid now old cur new n (Err Write) (omega (arith, few)) h none (may_go_on h.keys n h.on h.count few, prefix_shown st keys_before keys_mid before mid now old cur n h shown)
 ran_to_fault st keys_before keys_mid keys_left before mid now old cur new n (Frame f) few h (none, shown) =
-    ended_without st keys_before keys_mid keys_left before mid now old cur new n (Err (Frame f)) (omega (arith, few)) h none (h.on, earlier_shown st keys_before keys_mid before mid now old cur n h shown)
+    ended_without st keys_before keys_mid keys_left before mid now old cur new n (Err (Frame f)) (omega (arith, few)) h none (may_go_on h.keys n h.on h.count few, earlier_shown st keys_before keys_mid before mid now old cur n h shown)
 ran_to_fault st keys_before keys_mid keys_left before mid now old cur new n TooManyKeys few h (none, shown) = absurd shown
 
 -- after the last key

@@ -1,5 +1,5 @@
 -- What a run takes, shows and answers.
-use Rattle.std.specs.Prelude.{◌≡◌, ◌⊎◌, ℕ, ◌≤◌, List, [], ◌∷◌, ◌++◌, IsTrue, length, take, slice_get, All, Option, Some, Result, Ok, Err, IfOk, IfErr, IsErrOf}
+use Rattle.std.specs.Prelude.{◌≡◌, ◌⊎◌, ℕ, ◌<◌, ◌≤◌, List, [], ◌∷◌, ◌++◌, IsTrue, length, take, slice_get, All, Option, Some, Result, Ok, Err, IfOk, IfErr, IsErrOf}
 use Rattle.std.specs.Global.{Vec}
 use Rattle.std.specs.List.{flat_map}
 use Rattle.std.specs.Io.KnownBytes.{Appends, Consumes, IsAtEnd}
@@ -71,6 +71,10 @@ ShowsPrefix st before now es = OfFrames st es (AppendsPrefix before now)
 abbrev pub GoesOn : List ℕ → Type 0
 GoesOn keys = All (λ b. answer_to (key_of b) ≡ Step.Going) keys
 
+-- none of these keys ends a run, and there may be another
+abbrev pub MayGoOn : List ℕ → Type 0
+MayGoOn keys = GoesOn keys × (length keys < MOST_KEYS)
+
 -- the last of these keys, and none before it, ends the run, by this answer
 pub record EndsBy (answer : Step) (keys : List ℕ) : Type 0 where
   pub before : List ℕ
@@ -82,10 +86,10 @@ pub record EndsBy (answer : Step) (keys : List ℕ) : Type 0 where
 -- what is answered once these keys are taken, with the states before them and behind each of them, and what is then shown
 abbrev pub Answers : Stated → Option (List ℕ) → Option (List ℕ) → Option (List ℕ) → List ℕ → List Editing → Result End RunFault → Type 0
 Answers st left before now keys states (Ok Save) = EndsBy Step.Save keys × Shows st before now (take (length keys) states)
-Answers st left before now keys states (Ok Leave) = (EndsBy Step.Leave keys × Shows st before now (take (length keys) states)) ⊎ (GoesOn keys × IsAtEnd left × Shows st before now states)
-Answers st left before now keys states (Err Read) = GoesOn keys × Shows st before now states
-Answers st left before now keys states (Err Write) = GoesOn keys × ShowsPrefix st before now states
-Answers st left before now keys states (Err (Frame f)) = GoesOn keys × Shows st before now (take (length keys) states)
+Answers st left before now keys states (Ok Leave) = (EndsBy Step.Leave keys × Shows st before now (take (length keys) states)) ⊎ (MayGoOn keys × IsAtEnd left × Shows st before now states)
+Answers st left before now keys states (Err Read) = MayGoOn keys × Shows st before now states
+Answers st left before now keys states (Err Write) = MayGoOn keys × ShowsPrefix st before now states
+Answers st left before now keys states (Err (Frame f)) = MayGoOn keys × Shows st before now (take (length keys) states)
 Answers st left before now keys states (Err TooManyKeys) = GoesOn keys × (length keys ≡ MOST_KEYS) × Shows st before now (take (length keys) states)
 
 -- a run takes keys, of which each makes the next state from the first one, old, to the last one, new
