@@ -15,8 +15,8 @@ use Rattle.edit_commands.specs.Building.{edit_with}
 use Rattle.edit_commands.specs.Session.{HoldsHistory, SessionValue, edits_of, session_table, text_givens, texts_of}
 use Rattle.screen_editor.specs.declared.workspace.TheConstants.{LONGEST_TEXT}
 use Rattle.screen_editor.specs.Editing.{Editing, state_of}
-use Rattle.screen_editor.specs.Opening.{IsFirst, first_command}
-use Rattle.screen_editor.specs.Refusals.{IsTooLong}
+use Rattle.screen_editor.specs.Opening.{IsFirst}
+use Rattle.screen_editor.specs.Refusals.{IsTooLong, first_command}
 use Rattle.screen_editor.specs.Revising.{IsMade, first_text}
 use Rattle.screen_editor.proofs.NewTexts.{text_len}
 

@@ -1,3 +1,4 @@
+pub mod FirstFaults
 pub mod FirstTexts
 pub mod MadeFrames
 pub mod ToldKeys

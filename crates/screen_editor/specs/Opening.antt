@@ -1,14 +1,8 @@
 -- The session that an editor begins with.
 use Rattle.std.specs.Prelude.{◌≡◌, ℕ, ◌≤◌, List, [], ◌∷◌, length}
-use Rattle.edit_commands.specs.declared.command.Command.{Command}
-use Rattle.edit_commands.specs.declared.command.Command.TheVariants.{New, Open}
 use Rattle.edit_commands.specs.Session.{SessionValue, length_at, texts_of}
 use Rattle.screen_editor.specs.declared.workspace.TheConstants.{LONGEST_TEXT}
 use Rattle.screen_editor.specs.Revising.{first_text}
-
-abbrev pub first_command : List ℕ → Command
-first_command [] = New
-first_command (n ∷ sizes) = Open 0
 
 -- it has these sources, and one revision, of the first text, whatever bytes the sources have
 pub record IsFirst (sizes : List ℕ) (v : SessionValue) : Type 0 where

@@ -1,6 +1,8 @@
 -- Why a key is refused, why there is no frame, and why there is no editor.
-use Rattle.std.specs.Prelude.{◌≡◌, ℕ, ◌+◌, ◌≤◌, ◌<◌, IsTrue, length, get_or, Some, Result, IfErr, IsErrOf}
+use Rattle.std.specs.Prelude.{◌≡◌, ℕ, ◌+◌, ◌≤◌, ◌<◌, IsTrue, List, [], ◌∷◌, length, get_or, Some, Result, IfErr, IsErrOf}
+use Rattle.function_leaf.specs.declared.coded.Coded.{Coded}
 use Rattle.rope_node.specs.Denotes.{Cell}
+use Rattle.node_table.specs.Held.{Held}
 use Rattle.lazy_file.specs.SourceTexts.{Reads, Stated}
 use Rattle.lazy_file.specs.declared.faults.SourceFault.{SourceFault}
 use Rattle.cord_position.specs.Fetched.{EachCell, IsFaultIn, IsReadable}
@@ -75,16 +77,24 @@ pub record ReadsToShow {T X : Type 0} (stated : T → Stated) (failures : T → 
 abbrev pub IsTooLong : Stated → Type 0
 IsTooLong st = LONGEST_TEXT < get_or st.sizes 0 0
 
--- a first revision is in range and short, so the session has none of these reasons to refuse it
-abbrev pub IsStartFault : EditFault → Type 0
-IsStartFault Edit.NoRevision = ⊥
-IsStartFault Edit.NoSource = ⊥
-IsStartFault Edit.Range = ⊥
-IsStartFault Edit.EmptyText = ⊥
-IsStartFault Edit.TooManyRevisions = ⊥
-IsStartFault fault = Unit {0}
+-- the command that makes the first revision
+abbrev pub first_command : List ℕ → Command
+first_command [] = Command.New
+first_command (n ∷ sizes) = Command.Open 0
+
+-- the session's call for it met this on the way; sources of these sizes were added, and there was no revision
+pub record FirstWasRefused (sizes : List ℕ) (fault : EditFault) : Type 0 where
+  pub old : Held Coded
+  pub new : Held Coded
+  pub sources : old.sources ≡ sizes
+  pub met : IsLaterFault old [] (first_command sizes) fault new
+
+-- memory was refused, or the call for the first revision met a limit
+abbrev pub IsStartFault : List ℕ → EditFault → Type 0
+IsStartFault sizes Edit.Memory = Unit {0}
+IsStartFault sizes fault = FirstWasRefused sizes fault
 
 abbrev pub IsNewFault : Stated → EditorFault → Type 0
 IsNewFault st New.TooLong = IsTooLong st
-IsNewFault st (New.Edit fault) = IsStartFault fault
+IsNewFault st (New.Edit fault) = IsStartFault st.sizes fault
 IsNewFault st New.Memory = Unit {0}

@@ -2,8 +2,8 @@
 
 ghost use Rattle.std.specs.Prelude.{◌≡◌, ◌↔◌, IsTrue, IfErr, IfOk, OnOk, IsErrOf, [], length, nat_lt};
 ghost use Rattle.edit_commands.specs.Applying.{AppliesOrNot};
-ghost use Rattle.screen_editor.specs.Opening.{IsFirst, first_command};
-ghost use Rattle.screen_editor.specs.Refusals.{IsNewFault, IsStartFault, IsTooLong};
+ghost use Rattle.screen_editor.specs.Opening.{IsFirst};
+ghost use Rattle.screen_editor.specs.Refusals.{IsNewFault, IsTooLong, first_command};
 
 use crate::fault::EditorFault;
 use crate::workspace::LONGEST_TEXT;
@@ -24,7 +24,7 @@ fn add_sources<R: Sources>(session: &mut Session, sources: &R) -> Result<(), Edi
     requires empty { session.old.revisions ≡ [] }
     ensures added { OnOk result (session.new.held.sources ≡ (R.stated sources.now).sizes) }
     ensures empty { session.new.revisions ≡ [] }
-    ensures fault { IfErr result IsStartFault }
+    ensures fault { IfErr result (λ f. f ≡ EditFault.Memory) }
 {
     for s in 0..sources.count() {
         session.add_source(sources.len(s))?;
