@@ -18,5 +18,6 @@ pub mod RowWalk
 pub mod Screens
 pub mod Showing
 pub mod Status
+pub mod WiderReads
 pub mod WindowLaws
 pub mod PlainKeys

@@ -1,19 +1,23 @@
 -- Keys that end no run.
-use Rattle.std.proofs.Common.{◌≡◌, ℕ, true, false, refl, sym, subst, ◌∙◌}
-use Rattle.lazy_file.specs.SourceTexts.{Stated}
+use Rattle.std.proofs.Common.{◌≡◌, ℕ, List, [], ◌∷◌, Option, Result, true, false, refl, sym, subst, ◌∙◌}
+use Rattle.std.specs.Io.KnownBytes.{Consumes}
+use Rattle.lazy_file.specs.SourceTexts.{Reads, Stated}
 use Rattle.edit_commands.specs.Session.{texts_of}
 use Rattle.screen_editor.specs.declared.fault.KeyFault.{KeyFault}
 use Rattle.screen_editor.specs.declared.fault.KeyFault.TheVariants as Fault
 use Rattle.screen_editor.specs.declared.key.Key.{Key}
 use Rattle.screen_editor.specs.declared.key.Key.TheVariants.{Save, Leave}
 use Rattle.screen_editor.specs.declared.key.Step.{Step}
-use Rattle.screen_editor.specs.Editing.{Editing, state_of}
-use Rattle.screen_editor.specs.Keys.{answer_to, looks_for_lines}
+use Rattle.screen_editor.specs.Editing.{Editing, EditorValue, state_of}
+use Rattle.screen_editor.specs.Keys.{answer_to, key_of, looks_for_lines}
 use Rattle.screen_editor.specs.Machine.{done}
-use Rattle.screen_editor.specs.Refusals.{GrowsTooLong, IsKeyFault}
-use Rattle.screen_editor.specs.Runs.{IsReason, Passes}
+use Rattle.screen_editor.specs.Refusals.{IsKeyFault}
+use Rattle.screen_editor.specs.Revising.{TakesKey}
+use Rattle.screen_editor.specs.Runs.{Passes, Shows}
+use Rattle.screen_editor.specs.Turns.{TakesOne}
 use Rattle.screen_editor.proofs.KeyPlans.{makes_none, no_source}
 use Rattle.screen_editor.proofs.ToldKeys.{goes_on}
+use Rattle.screen_editor.proofs.WiderReads.{no_reads, wider_key}
 
 -- ---- a key that is refused ends no run
 
@@ -29,13 +33,16 @@ refused_goes_on stated failures before now key old new fault h = goes_on key
     (λ e. is_taken stated failures before now Save old new fault refl refl (subst (λ (k : Key). IsKeyFault stated failures before now k old fault new) e h))
     (λ e. is_taken stated failures before now Leave old new fault refl refl (subst (λ (k : Key). IsKeyFault stated failures before now k old fault new) e h))
 
--- a refused key has its reason
-pub reason : {T : Type 0} (stated : T → Stated) (failures : T → ℕ) (before now : T) (key : Key) (old new : Editing) (fault : KeyFault) → (fault ≡ Fault.TooLong → GrowsTooLong key old) → IsKeyFault stated failures before now key old fault new
-    → IsReason key old fault new
-reason stated failures before now key old new Fault.TooLong long h = long refl
-reason stated failures before now key old new (Fault.Edit f) long h = h
-reason stated failures before now key old new (Fault.Source f) long h = h.0
+-- ---- a key behind a frame, whose making changed nothing that the key sees
 
--- a key that is taken behind a frame, whose making changed nothing that the key sees
-pub passes_after : (st later : Stated) (b : ℕ) (old same new : Editing) → later ≡ st → same ≡ old → Passes later b same new → Passes st b old new
-passes_after st later b old same new e f h = subst (λ (x : Stated). Passes x b old new) e (subst (λ (x : Editing). Passes later b x new) f h)
+pub takes_one : {T : Type 0} (stated : T → Stated) (failures : T → ℕ) (keys left before now : Option (List ℕ)) (answer : Step) (b : ℕ) (result : Result Step KeyFault) (old mid new : EditorValue T)
+    → Consumes keys left (b ∷ []) → Shows (stated old.sources) before now (old.editing ∷ []) → Reads stated failures old.sources mid.sources → mid.editing ≡ old.editing
+    → TakesKey stated failures (key_of b) mid result new → answer_to (key_of b) ≡ answer → TakesOne stated failures keys left before now answer old new
+takes_one stated failures keys left before now answer b result old mid new key shown reads same h answers = record {
+  byte = b;
+  key = key;
+  answers = answers;
+  passes = subst (λ (e : Editing). Passes stated failures old.sources new.sources b e new.editing) same
+      (result, wider_key stated failures old.sources mid.sources new.sources new.sources (key_of b) mid.editing new.editing result reads h (no_reads stated failures new.sources));
+  shown = shown;
+}

@@ -1,5 +1,5 @@
 -- What a run takes, shows and answers.
-use Rattle.std.specs.Prelude.{◌≡◌, ◌⊎◌, ℕ, ◌<◌, ◌≤◌, List, [], ◌∷◌, ◌++◌, IsTrue, length, take, slice_get, All, Option, Some, Result, Ok, Err, IfOk, IfErr, IsErrOf}
+use Rattle.std.specs.Prelude.{◌≡◌, ◌⊎◌, ℕ, ◌<◌, ◌≤◌, List, [], ◌∷◌, ◌++◌, length, take, slice_get, All, Option, Some, Result, Ok, Err, IfOk, IfErr, IsErrOf}
 use Rattle.std.specs.Global.{Vec}
 use Rattle.std.specs.List.{flat_map}
 use Rattle.std.specs.Io.KnownBytes.{Appends, Consumes, IsAtEnd}
@@ -11,18 +11,16 @@ use Rattle.screen_editor.specs.declared.fault.End.TheVariants.{Save, Leave}
 use Rattle.screen_editor.specs.declared.fault.FrameFault.{FrameFault}
 use Rattle.screen_editor.specs.declared.fault.FrameFault.TheVariants as Frames
 use Rattle.screen_editor.specs.declared.fault.KeyFault.{KeyFault}
-use Rattle.screen_editor.specs.declared.fault.KeyFault.TheVariants as Fault
-use Rattle.screen_editor.specs.declared.key.Key.{Key}
 use Rattle.screen_editor.specs.declared.key.Step.{Step}
 use Rattle.screen_editor.specs.declared.running.TheConstants.{MOST_KEYS}
 use Rattle.screen_editor.specs.declared.fault.RunFault.{RunFault}
 use Rattle.screen_editor.specs.declared.fault.RunFault.TheVariants.{Read, Write, Frame, TooManyKeys}
 use Rattle.screen_editor.specs.Editing.{Editing, EditorValue, EachCurrent, state_of}
-use Rattle.screen_editor.specs.Keys.{answer_to, key_of, looks_for_lines}
-use Rattle.screen_editor.specs.Revising.{IsStep, IsRefusedBy}
+use Rattle.screen_editor.specs.Keys.{answer_to, key_of}
+use Rattle.screen_editor.specs.Revising.{TakesKey}
 use Rattle.byte_output.specs.Prefix.{AppendsPrefix}
 use Rattle.screen_editor.specs.Frame.{frame_of}
-use Rattle.screen_editor.specs.Refusals.{GrowsTooLong, IsEditFault, IsFrameFault, MakesRevision}
+use Rattle.screen_editor.specs.Refusals.{IsFrameFault}
 
 -- the bytes that show it, whatever bytes the sources have that agree with what they state, where each cell of the text is stated
 abbrev pub IsFrame : Stated → Editing → List ℕ → Type 0
@@ -36,22 +34,22 @@ pub record MakesFrame {T : Type 0} (stated : T → Stated) (failures : T → ℕ
   pub reads : Reads stated failures old.sources new.sources
   pub kept : new.editing ≡ old.editing
 
--- why a key may be refused: its text would be too long; its command was refused; or a line break was looked for, and a read failed
-abbrev pub IsReason : Key → Editing → KeyFault → Editing → Type 0
-IsReason key old Fault.TooLong new = GrowsTooLong key old
-IsReason key old (Fault.Edit fault) new = MakesRevision key old × IsEditFault key old fault new
-IsReason key old (Fault.Source fault) new = IsTrue (looks_for_lines key)
+-- a state over these sources
+abbrev pub over : {T : Type 0} → T → Editing → EditorValue T
+over sources e = record { sources = sources; editing = e }
 
--- a byte's key makes the machine's step, or is refused for a reason
-abbrev pub Passes : Stated → ℕ → Editing → Editing → Type 0
-Passes st b old new = IsStep st (key_of b) old new ⊎ ((f : KeyFault) × IsRefusedBy f old new × IsReason (key_of b) old f new)
+-- a byte's key is taken, or refused for a reason, between these sources
+abbrev pub Passes : {T : Type 0} → (T → Stated) → (T → ℕ) → T → T → ℕ → Editing → Editing → Type 0
+Passes stated failures before now b old new =
+    (result : Result Step KeyFault) × TakesKey stated failures (key_of b) (over before old) result (over now new)
 
 -- each state follows from the one before it
-abbrev pub Follow : Stated → Editing → List ℕ → List Editing → Type 0
-Follow st old [] [] = Unit {0}
-Follow st old [] (e ∷ es) = ⊥
-Follow st old (b ∷ bs) [] = ⊥
-Follow st old (b ∷ bs) (e ∷ es) = Passes st b old e × Follow st e bs es
+abbrev pub Follow : {T : Type 0} → (T → Stated) → (T → ℕ) → T → T → Editing → List ℕ → List Editing → Type 0
+Follow stated failures before now old [] [] = Unit {0}
+Follow stated failures before now old [] (e ∷ es) = ⊥
+Follow stated failures before now old (b ∷ bs) [] = ⊥
+Follow stated failures before now old (b ∷ bs) (e ∷ es) =
+    Passes stated failures before now b old e × Follow stated failures before now e bs es
 
 -- the frames of these states, one behind the other
 abbrev pub frames_of : (ℕ → ℕ → ℕ) → List Editing → List ℕ
@@ -92,12 +90,16 @@ Answers st left before now keys states (Err Write) = MayGoOn keys × ShowsPrefix
 Answers st left before now keys states (Err (Frame f)) = MayGoOn keys × Shows st before now (take (length keys) states)
 Answers st left before now keys states (Err TooManyKeys) = GoesOn keys × (length keys ≡ MOST_KEYS) × Shows st before now (take (length keys) states)
 
--- a run takes keys, of which each makes the next state from the first one, old, to the last one, new
-pub record IsRun (st : Stated) (keys_before keys_left before now : Option (List ℕ)) (old new : Editing) (result : Result End RunFault) : Type 0 where
+-- A run takes keys, of which each makes the next state from the first one, old, to the last one, new. That a read failed is said of
+-- the whole run, from its first sources to its last ones.
+pub record IsRun {T : Type 0} (stated : T → Stated) (failures : T → ℕ) (keys_before keys_left before now : Option (List ℕ))
+    (old : EditorValue T) (result : Result End RunFault) (new : EditorValue T) : Type 0 where
   pub keys : List ℕ
   pub behind : List Editing
   pub taken : Consumes keys_before keys_left keys
   pub few : length keys ≤ MOST_KEYS
-  pub follow : Follow st old keys behind
-  pub last : slice_get (old ∷ behind) (length keys) ≡ Some new
-  pub answers : Answers st keys_left before now keys (old ∷ behind) result
+  pub follow : Follow stated failures old.sources new.sources old.editing keys behind
+  pub last : slice_get (old.editing ∷ behind) (length keys) ≡ Some new.editing
+  pub answers : Answers (stated old.sources) keys_left before now keys (old.editing ∷ behind) result
+  pub no_frame : (f : FrameFault) → IsErrOf result (Frame f)
+      → MakesFrame stated failures (over old.sources new.editing) (Err f) new

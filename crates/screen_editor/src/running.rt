@@ -45,8 +45,8 @@ impl<R: Sources + Drop> Editor<R> {
     fn show<W: io::Write>(&mut self, screen: &mut W) -> Result<(), RunFault>
         ensures shown { OnOk result (Shows (R.stated self.old.sources)
             (W.contents screen.old) (W.contents screen.new) (self.old.editing ∷ [])) }
-        ensures not_shown { IfErr result (NotShown (R.stated self.old.sources)
-            (W.contents screen.old) (W.contents screen.new) self.old.editing) }
+        ensures not_shown { IfErr result (NotShown R.stated R.failures
+            (W.contents screen.old) (W.contents screen.new) self.old self.new) }
         ensures kept { self.new.editing ≡ self.old.editing }
         ensures reads { Reads R.stated R.failures self.old.sources self.new.sources }
     {
@@ -62,8 +62,8 @@ impl<R: Sources + Drop> Editor<R> {
         keys: &mut K,
         screen: &mut W,
     ) -> Result<Option<End>, RunFault>
-        ensures turn { IsTurn (R.stated self.old.sources) (K.remaining keys.old) (K.remaining keys.new)
-            (W.contents screen.old) (W.contents screen.new) self.old.editing self.new.editing result }
+        ensures turn { IsTurn R.stated R.failures (K.remaining keys.old) (K.remaining keys.new)
+            (W.contents screen.old) (W.contents screen.new) self.old result self.new }
         ensures reads { Reads R.stated R.failures self.old.sources self.new.sources }
     {
         self.show(screen)?;
@@ -91,8 +91,8 @@ impl<R: Sources + Drop> Editor<R> {
         keys: &mut K,
         screen: &mut W,
     ) -> Result<End, RunFault>
-        ensures run { IsRun (R.stated self.old.sources) (K.remaining keys.old) (K.remaining keys.new)
-            (W.contents screen.old) (W.contents screen.new) self.old.editing self.new.editing result }
+        ensures run { IsRun R.stated R.failures (K.remaining keys.old) (K.remaining keys.new)
+            (W.contents screen.old) (W.contents screen.new) self.old result self.new }
         ensures reads { Reads R.stated R.failures self.old.sources self.new.sources }
     {
         for _ in 0..MOST_KEYS {

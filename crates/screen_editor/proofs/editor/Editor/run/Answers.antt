@@ -7,41 +7,36 @@ use Rattle.screen_editor.proofs.editor.Editor.run.Goals as goal
 
 pub loop-init : goal.loop-init
 loop-init g c = record {
-  ran = ran_none (g.R.Sources.stated c.args.self.now.sources) (g.K.Read.remaining c.args.keys.now) (g.W.Write.contents c.args.screen.now) c.args.self.now.editing;
+  ran = ran_none g.R.Sources.stated g.R.Sources.failures (g.K.Read.remaining c.args.keys.now) (g.W.Write.contents c.args.screen.now) c.args.self.now;
   reads = record { same = refl; later = omega arith };
 }
 
 pub returns-in_err-end-clause-run : goal.returns-in_err-end-clause-run
 returns-in_err-end-clause-run g c =
     let p = err_from_is_err_and c.from_residual.result c.from_residual.ensures.1 in
-    let st = g.R.Sources.stated c.args.self.now.sources in
     let fault = c.in_err-end.field-0.0 in
     let few : c.loop.counter < MOST_KEYS = c.loop-test.true in
-    rw (p.1, p.2) (ran_to_fault st (g.K.Read.remaining c.args.keys.now) (g.K.Read.remaining c.loop.keys) (g.K.Read.remaining c.turn.new.keys)
-    (g.W.Write.contents c.args.screen.now) (g.W.Write.contents c.loop.screen) (g.W.Write.contents c.turn.new.screen) c.args.self.now.editing c.loop.self.editing c.turn.new.self.editing c.loop.counter fault few c.loop.invariant.ran
-    (turn_from st (g.R.Sources.stated c.loop.self.sources) (g.K.Read.remaining c.loop.keys) (g.K.Read.remaining c.turn.new.keys) (g.W.Write.contents c.loop.screen) (g.W.Write.contents c.turn.new.screen) c.loop.self.editing c.turn.new.self.editing (Err fault) c.loop.invariant.reads.same c.in_err-end.ensures.turn))
+    rw (p.1, p.2) (ran_to_fault g.R.Sources.stated g.R.Sources.failures (g.K.Read.remaining c.args.keys.now) (g.K.Read.remaining c.loop.keys) (g.K.Read.remaining c.turn.new.keys)
+    (g.W.Write.contents c.args.screen.now) (g.W.Write.contents c.loop.screen) (g.W.Write.contents c.turn.new.screen) c.args.self.now c.loop.self c.turn.new.self c.loop.counter fault few c.loop.invariant.ran c.turn.ensures.reads
+    (turn_from g.R.Sources.stated g.R.Sources.failures (g.K.Read.remaining c.loop.keys) (g.K.Read.remaining c.turn.new.keys) (g.W.Write.contents c.loop.screen) (g.W.Write.contents c.turn.new.screen) c.args.self.now.sources c.loop.self c.turn.new.self (Err fault) c.loop.invariant.reads c.in_err-end.ensures.turn))
 
 pub returns-in-Some-clause-run : goal.returns-in-Some-clause-run
 returns-in-Some-clause-run g c =
-    let st = g.R.Sources.stated c.args.self.now.sources in
     let few : c.loop.counter < MOST_KEYS = c.loop-test.true in
-    ran_to_end st (g.K.Read.remaining c.args.keys.now) (g.K.Read.remaining c.loop.keys) (g.K.Read.remaining c.turn.new.keys)
-    (g.W.Write.contents c.args.screen.now) (g.W.Write.contents c.loop.screen) (g.W.Write.contents c.turn.new.screen) c.args.self.now.editing c.loop.self.editing c.turn.new.self.editing c.loop.counter c.in-Some.end few c.loop.invariant.ran
-    (turn_from st (g.R.Sources.stated c.loop.self.sources) (g.K.Read.remaining c.loop.keys) (g.K.Read.remaining c.turn.new.keys) (g.W.Write.contents c.loop.screen) (g.W.Write.contents c.turn.new.screen) c.loop.self.editing c.turn.new.self.editing (Ok (Some c.in-Some.end)) c.loop.invariant.reads.same (rw c.in-Some.is at c.in_ok-end.ensures.turn))
+    ran_to_end g.R.Sources.stated g.R.Sources.failures (g.K.Read.remaining c.args.keys.now) (g.K.Read.remaining c.loop.keys) (g.K.Read.remaining c.turn.new.keys)
+    (g.W.Write.contents c.args.screen.now) (g.W.Write.contents c.loop.screen) (g.W.Write.contents c.turn.new.screen) c.args.self.now c.loop.self c.turn.new.self c.loop.counter c.in-Some.end few c.loop.invariant.ran c.turn.ensures.reads
+    (turn_from g.R.Sources.stated g.R.Sources.failures (g.K.Read.remaining c.loop.keys) (g.K.Read.remaining c.turn.new.keys) (g.W.Write.contents c.loop.screen) (g.W.Write.contents c.turn.new.screen) c.args.self.now.sources c.loop.self c.turn.new.self (Ok (Some c.in-Some.end)) c.loop.invariant.reads (rw c.in-Some.is at c.in_ok-end.ensures.turn))
 
 pub loop-preserved : goal.loop-preserved
-loop-preserved g c =
-    let st = g.R.Sources.stated c.args.self.now.sources in
-    record {
-      ran = ran_more st (g.K.Read.remaining c.args.keys.now) (g.K.Read.remaining c.loop.keys) (g.K.Read.remaining c.turn.new.keys)
-          (g.W.Write.contents c.args.screen.now) (g.W.Write.contents c.loop.screen) (g.W.Write.contents c.turn.new.screen) c.args.self.now.editing c.loop.self.editing c.turn.new.self.editing c.loop.counter c.loop.invariant.ran
-          (turn_from st (g.R.Sources.stated c.loop.self.sources) (g.K.Read.remaining c.loop.keys) (g.K.Read.remaining c.turn.new.keys) (g.W.Write.contents c.loop.screen) (g.W.Write.contents c.turn.new.screen) c.loop.self.editing c.turn.new.self.editing (Ok None) c.loop.invariant.reads.same (rw c.in_default.is at c.in_ok-end.ensures.turn));
-      reads = reads_then c.loop.invariant.reads c.turn.ensures.reads;
-    }
+loop-preserved g c = record {
+  ran = ran_more g.R.Sources.stated g.R.Sources.failures (g.K.Read.remaining c.args.keys.now) (g.K.Read.remaining c.loop.keys) (g.K.Read.remaining c.turn.new.keys)
+      (g.W.Write.contents c.args.screen.now) (g.W.Write.contents c.loop.screen) (g.W.Write.contents c.turn.new.screen) c.args.self.now c.loop.self c.turn.new.self c.loop.counter c.loop.invariant.ran c.turn.ensures.reads
+      (turn_from g.R.Sources.stated g.R.Sources.failures (g.K.Read.remaining c.loop.keys) (g.K.Read.remaining c.turn.new.keys) (g.W.Write.contents c.loop.screen) (g.W.Write.contents c.turn.new.screen) c.args.self.now.sources c.loop.self c.turn.new.self (Ok None) c.loop.invariant.reads (rw c.in_default.is at c.in_ok-end.ensures.turn));
+  reads = reads_then c.loop.invariant.reads c.turn.ensures.reads;
+}
 
 pub returns-clause-run : goal.returns-clause-run
 returns-clause-run g c =
-    let st = g.R.Sources.stated c.args.self.now.sources in
     let all : c.loop.counter ≡ MOST_KEYS = omega (arith, c.loop-test.false, c.loop.auto.counter-end) in
-    ran_too_long st (g.K.Read.remaining c.args.keys.now) (g.K.Read.remaining c.loop.keys) (g.W.Write.contents c.args.screen.now) (g.W.Write.contents c.loop.screen) c.args.self.now.editing c.loop.self.editing
-    (subst (Ran st (g.K.Read.remaining c.args.keys.now) (g.K.Read.remaining c.loop.keys) (g.W.Write.contents c.args.screen.now) (g.W.Write.contents c.loop.screen) c.args.self.now.editing c.loop.self.editing) all c.loop.invariant.ran)
+    ran_too_long g.R.Sources.stated g.R.Sources.failures (g.K.Read.remaining c.args.keys.now) (g.K.Read.remaining c.loop.keys) (g.W.Write.contents c.args.screen.now) (g.W.Write.contents c.loop.screen) c.args.self.now c.loop.self
+    (subst (Ran g.R.Sources.stated g.R.Sources.failures (g.K.Read.remaining c.args.keys.now) (g.K.Read.remaining c.loop.keys) (g.W.Write.contents c.args.screen.now) (g.W.Write.contents c.loop.screen) c.args.self.now c.loop.self) all c.loop.invariant.ran)

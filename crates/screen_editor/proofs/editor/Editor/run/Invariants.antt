@@ -4,6 +4,6 @@ use Rattle.screen_editor.proofs.editor.Editor.run.Given as goal
 
 abbrev pub invariant-loop : goal.invariant-loop
 invariant-loop g l = record {
-  ran : Ran (g.R.Sources.stated l.initial.self.sources) (g.K.Read.remaining l.initial.keys) (g.K.Read.remaining l.keys) (g.W.Write.contents l.initial.screen) (g.W.Write.contents l.screen) l.initial.self.editing l.self.editing l.counter;
+  ran : Ran g.R.Sources.stated g.R.Sources.failures (g.K.Read.remaining l.initial.keys) (g.K.Read.remaining l.keys) (g.W.Write.contents l.initial.screen) (g.W.Write.contents l.screen) l.initial.self l.self l.counter;
   reads : Reads g.R.Sources.stated g.R.Sources.failures l.initial.self.sources l.self.sources;
 }

@@ -1,13 +1,26 @@
-use Rattle.std.proofs.Common.{inr, ap, Err}
+use Rattle.std.proofs.Common.{inl, sym, ◌∙◌}
 use Rattle.screen_editor.specs.Keys.{key_of}
-use Rattle.screen_editor.proofs.TakenKeys.{passes_after, reason, refused_goes_on}
+use Rattle.screen_editor.specs.declared.key.Step.TheVariants as Step
+use Rattle.screen_editor.proofs.TakenKeys.{refused_goes_on, takes_one}
 use Rattle.screen_editor.proofs.editor.Editor.turn.Goals as goal
 
+pub returns-in-Ok-Save-clause-turn : goal.returns-in-Ok-Save-clause-turn
+returns-in-Ok-Save-clause-turn g c =
+    takes_one g.R.Sources.stated g.R.Sources.failures (g.K.Read.remaining c.args.keys.now) (g.K.Read.remaining c.next_key.new.keys) (g.W.Write.contents c.args.screen.now) (g.W.Write.contents c.show.new.screen) Step.Save c.in-Some.byte c.key.result c.args.self.now c.show.new.self c.key.new.self
+    (rw c.in-Some.is at c.in_ok-byte.ensures.key) c.in_ok-show.ensures.shown c.show.ensures.reads c.show.ensures.kept c.key.ensures (sym c.in-Ok-Save.ensures.answer ∙ c.in-Ok-Save.field-0-is)
+
+pub returns-in-Ok-Leave-clause-turn : goal.returns-in-Ok-Leave-clause-turn
+returns-in-Ok-Leave-clause-turn g c =
+    inl (takes_one g.R.Sources.stated g.R.Sources.failures (g.K.Read.remaining c.args.keys.now) (g.K.Read.remaining c.next_key.new.keys) (g.W.Write.contents c.args.screen.now) (g.W.Write.contents c.show.new.screen) Step.Leave c.in-Some.byte c.key.result c.args.self.now c.show.new.self c.key.new.self
+    (rw c.in-Some.is at c.in_ok-byte.ensures.key) c.in_ok-show.ensures.shown c.show.ensures.reads c.show.ensures.kept c.key.ensures (sym c.in-Ok-Leave.ensures.answer ∙ c.in-Ok-Leave.field-0-is))
+
+pub returns-in-Ok-Going-clause-turn : goal.returns-in-Ok-Going-clause-turn
+returns-in-Ok-Going-clause-turn g c =
+    takes_one g.R.Sources.stated g.R.Sources.failures (g.K.Read.remaining c.args.keys.now) (g.K.Read.remaining c.next_key.new.keys) (g.W.Write.contents c.args.screen.now) (g.W.Write.contents c.show.new.screen) Step.Going c.in-Some.byte c.key.result c.args.self.now c.show.new.self c.key.new.self
+    (rw c.in-Some.is at c.in_ok-byte.ensures.key) c.in_ok-show.ensures.shown c.show.ensures.reads c.show.ensures.kept c.key.ensures (sym c.in-Ok-Going.ensures.answer ∙ c.in-Ok-Going.field-0-is)
+
 pub returns-in-Err-clause-turn : goal.returns-in-Err-clause-turn
-returns-in-Err-clause-turn g c = record {
-  byte = c.in-Some.byte;
-  key = rw c.in-Some.is at c.in_ok-byte.ensures.key;
-  answers = refused_goes_on g.R.Sources.stated g.R.Sources.failures c.show.new.self.sources c.key.new.self.sources (key_of c.in-Some.byte) c.show.new.self.editing c.key.new.self.editing c.in-Err.field-0 c.in-Err.ensures.fault;
-  passes = passes_after (g.R.Sources.stated c.args.self.now.sources) (g.R.Sources.stated c.show.new.self.sources) c.in-Some.byte c.args.self.now.editing c.show.new.self.editing c.key.new.self.editing c.show.ensures.reads.same c.show.ensures.kept (inr (c.in-Err.field-0, c.in-Err.ensures.refused, reason g.R.Sources.stated g.R.Sources.failures c.show.new.self.sources c.key.new.self.sources (key_of c.in-Some.byte) c.show.new.self.editing c.key.new.self.editing c.in-Err.field-0 (λ e. c.in-Err.ensures.too_long.0 (ap Err e)) c.in-Err.ensures.fault));
-  shown = c.in_ok-show.ensures.shown;
-}
+returns-in-Err-clause-turn g c =
+    takes_one g.R.Sources.stated g.R.Sources.failures (g.K.Read.remaining c.args.keys.now) (g.K.Read.remaining c.next_key.new.keys) (g.W.Write.contents c.args.screen.now) (g.W.Write.contents c.show.new.screen) Step.Going c.in-Some.byte c.key.result c.args.self.now c.show.new.self c.key.new.self
+    (rw c.in-Some.is at c.in_ok-byte.ensures.key) c.in_ok-show.ensures.shown c.show.ensures.reads c.show.ensures.kept c.key.ensures
+    (refused_goes_on g.R.Sources.stated g.R.Sources.failures c.show.new.self.sources c.key.new.self.sources (key_of c.in-Some.byte) c.show.new.self.editing c.key.new.self.editing c.in-Err.field-0 c.in-Err.ensures.fault)
