@@ -16,7 +16,8 @@ fn save<S: Sources + Drop, I: io::Write>(
     editor: &Editor<S>,
     image: &mut I,
 ) -> Result<Status, ToolFault>
-    ensures { SavesImage editor.now.editing (I.contents image.old) (I.contents image.new) result }
+    ensures { SavesImage (S.stated editor.now.sources).sizes editor.now.editing
+        (I.contents image.old) (I.contents image.new) result }
 {
     write(editor.session(), image)?;
     Ok(Status::Success)
@@ -28,7 +29,8 @@ fn conclude<S: Sources + Drop, I: io::Write>(
     end: Result<End, RunFault>,
     image: &mut I,
 ) -> Result<Status, ToolFault>
-    ensures { Concludes end editor.now.editing (I.contents image.old) (I.contents image.new) result }
+    ensures { Concludes (S.stated editor.now.sources).sizes end editor.now.editing
+        (I.contents image.old) (I.contents image.new) result }
 {
     match end? {
         End::Save => save(editor, image),
@@ -52,7 +54,7 @@ pub fn run_edit<S: Sources + Drop, K: io::Read, W: io::Write, I: io::Write>(
     screen: &mut W,
     image: &mut I,
 ) -> Result<Status, ToolFault>
-    ensures { EditsFile (S.stated sources) (K.remaining keys.old) (K.remaining keys.new)
+    ensures { EditsFile S.stated S.failures sources (K.remaining keys.old) (K.remaining keys.new)
         (W.contents screen.old) (W.contents screen.new) (I.contents image.old) (I.contents image.new) result }
 {
     let mut editor = Editor::new(alloc, sources)?;

@@ -12,6 +12,7 @@ returns-in_err-write g c =
     let old = g.I.Write.contents c.args.image.now in
     let new = g.I.Write.contents c.write.new.writer in
     rw (p.1, p.2) (record {
+      sources = c.session.ensures.kept.sizes;
       written = Err c.in_err-write.field-0.0;
       image = subst (λ (v : SessionValue). Writes old new (spelling (image_of v)) (Err c.in_err-write.field-0.0)) c.session.ensures.session c.in_err-write.ensures.written;
       is_image = _;
@@ -24,6 +25,7 @@ returns g c =
     let old = g.I.Write.contents c.args.image.now in
     let new = g.I.Write.contents c.write.new.writer in
     record {
+      sources = c.session.ensures.kept.sizes;
       written = Ok c.in_ok-write.field-0;
       image = subst (λ (v : SessionValue). Writes old new (spelling (image_of v)) (Ok c.in_ok-write.field-0)) c.session.ensures.session c.in_ok-write.ensures.written;
       is_image = subst (λ (v : SessionValue). IsImage (image_of v)) c.session.ensures.session c.in_ok-write.ensures.image;
