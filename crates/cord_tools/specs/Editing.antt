@@ -26,9 +26,10 @@ abbrev pub saved : Result (Unit {0}) WriteFault → Result Status ToolFault
 saved (Ok _) = Ok Success
 saved (Err _) = Err Tool.Write
 
--- the image of the last state was written, or a prefix of it; its sources have these sizes, and it keeps the rules of acceptance, whatever
--- they hold
-pub record SavesImage (sizes : List ℕ) (last : Editing) (before now : Option (List ℕ)) (result : Result Status ToolFault) : Type 0 where
+-- the image of the last state was written, or a prefix of it; its sources have these sizes, and it keeps the rules of
+-- acceptance, whatever they hold
+pub record SavesImage (sizes : List ℕ) (last : Editing) (before now : Option (List ℕ))
+    (result : Result Status ToolFault) : Type 0 where
   pub sources : last.session.held.sources ≡ sizes
   pub written : Result (Unit {0}) WriteFault
   pub image : Writes before now (spelling (image_of last.session)) written
@@ -37,20 +38,23 @@ pub record SavesImage (sizes : List ℕ) (last : Editing) (before now : Option (
   pub answer : result ≡ saved written
 
 -- what follows the end of a run: an image behind the key Save alone
-abbrev pub Concludes : List ℕ → Result End RunFault → Editing → Option (List ℕ) → Option (List ℕ) → Result Status ToolFault → Type 0
+abbrev pub Concludes : List ℕ → Result End RunFault → Editing → Option (List ℕ) → Option (List ℕ)
+    → Result Status ToolFault → Type 0
 Concludes sizes (Ok Save) last before now result = SavesImage sizes last before now result
 Concludes sizes (Ok Leave) last before now result = (result ≡ Ok Success) × Keeps before now
 Concludes sizes (Err fault) last before now result = (result ≡ Err (run_fault fault)) × Keeps before now
 
--- Over these sources there is no editor, and a text that is too long is told exactly where source 0 is; or source 0 is not too long, and
+-- Over these sources there is no editor, which is told as a text too long exactly where source 0 is; or source 0 is not, and
 -- there is one whose run takes these keys and shows its states; behind the key Save the image of its last state is written.
 pub data EditsFile {T : Type 0} (stated : T → Stated) (failures : T → ℕ) (sources : T)
-    (keys_before keys_left shown_before shown_now before now : Option (List ℕ)) (result : Result Status ToolFault) : Type 0 where
+    (keys_before keys_left shown_before shown_now before now : Option (List ℕ))
+    (result : Result Status ToolFault) : Type 0 where
   not_made : (fault : EditorFault) → IsNewFault (stated sources) fault → (fault ≡ TooLong) ↔ IsTooLong (stated sources)
-      → result ≡ Err (editor_fault fault) → Keeps keys_before keys_left → Keeps shown_before shown_now → Keeps before now
+      → result ≡ Err (editor_fault fault)
+      → Keeps keys_before keys_left → Keeps shown_before shown_now → Keeps before now
       → EditsFile stated failures sources keys_before keys_left shown_before shown_now before now result
-  ran : (first last : EditorValue T) (end : Result End RunFault) → first.sources ≡ sources → ¬ IsTooLong (stated sources)
-      → IsMade (stated sources).sizes first.editing
+  ran : (first last : EditorValue T) (end : Result End RunFault)
+      → first.sources ≡ sources → ¬ IsTooLong (stated sources) → IsMade (stated sources).sizes first.editing
       → IsRun stated failures keys_before keys_left shown_before shown_now first end last
       → Concludes (stated sources).sizes end last.editing before now result
       → EditsFile stated failures sources keys_before keys_left shown_before shown_now before now result

@@ -84,15 +84,18 @@ pub record EndsBy (answer : Step) (keys : List ℕ) : Type 0 where
 -- what is answered once these keys are taken, with the states before them and behind each of them, and what is then shown
 abbrev pub Answers : Stated → Option (List ℕ) → Option (List ℕ) → Option (List ℕ) → List ℕ → List Editing → Result End RunFault → Type 0
 Answers st left before now keys states (Ok Save) = EndsBy Step.Save keys × Shows st before now (take (length keys) states)
-Answers st left before now keys states (Ok Leave) = (EndsBy Step.Leave keys × Shows st before now (take (length keys) states)) ⊎ (MayGoOn keys × IsAtEnd left × Shows st before now states)
+Answers st left before now keys states (Ok Leave) =
+    (EndsBy Step.Leave keys × Shows st before now (take (length keys) states))
+    ⊎ (MayGoOn keys × IsAtEnd left × Shows st before now states)
 Answers st left before now keys states (Err Read) = MayGoOn keys × Shows st before now states
 Answers st left before now keys states (Err Write) = MayGoOn keys × ShowsPrefix st before now states
 Answers st left before now keys states (Err (Frame f)) = MayGoOn keys × Shows st before now (take (length keys) states)
 Answers st left before now keys states (Err TooManyKeys) = GoesOn keys × (length keys ≡ MOST_KEYS) × Shows st before now (take (length keys) states)
 
--- A run takes keys, of which each makes the next state from the first one, old, to the last one, new. That a read failed is said of
--- the whole run, from its first sources to its last ones.
-pub record IsRun {T : Type 0} (stated : T → Stated) (failures : T → ℕ) (keys_before keys_left before now : Option (List ℕ))
+-- A run takes keys, of which each makes the next state from the first one, old, to the last one, new. That a read failed is
+-- said of the whole run, from its first sources to its last ones.
+pub record IsRun {T : Type 0} (stated : T → Stated) (failures : T → ℕ)
+    (keys_before keys_left before now : Option (List ℕ))
     (old : EditorValue T) (result : Result End RunFault) (new : EditorValue T) : Type 0 where
   pub keys : List ℕ
   pub behind : List Editing

@@ -25,8 +25,8 @@ IsNextKey before left (Some b) = Consumes before left (b ∷ [])
 IsNextKey before left None = Consumes before left [] × IsAtEnd left
 
 -- the state is shown, and a key of this answer is taken or refused
-pub record TakesOne {T : Type 0} (stated : T → Stated) (failures : T → ℕ) (keys_before keys_left before now : Option (List ℕ))
-    (answer : Step) (old new : EditorValue T) : Type 0 where
+pub record TakesOne {T : Type 0} (stated : T → Stated) (failures : T → ℕ)
+    (keys_before keys_left before now : Option (List ℕ)) (answer : Step) (old new : EditorValue T) : Type 0 where
   pub byte : ℕ
   pub key : Consumes keys_before keys_left (byte ∷ [])
   pub answers : answer_to (key_of byte) ≡ answer
@@ -47,7 +47,8 @@ IsTurn stated failures keys left before now old (Ok (Some Save)) new =
     TakesOne stated failures keys left before now Step.Save old new
 IsTurn stated failures keys left before now old (Ok (Some Leave)) new =
     TakesOne stated failures keys left before now Step.Leave old new
-    ⊎ (TakesNone keys left old.editing new.editing × IsAtEnd left × Shows (stated old.sources) before now (old.editing ∷ []))
+    ⊎ (TakesNone keys left old.editing new.editing × IsAtEnd left
+        × Shows (stated old.sources) before now (old.editing ∷ []))
 IsTurn stated failures keys left before now old (Err Read) new =
     TakesNone keys left old.editing new.editing × Shows (stated old.sources) before now (old.editing ∷ [])
 IsTurn stated failures keys left before now old (Err fault) new =
