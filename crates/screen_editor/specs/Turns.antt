@@ -48,7 +48,7 @@ IsTurn stated failures keys left before now old (Ok (Some Save)) new =
 IsTurn stated failures keys left before now old (Ok (Some Leave)) new =
     TakesOne stated failures keys left before now Step.Leave old new
     ⊎ (TakesNone keys left old.editing new.editing × IsAtEnd left
-        × Shows (stated old.sources) before now (old.editing ∷ []))
+    × Shows (stated old.sources) before now (old.editing ∷ []))
 IsTurn stated failures keys left before now old (Err Read) new =
     TakesNone keys left old.editing new.editing × Shows (stated old.sources) before now (old.editing ∷ [])
 IsTurn stated failures keys left before now old (Err fault) new =
