@@ -8,6 +8,7 @@ use Rattle.lazy_file.proofs.LaterReads.{reads_then}
 use Rattle.lazy_file.specs.SourceTexts.{Stated}
 use Rattle.image_reader.specs.Value.{image_table}
 use Rattle.cord_tools.specs.Answers.{OfRevision, revision_cells}
+use Rattle.cord_tools.proofs.Bytes.{Keeps-same}
 use Rattle.cord_tools.proofs.RevisionCells.{root_cells, root_told}
 use Rattle.cord_tools.proofs.ToolFaults.{check_refused, show_stopped}
 use Rattle.cord_tools.proofs.UnreadCells.{later_unread, put_unheld, put_unread}
@@ -22,6 +23,27 @@ returns-in_err-image g c =
           (g.W.Write.contents c.args.writer.now) c.in_ok-bytes.bytes.items c.in_err-image.field-0.0 c.in_ok-bytes.ensures.ok
           (rw c.deref.ensures.value at c.in_err-image.ensures.refused);
     })
+
+pub returns-then-revision-from : goal.returns-then-revision-from
+returns-then-revision-from g c = record {
+  reads = c.in_ok-image.ensures.reads;
+  answer = (
+    Keeps-same (g.W.Write.contents c.args.writer.now),
+    (
+      c.in_ok-image.image,
+      c.in_ok-bytes.bytes.items,
+      c.in_ok-bytes.ensures.ok,
+      record {
+        accepted = rw c.deref.ensures.value at (c.in_ok-image.ensures.accepted refl);
+        image = c.in_ok-image.ensures.image.0;
+        spelled = sym c.deref.ensures.value ∙ c.in_ok-image.ensures.image.1;
+        sources = c.in_ok-image.ensures.sources;
+        faithful = c.in_ok-image.ensures.faithful;
+      },
+      omega (arith, c.if-revision-from.true, c.from.ensures, c.revisions.ensures.count),
+    ),
+  );
+}
 
 pub returns-in_err-put-in-Some : goal.returns-in_err-put-in-Some
 returns-in_err-put-in-Some g c =
