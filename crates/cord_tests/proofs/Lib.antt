@@ -3,3 +3,5 @@ pub mod WorkedRows
 pub mod WorkedFaults
 pub mod PartsOfTexts
 pub mod LeafRows
+pub mod WorkedFrames
+pub mod WrittenImages

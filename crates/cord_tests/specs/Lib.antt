@@ -2,3 +2,4 @@ pub mod Tables
 pub mod Pools
 pub mod Commands
 pub mod Images
+pub mod Keys

@@ -3,8 +3,11 @@
 mod certificates;
 mod functions;
 mod images;
+mod keys;
+mod limits;
 mod nodes;
 mod pieces;
 mod places;
 mod pools;
 mod sessions;
+mod written;

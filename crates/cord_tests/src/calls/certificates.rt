@@ -8,6 +8,7 @@ ghost use Rattle.function_leaf.specs.declared.coded.Coded.TheVariants.{Cycle};
 ghost use Rattle.rope_node.specs.Denotes.{IsRope};
 ghost use Rattle.node_table.specs.Held.{table_of};
 
+use super::assert_same;
 use function_leaf::Coded;
 use lazy_file::{MemSources, SourceFault, Sources};
 use node_table::NodeFault;
@@ -80,7 +81,7 @@ fn doublings_need_few_rows(rt: HostRuntime) -> Result<(), Fail> {
         root = both;
         rows = rows.saturating_add(more);
     }
-    assert_eq!(&rt; store.len(root), 1 << 39);
+    assert_same(&rt, &store.len(root), &(1 << 39));
     assert!(&rt; rows <= 100, "{rows} rows");
     Ok(())
 }
@@ -95,14 +96,18 @@ fn a_text_taken_back_is_one_shared_row(rt: HostRuntime) {
         len: 3,
         kind: RowKind::Shared(node, 0),
     };
-    assert_eq!(&rt; rows.as_slice(), [row].as_slice());
-    assert_eq!(&rt; found(&rt, &store, root, &rows), Verdict::Good);
+    assert_same(&rt, &rows.as_slice(), &[row].as_slice());
+    assert_same(&rt, &found(&rt, &store, root, &rows), &Verdict::Good);
     let elsewhere = Row {
         len: 3,
         kind: RowKind::Shared(node, 1),
     };
-    assert_eq!(&rt; found(&rt, &store, root, &[elsewhere]), Verdict::Bad(0));
-    assert_eq!(&rt; found(&rt, &store, root, &[]), Verdict::Bad(0));
+    assert_same(
+        &rt,
+        &found(&rt, &store, root, &[elsewhere]),
+        &Verdict::Bad(0),
+    );
+    assert_same(&rt, &found(&rt, &store, root, &[]), &Verdict::Bad(0));
 }
 
 fn function<A: Abort>(rt: &A, store: &mut Store<Coded>, f: Coded, n: u64) -> Rope {
@@ -150,18 +155,20 @@ fn ramps_whose_starts_differ_by_256_have_one_description(rt: HostRuntime) {
     let short = function(&rt, &mut store, Coded::ramp(0), 300);
     let other = function(&rt, &mut store, Coded::ramp(1), 300);
     let first = described(&rt, &store, short, 0, 300);
-    assert_eq!(&rt;
-        first,
-        Some(Description::Computed {
+    assert_same(
+        &rt,
+        &first,
+        &Some(Description::Computed {
             f: Coded::ramp(0),
-            i: 0
-        })
+            i: 0,
+        }),
     );
-    assert_eq!(&rt; described(&rt, &store, long, 256, 300), first);
-    assert_eq!(&rt; described_leaf(&rt, &store, long, 256), first);
-    assert_eq!(&rt;
-        described(&rt, &store, long, 257, 299),
-        described(&rt, &store, other, 0, 299)
+    assert_same(&rt, &described(&rt, &store, long, 256, 300), &first);
+    assert_same(&rt, &described_leaf(&rt, &store, long, 256), &first);
+    assert_same(
+        &rt,
+        &described(&rt, &store, long, 257, 299),
+        &described(&rt, &store, other, 0, 299),
     );
     assert!(&rt; described(&rt, &store, long, 255, 300) != first);
     assert!(&rt; described(&rt, &store, other, 0, 300) != first);
@@ -174,15 +181,20 @@ fn cycles_have_one_description_where_pattern_and_place_in_it_are_one(rt: HostRun
     let four = cycle(&rt, &mut store, b"abab", 20);
     let first = described(&rt, &store, two, 0, 10);
     let pattern = Coded::cycle(b"ab").expect(&rt, "two bytes");
-    assert_eq!(&rt; first, Some(Description::Computed { f: pattern, i: 0 }));
-    assert_eq!(&rt; described(&rt, &store, two, 2, 10), first);
-    assert_eq!(&rt; described_leaf(&rt, &store, two, 20), first);
+    assert_same(
+        &rt,
+        &first,
+        &Some(Description::Computed { f: pattern, i: 0 }),
+    );
+    assert_same(&rt, &described(&rt, &store, two, 2, 10), &first);
+    assert_same(&rt, &described_leaf(&rt, &store, two, 20), &first);
     assert!(&rt; described(&rt, &store, two, 1, 10) != first);
     assert!(&rt; described(&rt, &store, four, 0, 10) != first);
     assert!(&rt; described(&rt, &store, four, 0, 10) != described(&rt, &store, four, 2, 10));
-    assert_eq!(&rt;
-        described(&rt, &store, four, 0, 10),
-        described(&rt, &store, four, 4, 10)
+    assert_same(
+        &rt,
+        &described(&rt, &store, four, 0, 10),
+        &described(&rt, &store, four, 4, 10),
     );
 }
 
@@ -325,20 +337,27 @@ fn a_row_of_bytes_has_at_most_4096(rt: HostRuntime) {
     let root = function(&rt, &mut store, Coded::fill(b'x'), 4096);
     let longer = function(&rt, &mut store, Coded::fill(b'x'), 4097);
     let parts = fill_parts(&rt, &store, b'x', 4096);
-    assert_eq!(&rt;
-        verdict(&rt, &store, &parts, root, &[bytes(4096)]),
-        Verdict::Good
+    assert_same(
+        &rt,
+        &verdict(&rt, &store, &parts, root, &[bytes(4096)]),
+        &Verdict::Good,
     );
     let parts = fill_parts(&rt, &store, b'x', 4097);
-    assert_eq!(&rt;
-        verdict(&rt, &store, &parts, longer, &[bytes(4097)]),
-        Verdict::Bad(0)
+    assert_same(
+        &rt,
+        &verdict(&rt, &store, &parts, longer, &[bytes(4097)]),
+        &Verdict::Bad(0),
     );
     let two = [bytes(1), bytes(4096)];
-    assert_eq!(&rt; verdict(&rt, &store, &parts, longer, &two), Verdict::Good);
-    assert_eq!(&rt;
-        verdict(&rt, &store, &parts, longer, &[leaf(4097)]),
-        Verdict::Good
+    assert_same(
+        &rt,
+        &verdict(&rt, &store, &parts, longer, &two),
+        &Verdict::Good,
+    );
+    assert_same(
+        &rt,
+        &verdict(&rt, &store, &parts, longer, &[leaf(4097)]),
+        &Verdict::Good,
     );
 }
 
@@ -348,20 +367,27 @@ fn a_fill_and_a_cycle_of_its_byte_are_compared_by_bytes(rt: HostRuntime) {
     let root = cycle(&rt, &mut store, b"a", 5);
     let other = cycle(&rt, &mut store, b"aaaab", 5);
     let parts = fill_parts(&rt, &store, b'a', 5);
-    assert_eq!(&rt;
-        verdict(&rt, &store, &parts, root, &[leaf(5)]),
-        Verdict::Bad(0)
+    assert_same(
+        &rt,
+        &verdict(&rt, &store, &parts, root, &[leaf(5)]),
+        &Verdict::Bad(0),
     );
-    assert_eq!(&rt;
-        verdict(&rt, &store, &parts, root, &[bytes(5)]),
-        Verdict::Good
+    assert_same(
+        &rt,
+        &verdict(&rt, &store, &parts, root, &[bytes(5)]),
+        &Verdict::Good,
     );
-    assert_eq!(&rt;
-        verdict(&rt, &store, &parts, other, &[bytes(5)]),
-        Verdict::Bad(0)
+    assert_same(
+        &rt,
+        &verdict(&rt, &store, &parts, other, &[bytes(5)]),
+        &Verdict::Bad(0),
     );
     let two = [bytes(4), bytes(1)];
-    assert_eq!(&rt; verdict(&rt, &store, &parts, other, &two), Verdict::Bad(1));
+    assert_same(
+        &rt,
+        &verdict(&rt, &store, &parts, other, &two),
+        &Verdict::Bad(1),
+    );
 }
 
 fn cat<A: Abort>(rt: &A, store: &mut Store<Coded>, l: Rope, r: Rope) -> Rope {
@@ -397,21 +423,27 @@ fn an_insertion_in_the_middle_has_a_row_for_each_part(rt: HostRuntime) {
         leaf(3),
         shared(&rt, ramp, 100, 200),
     ];
-    assert_eq!(&rt; made.as_slice(), rows.as_slice());
-    assert_eq!(&rt; verdict(&rt, &store, &parts, root, &made), Verdict::Good);
+    assert_same(&rt, &made.as_slice(), &rows.as_slice());
+    assert_same(
+        &rt,
+        &verdict(&rt, &store, &parts, root, &made),
+        &Verdict::Good,
+    );
     let by_bytes = [bytes(100), bytes(3), bytes(200)];
-    assert_eq!(&rt;
-        verdict(&rt, &store, &parts, root, &by_bytes),
-        Verdict::Good
+    assert_same(
+        &rt,
+        &verdict(&rt, &store, &parts, root, &by_bytes),
+        &Verdict::Good,
     );
     let elsewhere = [
         shared(&rt, ramp, 0, 100),
         leaf(3),
         shared(&rt, ramp, 0, 200),
     ];
-    assert_eq!(&rt;
-        verdict(&rt, &store, &parts, root, &elsewhere),
-        Verdict::Bad(2)
+    assert_same(
+        &rt,
+        &verdict(&rt, &store, &parts, root, &elsewhere),
+        &Verdict::Bad(2),
     );
 }
 
@@ -421,29 +453,34 @@ fn a_row_lies_inside_one_part(rt: HostRuntime) {
     let (ramp, root) = ramp_with_xyz(&rt, &mut store);
     let parts = insert_parts(&rt, &store, ramp, 100, 3);
     let over_the_first = [bytes(101), bytes(2), bytes(200)];
-    assert_eq!(&rt;
-        verdict(&rt, &store, &parts, root, &over_the_first),
-        Verdict::Bad(0)
+    assert_same(
+        &rt,
+        &verdict(&rt, &store, &parts, root, &over_the_first),
+        &Verdict::Bad(0),
     );
     let over_the_second = [leaf(100), bytes(4), leaf(199)];
-    assert_eq!(&rt;
-        verdict(&rt, &store, &parts, root, &over_the_second),
-        Verdict::Bad(1)
+    assert_same(
+        &rt,
+        &verdict(&rt, &store, &parts, root, &over_the_second),
+        &Verdict::Bad(1),
     );
     let over_all = [bytes(303)];
-    assert_eq!(&rt;
-        verdict(&rt, &store, &parts, root, &over_all),
-        Verdict::Bad(0)
+    assert_same(
+        &rt,
+        &verdict(&rt, &store, &parts, root, &over_all),
+        &Verdict::Bad(0),
     );
     let past_the_end = [leaf(100), leaf(3), leaf(201)];
-    assert_eq!(&rt;
-        verdict(&rt, &store, &parts, root, &past_the_end),
-        Verdict::Bad(2)
+    assert_same(
+        &rt,
+        &verdict(&rt, &store, &parts, root, &past_the_end),
+        &Verdict::Bad(2),
     );
     let behind_the_end = [leaf(100), leaf(3), leaf(200), leaf(1)];
-    assert_eq!(&rt;
-        verdict(&rt, &store, &parts, root, &behind_the_end),
-        Verdict::Bad(3)
+    assert_same(
+        &rt,
+        &verdict(&rt, &store, &parts, root, &behind_the_end),
+        &Verdict::Bad(3),
     );
 }
 
@@ -457,7 +494,11 @@ fn text_left_uncovered_is_told_by_the_number_of_rows(rt: HostRuntime) {
         let found = verdict(&rt, &store, &parts, root, &rows[..n]);
         assert_eq!(&rt; found, Verdict::Bad(n), "{n} rows");
     }
-    assert_eq!(&rt; verdict(&rt, &store, &parts, root, &rows), Verdict::Good);
+    assert_same(
+        &rt,
+        &verdict(&rt, &store, &parts, root, &rows),
+        &Verdict::Good,
+    );
 }
 
 #[test]
@@ -467,9 +508,17 @@ fn a_row_of_no_length_is_bad(rt: HostRuntime) {
     let parts = insert_parts(&rt, &store, ramp, 100, 3);
     for empty in [leaf(0), bytes(0), shared(&rt, ramp, 100, 0)] {
         let rows = [leaf(100), empty, leaf(3), leaf(200)];
-        assert_eq!(&rt; verdict(&rt, &store, &parts, root, &rows), Verdict::Bad(1));
+        assert_same(
+            &rt,
+            &verdict(&rt, &store, &parts, root, &rows),
+            &Verdict::Bad(1),
+        );
         let rows = [leaf(100), leaf(3), leaf(200), empty];
-        assert_eq!(&rt; verdict(&rt, &store, &parts, root, &rows), Verdict::Bad(3));
+        assert_same(
+            &rt,
+            &verdict(&rt, &store, &parts, root, &rows),
+            &Verdict::Bad(3),
+        );
     }
 }
 
@@ -532,13 +581,13 @@ fn a_source_that_no_read_succeeds_of_is_opened_cut_and_taken_back(rt: HostRuntim
     ] {
         let rows = made_where_leaves_cover(&rt, &store, &mut sources, &parts, root, &[leaf(len)]);
         let found = verdict_over(&rt, &store, &mut sources, &parts, root, &rows);
-        assert_eq!(&rt; found, Verdict::Good);
+        assert_same(&rt, &found, &Verdict::Good);
         count = count.saturating_add(rows.len());
     }
     assert!(&rt; count <= 3, "{count} rows");
     assert!(&rt; !sources.is_read);
     let mut two = [0; 2];
-    assert_eq!(&rt; sources.read(0, 0, &mut two), Err(SourceFault::Short));
+    assert_same(&rt, &sources.read(0, 0, &mut two), &Err(SourceFault::Short));
 }
 
 #[test]
@@ -555,15 +604,15 @@ fn a_source_is_read_for_rows_of_bytes_alone(rt: HostRuntime) {
     ] {
         let rows = [unfit, bytes(1)];
         let answer = answer_over(&rt, &store, &mut sources, &parts, root, &rows);
-        assert_eq!(&rt; answer, Ok(Verdict::Bad(0)));
+        assert_same(&rt, &answer, &Ok(Verdict::Bad(0)));
     }
     let rows = [leaf(LONGEST), bytes(1)];
     let answer = answer_over(&rt, &store, &mut sources, &parts, root, &rows);
-    assert_eq!(&rt; answer, Ok(Verdict::Bad(1)));
+    assert_same(&rt, &answer, &Ok(Verdict::Bad(1)));
     assert!(&rt; !sources.is_read);
     let rows = [leaf(LONGEST - 1), bytes(1)];
     let answer = answer_over(&rt, &store, &mut sources, &parts, root, &rows);
-    assert_eq!(&rt; answer, Err(SourceFault::Short));
+    assert_same(&rt, &answer, &Err(SourceFault::Short));
     assert!(&rt; sources.is_read);
 }
 
@@ -587,6 +636,6 @@ fn a_row_of_bytes_is_made_where_descriptions_differ(rt: HostRuntime) -> Result<(
     let mut store: Store<Coded> = Store::new(rt.alloc());
     let f = Coded::cycle(b"a").expect(&rt, "a pattern");
     let rows = made_for_a_cycle(&rt, &mut store, f)?;
-    assert_eq!(&rt; rows.as_slice(), [bytes(5)].as_slice());
+    assert_same(&rt, &rows.as_slice(), &[bytes(5)].as_slice());
     Ok(())
 }

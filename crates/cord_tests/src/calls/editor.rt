@@ -2,6 +2,7 @@
 
 use super::edits::{next, spliced};
 use super::written::Short;
+use super::{assert_same, assert_same_at};
 use cord_search::put;
 use edit_commands::Session;
 use lazy_file::{MemSources, SourceFault, Sources};
@@ -60,7 +61,7 @@ fn press<S: Sources + Drop>(editor: &mut Editor<S>, byte: u8) -> Result<Step, Ke
 
 fn typed<S: Sources + Drop>(rt: &impl Abort, editor: &mut Editor<S>, keys: &[u8]) {
     for byte in keys {
-        assert_eq!(rt; press(editor, *byte), Ok(Step::Going));
+        assert_same(rt, &press(editor, *byte), &Ok(Step::Going));
     }
 }
 
@@ -106,10 +107,14 @@ fn ends_with(bytes: &[u8], end: &[u8]) -> bool {
 fn typing_goes_on_from_the_text_that_undo_gave(rt: HostRuntime) {
     let mut editor = editor(&rt, None);
     typed(&rt, &mut editor, &[b'a', b'b', UNDO, b'c']);
-    assert_eq!(rt; LAST_FRAME.len(), 78);
-    assert_eq!(rt; shown(&rt, &mut editor).as_slice(), LAST_FRAME);
+    assert_same(&rt, &LAST_FRAME.len(), &78);
+    assert_same(&rt, &shown(&rt, &mut editor).as_slice(), &LAST_FRAME);
     for (k, wanted) in (0u32..).zip([b"".as_slice(), b"a", b"ab", b"a", b"ac"]) {
-        assert_eq!(rt; text(&rt, editor.session(), None, k).as_slice(), wanted);
+        assert_same(
+            &rt,
+            &text(&rt, editor.session(), None, k).as_slice(),
+            &wanted,
+        );
     }
 }
 
@@ -144,13 +149,15 @@ fn what_was_cut_is_pasted(rt: HostRuntime) {
         &mut editor,
         &[LINE_START, MARK, RIGHT, RIGHT, CUT, LINE_END, PASTE],
     );
-    assert_eq!(rt;
-        text(&rt, editor.session(), None, 4).as_slice(),
-        b"c".as_slice()
+    assert_same(
+        &rt,
+        &text(&rt, editor.session(), None, 4).as_slice(),
+        &b"c".as_slice(),
     );
-    assert_eq!(rt;
-        text(&rt, editor.session(), None, 5).as_slice(),
-        b"cab".as_slice()
+    assert_same(
+        &rt,
+        &text(&rt, editor.session(), None, 5).as_slice(),
+        &b"cab".as_slice(),
     );
     assert!(rt; ends_with(&shown(&rt, &mut editor), b"rev 5 byte 3 of 3\x1b[1;4H"));
 }
@@ -159,14 +166,16 @@ fn what_was_cut_is_pasted(rt: HostRuntime) {
 fn undo_ends_at_the_first_text(rt: HostRuntime) {
     let mut editor = editor(&rt, None);
     typed(&rt, &mut editor, &[b'a', b'b', UNDO, UNDO, UNDO]);
-    assert_eq!(rt; count(editor.session()), 5);
-    assert_eq!(rt;
-        text(&rt, editor.session(), None, 3).as_slice(),
-        b"a".as_slice()
+    assert_same(&rt, &count(editor.session()), &5);
+    assert_same(
+        &rt,
+        &text(&rt, editor.session(), None, 3).as_slice(),
+        &b"a".as_slice(),
     );
-    assert_eq!(rt;
-        text(&rt, editor.session(), None, 4).as_slice(),
-        b"".as_slice()
+    assert_same(
+        &rt,
+        &text(&rt, editor.session(), None, 4).as_slice(),
+        &b"".as_slice(),
     );
     assert!(rt; ends_with(&shown(&rt, &mut editor), b"rev 4 byte 0 of 0\x1b[1;1H"));
 }
@@ -177,13 +186,13 @@ fn sixteen_cut_spans_are_kept(rt: HostRuntime) {
     for _ in 0..17 {
         typed(&rt, &mut editor, &[b'a', MARK, LEFT, CUT]);
     }
-    assert_eq!(rt; count(editor.session()), 35);
+    assert_same(&rt, &count(editor.session()), &35);
     for _ in 0..17 {
         typed(&rt, &mut editor, &[PASTE, DROP]);
     }
-    assert_eq!(rt; count(editor.session()), 51);
+    assert_same(&rt, &count(editor.session()), &51);
     let last = text(&rt, editor.session(), None, 50);
-    assert_eq!(rt; last.as_slice(), [b'a'; 16].as_slice());
+    assert_same(&rt, &last.as_slice(), &[b'a'; 16].as_slice());
 }
 
 // ---- refusals
@@ -235,11 +244,11 @@ fn a_text_of_two_gibibytes_is_too_long(rt: HostRuntime) {
     assert!(rt; matches!(made, Err(EditorFault::TooLong)));
     let longest = uniform_source(2_147_483_647, Some(b'\n'));
     let mut editor = Editor::new(rt.alloc(), longest).expect(&rt, "an editor");
-    assert_eq!(rt; press(&mut editor, b'a'), Err(KeyFault::TooLong));
-    assert_eq!(rt; count(editor.session()), 1);
+    assert_same(&rt, &press(&mut editor, b'a'), &Err(KeyFault::TooLong));
+    assert_same(&rt, &count(editor.session()), &1);
     let refused = b"rev 0 byte 0 of 2147483647 K1\x1b[1;1H";
     assert!(rt; ends_with(&shown(&rt, &mut editor), refused));
-    assert_eq!(rt; press(&mut editor, SAVE), Ok(Step::Save));
+    assert_same(&rt, &press(&mut editor, SAVE), &Ok(Step::Save));
     assert!(rt; ends_with(&shown(&rt, &mut editor), refused));
     typed(&rt, &mut editor, &[MARK]);
     assert!(rt;
@@ -255,13 +264,13 @@ fn a_refused_key_changes_the_message_alone(rt: HostRuntime) {
     let mut editor = Editor::new(rt.alloc(), uniform_source(5, None)).expect(&rt, "an editor");
     typed(&rt, &mut editor, &[RIGHT, MARK, RIGHT]);
     let refused = Err(KeyFault::Source(SourceFault::Short));
-    assert_eq!(rt; press(&mut editor, LINE_END), refused);
+    assert_same(&rt, &press(&mut editor, LINE_END), &refused);
     assert!(rt; matches!(editor.frame(), Err(FrameFault::Source(SourceFault::Short))));
     // The mark and the place are as they were, so one byte is cut.
     typed(&rt, &mut editor, &[CUT]);
-    assert_eq!(rt; count(editor.session()), 2);
+    assert_same(&rt, &count(editor.session()), &2);
     let cut = Edit::Delete { r: 0, p: 1, n: 1 };
-    assert_eq!(rt; editor.session().edit(1), Some(cut));
+    assert_same(&rt, &editor.session().edit(1), &Some(cut));
 }
 
 // ---- runs
@@ -277,12 +286,12 @@ fn a_run_shows_each_state_and_ends_by_its_key(rt: HostRuntime) {
         let mut editor = editor(&rt, None);
         let mut left = keys;
         let mut screen: Vec<u8> = Vec::new(rt.alloc());
-        assert_eq!(rt; editor.run(&mut left, &mut screen), Ok(end));
+        assert_same(&rt, &editor.run(&mut left, &mut screen), &Ok(end));
         let clears = screen
             .windows(4)
             .filter(|w| *w == b"\x1b[2J".as_slice())
             .count();
-        assert_eq!(rt; clears, frames);
+        assert_same(&rt, &clears, &frames);
         if frames == 5 {
             assert!(rt; ends_with(&screen, LAST_FRAME));
         }
@@ -294,7 +303,11 @@ fn a_screen_that_fails_has_a_prefix(rt: HostRuntime) {
     let keys = b"ab\x15c\x18";
     let mut whole: Vec<u8> = Vec::new(rt.alloc());
     let mut first = editor(&rt, None);
-    assert_eq!(rt; first.run(&mut keys.as_slice(), &mut whole), Ok(End::Save));
+    assert_same(
+        &rt,
+        &first.run(&mut keys.as_slice(), &mut whole),
+        &Ok(End::Save),
+    );
     for m in 0..whole.len() {
         let mut taken: Vec<u8> = Vec::new(rt.alloc());
         let mut screen = Short {
@@ -302,11 +315,12 @@ fn a_screen_that_fails_has_a_prefix(rt: HostRuntime) {
             room: m,
         };
         let mut editor = editor(&rt, None);
-        assert_eq!(rt;
-            editor.run(&mut keys.as_slice(), &mut screen),
-            Err(RunFault::Write)
+        assert_same(
+            &rt,
+            &editor.run(&mut keys.as_slice(), &mut screen),
+            &Err(RunFault::Write),
         );
-        assert_eq!(rt; Some(taken.as_slice()), whole.get(..m));
+        assert_same(&rt, &Some(taken.as_slice()), &whole.get(..m));
     }
 }
 
@@ -529,8 +543,8 @@ fn ten_thousand_random_runs_give_what_lists_give(rt: HostRuntime) {
                 lists.step(&rt, byte);
             }
         }
-        assert_eq!(rt; shown(&rt, &mut editor), lists.frame(&rt), "{run}");
-        assert_eq!(rt; count(editor.session()) as usize, lists.texts.len());
+        assert_same_at(&rt, &shown(&rt, &mut editor), &lists.frame(&rt), &run);
+        assert_same(&rt, &(count(editor.session()) as usize), &lists.texts.len());
         for (k, wanted) in (0u32..).zip(lists.texts.iter()) {
             assert_eq!(rt;
                 text(&rt, editor.session(), source, k),

@@ -1,5 +1,6 @@
 //! Sessions: what commands make, why they are refused, and what is then as before.
 
+use super::{assert_same, assert_same_at};
 use cord_search::put;
 use edit_commands::{Command, EditFault, Session};
 use lazy_file::MemSources;
@@ -52,13 +53,13 @@ fn size(rt: &impl Abort, session: &Session, k: u32) -> (u64, u8) {
 /// A session of an empty text and `abc`.
 pub(super) fn two_texts<R: AllocGlobal + Abort>(rt: &R) -> Session {
     let mut session = Session::new(rt.alloc());
-    assert_eq!(rt; made(rt, &mut session, Command::New), 0);
+    assert_same(rt, &made(rt, &mut session, Command::New), &0);
     let abc = Command::Insert {
         r: 0,
         p: 0,
         bytes: b"abc",
     };
-    assert_eq!(rt; made(rt, &mut session, abc), 1);
+    assert_same(rt, &made(rt, &mut session, abc), &1);
     session
 }
 
@@ -71,25 +72,30 @@ fn insertions_leave_earlier_texts(rt: HostRuntime) {
         p: 0,
         bytes: b"a",
     };
-    assert_eq!(rt; made(&rt, &mut session, first), 1);
+    assert_same(&rt, &made(&rt, &mut session, first), &1);
     let second = Command::Insert {
         r: 1,
         p: 1,
         bytes: b"b",
     };
-    assert_eq!(rt; made(&rt, &mut session, second), 2);
-    assert_eq!(rt; text(&rt, &session, 0).as_slice(), b"".as_slice());
-    assert_eq!(rt; text(&rt, &session, 1).as_slice(), b"a".as_slice());
-    assert_eq!(rt; text(&rt, &session, 2).as_slice(), b"ab".as_slice());
+    assert_same(&rt, &made(&rt, &mut session, second), &2);
+    assert_same(&rt, &text(&rt, &session, 0).as_slice(), &b"".as_slice());
+    assert_same(&rt, &text(&rt, &session, 1).as_slice(), &b"a".as_slice());
+    assert_same(&rt, &text(&rt, &session, 2).as_slice(), &b"ab".as_slice());
     let literal = NodeView::Lit { a: 0 };
-    assert_eq!(rt; session.space().count(), 2);
-    assert_eq!(rt; shape(&rt, &session, NodeId(0)), (literal, 1));
-    assert_eq!(rt; shape(&rt, &session, NodeId(1)), (literal, 2));
-    assert_eq!(rt; session.space().pool_len(), 2);
-    assert_eq!(rt; (session.root(0), session.root(3)), (Some(None), None));
-    assert_eq!(rt;
-        (session.mark(0), session.mark(2)),
-        (Some(false), Some(true))
+    assert_same(&rt, &session.space().count(), &2);
+    assert_same(&rt, &shape(&rt, &session, NodeId(0)), &(literal, 1));
+    assert_same(&rt, &shape(&rt, &session, NodeId(1)), &(literal, 2));
+    assert_same(&rt, &session.space().pool_len(), &2);
+    assert_same(
+        &rt,
+        &(session.root(0), session.root(3)),
+        &(Some(None), None),
+    );
+    assert_same(
+        &rt,
+        &(session.mark(0), session.mark(2)),
+        &(Some(false), Some(true)),
     );
     let put_behind = Edit::Insert {
         r: 1,
@@ -97,14 +103,14 @@ fn insertions_leave_earlier_texts(rt: HostRuntime) {
         a: 1,
         n: 1,
     };
-    assert_eq!(rt; session.edit(2), Some(put_behind));
+    assert_same(&rt, &session.edit(2), &Some(put_behind));
     let leaf = Row {
         len: 1,
         kind: RowKind::Leaf,
     };
-    assert_eq!(rt; session.rows(0), Some([].as_slice()));
-    assert_eq!(rt; session.rows(1), Some([leaf].as_slice()));
-    assert_eq!(rt; session.rows(2), Some([leaf, leaf].as_slice()));
+    assert_same(&rt, &session.rows(0), &Some([].as_slice()));
+    assert_same(&rt, &session.rows(1), &Some([leaf].as_slice()));
+    assert_same(&rt, &session.rows(2), &Some([leaf, leaf].as_slice()));
     assert!(rt; session.rows(3).is_none());
 }
 
@@ -127,10 +133,10 @@ fn refusals_come_in_order_and_change_nothing(rt: HostRuntime) {
             EditFault::Range,
         ),
     ] {
-        assert_eq!(rt; applied(&mut session, command), Err(fault));
-        assert_eq!(rt; session.count(), 2);
+        assert_same(&rt, &applied(&mut session, command), &Err(fault));
+        assert_same(&rt, &session.count(), &2);
     }
-    assert_eq!(rt; text(&rt, &session, 1).as_slice(), b"abc".as_slice());
+    assert_same(&rt, &text(&rt, &session, 1).as_slice(), &b"abc".as_slice());
 }
 
 #[test]
@@ -143,8 +149,8 @@ fn too_many_bytes_are_refused_before_the_pool_grows(rt: HostRuntime) {
         bytes: &long,
     };
     let too_long = EditFault::Node(NodeFault::TooLong);
-    assert_eq!(rt; applied(&mut session, command), Err(too_long));
-    assert_eq!(rt; (session.count(), session.space().pool_len()), (2, 3));
+    assert_same(&rt, &applied(&mut session, command), &Err(too_long));
+    assert_same(&rt, &(session.count(), session.space().pool_len()), &(2, 3));
 }
 
 #[test]
@@ -188,10 +194,10 @@ fn texts_are_what_commands_give(rt: HostRuntime) {
         (Command::New, b""),
     ] {
         let k = made(&rt, &mut session, command);
-        assert_eq!(rt; text(&rt, &session, k).as_slice(), wanted, "{k}");
+        assert_same_at(&rt, &text(&rt, &session, k).as_slice(), &wanted, &k);
     }
-    assert_eq!(rt; session.root(9), session.root(5));
-    assert_eq!(rt; text(&rt, &session, 1).as_slice(), b"abc".as_slice());
+    assert_same(&rt, &session.root(9), &session.root(5));
+    assert_same(&rt, &text(&rt, &session, 1).as_slice(), &b"abc".as_slice());
 }
 
 #[test]
@@ -205,9 +211,9 @@ fn fill_of_the_longest_text_is_taken(rt: HostRuntime) {
         n,
     };
     let too_long = EditFault::Node(NodeFault::TooLong);
-    assert_eq!(rt; applied(&mut session, fill(1 << 40)), Err(too_long));
-    assert_eq!(rt; made(&rt, &mut session, fill((1 << 40) - 1)), 1);
-    assert_eq!(rt; size(&rt, &session, 1), ((1 << 40) - 1, 0));
+    assert_same(&rt, &applied(&mut session, fill(1 << 40)), &Err(too_long));
+    assert_same(&rt, &made(&rt, &mut session, fill((1 << 40) - 1)), &1);
+    assert_same(&rt, &size(&rt, &session, 1), &((1 << 40) - 1, 0));
 }
 
 #[test]
@@ -224,7 +230,7 @@ fn thirty_nine_doublings_are_shallow(rt: HostRuntime) {
         let command = Command::Join { r: last, q: last };
         last = made(&rt, &mut session, command);
     }
-    assert_eq!(rt; size(&rt, &session, last), (1 << 39, 35));
+    assert_same(&rt, &size(&rt, &session, last), &(1 << 39, 35));
     let mut rows = 0usize;
     for k in 0..session.count() {
         rows = rows.saturating_add(session.rows(k).map_or(0, <[Row]>::len));
@@ -235,10 +241,10 @@ fn thirty_nine_doublings_are_shallow(rt: HostRuntime) {
 #[test]
 fn sources_are_opened_by_number(rt: HostRuntime) {
     let mut session = Session::new(rt.alloc());
-    assert_eq!(rt; session.add_source((1 << 40) - 1), Ok(0));
-    assert_eq!(rt; session.add_source(0), Ok(1));
+    assert_same(&rt, &session.add_source((1 << 40) - 1), &Ok(0));
+    assert_same(&rt, &session.add_source(0), &Ok(1));
     let too_long = EditFault::Node(NodeFault::TooLong);
-    assert_eq!(rt; session.add_source(1 << 40), Err(too_long));
+    assert_same(&rt, &session.add_source(1 << 40), &Err(too_long));
     made(&rt, &mut session, Command::Open { s: 0 });
     made(&rt, &mut session, Command::Open { s: 1 });
     made(
@@ -251,12 +257,16 @@ fn sources_are_opened_by_number(rt: HostRuntime) {
         },
     );
     made(&rt, &mut session, Command::Back { r: 0 });
-    assert_eq!(rt; size(&rt, &session, 0), ((1 << 40) - 1, 0));
-    assert_eq!(rt; session.root(1), Some(None));
-    assert_eq!(rt; size(&rt, &session, 2), (1_000_000_000_000, 0));
-    assert_eq!(rt; session.root(3), session.root(0));
+    assert_same(&rt, &size(&rt, &session, 0), &((1 << 40) - 1, 0));
+    assert_same(&rt, &session.root(1), &Some(None));
+    assert_same(&rt, &size(&rt, &session, 2), &(1_000_000_000_000, 0));
+    assert_same(&rt, &session.root(3), &session.root(0));
     let refused = Command::Open { s: 2 };
-    assert_eq!(rt; applied(&mut session, refused), Err(EditFault::NoSource));
+    assert_same(
+        &rt,
+        &applied(&mut session, refused),
+        &Err(EditFault::NoSource),
+    );
 }
 
 // ---- random commands beside plain lists
@@ -364,11 +374,21 @@ fn a_thousand_commands_give_what_lists_give(rt: HostRuntime) {
             (next(&mut seed) % 256) as u8,
         ];
         let (command, wanted) = random_command(&rt, &mut seed, &texts, &bytes);
-        assert_eq!(rt; made(&rt, &mut session, command), k);
-        assert_eq!(rt; text(&rt, &session, k).as_slice(), wanted.as_slice(), "{k}");
+        assert_same(&rt, &made(&rt, &mut session, command), &k);
+        assert_same_at(
+            &rt,
+            &text(&rt, &session, k).as_slice(),
+            &wanted.as_slice(),
+            &k,
+        );
         texts.push(wanted).expect(&rt, "a text");
     }
     for (k, wanted) in (0u32..).zip(texts.iter()) {
-        assert_eq!(rt; text(&rt, &session, k).as_slice(), wanted.as_slice(), "{k}");
+        assert_same_at(
+            &rt,
+            &text(&rt, &session, k).as_slice(),
+            &wanted.as_slice(),
+            &k,
+        );
     }
 }

@@ -1,5 +1,6 @@
 //! Images cut short, changed, over sources that fail, and of a text pasted into itself.
 
+use super::assert_same;
 use crate::calls::sessions::SUBSTRINGS;
 use crate::calls::sources::FailsOnce;
 use cord_tools::{Status, ToolFault, run_check, run_show};
@@ -181,7 +182,7 @@ fn an_unused_byte_that_is_set_is_refused(rt: HostRuntime) {
         (PASTED, IN_PASTED),
         (SUBSTRINGS, IN_SUBSTRINGS),
     ] {
-        assert_eq!(&rt; read_fault(image), None);
+        assert_same(&rt, &read_fault(image), &None);
         for (place, runs) in records {
             assert_unused(&rt, image, *place, runs);
         }
@@ -216,30 +217,35 @@ fn shown<A: AllocGlobal, S: Sources>(
 #[test]
 fn a_row_of_bytes_over_a_source_is_accepted_by_the_sources_bytes(rt: HostRuntime) {
     let mut none = MemSources::new(rt.alloc());
-    assert_eq!(&rt; checked(OPENED, &mut none), Err(CheckFault::SourceCount));
+    assert_same(
+        &rt,
+        &checked(OPENED, &mut none),
+        &Err(CheckFault::SourceCount),
+    );
     let mut short = MemSources::new(rt.alloc());
-    assert_eq!(&rt; short.add(b"ab"), Ok(0));
-    assert_eq!(&rt;
-        checked(OPENED, &mut short),
-        Err(CheckFault::SourceLength(0))
+    assert_same(&rt, &short.add(b"ab"), &Ok(0));
+    assert_same(
+        &rt,
+        &checked(OPENED, &mut short),
+        &Err(CheckFault::SourceLength(0)),
     );
     let mut whole = MemSources::new(rt.alloc());
-    assert_eq!(&rt; whole.add(b"abc"), Ok(0));
-    assert_eq!(&rt; checked(OPENED, &mut whole), Ok(1));
+    assert_same(&rt, &whole.add(b"abc"), &Ok(0));
+    assert_same(&rt, &checked(OPENED, &mut whole), &Ok(1));
     let text = shown(&rt, OPENED, &mut whole, 0).expect(&rt, "a text");
-    assert_eq!(&rt; text.as_slice(), b"abc".as_slice());
+    assert_same(&rt, &text.as_slice(), &b"abc".as_slice());
 }
 
 #[test]
 fn a_source_that_works_again_is_accepted(rt: HostRuntime) {
     let mut sources = FailsOnce { failed: false };
     let fault = CheckFault::Source(SourceFault::Device);
-    assert_eq!(&rt; checked(OPENED, &mut sources), Err(fault));
+    assert_same(&rt, &checked(OPENED, &mut sources), &Err(fault));
     let printed = fault.to_string(rt.alloc()).expect(&rt, "memory");
-    assert_eq!(&rt; printed.as_str(), "C12(S1)");
-    assert_eq!(&rt; checked(OPENED, &mut sources), Ok(1));
+    assert_same(&rt, &printed.as_str(), &"C12(S1)");
+    assert_same(&rt, &checked(OPENED, &mut sources), &Ok(1));
     let text = shown(&rt, OPENED, &mut sources, 0).expect(&rt, "a text");
-    assert_eq!(&rt; text.as_slice(), b"xxx".as_slice());
+    assert_same(&rt, &text.as_slice(), &b"xxx".as_slice());
 }
 
 #[test]
@@ -247,22 +253,23 @@ fn a_check_answers_once_its_source_works_again(rt: HostRuntime) {
     let mut sources = FailsOnce { failed: false };
     let mut written = Vec::new(rt.alloc());
     let outcome = run_check(rt.alloc(), OPENED, &mut sources, &mut written);
-    assert_eq!(&rt; outcome, Err(ToolFault::Read));
+    assert_same(&rt, &outcome, &Err(ToolFault::Read));
     assert!(&rt; written.is_empty());
     let outcome = run_check(rt.alloc(), OPENED, &mut sources, &mut written);
-    assert_eq!(&rt; outcome, Ok(Status::Success));
-    assert_eq!(&rt;
-        written.as_slice(),
-        b"accepted 1 revisions 1 nodes 1 rows\n".as_slice()
+    assert_same(&rt, &outcome, &Ok(Status::Success));
+    assert_same(
+        &rt,
+        &written.as_slice(),
+        &b"accepted 1 revisions 1 nodes 1 rows\n".as_slice(),
     );
 }
 
 #[test]
 fn a_text_pasted_into_itself_is_the_old_text(rt: HostRuntime) {
     let mut none = MemSources::new(rt.alloc());
-    assert_eq!(&rt; checked(PASTED, &mut none), Ok(3));
+    assert_same(&rt, &checked(PASTED, &mut none), &Ok(3));
     let text = shown(&rt, PASTED, &mut none, 2).expect(&rt, "a text");
-    assert_eq!(&rt; text.as_slice(), b"aabcbc".as_slice());
+    assert_same(&rt, &text.as_slice(), &b"aabcbc".as_slice());
     // It has no bytes past those of the old text, and is not pasted of itself.
     for (field, number) in [(39, 1), (47, 4), (15, 2), (11, 2)] {
         let changed = with_byte(&rt, PASTED, 312 + field, number);

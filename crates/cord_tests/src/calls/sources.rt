@@ -1,3 +1,4 @@
+use super::assert_same;
 use lazy_file::{AddFault, MemSources, SOURCE_LIMIT, SourceFault, Sources};
 
 /// The size of source `s`, where there is one.
@@ -49,50 +50,62 @@ fn read_two<S: Sources>(sources: &mut S, off: u64) -> Result<[u8; 2], SourceFaul
 #[test]
 fn read_after_a_fault_may_succeed(rt: HostRuntime) {
     let mut sources = FailsOnce { failed: false };
-    assert_eq!(rt; read_two(&mut sources, 2), Err(SourceFault::BadSource));
-    assert_eq!(rt; read_two(&mut sources, 1), Err(SourceFault::Device));
-    assert_eq!(rt; read_two(&mut sources, 1), Ok(*b"xx"));
-    assert_eq!(rt; size_of(&sources, 0), Some(3));
+    assert_same(
+        &rt,
+        &read_two(&mut sources, 2),
+        &Err(SourceFault::BadSource),
+    );
+    assert_same(&rt, &read_two(&mut sources, 1), &Err(SourceFault::Device));
+    assert_same(&rt, &read_two(&mut sources, 1), &Ok(*b"xx"));
+    assert_same(&rt, &size_of(&sources, 0), &Some(3));
 }
 
 #[test]
 fn texts_in_memory_are_counted(rt: HostRuntime) {
     let mut sources = MemSources::new(rt.alloc());
-    assert_eq!(rt; sources.count(), 0);
-    assert_eq!(rt; sources.add(b"abcde"), Ok(0));
-    assert_eq!(rt; sources.add(b"xy"), Ok(1));
-    assert_eq!(rt; sources.count(), 2);
-    assert_eq!(rt; size_of(&sources, 0), Some(5));
-    assert_eq!(rt; size_of(&sources, 1), Some(2));
-    assert_eq!(rt; size_of(&sources, 2), None);
+    assert_same(&rt, &sources.count(), &0);
+    assert_same(&rt, &sources.add(b"abcde"), &Ok(0));
+    assert_same(&rt, &sources.add(b"xy"), &Ok(1));
+    assert_same(&rt, &sources.count(), &2);
+    assert_same(&rt, &size_of(&sources, 0), &Some(5));
+    assert_same(&rt, &size_of(&sources, 1), &Some(2));
+    assert_same(&rt, &size_of(&sources, 2), &None);
 }
 
 #[test]
 fn texts_in_memory_are_read(rt: HostRuntime) {
     let mut sources = MemSources::new(rt.alloc());
-    assert_eq!(rt; sources.add(b"abcde"), Ok(0));
-    assert_eq!(rt; sources.add(b"xy"), Ok(1));
+    assert_same(&rt, &sources.add(b"abcde"), &Ok(0));
+    assert_same(&rt, &sources.add(b"xy"), &Ok(1));
     let mut buffer = *b"...";
-    assert_eq!(rt; sources.read(0, 1, &mut buffer), Ok(()));
-    assert_eq!(rt; &buffer, b"bcd");
-    assert_eq!(rt; sources.read(0, 2, &mut buffer), Ok(()));
-    assert_eq!(rt; &buffer, b"cde");
-    assert_eq!(rt; sources.read(1, 0, &mut buffer[..2]), Ok(()));
-    assert_eq!(rt; &buffer, b"xye");
-    assert_eq!(rt; sources.read(0, 5, &mut []), Ok(()));
+    assert_same(&rt, &sources.read(0, 1, &mut buffer), &Ok(()));
+    assert_same(&rt, &&buffer, &b"bcd");
+    assert_same(&rt, &sources.read(0, 2, &mut buffer), &Ok(()));
+    assert_same(&rt, &&buffer, &b"cde");
+    assert_same(&rt, &sources.read(1, 0, &mut buffer[..2]), &Ok(()));
+    assert_same(&rt, &&buffer, &b"xye");
+    assert_same(&rt, &sources.read(0, 5, &mut []), &Ok(()));
 }
 
 #[test]
 fn spans_outside_are_refused(rt: HostRuntime) {
     let mut sources = MemSources::new(rt.alloc());
-    assert_eq!(rt; sources.add(b"abcde"), Ok(0));
+    assert_same(&rt, &sources.add(b"abcde"), &Ok(0));
     let mut two = [0; 2];
     for (s, off) in [(0, 4), (0, 5), (0, u64::MAX), (1, 0)] {
         let outcome = sources.read(s, off, &mut two);
         assert_eq!(rt; outcome, Err(SourceFault::BadSource), "source {s} at {off}");
     }
-    assert_eq!(rt; sources.read(0, 6, &mut []), Err(SourceFault::BadSource));
-    assert_eq!(rt; sources.read(1, 0, &mut []), Err(SourceFault::BadSource));
+    assert_same(
+        &rt,
+        &sources.read(0, 6, &mut []),
+        &Err(SourceFault::BadSource),
+    );
+    assert_same(
+        &rt,
+        &sources.read(1, 0, &mut []),
+        &Err(SourceFault::BadSource),
+    );
 }
 
 // A text of more than `SOURCE_LIMIT` bytes cannot be made here, so `SourceTooLong` rests on its clause
@@ -101,10 +114,10 @@ fn spans_outside_are_refused(rt: HostRuntime) {
 fn at_most_255_sources(rt: HostRuntime) {
     let mut sources = MemSources::new(rt.alloc());
     for s in 0..255 {
-        assert_eq!(rt; sources.add(b"a"), Ok(s));
+        assert_same(&rt, &sources.add(b"a"), &Ok(s));
     }
-    assert_eq!(rt; sources.add(b""), Err(AddFault::TooManySources));
-    assert_eq!(rt; sources.count(), 255);
+    assert_same(&rt, &sources.add(b""), &Err(AddFault::TooManySources));
+    assert_same(&rt, &sources.count(), &255);
 }
 
 #[test]
@@ -116,7 +129,7 @@ fn faults_print_their_codes(rt: HostRuntime) {
         (SourceFault::Memory, "Memory"),
     ] {
         let printed = fault.to_string(rt.alloc()).expect(&rt, "memory");
-        assert_eq!(rt; printed.as_str(), code);
+        assert_same(&rt, &printed.as_str(), &code);
     }
     for (fault, code) in [
         (AddFault::TooManySources, "S4"),
@@ -124,6 +137,6 @@ fn faults_print_their_codes(rt: HostRuntime) {
         (AddFault::Memory, "Memory"),
     ] {
         let printed = fault.to_string(rt.alloc()).expect(&rt, "memory");
-        assert_eq!(rt; printed.as_str(), code);
+        assert_same(&rt, &printed.as_str(), &code);
     }
 }

@@ -1,9 +1,11 @@
 //! The tools over readers and writers that are interrupted, that fail, and that take no more.
 
+use super::{assert_same, assert_same_at};
 use cord_tools::{
     Outcome, Status, ToolFault, exit_status, read_source, refuse_check, run_check, run_cmp,
     run_cut, run_find, run_join, run_show, run_stdin, sources_of,
 };
+use edit_commands::EditFault;
 use image_reader::ReadFault;
 use lazy_file::{AddFault, MemSources, SourceFault, Sources};
 use node_table::NodeFault;
@@ -162,8 +164,8 @@ fn an_image_is_answered_by_a_line_and_a_status(rt: HostRuntime) {
     for (image, line, status) in answers {
         let mut writer = Sink::with_room(64, End::Fails);
         let outcome = run(&rt, whole(image), &mut writer);
-        assert_eq!(rt; outcome, Ok(status));
-        assert_eq!(rt; writer.taken(), line);
+        assert_same(&rt, &outcome, &Ok(status));
+        assert_same(&rt, &writer.taken(), &line);
     }
 }
 
@@ -199,8 +201,8 @@ fn an_interrupted_read_or_write_is_made_again(rt: HostRuntime) {
     let mut writer = Sink::with_room(64, End::Fails);
     writer.is_interrupted = true;
     let outcome = run(&rt, reader, &mut writer);
-    assert_eq!(rt; outcome, Ok(Status::Success));
-    assert_eq!(rt; writer.taken(), ACCEPTED);
+    assert_same(&rt, &outcome, &Ok(Status::Success));
+    assert_same(&rt, &writer.taken(), &ACCEPTED);
 }
 
 /// Shows a revision of an image without sources.
@@ -228,8 +230,8 @@ fn a_revision_is_shown_or_refused(rt: HostRuntime) {
     for (image, revision, expected, text) in answers {
         let mut writer = Sink::with_room(64, End::Fails);
         let outcome = show(&rt, image, revision, &mut writer);
-        assert_eq!(rt; outcome, expected);
-        assert_eq!(rt; writer.taken(), text);
+        assert_same(&rt, &outcome, &expected);
+        assert_same(&rt, &writer.taken(), &text);
     }
 }
 
@@ -238,8 +240,8 @@ fn a_prefix_is_shown_where_the_writer_fails(rt: HostRuntime) {
     for room in 0..3 {
         let mut writer = Sink::with_room(room, End::Fails);
         let outcome = show(&rt, ONE_INSERT, 1, &mut writer);
-        assert_eq!(rt; outcome, Err(ToolFault::Write));
-        assert_eq!(rt; writer.taken(), &b"abc"[..room]);
+        assert_same(&rt, &outcome, &Err(ToolFault::Write));
+        assert_same(&rt, &writer.taken(), &&b"abc"[..room]);
     }
 }
 
@@ -287,11 +289,11 @@ fn small_texts(alloc: Global, count: usize) -> Result<Vec<Vec<u8>>, AllocError> 
 fn texts_are_sources_in_their_order(rt: HostRuntime) -> Result<(), Fail> {
     let texts = small_texts(rt.alloc(), 255)?;
     let mut sources = sources_of(rt.alloc(), texts.as_slice())?;
-    assert_eq!(rt; sources.count(), 255);
+    assert_same(&rt, &sources.count(), &255);
     for s in 0..255 {
         let mut byte = [0];
-        assert_eq!(rt; sources.read(s, 0, &mut byte), Ok(()));
-        assert_eq!(rt; byte, [s]);
+        assert_same(&rt, &sources.read(s, 0, &mut byte), &Ok(()));
+        assert_same(&rt, &byte, &[s]);
     }
     Ok(())
 }
@@ -303,7 +305,7 @@ fn more_than_255_texts_are_refused(rt: HostRuntime) -> Result<(), Fail> {
     let outcome = sources_of(alloc, texts.as_slice());
     assert!(rt; outcome.is_err_and(|fault| fault == AddFault::TooManySources));
     let shown = format!(in alloc; "{}", ToolFault::from(AddFault::TooManySources))?;
-    assert_eq!(rt; shown.as_str(), "refused S4");
+    assert_same(&rt, &shown.as_str(), &"refused S4");
     Ok(())
 }
 
@@ -337,13 +339,13 @@ fn sources_are_counted_and_measured(rt: HostRuntime) -> Result<(), Fail> {
         let texts = one_text(alloc, text)?;
         let mut writer = Sink::with_room(64, End::Fails);
         let outcome = check_with(&rt, ONE_SOURCE, texts.as_slice(), &mut writer);
-        assert_eq!(rt; outcome, Ok(status));
-        assert_eq!(rt; writer.taken(), line);
+        assert_same(&rt, &outcome, &Ok(status));
+        assert_same(&rt, &writer.taken(), &line);
     }
     let mut writer = Sink::with_room(64, End::Fails);
     let outcome = check_with(&rt, ONE_SOURCE, &[], &mut writer);
-    assert_eq!(rt; outcome, Ok(Status::Failure));
-    assert_eq!(rt; writer.taken(), b"refused C2\n".as_slice());
+    assert_same(&rt, &outcome, &Ok(Status::Failure));
+    assert_same(&rt, &writer.taken(), &b"refused C2\n".as_slice());
     Ok(())
 }
 
@@ -356,16 +358,16 @@ fn a_check_with_refused_sources_answers_by_their_code(rt: HostRuntime) {
     for (refusal, line) in refusals {
         let mut writer = Sink::with_room(64, End::Fails);
         let outcome = refuse_check(rt.alloc(), refusal, &mut writer);
-        assert_eq!(rt; outcome, Ok(Status::Failure));
-        assert_eq!(rt; writer.taken(), line);
+        assert_same(&rt, &outcome, &Ok(Status::Failure));
+        assert_same(&rt, &writer.taken(), &line);
         let mut full = Sink::with_room(4, End::Fails);
         let outcome = refuse_check(rt.alloc(), refusal, &mut full);
-        assert_eq!(rt; outcome, Err(ToolFault::Write));
-        assert_eq!(rt; full.taken(), b"refu".as_slice());
+        assert_same(&rt, &outcome, &Err(ToolFault::Write));
+        assert_same(&rt, &full.taken(), &b"refu".as_slice());
     }
     let mut untouched = Sink::with_room(64, End::Fails);
     let outcome = refuse_check(rt.alloc(), AddFault::Memory, &mut untouched);
-    assert_eq!(rt; outcome, Err(ToolFault::Memory));
+    assert_same(&rt, &outcome, &Err(ToolFault::Memory));
     assert!(rt; untouched.taken().is_empty());
 }
 
@@ -429,8 +431,8 @@ fn a_session_without_the_sources_bytes_is_read_without_them(rt: HostRuntime) {
         &mut sources,
         &mut writer,
     );
-    assert_eq!(rt; outcome, Ok(Status::Success));
-    assert_eq!(rt; writer.taken(), ACCEPTED);
+    assert_same(&rt, &outcome, &Ok(Status::Success));
+    assert_same(&rt, &writer.taken(), &ACCEPTED);
     let mut shown = Sink::with_room(64, End::Fails);
     let outcome = run_show(
         rt.alloc(),
@@ -439,8 +441,8 @@ fn a_session_without_the_sources_bytes_is_read_without_them(rt: HostRuntime) {
         1,
         &mut shown,
     );
-    assert_eq!(rt; outcome, Ok(()));
-    assert_eq!(rt; shown.taken(), b"abc".as_slice());
+    assert_same(&rt, &outcome, &Ok(()));
+    assert_same(&rt, &shown.taken(), &b"abc".as_slice());
     assert!(rt; !sources.failed);
 }
 
@@ -449,11 +451,15 @@ fn sources_of_other_lengths_are_refused_without_a_read(rt: HostRuntime) {
     let mut sources = Broken::at(0, SourceFault::Device);
     let mut writer = Sink::with_room(64, End::Fails);
     let outcome = run_check(rt.alloc(), whole(ONE_INSERT), &mut sources, &mut writer);
-    assert_eq!(rt; outcome, Ok(Status::Failure));
-    assert_eq!(rt; writer.taken(), b"refused C2\n".as_slice());
+    assert_same(&rt, &outcome, &Ok(Status::Failure));
+    assert_same(&rt, &writer.taken(), &b"refused C2\n".as_slice());
     let mut shown = Sink::with_room(64, End::Fails);
     let outcome = run_show(rt.alloc(), whole(ONE_INSERT), &mut sources, 1, &mut shown);
-    assert_eq!(rt; outcome, Err(ToolFault::Refused(CheckFault::SourceCount)));
+    assert_same(
+        &rt,
+        &outcome,
+        &Err(ToolFault::Refused(CheckFault::SourceCount)),
+    );
     assert!(rt; shown.taken().is_empty() && !sources.failed);
 }
 
@@ -467,17 +473,17 @@ fn a_source_that_fails_ends_the_tools_that_read_it(rt: HostRuntime) {
         let mut sources = Broken::at(2, fault);
         let mut writer = Sink::with_room(64, End::Fails);
         let outcome = run_cut(rt.alloc(), &mut sources, 0, 2, &mut writer);
-        assert_eq!(rt; outcome, Ok(()));
-        assert_eq!(rt; writer.taken(), b"xx".as_slice());
+        assert_same(&rt, &outcome, &Ok(()));
+        assert_same(&rt, &writer.taken(), &b"xx".as_slice());
         let outcome = run_cut(rt.alloc(), &mut sources, 1, 2, &mut writer);
-        assert_eq!(rt; outcome, Err(told));
+        assert_same(&rt, &outcome, &Err(told));
         let mut sources = Broken::at(2, fault);
         let outcome = run_join(rt.alloc(), &mut sources, &mut writer);
-        assert_eq!(rt; outcome, Err(told));
+        assert_same(&rt, &outcome, &Err(told));
         let mut sources = Broken::at(2, fault);
         let outcome = run_find(rt.alloc(), &mut sources, 1, b"y", &mut writer);
-        assert_eq!(rt; outcome, Err(told));
-        assert_eq!(rt; writer.taken(), b"xx".as_slice());
+        assert_same(&rt, &outcome, &Err(told));
+        assert_same(&rt, &writer.taken(), &b"xx".as_slice());
     }
 }
 
@@ -496,12 +502,41 @@ fn the_program_ends_with_the_status_of_its_outcome(rt: HostRuntime) {
         (Outcome::Ended(ToolFault::NoRevision), 1),
         (Outcome::Ended(ToolFault::PatternTooLong), 1),
         (Outcome::Ended(too_long), 1),
+        (Outcome::Ended(ToolFault::Edit(EditFault::Range)), 1),
+        (Outcome::Ended(ToolFault::TextTooLong), 1),
+        (Outcome::Ended(ToolFault::TooManyKeys), 1),
         (Outcome::Misused, 2),
         (Outcome::Ended(ToolFault::Memory), 3),
         (Outcome::Ended(ToolFault::Read), 3),
         (Outcome::Ended(ToolFault::Write), 3),
     ] {
-        assert_eq!(rt; exit_status(outcome), status, "{outcome:?}");
+        assert_same_at(&rt, &exit_status(outcome), &status, &outcome);
+    }
+}
+
+#[test]
+fn a_fault_is_printed_by_its_word_or_its_code(rt: HostRuntime) {
+    for (fault, words) in [
+        (ToolFault::Memory, "memory"),
+        (ToolFault::Read, "read"),
+        (ToolFault::Write, "write"),
+        (
+            ToolFault::Refused(CheckFault::Read(ReadFault::Magic)),
+            "refused C1(I3)",
+        ),
+        (ToolFault::Source(AddFault::TooManySources), "refused S4"),
+        (ToolFault::NoRevision, "refused no revision"),
+        (ToolFault::PatternTooLong, "refused F1"),
+        (
+            ToolFault::Rope(BalanceFault::Node(NodeFault::TooLong)),
+            "refused N1",
+        ),
+        (ToolFault::Edit(EditFault::TooManyRows), "refused E6"),
+        (ToolFault::TextTooLong, "refused K1"),
+        (ToolFault::TooManyKeys, "refused K2"),
+    ] {
+        let printed = format!(in rt.alloc(); "{fault}").expect(&rt, "a line");
+        assert_same(&rt, &printed.as_str(), &words);
     }
 }
 
@@ -582,8 +617,8 @@ fn files_are_compared(rt: HostRuntime) {
     for (first, second, line, status) in orders {
         let mut writer = Sink::with_room(64, End::Fails);
         let outcome = compare(&rt, first, second, &mut writer);
-        assert_eq!(rt; outcome, Ok(status));
-        assert_eq!(rt; writer.taken(), line);
+        assert_same(&rt, &outcome, &Ok(status));
+        assert_same(&rt, &writer.taken(), &line);
     }
 }
 
@@ -610,13 +645,13 @@ fn a_pattern_of_more_than_4096_bytes_is_refused(rt: HostRuntime) -> Result<(), F
     let alloc = rt.alloc();
     let mut writer = Sink::with_room(64, End::Fails);
     let outcome = find(&rt, b"abcde", 0, &[0; 4096], &mut writer);
-    assert_eq!(rt; outcome, Ok(Status::Failure));
+    assert_same(&rt, &outcome, &Ok(Status::Failure));
     let outcome = find(&rt, b"abcde", 0, &[0; 4097], &mut writer);
     let refused = ToolFault::PatternTooLong;
-    assert_eq!(rt; outcome, Err(refused));
+    assert_same(&rt, &outcome, &Err(refused));
     assert!(rt; writer.taken().is_empty());
     let shown = format!(in alloc; "{refused}")?;
-    assert_eq!(rt; shown.as_str(), "refused F1");
+    assert_same(&rt, &shown.as_str(), &"refused F1");
     Ok(())
 }
 
@@ -649,10 +684,14 @@ fn two_hundred_files_are_joined_in_their_order(rt: HostRuntime) {
         let _ = sources.add(one).expect(&rt, "a source");
         let _ = sources.add(two).expect(&rt, "a source");
     }
-    assert_eq!(rt; sources.count(), 200);
+    assert_same(&rt, &sources.count(), &200);
     let mut writer = Sink::with_room(512, End::Fails);
-    assert_eq!(rt; run_join(rt.alloc(), &mut sources, &mut writer), Ok(()));
-    assert_eq!(rt; writer.taken(), bytes.as_slice());
+    assert_same(
+        &rt,
+        &run_join(rt.alloc(), &mut sources, &mut writer),
+        &Ok(()),
+    );
+    assert_same(&rt, &writer.taken(), &bytes.as_slice());
 }
 
 /// Two sources of 2^39 bytes, which state no text.
@@ -695,10 +734,10 @@ fn files_of_2_to_the_40_bytes_are_refused_before_a_write(rt: HostRuntime) -> Res
     let mut writer = Sink::with_room(64, End::Fails);
     let outcome = run_join(alloc, &mut Halves, &mut writer);
     let refused = ToolFault::Rope(BalanceFault::Node(NodeFault::TooLong));
-    assert_eq!(rt; outcome, Err(refused));
+    assert_same(&rt, &outcome, &Err(refused));
     assert!(rt; writer.taken().is_empty());
     let shown = format!(in alloc; "{refused}")?;
-    assert_eq!(rt; shown.as_str(), "refused N1");
+    assert_same(&rt, &shown.as_str(), &"refused N1");
     Ok(())
 }
 

@@ -2,6 +2,7 @@
 
 use super::certificates::Unreadable;
 use super::edits::{made, next, random_command, two_texts};
+use super::{assert_same, assert_same_at};
 use byte_output::WriteFault;
 use cord_tools::{Status, run_check, run_show};
 use edit_commands::{Command, Session};
@@ -23,7 +24,7 @@ fn written<R: AllocGlobal + Abort>(rt: &R, session: &Session) -> Vec<u8> {
 fn line<R: AllocGlobal + Abort, S: Sources>(rt: &R, image: &[u8], sources: &mut S) -> Vec<u8> {
     let mut line: Vec<u8> = Vec::new(rt.alloc());
     let status = run_check(rt.alloc(), image, sources, &mut line).expect(rt, "an answer");
-    assert_eq!(rt; status, Status::Success);
+    assert_same(rt, &status, &Status::Success);
     line
 }
 
@@ -50,9 +51,9 @@ fn two_insertions_take_346_bytes(rt: HostRuntime) {
     };
     made(&rt, &mut session, second);
     let image = written(&rt, &session);
-    assert_eq!(rt; image.len(), 346);
+    assert_same(&rt, &image.len(), &346);
     let accepted = b"accepted 3 revisions 2 nodes 3 rows\n".as_slice();
-    assert_eq!(rt; line_alone(&rt, &image).as_slice(), accepted);
+    assert_same(&rt, &line_alone(&rt, &image).as_slice(), &accepted);
 }
 
 #[test]
@@ -60,9 +61,9 @@ fn the_empty_text_again_takes_267_bytes(rt: HostRuntime) {
     let mut session = two_texts(&rt);
     made(&rt, &mut session, Command::Delete { r: 1, p: 0, n: 3 });
     let image = written(&rt, &session);
-    assert_eq!(rt; image.len(), 267);
+    assert_same(&rt, &image.len(), &267);
     let accepted = b"accepted 3 revisions 1 nodes 1 rows\n".as_slice();
-    assert_eq!(rt; line_alone(&rt, &image).as_slice(), accepted);
+    assert_same(&rt, &line_alone(&rt, &image).as_slice(), &accepted);
 }
 
 #[test]
@@ -77,9 +78,9 @@ fn a_fill_of_the_longest_text_takes_208_bytes(rt: HostRuntime) {
     };
     made(&rt, &mut session, fill);
     let image = written(&rt, &session);
-    assert_eq!(rt; image.len(), 208);
+    assert_same(&rt, &image.len(), &208);
     let accepted = b"accepted 2 revisions 1 nodes 1 rows\n".as_slice();
-    assert_eq!(rt; line_alone(&rt, &image).as_slice(), accepted);
+    assert_same(&rt, &line_alone(&rt, &image).as_slice(), &accepted);
 }
 
 #[test]
@@ -101,7 +102,7 @@ fn thirty_nine_doublings_are_accepted(rt: HostRuntime) {
     assert!(rt; checked.rows() <= 100);
     let end = (1 << 39) - 1;
     let found = checked.fetch(&mut sources, last, end);
-    assert_eq!(rt; found, Ok((Some(b'x'), 36)));
+    assert_same(&rt, &found, &Ok((Some(b'x'), 36)));
 }
 
 #[test]
@@ -119,7 +120,7 @@ fn a_source_that_no_read_succeeds_of_is_accepted(rt: HostRuntime) {
     let image = written(&rt, &session);
     let mut sources = Unreadable { is_read: false };
     let accepted = b"accepted 3 revisions 2 nodes 3 rows\n".as_slice();
-    assert_eq!(rt; line(&rt, &image, &mut sources).as_slice(), accepted);
+    assert_same(&rt, &line(&rt, &image, &mut sources).as_slice(), &accepted);
     assert!(rt; !sources.is_read);
 }
 
@@ -150,15 +151,15 @@ impl io::Write for Short<'_> {
 fn a_prefix_is_written_where_no_more_is_taken(rt: HostRuntime) {
     let session = two_texts(&rt);
     let image = written(&rt, &session);
-    assert_eq!(rt; image.len(), 40 + 32 + 2 * 56 + 24 + 3);
+    assert_same(&rt, &image.len(), &(40 + 32 + 2 * 56 + 24 + 3));
     for room in 0..image.len() {
         let mut taken: Vec<u8> = Vec::new(rt.alloc());
         let mut short = Short {
             taken: &mut taken,
             room,
         };
-        assert_eq!(rt; write(&session, &mut short), Err(WriteFault));
-        assert_eq!(rt; Some(taken.as_slice()), image.get(..room), "{room}");
+        assert_same(&rt, &write(&session, &mut short), &Err(WriteFault));
+        assert_same_at(&rt, &Some(taken.as_slice()), &image.get(..room), &room);
     }
 }
 

@@ -1,0 +1,45 @@
+//! The limits that definitions take from the code, as numbers.
+
+ghost use Rattle.std.specs.Prelude.{◌≡◌, ◌*◌, ◌-◌, [], length, replicate};
+ghost use Rattle.cord_tests.specs.Keys.{stated_of_size};
+ghost use Rattle.edit_commands.specs.declared.session.TheConstants.{MOST_REVISIONS};
+ghost use Rattle.leaf_buffer.specs.declared.block.TheConstants.{BLOCK_SIZE};
+ghost use Rattle.leaf_buffer.specs.declared.pool.TheConstants.{POOL_LIMIT};
+ghost use Rattle.rope_node.specs.declared.limits.TheConstants.{MOST_DEPTH, MOST_NODES, MOST_SOURCES, TEXT_LIMIT};
+ghost use Rattle.rope_store.specs.declared.endings.TheConstants.{MOST_MERGED};
+ghost use Rattle.screen_editor.specs.declared.cut_span.TheConstants.{MOST_CUTS};
+ghost use Rattle.screen_editor.specs.declared.rows.TheConstants.{SCREEN_COLUMNS};
+ghost use Rattle.screen_editor.specs.declared.running.TheConstants.{MOST_KEYS};
+ghost use Rattle.screen_editor.specs.Frame.{first_line, rows_of_text};
+ghost use Rattle.screen_editor.specs.Refusals.{IsTooLong};
+ghost use Rattle.span_certificate.specs.declared.making.TheConstants.{ROWS_LIMIT};
+ghost use Rattle.span_certificate.specs.declared.walk.TheConstants.{BYTES_LIMIT};
+
+/// Of texts, nodes and the pool: a text has fewer than 2^40 bytes, the pool fewer than 2^32.
+fn limits_of_ropes()
+    ensures text { TEXT_LIMIT ≡ 1099511627776 }
+    ensures nodes { MOST_NODES ≡ 16777216 }
+    ensures depth { MOST_DEPTH ≡ 64 }
+    ensures sources { MOST_SOURCES ≡ 255 }
+    ensures pool { POOL_LIMIT ≡ 4294967296 }
+    ensures block { BLOCK_SIZE ≡ 65536 }
+    ensures merged { MOST_MERGED ≡ 31 }
+{}
+
+/// Of sessions and their rows.
+fn limits_of_sessions()
+    ensures revisions { MOST_REVISIONS ≡ 1048576 }
+    ensures rows { ROWS_LIMIT ≡ 16777216 }
+    ensures bytes { BYTES_LIMIT ≡ 4096 }
+{}
+
+/// Of the editor and its screen: an empty row is two bytes.
+fn limits_of_the_editor()
+    ensures too_long { IsTooLong (stated_of_size 2147483648) }
+    ensures longest { ¬ IsTooLong (stated_of_size 2147483647) }
+    ensures keys { MOST_KEYS ≡ 16777216 }
+    ensures cuts { MOST_CUTS ≡ 16 }
+    ensures rows { length (rows_of_text [] 0) ≡ 2 * 23 }
+    ensures columns { SCREEN_COLUMNS ≡ 80 }
+    ensures above { first_line (replicate 20 0x0A) 20 ≡ 20 - 11 }
+{}
