@@ -11,7 +11,7 @@ run:
 	cd crates/cordkit && rt run < stdin
 
 check:
-	rt ci && sh tests/program.sh
+	rt ci && sh tests/program.sh && sh tests/program.sh bin/cordkit
 
 audit:
 	sh audit/run.sh

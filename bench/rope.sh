@@ -18,9 +18,14 @@ least() {
         END { for (k = 1; k <= count; k++) printf "%s %6d %s\n", order[k], best[order[k]], unit[order[k]] }'
 }
 
-echo "cordkit's store, a million of each, the least of five runs:"
+pages=glibc.malloc.hugetlb=1:glibc.malloc.mmap_threshold=33554432
+echo "cordkit's store, a million of each, the least of five runs, with large pages, as bin/cordkit asks for them:"
+least env GLIBC_TUNABLES=$pages "$program" store
+echo "libstdc++ ext/rope, the same, with large pages too:"
+least env GLIBC_TUNABLES=$pages "$peer" store
+echo "cordkit's store, without them:"
 least "$program" store
-echo "libstdc++ ext/rope, the same:"
+echo "libstdc++ ext/rope, without them:"
 least "$peer" store
 echo "cordkit, what an editor does:"
 "$program"

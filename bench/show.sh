@@ -3,6 +3,7 @@
 set -eu
 cd "$(dirname "$0")/.."
 program=crates/cordkit/out/cordkit
+launcher=bin/cordkit # asks for large pages
 [ -x "$program" ] || (cd crates/cordkit && rt run < stdin > /dev/null 2>&1)
 folder=$(mktemp -d)
 trap 'rm -rf "$folder"' EXIT
@@ -24,7 +25,7 @@ measure() {
     "$program" show "$folder/image" 1 > "$folder/text"
     tail -c "$(($1 * $2))" "$folder/image" | cmp - "$folder/text"
     echo "text       $(wc -c < "$folder/text") bytes of $1 literals"
-    echo "show       $(best "$program" show "$folder/image" 1) ms"
+    echo "show       $(best "$launcher" show "$folder/image" 1) ms, without large pages $(best "$program" show "$folder/image" 1)"
     echo "cat        $(best cat "$folder/text") ms"
 }
 

@@ -1,5 +1,5 @@
 #!/bin/sh
-# Runs the built program, or the one that $1 names, on the cases of the table at the end, and compares what it writes and its
+# Runs the built program, or the one that $1 names, as bin/cordkit, on the cases of the table at the end, and compares what it writes and its
 # status with what the table says. The last line is 'N passed, M failed'; the status is not 0 where a case failed.
 set -u
 top=$(cd "$(dirname "$0")/.." && pwd)
