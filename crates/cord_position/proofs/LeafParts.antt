@@ -14,7 +14,7 @@ use Rattle.rope_node.specs.Denotes.{Cell, Byte, Place, cell_at, cells, rope_cell
 use Rattle.rope_node.proofs.Cells.{cells_at}
 use Rattle.rope_node.proofs.Parts.{span_within, span-map, span-range_with_len}
 use Rattle.lazy_file.specs.SourceTexts.{Reads, Stated, holds_span, text_at}
-use Rattle.lazy_file.specs.ReadFaults.{IsFaultOf}
+use Rattle.lazy_file.specs.ReadFaults.{IsFaultOf, TellsFailure}
 use Rattle.lazy_file.specs.declared.faults.SourceFault.{SourceFault}
 use Rattle.lazy_file.specs.declared.faults.SourceFault.TheVariants.{BadSource}
 use Rattle.lazy_file.proofs.ReadOutcomes.{refused_span}
@@ -105,11 +105,12 @@ span_readable st s p n some held =
 
 -- what a read of a span of a source does, where it fails and where it is refused at once
 pub read_span : {T : Type 0} (stated : T → Stated) (failures : T → ℕ) (old new : T) (s p n : ℕ) (r : Result (Unit {0}) SourceFault) → 1 ≤ n → Reads stated failures old new
-    → IsFaultOf stated failures old new s p n r → ((stated old).never_fails ≡ true → holds_span (stated old) s p n ≡ true → IsOk r)
+    → IsFaultOf stated failures old new s p n r → TellsFailure failures old new r → ((stated old).never_fails ≡ true → holds_span (stated old) s p n ≡ true → IsOk r)
     → ReadsSpan stated failures old new (Place s) p (p + n) r
-read_span stated failures old new s p n r some reads fault succeeds = record {
+read_span stated failures old new s p n r some reads fault told succeeds = record {
   reads = reads;
   fault = outcome_fault stated failures old new s p n r some fault;
+  told = told;
   succeeds = λ readable. let held = span_readable (stated old) s p n some readable in succeeds held.0 held.1;
 }
 
@@ -118,6 +119,7 @@ pub refuse_span : {T X : Type 0} (stated : T → Stated) (failures : T → ℕ) 
 refuse_span stated failures old s p n some missing = record {
   reads = record { same = refl; later = omega arith };
   fault = fault_in stated failures old old s p n BadSource some (refused_span stated failures old old s p n missing);
+  told = λ more. absurd (omega (arith, more));
   succeeds = λ readable. let held = span_readable (stated old) s p n some readable in absurd cc;
 }
 
@@ -127,6 +129,7 @@ pub moved : {T X : Type 0} (stated : T → Stated) (failures : T → ℕ) (old n
 moved stated failures old new f g i j n r same h = record {
   reads = h.reads;
   fault = of_outcome r h.fault;
+  told = h.told;
   succeeds = λ readable. h.succeeds (λ p above below.
       let k = p - j in
       let at : j + k ≡ p = omega (arith, above) in

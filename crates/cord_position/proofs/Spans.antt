@@ -8,10 +8,10 @@ use Rattle.rope_node.specs.Held.{IsHeldCell}
 use Rattle.rope_node.proofs.HeldCells.{cell_held}
 use Rattle.std.proofs.lemmas.Bool.{cases_lt, lt-ltb, le-leb}
 use Rattle.std.proofs.lemmas.List.{get_or_past}
-use Rattle.lazy_file.specs.SourceTexts.{Reads, Stated, holds_span, text_at}
+use Rattle.lazy_file.specs.SourceTexts.{Reads, ReadsUnfailed, Stated, holds_span, text_at}
 use Rattle.lazy_file.specs.declared.faults.SourceFault.{SourceFault}
 use Rattle.lazy_file.specs.declared.faults.SourceFault.TheVariants.{BadSource}
-use Rattle.lazy_file.proofs.LaterReads.{reads_then}
+use Rattle.lazy_file.proofs.LaterReads.{reads_then, reads_unfailed}
 use Rattle.cord_position.specs.Fetched.{AreOwn, EachCell, IsReadable, IsPlaceFault, ReadsSpan, rope_cell}
 
 -- a fault of a later read is one of the whole
@@ -30,16 +30,17 @@ later_fault stated failures old mid new cell e before h = record {
 
 -- where a call that reads some of the cells failed
 pub failed_in : {T X Y : Type 0} (stated : T → Stated) (failures : T → ℕ) (old mid new : T) (cell : ℕ → Cell) (i j k l : ℕ) (e : SourceFault)
-    → Reads stated failures old mid → ReadsSpan {X = X} stated failures mid new cell k l (Err e) → i ≤ k → l ≤ j
+    → ReadsUnfailed stated failures old mid → ReadsSpan {X = X} stated failures mid new cell k l (Err e) → i ≤ k → l ≤ j
     → ReadsSpan {X = Y} stated failures old new cell i j (Err e)
 failed_in stated failures old mid new cell i j k l e before h from until = record {
-  reads = reads_then before h.reads;
+  reads = reads_then (reads_unfailed before) h.reads;
   fault = record {
     place = h.fault.place;
     from = omega (arith, from, h.fault.from);
     until = omega (arith, until, h.fault.until);
-    read = later_fault stated failures old mid new (cell h.fault.place) e before h.fault.read;
+    read = later_fault stated failures old mid new (cell h.fault.place) e (reads_unfailed before) h.fault.read;
   };
+  told = λ more. (let later : failures mid < failures new = omega (arith, more, before.unfailed) in h.told later);
   succeeds = λ readable.
       let ok = h.succeeds (λ p above below. subst (λ st. IsReadable st (cell p)) (sym before.same) (readable p (omega (arith, above, from)) (omega (arith, below, until)))) in absurd cc;
 }

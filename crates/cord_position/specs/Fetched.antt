@@ -4,7 +4,7 @@ use Rattle.rope_node.specs.declared.node.NodeId.{NodeId}
 use Rattle.rope_node.specs.Table.{Table}
 use Rattle.rope_node.specs.Denotes.{Cell, Byte, Place, cell_at, cell_byte, cells, rope_cells, text}
 use Rattle.lazy_file.specs.SourceTexts.{Reads, Stated, holds_span, text_at, Agrees}
-use Rattle.lazy_file.specs.ReadFaults.{IsFaultOf}
+use Rattle.lazy_file.specs.ReadFaults.{IsFaultOf, TellsFailure}
 use Rattle.lazy_file.specs.declared.faults.SourceFault.{SourceFault}
 
 -- the source of a cell, if it has one, states its text
@@ -73,4 +73,5 @@ pub record ReadsSpan {T X : Type 0} (stated : T → Stated) (failures : T → �
     (outcome : Result X SourceFault) : Type 0 where
   pub reads : Reads stated failures old new
   pub fault : IfErr outcome (IsFaultIn stated failures old new cell i j)
+  pub told : TellsFailure failures old new outcome
   pub succeeds : EachCell cell i j (IsReadable (stated old)) → IsOk outcome

@@ -7,7 +7,7 @@ use Rattle.std.proofs.lemmas.Option.{slice_get_past}
 use Rattle.rope_node.specs.declared.node.NodeId.{NodeId}
 use Rattle.rope_node.specs.Table.{Table}
 use Rattle.rope_node.specs.Denotes.{Cell, Byte, cell_byte, cells, rope_cells, rope_len, text}
-use Rattle.lazy_file.specs.SourceTexts.{Agrees, Reads, Stated}
+use Rattle.lazy_file.specs.SourceTexts.{Agrees, ReadsUnfailed, Stated}
 use Rattle.cord_position.proofs.Spans.{failed_in}
 use Rattle.lazy_file.specs.declared.faults.SourceFault.{SourceFault}
 use Rattle.cord_position.specs.Fetched.{EachCell, IsFaultIn, IsFetched, IsReadable, IsStated, ReadsSpan, rope_cell}
@@ -82,6 +82,7 @@ reads_past_end stated failures old new t x p n r long h =
           record {
             reads = h.reads;
             fault = no_fault stated failures old new t x (min p (rope_len t x)) (min p (rope_len t x) + n) p (p + n) r end h.fault;
+            told = h.told;
             succeeds = λ readable. h.succeeds (λ q above below. subst (IsReadable (stated old)) (sym (cell_past t x q (omega (arith, end, above)))) tt);
           }
     ]
@@ -114,7 +115,7 @@ reads_there stated failures old new table here s x p n r at long h =
 
 -- where a read from a position on failed
 pub failed_there : {T X Y S : Type 0} (stated : T → Stated) (failures : T → ℕ) (old mid new : T) (table : S → Table) (here : Position S) (s : S) (x : Option NodeId) (i j p n : ℕ) (e : SourceFault)
-    → Reads stated failures old mid → StandsAtPlace table here s x p → length (rope_cells (table s) x) ≡ rope_len (table s) x
+    → ReadsUnfailed stated failures old mid → StandsAtPlace table here s x p → length (rope_cells (table s) x) ≡ rope_len (table s) x
     → ReadsSpan {X = X} stated failures mid new (rope_cell (table here.space) here.rope) here.index (here.index + n) (Err e) → i ≤ p → p + n ≤ j
     → ReadsSpan {X = Y} stated failures old new (rope_cell (table s) x) i j (Err e)
 failed_there stated failures old mid new table here s x i j p n e before at long h from until =
@@ -177,6 +178,6 @@ reads_back stated failures old new table here s x p n r space rope index h =
 -- a call that reads some of the cells reads no others
 pub reads_more : {T X : Type 0} (stated : T → Stated) (failures : T → ℕ) (old new : T) (cell : ℕ → Cell) (i j k : ℕ) (r : Result X SourceFault) → k ≤ j
     → ReadsSpan stated failures old new cell i k r → ReadsSpan stated failures old new cell i j r
-reads_more stated failures old new cell i j k (Ok v) le h = record { reads = h.reads; fault = tt; succeeds = λ readable. refl }
+reads_more stated failures old new cell i j k (Ok v) le h = record { reads = h.reads; fault = tt; told = h.told; succeeds = λ readable. refl }
 reads_more stated failures old new cell i j k (Err e) le h =
-    failed_in stated failures old old new cell i j i k e (record { same = refl; later = omega arith }) h (omega arith) le
+    failed_in stated failures old old new cell i j i k e (record { same = refl; unfailed = refl }) h (omega arith) le

@@ -6,6 +6,7 @@ use Rattle.rope_node.specs.declared.node.NodeId.{NodeId}
 use Rattle.rope_node.specs.Table.{Table}
 use Rattle.rope_node.specs.Denotes.{Cell, rope_cells, rope_len, text}
 use Rattle.lazy_file.specs.SourceTexts.{Agrees, Reads, Stated}
+use Rattle.lazy_file.specs.ReadFaults.{TellsFailure}
 use Rattle.lazy_file.specs.declared.faults.SourceFault.{SourceFault}
 use Rattle.cord_position.specs.Fetched.{EachCell, IsFaultIn, IsReadable, IsStated, rope_cell}
 use Rattle.cord_search.specs.Order.{order}
@@ -66,4 +67,5 @@ pub record ReadsTwoSpans {T X : Type 0} (stated : T → Stated) (failures : T �
     (other : ℕ → Cell) (j n : ℕ) (outcome : Result X SourceFault) : Type 0 where
   pub reads : Reads stated failures old new
   pub fault : IfErr outcome (λ e. IsFaultIn stated failures old new cell i (i + n) e ⊎ IsFaultIn stated failures old new other j (j + n) e)
+  pub told : TellsFailure failures old new outcome
   pub succeeds : EachCell cell i (i + n) (IsReadable (stated old)) → EachCell other j (j + n) (IsReadable (stated old)) → IsOk outcome

@@ -3,6 +3,8 @@
 ghost use Rattle.std.specs.Prelude.{◌↔◌, ◌<◌, ◌≤◌, ℕ, [], length, IfOk, IfErr, IsErrOf, IsOk};
 ghost use Rattle.rope_node.specs.Denotes.{IsRope, rope_cells, rope_len, text};
 ghost use Rattle.lazy_file.specs.SourceTexts.{Reads};
+ghost use Rattle.lazy_file.specs.ReadFaults.{TellsAs};
+ghost use Rattle.lazy_file.specs.declared.faults.SourceFault.TheVariants.{Device};
 ghost use Rattle.cord_position.specs.Fetched.{EachCell, IsReadable, ReadsSpan, rope_cell};
 ghost use Rattle.cord_search.specs.Places.{IsFirst, IsFromOn, search_limit};
 ghost use Rattle.cord_search.specs.Stated.{FindsFirst};
@@ -103,6 +105,7 @@ pub fn find<S: NodeSpace, T: Sources>(
     ensures reads { Reads T.stated T.failures sources.old sources.new }
     ensures fault { IfErr result (IsFindFault T.stated T.failures sources.old sources.new
         (rope_cell (S.table space.now) x) start (rope_len (S.table space.now) x)) }
+    ensures told { TellsAs T.failures sources.old sources.new (FindFault.Source Device) result }
     ensures succeeds { length pattern.now ≤ search_limit
         → EachCell (rope_cell (S.table space.now) x) start (rope_len (S.table space.now) x)
         (IsReadable (T.stated sources.old)) → IsOk result }

@@ -4,6 +4,8 @@ ghost use Rattle.std.specs.Prelude.{◌≡◌, ◌≤◌, ◌+◌, None, length,
 ghost use Rattle.std.specs.Io.KnownBytes.{Appends};
 ghost use Rattle.rope_node.specs.Denotes.{IsRope, rope_len};
 ghost use Rattle.lazy_file.specs.SourceTexts.{Reads};
+ghost use Rattle.lazy_file.specs.ReadFaults.{TellsAs};
+ghost use Rattle.lazy_file.specs.declared.faults.SourceFault.TheVariants.{Device};
 ghost use Rattle.cord_position.specs.Fetched.{EachCell, IsReadable, ReadsSpan, rope_cell};
 ghost use Rattle.byte_output.specs.Prefix.{AppendsPrefix};
 ghost use Rattle.cord_search.specs.Reached.{StandsAtPlace};
@@ -41,6 +43,7 @@ pub fn put<S: NodeSpace, T: Sources, W: io::Write>(
     ensures reads { Reads T.stated T.failures sources.old sources.new }
     ensures fault { IfErr result (IsPutFault T.stated T.failures sources.old sources.new
         (rope_cell (S.table space.now) x) 0 (rope_len (S.table space.now) x)) }
+    ensures told { TellsAs T.failures sources.old sources.new (PutFault.Source Device) result }
     ensures succeeds { EachCell (rope_cell (S.table space.now) x) 0 (rope_len (S.table space.now) x)
         (IsReadable (T.stated sources.old)) → IfErr result (λ e. e ≡ Write) }
 {

@@ -1,5 +1,5 @@
 -- When a tool tells that it could not read its sources.
-use Rattle.std.proofs.Common.{◌≡◌, ℕ, ◌+◌, ◌-◌, List, ◌++◌, length, drop, get_or, Option, Some, None, Err, inl, inr, refl, sym, ap, subst, ◌∙◌, arith, length-append}
+use Rattle.std.proofs.Common.{◌≡◌, ℕ, ◌+◌, ◌-◌, ◌<◌, List, ◌++◌, length, drop, get_or, Option, Some, None, Err, inl, inr, refl, sym, ap, subst, ◌∙◌, arith, length-append}
 use Rattle.std.specs.Prelude.{◌≢◌, All, Any, Result, IsErrOf}
 use Rattle.std.proofs.lemmas.Bool.{cases_lt}
 use Rattle.std.proofs.lemmas.List.{get_or_default, get_or_past, get_or-drop, length-drop, get_or_append_left, get_or-append-add}
@@ -25,6 +25,9 @@ use Rattle.cord_tools.specs.declared.fault.ToolFault.TheVariants.{Read}
 pub reads_nothing : {T : Type 0} (stated : T → Stated) (failures : T → ℕ) (x : T) → Reads stated failures x x
 reads_nothing stated failures x = record { same = refl; later = omega arith }
 
+pub fails_nothing : {T : Type 0} (failures : T → ℕ) (x : T) → ¬ (failures x < failures x)
+fails_nothing failures x more = absurd (omega (arith, more))
+
 -- a failed read is one of the whole
 pub later_unread : {T : Type 0} (stated : T → Stated) (failures : T → ℕ) (old mid new : T) (cells : List Cell) → Reads stated failures old mid
     → IsUnread stated failures mid new cells → IsUnread stated failures old new cells
@@ -38,8 +41,8 @@ later_unread stated failures old mid new cells before h = record {
 
 -- a tool that ends without a failed read
 pub not_read : {T X : Type 0} (stated : T → Stated) (failures : T → ℕ) (old new : T) (cells : List Cell) (outcome : Result X ToolFault)
-    → Reads stated failures old new → ¬ IsErrOf outcome Read → ReadsCells stated failures old new cells outcome
-not_read stated failures old new cells outcome reads never = record { reads = reads; unread = λ is. absurd (never is) }
+    → Reads stated failures old new → ¬ (failures old < failures new) → ¬ IsErrOf outcome Read → ReadsCells stated failures old new cells outcome
+not_read stated failures old new cells outcome reads none never = record { reads = reads; unread = λ is. absurd (never is); told = λ more. absurd (none more) }
 
 any_left : {X : Type 0} (P : X → Type 0) (xs ys : List X) → Any P xs → Any P (xs ++ ys)
 any_left P xs ys (k, x, lt, at, p) = (k, x, omega (arith, lt, length-append xs ys), get_or_append_left xs ys x k lt ∙ at, p)

@@ -4,6 +4,7 @@ use Rattle.std.specs.Fmt.{decimal}
 use Rattle.std.specs.Io.KnownBytes.{Appends, Keeps}
 use Rattle.byte_output.specs.Prefix.{AppendsPrefix}
 use Rattle.lazy_file.specs.SourceTexts.{Agrees, Reads, Stated, stated_in_memory}
+use Rattle.lazy_file.specs.ReadFaults.{TellsAs}
 use Rattle.lazy_file.specs.declared.faults.SourceFault.{SourceFault}
 use Rattle.lazy_file.specs.Faults.{add_fault_code}
 use Rattle.lazy_file.specs.declared.faults.AddFault.{AddFault}
@@ -101,6 +102,7 @@ pub record ChecksImage {T : Type 0} (stated : T → Stated) (failures : T → �
     (remaining before after : Option (List ℕ)) (outcome : Result Status ToolFault) : Type 0 where
   pub answer : AnswersCheck stated failures old new remaining before after outcome
   pub reads : Reads stated failures old new
+  pub told : TellsAs failures old new Read outcome
 
 -- the same with no sources
 abbrev pub ChecksInput : Option (List ℕ) → Option (List ℕ) → Option (List ℕ) → Result Status ToolFault → Type 0
@@ -162,3 +164,4 @@ pub record ShowsRevision {T : Type 0} (stated : T → Stated) (failures : T → 
     (before after : Option (List ℕ)) (outcome : Result (Unit {0}) ToolFault) : Type 0 where
   pub reads : Reads stated failures old new
   pub answer : AnswersShow stated failures old new remaining k before after outcome
+  pub told : TellsAs failures old new Read outcome

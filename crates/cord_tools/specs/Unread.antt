@@ -2,6 +2,7 @@
 use Rattle.std.specs.Prelude.{◌≡◌, ℕ, List, Result, All, Any, IsErrOf}
 use Rattle.rope_node.specs.Denotes.{Cell}
 use Rattle.lazy_file.specs.SourceTexts.{Reads, Stated}
+use Rattle.lazy_file.specs.ReadFaults.{TellsAs}
 use Rattle.lazy_file.specs.declared.faults.SourceFault.{SourceFault}
 use Rattle.cord_position.specs.Fetched.{IsPlaceFault, IsReadable}
 use Rattle.cord_tools.specs.Faults.{read_fault}
@@ -19,8 +20,9 @@ pub record IsUnread {T : Type 0} (stated : T → Stated) (failures : T → ℕ) 
   pub some : Any (CouldNotRead stated failures old new) cells
   pub not_all : ¬ All (IsReadable (stated old)) cells
 
--- a tool that may read these cells, and that tells a failed read of them alone as one
+-- a tool that may read these cells, and that tells a failed read of them, and nothing else, as one
 pub record ReadsCells {T X : Type 0} (stated : T → Stated) (failures : T → ℕ) (old new : T) (cells : List Cell)
     (outcome : Result X ToolFault) : Type 0 where
   pub reads : Reads stated failures old new
   pub unread : IsErrOf outcome Read → IsUnread stated failures old new cells
+  pub told : TellsAs failures old new Read outcome

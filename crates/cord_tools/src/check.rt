@@ -2,6 +2,7 @@
 
 ghost use Rattle.std.specs.Prelude.{◌≡◌, ◌⊎◌, IfErr, IfOk, string_bytes};
 ghost use Rattle.lazy_file.specs.SourceTexts.{Reads};
+ghost use Rattle.lazy_file.specs.ReadFaults.{TellsAs};
 ghost use Rattle.cord_tools.specs.Answers.{accepted_line, refused_line, refused_source_line};
 ghost use Rattle.cord_tools.specs.Answers.{AnswersWith, ChecksImage, ChecksInput, RefusesCheck, StopsAtSource};
 
@@ -49,6 +50,7 @@ fn answer_with<S: Sources>(
     ensures fault { IfErr result (λ e. (e ≡ ToolFault.Memory)
         ⊎ StopsAtSource S.stated S.failures sources.old sources.new bytes.now e) }
     ensures reads { Reads S.stated S.failures sources.old sources.new }
+    ensures told { TellsAs S.failures sources.old sources.new ToolFault.Read result }
 {
     match check(bytes, sources) {
         Ok(image) => Ok((accepted_line(alloc, &image)?, Status::Success)),

@@ -38,7 +38,7 @@ read_of_one stated failures ds d after s off buffer outcome span fills =
       record {
         same = map-set_same stated ds s after d fills.same;
         later = omega (arith, sums, fills.later);
-        device = λ failed. omega (arith, sums, fills.device failed);
+        device = (λ failed. omega (arith, sums, fills.device.0 failed), λ more. fills.device.1 (omega (arith, sums, more)));
         short = λ ended. rw own (shorter one.size one.text (off + length buffer) within (fills.short ended));
         inside = fills.inside;
       },

@@ -1,5 +1,5 @@
 -- What reads of a device give, one after the other.
-use Rattle.std.proofs.Common.{◌≡◌, ℕ, ◌+◌, ◌-◌, ◌≤◌, List, ◌++◌, drop, length, take, arith, sym, ap, ◌∙◌, take-add, drop-drop, length-append, length-take-le, length-drop}
+use Rattle.std.proofs.Common.{◌≡◌, ℕ, ◌+◌, ◌-◌, ◌<◌, ◌≤◌, List, ◌++◌, drop, length, take, arith, sym, ap, ◌∙◌, take-add, drop-drop, length-append, length-take-le, length-drop}
 use Rattle.std.specs.Prelude.{Option, Some, None, Ok}
 use Rattle.std.proofs.Math.Seq.{take-append-add}
 use Rattle.std.proofs.lemmas.List.{take-append-le}
@@ -17,7 +17,7 @@ bytes_then (Some t) off xs ys h k =
 -- the first done bytes of a buffer, which was old, are filled
 pub record Filled {D : Type 0} (stated : D → DeviceText) (failures : D → ℕ) (start now : D) (off done : ℕ) (old buffer : List ℕ) : Type 0 where
   pub same : stated now ≡ stated start
-  pub later : failures start ≤ failures now
+  pub unfailed : failures now ≡ failures start
   pub len : length buffer ≡ length old
   pub inside : done ≤ length buffer
   pub bytes : AreBytesAt (stated start).text off (take done buffer)
@@ -36,6 +36,13 @@ length_of done buffer part h same =
     let rest = post_of done (length buffer - done) buffer in
     omega (arith, h, same, length-append (take done buffer) (part ++ rest), length-append part rest, length-take-le done buffer h, length-drop (length buffer - done) (drop done buffer), length-drop done buffer)
 
+-- a read that succeeds raises nothing
+none_failed : {D E : Type 0} (stated : D → DeviceText) (failures : D → ℕ) (now next : D) (off : ℕ) (rest part : List ℕ) (count : ℕ)
+    → ReadsAt {E = E} stated failures now next off rest part (Ok count) → failures next ≡ failures now
+none_failed stated failures now next off rest part count read =
+    let more : failures now < failures next → ⊥ = λ lt. (let failed = read.failed.1 lt in absurd cc) in
+    omega (arith, read.later, more)
+
 -- one more read, into what was not filled
 pub filled_more : {D E : Type 0} (stated : D → DeviceText) (failures : D → ℕ) (start now next : D) (off done count : ℕ) (old buffer rest part : List ℕ)
     → Filled stated failures start now off done old buffer → length part ≡ length buffer - done → length rest ≡ length buffer - done
@@ -47,7 +54,7 @@ filled_more stated failures start now next off done count old buffer rest part f
     let here : AreBytesAt (stated start).text (off + length (take done buffer)) (take count part) = rw (front, ← f.same) read.bytes in
     record {
       same = read.same ∙ f.same;
-      later = omega (arith, f.later, read.later);
+      unfailed = none_failed stated failures now next (off + done) rest part count read ∙ f.unfailed;
       len = length_of done buffer part f.inside same ∙ f.len;
       inside = omega (arith, length_of done buffer part f.inside same, few, same, f.inside);
       bytes = rw (front_of done count buffer part f.inside few) (bytes_then (stated start).text off (take done buffer) (take count part) f.bytes here);

@@ -1,4 +1,4 @@
-use Rattle.std.specs.Prelude.{◌≡◌, ◌<◌, ◌≤◌, ℕ, false, ◌+◌, List, Option, None, Result, drop, get_or, length, map, take, option_map, IfOk, IfSome, IsErr, IsErrOf, OnOk}
+use Rattle.std.specs.Prelude.{◌≡◌, ◌↔◌, ◌<◌, ◌≤◌, ℕ, false, ◌+◌, List, Option, None, Result, drop, get_or, length, map, take, option_map, IfOk, IfSome, IsErr, IsErrOf, OnOk}
 use Rattle.std.specs.List.{sum_by}
 use Rattle.lazy_file.specs.SourceTexts.{Stated, longest_source}
 use Rattle.lazy_file.specs.declared.faults.SourceFault.{SourceFault}
@@ -26,7 +26,7 @@ pub record ReadsAt {D E : Type 0} (stated : D → DeviceText) (failures : D → 
     (outcome : Result ℕ E) : Type 0 where
   pub same : stated after ≡ stated before
   pub later : failures before ≤ failures after
-  pub failed : IsErr outcome → failures before < failures after
+  pub failed : IsErr outcome ↔ failures before < failures after
   pub count : IfOk outcome (λ n. n ≤ length old)
   pub bytes : IfOk outcome (λ n. AreBytesAt (stated before).text off (take n new))
   pub end : IfOk outcome (λ n. n ≡ 0 → 0 < length old → IfSome (stated before).text (λ t. length t ≤ off))
@@ -45,7 +45,7 @@ pub record FillsFrom {D X : Type 0} (stated : D → DeviceText) (failures : D �
   pub same : stated after ≡ stated before
   pub later : failures before ≤ failures after
   pub bytes : OnOk outcome (AreBytesAt (stated before).text off buffer)
-  pub device : IsErrOf outcome Device → failures before < failures after
+  pub device : IsErrOf outcome Device ↔ failures before < failures after
   pub short : IsErrOf outcome Short → IfSome (stated before).text (λ t. length t < off + length buffer)
   pub inside : IsErrOf outcome BadSource → ⊥
 
@@ -64,7 +64,7 @@ pub record ReadsSource {D X : Type 0} (stated : D → DeviceText) (failures : D 
     (outcome : Result X SourceFault) : Type 0 where
   pub same : map stated new ≡ map stated old
   pub later : sum_by failures old ≤ sum_by failures new
-  pub device : IsErrOf outcome Device → sum_by failures old < sum_by failures new
+  pub device : IsErrOf outcome Device ↔ sum_by failures old < sum_by failures new
   pub short : IsErrOf outcome Short
       → IfSome (source_text (get_or (map stated old) s no_device)) (λ t. length t < (get_or (map stated old) s no_device).size)
   pub inside : IsErrOf outcome BadSource → ⊥

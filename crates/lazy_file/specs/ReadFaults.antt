@@ -1,4 +1,4 @@
-use Rattle.std.specs.Prelude.{◌≡◌, ◌↔◌, ℕ, ◌<◌, false, List, Option, Result, length, slice_index, IfSome, IsErrOf}
+use Rattle.std.specs.Prelude.{◌≡◌, ◌↔◌, ℕ, ◌<◌, false, List, Option, Result, length, slice_index, IfSome, IsErrAnd, IsErrOf}
 use Rattle.lazy_file.specs.SourceTexts.{Stated, holds_span, text_at}
 use Rattle.lazy_file.specs.declared.faults.SourceFault.{SourceFault}
 use Rattle.lazy_file.specs.declared.faults.SourceFault.TheVariants.{Device, Short, BadSource}
@@ -9,3 +9,10 @@ pub record IsFaultOf {T X : Type 0} (stated : T → Stated) (failures : T → �
   pub device : IsErrOf outcome Device → failures old < failures new
   pub short : IsErrOf outcome Short → IfSome (text_at (stated old) s) (λ t. length t < slice_index (stated old).sizes s)
   pub bad_source : IsErrOf outcome BadSource ↔ (holds_span (stated old) s off n ≡ false)
+
+-- where one more read has failed, this is the fault that is answered
+abbrev pub TellsAs : {T X E : Type 0} → (T → ℕ) → T → T → E → Result X E → Type 0
+TellsAs failures old new fault outcome = failures old < failures new → IsErrAnd outcome (λ f. f ≡ fault)
+
+abbrev pub TellsFailure : {T X : Type 0} → (T → ℕ) → T → T → Result X SourceFault → Type 0
+TellsFailure failures old new outcome = TellsAs failures old new Device outcome

@@ -41,3 +41,8 @@ Agrees st source = (s p : ℕ) (t : List ℕ) → text_at st s ≡ Some t → p 
 pub record Reads {T : Type 0} (stated : T → Stated) (failures : T → ℕ) (old new : T) : Type 0 where
   pub same : stated new ≡ stated old
   pub later : failures old ≤ failures new
+
+-- what reads leave of which none failed
+pub record ReadsUnfailed {T : Type 0} (stated : T → Stated) (failures : T → ℕ) (old new : T) : Type 0 where
+  pub same : stated new ≡ stated old
+  pub unfailed : failures new ≡ failures old

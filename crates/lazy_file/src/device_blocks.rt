@@ -2,7 +2,7 @@
 ghost use Rattle.std.specs.Prelude.{◌≡◌, ◌+◌, ◌*◌, ◌<◌, ◌≤◌, IfOk, IfSome, OnOk, drop, get_or, length, map, take};
 ghost use Rattle.std.specs.List.{sum_by};
 ghost use Rattle.lazy_file.specs.SourceTexts.{AreSizes, Reads, holds_span, text_at};
-ghost use Rattle.lazy_file.specs.ReadFaults.{IsFaultOf};
+ghost use Rattle.lazy_file.specs.ReadFaults.{IsFaultOf, TellsFailure};
 ghost use Rattle.lazy_file.specs.DeviceTexts.{AreBytesOf, HasSpan, ReadsSource, no_device, stated_by};
 ghost use Rattle.lazy_file.specs.KeptBlocks.{AreKept};
 
@@ -193,6 +193,7 @@ pub(crate) fn read_source<D: Device>(
         (λ t. buffer.new ≡ take (length buffer.old) (drop off t))) }
     ensures fault { IsFaultOf (λ ds. stated_by (map D.stated ds)) (sum_by D.failures)
         devices.old devices.new s off (length buffer.old) result }
+    ensures told { TellsFailure (sum_by D.failures) devices.old devices.new result }
     ensures kept { AreKept (map D.stated devices.new) kept.new.entries }
 {
     if !has_span(devices, s, off, buffer.len()) {

@@ -1,7 +1,7 @@
 //! Texts by number, read span by span.
 ghost use Rattle.std.specs.Prelude.{◌≡◌, ◌<◌, ◌≤◌, ℕ, true, drop, length, slice_index, take, IfSome, IsOk, OnOk};
 ghost use Rattle.lazy_file.specs.SourceTexts.{AreSizes, Reads, Stated, holds_span, longest_source, text_at};
-ghost use Rattle.lazy_file.specs.ReadFaults.{IsFaultOf};
+ghost use Rattle.lazy_file.specs.ReadFaults.{IsFaultOf, TellsFailure};
 
 use crate::faults::SourceFault;
 
@@ -37,6 +37,7 @@ pub trait Sources {
             (λ t. buffer.new ≡ take (length buffer.old) (drop off t))) }
         ensures fault { IsFaultOf stated failures self.old self.new
             s off (length buffer.old) result }
+        ensures told { TellsFailure failures self.old self.new result }
         ensures succeeds { (stated self.old).never_fails ≡ true
             → holds_span (stated self.old) s off (length buffer.old) ≡ true → IsOk result };
 }

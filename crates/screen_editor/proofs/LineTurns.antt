@@ -1,5 +1,5 @@
 -- Keys that look for line breaks.
-use Rattle.std.proofs.Common.{◌≡◌, ℕ, ◌-◌, List, [], get_or, Result, Ok, Err, Option, Some, None, true, false, refl, sym, ap, subst, ◌∙◌, append-nil}
+use Rattle.std.proofs.Common.{◌≡◌, ℕ, ◌-◌, ◌<◌, List, [], get_or, Result, Ok, Err, Option, Some, None, true, false, refl, sym, ap, subst, ◌∙◌, append-nil}
 use Rattle.std.specs.Prelude.{IsTrue, IfErr, OnOk, IsErrOf, IsOk}
 use Rattle.std.proofs.Math.ListN.{get_or-map}
 use Rattle.std.proofs.lemmas.Option.{same_Some}
@@ -30,7 +30,7 @@ use Rattle.screen_editor.proofs.NewTexts.{count_texts}
 
 -- a read that failed, whatever it was to answer
 pub failed_alike : {T X Y : Type 0} (stated : T → Stated) (failures : T → ℕ) (old new : T) (cell : ℕ → Cell) (i j : ℕ) (f : SourceFault) → ReadsSpan {X = X} stated failures old new cell i j (Err f) → ReadsSpan {X = Y} stated failures old new cell i j (Err f)
-failed_alike stated failures old new cell i j f h = record { reads = h.reads; fault = h.fault; succeeds = λ each. h.succeeds each }
+failed_alike stated failures old new cell i j f h = record { reads = h.reads; fault = h.fault; told = h.told; succeeds = λ each. h.succeeds each }
 
 -- the current text's cells, by the store and the root that the workspace hands out
 pub failed_in_current : {T X Y : Type 0} (stated : T → Stated) (failures : T → ℕ) (before now : T) (e : Editing) (session : SessionValue) (held : Held Coded) (root : Option NodeId) (f : SourceFault) → session ≡ e.session → held ≡ session.held → root ≡ current_root e
@@ -131,8 +131,8 @@ moved_state source st key old p h agrees stated =
     sym (moves_there key (state_of source old) p (subst (λ (t : List ℕ). line_place key t old.place ≡ Some p) (sym (current_text source old)) (h.is source agrees stated)))
 
 pub moved_takes : {T : Type 0} (stated : T → Stated) (failures : T → ℕ) (key : Key) (before now : T) (old new : Editing) (p : ℕ) → IsEditing old → HoldsHistory old.session
-    → IsLinePlace (stated before) key old p → new ≡ record old { place = p } → Reads stated failures before now → Takes stated failures key before old (Ok tt) now new
-moved_takes {T} stated failures key before now old new p is history h e reads =
+    → IsLinePlace (stated before) key old p → new ≡ record old { place = p } → Reads stated failures before now → ¬ (failures before < failures now) → Takes stated failures key before old (Ok tt) now new
+moved_takes {T} stated failures key before now old new p is history h e reads none =
     subst (λ (x : Editing). Takes stated failures key before old (Ok tt) now x) (sym e) (record {
       done = λ source agrees told. moved_state source (stated before) key old p h agrees (told h.looks);
       command = (0, λ source. rw (no_edit key 0 (state_of source old) h.looks) (sym (append-nil (edits_of old.session.revisions))));
@@ -141,6 +141,7 @@ moved_takes {T} stated failures key before now old new p is history h e reads =
       too_long = ((λ told. absurd (taken_is_taken Fault.TooLong told)), (λ grows. absurd (stays_short key old is history (same_texts key (state_of no_source old) h.looks) grows)));
       too_many = λ makes _ _. absurd (makes_none key old (same_texts key (state_of no_source old) h.looks) makes);
       fault = tt;
+      told = none;
       reads = reads;
       succeeds = λ _ f told. taken_is_taken (Fault.Source f) told;
       sources = refl;
@@ -156,6 +157,7 @@ failed_takes stated failures key before now old f is history looks h = record {
   too_long = ((λ told. absurd (other_fault f told)), (λ grows. absurd (stays_short key old is history (same_texts key (state_of no_source old) looks) grows)));
   too_many = λ makes _ _. absurd (makes_none key old (same_texts key (state_of no_source old) looks) makes);
   fault = (looks, h.fault);
+  told = λ more. ap Fault.Source (h.told more);
   reads = h.reads;
   succeeds = λ each _ _. failed_is_failed f (h.succeeds each);
   sources = refl;
@@ -192,8 +194,8 @@ on_any Q (Ok u) q = q
 on_any Q (Err e) q = tt
 
 pub plain_takes : {T : Type 0} (stated : T → Stated) (failures : T → ℕ) (key : Key) (before now : T) (old new : Editing) (result : Result (Unit {0}) KeyFault) → looks_for_lines key ≡ false
-    → CarriesOut key old result new → Reads stated failures before now → Takes stated failures key before old result now new
-plain_takes {T} stated failures key before now old new result looks h reads = record {
+    → CarriesOut key old result new → Reads stated failures before now → ¬ (failures before < failures now) → Takes stated failures key before old result now new
+plain_takes {T} stated failures key before now old new result looks h reads none = record {
   done = on_ok _ (DoesStated (stated before) key old new) result (λ does source agrees told. does source) h.done;
   command = h.command;
   moves = on_any (IsTrue (looks_for_lines key) → new ≡ record old { place = new.place }) result (λ moves. absurd (not_by_lines key looks moves));
@@ -201,6 +203,7 @@ plain_takes {T} stated failures key before now old new result looks h reads = re
   too_long = h.too_long;
   too_many = h.too_many;
   fault = any_fault stated failures before now key old new result h.fault;
+  told = λ more. absurd (none more);
   reads = reads;
   succeeds = λ each f. not_a_source key old new result f h.fault;
   sources = h.sources;

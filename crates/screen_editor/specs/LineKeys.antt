@@ -1,7 +1,9 @@
 -- The keys that look for line breaks, and what taking any key does but for the message.
 use Rattle.std.specs.Prelude.{◌≡◌, ◌↔◌, ◌⊎◌, ℕ, ◌≤◌, false, IsTrue, List, length, Option, Some, None, Result, IfErr, OnOk, OnErr, IsErrOf}
 use Rattle.lazy_file.specs.SourceTexts.{Agrees, Reads, Stated}
+use Rattle.lazy_file.specs.ReadFaults.{TellsAs}
 use Rattle.lazy_file.specs.declared.faults.SourceFault.{SourceFault}
+use Rattle.lazy_file.specs.declared.faults.SourceFault.TheVariants.{Device}
 use Rattle.cord_position.specs.Fetched.{IsReadable, IsStated}
 use Rattle.cord_search.specs.Stated.{OfText}
 use Rattle.edit_commands.specs.declared.fault.EditFault.TheVariants as Edit
@@ -49,6 +51,7 @@ pub record Takes {T : Type 0} (stated : T → Stated) (failures : T → ℕ) (ke
   pub too_many : MakesRevision key old → ¬ IsErrOf result Fault.TooLong → MOST_REVISIONS ≤ length old.session.revisions
       → IsErrOf result (Fault.Edit Edit.TooManyRevisions) ⊎ IsErrOf result (Fault.Edit Edit.Memory)
   pub fault : IfErr result (λ f. IsKeyFault stated failures before now key old f new)
+  pub told : TellsAs failures before now (Fault.Source Device) result
   pub reads : Reads stated failures before now
   pub succeeds : EachCurrent old (IsReadable (stated before)) → (f : SourceFault) → ¬ IsErrOf result (Fault.Source f)
   pub sources : new.session.held.sources ≡ old.session.held.sources

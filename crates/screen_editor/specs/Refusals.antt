@@ -4,7 +4,9 @@ use Rattle.function_leaf.specs.declared.coded.Coded.{Coded}
 use Rattle.rope_node.specs.Denotes.{Cell}
 use Rattle.node_table.specs.Held.{Held}
 use Rattle.lazy_file.specs.SourceTexts.{Reads, Stated}
+use Rattle.lazy_file.specs.ReadFaults.{TellsAs}
 use Rattle.lazy_file.specs.declared.faults.SourceFault.{SourceFault}
+use Rattle.lazy_file.specs.declared.faults.SourceFault.TheVariants.{Device}
 use Rattle.cord_position.specs.Fetched.{EachCell, IsFaultIn, IsReadable}
 use Rattle.edit_commands.specs.declared.command.Command.{Command}
 use Rattle.edit_commands.specs.declared.fault.EditFault.{EditFault}
@@ -71,6 +73,7 @@ pub record ReadsToShow {T X : Type 0} (stated : T → Stated) (failures : T → 
     (outcome : Result X FrameFault) : Type 0 where
   pub reads : Reads stated failures old new
   pub fault : IfErr outcome (IsFrameFaultAt stated failures old new cell len)
+  pub told : TellsAs failures old new (Frame.Source Device) outcome
   pub succeeds : EachCell cell 0 len (IsReadable (stated old)) → (f : SourceFault) → ¬ IsErrOf outcome (Frame.Source f)
 
 -- the first source is too long

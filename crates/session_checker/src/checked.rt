@@ -7,6 +7,8 @@ ghost use Rattle.image_reader.specs.Accepted.{HasSources, revision_at};
 ghost use Rattle.image_reader.specs.Value.{IsImage, image_table};
 ghost use Rattle.image_reader.specs.Spelling.{spelling};
 ghost use Rattle.lazy_file.specs.SourceTexts.{Reads};
+ghost use Rattle.lazy_file.specs.ReadFaults.{TellsAs};
+ghost use Rattle.lazy_file.specs.declared.faults.SourceFault.TheVariants.{Device};
 ghost use Rattle.session_checker.specs.Accepted.{IsAccepted, IsFirstFault, IsExact, NeedsNoRead, Accepts};
 ghost use Rattle.session_checker.specs.Faithful.{IsFaithful, HasTrueRecordsOf, IsRevisionOf, IsRootOf, IsMarkOf, IsFetchedOf, fetch_visits, fetched_cell};
 
@@ -195,6 +197,8 @@ pub fn check<'a, S: Sources>(bytes: &'a [u8], sources: &mut S) -> Result<Checked
     ensures exact { IsExact S.stated S.failures sources.old sources.new bytes.now result }
     // What keeps the rules and needs no read of the sources is accepted, even where every read would fail.
     ensures always { (n : NeedsNoRead bytes.now (S.stated sources.old).sizes) → Accepts result n.v }
+    // Where a read failed, it is told as that.
+    ensures told { TellsAs S.failures sources.old sources.new (CheckFault.Source Device) result }
     ensures reads { Reads S.stated S.failures sources.old sources.new }
 {
     let image = match Image::read(bytes) {

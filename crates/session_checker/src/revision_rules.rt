@@ -3,6 +3,8 @@
 ghost use Rattle.std.specs.Prelude.{◌≡◌, ◌<◌, ◌↔◌, length, IsTrue, IsOk, IfOk, IfErr};
 ghost use Rattle.rope_node.specs.Denotes.{IsRope};
 ghost use Rattle.lazy_file.specs.SourceTexts.{Reads};
+ghost use Rattle.lazy_file.specs.ReadFaults.{TellsAs};
+ghost use Rattle.lazy_file.specs.declared.faults.SourceFault.TheVariants.{Device};
 ghost use Rattle.span_certificate.specs.Parts.{AreParts, AreRopes, parts_len};
 ghost use Rattle.image_reader.specs.Value.{image_table};
 ghost use Rattle.image_reader.specs.Accepted.{revision_at, roots_before, parts_at, rows_before, HasGoodRoot, HasGoodMark, KeepsRules};
@@ -96,6 +98,7 @@ fn check_rows<S: Sources>(
     ensures ok { IsOk result → CoversStated tables.now (S.stated sources.old) k }
     ensures err { IfErr result
         (BreaksRows S.stated S.failures sources.old sources.new tables.now k) }
+    ensures told { TellsAs S.failures sources.old sources.new (CheckFault.Source Device) result }
     ensures reads { Reads S.stated S.failures sources.old sources.new }
 {
     let revision = tables.revision(k);
@@ -124,6 +127,7 @@ fn check_revision<S: Sources>(
     ensures ok { IsOk result → IsGoodOver tables.now (S.stated sources.old) k }
     ensures err { IfErr result
         (BreaksAt S.stated S.failures sources.old sources.new tables.now k) }
+    ensures told { TellsAs S.failures sources.old sources.new (CheckFault.Source Device) result }
     ensures reads { Reads S.stated S.failures sources.old sources.new }
 {
     let parts = check_rules(tables, k)?;
@@ -135,6 +139,7 @@ pub fn check_revisions<S: Sources>(tables: &Tables, sources: &mut S) -> Result<(
     ensures ok { IsOk result → AreGoodOver tables.now (S.stated sources.old) }
     ensures err { IfErr result
         (IsFirstRevisionFault S.stated S.failures sources.old sources.new tables.now) }
+    ensures told { TellsAs S.failures sources.old sources.new (CheckFault.Source Device) result }
     ensures reads { Reads S.stated S.failures sources.old sources.new }
 {
     let count = tables.image().revision_count();

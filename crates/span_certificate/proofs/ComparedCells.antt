@@ -7,10 +7,11 @@ use Rattle.std.proofs.lemmas.List.{get_or_append_left, get_or-append-add, get_or
 use Rattle.std.proofs.lemmas.List.Elements.{All-get_or, All-from_get_or, All-map, All-nil, All-append, All-head, All-tail}
 use Rattle.std.proofs.lemmas.List.FromFn.{length-map-range_with_len, get_or-range_with_len, length-range_with_len}
 use Rattle.rope_node.specs.Denotes.{Cell, Byte, Place}
-use Rattle.lazy_file.specs.SourceTexts.{Reads, Stated}
+use Rattle.lazy_file.specs.SourceTexts.{ReadsUnfailed, Stated}
 use Rattle.lazy_file.specs.declared.faults.SourceFault.{SourceFault}
 use Rattle.cord_position.specs.Fetched.{EachCell, IsReadable, ReadsSpan}
 use Rattle.cord_position.proofs.LeafParts.{moved}
+use Rattle.lazy_file.proofs.LaterReads.{reads_unfailed}
 use Rattle.cord_position.proofs.Spans.{failed_in}
 use Rattle.span_certificate.specs.declared.row.RowKind.{RowKind}
 use Rattle.span_certificate.specs.declared.row.RowKind.TheVariants.{Shared, Leaf, Bytes}
@@ -60,11 +61,12 @@ each_listed P xs all p above below = All-get_or P xs p (Byte 0) below all
 
 -- where a call that reads cells among these failed
 pub failed_among : {T X Y : Type 0} (stated : T → Stated) (failures : T → ℕ) (old mid new : T) (xs ys : List Cell) (e : SourceFault)
-    → Reads stated failures old mid → ReadsCells {X = X} stated failures mid new xs (Err e) → AreAmong xs ys → ReadsCells {X = Y} stated failures old new ys (Err e)
+    → ReadsUnfailed stated failures old mid → ReadsCells {X = X} stated failures mid new xs (Err e) → AreAmong xs ys → ReadsCells {X = Y} stated failures old new ys (Err e)
 failed_among {X} {Y} stated failures old mid new xs ys e before h among =
     let whole = failed_in {X = X} {Y = Y} stated failures old mid new (listed_cell xs) 0 (length xs) 0 (length xs) e before h (omega arith) (omega arith) in
     record {
       reads = whole.reads;
+      told = whole.told;
       fault =
           let found = among whole.fault.place whole.fault.until in
           record { place = found.0; from = omega arith; until = found.1; read = rw found.2 whole.fault.read };
@@ -72,8 +74,8 @@ failed_among {X} {Y} stated failures old mid new xs ys e before h among =
     }
 
 -- reads that did not fail
-pub read_cells : {T X : Type 0} (stated : T → Stated) (failures : T → ℕ) (old new : T) (xs : List Cell) (x : X) → Reads stated failures old new → ReadsCells stated failures old new xs (Ok x)
-read_cells stated failures old new xs x reads = record { reads = reads; fault = tt; succeeds = λ readable. refl }
+pub read_cells : {T X : Type 0} (stated : T → Stated) (failures : T → ℕ) (old new : T) (xs : List Cell) (x : X) → ReadsUnfailed stated failures old new → ReadsCells stated failures old new xs (Ok x)
+read_cells stated failures old new xs x reads = record { reads = reads_unfailed reads; fault = tt; told = λ more. absurd (omega (arith, more, reads.unfailed)); succeeds = λ readable. refl }
 
 -- a read of a span of a source is one of its places
 pub read_places : {T X : Type 0} (stated : T → Stated) (failures : T → ℕ) (old new : T) (s p n : ℕ) (r : Result X SourceFault) → ReadsSpan stated failures old new (Place s) p (p + n) r
@@ -107,4 +109,4 @@ compared_all P kind xs ys is all =
 
 -- a row that compares nothing reads nothing
 pub none_read : {T X : Type 0} (stated : T → Stated) (failures : T → ℕ) (old : T) (kind : RowKind) (xs ys : List Cell) (x : X) → ReadsCells stated failures old old (compared kind xs ys) (Ok x)
-none_read stated failures old kind xs ys x = read_cells stated failures old old (compared kind xs ys) x (record { same = refl; later = omega arith })
+none_read stated failures old kind xs ys x = read_cells stated failures old old (compared kind xs ys) x (record { same = refl; unfailed = refl })

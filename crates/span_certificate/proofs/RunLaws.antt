@@ -13,7 +13,7 @@ use Rattle.rope_node.specs.declared.node.NodeId.{NodeId}
 use Rattle.rope_node.specs.Table.{Table, IsSound, HasTrueRecords}
 use Rattle.rope_node.specs.Denotes.{Cell, Byte, Place, cells, cell_byte, text}
 use Rattle.rope_node.proofs.Parts.{span_within, span-map, span-range_with_len}
-use Rattle.lazy_file.specs.SourceTexts.{Agrees, Reads, Stated}
+use Rattle.lazy_file.specs.SourceTexts.{Agrees, ReadsUnfailed, Stated}
 use Rattle.cord_position.specs.Fetched.{AreStated, IsStated}
 use Rattle.lazy_file.specs.declared.faults.SourceFault.{SourceFault}
 use Rattle.span_certificate.specs.declared.bytes.Run.{Run}
@@ -112,9 +112,9 @@ tells_same st cells others bytes more answer e of_bytes of_more source agrees st
 pub first_failed : {T X Y : Type 0} (stated : T → Stated) (failures : T → ℕ) (old new : T) (cells others : List Cell) (e : SourceFault)
     → ReadsCells {X = X} stated failures old new cells (Err e) → ReadsCells {X = Y} stated failures old new (cells ++ others) (Err e)
 first_failed stated failures old new cells others e h =
-    failed_among stated failures old old new cells (cells ++ others) e (record { same = refl; later = omega arith }) h (among_first cells others)
+    failed_among stated failures old old new cells (cells ++ others) e (record { same = refl; unfailed = refl }) h (among_first cells others)
 
-pub second_failed : {T X Y : Type 0} (stated : T → Stated) (failures : T → ℕ) (old mid new : T) (cells others : List Cell) (e : SourceFault) → Reads stated failures old mid
+pub second_failed : {T X Y : Type 0} (stated : T → Stated) (failures : T → ℕ) (old mid new : T) (cells others : List Cell) (e : SourceFault) → ReadsUnfailed stated failures old mid
     → ReadsCells {X = X} stated failures mid new others (Err e) → ReadsCells {X = Y} stated failures old new (cells ++ others) (Err e)
 second_failed stated failures old mid new cells others e before h = failed_among stated failures old mid new others (cells ++ others) e before h (among_second cells others)
 
@@ -216,7 +216,7 @@ comparing_differs t st part off other place len done a b n turn tells source agr
 
 -- a turn whose read failed
 pub turn_failed : {T X Y : Type 0} (stated : T → Stated) (failures : T → ℕ) (old mid new : T) (t : Table) (part : Part) (off : ℕ) (other : Part) (place len done : ℕ) (a b : Run) (n : ℕ) (e : SourceFault)
-    → IsTurn t part off other place len done a b n → Reads stated failures old mid → ReadsCells {X = X} stated failures mid new (turn_cells t a b n) (Err e)
+    → IsTurn t part off other place len done a b n → ReadsUnfailed stated failures old mid → ReadsCells {X = X} stated failures mid new (turn_cells t a b n) (Err e)
     → ReadsCells {X = Y} stated failures old new (both_cells t part off other place len) (Err e)
 turn_failed stated failures old mid new t part off other place len done a b n e turn before h =
     failed_among stated failures old mid new (turn_cells t a b n) (both_cells t part off other place len) e before h (turn_among t part off other place len done a b n turn)

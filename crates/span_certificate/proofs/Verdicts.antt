@@ -8,7 +8,8 @@ use Rattle.rope_node.specs.declared.node.NodeId.{NodeId}
 use Rattle.rope_node.specs.Table.{Table, IsSound, HasTrueRecords}
 use Rattle.rope_node.specs.Denotes.{rope_cells, rope_len}
 use Rattle.rope_node.proofs.Parts.{span_within}
-use Rattle.lazy_file.specs.SourceTexts.{Agrees, Reads, Stated}
+use Rattle.lazy_file.proofs.LaterReads.{reads_unfailed}
+use Rattle.lazy_file.specs.SourceTexts.{Agrees, ReadsUnfailed, Stated}
 use Rattle.lazy_file.specs.declared.faults.SourceFault.{SourceFault}
 use Rattle.cord_position.specs.Fetched.{AreStated, IsReadable}
 use Rattle.span_certificate.specs.declared.cover.Verdict.{Verdict}
@@ -174,7 +175,7 @@ answers_left t coded st parts root rows j place e so_far missed source agrees st
 
 -- the read of row j failed
 pub verdict_failed : {T : Type 0} (stated : T → Stated) (failures : T → ℕ) (old mid new : T) (t : Table) (coded : ℕ → Coded) (parts : List Part) (root : Option NodeId) (rows : List Row) (j place : ℕ) (row : Row) (e : SourceFault)
-    → j < length rows → slice_get rows j ≡ Some row → IsVerifying t coded (stated old) parts root rows j place → Reads stated failures old mid
+    → j < length rows → slice_get rows j ≡ Some row → IsVerifying t coded (stated old) parts root rows j place → ReadsUnfailed stated failures old mid
     → ReadsCells {X = Bool} stated failures mid new (row_compares t parts root place row) (Err e) → ReadsRows stated failures old new t coded parts root rows (Err e)
 verdict_failed stated failures old mid new t coded parts root rows j place row e lt is so_far before h =
     let cs = row_compares t parts root (place_of rows j) (row_at rows j) in
@@ -182,14 +183,15 @@ verdict_failed stated failures old mid new t coded parts root rows j place row e
     let whole = failed_among {X = Bool} {Y = Verdict} stated failures old mid new cs cs e before here (λ k inside. (k, inside, refl)) in
     record {
       reads = whole.reads;
+      told = whole.told;
       fault = record { j = j; inside = lt; row = whole.fault; fit = so_far.fit };
       succeeds = λ readable. let ok = whole.succeeds (each_listed (IsReadable (stated old)) cs (readable j lt)) in absurd cc;
     }
 
 -- all that was read, was read
-pub verdict_reads : {T : Type 0} (stated : T → Stated) (failures : T → ℕ) (old new : T) (t : Table) (coded : ℕ → Coded) (parts : List Part) (root : Option NodeId) (rows : List Row) (v : Verdict) → Reads stated failures old new
+pub verdict_reads : {T : Type 0} (stated : T → Stated) (failures : T → ℕ) (old new : T) (t : Table) (coded : ℕ → Coded) (parts : List Part) (root : Option NodeId) (rows : List Row) (v : Verdict) → ReadsUnfailed stated failures old new
     → ReadsRows stated failures old new t coded parts root rows (Ok v)
-verdict_reads stated failures old new t coded parts root rows v reads = record { reads = reads; fault = tt; succeeds = λ readable. refl }
+verdict_reads stated failures old new t coded parts root rows v reads = record { reads = reads_unfailed reads; fault = tt; told = λ more. absurd (omega (arith, more, reads.unfailed)); succeeds = λ readable. refl }
 
 -- a place inside the parts that no part holds is their end
 pub at_parts_end : (parts : List Part) (place : ℕ) → place ≤ parts_len parts → part_at parts place ≡ None → place ≡ parts_len parts

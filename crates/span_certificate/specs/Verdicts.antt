@@ -5,6 +5,7 @@ use Rattle.rope_node.specs.declared.node.NodeId.{NodeId}
 use Rattle.rope_node.specs.Table.{Table}
 use Rattle.rope_node.specs.Denotes.{rope_cells, text}
 use Rattle.lazy_file.specs.SourceTexts.{Agrees, Reads, Stated}
+use Rattle.lazy_file.specs.ReadFaults.{TellsFailure}
 use Rattle.lazy_file.specs.declared.faults.SourceFault.{SourceFault}
 use Rattle.cord_position.specs.Fetched.{AreStated, IsReadable, IsStated}
 use Rattle.span_certificate.specs.declared.part.Part.{Part}
@@ -71,4 +72,5 @@ pub record ReadsRows {T : Type 0} (stated : T → Stated) (failures : T → ℕ)
     (parts : List Part) (root : Option NodeId) (rows : List Row) (outcome : Result Verdict SourceFault) : Type 0 where
   pub reads : Reads stated failures old new
   pub fault : IfErr outcome (IsVerdictFault stated failures old new t coded parts root rows)
+  pub told : TellsFailure failures old new outcome
   pub succeeds : AreReadableRows t (stated old) parts root rows → IsOk outcome

@@ -8,7 +8,7 @@ returns-clause-bytes g c =
     outcome_bytes (g.T.Sources.stated c.args.sources.now) c.args.s c.args.place (length c.args.buffer.now) c.read.new.buffer c.read.result c.requires c.read.auto.buffer c.read.ensures.bytes
 
 pub returns-clause-reads : goal.returns-clause-reads
-returns-clause-reads g c = read_span _ _ _ _ c.args.s c.args.place (length c.args.buffer.now) c.read.result c.requires c.read.ensures.reads c.read.ensures.fault c.read.ensures.succeeds
+returns-clause-reads g c = read_span _ _ _ _ c.args.s c.args.place (length c.args.buffer.now) c.read.result c.requires c.read.ensures.reads c.read.ensures.fault c.read.ensures.told c.read.ensures.succeeds
 
 pub returns-then-s-from-clause-reads : goal.returns-then-s-from-clause-reads
 returns-then-s-from-clause-reads g c =

@@ -14,7 +14,7 @@ returns-clause-byte g c source agrees stated =
 pub returns-in_err-read-clause-reads : goal.returns-in_err-read-clause-reads
 returns-in_err-read-clause-reads g c =
     let p = err_from_is_err_and c.from_residual.result c.from_residual.ensures.1 in
-    rw (p.1, p.2) (same_fault _ _ _ _ _ _ _ _ (read_span g.T.Sources.stated g.T.Sources.failures c.args.sources.now c.read.new.self c.args.s c.args.place 1 (Err c.in_err-read.field-0.0) (omega arith) c.in_err-read.ensures.reads c.in_err-read.ensures.fault c.in_err-read.ensures.succeeds))
+    rw (p.1, p.2) (same_fault _ _ _ _ _ _ _ _ (read_span g.T.Sources.stated g.T.Sources.failures c.args.sources.now c.read.new.self c.args.s c.args.place 1 (Err c.in_err-read.field-0.0) (omega arith) c.in_err-read.ensures.reads c.in_err-read.ensures.fault c.in_err-read.ensures.told c.in_err-read.ensures.succeeds))
 
 pub returns-then-s-from-clause-reads : goal.returns-then-s-from-clause-reads
 returns-then-s-from-clause-reads g c =

@@ -1,8 +1,8 @@
 use Rattle.cord_position.specs.Fetched.{rope_cell}
-use Rattle.std.proofs.Common.{◌≡◌, ◌↔◌, ◌+◌, ◌<◌, ◌≤◌, ℕ, min, true, List, length, take, drop, sym, subst, ◌∙◌, arith}
+use Rattle.std.proofs.Common.{◌≡◌, ◌↔◌, ◌+◌, ◌<◌, ◌≤◌, ℕ, min, true, List, length, take, drop, refl, sym, subst, ◌∙◌, arith}
 use Rattle.std.proofs.lemmas.Bool.{not-true, not-false}
 use Rattle.std.proofs.lemmas.Result.{err_from_is_err_and}
-use Rattle.lazy_file.proofs.LaterReads.{reads_then}
+use Rattle.lazy_file.proofs.LaterReads.{none_failed, reads_unfailed, unfailed_then}
 use Rattle.rope_node.specs.Denotes.{rope_cells, text}
 use Rattle.cord_search.specs.Reached.{StandsAtPlace}
 use Rattle.cord_search.proofs.Fetches.{text_length}
@@ -27,7 +27,7 @@ returns-in_err-right-clause-reads g c =
     let t = g.S.NodeSpace.table c.args.space.now in
     let n : ℕ = c.min-most.result in
     let h = failed_there {Y = Unit {0}} g.T.Sources.stated g.T.Sources.failures c.args.sources.now c.next_run.new.sources c.next_run-in-loop-k.new.sources g.S.NodeSpace.table c.loop-k.second c.args.space.now c.args.y
-    c.args.j (c.args.j + c.args.n) (c.args.j + c.loop-k.k) n c.in_err-right.field-0.0 (reads_then c.loop-k.invariant.reads c.in_ok-left.ensures.reads.reads) c.loop-k.invariant.at_second (sym c.rope_len-2.ensures.cells ∙ c.rope_len-2.ensures.exact) c.in_err-right.ensures.reads
+    c.args.j (c.args.j + c.args.n) (c.args.j + c.loop-k.k) n c.in_err-right.field-0.0 (unfailed_then c.loop-k.invariant.reads (none_failed c.in_ok-left.ensures.reads.reads c.in_ok-left.ensures.reads.told)) c.loop-k.invariant.at_second (sym c.rope_len-2.ensures.cells ∙ c.rope_len-2.ensures.exact) c.in_err-right.ensures.reads
     (omega arith) (omega (arith, c.min-most.ensures, c.loop-k.invariant.inside)) in
     rw (p.1, p.2) (second_failed g.T.Sources.stated g.T.Sources.failures c.args.sources.now c.next_run-in-loop-k.new.sources (rope_cell t c.args.x) c.args.i (rope_cell t c.args.y) c.args.j c.args.n c.in_err-right.field-0.0 h)
 
@@ -69,6 +69,12 @@ returns-then-ne-clause-order g c source agrees m le first second which =
     let other = order_other c.compare_runs-count.result.1 (not-true _ (sym c.ne.ensures ∙ c.if-ne.true)) in
     result ∙ rest_differs u v left right c.args.i c.args.j c.args.n m k count le c.loop-k-test.true (omega (arith, is)) (omega (arith, is)) (omega (arith, is, c.in_ok-left.ensures.most, c.min-most.ensures)) firsts seconds (λ e. other (result ∙ e)) which so_far
 
+pub returns-then-ne-clause-reads : goal.returns-then-ne-clause-reads
+returns-then-ne-clause-reads g c =
+    let both = unfailed_then (none_failed c.in_ok-left.ensures.reads.reads c.in_ok-left.ensures.reads.told) (none_failed c.in_ok-right.ensures.reads.reads c.in_ok-right.ensures.reads.told) in
+    let all = unfailed_then c.loop-k.invariant.reads both in
+    record { reads = reads_unfailed all; fault = tt; told = λ more. absurd (omega (arith, more, all.unfailed)); succeeds = λ first second. refl }
+
 pub loop-k-smaller : goal.loop-k-smaller
 loop-k-smaller g c =
     let many = positive c.min-most.result c.if-most-eq0.false in
@@ -78,7 +84,7 @@ loop-k-smaller g c =
 
 pub loop-k-preserved : goal.loop-k-preserved
 loop-k-preserved g c = record {
-  reads = reads_then c.loop-k.invariant.reads (reads_then c.in_ok-left.ensures.reads.reads c.in_ok-right.ensures.reads.reads);
+  reads = unfailed_then c.loop-k.invariant.reads (unfailed_then (none_failed c.in_ok-left.ensures.reads.reads c.in_ok-left.ensures.reads.told) (none_failed c.in_ok-right.ensures.reads.reads c.in_ok-right.ensures.reads.told));
   inside = omega (arith, c.compare_runs-count.ensures.count, c.in_ok-left.ensures.most, c.min-most.ensures, c.loop-k.invariant.inside);
   at_first = (let at = later_place g.S.NodeSpace.table c.loop-k.first c.skip.new.self c.args.space.now c.args.x (c.args.i + c.loop-k.k) c.compare_runs-count.result.0 c.skip.ensures.space c.skip.ensures.rope c.skip.ensures.index c.loop-k.invariant.at_first in
       subst (λ (p : ℕ). StandsAtPlace g.S.NodeSpace.table c.skip.new.self c.args.space.now c.args.x p) (omega arith) at);

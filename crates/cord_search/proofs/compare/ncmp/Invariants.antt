@@ -1,18 +1,18 @@
 use Rattle.std.proofs.Common.{◌+◌, ◌-◌, ◌≤◌, ℕ}
 use Rattle.rope_node.specs.Denotes.{rope_cells, text}
-use Rattle.lazy_file.specs.SourceTexts.{Agrees, Reads}
+use Rattle.lazy_file.specs.SourceTexts.{Agrees, ReadsUnfailed}
 use Rattle.cord_position.specs.Fetched.{EachCell, IsStated, rope_cell}
 use Rattle.cord_search.specs.Reached.{StandsAtPlace}
 use Rattle.cord_search.proofs.Orders.{IsOrderOfRest}
 use Rattle.cord_search.proofs.compare.ncmp.Given as goal
 
--- the sources are as they were, but that reads may have failed
+-- the sources are as they were, and no read of them has failed
 abbrev pub invariant-loop-k : goal.invariant-loop-k
 invariant-loop-k g l =
     let t = g.S.NodeSpace.table l.space in
     let st = g.T.Sources.stated l.initial.sources in
     record {
-      reads : Reads g.T.Sources.stated g.T.Sources.failures l.initial.sources l.sources;
+      reads : ReadsUnfailed g.T.Sources.stated g.T.Sources.failures l.initial.sources l.sources;
       inside : l.k ≤ l.n;
       at_first : StandsAtPlace g.S.NodeSpace.table l.first l.space l.fn.x (l.fn.i + l.k);
       at_second : StandsAtPlace g.S.NodeSpace.table l.second l.space l.fn.y (l.fn.j + l.k);

@@ -2,7 +2,7 @@ use Rattle.std.proofs.Common.{◌≡◌, ◌+◌, ◌-◌, ◌<◌, ◌≤◌, �
 use Rattle.std.specs.Prelude.{slice_get}
 use Rattle.std.proofs.lemmas.Bool.{cases_lt}
 use Rattle.std.proofs.lemmas.Result.{err_from_is_err_and}
-use Rattle.lazy_file.proofs.LaterReads.{reads_then}
+use Rattle.lazy_file.proofs.LaterReads.{none_failed, unfailed_then}
 use Rattle.rope_node.specs.Denotes.{rope_cells, rope_len, text}
 use Rattle.cord_position.specs.Position.{text_len}
 use Rattle.memchr.specs.Find.{NoneBefore, Nowhere, OccursAt}
@@ -61,7 +61,7 @@ loop-place-preserved g c =
     let fits : place + length window ≤ rope_len t c.args.x = omega (arith, c.in_ok-window.ensures.most, c.loop-place-test.true, c.saturating_sub-places.ensures, c.rope_len-len.ensures.exact) in
     let left : place < rope_len t c.args.x = omega (arith, fits, enough, c.requires.some) in
     record {
-      reads = reads_then c.loop-place.invariant.reads c.in_ok-window.ensures.reads.reads;
+      reads = unfailed_then c.loop-place.invariant.reads (none_failed c.in_ok-window.ensures.reads.reads c.in_ok-window.ensures.reads.told);
       from = omega (arith, c.loop-place.invariant.from);
       inside = omega (arith, c.clear_ahead-clear.ensures.inside, c.loop-place.invariant.at.index, len, left, c.saturating_sub-places.ensures, c.rope_len-len.ensures.exact);
       at = later_place g.S.NodeSpace.table c.loop-place.pos c.skip.new.self c.args.space.now c.args.x place clear c.skip.ensures.space c.skip.ensures.rope c.skip.ensures.index c.loop-place.invariant.at;

@@ -1,14 +1,14 @@
 use Rattle.std.proofs.Common.{◌+◌, ◌-◌, ◌<◌, ◌≤◌, ℕ, max, length}
-use Rattle.lazy_file.specs.SourceTexts.{Reads}
+use Rattle.lazy_file.specs.SourceTexts.{ReadsUnfailed}
 use Rattle.cord_search.specs.Reached.{StandsAtPlace}
 use Rattle.cord_search.specs.Stated.{OfSpan}
 use Rattle.cord_search.specs.Places.{StandsAt}
 use Rattle.cord_search.proofs.pattern.find_some.Given as goal
 
--- the sources are as they were, but that reads may have failed
+-- the sources are as they were, and no read of them has failed
 abbrev pub invariant-loop-place : goal.invariant-loop-place
 invariant-loop-place g l = record {
-  reads : Reads g.T.Sources.stated g.T.Sources.failures l.initial.sources l.sources;
+  reads : ReadsUnfailed g.T.Sources.stated g.T.Sources.failures l.initial.sources l.sources;
   from : l.fn.start ≤ l.place;
   inside : l.place ≤ max l.fn.start l.places;
   at : StandsAtPlace g.S.NodeSpace.table l.pos l.space l.fn.x l.place;

@@ -1,7 +1,7 @@
 use Rattle.std.proofs.Common.{◌+◌, ◌-◌, ◌≤◌, ℕ, length, take, drop, sym, subst, ◌∙◌, arith}
 use Rattle.std.proofs.lemmas.List.{length-drop, length-take, length-take-le, take_all}
 use Rattle.std.proofs.lemmas.Result.{err_from_is_err_and}
-use Rattle.lazy_file.proofs.LaterReads.{reads_then}
+use Rattle.lazy_file.proofs.LaterReads.{none_failed, unfailed_then}
 use Rattle.cord_position.specs.Position.{text_len}
 use Rattle.cord_search.specs.Pieces.{IsPiece}
 use Rattle.cord_search.specs.Reached.{StandsAtPlace}
@@ -33,7 +33,7 @@ loop-done-preserved g c =
     let few : n ≤ length filled = omega (arith, c.in_ok-count.ensures.most, c.in_ok-count.ensures.length) in
     let within : c.loop-done.pos.index + length (take n filled) ≤ text_len g.S.NodeSpace.table c.loop-done.pos = omega (arith, length-take n filled, c.in_ok-count.ensures.inside, few) in
     record {
-      reads = reads_then c.loop-done.invariant.reads c.in_ok-count.ensures.reads.reads;
+      reads = unfailed_then c.loop-done.invariant.reads (none_failed c.in_ok-count.ensures.reads.reads c.in_ok-count.ensures.reads.told);
       inside = length_written old filled d (length old - d) n c.loop-done.invariant.inside few;
       at = subst (λ (p : ℕ). StandsAtPlace g.S.NodeSpace.table c.skip.new.self c.args.space.now c.args.x p) (omega arith)
           (later_place g.S.NodeSpace.table c.loop-done.pos c.skip.new.self c.args.space.now c.args.x (c.args.place + d) n c.skip.ensures.space c.skip.ensures.rope c.skip.ensures.index c.loop-done.invariant.at);

@@ -24,7 +24,7 @@ returns-in_err-n-clause-reads g c =
     let here = c.args.pos.now in
     let part = take c.min-n-2.result c.args.buffer.now in
     rw (p.1, p.2) (failed_in g.T.Sources.stated g.T.Sources.failures c.args.sources.now c.args.sources.now c.fill_run.new.sources (cell_of g.S.NodeSpace.table here) here.index (here.index + c.args.most)
-    here.index (here.index + length part) _ (record { same = refl; later = omega arith }) c.in_err-n.ensures.reads
+    here.index (here.index + length part) _ (record { same = refl; unfailed = refl }) c.in_err-n.ensures.reads
     (omega arith) (omega (arith, c.min-most.ensures, c.min-n-2.ensures, length-take c.min-n-2.result c.args.buffer.now)))
 
 pub returns-clause-bytes : goal.returns-clause-bytes

@@ -23,7 +23,7 @@ returns-in_err-gather-clause-reads g c =
     let there = reads_back g.T.Sources.stated g.T.Sources.failures c.args.sources.now c.gather.new.sources g.S.NodeSpace.table here c.args.space.now c.args.x c.index.result (length part) _
     c.requires.here.0 c.requires.here.1 c.index.ensures.index c.in_err-gather.ensures.reads in
     rw (p.1, p.2) (failed_in g.T.Sources.stated g.T.Sources.failures c.args.sources.now c.args.sources.now c.gather.new.sources (cell_of g.S.NodeSpace.table here) here.index (here.index + c.args.most)
-    here.index (here.index + length part) _ (record { same = refl; later = omega arith }) there
+    here.index (here.index + length part) _ (record { same = refl; unfailed = refl }) there
     (omega arith) (omega (arith, c.min-n-2.ensures, length-take c.min-n-2.result c.args.buffer.now)))
 
 pub returns-clause-bytes : goal.returns-clause-bytes

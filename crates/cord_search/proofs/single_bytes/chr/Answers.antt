@@ -2,7 +2,7 @@ use Rattle.std.proofs.Common.{◌≡◌, ◌+◌, ◌-◌, ◌<◌, ℕ, List, l
 use Rattle.std.specs.Prelude.{slice_get}
 use Rattle.std.proofs.lemmas.Bool.{cases_lt}
 use Rattle.std.proofs.lemmas.Result.{err_from_is_err_and}
-use Rattle.lazy_file.proofs.LaterReads.{reads_then}
+use Rattle.lazy_file.proofs.LaterReads.{none_failed, unfailed_then}
 use Rattle.rope_node.specs.Denotes.{rope_cells, rope_len, text}
 use Rattle.cord_search.proofs.BytePieces.{byte_found, no_byte_in, nowhere_in_both}
 use Rattle.cord_search.proofs.Fetches.{text_length}
@@ -50,7 +50,7 @@ loop-place-preserved g c =
     let len = there_len g.S.NodeSpace.table c.loop-place.pos c.args.space.now c.args.x place c.loop-place.invariant.at in
     let left : place < rope_len t c.args.x = omega (arith, c.loop-place-test.true, c.rope_len-len.ensures.exact) in
     record {
-      reads = reads_then c.loop-place.invariant.reads c.in_ok-run.ensures.reads.reads;
+      reads = unfailed_then c.loop-place.invariant.reads (none_failed c.in_ok-run.ensures.reads.reads c.in_ok-run.ensures.reads.told);
       from = omega (arith, c.loop-place.invariant.from);
       inside = omega (arith, c.clear_ahead-clear.ensures.inside, c.loop-place.invariant.at.index, len, left);
       at = later_place g.S.NodeSpace.table c.loop-place.pos c.skip.new.self c.args.space.now c.args.x place clear c.skip.ensures.space c.skip.ensures.rope c.skip.ensures.index c.loop-place.invariant.at;

@@ -1,7 +1,7 @@
 use Rattle.std.proofs.Common.{◌≡◌, ◌+◌, ◌-◌, ◌<◌, ◌≤◌, ℕ, List, length, ◌∷◌, [], refl, sym, ◌∙◌, arith}
 use Rattle.std.specs.Prelude.{slice_get}
 use Rattle.std.proofs.lemmas.Result.{err_from_is_err_and}
-use Rattle.lazy_file.proofs.LaterReads.{reads_then}
+use Rattle.lazy_file.proofs.LaterReads.{none_failed, unfailed_then}
 use Rattle.rope_node.specs.Denotes.{rope_cells, text}
 use Rattle.cord_position.specs.Position.{text_len}
 use Rattle.cord_search.proofs.BytePieces.{byte_found, no_byte_in, nowhere_up_to}
@@ -51,7 +51,7 @@ loop-end-preserved g c =
     let index : c.set-pos.result.index ≡ from = omega (arith, c.set-pos.ensures.index, c.loop-end.invariant.inside, c.saturating_sub-from.ensures) in
     let behind : clear ≤ from = omega (arith, c.clear_behind-end.ensures.before, index) in
     record {
-      reads = reads_then c.loop-end.invariant.reads c.in_ok-window.ensures.reads.reads;
+      reads = unfailed_then c.loop-end.invariant.reads (none_failed c.in_ok-window.ensures.reads.reads c.in_ok-window.ensures.reads.told);
       until = omega (arith, c.loop-end.invariant.until, c.saturating_sub-from.ensures, behind);
       inside = omega (arith, c.loop-end.invariant.inside, c.saturating_sub-from.ensures, behind);
       told = λ source agrees stated.

@@ -2,7 +2,7 @@ use Rattle.std.proofs.Common.{◌+◌, ◌-◌, ◌≤◌, length, sym, subst, �
 use Rattle.std.specs.Io.KnownBytes.{Appends}
 use Rattle.std.proofs.lemmas.List.{take_all}
 use Rattle.std.proofs.lemmas.Result.{err_from_is_err_and}
-use Rattle.lazy_file.proofs.LaterReads.{reads_then}
+use Rattle.lazy_file.proofs.LaterReads.{none_failed, unfailed_then}
 use Rattle.rope_node.specs.Denotes.{rope_cells, rope_len, text}
 use Rattle.byte_output.specs.Prefix.{AppendsPrefix}
 use Rattle.byte_output.proofs.Appended.{Appends-then, Appends-then_prefix}
@@ -41,7 +41,7 @@ returns-in_err-write_bytes-clause-err g c =
 
 pub loop-done-preserved : goal.loop-done-preserved
 loop-done-preserved g c = record {
-  reads = reads_then c.loop-done.invariant.reads c.in_ok-window.ensures.reads.reads;
+  reads = unfailed_then c.loop-done.invariant.reads (none_failed c.in_ok-window.ensures.reads.reads c.in_ok-window.ensures.reads.told);
   inside = omega (arith, c.in_ok-window.ensures.most, c.rope_len-len.ensures.exact, c.loop-done-test.true);
   at = later_place g.S.NodeSpace.table c.loop-done.pos c.skip.new.self c.args.space.now c.args.x c.loop-done.done (length c.in_ok-window.window.now) c.skip.ensures.space c.skip.ensures.rope c.skip.ensures.index c.loop-done.invariant.at;
   told = λ source agrees stated.

@@ -10,4 +10,5 @@ returns-in_err-line g c =
           (g.W.Write.contents c.args.writer.now) c.in_ok-bytes.bytes.items c.in_err-line.field-0.0 c.in_ok-bytes.ensures.ok
           (rw c.deref.ensures.value at c.in_err-line.ensures.fault);
       reads = c.in_err-line.ensures.reads;
+      told = c.in_err-line.ensures.told;
     })

@@ -4,6 +4,7 @@ use Rattle.function_leaf.specs.Coded.{coded_byte}
 use Rattle.function_leaf.specs.declared.coded.Coded.{Coded}
 use Rattle.node_table.specs.Held.{Held, table_of}
 use Rattle.cord_search.specs.Order.{order}
+use Rattle.cord_tools.specs.Faults.{read_fault}
 use Rattle.cord_tools.proofs.Spans.{of_files, part_kept, whole_cells}
 use Rattle.cord_tools.proofs.UnreadCells.{two_unread}
 use Rattle.cord_tools.proofs.cmp.order_of.Goals as goal
@@ -31,4 +32,5 @@ returns-in_err-cmp-clause-reads g c =
           (whole_cells t st.sizes 0 18446744073709551615 c.in_ok-first.first own limits (omega (arith, c.requires)) (omega arith) first)
           (whole_cells t st.sizes 1 18446744073709551615 c.in_ok-second.second own limits (omega (arith, c.requires)) (omega arith) c.in_ok-second.ensures.ok)
           c.in_err-cmp.ensures.reads cc;
+      told = λ more. ap read_fault (c.in_err-cmp.ensures.reads.told more);
     })

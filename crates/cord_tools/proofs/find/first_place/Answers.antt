@@ -4,6 +4,7 @@ use Rattle.function_leaf.specs.Coded.{coded_byte}
 use Rattle.function_leaf.specs.declared.coded.Coded.{Coded}
 use Rattle.node_table.specs.Held.{Held, table_of}
 use Rattle.cord_search.specs.Places.{IsFirst}
+use Rattle.cord_tools.specs.Faults.{find_fault}
 use Rattle.cord_tools.proofs.Spans.{of_part, of_whole, whole_cells}
 use Rattle.cord_tools.proofs.UnreadCells.{find_unread}
 use Rattle.cord_tools.proofs.find.first_place.Goals as goal
@@ -28,4 +29,5 @@ returns-in_err-find-clause-reads g c =
       reads = c.in_err-find.ensures.reads;
       unread = λ is. find_unread g.T.Sources.stated g.T.Sources.failures c.args.sources.now c.find.new.sources t c.in_ok-file.file c.args.start _ _ _ cells
           c.in_err-find.ensures.fault (λ each. let ok = c.in_err-find.ensures.succeeds (omega (arith, c.if-pattern-gt-PATTERN_LIMIT.false)) each in absurd cc) cc;
+      told = λ more. ap find_fault (c.in_err-find.ensures.told more);
     })

@@ -12,7 +12,7 @@ returns-in_err-write_bytes-in-Some g c =
     let p = err_from_is_err_and c.from_residual-in_err-write_bytes-in-Some.result c.from_residual-in_err-write_bytes-in-Some.ensures.1 in
     let st = g.T.Sources.stated c.args.sources.now in
     rw (p.1, p.2) (record {
-      reads = not_read g.T.Sources.stated g.T.Sources.failures c.args.sources.now c.first_place.new.sources _ _ c.in_ok-place.ensures.reads.reads (λ is. absurd cc);
+      reads = not_read g.T.Sources.stated g.T.Sources.failures c.args.sources.now c.first_place.new.sources _ _ c.in_ok-place.ensures.reads.reads c.in_ok-place.ensures.reads.told (λ is. absurd cc);
       answer = (
         c.in-Some.place,
         subst (λ (found : Option ℕ). OfFile st 0 (λ t. IsFirst c.args.pattern.now t c.args.start found)) c.in-Some.is c.in_ok-place.ensures.found,

@@ -1,4 +1,4 @@
-use Rattle.std.proofs.Common.{◌<◌, ◌∙◌, arith, length, refl, subst, sym}
+use Rattle.std.proofs.Common.{◌<◌, ◌∙◌, ap, arith, length, refl, subst, sym}
 use Rattle.std.specs.Io.KnownBytes.{Appends}
 use Rattle.std.specs.Prelude.{All}
 use Rattle.std.proofs.lemmas.Result.{err_from_is_err_and}
@@ -8,6 +8,7 @@ use Rattle.lazy_file.proofs.LaterReads.{reads_then}
 use Rattle.lazy_file.specs.SourceTexts.{Stated}
 use Rattle.image_reader.specs.Value.{image_table}
 use Rattle.cord_tools.specs.Answers.{OfRevision, revision_cells}
+use Rattle.cord_tools.specs.Faults.{check_fault, put_fault}
 use Rattle.cord_tools.proofs.Bytes.{Keeps-same}
 use Rattle.cord_tools.proofs.RevisionCells.{root_cells, root_told}
 use Rattle.cord_tools.proofs.ToolFaults.{check_refused, show_stopped}
@@ -19,6 +20,7 @@ returns-in_err-image g c =
     let p = err_from_is_err_and c.from_residual-in_err-image.result c.from_residual-in_err-image.ensures.1 in
     rw (p.1, p.2) (record {
       reads = c.in_err-image.ensures.reads;
+      told = λ more. ap check_fault (c.in_err-image.ensures.told more);
       answer = check_refused g.S.Sources.stated g.S.Sources.failures c.args.sources.now c.check.new.sources (g.R.Read.remaining c.args.reader) c.args.revision
           (g.W.Write.contents c.args.writer.now) c.in_ok-bytes.bytes.items c.in_err-image.field-0.0 c.in_ok-bytes.ensures.ok
           (rw c.deref.ensures.value at c.in_err-image.ensures.refused);
@@ -27,6 +29,7 @@ returns-in_err-image g c =
 pub returns-then-revision-from : goal.returns-then-revision-from
 returns-then-revision-from g c = record {
   reads = c.in_ok-image.ensures.reads;
+  told = λ more. absurd (c.in_ok-image.ensures.told more);
   answer = (
     Keeps-same (g.W.Write.contents c.args.writer.now),
     (
@@ -59,6 +62,10 @@ returns-in_err-put-in-Some g c =
     let P = AppendsPrefix (g.W.Write.contents c.args.writer.now) (g.W.Write.contents c.put.new.writer) in
     rw (p.1, p.2) (record {
       reads = reads_then before c.in_err-put-in-Some.ensures.reads;
+      told = λ more.
+          let none : ¬ (failures old < failures mid) = c.in_ok-image.ensures.told in
+          let later : failures mid < failures c.put.new.sources = omega (arith, more, before.later, none) in
+          ap put_fault (c.in_err-put-in-Some.ensures.told later);
       answer = show_stopped stated failures old c.put.new.sources (g.R.Read.remaining c.args.reader) c.args.revision
           (g.W.Write.contents c.args.writer.now) (g.W.Write.contents c.put.new.writer) v c.in_err-put-in-Some.field-0.0
           (record {
@@ -93,6 +100,10 @@ returns-in-Some g c =
     let P = Appends (g.W.Write.contents c.args.writer.now) (g.W.Write.contents c.put.new.writer) in
     record {
       reads = reads_then before c.in_ok-put-in-Some.ensures.reads;
+      told = λ more.
+          let none : ¬ (g.S.Sources.failures c.args.sources.now < g.S.Sources.failures c.check.new.sources) = c.in_ok-image.ensures.told in
+          let nor : ¬ (g.S.Sources.failures c.check.new.sources < g.S.Sources.failures c.put.new.sources) = c.in_ok-put-in-Some.ensures.told in
+          absurd (omega (arith, more, before.later, none, nor));
       answer = (
         v,
         record {

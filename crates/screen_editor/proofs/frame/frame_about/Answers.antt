@@ -1,10 +1,21 @@
 use Rattle.std.proofs.Common.{◌≡◌, ◌++◌, ◌∙◌, Some, ◌*◌, ◌/◌, length, refl, sym}
+use Rattle.std.proofs.lemmas.Result.{err_from_is_err_and}
+use Rattle.lazy_file.proofs.LaterReads.{none_failed}
 use Rattle.rope_node.specs.Denotes.{rope_cells, rope_len, text}
+use Rattle.cord_position.specs.Fetched.{rope_cell}
 use Rattle.cord_search.proofs.Fetches.{told_before, text_length}
 use Rattle.screen_editor.specs.declared.rows.TheConstants.{SCREEN_COLUMNS}
 use Rattle.screen_editor.specs.Rows.{lines_from, rows_in}
 use Rattle.screen_editor.proofs.Screens.{screen_is}
+use Rattle.screen_editor.proofs.Showing.{failed_part}
 use Rattle.screen_editor.proofs.frame.frame_about.Goals as goal
+
+pub returns-in_err-push_rows-clause-reads : goal.returns-in_err-push_rows-clause-reads
+returns-in_err-push_rows-clause-reads g c =
+    let p = err_from_is_err_and c.from_residual-in_err-push_rows.result c.from_residual-in_err-push_rows.ensures.1 in
+    let t = g.S.NodeSpace.table c.args.space.now in
+    rw (p.1, p.2) (failed_part g.T.Sources.stated g.T.Sources.failures c.args.sources.now c.window_about.new.sources c.push_rows.new.sources (rope_cell t c.args.rope) (rope_len t c.args.rope) _
+    (none_failed c.in_ok-window.ensures.reads.reads c.in_ok-window.ensures.reads.told) c.in_err-push_rows.ensures.reads)
 
 pub returns-clause-bytes : goal.returns-clause-bytes
 returns-clause-bytes g c source agrees stated =

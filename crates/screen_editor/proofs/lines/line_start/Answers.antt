@@ -12,7 +12,7 @@ returns-in_err-found-clause-reads g c =
     let p = err_from_is_err_and c.from_residual.result c.from_residual.ensures.1 in
     let t = g.S.NodeSpace.table c.args.space.now in
     rw (p.1, p.2) (failed_in g.T.Sources.stated g.T.Sources.failures c.args.sources.now c.args.sources.now c.rchr.new.sources (rope_cell t c.args.rope) 0 (rope_len t c.args.rope) 0 ((c.args.place - 1) + 1) _
-    (record { same = refl; later = omega arith }) c.in_err-found.ensures.reads (omega arith) (omega (arith, c.requires.place, c.if-place-eq0.false)))
+    (record { same = refl; unfailed = refl }) c.in_err-found.ensures.reads (omega arith) (omega (arith, c.requires.place, c.if-place-eq0.false)))
 
 pub returns-in-Some-clause-is : goal.returns-in-Some-clause-is
 returns-in-Some-clause-is g c source agrees stated =

@@ -1,7 +1,7 @@
 use Rattle.std.proofs.Common.{◌≡◌, ◌+◌, ◌-◌, ◌<◌, ◌++◌, ℕ, map, take, drop, refl, subst, ap, ◌∙◌, ◌∷◌, [], arith}
 use Rattle.std.specs.Prelude.{slice_get}
 use Rattle.std.proofs.lemmas.Result.{err_from_is_err_and}
-use Rattle.lazy_file.proofs.LaterReads.{reads_then}
+use Rattle.lazy_file.proofs.LaterReads.{none_failed, unfailed_then}
 use Rattle.rope_node.specs.Denotes.{rope_cells, rope_len, text}
 use Rattle.cord_position.specs.Fetched.{rope_cell}
 use Rattle.cord_search.proofs.Fetches.{fetched_at}
@@ -20,7 +20,7 @@ returns-in_err-byte-clause-reads g c =
 
 pub loop-place-preserved : goal.loop-place-preserved
 loop-place-preserved g c = record {
-  reads = reads_then c.loop-place.invariant.reads c.in_ok-byte.ensures.reads.reads;
+  reads = unfailed_then c.loop-place.invariant.reads (none_failed c.in_ok-byte.ensures.reads.reads c.in_ok-byte.ensures.reads.told);
   at = next_place g.S.NodeSpace.table c.loop-place.pos c.next.new.self c.args.space.now c.args.rope c.loop-place.place (c.loop-place.place + 1) refl c.next.ensures.space c.next.ensures.rope c.next.ensures.index c.loop-place.invariant.at;
   told = λ source agrees stated.
       let t = g.S.NodeSpace.table c.args.space.now in

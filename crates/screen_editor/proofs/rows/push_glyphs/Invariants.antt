@@ -1,14 +1,14 @@
 use Rattle.std.proofs.Common.{◌≡◌, ◌-◌, ◌++◌, take, drop, map}
-use Rattle.lazy_file.specs.SourceTexts.{Reads}
+use Rattle.lazy_file.specs.SourceTexts.{ReadsUnfailed}
 use Rattle.cord_search.specs.Reached.{StandsAtPlace}
 use Rattle.cord_search.specs.Stated.{OfText}
 use Rattle.screen_editor.specs.Frame.{glyph}
 use Rattle.screen_editor.proofs.rows.push_glyphs.Given as goal
 
--- the sources are as they were, but that reads may have failed, and the position stands at the place
+-- the sources are as they were, and no read of them has failed, and the position stands at the place
 abbrev pub invariant-loop-place : goal.invariant-loop-place
 invariant-loop-place g l = record {
-  reads : Reads g.T.Sources.stated g.T.Sources.failures l.initial.sources l.sources;
+  reads : ReadsUnfailed g.T.Sources.stated g.T.Sources.failures l.initial.sources l.sources;
   at : StandsAtPlace g.S.NodeSpace.table l.pos l.space l.rope l.place;
   told : OfText (g.S.NodeSpace.table l.space) (g.T.Sources.stated l.initial.sources) l.rope
       (λ t. l.out.items ≡ l.initial.out.items ++ map glyph (take (l.place - l.start) (drop l.start t)));

@@ -1,5 +1,6 @@
 use Rattle.std.proofs.Common.{◌≡◌, ◌+◌, ◌-◌, ◌++◌, ℕ, length, map, take, drop, sym, subst, ◌∙◌, arith}
 use Rattle.std.proofs.lemmas.Result.{err_from_is_err_and}
+use Rattle.lazy_file.proofs.LaterReads.{none_failed}
 use Rattle.rope_node.specs.Denotes.{rope_cells, rope_len, text}
 use Rattle.cord_position.specs.Fetched.{rope_cell}
 use Rattle.cord_search.proofs.Fetches.{told_before, text_length}
@@ -13,7 +14,7 @@ returns-in_err-push_glyphs-clause-reads g c =
     let p = err_from_is_err_and c.from_residual-in_err-push_glyphs.result c.from_residual-in_err-push_glyphs.ensures.1 in
     let t = g.S.NodeSpace.table c.args.space.now in
     rw (p.1, p.2) (failed_part g.T.Sources.stated g.T.Sources.failures c.args.sources.now c.line_end.new.sources c.push_glyphs.new.sources (rope_cell t c.args.rope) (rope_len t c.args.rope) _
-    c.in_ok-end.ensures.reads.reads c.in_err-push_glyphs.ensures.reads)
+    (none_failed c.in_ok-end.ensures.reads.reads c.in_ok-end.ensures.reads.told) c.in_err-push_glyphs.ensures.reads)
 
 pub returns-then-end-rope_len-clause-line : goal.returns-then-end-rope_len-clause-line
 returns-then-end-rope_len-clause-line g c source agrees stated =

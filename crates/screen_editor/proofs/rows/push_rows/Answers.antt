@@ -1,6 +1,6 @@
 use Rattle.std.proofs.Common.{◌+◌, sym, subst}
 use Rattle.std.proofs.lemmas.Result.{err_from_is_err_and}
-use Rattle.lazy_file.proofs.LaterReads.{reads_then}
+use Rattle.lazy_file.proofs.LaterReads.{none_failed, unfailed_then}
 use Rattle.rope_node.specs.Denotes.{rope_cells, rope_len, text}
 use Rattle.cord_position.specs.Fetched.{rope_cell}
 use Rattle.cord_search.proofs.Fetches.{told_before}
@@ -18,7 +18,7 @@ returns-in_err-next-clause-reads g c =
 
 pub loop-row-preserved : goal.loop-row-preserved
 loop-row-preserved g c = record {
-  reads = reads_then c.loop-row.invariant.reads c.in_ok-next.ensures.reads.reads;
+  reads = unfailed_then c.loop-row.invariant.reads (none_failed c.in_ok-next.ensures.reads.reads c.in_ok-next.ensures.reads.told);
   inside = c.in_ok-next.ensures.inside;
   told = λ source agrees stated.
       let t = g.S.NodeSpace.table c.args.space.now in

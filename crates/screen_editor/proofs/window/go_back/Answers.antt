@@ -1,6 +1,6 @@
 use Rattle.std.proofs.Common.{◌≡◌, ◌-◌, ◌≤◌, length, sym, ◌∙◌, arith}
 use Rattle.std.proofs.lemmas.Result.{err_from_is_err_and}
-use Rattle.lazy_file.proofs.LaterReads.{reads_then}
+use Rattle.lazy_file.proofs.LaterReads.{none_failed, unfailed_then}
 use Rattle.rope_node.specs.Denotes.{rope_cells, rope_len, text}
 use Rattle.cord_position.specs.Fetched.{rope_cell}
 use Rattle.cord_position.proofs.Spans.{failed_in}
@@ -18,7 +18,7 @@ returns-in_err-top-clause-reads g c =
 
 pub loop-row-preserved : goal.loop-row-preserved
 loop-row-preserved g c = record {
-  reads = reads_then c.loop-row.invariant.reads c.in_ok-top.ensures.reads.reads;
+  reads = unfailed_then c.loop-row.invariant.reads (none_failed c.in_ok-top.ensures.reads.reads c.in_ok-top.ensures.reads.told);
   inside = omega (arith, c.in_ok-top.ensures.inside, c.loop-row.invariant.inside);
   few = omega (arith, c.loop-row-test.true);
   told = λ source agrees stated.

@@ -1,14 +1,14 @@
 use Rattle.std.proofs.Common.{◌-◌, ◌≤◌}
-use Rattle.lazy_file.specs.SourceTexts.{Reads}
+use Rattle.lazy_file.specs.SourceTexts.{ReadsUnfailed}
 use Rattle.cord_search.specs.Stated.{OfText}
 use Rattle.screen_editor.specs.declared.window.TheConstants.{LINES_ABOVE}
 use Rattle.screen_editor.specs.Rows.{IsAbove}
 use Rattle.screen_editor.proofs.window.go_back.Given as goal
 
--- the sources are as they were, but that reads may have failed
+-- the sources are as they were, and no read of them has failed
 abbrev pub invariant-loop-row : goal.invariant-loop-row
 invariant-loop-row g l = record {
-  reads : Reads g.T.Sources.stated g.T.Sources.failures l.initial.sources l.sources;
+  reads : ReadsUnfailed g.T.Sources.stated g.T.Sources.failures l.initial.sources l.sources;
   inside : l.top ≤ l.start;
   few : l.row ≤ LINES_ABOVE;
   told : OfText (g.S.NodeSpace.table l.space) (g.T.Sources.stated l.initial.sources) l.rope (λ t. IsAbove t l.start l.top l.row);

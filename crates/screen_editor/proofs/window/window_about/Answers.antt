@@ -1,5 +1,6 @@
 use Rattle.std.proofs.Common.{◌≡◌, ◌≤◌, length, sym, ◌∙◌, arith}
 use Rattle.std.proofs.lemmas.Result.{err_from_is_err_and}
+use Rattle.lazy_file.proofs.LaterReads.{none_failed}
 use Rattle.rope_node.specs.Denotes.{rope_cells, rope_len, text}
 use Rattle.cord_position.specs.Fetched.{rope_cell}
 use Rattle.cord_position.proofs.Spans.{failed_in}
@@ -13,7 +14,7 @@ returns-in_err-top-clause-reads g c =
     let p = err_from_is_err_and c.from_residual-in_err-top.result c.from_residual-in_err-top.ensures.1 in
     let t = g.S.NodeSpace.table c.args.space.now in
     rw (p.1, p.2) (failed_in g.T.Sources.stated g.T.Sources.failures c.args.sources.now c.line_start.new.sources c.go_back.new.sources (rope_cell t c.args.rope) 0 (rope_len t c.args.rope) 0 (rope_len t c.args.rope) _
-    c.in_ok-start.ensures.reads.reads c.in_err-top.ensures.reads (omega arith) (omega arith))
+    (none_failed c.in_ok-start.ensures.reads.reads c.in_ok-start.ensures.reads.told) c.in_err-top.ensures.reads (omega arith) (omega arith))
 
 pub returns-clause-is : goal.returns-clause-is
 returns-clause-is g c source agrees stated =

@@ -1,7 +1,7 @@
 use Rattle.std.proofs.Common.{◌≡◌, ◌+◌, ◌<◌, length, refl, ap, subst, sym, ◌∙◌, arith, below_more}
 use Rattle.std.proofs.lemmas.Result.{err_from_is_err_and}
 use Rattle.lazy_file.specs.SourceTexts.{Stated}
-use Rattle.lazy_file.proofs.LaterReads.{reads_then}
+use Rattle.lazy_file.proofs.LaterReads.{none_failed, reads_unfailed, unfailed_then}
 use Rattle.image_reader.specs.declared.revision.Revision.{Revision}
 use Rattle.image_reader.specs.Value.{ImageValue}
 use Rattle.image_reader.specs.Accepted.{revision_at}
@@ -23,7 +23,7 @@ returns-in_err-check_revision-clause-err g c =
       k = c.loop-k.k;
       there = there;
       earlier = c.loop-k.invariant.1;
-      breaks = later_break g.S.Sources.stated g.S.Sources.failures c.args.sources.now c.loop-k.sources c.check_revision.new.sources v c.loop-k.k c.in_err-check_revision.field-0.0 c.loop-k.invariant.2 c.in_err-check_revision.ensures.err;
+      breaks = later_break g.S.Sources.stated g.S.Sources.failures c.args.sources.now c.loop-k.sources c.check_revision.new.sources v c.loop-k.k c.in_err-check_revision.field-0.0 (reads_unfailed c.loop-k.invariant.2) c.in_err-check_revision.ensures.err;
     })
 
 pub loop-k-preserved : goal.loop-k-preserved
@@ -34,5 +34,5 @@ loop-k-preserved g c =
     let good = subst (λ (st : Stated). IsGoodOver v st c.loop-k.k) c.loop-k.invariant.2.same (c.in_ok-check_revision.ensures.ok refl) in (
       ap (λ (r : Revision). c.loop-k.from + r.rows) c.revision-from.ensures ∙ ap (λ n. n + (revision_at v c.loop-k.k).rows) c.loop-k.invariant.0 ∙ sym (rows_before_more v c.loop-k.k there),
       below_more _ _ c.loop-k.invariant.1 good,
-      reads_then c.loop-k.invariant.2 c.in_ok-check_revision.ensures.reads,
+      unfailed_then c.loop-k.invariant.2 (none_failed c.in_ok-check_revision.ensures.reads c.in_ok-check_revision.ensures.told),
     )

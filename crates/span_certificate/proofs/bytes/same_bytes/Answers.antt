@@ -1,5 +1,5 @@
 use Rattle.std.proofs.Common.{◌≡◌, length, take, arith, rules}
-use Rattle.lazy_file.proofs.LaterReads.{reads_then}
+use Rattle.lazy_file.proofs.LaterReads.{none_failed, unfailed_then}
 use Rattle.span_certificate.proofs.RunLaws.{turn_of, comparing_more, comparing_differs, turn_failed}
 use Rattle.span_certificate.proofs.bytes.same_bytes.Goals as goal
 
@@ -25,7 +25,7 @@ loop-done-preserved g c =
     record {
       comparing = comparing_more (g.S.NodeSpace.table c.args.space.now) (g.T.Sources.stated c.args.sources.now) c.args.part c.args.off c.args.other c.args.place c.args.len c.loop-done.done c.run_of-a.result c.run_of-b.result c.min-n.result
           turn c.loop-done.invariant.comparing (rw (e, c.loop-done.invariant.reads.same, c.in-Ok-true.field-0-test) at c.in-Ok-true.ensures.same);
-      reads = reads_then c.loop-done.invariant.reads c.same_described.ensures.reads.reads;
+      reads = unfailed_then c.loop-done.invariant.reads (none_failed c.in-Ok-true.ensures.reads.reads c.in-Ok-true.ensures.reads.told);
     }
 
 pub returns-in-Ok-false-clause-same : goal.returns-in-Ok-false-clause-same

@@ -1,4 +1,5 @@
 use Rattle.std.proofs.lemmas.Result.{err_from_is_err_and}
+use Rattle.lazy_file.proofs.LaterReads.{none_failed}
 use Rattle.span_certificate.specs.Leads.{described_cells}
 use Rattle.std.proofs.Common.{length}
 use Rattle.span_certificate.proofs.RunLaws.{tells_same, first_failed, second_failed}
@@ -27,4 +28,4 @@ returns-in_err-fill_described-2-clause-reads g c =
     let p = err_from_is_err_and c.from_residual-in_err-fill_described-2.result c.from_residual-in_err-fill_described-2.ensures.1 in
     rw (p.1, p.2)
     (second_failed g.T.Sources.stated g.T.Sources.failures c.args.sources.now c.fill_described.new.sources c.fill_described-2.new.sources (described_cells t n c.args.what) (described_cells t n c.args.other)
-    c.in_err-fill_described-2.field-0.0 c.fill_described.ensures.reads.reads (rw c.requires.len at c.in_err-fill_described-2.ensures.reads))
+    c.in_err-fill_described-2.field-0.0 (none_failed c.in_ok-fill_described.ensures.reads.reads c.in_ok-fill_described.ensures.reads.told) (rw c.requires.len at c.in_err-fill_described-2.ensures.reads))

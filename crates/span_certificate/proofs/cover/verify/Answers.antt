@@ -1,5 +1,5 @@
 use Rattle.std.proofs.Common.{◌≡◌, ◌<◌, length, sym, ◌∙◌, arith}
-use Rattle.lazy_file.proofs.LaterReads.{reads_then}
+use Rattle.lazy_file.proofs.LaterReads.{none_failed, unfailed_then}
 use Rattle.span_certificate.proofs.Verdicts.{verifying_more, answers_unfit, answers_whole, answers_left, verdict_failed}
 use Rattle.span_certificate.proofs.MadeRows.{shows_same}
 use Rattle.span_certificate.proofs.cover.verify.Goals as goal
@@ -23,7 +23,7 @@ loop-j-preserved g c =
     record {
       verifying = verifying_more (g.S.NodeSpace.table c.args.space.now) (g.S.CodedSpace.coded c.args.space.now) (g.T.Sources.stated c.args.sources.now) c.args.parts.now c.args.root (g.R.Rows.listed c.args.rows.now) c.loop-j.j c.loop-j.place c.row-row.result
           lt c.row-row.ensures c.loop-j.invariant.verifying (rw (c.loop-j.invariant.reads.same, c.in-Ok-true.field-0-test) at c.in-Ok-true.ensures.fits) (c.in-Ok-true.ensures.inside c.in-Ok-true.field-0-test);
-      reads = reads_then c.loop-j.invariant.reads c.row_fits.ensures.reads.reads;
+      reads = unfailed_then c.loop-j.invariant.reads (none_failed c.in-Ok-true.ensures.reads.reads c.in-Ok-true.ensures.reads.told);
     }
 
 pub returns-then-is_whole-clause-shows : goal.returns-then-is_whole-clause-shows
