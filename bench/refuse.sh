@@ -94,7 +94,7 @@ refuse_allocations stdout check "$folder/image"
 refuse_allocations "$folder/abc" show "$folder/image" 1
 refuse_allocations "$folder/accepted" check "$folder/one_source" "$folder/abc"
 refuse_allocations "$folder/nothing" show "$folder/one_source" 0 "$folder/abc"
-tr -d '[:space:]' < ../cord_vectors/data/bytes_row_over_a_source.hex | tr a-f A-F | basenc --base16 -d > "$folder/bytes"
+tr -d '[:space:]' < ../../tests/vectors/bytes_row_over_a_source.hex | tr a-f A-F | basenc --base16 -d > "$folder/bytes"
 echo "accepted 1 revisions 1 nodes 1 rows" > "$folder/accepted_bytes"
 refuse_allocations "$folder/accepted_bytes" check "$folder/bytes" "$folder/abc"
 refuse_allocations "$folder/abc" show "$folder/bytes" 0 "$folder/abc"

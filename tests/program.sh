@@ -20,9 +20,10 @@ trap 'exit 1' HUP INT TERM
 # The files of the cases: every worked image by its name, and texts.
 mkdir "$room/files" "$room/files/folder"
 cd "$room/files" || exit 1
-for hex in "$top"/crates/cord_vectors/data/*.hex "$top"/tests/data/*.hex; do
+for hex in "$top"/tests/vectors/*.hex; do
     tr -d '[:space:]' < "$hex" | tr a-f A-F | basenc --base16 -d > "$(basename "$hex" .hex)" || exit 1
 done
+printf "$(seq 0 299 | awk '{ printf "\\%03o", $1 % 256 }')" > ramp
 printf abcde > abcde
 printf abc > abc
 printf ab > ab
@@ -55,8 +56,8 @@ are_same() {
 # output, or /dev/full where that is what it goes to; what goes to standard error.
 passed=0
 failed=0
-while IFS=';' read -r name words input status out err; do
-    [ -n "$name" ] || continue
+try() {
+    name=$1 words=$2 input=$3 status=$4 out=$5 err=$6
     eval "set -- $words"
     got=0
     if [ "$out" = /dev/full ]; then
@@ -76,6 +77,52 @@ while IFS=';' read -r name words input status out err; do
         cat ../out ../err
         echo
     fi
+}
+
+# Every worked image: its name, the file that is its source, if any, the status, and the line.
+while IFS=';' read -r image source status line; do
+    try "the worked image $image" "check $image $source" "" "$status" "$line\n" ""
+done < "$top/tests/vectors/answers"
+answered=$((passed + failed))
+if [ "$answered" != "$(ls "$top"/tests/vectors/*.hex | wc -l)" ]; then
+    failed=$((failed + 1))
+    echo "FAILED: $answered answers for another number of worked images"
+fi
+
+# Each shorter prefix of an image ends too early.
+size=$(wc -c < one_insert)
+count=0
+while [ "$count" -lt "$size" ]; do
+    head -c "$count" one_insert > changed
+    try "the first $count bytes of an image" "check changed" "" 1 "refused C1(I1)\n" ""
+    count=$((count + 1))
+done
+
+# The bytes of that image that are for later use, from one place to another: set to 1, each is refused.
+while read -r place last; do
+    while [ "$place" -le "$last" ]; do
+        { head -c "$place" one_insert && printf '\001' && tail -c "+$((place + 2))" one_insert; } > changed
+        try "an image whose unused byte $place is set" "check changed" "" 1 "refused C1(I6)\n" ""
+        place=$((place + 1))
+    done
+done << 'PLACES'
+28 31
+42 47
+64 71
+74 75
+80 119
+124 127
+130 131
+140 143
+152 159
+180 183
+185 191
+200 207
+PLACES
+
+while IFS=';' read -r name words input status out err; do
+    [ -n "$name" ] || continue
+    try "$name" "$words" "$input" "$status" "$out" "$err"
 done << 'TABLE'
 an empty text is accepted;check new_alone;;0;accepted 1 revisions 0 nodes 0 rows\n;
 an insertion is accepted;check one_insert;;0;accepted 2 revisions 1 nodes 1 rows\n;

@@ -6,7 +6,8 @@ ghost use Rattle.lazy_file.specs.SourceTexts.{Reads};
 ghost use Rattle.lazy_file.specs.ReadFaults.{TellsAs};
 ghost use Rattle.lazy_file.specs.declared.faults.SourceFault.TheVariants.{Device};
 ghost use Rattle.cord_position.specs.Fetched.{EachCell, IsReadable, ReadsSpan, rope_cell};
-ghost use Rattle.cord_search.specs.Places.{IsFirst, IsFromOn, search_limit};
+ghost use Rattle.cord_search.specs.Places.{IsFirst, IsFromOn};
+ghost use Rattle.cord_search.specs.declared.pattern.TheConstants.{PATTERN_LIMIT};
 ghost use Rattle.cord_search.specs.Stated.{FindsFirst};
 ghost use Rattle.cord_search.specs.Faults.{IsFindFault};
 
@@ -47,7 +48,7 @@ fn find_some<S: NodeSpace, T: Sources>(
 ) -> Result<Option<u64>, SourceFault>
     requires rope { IsRope (S.table space.now) x }
     requires some { 1 ≤ length pattern.now }
-    requires few { length pattern.now ≤ search_limit }
+    requires few { length pattern.now ≤ PATTERN_LIMIT }
     ensures inside { IfOk result (IsFromOn pattern.now start (rope_len (S.table space.now) x)) }
     ensures found { IfOk result
         (FindsFirst (S.table space.now) (T.stated sources.old) x pattern.now start) }
@@ -98,7 +99,7 @@ pub fn find<S: NodeSpace, T: Sources>(
 ) -> Result<Option<u64>, FindFault>
     requires { IsRope (S.table space.now) x }
     ensures too_long { IsErrOf result FindFault.PatternTooLong
-        ↔ (search_limit < length pattern.now) }
+        ↔ (PATTERN_LIMIT < length pattern.now) }
     ensures inside { IfOk result (IsFromOn pattern.now start (rope_len (S.table space.now) x)) }
     ensures found { IfOk result
         (FindsFirst (S.table space.now) (T.stated sources.old) x pattern.now start) }
@@ -106,7 +107,7 @@ pub fn find<S: NodeSpace, T: Sources>(
     ensures fault { IfErr result (IsFindFault T.stated T.failures sources.old sources.new
         (rope_cell (S.table space.now) x) start (rope_len (S.table space.now) x)) }
     ensures told { TellsAs T.failures sources.old sources.new (FindFault.Source Device) result }
-    ensures succeeds { length pattern.now ≤ search_limit
+    ensures succeeds { length pattern.now ≤ PATTERN_LIMIT
         → EachCell (rope_cell (S.table space.now) x) start (rope_len (S.table space.now) x)
         (IsReadable (T.stated sources.old)) → IsOk result }
 {

@@ -19,7 +19,8 @@ use Rattle.node_table.specs.declared.fault.NodeFault.TheVariants.{Memory, TooLon
 use Rattle.rope_store.specs.Additions.{after, new_node, source_added}
 use Rattle.rope_store.specs.Refusals.{Refuses}
 use Rattle.leaf_buffer.proofs.Appending.{appended_nothing}
-use Rattle.lazy_file.specs.SourceTexts.{AreSizes, Stated, longest_source, text_at}
+use Rattle.lazy_file.specs.SourceTexts.{AreSizes, Stated, text_at}
+use Rattle.lazy_file.specs.declared.sources.TheConstants.{SOURCE_LIMIT}
 use Rattle.cord_position.specs.Fetched.{AreStated, EachCell, IsStated, rope_cell}
 use Rattle.cord_position.proofs.Spans.{each_cell}
 use Rattle.cord_search.specs.Stated.{OfSpan, OfTexts}
@@ -29,7 +30,7 @@ use Rattle.cord_tools.specs.Spans.{IsSourcePart, IsSpan, source_leaf}
 -- ---- which fault comes
 
 -- a source that may be added wants nothing but memory
-pub add_only_memory : {X : Type 0} (e : NodeFault) (n len : ℕ) → n < MOST_SOURCES → len ≤ longest_source → (e ≡ TooManySources) ⊎ ((e ≡ TooLong) ⊎ (e ≡ Memory))
+pub add_only_memory : {X : Type 0} (e : NodeFault) (n len : ℕ) → n < MOST_SOURCES → len ≤ SOURCE_LIMIT → (e ≡ TooManySources) ⊎ ((e ≡ TooLong) ⊎ (e ≡ Memory))
     → (IsErrOf {T = X} (Err e) TooManySources → n ≡ MOST_SOURCES) → (IsErrOf {T = X} (Err e) TooLong → (n < MOST_SOURCES) × (2 ^ 40 ≤ len)) → e ≡ Memory
 add_only_memory e n len few short (inl many) no_more too_long = absurd (omega (arith, few, no_more (ap Err many)))
 add_only_memory e n len few short (inr (inl long)) no_more too_long = absurd (omega (arith, short, (too_long (ap Err long)).1))
@@ -153,14 +154,14 @@ of_part t st s start count rope i j P own is told source agrees stated =
     (told source agrees (each_stated t st s start count rope is stated i j))
 
 -- all the bytes of a file
-whole_bytes : (sizes : List ℕ) (source : ℕ → ℕ → ℕ) (s count : ℕ) → AreSizes sizes → s < length sizes → longest_source ≤ count → take count (drop 0 (file_bytes sizes source s)) ≡ file_bytes sizes source s
+whole_bytes : (sizes : List ℕ) (source : ℕ → ℕ → ℕ) (s count : ℕ) → AreSizes sizes → s < length sizes → SOURCE_LIMIT ≤ count → take count (drop 0 (file_bytes sizes source s)) ≡ file_bytes sizes source s
 whole_bytes sizes source s count limits there big =
-    take_all count (file_bytes sizes source s) (omega (arith, big, length-map-range_with_len (source s) 0 (get_or sizes s 0), All-get_or (λ n. n ≤ longest_source) sizes s 0 there limits.each))
+    take_all count (file_bytes sizes source s) (omega (arith, big, length-map-range_with_len (source s) 0 (get_or sizes s 0), All-get_or (λ n. n ≤ SOURCE_LIMIT) sizes s 0 there limits.each))
 
-pub of_whole : (st : Stated) (s count : ℕ) (P : List ℕ → Type 0) → AreSizes st.sizes → s < length st.sizes → longest_source ≤ count → OfFile st s (λ u. P (take count (drop 0 u))) → OfFile st s P
+pub of_whole : (st : Stated) (s count : ℕ) (P : List ℕ → Type 0) → AreSizes st.sizes → s < length st.sizes → SOURCE_LIMIT ≤ count → OfFile st s (λ u. P (take count (drop 0 u))) → OfFile st s P
 of_whole st s count P limits there big told source agrees stated = subst P (whole_bytes st.sizes source s count limits there big) (told source agrees stated)
 
-pub of_files : (t : Table) (st : Stated) (s r count : ℕ) (x y : Option NodeId) (P : List ℕ → List ℕ → Type 0) → AreSizes st.sizes → s < length st.sizes → r < length st.sizes → longest_source ≤ count → t.sources ≡ st.sizes
+pub of_files : (t : Table) (st : Stated) (s r count : ℕ) (x y : Option NodeId) (P : List ℕ → List ℕ → Type 0) → AreSizes st.sizes → s < length st.sizes → r < length st.sizes → SOURCE_LIMIT ≤ count → t.sources ≡ st.sizes
     → IsSourcePart t s 0 count x → IsSourcePart t r 0 count y → OfTexts t st x y P → OfFiles st s r P
 of_files t st s r count x y P limits first second big own is other told source agrees here there =
     let bytes : (q : ℕ) (rope : Option NodeId) → q < length st.sizes → IsSourcePart t q 0 count rope → text source (rope_cells t rope) ≡ file_bytes st.sizes source q =
@@ -178,7 +179,7 @@ part_cells t sizes s start count rope own is =
     ∙ sym (span-map (Place s) count start (range_with_len 0 len))
     ∙ ap (λ (ns : List ℕ). take count (drop start (file_cells ns s))) own
 
-pub whole_cells : (t : Table) (sizes : List ℕ) (s count : ℕ) (rope : Option NodeId) → t.sources ≡ sizes → AreSizes sizes → s < length sizes → longest_source ≤ count → IsSourcePart t s 0 count rope → rope_cells t rope ≡ file_cells sizes s
+pub whole_cells : (t : Table) (sizes : List ℕ) (s count : ℕ) (rope : Option NodeId) → t.sources ≡ sizes → AreSizes sizes → s < length sizes → SOURCE_LIMIT ≤ count → IsSourcePart t s 0 count rope → rope_cells t rope ≡ file_cells sizes s
 whole_cells t sizes s count rope own limits there big is =
     part_cells t sizes s 0 count rope own is
-    ∙ take_all count (file_cells sizes s) (omega (arith, big, length-map-range_with_len (Place s) 0 (get_or sizes s 0), All-get_or (λ n. n ≤ longest_source) sizes s 0 there limits.each))
+    ∙ take_all count (file_cells sizes s) (omega (arith, big, length-map-range_with_len (Place s) 0 (get_or sizes s 0), All-get_or (λ n. n ≤ SOURCE_LIMIT) sizes s 0 there limits.each))

@@ -25,10 +25,7 @@ use Rattle.cord_tools.specs.declared.fault.ToolFault.{ToolFault}
 use Rattle.cord_tools.specs.declared.fault.ToolFault.TheVariants.{Memory, Read, Write, Refused, NoRevision}
 use Rattle.cord_tools.specs.declared.status.Status.{Status}
 use Rattle.cord_tools.specs.declared.status.Status.TheVariants.{Success, Failure}
-
--- one more byte than the largest image has
-abbrev pub image_limit : ℕ
-image_limit = 5293213728
+use Rattle.cord_tools.specs.declared.input.TheConstants.{IMAGE_LIMIT}
 
 abbrev pub accepted_line : ImageValue → List ℕ
 accepted_line v =
@@ -44,7 +41,7 @@ AreReadUpTo limit remaining bytes = IfSome remaining (λ xs. bytes ≡ take limi
 
 -- the same, of an image
 abbrev pub AreRead : Option (List ℕ) → List ℕ → Type 0
-AreRead = AreReadUpTo image_limit
+AreRead = AreReadUpTo IMAGE_LIMIT
 
 -- the line that names the refusal of a source
 abbrev pub refused_source_line : AddFault → List ℕ

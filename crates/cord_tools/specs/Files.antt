@@ -12,7 +12,8 @@ use Rattle.node_table.specs.declared.fault.NodeFault.TheVariants.{TooLong}
 use Rattle.rebalance.specs.declared.fault.BalanceFault.{BalanceFault}
 use Rattle.rebalance.specs.declared.fault.BalanceFault.TheVariants.{Node}
 use Rattle.cord_search.specs.Order.{order}
-use Rattle.cord_search.specs.Places.{IsFirst, IsFirstPlace, search_limit}
+use Rattle.cord_search.specs.Places.{IsFirst, IsFirstPlace}
+use Rattle.cord_search.specs.declared.pattern.TheConstants.{PATTERN_LIMIT}
 use Rattle.cord_tools.specs.Faults.{IsJoinFault, IsStop}
 use Rattle.cord_tools.specs.Unread.{ReadsCells}
 use Rattle.cord_tools.specs.declared.fault.ToolFault.{ToolFault}
@@ -104,7 +105,7 @@ pub record FindsPattern {T : Type 0} (stated : T → Stated) (failures : T → �
     (before after : Option (List ℕ)) (outcome : Result Status ToolFault) : Type 0 where
   pub reads : ReadsCells stated failures old new (drop start (file_cells (stated old).sizes 0)) outcome
   pub answer : AnswersFind (stated old) start pattern before after outcome
-  pub too_long : IsErrOf outcome PatternTooLong ↔ (search_limit < length pattern)
+  pub too_long : IsErrOf outcome PatternTooLong ↔ (PATTERN_LIMIT < length pattern)
 
 -- ---- the order of two files
 

@@ -1,7 +1,8 @@
 //! The first place of a pattern in a file.
 
 ghost use Rattle.std.specs.Prelude.{◌≡◌, ◌↔◌, ◌⊎◌, ◌<◌, ◌≤◌, length, drop, IfOk, IfErr, IsErrOf, string_bytes};
-ghost use Rattle.cord_search.specs.Places.{IsFirst, search_limit};
+ghost use Rattle.cord_search.specs.Places.{IsFirst};
+ghost use Rattle.cord_search.specs.declared.pattern.TheConstants.{PATTERN_LIMIT};
 ghost use Rattle.cord_tools.specs.Files.{FindsPattern, OfFile, file_cells, place_line};
 ghost use Rattle.cord_tools.specs.Unread.{ReadsCells};
 ghost use Rattle.cord_tools.specs.declared.fault.ToolFault.TheVariants.{Memory, PatternTooLong, Read};
@@ -32,7 +33,7 @@ fn first_place<T: Sources>(
     requires { 1 ≤ length (T.stated sources.old).sizes }
     ensures found { IfOk result
         (λ found. OfFile (T.stated sources.old) 0 (λ t. IsFirst pattern.now t start found)) }
-    ensures too_long { IsErrOf result PatternTooLong ↔ (search_limit < length pattern.now) }
+    ensures too_long { IsErrOf result PatternTooLong ↔ (PATTERN_LIMIT < length pattern.now) }
     ensures fault { IfErr result (λ e. (e ≡ PatternTooLong) ⊎ ((e ≡ Read) ⊎ (e ≡ Memory))) }
     ensures reads { ReadsCells T.stated T.failures sources.old sources.new
         (drop start (file_cells (T.stated sources.old).sizes 0)) result }

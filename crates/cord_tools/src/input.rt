@@ -10,7 +10,7 @@ use std::io;
 use std::io::{ErrorKind, Read};
 
 /// One more byte than the largest image has.
-const IMAGE_LIMIT: u64 = 5_293_213_728;
+pub const IMAGE_LIMIT: u64 = 5_293_213_728;
 
 /// Reads all the bytes of an image, up to the limit. A longer one is refused by what was read.
 pub fn read_image<R: Read + Drop>(alloc: Global, reader: R) -> Result<Vec<u8>, ToolFault>

@@ -16,7 +16,8 @@ use Rattle.span_certificate.specs.declared.making.MakeFault.TheVariants as MakeF
 use Rattle.span_certificate.specs.declared.part.Part.{Part}
 use Rattle.span_certificate.specs.declared.row.Row.{Row}
 use Rattle.span_certificate.specs.Commands.{result_of}
-use Rattle.span_certificate.specs.Covers.{AreMade, CoversAlways, MeetsNoSource, IsCutShort, rows_len, rows_limit}
+use Rattle.span_certificate.specs.Covers.{AreMade, CoversAlways, MeetsNoSource, IsCutShort, rows_len}
+use Rattle.span_certificate.specs.declared.making.TheConstants.{ROWS_LIMIT}
 use Rattle.span_certificate.specs.Parts.{parts_cells, parts_of, AreRopes, IsInRange, givens_of}
 use Rattle.span_certificate.proofs.InRange.{in_range}
 use Rattle.span_certificate.proofs.Joined.{parts_joined}
@@ -84,8 +85,8 @@ module _ (old new : Held Coded) (revisions : List Revision) (command : Command) 
 
     -- more rows than there is room for
     pub rows_pass : (parts : List Part) (rows : List Row) → parts ≡ parts_of (table_of coded_byte new) (roots_of revisions) (edit_with built.place command)
-        → AreMade (table_of coded_byte new) (coded_at new) parts built.root rows → rows_limit ≤ rows_held revisions + length rows
-        → (rows_limit ≡ rows_held revisions + length rows → rows_len rows < rope_len (table_of coded_byte new) built.root) → RowsPass old revisions command new
+        → AreMade (table_of coded_byte new) (coded_at new) parts built.root rows → ROWS_LIMIT ≤ rows_held revisions + length rows
+        → (ROWS_LIMIT ≡ rows_held revisions + length rows → rows_len rows < rope_len (table_of coded_byte new) built.root) → RowsPass old revisions command new
     rows_pass parts rows is made full left = record {
       place = built.place;
       root = built.root;
@@ -108,7 +109,7 @@ module _ (old new : Held Coded) (revisions : List Revision) (command : Command) 
     -- the revision
     pub revises_so : (made : Revision) (parts : List Part) → made.edit ≡ edit_with built.place command → made.root ≡ built.root → parts ≡ parts_of (table_of coded_byte new) (roots_of revisions) (edit_with built.place command)
         → (IsTrue made.mark ↔ IsBalancedRope (table_of coded_byte new) made.root) → CoversAlways (table_of coded_byte new) (coded_at new) parts made.root made.rows.items → MeetsNoSource (table_of coded_byte new) parts made.root made.rows.items
-        → rows_held revisions + length made.rows.items ≤ rows_limit → Revises old revisions command (Ok made) new
+        → rows_held revisions + length made.rows.items ≤ ROWS_LIMIT → Revises old revisions command (Ok made) new
     revises_so made parts is_edit is_root is_parts mark rows none few =
         let t = table_of coded_byte new in
         let behind : parts ≡ parts_of t (roots_of revisions) made.edit = is_parts ∙ ap (parts_of t (roots_of revisions)) (sym is_edit) in

@@ -8,13 +8,13 @@ use Rattle.rope_node.specs.Table.{IsSound, HasTrueRecords}
 use Rattle.node_table.specs.Held.{Held, table_of, IsKept, KeepsFunctions}
 use Rattle.node_table.specs.Puts.{AddsSource}
 use Rattle.node_table.specs.declared.fault.NodeFault.{NodeFault}
-use Rattle.span_certificate.specs.Covers.{rows_limit}
+use Rattle.span_certificate.specs.declared.making.TheConstants.{ROWS_LIMIT}
 use Rattle.edit_commands.specs.declared.command.Command.{Command}
 use Rattle.node_table.specs.declared.fault.NodeFault.TheVariants as NodeFault
 use Rattle.edit_commands.specs.declared.fault.EditFault.{EditFault}
 use Rattle.edit_commands.specs.declared.fault.EditFault.TheVariants.{NoRevision, NoSource, Range, EmptyText, TooManyRevisions, Node}
 use Rattle.edit_commands.specs.declared.revision.Revision.{Revision}
-use Rattle.edit_commands.specs.declared.session.TheConstants.{MOST_REVISIONS}
+use Rattle.span_certificate.specs.declared.edit.TheConstants.{MOST_REVISIONS}
 use Rattle.edit_commands.specs.Applying.{Keeps, IsMadeBy, AppliesOrNot, AddsSourceOrNot}
 use Rattle.edit_commands.specs.Codes.{told}
 use Rattle.edit_commands.specs.Refusals.{refusal_of, first_of, is_full, names_no_revision, names_no_source, is_out_of_range, is_empty_text, bytes_of, is_too_long}
@@ -46,7 +46,7 @@ pub session_kept : (old : SessionValue) (new : Held Coded) → IsSession old →
 session_kept old new is earlier = record { each = earlier; few = is.few; few_rows = is.few_rows }
 
 -- with one revision more it is one
-pub session_more : (h : Held Coded) (revisions : List Revision) (made : Revision) → AreRevisions h revisions → IsRevision h revisions made → length revisions < MOST_REVISIONS → rows_held revisions + length made.rows.items ≤ rows_limit
+pub session_more : (h : Held Coded) (revisions : List Revision) (made : Revision) → AreRevisions h revisions → IsRevision h revisions made → length revisions < MOST_REVISIONS → rows_held revisions + length made.rows.items ≤ ROWS_LIMIT
     → IsSession (record { held = h; revisions = revisions ++ made ∷ [] })
 session_more h revisions made are is few rows = record {
   each = one_more h revisions made are is;

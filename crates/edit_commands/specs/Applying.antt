@@ -12,7 +12,8 @@ use Rattle.node_table.specs.Puts.{AddsSource}
 use Rattle.rebalance.specs.declared.fault.BalanceFault.TheVariants as BalanceFault
 use Rattle.span_certificate.specs.declared.row.Row.{Row}
 use Rattle.span_certificate.specs.Commands.{result_of}
-use Rattle.span_certificate.specs.Covers.{AreMade, rows_len, rows_limit}
+use Rattle.span_certificate.specs.Covers.{AreMade, rows_len}
+use Rattle.span_certificate.specs.declared.making.TheConstants.{ROWS_LIMIT}
 use Rattle.span_certificate.specs.Parts.{givens_of, parts_of}
 use Rattle.edit_commands.specs.declared.command.Command.{Command}
 use Rattle.edit_commands.specs.declared.fault.EditFault.{EditFault}
@@ -39,8 +40,8 @@ pub record RowsPass (old : Held Coded) (revisions : List Revision) (command : Co
   pub result : result_of (givens_of (table_of coded_byte new)) (map (rope_cells (table_of coded_byte old)) (roots_of revisions)) (edit_with place command) ≡ Some (rope_cells (table_of coded_byte new) root)
   pub rows : List Row
   pub made : AreMade (table_of coded_byte new) (coded_at new) (parts_of (table_of coded_byte new) (roots_of revisions) (edit_with place command)) root rows
-  pub full : rows_limit ≤ rows_held revisions + length rows
-  pub left : rows_limit ≡ rows_held revisions + length rows → rows_len rows < rope_len (table_of coded_byte new) root
+  pub full : ROWS_LIMIT ≤ rows_held revisions + length rows
+  pub left : ROWS_LIMIT ≡ rows_held revisions + length rows → rows_len rows < rope_len (table_of coded_byte new) root
 
 -- what is met on the way: a full table or pool, too many pieces or rows, want of memory
 abbrev pub IsLaterFault : Held Coded → List Revision → Command → EditFault → Held Coded → Type 0
@@ -66,7 +67,7 @@ pub record Revises (old : Held Coded) (revisions : List Revision) (command : Com
   pub keeps : Keeps (record { held = old; revisions = revisions }) (record { held = new; revisions = revisions })
   pub earlier : AreRevisions new revisions
   pub is : IfOk result (λ made. IsRevision new revisions made × IsMadeBy old revisions command made new)
-  pub few : IfOk result (λ made. rows_held revisions + length made.rows.items ≤ rows_limit)
+  pub few : IfOk result (λ made. rows_held revisions + length made.rows.items ≤ ROWS_LIMIT)
   pub fault : IfErr result (λ fault. IsLaterFault old revisions command fault new)
 
 -- one revision more; the earlier ones have the cells that they had, and its own are what its command gives of those

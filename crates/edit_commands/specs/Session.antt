@@ -13,10 +13,11 @@ use Rattle.span_certificate.specs.declared.edit.Edit.{Edit}
 use Rattle.span_certificate.specs.declared.part.Part.{Part}
 use Rattle.span_certificate.specs.declared.row.Row.{Row}
 use Rattle.span_certificate.specs.Commands.{Givens, IsHistory}
-use Rattle.span_certificate.specs.Covers.{CoversAlways, MeetsNoSource, rows_limit}
+use Rattle.span_certificate.specs.Covers.{CoversAlways, MeetsNoSource}
+use Rattle.span_certificate.specs.declared.making.TheConstants.{ROWS_LIMIT}
 use Rattle.span_certificate.specs.Parts.{givens_of, parts_of, IsInRange}
 use Rattle.edit_commands.specs.declared.revision.Revision.{Revision}
-use Rattle.edit_commands.specs.declared.session.TheConstants.{MOST_REVISIONS}
+use Rattle.span_certificate.specs.declared.edit.TheConstants.{MOST_REVISIONS}
 
 -- the store, and the revisions
 pub record SessionValue : Type 0 where
@@ -71,7 +72,7 @@ AreRevisions h revisions = (k : ℕ) (r : Revision) → slice_get revisions k �
 pub record IsSession (v : SessionValue) : Type 0 where
   pub each : AreRevisions v.held v.revisions
   pub few : length v.revisions ≤ MOST_REVISIONS
-  pub few_rows : rows_held v.revisions ≤ rows_limit
+  pub few_rows : rows_held v.revisions ≤ ROWS_LIMIT
 
 -- The cells of the roots are the history of the commands, and so are the texts, whatever the sources hold; a revision's length is its
 -- text's.

@@ -11,4 +11,4 @@ mod session;
 
 pub use command::Command;
 pub use fault::EditFault;
-pub use session::{MOST_REVISIONS, Session};
+pub use session::Session;

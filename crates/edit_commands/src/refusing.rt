@@ -12,13 +12,12 @@ ghost use Rattle.edit_commands.specs.Session.{roots_of, length_at};
 use crate::command::Command;
 use crate::fault::EditFault;
 use crate::revision::{EarlierRoots, Revision};
-use crate::session::MOST_REVISIONS;
 use function_leaf::Coded;
 use leaf_buffer::BLOCK_SIZE;
 use node_table::NodeFault;
 use rope_node::{NodeSpace, TEXT_LIMIT};
 use rope_store::Store;
-use span_certificate::Roots;
+use span_certificate::{MOST_REVISIONS, Roots};
 
 /// Whether a command names a revision that is not there.
 fn names_no_revision(store: &Store<Coded>, revisions: &[Revision], command: &Command<'_>) -> bool

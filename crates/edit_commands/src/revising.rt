@@ -5,7 +5,7 @@ ghost use Rattle.function_leaf.specs.Coded.{coded_byte};
 ghost use Rattle.rope_node.specs.Balance.{IsBalancedRope};
 ghost use Rattle.rope_node.specs.Denotes.{IsRope};
 ghost use Rattle.node_table.specs.Held.{table_of};
-ghost use Rattle.span_certificate.specs.Covers.{rows_limit};
+ghost use Rattle.span_certificate.specs.declared.making.TheConstants.{ROWS_LIMIT};
 ghost use Rattle.edit_commands.specs.Applying.{Revises};
 ghost use Rattle.edit_commands.specs.Building.{edit_with};
 ghost use Rattle.edit_commands.specs.Refusals.{refusal_of};
@@ -77,7 +77,7 @@ pub fn revise(
 ) -> Result<Revision, EditFault>
     requires revisions { AreRevisions store.old revisions.now }
     requires accepted { refusal_of (record { held = store.old; revisions = revisions.now }) command.now ≡ None }
-    requires room { room + rows_held revisions.now ≡ rows_limit }
+    requires room { room + rows_held revisions.now ≡ ROWS_LIMIT }
     ensures { Revises store.old revisions.now command.now result store.new }
 {
     // The store keeps its rules, as its count says, before and behind.

@@ -2,6 +2,7 @@
 
 ghost use Rattle.std.specs.Prelude.{◌≡◌, [], length};
 ghost use Rattle.std.specs.Option.{option_map};
+ghost use Rattle.node_table.specs.Held.{held_of};
 ghost use Rattle.edit_commands.specs.Session.{SessionValue, IsSession, HoldsHistory};
 ghost use Rattle.edit_commands.specs.Session.{root_of, mark_of, edit_of, rows_of};
 ghost use Rattle.edit_commands.specs.Applying.{AppliesOrNot, AddsSourceOrNot};
@@ -17,9 +18,6 @@ use rope_store::Store;
 use span_certificate::{Edit, ROWS_LIMIT, Roots, Row};
 use std::alloc::Global;
 use std::marker::Model;
-
-/// The most revisions of a session.
-pub const MOST_REVISIONS: u32 = 1 << 20;
 
 /// Revisions made by commands, over a store of their ropes. It only grows, so every revision keeps its text for
 /// good.
@@ -47,6 +45,7 @@ impl Model for Session {
 impl Session {
     /// A session without sources and revisions. It takes no memory.
     pub fn new(alloc: Global) -> Session
+        ensures store { result.held ≡ held_of [] (record { bytes = []; borders = []; room = 0 }) [] }
         ensures revisions { result.revisions ≡ [] }
         ensures sources { result.held.sources ≡ [] }
     {

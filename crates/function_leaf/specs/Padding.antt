@@ -1,7 +1,8 @@
 use Rattle.std.proofs.Common.{◌≡◌, ℕ, ◌-◌, ◌≤◌, List, ◌++◌, length, take, arith, ap, sym, ◌∙◌}
 use Rattle.std.specs.Prelude.{replicate}
 use Rattle.std.proofs.lemmas.List.{take-append-drop, length-take-le}
-use Rattle.function_leaf.specs.Pattern.{IsPadded, padded, pattern_limit}
+use Rattle.function_leaf.specs.Pattern.{IsPadded, padded}
+use Rattle.function_leaf.specs.declared.pattern.TheConstants.{PATTERN_LIMIT}
 use Rattle.function_leaf.specs.declared.pattern.Pattern.TheInside.{Inside}
 
 -- the bytes in front are as many as their number says
@@ -11,7 +12,7 @@ length-in_front bytes n h = let le : n ≤ length bytes = omega arith in length-
 -- the bytes in front, padded again, are all of them
 padded-take : (bytes : List ℕ) (n : ℕ) → IsPadded bytes n → padded (take n bytes) ≡ bytes
 padded-take bytes n h =
-    ap (λ m. take n bytes ++ replicate (pattern_limit - m) 0) (length-in_front bytes n h)
+    ap (λ m. take n bytes ++ replicate (PATTERN_LIMIT - m) 0) (length-in_front bytes n h)
     ∙ ap (λ xs. take n bytes ++ xs) (sym h.zeros)
     ∙ take-append-drop n bytes
 

@@ -8,7 +8,7 @@ use Rattle.span_certificate.specs.Fields.{Field, R, Q, P, M, A, N, place_in_reco
 use Rattle.image_reader.specs.declared.command.Numbers.{Numbers}
 use Rattle.image_reader.specs.declared.fault.ReadFault.TheVariants.{NonZeroPad}
 use Rattle.image_reader.specs.declared.revision.Revision.{Revision}
-use Rattle.image_reader.specs.Limits.{nil_root}
+use Rattle.image_reader.specs.declared.decode.TheConstants.{NIL_ROOT}
 use Rattle.image_reader.specs.Layout.{IsBytes, spelled, number_in}
 use Rattle.image_reader.specs.Value.{FitsRoot, FitsRevision}
 use Rattle.image_reader.specs.Spelling.{field_of, numbers_of, mark_number, root_number, revision_layout, revision_numbers, revision_spelling}
@@ -42,13 +42,13 @@ root_small (Some id) fits = omega arith
 
 root_again : (root : Option NodeId) → FitsRoot root → root_of (root_number root) ≡ root
 root_again None fits = refl
-root_again (Some id) fits = let other : eqb id.0 nil_root ≡ false = ne_eqb _ _ (λ e. absurd (omega arith)) in rw other refl
+root_again (Some id) fits = let other : eqb id.0 NIL_ROOT ≡ false = ne_eqb _ _ (λ e. absurd (omega arith)) in rw other refl
 
 root_back : (n : ℕ) → n < 2 ^ 32 → (root_number (root_of n) ≡ n) × FitsRoot (root_of n)
 root_back n small =
-    elim (cases_Bool (eqb n nil_root)) [
+    elim (cases_Bool (eqb n NIL_ROOT)) [
       | inl is ↦ rw is (sym (eqb-true _ _ is), tt)
-      | inr isnt ↦ let other : n ≢ nil_root = eqb-false _ _ isnt in rw isnt (refl, omega arith)
+      | inr isnt ↦ let other : n ≢ NIL_ROOT = eqb-false _ _ isnt in rw isnt (refl, omega arith)
     ]
 
 -- ---- what is read again

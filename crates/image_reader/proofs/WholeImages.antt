@@ -10,7 +10,10 @@ use Rattle.std.proofs.lemmas.List.{take-append-drop, drop_at, length-append, len
 use Rattle.image_reader.specs.declared.fault.ReadFault.{ReadFault}
 use Rattle.image_reader.specs.declared.fault.ReadFault.TheVariants.{Truncated, Trailing, Magic, Version, Count, NonZeroPad}
 use Rattle.image_reader.specs.declared.header.Header.{Header}
-use Rattle.image_reader.specs.Limits.{magic, most_sources, most_nodes, most_revisions, most_rows, most_pool}
+use Rattle.span_certificate.specs.declared.edit.TheConstants.{MOST_REVISIONS}
+use Rattle.image_reader.specs.declared.header.TheConstants.{MAGIC, MOST_POOL}
+use Rattle.span_certificate.specs.declared.making.TheConstants.{ROWS_LIMIT}
+use Rattle.rope_node.specs.declared.limits.TheConstants.{MOST_NODES, MOST_SOURCES}
 use Rattle.image_reader.specs.Layout.{IsBytes, spelled, number_in, records}
 use Rattle.image_reader.specs.Value.{ImageValue, IsImage, FitsSource, FitsNode, FitsRevision, FitsRow}
 use Rattle.image_reader.specs.Spelling.{header_layout, header_numbers, source_spelling, node_spelling, revision_spelling, row_spelling, spelling}
@@ -29,13 +32,13 @@ header_wide = (wide64, (wide32, (wide32, (wide32, (wide32, (wide32, (wide32, (wi
 -- what a header without a fault says
 pub record IsHeader (bytes : List ℕ) : Type 0 where
   pub long : 40 ≤ length bytes
-  pub begins : number_in w64 0 bytes ≡ magic
+  pub begins : number_in w64 0 bytes ≡ MAGIC
   pub version : number_in w32 8 bytes ≡ 1
-  pub sources : source_count bytes ≤ most_sources
-  pub nodes : node_count bytes ≤ most_nodes
-  pub revisions : revision_count bytes ≤ most_revisions
-  pub rows : row_count bytes ≤ most_rows
-  pub pool : pool_len bytes ≤ most_pool
+  pub sources : source_count bytes ≤ MOST_SOURCES
+  pub nodes : node_count bytes ≤ MOST_NODES
+  pub revisions : revision_count bytes ≤ MOST_REVISIONS
+  pub rows : row_count bytes ≤ ROWS_LIMIT
+  pub pool : pool_len bytes ≤ MOST_POOL
   pub pad : number_in w32 28 bytes ≡ 0
   pub whole : length bytes ≡ 40 + 8 * source_count bytes + 32 * node_count bytes + 56 * revision_count bytes + 24 * row_count bytes + pool_len bytes
 
@@ -49,15 +52,15 @@ header_back bytes none =
     let p4 = else_none _ _ p3.1 in
     let p5 = else_none _ _ p4.1 in
     let limits : is_over_limit bytes ≡ false = fault_if_none (is_over_limit bytes) Count p3.0 in
-    let l0 = or_parts (ltb most_sources (source_count bytes)) (ltb most_nodes (node_count bytes) || (ltb most_revisions (revision_count bytes) || (ltb most_rows (row_count bytes) || ltb most_pool (pool_len bytes)))) limits in
-    let l1 = or_parts (ltb most_nodes (node_count bytes)) (ltb most_revisions (revision_count bytes) || (ltb most_rows (row_count bytes) || ltb most_pool (pool_len bytes))) l0.1 in
-    let l2 = or_parts (ltb most_revisions (revision_count bytes)) (ltb most_rows (row_count bytes) || ltb most_pool (pool_len bytes)) l1.1 in
-    let l3 = or_parts (ltb most_rows (row_count bytes)) (ltb most_pool (pool_len bytes)) l2.1 in
+    let l0 = or_parts (ltb MOST_SOURCES (source_count bytes)) (ltb MOST_NODES (node_count bytes) || (ltb MOST_REVISIONS (revision_count bytes) || (ltb ROWS_LIMIT (row_count bytes) || ltb MOST_POOL (pool_len bytes)))) limits in
+    let l1 = or_parts (ltb MOST_NODES (node_count bytes)) (ltb MOST_REVISIONS (revision_count bytes) || (ltb ROWS_LIMIT (row_count bytes) || ltb MOST_POOL (pool_len bytes))) l0.1 in
+    let l2 = or_parts (ltb MOST_REVISIONS (revision_count bytes)) (ltb ROWS_LIMIT (row_count bytes) || ltb MOST_POOL (pool_len bytes)) l1.1 in
+    let l3 = or_parts (ltb ROWS_LIMIT (row_count bytes)) (ltb MOST_POOL (pool_len bytes)) l2.1 in
     let not_short : stated_len bytes ≤ length bytes = ltb-false _ _ (fault_if_none (ltb (length bytes) (stated_len bytes)) Truncated p5.0) in
     let not_long : length bytes ≤ stated_len bytes = ltb-false _ _ (fault_if_none (ltb (stated_len bytes) (length bytes)) Trailing p5.1) in
     record {
       long = ltb-false _ _ (fault_if_none (ltb (length bytes) 40) Truncated p0.0);
-      begins = eqb-true _ _ (not-false _ (fault_if_none (not (eqb (number_in w64 0 bytes) magic)) Magic p1.0));
+      begins = eqb-true _ _ (not-false _ (fault_if_none (not (eqb (number_in w64 0 bytes) MAGIC)) Magic p1.0));
       version = eqb-true _ _ (not-false _ (fault_if_none (not (eqb (number_in w32 8 bytes) 1)) Version p2.0));
       sources = ltb-false _ _ l0.0;
       nodes = ltb-false _ _ l1.0;
@@ -80,10 +83,10 @@ header_again bytes h =
     let not_long = le-ltb (stated_len bytes) (length bytes) (omega (arith, h.whole)) in
     rw (long, begins, version, limits, pad, not_short, not_long) refl
 
-header_spelled : (bytes : List ℕ) → IsBytes bytes → IsHeader bytes → take 40 bytes ≡ spelled header_layout (magic ∷ 1 ∷ source_count bytes ∷ node_count bytes ∷ revision_count bytes ∷ row_count bytes ∷ 0 ∷ pool_len bytes ∷ [])
+header_spelled : (bytes : List ℕ) → IsBytes bytes → IsHeader bytes → take 40 bytes ≡ spelled header_layout (MAGIC ∷ 1 ∷ source_count bytes ∷ node_count bytes ∷ revision_count bytes ∷ row_count bytes ∷ 0 ∷ pool_len bytes ∷ [])
 unfolding numbers_from
 header_spelled bytes h is =
-    let same : numbers_from header_layout 0 bytes ≡ magic ∷ 1 ∷ source_count bytes ∷ node_count bytes ∷ revision_count bytes ∷ row_count bytes ∷ 0 ∷ pool_len bytes ∷ [] = rw (is.begins, is.version, is.pad) refl in
+    let same : numbers_from header_layout 0 bytes ≡ MAGIC ∷ 1 ∷ source_count bytes ∷ node_count bytes ∷ revision_count bytes ∷ row_count bytes ∷ 0 ∷ pool_len bytes ∷ [] = rw (is.begins, is.version, is.pad) refl in
     sym (spelled_back header_layout header_wide 0 bytes h is.long) ∙ ap (spelled header_layout) same
 
 -- bytes without a fault
@@ -141,7 +144,7 @@ whole_back bytes h none =
       sym (take-append-drop 40 bytes)
           ∙ ap (λ (xs : List ℕ). xs ++ b0) (header_spelled bytes h is)
           ∙ rw (count_s, count_n, count_k, count_j, pool)
-          (ap (λ (xs : List ℕ). spelled header_layout (magic ∷ 1 ∷ s ∷ n ∷ k ∷ j ∷ 0 ∷ pool_len bytes ∷ []) ++ xs)
+          (ap (λ (xs : List ℕ). spelled header_layout (MAGIC ∷ 1 ∷ s ∷ n ∷ k ∷ j ∷ 0 ∷ pool_len bytes ∷ []) ++ xs)
           (sources.1 ∙ ap (λ (xs : List ℕ). flat_map source_spelling (map source_of (records 8 s b0)) ++ xs)
           (nodes.1 ∙ ap (λ (xs : List ℕ). flat_map node_spelling (map image_node (records 32 n b1)) ++ xs)
           (revisions.1 ∙ ap (λ (xs : List ℕ). flat_map revision_spelling (map revision_of (records 56 k b2)) ++ xs)

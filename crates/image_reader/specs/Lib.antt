@@ -1,4 +1,3 @@
-pub mod Limits
 pub mod Layout
 pub mod Value
 pub mod Spelling

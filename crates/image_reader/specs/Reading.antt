@@ -18,7 +18,11 @@ use Rattle.image_reader.specs.declared.fault.ReadFault.TheVariants.{Truncated, T
 use Rattle.image_reader.specs.declared.header.Header.{Header}
 use Rattle.image_reader.specs.declared.revision.Revision.{Revision}
 use Rattle.image_reader.specs.Layout.{number_in, records}
-use Rattle.image_reader.specs.Limits.{magic, nil_root, most_sources, most_nodes, most_revisions, most_rows, most_pool}
+use Rattle.span_certificate.specs.declared.edit.TheConstants.{MOST_REVISIONS}
+use Rattle.image_reader.specs.declared.header.TheConstants.{MAGIC, MOST_POOL}
+use Rattle.span_certificate.specs.declared.making.TheConstants.{ROWS_LIMIT}
+use Rattle.image_reader.specs.declared.decode.TheConstants.{NIL_ROOT}
+use Rattle.rope_node.specs.declared.limits.TheConstants.{MOST_NODES, MOST_SOURCES}
 use Rattle.image_reader.specs.Value.{ImageNode, ImageValue}
 use Rattle.image_reader.specs.Spelling.{field_of}
 
@@ -81,7 +85,7 @@ abbrev pub edit_of : List ℕ → Edit
 edit_of bytes = edit_by (command_code_in bytes) (field_of (numbers_in bytes))
 
 abbrev pub root_of : ℕ → Option NodeId
-root_of n = if n == nil_root then None else Some (id_of n)
+root_of n = if n == NIL_ROOT then None else Some (id_of n)
 
 unfoldable pub revision_of : List ℕ → Revision
 revision_of bytes = record { edit = edit_of bytes; mark = number_in w8 1 bytes == 1; root = root_of (number_in w32 4 bytes); rows = number_in w32 48 bytes }
@@ -188,12 +192,12 @@ any_nonzero [] = false
 any_nonzero (n ∷ ns) = not (n == 0) || any_nonzero ns
 
 abbrev pub is_over_limit : List ℕ → Bool
-is_over_limit bytes = nat_lt most_sources (source_count bytes) || (nat_lt most_nodes (node_count bytes) || (nat_lt most_revisions (revision_count bytes) || (nat_lt most_rows (row_count bytes) || nat_lt most_pool (pool_len bytes))))
+is_over_limit bytes = nat_lt MOST_SOURCES (source_count bytes) || (nat_lt MOST_NODES (node_count bytes) || (nat_lt MOST_REVISIONS (revision_count bytes) || (nat_lt ROWS_LIMIT (row_count bytes) || nat_lt MOST_POOL (pool_len bytes))))
 
 unfoldable pub header_fault : List ℕ → Option ReadFault
 header_fault bytes =
     fault_if (nat_lt (length bytes) 40) Truncated
-    else fault_if (not (number_in w64 0 bytes == magic)) Magic
+    else fault_if (not (number_in w64 0 bytes == MAGIC)) Magic
     else fault_if (not (number_in w32 8 bytes == 1)) Version
     else fault_if (is_over_limit bytes) Count
     else fault_if (not (number_in w32 28 bytes == 0)) NonZeroPad

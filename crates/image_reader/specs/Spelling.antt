@@ -16,15 +16,16 @@ use Rattle.span_certificate.specs.declared.row.RowKind.{RowKind}
 use Rattle.span_certificate.specs.declared.row.RowKind.TheVariants.{Shared, Leaf, Bytes}
 use Rattle.image_reader.specs.declared.revision.Revision.{Revision}
 use Rattle.image_reader.specs.Layout.{spelled}
-use Rattle.image_reader.specs.Limits.{magic, nil_root}
+use Rattle.image_reader.specs.declared.decode.TheConstants.{NIL_ROOT}
+use Rattle.image_reader.specs.declared.header.TheConstants.{MAGIC}
 use Rattle.image_reader.specs.Value.{ImageNode, ImageValue}
 
--- magic, version, the numbers of sources, nodes, revisions and rows, zero, the pool's length
+-- the magic number, the version, the numbers of sources, nodes, revisions and rows, zero, the pool's length
 abbrev pub header_layout : List Width
 header_layout = w64 ∷ w32 ∷ w32 ∷ w32 ∷ w32 ∷ w32 ∷ w32 ∷ w64 ∷ []
 
 abbrev pub header_numbers : ImageValue → List ℕ
-header_numbers v = magic ∷ 1 ∷ length v.sources ∷ length v.nodes ∷ length v.revisions ∷ length v.rows ∷ 0 ∷ length v.pool ∷ []
+header_numbers v = MAGIC ∷ 1 ∷ length v.sources ∷ length v.nodes ∷ length v.revisions ∷ length v.rows ∷ 0 ∷ length v.pool ∷ []
 
 -- its length
 abbrev pub source_layout : List Width
@@ -107,7 +108,7 @@ mark_number false = 0
 mark_number true = 1
 
 abbrev pub root_number : Option NodeId → ℕ
-root_number None = nil_root
+root_number None = NIL_ROOT
 root_number (Some id) = id.0
 
 -- code, mark, zero, root, r, q, p, m, a, n, the number of its rows, zero

@@ -16,7 +16,11 @@ use Rattle.span_certificate.specs.declared.row.RowKind.TheVariants.{Shared, Leaf
 use Rattle.span_certificate.specs.Fields.{FitsRecord}
 use Rattle.image_reader.specs.declared.revision.Revision.{Revision}
 use Rattle.image_reader.specs.Layout.{IsBytes}
-use Rattle.image_reader.specs.Limits.{most_sources, most_nodes, most_revisions, most_rows, most_pool, nil_root}
+use Rattle.span_certificate.specs.declared.edit.TheConstants.{MOST_REVISIONS}
+use Rattle.image_reader.specs.declared.header.TheConstants.{MOST_POOL}
+use Rattle.span_certificate.specs.declared.making.TheConstants.{ROWS_LIMIT}
+use Rattle.image_reader.specs.declared.decode.TheConstants.{NIL_ROOT}
+use Rattle.rope_node.specs.declared.limits.TheConstants.{MOST_NODES, MOST_SOURCES}
 
 -- a node, and the function that it holds where it is one
 pub record ImageNode : Type 0 where
@@ -73,7 +77,7 @@ pub record FitsNode (n : ImageNode) : Type 0 where
 
 abbrev pub FitsRoot : Option NodeId → Type 0
 FitsRoot None = Unit {0}
-FitsRoot (Some id) = id.0 < nil_root
+FitsRoot (Some id) = id.0 < NIL_ROOT
 
 pub record FitsRevision (r : Revision) : Type 0 where
   pub edit : FitsRecord r.edit
@@ -99,9 +103,9 @@ pub record IsImage (v : ImageValue) : Type 0 where
   pub revisions : AllByRecursion FitsRevision v.revisions
   pub rows : AllByRecursion FitsRow v.rows
   pub pool : IsBytes v.pool
-  pub few_sources : length v.sources ≤ most_sources
-  pub few_nodes : length v.nodes ≤ most_nodes
-  pub few_revisions : length v.revisions ≤ most_revisions
-  pub few_rows : length v.rows ≤ most_rows
-  pub small_pool : length v.pool ≤ most_pool
+  pub few_sources : length v.sources ≤ MOST_SOURCES
+  pub few_nodes : length v.nodes ≤ MOST_NODES
+  pub few_revisions : length v.revisions ≤ MOST_REVISIONS
+  pub few_rows : length v.rows ≤ ROWS_LIMIT
+  pub small_pool : length v.pool ≤ MOST_POOL
   pub rows_counted : sum_by (λ (r : Revision). r.rows) v.revisions ≡ length v.rows

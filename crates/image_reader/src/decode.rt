@@ -20,10 +20,13 @@ pub fn source_in(bytes: &[u8]) -> u64
     u64_in(bytes, 0)
 }
 
+/// The root that stands for nil.
+pub const NIL_ROOT: u32 = u32::MAX;
+
 fn root_in(number: u32) -> Rope
     ensures { result ≡ root_of number }
 {
-    if number == u32::MAX {
+    if number == NIL_ROOT {
         None
     } else {
         Some(NodeId(number))

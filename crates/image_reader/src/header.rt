@@ -6,6 +6,9 @@ ghost use Rattle.image_reader.specs.Reading.{header_fault, HasHeader};
 
 use crate::fault::ReadFault;
 use crate::number::{u32_in, u64_in};
+use leaf_buffer::POOL_LIMIT;
+use rope_node::{MOST_NODES, MOST_SOURCES};
+use span_certificate::{MOST_REVISIONS, ROWS_LIMIT};
 
 /// How many records each section has, and how long the pool is.
 #[derive(Clone, Copy)]
@@ -17,19 +20,13 @@ pub struct Header {
     pub pool: u64,
 }
 
-const MAGIC: u64 = 0x434f_5244_5345_5353;
+/// `CORDSESS` as a number of eight bytes.
+pub const MAGIC: u64 = 0x434f_5244_5345_5353;
 
 const VERSION: u32 = 1;
 
-const MOST_SOURCES: u32 = 255;
-
-const MOST_NODES: u32 = 16_777_216;
-
-const MOST_REVISIONS: u32 = 1_048_576;
-
-const MOST_ROWS: u32 = 16_777_216;
-
-const MOST_POOL: u64 = 4_294_967_295;
+/// The most bytes of a pool.
+pub const MOST_POOL: u64 = POOL_LIMIT - 1;
 
 /// The numbers of the header, where it has no fault and the bytes are as many as it states.
 #[tactic(auto, unfolding(crate::specs::Reading::header_fault, crate::specs::Reading::stated_len))]
@@ -71,18 +68,21 @@ pub fn read_header(bytes: &[u8]) -> Result<Header, ReadFault>
 
 impl Header {
     ghost use Rattle.std.specs.Prelude.{◌≡◌, ◌+◌, ◌*◌, ◌<◌, ◌^◌, ◌||◌, nat_lt};
-    ghost use Rattle.image_reader.specs.Limits.{most_sources, most_nodes, most_revisions, most_rows, most_pool};
+    ghost use Rattle.span_certificate.specs.declared.edit.TheConstants.{MOST_REVISIONS};
+    ghost use Rattle.image_reader.specs.declared.header.TheConstants.{MOST_POOL};
+    ghost use Rattle.span_certificate.specs.declared.making.TheConstants.{ROWS_LIMIT};
+    ghost use Rattle.rope_node.specs.declared.limits.TheConstants.{MOST_NODES, MOST_SOURCES};
 
     /// Whether a number is over its limit.
     fn is_over_limit(&self) -> bool
-        ensures { result ≡ (nat_lt most_sources self.now.sources || (nat_lt most_nodes self.now.nodes
-            || (nat_lt most_revisions self.now.revisions || (nat_lt most_rows self.now.rows
-            || nat_lt most_pool self.now.pool)))) }
+        ensures { result ≡ (nat_lt MOST_SOURCES self.now.sources || (nat_lt MOST_NODES self.now.nodes
+            || (nat_lt MOST_REVISIONS self.now.revisions || (nat_lt ROWS_LIMIT self.now.rows
+            || nat_lt MOST_POOL self.now.pool)))) }
     {
         self.sources > MOST_SOURCES
             || self.nodes > MOST_NODES
             || self.revisions > MOST_REVISIONS
-            || self.rows > MOST_ROWS
+            || self.rows as usize > ROWS_LIMIT
             || self.pool > MOST_POOL
     }
 

@@ -14,7 +14,9 @@ mod rows;
 mod section;
 
 pub use command::Numbers;
+pub use decode::NIL_ROOT;
 pub use fault::ReadFault;
+pub use header::{MAGIC, MOST_POOL};
 pub use image::Image;
 pub use revision::Revision;
 pub use roots::EarlierRoots;

@@ -4,15 +4,16 @@ use Rattle.std.specs.Prelude.{All}
 use Rattle.std.proofs.lemmas.List.{get_or_append_left, get_or-map, length-map, map-append}
 use Rattle.std.proofs.lemmas.List.Elements.{All-append, All-get_or}
 use Rattle.std.proofs.Math.Seq.{take-append_seam}
-use Rattle.lazy_file.specs.SourceTexts.{AreSizes, count_limit, longest_source}
+use Rattle.lazy_file.specs.SourceTexts.{AreSizes}
+use Rattle.lazy_file.specs.declared.sources.TheConstants.{COUNT_LIMIT, SOURCE_LIMIT}
 use Rattle.lazy_file.specs.DeviceTexts.{DeviceText, no_device, stated_by}
 use Rattle.lazy_file.specs.KeptBlocks.{AreKept, IsBlockOf, Kept}
 
 -- no source is longer than a source may be
-pub size_in_limit : (ds : List DeviceText) (s : ℕ) → AreSizes (stated_by ds).sizes → s < length ds → (get_or ds s no_device).size ≤ longest_source
+pub size_in_limit : (ds : List DeviceText) (s : ℕ) → AreSizes (stated_by ds).sizes → s < length ds → (get_or ds s no_device).size ≤ SOURCE_LIMIT
 size_in_limit ds s sizes there =
     let one : get_or (map (λ d. d.size) ds) s 0 ≡ (get_or ds s no_device).size = get_or-map (λ (d : DeviceText). d.size) ds s no_device 0 there in
-    rw one at (All-get_or (λ n. n ≤ longest_source) (map (λ d. d.size) ds) s 0 (rw length-map there) sizes.each)
+    rw one at (All-get_or (λ n. n ≤ SOURCE_LIMIT) (map (λ d. d.size) ds) s 0 (rw length-map there) sizes.each)
 
 -- what holds of sources and of the blocks that are kept
 abbrev pub AreSound : {A : Type 0} → List DeviceText → Kept A → Type 0
@@ -24,18 +25,18 @@ block_of_more ds d key block is = record {
   bytes = rw (get_or_append_left ds (d ∷ []) no_device key.0 is.there) is.bytes;
 }
 
-sizes_of_more : (ds : List DeviceText) (d : DeviceText) → AreSizes (stated_by ds).sizes → length ds < count_limit → d.size ≤ longest_source → AreSizes (stated_by (ds ++ d ∷ [])).sizes
+sizes_of_more : (ds : List DeviceText) (d : DeviceText) → AreSizes (stated_by ds).sizes → length ds < COUNT_LIMIT → d.size ≤ SOURCE_LIMIT → AreSizes (stated_by (ds ++ d ∷ [])).sizes
 sizes_of_more ds d sizes room size =
-    let one : All (λ n. n ≤ longest_source) (d.size ∷ []) = search rules in
+    let one : All (λ n. n ≤ SOURCE_LIMIT) (d.size ∷ []) = search rules in
     let same : length (map (λ (e : DeviceText). e.size) ds) ≡ length ds = rw length-map in
     rw (map-append (λ (e : DeviceText). e.size) ds (d ∷ [])) (record {
       count = omega (arith, length-append (map (λ (e : DeviceText). e.size) ds) (d.size ∷ []), same, room);
-      each = All-append (λ n. n ≤ longest_source) (map (λ e. e.size) ds) (d.size ∷ []) sizes.each one;
+      each = All-append (λ n. n ≤ SOURCE_LIMIT) (map (λ e. e.size) ds) (d.size ∷ []) sizes.each one;
     })
 
 -- the devices after one was added or not
 pub sound_after : {A D : Type 0} (stated : D → DeviceText) (added : Bool) (old new : List D) (d : D) (kept : Kept A) → AreSound (map stated old) kept
-    → length old < count_limit → (stated d).size ≤ longest_source → new ≡ cond added (old ++ d ∷ []) old → AreSound (map stated new) kept
+    → length old < COUNT_LIMIT → (stated d).size ≤ SOURCE_LIMIT → new ≡ cond added (old ++ d ∷ []) old → AreSound (map stated new) kept
 sound_after stated false old new d kept sound room size is = rw is sound
 sound_after stated true old new d kept sound room size is =
     let ds = map stated old in

@@ -6,7 +6,8 @@ use Rattle.std.proofs.Math.ListN as list
 use Rattle.std.proofs.lemmas.List.{get_or-map, length-map}
 use Rattle.std.proofs.lemmas.List.Elements.{All-get_or}
 use Rattle.lazy_file.proofs.ReadOutcomes.{no_fault, refused_span}
-use Rattle.lazy_file.specs.SourceTexts.{Agrees, AreSizes, longest_source, stated_in_memory, text_at}
+use Rattle.lazy_file.specs.SourceTexts.{Agrees, AreSizes, stated_in_memory, text_at}
+use Rattle.lazy_file.specs.declared.sources.TheConstants.{SOURCE_LIMIT}
 
 -- the size of a source is its text's length
 pub size_of_text : (xs : List (List ℕ)) (s : ℕ) → slice_index (map length xs) s ≡ length (get_or xs s [])
@@ -18,10 +19,10 @@ stated_text xs s h = get_or-map Some xs s [] None h
 
 -- no text is longer than a source may be
 pub text_in_limit : (xs : List (List ℕ)) (s : ℕ)
-    → AreSizes (map length xs) → s < length xs → length (get_or xs s []) ≤ longest_source
+    → AreSizes (map length xs) → s < length xs → length (get_or xs s []) ≤ SOURCE_LIMIT
 text_in_limit xs s sizes h =
     let there : s < length (map length xs) = rw length-map h in
-    rw size_of_text at (All-get_or (λ n. n ≤ longest_source) (map length xs) s 0 there sizes.each)
+    rw size_of_text at (All-get_or (λ n. n ≤ SOURCE_LIMIT) (map length xs) s 0 there sizes.each)
 
 -- the bytes of texts in memory agree with what they state
 pub agrees_in_memory : (xs : List (List ℕ)) → Agrees (stated_in_memory xs) (λ s p. get_or (get_or xs s []) p 0)

@@ -1,6 +1,7 @@
 use Rattle.std.specs.Prelude.{◌≡◌, ◌↔◌, ◌<◌, ◌≤◌, ℕ, false, ◌+◌, List, Option, None, Result, drop, get_or, length, map, take, option_map, IfOk, IfSome, IsErr, IsErrOf, OnOk}
 use Rattle.std.specs.List.{sum_by}
-use Rattle.lazy_file.specs.SourceTexts.{Stated, longest_source}
+use Rattle.lazy_file.specs.SourceTexts.{Stated}
+use Rattle.lazy_file.specs.declared.sources.TheConstants.{SOURCE_LIMIT}
 use Rattle.lazy_file.specs.declared.faults.SourceFault.{SourceFault}
 use Rattle.lazy_file.specs.declared.faults.SourceFault.TheVariants.{Device, Short, BadSource}
 
@@ -53,7 +54,7 @@ pub record FillsFrom {D X : Type 0} (stated : D → DeviceText) (failures : D �
 pub record HasSpan (ds : List DeviceText) (s off n : ℕ) : Type 0 where
   pub there : s < length ds
   pub inside : off + n ≤ (get_or ds s no_device).size
-  pub limit : (get_or ds s no_device).size ≤ longest_source
+  pub limit : (get_or ds s no_device).size ≤ SOURCE_LIMIT
 
 -- these bytes stand at off in the text of source s, where it states one
 abbrev pub AreBytesOf : List DeviceText → ℕ → ℕ → List ℕ → Type 0

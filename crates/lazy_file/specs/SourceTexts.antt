@@ -1,13 +1,6 @@
 use Rattle.std.specs.Prelude.{◌≡◌, ℕ, ◌+◌, ◌<◌, ◌≤◌, Bool, ◌&&◌, nat_lt, nat_le, true, List, Option, Some, None, length, map, slice_index, All}
 use Rattle.std.specs.List.{slice_index_or}
-
--- how many sources there may be
-abbrev pub count_limit : ℕ
-count_limit = 255
-
--- how many bytes a source may have: one less than 2^40
-abbrev pub longest_source : ℕ
-longest_source = 1099511627775
+use Rattle.lazy_file.specs.declared.sources.TheConstants.{COUNT_LIMIT, SOURCE_LIMIT}
 
 -- what sources state: the size of each, the text of each that states one, and whether no read of
 -- what is there ever fails
@@ -22,8 +15,8 @@ stated_in_memory xs = record { sizes = map length xs; texts = map Some xs; never
 
 -- the sizes of the sources that there may be
 pub record AreSizes (sizes : List ℕ) : Type 0 where
-  pub count : length sizes ≤ count_limit
-  pub each : All (λ n. n ≤ longest_source) sizes
+  pub count : length sizes ≤ COUNT_LIMIT
+  pub each : All (λ n. n ≤ SOURCE_LIMIT) sizes
 
 -- source s is there, and n bytes from off on lie inside its size
 abbrev pub holds_span : Stated → ℕ → ℕ → ℕ → Bool

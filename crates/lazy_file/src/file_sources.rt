@@ -1,7 +1,7 @@
 //! Sources that are devices, such as files.
 ghost use Rattle.std.specs.Prelude.{◌≡◌, ◌↔◌, ◌<◌, ◌≤◌, ◌++◌, ◌∷◌, [], IfErr, IfOk, IsErrAnd, OnErr, OnOk, length, map};
 ghost use Rattle.std.specs.List.{sum_by};
-ghost use Rattle.lazy_file.specs.SourceTexts.{count_limit, longest_source};
+ghost use Rattle.lazy_file.specs.declared.sources.TheConstants.{COUNT_LIMIT, SOURCE_LIMIT};
 ghost use Rattle.lazy_file.specs.DeviceTexts.{stated_by};
 
 use crate::device::Device;
@@ -62,9 +62,9 @@ impl<D: Device> FileSources<D> {
         ensures place { IfOk result (λ s. s ≡ length self.old) }
         ensures ok { OnOk result (self.new ≡ self.old ++ device ∷ []) }
         ensures too_many { IsErrAnd result (λ refused. refused.fault ≡ AddFault.TooManySources)
-            ↔ (length self.old ≡ count_limit) }
+            ↔ (length self.old ≡ COUNT_LIMIT) }
         ensures too_long { IsErrAnd result (λ refused. refused.fault ≡ AddFault.SourceTooLong)
-            ↔ ((length self.old < count_limit) × (longest_source < (D.stated device).size)) }
+            ↔ ((length self.old < COUNT_LIMIT) × (SOURCE_LIMIT < (D.stated device).size)) }
         ensures back { IfErr result (λ refused. refused.device ≡ device) }
         ensures err { OnErr result (self.new ≡ self.old) }
     {

@@ -1,6 +1,7 @@
 //! Sources in memory.
 ghost use Rattle.std.specs.Prelude.{◌≡◌, ◌↔◌, ◌+◌, ◌<◌, ◌≤◌, ◌++◌, ◌∷◌, [], IfOk, IfSome, IsErrOf, IsSome, OnErr, OnOk, drop, is_some, length, map, slice_index_or, take};
-ghost use Rattle.lazy_file.specs.SourceTexts.{count_limit, holds_span, longest_source, stated_in_memory};
+ghost use Rattle.lazy_file.specs.SourceTexts.{holds_span, stated_in_memory};
+ghost use Rattle.lazy_file.specs.declared.sources.TheConstants.{COUNT_LIMIT, SOURCE_LIMIT};
 
 use crate::faults::{AddFault, SourceFault};
 use crate::sources::{COUNT_LIMIT, SOURCE_LIMIT, Sources};
@@ -43,9 +44,9 @@ impl<'a> MemSources<'a> {
         ensures place { IfOk result (λ s. s ≡ length self.old) }
         ensures ok { OnOk result (self.new ≡ self.old ++ text.now ∷ []) }
         ensures too_many { IsErrOf result AddFault.TooManySources
-            ↔ (length self.old ≡ count_limit) }
+            ↔ (length self.old ≡ COUNT_LIMIT) }
         ensures too_long { IsErrOf result AddFault.SourceTooLong
-            ↔ ((length self.old < count_limit) × (longest_source < length text.now)) }
+            ↔ ((length self.old < COUNT_LIMIT) × (SOURCE_LIMIT < length text.now)) }
         ensures err { OnErr result (self.new ≡ self.old) }
     {
         let place = self.slices.len();
@@ -62,7 +63,7 @@ impl<'a> MemSources<'a> {
     fn text(&self, s: u8) -> &'a [u8]
         requires { s < length self.now }
         ensures value { result.now ≡ slice_index_or self.now s [] }
-        ensures limit { length result.now ≤ longest_source }
+        ensures limit { length result.now ≤ SOURCE_LIMIT }
     {
         self.slices[s as usize]
     }

@@ -1,6 +1,7 @@
 //! Texts by number, read span by span.
 ghost use Rattle.std.specs.Prelude.{◌≡◌, ◌<◌, ◌≤◌, ℕ, true, drop, length, slice_index, take, IfSome, IsOk, OnOk};
-ghost use Rattle.lazy_file.specs.SourceTexts.{AreSizes, Reads, Stated, holds_span, longest_source, text_at};
+ghost use Rattle.lazy_file.specs.SourceTexts.{AreSizes, Reads, Stated, holds_span, text_at};
+ghost use Rattle.lazy_file.specs.declared.sources.TheConstants.{SOURCE_LIMIT};
 ghost use Rattle.lazy_file.specs.ReadFaults.{IsFaultOf, TellsFailure};
 
 use crate::faults::SourceFault;
@@ -27,7 +28,7 @@ pub trait Sources {
     fn len(&self, s: u8) -> u64
         requires { s < length (stated self.now).sizes }
         ensures value { result ≡ slice_index (stated self.now).sizes s }
-        ensures limit { result ≤ longest_source };
+        ensures limit { result ≤ SOURCE_LIMIT };
 
     /// Reads the bytes of source `s` from place `off` on into the whole of `buffer`. After a fault
     /// the buffer may hold any bytes. The sources state the same as before.

@@ -18,7 +18,8 @@ use Rattle.rebalance.specs.declared.fault.BalanceFault.{BalanceFault}
 use Rattle.rebalance.specs.declared.fault.BalanceFault.TheVariants.{TooManyPieces, Node}
 use Rattle.rebalance.specs.AnyForms.{AnyForm, Anew, IsAnewFault, lifted}
 use Rattle.rebalance.specs.Balancing.{IsNearlyBalanced, Rebuilds}
-use Rattle.rebalance.specs.Pieces.{kept_pieces, most_pieces}
+use Rattle.rebalance.specs.Pieces.{kept_pieces}
+use Rattle.rebalance.specs.declared.pieces.TheConstants.{MOST_PIECES}
 use Rattle.rebalance.specs.Steps.{IsStepFault, Grows}
 use Rattle.rebalance.proofs.Fibonacci.{fibonacci_below, sixtieth}
 use Rattle.rebalance.proofs.PieceCounts.{all_pieces_kept}
@@ -145,11 +146,11 @@ rebuilt_fault (Node TooManySources) nodes bytes r n b = absurd (r.no_source refl
 rebuilt_fault (Node Memory) nodes bytes r n b = tt
 
 -- what was put together has few pieces
-pub few_pieces : {F : Type 0} {meaning : F → ℕ → ℕ} {old new : Held F} {wanted : List Cell} {p : ℕ} {balanced : Option NodeId} → Rebuilds meaning old wanted p (Ok balanced) new → ¬ (most_pieces < p)
+pub few_pieces : {F : Type 0} {meaning : F → ℕ → ℕ} {old new : Held F} {wanted : List Cell} {p : ℕ} {balanced : Option NodeId} → Rebuilds meaning old wanted p (Ok balanced) new → ¬ (MOST_PIECES < p)
 few_pieces r many = let is = r.too_many.1 many in absurd cc
 
 -- one of them goes through too many pieces
-pub many_anew : {F : Type 0} (meaning : F → ℕ → ℕ) (old : Held F) (wanted : List Cell) (p q more bytes : ℕ) → ¬ ((p ≤ most_pieces) × (q ≤ most_pieces)) → Anew meaning old wanted p q more bytes (Err TooManyPieces) old
+pub many_anew : {F : Type 0} (meaning : F → ℕ → ℕ) (old : Held F) (wanted : List Cell) (p q more bytes : ℕ) → ¬ ((p ≤ MOST_PIECES) × (q ≤ MOST_PIECES)) → Anew meaning old wanted p q more bytes (Err TooManyPieces) old
 many_anew meaning old wanted p q more bytes not_few = record {
   gives = record {
     is_rope = tt;
@@ -157,8 +158,8 @@ many_anew meaning old wanted p q more bytes not_few = record {
     grows = record { kept = extends_itself (table_of meaning old); sources = refl; functions = functions_itself old; few_nodes = omega arith; few_bytes = omega arith };
   };
   too_many = (
-    λ _. ⊎_elim (λ (few : p ≤ most_pieces). inr (⊎_elim (λ (more : q ≤ most_pieces). absurd (not_few (few, more))) (λ (many : most_pieces < q). many) (cases_le q most_pieces)))
-        (λ (many : most_pieces < p). inl many) (cases_le p most_pieces),
+    λ _. ⊎_elim (λ (few : p ≤ MOST_PIECES). inr (⊎_elim (λ (more : q ≤ MOST_PIECES). absurd (not_few (few, more))) (λ (many : MOST_PIECES < q). many) (cases_le q MOST_PIECES)))
+        (λ (many : MOST_PIECES < p). inl many) (cases_le p MOST_PIECES),
     λ _. refl,
   );
   unchanged = λ _. refl;
@@ -169,14 +170,14 @@ many_anew meaning old wanted p q more bytes not_few = record {
     cases_le m n = ⊎_elim (λ (over : n < m). inr over) (λ (few : m ≤ n). inl few) (cases_lt n m)
 
 -- the first rope is refused, though neither goes through too many pieces
-pub first_refused : {F : Type 0} (meaning : F → ℕ → ℕ) (old new : Held F) (wanted cs : List Cell) (p q more bytes : ℕ) (e : BalanceFault) → p ≤ most_pieces → q ≤ most_pieces → Rebuilds meaning old cs p (Err e) new → Anew meaning old wanted p q more bytes (Err e) new
+pub first_refused : {F : Type 0} (meaning : F → ℕ → ℕ) (old new : Held F) (wanted cs : List Cell) (p q more bytes : ℕ) (e : BalanceFault) → p ≤ MOST_PIECES → q ≤ MOST_PIECES → Rebuilds meaning old cs p (Err e) new → Anew meaning old wanted p q more bytes (Err e) new
 first_refused meaning old new wanted cs p q more bytes e few_p few_q r = record {
   gives = record {
     is_rope = tt;
     text = tt;
     grows = grows_within (rebuilt_grows r) (omega arith) (omega arith);
   };
-  too_many = (λ many. absurd (omega (arith, few_p, r.too_many.0 many)), ⊎_elim (λ (many : most_pieces < p). absurd (omega (arith, many, few_p))) (λ (many : most_pieces < q). absurd (omega (arith, many, few_q))));
+  too_many = (λ many. absurd (omega (arith, few_p, r.too_many.0 many)), ⊎_elim (λ (many : MOST_PIECES < p). absurd (omega (arith, many, few_p))) (λ (many : MOST_PIECES < q). absurd (omega (arith, many, few_q))));
   unchanged = r.unchanged;
   fault = rebuilt_fault e _ _ r (omega arith) (omega arith);
 }
@@ -189,7 +190,7 @@ rebuilt_refused meaning old new wanted cs p more bytes e r = record {
     text = tt;
     grows = grows_within (rebuilt_grows r) (omega arith) (omega arith);
   };
-  too_many = (λ many. inl (r.too_many.0 many), ⊎_elim (λ (many : most_pieces < p). r.too_many.1 many) (λ (many : most_pieces < 0). absurd (omega (arith, many))));
+  too_many = (λ many. inl (r.too_many.0 many), ⊎_elim (λ (many : MOST_PIECES < p). r.too_many.1 many) (λ (many : MOST_PIECES < 0). absurd (omega (arith, many))));
   unchanged = r.unchanged;
   fault = rebuilt_fault e _ _ r (omega arith) (omega arith);
 }
@@ -203,13 +204,13 @@ rebuilt_anew meaning old new wanted p (Ok rope) r = record {
     text = r.text;
     grows = grows_within (rebuilt_grows r) (omega arith) (omega arith);
   };
-  too_many = (λ many. absurd cc, ⊎_elim (λ (many : most_pieces < p). absurd (few_pieces r many)) (λ (many : most_pieces < 0). absurd (omega (arith, many))));
+  too_many = (λ many. absurd cc, ⊎_elim (λ (many : MOST_PIECES < p). absurd (few_pieces r many)) (λ (many : MOST_PIECES < 0). absurd (omega (arith, many))));
   unchanged = λ many. absurd cc;
   fault = tt;
 }
 
 -- the second rope is refused
-pub second_refused : {F : Type 0} (meaning : F → ℕ → ℕ) (old mid new : Held F) (wanted cs ds : List Cell) (p : ℕ) (r left : Option NodeId) (more bytes : ℕ) (e : BalanceFault) → IsSound (table_of meaning old) → IsRope (table_of meaning old) r → kept_pieces (table_of meaning old) r ≤ most_pieces → Rebuilds meaning old cs p (Ok left) mid → Rebuilds meaning mid ds (kept_pieces (table_of meaning mid) r) (Err e) new
+pub second_refused : {F : Type 0} (meaning : F → ℕ → ℕ) (old mid new : Held F) (wanted cs ds : List Cell) (p : ℕ) (r left : Option NodeId) (more bytes : ℕ) (e : BalanceFault) → IsSound (table_of meaning old) → IsRope (table_of meaning old) r → kept_pieces (table_of meaning old) r ≤ MOST_PIECES → Rebuilds meaning old cs p (Ok left) mid → Rebuilds meaning mid ds (kept_pieces (table_of meaning mid) r) (Err e) new
     → Anew meaning old wanted p (kept_pieces (table_of meaning old) r) more bytes (Err e) new
 second_refused meaning old mid new wanted cs ds p r left more bytes e s there few first second =
     let t = table_of meaning old in
@@ -222,14 +223,14 @@ second_refused meaning old mid new wanted cs ds p r left more bytes e s there fe
       };
       too_many = (
         λ many. absurd (omega (arith, few, same, second.too_many.0 many)),
-        ⊎_elim (λ (many : most_pieces < p). absurd (few_pieces first many)) (λ (many : most_pieces < kept_pieces t r). absurd (omega (arith, many, few))),
+        ⊎_elim (λ (many : MOST_PIECES < p). absurd (few_pieces first many)) (λ (many : MOST_PIECES < kept_pieces t r). absurd (omega (arith, many, few))),
       );
       unchanged = λ many. absurd (omega (arith, few, same, second.too_many.0 many));
       fault = rebuilt_fault e _ _ second (omega (arith, first.few_nodes, same)) (omega (arith, first.few_bytes, same));
     }
 
 -- the call behind the balancing
-pub called_anew : {F : Type 0} (meaning : F → ℕ → ℕ) (old mid new : Held F) (a : Addition F) (wanted cs : List Cell) (IsLong : Type 0) (p q more bytes : ℕ) (plain : Result (Option NodeId) NodeFault) → Grows meaning old (length old.nodes + (2 * p + 2 * q)) (length old.pool.bytes + (31 * p + 31 * q)) mid → ¬ (most_pieces < p) → ¬ (most_pieces < q)
+pub called_anew : {F : Type 0} (meaning : F → ℕ → ℕ) (old mid new : Held F) (a : Addition F) (wanted cs : List Cell) (IsLong : Type 0) (p q more bytes : ℕ) (plain : Result (Option NodeId) NodeFault) → Grows meaning old (length old.nodes + (2 * p + 2 * q)) (length old.pool.bytes + (31 * p + 31 * q)) mid → ¬ (MOST_PIECES < p) → ¬ (MOST_PIECES < q)
     → IsFew a more bytes → ¬ IsTooDeep a → ¬ IsLong → Makes meaning mid a cs plain new → Refuses mid a ⊥ IsLong plain → cs ≡ wanted → Anew meaning old wanted p q more bytes (lifted plain) new
 called_anew {F = F} meaning old mid new a wanted cs IsLong p q more bytes plain grows few_p few_q few shallow short made refuses text =
     let nodes = length old.nodes + (2 * p + 2 * q + more) in
@@ -244,7 +245,7 @@ called_anew {F = F} meaning old mid new a wanted cs IsLong p q more bytes plain 
         text = lifted_ok (λ r. rope_cells (table_of meaning new) r ≡ wanted) plain there;
         grows = grows_through grows step step.few_nodes step.few_bytes;
       };
-      too_many = (λ e. absurd (lifted_many plain e), ⊎_elim (λ (many : most_pieces < p). absurd (few_p many)) (λ (many : most_pieces < q). absurd (few_q many)));
+      too_many = (λ e. absurd (lifted_many plain e), ⊎_elim (λ (many : MOST_PIECES < p). absurd (few_p many)) (λ (many : MOST_PIECES < q). absurd (few_q many)));
       unchanged = λ e. absurd (lifted_many plain e);
       fault = lifted_fault plain nodes most (refused_fault plain nodes most refuses (λ bad. bad) short shallow n b);
     }

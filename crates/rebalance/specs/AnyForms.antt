@@ -17,7 +17,8 @@ use Rattle.rope_store.specs.Refusals.{Refuses, IsTooDeep}
 use Rattle.rebalance.specs.declared.fault.BalanceFault.{BalanceFault}
 use Rattle.rebalance.specs.declared.fault.BalanceFault.TheVariants.{TooManyPieces, Node}
 use Rattle.rebalance.specs.Balancing.{Rebuilds}
-use Rattle.rebalance.specs.Pieces.{kept_pieces, part_pieces, most_pieces, LiesInChild}
+use Rattle.rebalance.specs.Pieces.{kept_pieces, part_pieces, LiesInChild}
+use Rattle.rebalance.specs.declared.pieces.TheConstants.{MOST_PIECES}
 use Rattle.rebalance.specs.Steps.{Grows, IsStepFault}
 
 -- a refusal of the store told as one of these calls
@@ -47,7 +48,7 @@ IsAnewFault nodes bytes (Node e) = IsStepFault nodes bytes e
 -- the call once the ropes of p and q pieces are balanced
 pub record Anew {F : Type 0} (meaning : F → ℕ → ℕ) (old : Held F) (wanted : List Cell) (p q more bytes : ℕ) (result : Result (Option NodeId) BalanceFault) (new : Held F) : Type 0 where
   pub gives : GivesRope meaning old wanted p q more bytes result new
-  pub too_many : IsErrOf result TooManyPieces ↔ ((most_pieces < p) ⊎ (most_pieces < q))
+  pub too_many : IsErrOf result TooManyPieces ↔ ((MOST_PIECES < p) ⊎ (MOST_PIECES < q))
   pub unchanged : IsErrOf result TooManyPieces → new ≡ old
   pub fault : IfErr result (IsAnewFault (length old.nodes + (2 * p + 2 * q + more)) (length old.pool.bytes + (MOST_MERGED * p + MOST_MERGED * q + bytes)))
 

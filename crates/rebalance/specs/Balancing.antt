@@ -16,7 +16,8 @@ use Rattle.rebalance.specs.declared.pieces.Span.{Span}
 use Rattle.rebalance.specs.Steps.{AddsPieces, Steps}
 use Rattle.rebalance.specs.Slots.{full_slots, slots_cells, Spreads}
 use Rattle.node_table.specs.declared.fault.NodeFault.{NodeFault}
-use Rattle.rebalance.specs.Pieces.{all_pieces, pieces, rope_pieces, span_cells, span_pieces, most_pieces}
+use Rattle.rebalance.specs.Pieces.{all_pieces, pieces, rope_pieces, span_cells, span_pieces}
+use Rattle.rebalance.specs.declared.pieces.TheConstants.{MOST_PIECES}
 
 -- a rope as long as its depth asks for, but for one
 abbrev pub IsNearlyBalanced : Table → Option NodeId → Type 0
@@ -33,7 +34,7 @@ pub record Rebuilds {F : Type 0} (meaning : F → ℕ → ℕ) (old : Held F) (w
   pub functions : KeepsFunctions old new
   pub few_nodes : length new.nodes ≤ length old.nodes + 2 * p
   pub few_bytes : length new.pool.bytes ≤ length old.pool.bytes + MOST_MERGED * p
-  pub too_many : IsErrOf result TooManyPieces ↔ (most_pieces < p)
+  pub too_many : IsErrOf result TooManyPieces ↔ (MOST_PIECES < p)
   pub unchanged : IsErrOf result TooManyPieces → new ≡ old
   pub table_full : IsErrOf result (Node TableFull) → MOST_NODES < length old.nodes + 2 * p
   pub pool_full : IsErrOf result (Node PoolFull) → POOL_LIMIT ≤ length old.pool.bytes + MOST_MERGED * p

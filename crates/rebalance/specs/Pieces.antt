@@ -10,6 +10,7 @@ use Rattle.rope_node.specs.Denotes.{Cell, cells}
 use Rattle.rebalance.specs.declared.pieces.Span.{Span}
 use Rattle.rebalance.specs.declared.pieces.Split.{Split}
 use Rattle.rebalance.specs.declared.pieces.Split.TheVariants.{Piece, Base, Children}
+use Rattle.rebalance.specs.declared.pieces.TheConstants.{MOST_PIECES}
 
 -- whether the n bytes of a node from i on are a piece: where nodes are kept, all of one whose length is at least the Fibonacci number
 -- at its depth and three
@@ -49,17 +50,13 @@ abbrev pub part_pieces : Table → Option NodeId → ℕ → ℕ → ℕ
 part_pieces t None i n = 0
 part_pieces t (Some id) i n = pieces true t id.0 i (min n (len_at t id.0 - i))
 
--- the most that a rope is put together from
-abbrev pub most_pieces : ℕ
-most_pieces = 1048576
-
 -- n bytes from start on of the function at a leaf
 abbrev pub answered_bytes : Table → NodeId → ℕ → ℕ → List ℕ
 answered_bytes t leaf start n = map (λ k. t.answer leaf.0 (start + k)) (range_with_len 0 n)
 
 -- a rope goes through no more pieces than that, where nodes are kept
 abbrev pub HasFewPieces : Table → Option NodeId → Type 0
-HasFewPieces t rope = kept_pieces t rope ≤ most_pieces
+HasFewPieces t rope = kept_pieces t rope ≤ MOST_PIECES
 
 abbrev pub HaveFewPieces : Table → Option NodeId → Option NodeId → Type 0
 HaveFewPieces t l r = HasFewPieces t l × HasFewPieces t r

@@ -6,7 +6,8 @@ ghost use Rattle.rope_node.specs.Table.{len_at};
 ghost use Rattle.rope_node.specs.Denotes.{IsRope};
 ghost use Rattle.node_table.specs.Held.{table_of};
 ghost use Rattle.rebalance.specs.Balancing.{text_with, Fills, FillsSpan, IsNearlyBalanced, IsPart, Rebalances, RebuildsPart, RebuildsRope, StepsThrough};
-ghost use Rattle.rebalance.specs.Pieces.{all_pieces, most_pieces, span_cells, span_pieces, IsPieceSpan, IsSpan};
+ghost use Rattle.rebalance.specs.Pieces.{all_pieces, span_cells, span_pieces, IsPieceSpan, IsSpan};
+ghost use Rattle.rebalance.specs.declared.pieces.TheConstants.{MOST_PIECES};
 ghost use Rattle.rebalance.specs.Slots.{AreSlots};
 
 use crate::fault::BalanceFault;
@@ -50,7 +51,7 @@ pub(crate) fn balance_by<F: LeafFn>(
 /// Whether a rope goes through at most as many pieces as a rope is put together from.
 pub(crate) fn rope_has_few_pieces<F: LeafFn>(store: &Store<F>, rope: Rope, keep: bool) -> bool
     requires { IsRope (table_of F.meaning store.now) rope }
-    ensures { IsTrue result ↔ (all_pieces keep (table_of F.meaning store.now) rope ≤ most_pieces) }
+    ensures { IsTrue result ↔ (all_pieces keep (table_of F.meaning store.now) rope ≤ MOST_PIECES) }
 {
     match rope {
         None => true,
@@ -65,7 +66,7 @@ pub(crate) fn rebuild_rope<F: LeafFn>(
     keep: bool,
 ) -> Result<Rope, BalanceFault>
     requires there { IsRope (table_of F.meaning store.old) rope }
-    requires few { all_pieces keep (table_of F.meaning store.old) rope ≤ most_pieces }
+    requires few { all_pieces keep (table_of F.meaning store.old) rope ≤ MOST_PIECES }
     ensures { RebuildsRope F.meaning store.old keep rope result store.new }
 {
     let _count = store.count();
@@ -102,7 +103,7 @@ fn rebuild_few<F: LeafFn>(
     span: Span,
 ) -> Result<Rope, BalanceFault>
     requires span { IsSpan (table_of F.meaning store.old) span }
-    requires few { span_pieces keep (table_of F.meaning store.old) span ≤ most_pieces }
+    requires few { span_pieces keep (table_of F.meaning store.old) span ≤ MOST_PIECES }
     ensures { RebuildsPart F.meaning store.old keep span.node span.start span.len result store.new }
 {
     Ok(rebuild(store, keep, span)?)

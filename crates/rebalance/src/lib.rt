@@ -12,3 +12,4 @@ pub use any::{append_any, cat_any, substr_any};
 pub use balanced::is_balanced;
 pub use balancing::balance;
 pub use fault::BalanceFault;
+pub use pieces::MOST_PIECES;

@@ -4,7 +4,8 @@ ghost use Rattle.std.specs.Prelude.{◌≡◌, ◌↔◌, ◌+◌, ◌<◌, ◌�
 ghost use Rattle.rope_node.specs.Table.{view_at, len_at, IsLeaf, IsFunction};
 ghost use Rattle.rope_node.specs.Denotes.{Byte, cells, rope_cells};
 ghost use Rattle.node_table.specs.Held.{table_of};
-ghost use Rattle.rebalance.specs.Pieces.{answered_bytes, is_kept, most_pieces, span_pieces, IsPieceSpan, IsSpan, IsSplit};
+ghost use Rattle.rebalance.specs.Pieces.{answered_bytes, is_kept, span_pieces, IsPieceSpan, IsSpan, IsSplit};
+ghost use Rattle.rebalance.specs.declared.pieces.TheConstants.{MOST_PIECES};
 ghost use Rattle.rebalance.specs.Balancing.{IsPart};
 ghost use Rattle.rebalance.specs.Slots.{IsPiece};
 ghost use Rattle.rebalance.specs.Steps.{AddsPiece};
@@ -16,7 +17,7 @@ use rope_node::{NodeId, NodeSpace, NodeView, Rope};
 use rope_store::{MOST_MERGED, Store};
 
 /// The most pieces that a rope is put together from.
-const MOST_PIECES: u32 = 1 << 20;
+pub const MOST_PIECES: u32 = 1 << 20;
 
 /// The shortest part of a function leaf that is a part, in bytes; a shorter one is a literal.
 const SHORTEST_PART: u64 = 32;
@@ -125,7 +126,7 @@ fn count_pieces<F: LeafFn>(store: &Store<F>, keep: bool, span: Span, most: u32) 
 /// walked.
 pub(crate) fn has_few_pieces<F: LeafFn>(store: &Store<F>, keep: bool, span: Span) -> bool
     requires { IsSpan (table_of F.meaning store.now) span }
-    ensures { IsTrue result ↔ (span_pieces keep (table_of F.meaning store.now) span ≤ most_pieces) }
+    ensures { IsTrue result ↔ (span_pieces keep (table_of F.meaning store.now) span ≤ MOST_PIECES) }
 {
     span.len <= u64::from(MOST_PIECES)
         || count_pieces(store, keep, span, MOST_PIECES + 1) <= MOST_PIECES

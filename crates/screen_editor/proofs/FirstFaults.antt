@@ -5,7 +5,7 @@ use Rattle.rope_node.specs.declared.limits.TheConstants.{MOST_SOURCES, TEXT_LIMI
 use Rattle.function_leaf.specs.Coded.{coded_byte}
 use Rattle.node_table.specs.declared.fault.NodeFault.{NodeFault}
 use Rattle.node_table.specs.Puts.{AddsSource}
-use Rattle.lazy_file.specs.SourceTexts.{longest_source}
+use Rattle.lazy_file.specs.declared.sources.TheConstants.{SOURCE_LIMIT}
 use Rattle.edit_commands.specs.declared.fault.EditFault.{EditFault}
 use Rattle.edit_commands.specs.declared.fault.EditFault.TheVariants as Edit
 use Rattle.edit_commands.specs.Applying.{AddsSourceOrNot, AppliesOrNot, IsLaterFault}
@@ -16,7 +16,7 @@ use Rattle.screen_editor.specs.declared.workspace.TheConstants.{LONGEST_TEXT}
 use Rattle.screen_editor.specs.Refusals.{IsStartFault, first_command}
 
 -- a source that may be added wants nothing but memory
-pub only_memory : (old new : SessionValue) (len : ℕ) (f : EditFault) → length old.held.sources < MOST_SOURCES → len ≤ longest_source → AddsSourceOrNot old len (Err f) new → f ≡ Edit.Memory
+pub only_memory : (old new : SessionValue) (len : ℕ) (f : EditFault) → length old.held.sources < MOST_SOURCES → len ≤ SOURCE_LIMIT → AddsSourceOrNot old len (Err f) new → f ≡ Edit.Memory
 only_memory old new len f few short h = of_plain h.plain h.told h.adds
   where
     of_plain : (plain : Result ℕ NodeFault) → Err f ≡ told plain → AddsSource coded_byte old.held len plain new.held → f ≡ Edit.Memory

@@ -14,7 +14,7 @@ use Rattle.edit_commands.specs.declared.command.Command.TheVariants.{New, Open, 
 use Rattle.edit_commands.specs.declared.fault.EditFault.{EditFault}
 use Rattle.edit_commands.specs.declared.fault.EditFault.TheVariants as Edit
 use Rattle.edit_commands.specs.declared.revision.Revision.{Revision}
-use Rattle.edit_commands.specs.declared.session.TheConstants.{MOST_REVISIONS}
+use Rattle.span_certificate.specs.declared.edit.TheConstants.{MOST_REVISIONS}
 use Rattle.edit_commands.specs.Applying.{Applies, AppliesOrNot, IsLaterFault, Keeps}
 use Rattle.edit_commands.specs.Refusals.{bytes_of, is_empty_text, is_full, is_out_of_range, is_too_long, names_no_revision, names_no_source, refusal_of, result_len}
 use Rattle.edit_commands.specs.Session.{SessionValue, HoldsHistory, IsSession, length_at, texts_of}

@@ -7,7 +7,7 @@ use Rattle.lazy_file.specs.declared.faults.SourceFault.TheVariants.{Device}
 use Rattle.cord_position.specs.Fetched.{IsReadable, IsStated}
 use Rattle.cord_search.specs.Stated.{OfText}
 use Rattle.edit_commands.specs.declared.fault.EditFault.TheVariants as Edit
-use Rattle.edit_commands.specs.declared.session.TheConstants.{MOST_REVISIONS}
+use Rattle.span_certificate.specs.declared.edit.TheConstants.{MOST_REVISIONS}
 use Rattle.edit_commands.specs.Session.{session_table}
 use Rattle.screen_editor.specs.declared.fault.KeyFault.{KeyFault}
 use Rattle.screen_editor.specs.declared.fault.KeyFault.TheVariants as Fault

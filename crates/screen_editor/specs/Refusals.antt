@@ -11,7 +11,7 @@ use Rattle.cord_position.specs.Fetched.{EachCell, IsFaultIn, IsReadable}
 use Rattle.edit_commands.specs.declared.command.Command.{Command}
 use Rattle.edit_commands.specs.declared.fault.EditFault.{EditFault}
 use Rattle.edit_commands.specs.declared.fault.EditFault.TheVariants as Edit
-use Rattle.edit_commands.specs.declared.session.TheConstants.{MOST_REVISIONS}
+use Rattle.span_certificate.specs.declared.edit.TheConstants.{MOST_REVISIONS}
 use Rattle.edit_commands.specs.Applying.{IsLaterFault}
 use Rattle.edit_commands.specs.Building.{edit_with}
 use Rattle.screen_editor.specs.declared.fault.EditorFault.{EditorFault}

@@ -1,7 +1,8 @@
 //! The records of nodes.
 
 ghost use Rattle.std.specs.Prelude.{◌≡◌, ◌≤◌, ◌++◌, length};
-ghost use Rattle.function_leaf.specs.Pattern.{pattern_limit, padded};
+ghost use Rattle.function_leaf.specs.Pattern.{padded};
+ghost use Rattle.function_leaf.specs.declared.pattern.TheConstants.{PATTERN_LIMIT};
 ghost use Rattle.image_reader.specs.Layout.{spelled};
 ghost use Rattle.image_reader.specs.Spelling.{span_layout, span_numbers, concatenation_layout, concatenation_numbers, function_layout, function_numbers, function_code, pattern_size, payload, function_spelling, view_spelling};
 ghost use Rattle.image_reader.specs.Value.{FitsFunction};
@@ -61,7 +62,7 @@ fn function_fields(depth: u8, len: u64, code: u8, size: u8) -> Record
 
 /// The record of a function of these bytes.
 fn padded_record(depth: u8, len: u64, code: u8, size: u8, bytes: &[u8]) -> Record
-    requires { length bytes.now ≤ pattern_limit }
+    requires { length bytes.now ≤ PATTERN_LIMIT }
     ensures { result ≡ spelled function_layout (function_numbers depth len code size) ++ padded bytes.now }
 {
     let zeros = [0; PATTERN_LIMIT];

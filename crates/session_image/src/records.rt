@@ -2,21 +2,15 @@
 
 ghost use Rattle.std.specs.Prelude.{◌≡◌, [], ◌∷◌};
 ghost use Rattle.image_reader.specs.Layout.{spelled};
-ghost use Rattle.image_reader.specs.Limits.{magic};
+ghost use Rattle.image_reader.specs.declared.header.TheConstants.{MAGIC};
 ghost use Rattle.image_reader.specs.Spelling.{header_layout, source_spelling, row_layout, row_spelling, revision_layout, revision_numbers, revision_spelling, numbers_of, mark_number, root_number};
 ghost use Rattle.image_reader.specs.Value.{FitsRow};
 ghost use Rattle.span_certificate.specs.Fields.{recorded, FitsRecord};
 
 use crate::record::Record;
-use image_reader::{Numbers, Revision};
+use image_reader::{MAGIC, NIL_ROOT, Numbers, Revision};
 use rope_node::Rope;
 use span_certificate::{Edit, Row, RowKind};
-
-/// `CORDSESS` as a number of eight bytes.
-const MAGIC: u64 = 0x434f_5244_5345_5353;
-
-/// The root that stands for nil.
-const NIL_ROOT: u32 = u32::MAX;
 
 /// How many of each an image has.
 #[derive(Clone, Copy, Debug, PartialEq, Eq)]
@@ -30,7 +24,7 @@ pub(crate) struct Counts {
 
 /// The header.
 pub(crate) fn header_record(counts: Counts) -> Record
-    ensures { result ≡ spelled header_layout (magic ∷ 1 ∷ counts.sources ∷ counts.nodes
+    ensures { result ≡ spelled header_layout (MAGIC ∷ 1 ∷ counts.sources ∷ counts.nodes
         ∷ counts.revisions ∷ counts.rows ∷ 0 ∷ counts.pool ∷ []) }
 {
     let mut record = Record::new();

@@ -11,7 +11,8 @@ use Rattle.rope_node.specs.Denotes.{cells, rope_cells, rope_len, IsRope}
 use Rattle.span_certificate.specs.declared.part.Part.{Part}
 use Rattle.span_certificate.specs.declared.row.Row.{Row}
 use Rattle.span_certificate.specs.Parts.{part_len, parts_len, part_cells, parts_cells, IsPart, AreParts, part_at}
-use Rattle.span_certificate.specs.Covers.{row_at, no_row, rows_len, place_of, row_compares, IsByte, Fits, AreMade, CoversAlways, rows_limit}
+use Rattle.span_certificate.specs.Covers.{row_at, no_row, rows_len, place_of, row_compares, IsByte, Fits, AreMade, CoversAlways}
+use Rattle.span_certificate.specs.declared.making.TheConstants.{ROWS_LIMIT}
 use Rattle.span_certificate.specs.Steps.{IsNext}
 use Rattle.span_certificate.proofs.ComparedCells.{all_compared, each_byte}
 use Rattle.span_certificate.proofs.Covering.{length-parts_cells, length-rope_cells, holds_place, place_of_all}
@@ -46,7 +47,7 @@ each_more P rows row each last j lt =
 pub record IsMaking (t : Table) (coded : ℕ → Coded) (parts : List Part) (root : Option NodeId) (rows : List Row) (place : ℕ) : Type 0 where
   pub made : AreMade t coded parts root rows
   pub stands : place ≡ rows_len rows
-  pub limit : length rows ≤ rows_limit
+  pub limit : length rows ≤ ROWS_LIMIT
 
 pub making_none : (t : Table) (coded : ℕ → Coded) (parts : List Part) (root : Option NodeId) → IsMaking t coded parts root [] 0
 making_none t coded parts root = record {
@@ -81,7 +82,7 @@ step_of t s h parts node place off part are there same e =
 
 pub making_more : (t : Table) → IsSound t → HasTrueRecords t → (coded : ℕ → Coded) (parts : List Part) (node : NodeId) (rows : List Row) (place off left : ℕ) (part : Part) (row : Row)
     → AreParts t parts → parts_cells t parts ≡ cells t node.0 → part_at parts place ≡ Some (part, off) → IsStep t part off node place left → IsNext t coded part off node place left row
-    → length rows < rows_limit → IsMaking t coded parts (Some node) rows place → IsMaking t coded parts (Some node) (rows ++ row ∷ []) (place + row.len)
+    → length rows < ROWS_LIMIT → IsMaking t coded parts (Some node) rows place → IsMaking t coded parts (Some node) (rows ++ row ∷ []) (place + row.len)
 making_more t s h coded parts node rows place off left part row are same e step next few making =
     let fits : (source : ℕ → ℕ → ℕ) → Fits t coded source parts (Some node) (rows_len rows) row =
     λ source. rw (← making.stands) (record {

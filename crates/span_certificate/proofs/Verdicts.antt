@@ -20,7 +20,8 @@ use Rattle.span_certificate.specs.declared.row.Row.{Row}
 use Rattle.span_certificate.specs.declared.row.RowKind.TheVariants.{Shared, Bytes}
 use Rattle.span_certificate.specs.Parts.{part_len, parts_len, part_cells, AreParts, part_at}
 use Rattle.span_certificate.specs.Leads.{PartLeads}
-use Rattle.span_certificate.specs.Covers.{row_at, no_row, rows_len, place_of, bytes_limit, compared, kind_compares, row_compares, KindFits, Fits, Covers, IsFirstBad}
+use Rattle.span_certificate.specs.Covers.{row_at, no_row, rows_len, place_of, compared, kind_compares, row_compares, KindFits, Fits, Covers, IsFirstBad}
+use Rattle.span_certificate.specs.declared.walk.TheConstants.{BYTES_LIMIT}
 use Rattle.span_certificate.specs.Runs.{ReadsCells, TellsSame}
 use Rattle.span_certificate.specs.Verdicts.{TellsKind, TellsRow, TellsRows, IsVerdict, ReadsRows}
 use Rattle.span_certificate.proofs.ComparedCells.{each_listed, failed_among}
@@ -47,7 +48,7 @@ joined_compare t s h parts root place off part row are at in_part =
     let held = holds_place t s h parts place part off are at in
     ap (λ cs. compared row.kind cs (take row.len (drop place (rope_cells t root)))) (held.same row.len in_part)
 
-pub bytes_fits : (t : Table) (coded : ℕ → Coded) (st : Stated) (part : Part) (off : ℕ) (root : Option NodeId) (place m : ℕ) (row : Row) (r : Result Bool SourceFault) → row.kind ≡ Bytes → row.len ≤ bytes_limit → place + row.len ≤ m
+pub bytes_fits : (t : Table) (coded : ℕ → Coded) (st : Stated) (part : Part) (off : ℕ) (root : Option NodeId) (place m : ℕ) (row : Row) (r : Result Bool SourceFault) → row.kind ≡ Bytes → row.len ≤ BYTES_LIMIT → place + row.len ≤ m
     → IfOk r (TellsSame st (take row.len (drop off (part_cells t part))) (take row.len (drop place (part_cells t (Old root 0 m)))))
     → IfOk r (TellsKind t coded st part off root place row)
 bytes_fits t coded st part off root place m row (Err e) is short fits tells = tt

@@ -21,7 +21,7 @@ use Rattle.span_certificate.specs.declared.row.RowKind.{RowKind}
 use Rattle.span_certificate.specs.declared.row.RowKind.TheVariants.{Shared, Leaf, Bytes}
 use Rattle.span_certificate.specs.declared.walk.Span.{Span}
 use Rattle.span_certificate.specs.Leads.{here, leaf_description, coded_description}
-use Rattle.span_certificate.specs.Covers.{bytes_limit}
+use Rattle.span_certificate.specs.declared.walk.TheConstants.{BYTES_LIMIT}
 use Rattle.span_certificate.specs.Steps.{IsSpan, span_cells, IsReached, IsBelow, SpansFit, IsRowOf, CellsAs, DescribedFits, IsDescribedRow, AreBytes}
 use Rattle.span_certificate.proofs.Steps.{leads_shorter, leads_through, reached_itself, reached_through, reached_shorter}
 use Rattle.span_certificate.proofs.Cells.{leads_cells}
@@ -122,7 +122,7 @@ as_span : (t : Table) → IsSound t → (coded : ℕ → Coded) (x : Span) (d : 
 as_span t s coded x d is e = leaf_as t s x.node.0 x.start x.len is.there is.inside (coded x.node.0) (view_at t x.node.0) refl d e
 
 fit_at_leaves : (t : Table) → IsSound t → (coded : ℕ → Coded) (x y : Span) (d e : Description) → AreLeaves t coded x y d e → (n : ℕ) (kind : RowKind)
-    → (kind ≡ Leaf → (d ≡ e) × (n ≡ x.len)) → (kind ≡ Bytes → ¬ (d ≡ e) × (n ≡ min x.len bytes_limit)) → ((k : NodeId) (o : ℕ) → ¬ (kind ≡ Shared k o))
+    → (kind ≡ Leaf → (d ≡ e) × (n ≡ x.len)) → (kind ≡ Bytes → ¬ (d ≡ e) × (n ≡ min x.len BYTES_LIMIT)) → ((k : NodeId) (o : ℕ) → ¬ (kind ≡ Shared k o))
     → (1 ≤ n) × (n ≤ x.len) × SpansFit t coded x y n kind
 fit_at_leaves t s coded x y d e are n (Shared k o) leaf bytes shared = absurd (shared k o refl)
 fit_at_leaves t s coded x y d e are n Leaf leaf bytes shared =
@@ -134,14 +134,14 @@ fit_at_leaves t s coded x y d e are n Bytes leaf bytes shared =
     let facts = bytes refl in
     let some : 1 ≤ n = omega (arith, facts.1, are.is_x.some) in
     let few : n ≤ x.len = omega (arith, facts.1) in
-    let limit : n ≤ bytes_limit = omega (arith, facts.1) in
+    let limit : n ≤ BYTES_LIMIT = omega (arith, facts.1) in
     let of_y : CellsAs x.len e (span_cells t x) = rw (are.same, ← are.len) (as_span t s coded y e are.is_y are.of_y) in
     let over : AreBytes (span_cells t y) = rw (← are.same) (differing x.len d e (span_cells t x) are.is_x.some (as_span t s coded x d are.is_x are.of_x) of_y facts.0) in
     let short : n ≤ y.len = omega (arith, few, are.len) in
     (some, few, (limit, subst AreBytes (take-take n y.len (drop y.start (cells t y.node.0)) short) (bytes_take n (span_cells t y) over)))
 
 pub row_at_leaves : (t : Table) → IsSound t → (coded : ℕ → Coded) (x y : Span) (d e : Description) → AreLeaves t coded x y d e → (row : Row)
-    → (row.kind ≡ Leaf → (d ≡ e) × (row.len ≡ x.len)) → (row.kind ≡ Bytes → ¬ (d ≡ e) × (row.len ≡ min x.len bytes_limit)) → ((k : NodeId) (o : ℕ) → ¬ (row.kind ≡ Shared k o))
+    → (row.kind ≡ Leaf → (d ≡ e) × (row.len ≡ x.len)) → (row.kind ≡ Bytes → ¬ (d ≡ e) × (row.len ≡ min x.len BYTES_LIMIT)) → ((k : NodeId) (o : ℕ) → ¬ (row.kind ≡ Shared k o))
     → IsRowOf t coded x y row
 row_at_leaves t s coded x y d e are row leaf bytes shared =
     let fit = fit_at_leaves t s coded x y d e are row.len row.kind leaf bytes shared in
@@ -182,7 +182,7 @@ pub record MeetsLeaf (t : Table) (coded : ℕ → Coded) (d e : Description) (y 
   pub of_z : leaf_description (coded z.node.0) z.start (view_at t z.node.0) ≡ Some e
 
 described_fit : (t : Table) → IsSound t → HasTrueRecords t → (coded : ℕ → Coded) (d e : Description) (y z : Span) → MeetsLeaf t coded d e y z → (n : ℕ) (kind : RowKind)
-    → (kind ≡ Leaf → (d ≡ e) × (n ≡ z.len)) → (kind ≡ Bytes → ¬ (d ≡ e) × (n ≡ min z.len bytes_limit)) → ((k : NodeId) (o : ℕ) → ¬ (kind ≡ Shared k o))
+    → (kind ≡ Leaf → (d ≡ e) × (n ≡ z.len)) → (kind ≡ Bytes → ¬ (d ≡ e) × (n ≡ min z.len BYTES_LIMIT)) → ((k : NodeId) (o : ℕ) → ¬ (kind ≡ Shared k o))
     → (1 ≤ n) × (n ≤ y.len) × DescribedFits t coded d y n kind
 described_fit t s h coded d e y z m n (Shared k o) leaf bytes shared = absurd (shared k o refl)
 described_fit t s h coded d e y z m n Leaf leaf bytes shared =
@@ -196,7 +196,7 @@ described_fit t s h coded d e y z m n Bytes leaf bytes shared =
     let some : 1 ≤ n = omega (arith, facts.1, m.reached.is_span.some) in
     let short : n ≤ z.len = omega (arith, facts.1) in
     let few : n ≤ y.len = omega (arith, short, m.reached.few) in
-    let limit : n ≤ bytes_limit = omega (arith, facts.1) in
+    let limit : n ≤ BYTES_LIMIT = omega (arith, facts.1) in
     let same = reached_cells t s h y z m.is_y m.reached in
     let of_d : CellsAs z.len d (span_cells t z) = rw same (as_shorter y.len z.len d (span_cells t y) m.reached.few m.cells) in
     let over : AreBytes (span_cells t z) = differing z.len d e (span_cells t z) m.reached.is_span.some of_d (as_span t s coded z e m.reached.is_span m.of_z) facts.0 in
@@ -206,7 +206,7 @@ described_fit t s h coded d e y z m n Bytes leaf bytes shared =
     (some, few, (limit, subst AreBytes there here))
 
 pub described_row_fits : (t : Table) → IsSound t → HasTrueRecords t → (coded : ℕ → Coded) (d e : Description) (y z : Span) → MeetsLeaf t coded d e y z → (row : Row)
-    → (row.kind ≡ Leaf → (d ≡ e) × (row.len ≡ z.len)) → (row.kind ≡ Bytes → ¬ (d ≡ e) × (row.len ≡ min z.len bytes_limit)) → ((k : NodeId) (o : ℕ) → ¬ (row.kind ≡ Shared k o))
+    → (row.kind ≡ Leaf → (d ≡ e) × (row.len ≡ z.len)) → (row.kind ≡ Bytes → ¬ (d ≡ e) × (row.len ≡ min z.len BYTES_LIMIT)) → ((k : NodeId) (o : ℕ) → ¬ (row.kind ≡ Shared k o))
     → IsDescribedRow t coded d y row
 described_row_fits t s h coded d e y z m row leaf bytes shared =
     let fit = described_fit t s h coded d e y z m row.len row.kind leaf bytes shared in

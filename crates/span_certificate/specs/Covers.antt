@@ -12,6 +12,8 @@ use Rattle.span_certificate.specs.declared.row.RowKind.{RowKind}
 use Rattle.span_certificate.specs.declared.row.RowKind.TheVariants.{Shared, Leaf, Bytes}
 use Rattle.span_certificate.specs.Parts.{part_at, part_len, parts_len, part_cells, parts_cells}
 use Rattle.span_certificate.specs.Leads.{RopeLeads, PartLeads, RopeHasDescription, PartHasDescription}
+use Rattle.span_certificate.specs.declared.walk.TheConstants.{BYTES_LIMIT}
+use Rattle.span_certificate.specs.declared.making.TheConstants.{ROWS_LIMIT}
 
 abbrev pub no_row : Row
 no_row = record { len = 0; kind = Leaf }
@@ -26,10 +28,6 @@ rows_len rows = sum_by (λ (r : Row). r.len) rows
 abbrev pub place_of : List Row → ℕ → ℕ
 place_of rows j = rows_len (take j rows)
 
--- the most bytes of a row that compares bytes
-abbrev pub bytes_limit : ℕ
-bytes_limit = 4096
-
 -- n bytes of two parts lead to leaf spans of one description
 abbrev pub HaveOneDescription : Table → (ℕ → Coded) → ℕ → Part → ℕ → Part → ℕ → Type 0
 HaveOneDescription t coded n part off other place = (d : Description) × PartHasDescription t coded n part off d × PartHasDescription t coded n other place d
@@ -39,7 +37,7 @@ HaveOneDescription t coded n part off other place = (d : Description) × PartHas
 abbrev pub KindFits : Table → (ℕ → Coded) → (ℕ → ℕ → ℕ) → ℕ → Part → ℕ → Option NodeId → ℕ → RowKind → Type 0
 KindFits t coded source n part off root place (Shared k o) = PartLeads t n k.0 o part off × RopeLeads t n k.0 o root place
 KindFits t coded source n part off root place Leaf = (d : Description) × PartHasDescription t coded n part off d × RopeHasDescription t coded n root place d
-KindFits t coded source n part off root place Bytes = (n ≤ bytes_limit) × (text source (take n (drop off (part_cells t part))) ≡ text source (take n (drop place (rope_cells t root))))
+KindFits t coded source n part off root place Bytes = (n ≤ BYTES_LIMIT) × (text source (take n (drop off (part_cells t part))) ≡ text source (take n (drop place (rope_cells t root))))
 
 -- a row that stands at place is not empty, lies inside one part and inside the root, and fits by its kind
 pub record Fits (t : Table) (coded : ℕ → Coded) (source : ℕ → ℕ → ℕ) (parts : List Part) (root : Option NodeId) (place : ℕ) (row : Row) : Type 0 where
@@ -99,10 +97,6 @@ pub record AreMade (t : Table) (coded : ℕ → Coded) (parts : List Part) (root
   pub no_source : MeetsNoSource t parts root rows
   pub in_root : rows_len rows ≤ rope_len t root
 
--- the most rows of an image
-abbrev pub rows_limit : ℕ
-rows_limit = 2 ^ 24
-
 -- as many rows as there may be, and text is left
 abbrev pub IsCutShort : Table → (ℕ → Coded) → List Part → Option NodeId → Type 0
-IsCutShort t coded parts root = (rows : List Row) × AreMade t coded parts root rows × (length rows ≡ rows_limit) × (rows_len rows < rope_len t root)
+IsCutShort t coded parts root = (rows : List Row) × AreMade t coded parts root rows × (length rows ≡ ROWS_LIMIT) × (rows_len rows < rope_len t root)

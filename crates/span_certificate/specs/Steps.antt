@@ -13,7 +13,8 @@ use Rattle.span_certificate.specs.declared.row.RowKind.{RowKind}
 use Rattle.span_certificate.specs.declared.row.RowKind.TheVariants.{Shared, Leaf, Bytes}
 use Rattle.span_certificate.specs.declared.walk.Span.{Span}
 use Rattle.span_certificate.specs.Leads.{Leads, HasDescription}
-use Rattle.span_certificate.specs.Covers.{bytes_limit, KindFits}
+use Rattle.span_certificate.specs.Covers.{KindFits}
+use Rattle.span_certificate.specs.declared.walk.TheConstants.{BYTES_LIMIT}
 
 -- these cells are bytes
 abbrev pub AreBytes : List Cell → Type 0
@@ -43,7 +44,7 @@ pub record IsBelow (t : Table) (x z : Span) : Type 0 where
 abbrev pub SpansFit : Table → (ℕ → Coded) → Span → Span → ℕ → RowKind → Type 0
 SpansFit t coded x y n (Shared k o) = Leads t n k.0 o x.node.0 x.start × Leads t n k.0 o y.node.0 y.start
 SpansFit t coded x y n Leaf = (d : Description) × HasDescription t coded n x.node.0 x.start d × HasDescription t coded n y.node.0 y.start d
-SpansFit t coded x y n Bytes = (n ≤ bytes_limit) × AreBytes (take n (drop y.start (cells t y.node.0)))
+SpansFit t coded x y n Bytes = (n ≤ BYTES_LIMIT) × AreBytes (take n (drop y.start (cells t y.node.0)))
 
 -- a row for the first bytes of both
 pub record IsRowOf (t : Table) (coded : ℕ → Coded) (x y : Span) (row : Row) : Type 0 where
@@ -61,7 +62,7 @@ CellsAs n (Computed f i) cs = AreBytes cs
 abbrev pub DescribedFits : Table → (ℕ → Coded) → Description → Span → ℕ → RowKind → Type 0
 DescribedFits t coded d y n (Shared k o) = ⊥
 DescribedFits t coded d y n Leaf = HasDescription t coded n y.node.0 y.start d
-DescribedFits t coded d y n Bytes = (n ≤ bytes_limit) × AreBytes (take n (drop y.start (cells t y.node.0)))
+DescribedFits t coded d y n Bytes = (n ≤ BYTES_LIMIT) × AreBytes (take n (drop y.start (cells t y.node.0)))
 
 pub record IsDescribedRow (t : Table) (coded : ℕ → Coded) (d : Description) (y : Span) (row : Row) : Type 0 where
   pub some : 1 ≤ row.len

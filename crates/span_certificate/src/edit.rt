@@ -1,5 +1,8 @@
 //! Commands as they are recorded.
 
+/// The most revisions of a session.
+pub const MOST_REVISIONS: u32 = 1 << 20;
+
 /// A command that makes a revision. A revision is named by its number; places and lengths are in
 /// bytes.
 #[derive(Clone, Copy, Debug, PartialEq, Eq)]

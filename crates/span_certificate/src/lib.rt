@@ -17,7 +17,7 @@ pub use bytes::{Run, same_bytes};
 pub use cover::{Verdict, verify};
 pub use descent::{SpanPlace, leaf_span};
 pub use describe::{Description, describe_leaf};
-pub use edit::Edit;
+pub use edit::{Edit, MOST_REVISIONS};
 pub use exact::{describe_part, part_leads};
 pub use making::{MakeFault, ROWS_LIMIT, make};
 pub use part::{Part, Parts};

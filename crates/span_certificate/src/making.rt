@@ -4,7 +4,8 @@ ghost use Rattle.std.specs.Prelude.{◌≡◌, ◌+◌, ◌<◌, ◌≤◌, ℕ,
 ghost use Rattle.rope_node.specs.Table.{len_at, IsSound, HasTrueRecords};
 ghost use Rattle.rope_node.specs.Denotes.{cells, rope_cells, IsRope};
 ghost use Rattle.span_certificate.specs.Parts.{part_at, part_len, part_cells, parts_cells, IsPart, AreParts};
-ghost use Rattle.span_certificate.specs.Covers.{CoversAlways, MeetsNoSource, IsCutShort, rows_limit};
+ghost use Rattle.span_certificate.specs.Covers.{CoversAlways, MeetsNoSource, IsCutShort};
+ghost use Rattle.span_certificate.specs.declared.making.TheConstants.{ROWS_LIMIT};
 ghost use Rattle.span_certificate.specs.Steps.{IsNext};
 
 use crate::describe::Description;
@@ -95,7 +96,7 @@ fn make_for<S: CodedSpace>(
         (S.NodeSpace.table space.now) (S.coded space.now) parts.now (Some root) rows.items) }
     ensures no_source { IfOk result (λ rows. MeetsNoSource
         (S.NodeSpace.table space.now) parts.now (Some root) rows.items) }
-    ensures few { IfOk result (λ rows. length rows.items ≤ rows_limit) }
+    ensures few { IfOk result (λ rows. length rows.items ≤ ROWS_LIMIT) }
     ensures too_many { IsErrOf result MakeFault.TooManyRows → IsCutShort
         (S.NodeSpace.table space.now) (S.coded space.now) parts.now (Some root) }
 {
@@ -138,7 +139,7 @@ pub fn make<S: CodedSpace>(
         (S.NodeSpace.table space.now) (S.coded space.now) parts.now root rows.items) }
     ensures no_source { IfOk result (λ rows. MeetsNoSource
         (S.NodeSpace.table space.now) parts.now root rows.items) }
-    ensures few { IfOk result (λ rows. length rows.items ≤ rows_limit) }
+    ensures few { IfOk result (λ rows. length rows.items ≤ ROWS_LIMIT) }
     ensures too_many { IsErrOf result MakeFault.TooManyRows → IsCutShort
         (S.NodeSpace.table space.now) (S.coded space.now) parts.now root }
 {

@@ -4,7 +4,7 @@ ghost use Rattle.std.specs.Prelude.{◌≡◌, ℕ, min, None, IfSome};
 ghost use Rattle.rope_node.specs.Table.{view_at, IsLeaf, IsSound, HasTrueRecords};
 ghost use Rattle.span_certificate.specs.Descents.{IsLeafOf};
 ghost use Rattle.span_certificate.specs.Steps.{IsSpan, IsBelow, span_cells, CellsAs, IsRowOf, IsDescribedRow};
-ghost use Rattle.span_certificate.specs.Covers.{bytes_limit};
+ghost use Rattle.span_certificate.specs.declared.walk.TheConstants.{BYTES_LIMIT};
 ghost use Rattle.rope_node.specs.declared.node.NodeId.{NodeId};
 
 use crate::describe::{Description, describe_leaf};
@@ -116,7 +116,7 @@ fn leaf_row<S: CodedSpace>(space: &S, x: Reached, y: Reached) -> Row
 /// The row for two leaf spans of these descriptions and one length.
 fn described_row(d: Description, e: Description, len: u64) -> Row
     ensures leaf { result.kind ≡ RowKind.Leaf → (d ≡ e) × (result.len ≡ len) }
-    ensures bytes { result.kind ≡ RowKind.Bytes → ¬ (d ≡ e) × (result.len ≡ min len bytes_limit) }
+    ensures bytes { result.kind ≡ RowKind.Bytes → ¬ (d ≡ e) × (result.len ≡ min len BYTES_LIMIT) }
     ensures kind { (k : NodeId) → (o : ℕ) → ¬ (result.kind ≡ RowKind.Shared k o) }
 {
     if d.is_same(e) {

@@ -532,10 +532,10 @@ const LONGEST: u64 = (1 << 40) - 1;
 
 impl Sources for Unreadable {
     ghost use Rattle.std.specs.Prelude.{[], ◌∷◌, None, false};
-    ghost use Rattle.lazy_file.specs.SourceTexts.{longest_source};
+    ghost use Rattle.lazy_file.specs.declared.sources.TheConstants.{SOURCE_LIMIT};
 
     ghost stated = { λ _. record {
-      sizes = longest_source ∷ [];
+      sizes = SOURCE_LIMIT ∷ [];
       texts = None ∷ [];
       never_fails = false;
     } };

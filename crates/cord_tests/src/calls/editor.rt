@@ -206,10 +206,10 @@ struct Uniform {
 
 impl Sources for Uniform {
     ghost use Rattle.std.specs.Prelude.{[], ◌∷◌, None, false, min};
-    ghost use Rattle.lazy_file.specs.SourceTexts.{longest_source};
+    ghost use Rattle.lazy_file.specs.declared.sources.TheConstants.{SOURCE_LIMIT};
 
     ghost stated = { λ s. record {
-      sizes = min s.len longest_source ∷ [];
+      sizes = min s.len SOURCE_LIMIT ∷ [];
       texts = None ∷ [];
       never_fails = false;
     } };

@@ -2,7 +2,14 @@
 
 ghost use Rattle.std.specs.Prelude.{◌≡◌, ◌*◌, ◌-◌, [], length, replicate};
 ghost use Rattle.cord_tests.specs.Keys.{stated_of_size};
-ghost use Rattle.edit_commands.specs.declared.session.TheConstants.{MOST_REVISIONS};
+ghost use Rattle.span_certificate.specs.declared.edit.TheConstants.{MOST_REVISIONS};
+ghost use Rattle.cord_search.specs.declared.pattern.TheConstants.{PATTERN_LIMIT as SEARCH_LIMIT};
+ghost use Rattle.cord_tools.specs.declared.input.TheConstants.{IMAGE_LIMIT};
+ghost use Rattle.function_leaf.specs.declared.pattern.TheConstants.{PATTERN_LIMIT};
+ghost use Rattle.image_reader.specs.declared.decode.TheConstants.{NIL_ROOT};
+ghost use Rattle.image_reader.specs.declared.header.TheConstants.{MAGIC, MOST_POOL};
+ghost use Rattle.lazy_file.specs.declared.sources.TheConstants.{COUNT_LIMIT, SOURCE_LIMIT};
+ghost use Rattle.rebalance.specs.declared.pieces.TheConstants.{MOST_PIECES};
 ghost use Rattle.leaf_buffer.specs.declared.block.TheConstants.{BLOCK_SIZE};
 ghost use Rattle.leaf_buffer.specs.declared.pool.TheConstants.{POOL_LIMIT};
 ghost use Rattle.rope_node.specs.declared.limits.TheConstants.{MOST_DEPTH, MOST_NODES, MOST_SOURCES, TEXT_LIMIT};
@@ -24,6 +31,23 @@ fn limits_of_ropes()
     ensures pool { POOL_LIMIT ≡ 4294967296 }
     ensures block { BLOCK_SIZE ≡ 65536 }
     ensures merged { MOST_MERGED ≡ 31 }
+    ensures pieces { MOST_PIECES ≡ 1048576 }
+    ensures pattern { PATTERN_LIMIT ≡ 16 }
+    ensures searched { SEARCH_LIMIT ≡ 4096 }
+{}
+
+/// Of the texts that sources have: one byte fewer than 2^40.
+fn limits_of_sources()
+    ensures count { COUNT_LIMIT ≡ 255 }
+    ensures longest { SOURCE_LIMIT ≡ 1099511627775 }
+{}
+
+/// Of images: what they begin with, the root that is none, and one byte more than the largest.
+fn limits_of_images()
+    ensures magic { MAGIC ≡ 0x434F524453455353 }
+    ensures nil { NIL_ROOT ≡ 0xFFFFFFFF }
+    ensures pool { MOST_POOL ≡ 4294967295 }
+    ensures longer { IMAGE_LIMIT ≡ 5293213728 }
 {}
 
 /// Of sessions and their rows.
