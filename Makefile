@@ -1,8 +1,8 @@
 # make run       proves and builds the program, and runs it on the stored image
-# make check     the merge gate: every proof from nothing, every test, every edit that must be refused, and the built program
+# make check     the merge gate: every proof and test, an edit of each public function that must be refused, and the built program
 # make audit     the edits that must be refused and that the gate has no time for
 # make bench     times the program beside the usual tools, on data that it makes
-# make refuse    refuses each allocation, read and write of a run in turn
+# make refuse    refuses each allocation of a run in turn, and fails its reads and writes by real devices
 # make memcheck  runs the tests of ropes under valgrind's memcheck, where it is installed
 
 .PHONY: run check audit bench refuse memcheck

@@ -6,24 +6,17 @@ use Rattle.rope_node.specs.declared.node.NodeId.{NodeId}
 use Rattle.rope_node.specs.declared.node.LeafSpan.{LeafSpan}
 use Rattle.rope_node.specs.declared.node.NodeView.{NodeView}
 use Rattle.rope_node.specs.declared.node.NodeView.TheVariants.{Lit, Src, Fun, Cat, Sub}
-use Rattle.rope_node.specs.Table.{Table, view_at, len_at, literal_bytes, IsLeaf, IsSound, HasTrueRecords}
+use Rattle.rope_node.specs.Table.{Table, view_at, len_at, literal_bytes, IsSound, HasTrueRecords}
 use Rattle.rope_node.specs.Denotes.{Byte, cell_at, cells, rope_len, IsRope}
-use Rattle.rope_node.specs.Path.{span_at, shortened, rest_of}
-use Rattle.rope_node.proofs.LeafSpans.{begins, span_step}
+use Rattle.rope_node.specs.Path.{span_at, shortened}
+use Rattle.rope_node.proofs.LeafSpans.{begins, rest_at}
 use Rattle.lazy_file.specs.SourceTexts.{Stated}
 use Rattle.cord_position.specs.declared.path.Step.{Step}
 use Rattle.cord_position.specs.Fetched.{IsByteOf, IsFetched, rope_cell, rope_part}
-use Rattle.cord_position.specs.Runs.{rope_span, run_bytes, run_left, span_bytes, span_len, IsRun}
+use Rattle.cord_position.specs.Runs.{rope_span, run_bytes, run_left, span_bytes, span_len, IsRun, IsRunStart, IsSpanBorder}
 use Rattle.cord_position.specs.Steps.{AreStepBytes, Holds, IsHere, IsLeafStep, span_from}
 use Rattle.cord_position.proofs.LeafParts.{run_cells}
 use Rattle.cord_position.proofs.RopeBytes.{fetched_inside, fetched_past}
-
-rest_at : (t : Table) → IsSound t → (id q : ℕ) → id < length t.nodes → (v : NodeView) → view_at t id ≡ v → IsLeaf v → span_at t id q ≡ rest_of id q (len_at t id)
-rest_at t s id q there (Lit a) e leaf = span_step t s id q there (Lit a) e
-rest_at t s id q there (Src s' a) e leaf = span_step t s id q there (Src s' a) e
-rest_at t s id q there Fun e leaf = span_step t s id q there Fun e
-rest_at t s id q there (Cat l r) e leaf = absurd leaf
-rest_at t s id q there (Sub b i) e leaf = absurd leaf
 
 -- the leaf span at a place is what is left of the step that holds it
 pub leaf_span : (t : Table) → IsSound t → (rope : Option NodeId) (i : ℕ) (x : Step) → IsLeafStep t rope x → Holds x i → rope_span t rope i ≡ Some (span_from x i)
@@ -71,6 +64,43 @@ past_rope t (Some id) i past = rw (le-ltb i (len_at t id.0) past) refl
 
 pub past_here : (t : Table) (rope : Option NodeId) (i : ℕ) (x : Step) → IsHere t rope i x → x.len ≤ i - x.first → rope_span t rope i ≡ None
 past_here t rope i x here past = past_rope t rope i (past_end t rope i x here past)
+
+-- where the leaf span at a place begins, by the step that holds it
+pub starts_here : (t : Table) (rope : Option NodeId) (i : ℕ) (x : Step) → IsHere t rope i x → Holds x i → IsRunStart t rope i x.first
+starts_here t rope i x here held =
+    let leaf = here.leaf (omega (arith, held.0, held.1)) in
+    let first = ap span_len (leaf_span t here.sound rope x.first x leaf (omega arith, omega (arith, held.0, held.1))) in
+    let last = ap span_len (leaf_span t here.sound rope i x leaf held) in
+    record {
+      before = held.0;
+      same_end = omega (arith, first, last, held.0, held.1);
+      border = leaf.step.border;
+      at_end = λ end. absurd (omega (arith, end, held.1, leaf.step.in_rope));
+    }
+
+-- at the end no leaf span goes on
+end_border : (t : Table) → IsSound t → HasTrueRecords t → (rope : Option NodeId) (i : ℕ) → IsRope t rope → rope_len t rope ≤ i → IsSpanBorder t rope i
+end_border t s h None i root end k lt = omega (arith, lt)
+end_border t s h (Some id) i root end k lt =
+    elim (cases_lt k (len_at t id.0)) [
+      | inl inside ↦
+          let span : rope_span t (Some id) k ≡ Some (span_at t id.0 k) = rw (lt-ltb k (len_at t id.0) inside) refl in
+          omega (arith, end, ap span_len span, (begins t s h id.0 k root inside).in_node)
+      | inr past ↦ omega (arith, lt, ap span_len (past_rope t (Some id) k past))
+    ]
+
+pub starts_there : (t : Table) (rope : Option NodeId) (i : ℕ) (x : Step) → IsHere t rope i x → (Holds x i → ⊥) → IsRunStart t rope i i
+starts_there t rope i x here away =
+    let end : rope_len t rope ≤ i = elim (cases_lt i (rope_len t rope)) [
+      | inl inside ↦ absurd (away (here.begun, here.held inside))
+      | inr past ↦ past
+    ] in
+    record {
+      before = omega arith;
+      same_end = refl;
+      border = end_border t here.sound here.true_records rope i here.root end;
+      at_end = λ past. refl;
+    }
 
 -- the bytes of a step from a place on
 take-nil : (n : ℕ) → ◌≡◌ {A = List ℕ} (take n []) []

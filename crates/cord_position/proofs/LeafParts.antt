@@ -82,7 +82,7 @@ fault_in stated failures old new s p n fault some h =
       place = p + (n - 1);
       from = omega arith;
       until = omega arith;
-      read = record { s = s; p = p + (n - 1); is = refl; read = record { device = h.device; short = h.short; bad_source = rw end at h.bad_source } };
+      read = record { s = s; p = p + (n - 1); is = refl; read = record { device = h.device; short = h.short; bad_source = rw end at h.bad_source; unfailing = h.unfailing } };
     }
 
 -- the same of a read's outcome

@@ -1,6 +1,6 @@
 -- Reads of a rope's cells, one after the other.
-use Rattle.std.proofs.Common.{◌≡◌, ◌↔◌, ℕ, ◌+◌, ◌<◌, ◌≤◌, length, refl, false, Option, Some, None, inl, inr, sym, subst, arith}
-use Rattle.std.specs.Prelude.{All, Err, IfSome, IsErrOf, slice_index}
+use Rattle.std.proofs.Common.{◌≡◌, ◌↔◌, ℕ, ◌+◌, ◌<◌, ◌≤◌, length, refl, true, false, Option, Some, None, inl, inr, sym, subst, arith}
+use Rattle.std.specs.Prelude.{All, Err, IfSome, IsErr, IsErrOf, slice_index}
 use Rattle.rope_node.specs.declared.node.NodeId.{NodeId}
 use Rattle.rope_node.specs.Table.{Table, IsSound}
 use Rattle.rope_node.specs.Denotes.{Cell, Byte, Place, IsRope, cell_at, cells, rope_cells}
@@ -25,6 +25,7 @@ later_fault stated failures old mid new cell e before h = record {
     device = λ is. let more = h.read.device is in omega (arith, more, before.later);
     short = λ is. subst (λ st. IfSome (text_at st h.s) (λ t. length t < slice_index st.sizes h.s)) before.same (h.read.short is);
     bad_source = subst (λ st. IsErrOf {T = Unit {0}} (Err e) BadSource ↔ (holds_span st h.s h.p 1 ≡ false)) before.same h.read.bad_source;
+    unfailing = subst (λ st. IsErr {T = Unit {0}} (Err e) → st.never_fails ≡ true → IsErrOf {T = Unit {0}} (Err e) BadSource) before.same h.read.unfailing;
   };
 }
 

@@ -10,7 +10,8 @@ use Rattle.rope_node.specs.Path.{span_at, shortened}
 use Rattle.rope_node.proofs.LeafSpans.{begins, span_step}
 use Rattle.cord_position.specs.declared.path.Step.{Step}
 use Rattle.smallvec.specs.SmallVec.{SmallVec, small_vec_len}
-use Rattle.cord_position.specs.Steps.{Holds, IsStepAt, AreSteps, IsPath, left_step, right_step, base_step}
+use Rattle.cord_position.specs.Runs.{run_left, span_len, IsSpanBorder}
+use Rattle.cord_position.specs.Steps.{Holds, IsStep, IsStepAt, AreSteps, IsPath, left_step, right_step, base_step}
 
 -- the root's own step
 pub root_step : (t : Table) → IsSound t → HasTrueRecords t → (root : NodeId) (n : ℕ) → root.0 < length t.nodes → n ≡ len_at t root.0
@@ -26,6 +27,7 @@ root_step t s h root n there many = record {
         let few = (begins t s h root.0 i there inside).in_node in
         let same : x ≡ shortened ((0 + n) - i) x = ap (λ (m : ℕ). record x { len = m }) (omega (arith, few, many)) in
         rw (lt-ltb i (len_at t root.0) inside) (ap Some (same ∙ ap (λ (j : ℕ). shortened ((0 + n) - i) (span_at t root.0 j)) (omega arith)));
+    border = λ k lt. absurd (omega (arith, lt));
   };
   deep = omega (arith, (s.nodes root.0 there).not_deep);
 }
@@ -50,9 +52,25 @@ left_is_step t s h rope n x l r e some at =
             let few = (begins t s h l.0 q there fits).in_node in
             let down : span_at t x.node.0 q ≡ y = rw (lt-ltb q (len_at t l.0) fits) at (span_step t s x.node.0 q at.step.there (Cat l r) e) in
             at.step.spans i whole ∙ ap Some (ap (shortened ((x.first + x.len) - i)) down ∙ ap (λ (m : ℕ). record y { len = m }) (omega (arith, few, held.0, held.1, some)));
+        border = at.step.border;
       };
       deep = omega (arith, deep, at.deep);
     }
+
+-- a leaf span that begins within a step ends within it
+held_run : (t : Table) (rope : Option NodeId) (x : Step) (i : ℕ) → IsStep t rope x → Holds x i → i + run_left t rope i ≤ x.first + x.len
+held_run t rope x i step held = omega (arith, held.1, ap span_len (step.spans i held))
+
+-- where the left child's part of a step ends no leaf span goes on
+right_border : (t : Table) → IsSound t → HasTrueRecords t → (rope : Option NodeId) (n : ℕ) (x : Step) (l r : NodeId) → view_at t x.node.0 ≡ Cat l r
+    → len_at t l.0 - x.skipped ≤ x.len → IsStepAt t rope n x → IsSpanBorder t rope (x.first + (len_at t l.0 - x.skipped))
+right_border t s h rope n x l r e some at k lt =
+    elim (cases_lt k x.first) [
+      | inl before ↦ omega (arith, at.step.border k before)
+      | inr from ↦
+          let left = left_is_step t s h rope n x l r e (omega (arith, lt, from)) at in
+          omega (arith, some, held_run t rope (left_step x l (len_at t l.0)) k left.step (from, omega (arith, lt, some)))
+    ]
 
 pub right_is_step : (t : Table) → IsSound t → HasTrueRecords t → (rope : Option NodeId) (n : ℕ) (x : Step) (l r : NodeId) → view_at t x.node.0 ≡ Cat l r
     → len_at t l.0 - x.skipped ≤ x.len → IsStepAt t rope n x → IsStepAt t rope (n + 1) (right_step x r (len_at t l.0))
@@ -74,6 +92,7 @@ right_is_step t s h rope n x l r e some at =
             let room : (x.first + x.len) - i ≡ ((x.first + cut) + (x.len - cut)) - i = omega (arith, some) in
             let place : q - len_at t l.0 ≡ (x.skipped - len_at t l.0) + (i - (x.first + cut)) = omega (arith, held.0) in
             at.step.spans i whole ∙ ap Some (ap (shortened ((x.first + x.len) - i)) (down ∙ ap (span_at t r.0) place) ∙ ap (λ (m : ℕ). shortened m (span_at t r.0 ((x.skipped - len_at t l.0) + (i - (x.first + cut))))) room);
+        border = right_border t s h rope n x l r e some at;
       };
       deep = omega (arith, deep, at.deep);
     }
@@ -97,6 +116,7 @@ base_is_step t s h rope n x b o e at =
             at.step.spans i whole ∙ ap Some (ap (shortened ((x.first + x.len) - i)) down
             ∙ ap (λ (m : ℕ). record y { len = m }) (omega (arith, at.step.in_node, whole.0, whole.1))
             ∙ ap (λ (j : ℕ). shortened ((x.first + x.len) - i) (span_at t b.0 j)) place);
+        border = at.step.border;
       };
       deep = omega (arith, deep, at.deep);
     }

@@ -1,5 +1,6 @@
 -- A position in a rope's text.
-use Rattle.std.specs.Prelude.{ℕ, ◌<◌, ◌≤◌, ◌^◌, List, Option}
+use Rattle.std.specs.Prelude.{ℕ, ◌<◌, ◌≤◌, List, Option}
+use Rattle.rope_node.specs.declared.limits.TheConstants.{TEXT_LIMIT}
 use Rattle.rope_node.specs.declared.node.NodeId.{NodeId}
 use Rattle.rope_node.specs.Table.{Table}
 use Rattle.rope_node.specs.Denotes.{Cell, rope_len, IsRope}
@@ -34,4 +35,4 @@ bytes_here table here = run_bytes (table here.space) here.rope here.index
 pub record IsPosition (t : Table) (root : Option NodeId) (i : ℕ) : Type 0 where
   pub rope : IsRope t root
   pub inside : i ≤ rope_len t root
-  pub limit : i < 2 ^ 40
+  pub limit : i < TEXT_LIMIT

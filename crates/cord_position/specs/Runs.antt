@@ -21,6 +21,17 @@ span_len (Some x) = x.len
 abbrev pub run_left : Table → Option NodeId → ℕ → ℕ
 run_left t rope i = span_len (rope_span t rope i)
 
+-- no leaf span that begins before place i of a rope reaches past it
+abbrev pub IsSpanBorder : Table → Option NodeId → ℕ → Type 0
+IsSpanBorder t rope i = (k : ℕ) → k < i → k + run_left t rope k ≤ i
+
+-- where the leaf span that holds place i of a rope begins; at the end, the end
+pub record IsRunStart (t : Table) (rope : Option NodeId) (i start : ℕ) : Type 0 where
+  pub before : start ≤ i
+  pub same_end : start + run_left t rope start ≡ i + run_left t rope i
+  pub border : IsSpanBorder t rope start
+  pub at_end : rope_len t rope ≤ i → start ≡ i
+
 -- the bytes of a span of a literal; of any other leaf, none
 abbrev pub span_bytes : Table → Option LeafSpan → List ℕ
 span_bytes t None = []

@@ -1,5 +1,6 @@
 -- The steps from a rope's root down to the leaf that holds a place.
 use Rattle.std.specs.Prelude.{◌≡◌, ℕ, ◌+◌, ◌-◌, ◌<◌, ◌≤◌, min, map, List, length, Option, Some, slice_get}
+use Rattle.rope_node.specs.declared.limits.TheConstants.{MOST_DEPTH}
 use Rattle.smallvec.specs.SmallVec.{SmallVec}
 use Rattle.rope_node.specs.declared.node.NodeId.{NodeId}
 use Rattle.rope_node.specs.declared.node.LeafSpan.{LeafSpan}
@@ -9,24 +10,26 @@ use Rattle.rope_node.specs.Path.{shortened, span_at}
 use Rattle.cord_position.specs.declared.path.Step.{Step}
 use Rattle.cord_position.specs.Fetched.{leaf_part}
 use Rattle.cord_position.specs.Position.{IsPosition}
-use Rattle.cord_position.specs.Runs.{rope_span, span_bytes}
+use Rattle.cord_position.specs.Runs.{rope_span, span_bytes, IsSpanBorder}
 
 -- the place is one of the step's bytes
 abbrev pub Holds : Step → ℕ → Type 0
 Holds x i = (x.first ≤ i) × (i < x.first + x.len)
 
--- the rope's bytes from place first on, len of them, are the node's from its byte skipped on, leaf span by leaf span
+-- the rope's bytes from place first on, len of them, are the node's from its byte skipped on, leaf span by leaf span;
+-- and place first is a border between the rope's leaf spans
 pub record IsStep (t : Table) (rope : Option NodeId) (x : Step) : Type 0 where
   pub there : x.node.0 < length t.nodes
   pub in_node : x.skipped + x.len ≤ len_at t x.node.0
   pub in_rope : x.first + x.len ≤ rope_len t rope
   pub spans : (i : ℕ) → Holds x i
       → rope_span t rope i ≡ Some (shortened ((x.first + x.len) - i) (span_at t x.node.0 (x.skipped + (i - x.first))))
+  pub border : IsSpanBorder t rope x.first
 
 -- a step with n steps above it
 pub record IsStepAt (t : Table) (rope : Option NodeId) (n : ℕ) (x : Step) : Type 0 where
   pub step : IsStep t rope x
-  pub deep : depth_at t x.node.0 + n ≤ 64
+  pub deep : depth_at t x.node.0 + n ≤ MOST_DEPTH
 
 -- the steps of a path, from the root on
 abbrev pub AreSteps : Table → Option NodeId → List Step → Type 0
@@ -35,7 +38,7 @@ AreSteps t rope steps = (n : ℕ) (x : Step) → slice_get steps n ≡ Some x �
 -- a path, with room for the longest one
 pub record IsPath (t : Table) (rope : Option NodeId) (path : SmallVec Step) : Type 0 where
   pub steps : AreSteps t rope path.items
-  pub room : path.capacity ≡ 65
+  pub room : path.capacity ≡ MOST_DEPTH + 1
 
 -- a step to a leaf
 pub record IsLeafStep (t : Table) (rope : Option NodeId) (x : Step) : Type 0 where

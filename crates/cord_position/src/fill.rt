@@ -10,7 +10,11 @@ ghost use Rattle.cord_position.specs.Runs.{AreBytesOf};
 use lazy_file::{SourceFault, Sources};
 use rope_node::{NodeId, NodeSpace, NodeView};
 
-/// The bytes of source `s` from `place` on.
+/// Reads the bytes of source `s` from `place` on into the whole of the buffer.
+///
+/// # Errors
+///
+/// The source's fault: `BadSource` where there is no such source or span, and else that of the read that failed.
 pub fn fill_source<T: Sources>(
     sources: &mut T,
     s: u32,

@@ -1,10 +1,11 @@
 //! Positions in a rope's text.
 
-ghost use Rattle.std.specs.Prelude.{◌≡◌, ◌↔◌, ◌<◌, ◌≤◌, ◌+◌, ◌-◌, ◌^◌, min, length, map, take, drop, IsTrue, IsSome, IfSome, IfOk};
+ghost use Rattle.std.specs.Prelude.{◌≡◌, ◌↔◌, ◌<◌, ◌≤◌, ◌+◌, ◌-◌, min, length, map, take, drop, IsTrue, IsSome, IfSome, IfOk};
+ghost use Rattle.rope_node.specs.declared.limits.TheConstants.{TEXT_LIMIT};
 ghost use Rattle.rope_node.specs.Denotes.{Byte, rope_len, IsRope};
 ghost use Rattle.cord_position.specs.Fetched.{IsFetched, ReadsSpan};
 ghost use Rattle.cord_position.specs.Position.{bytes_here, cell_of, cells_here, left_here, text_len};
-ghost use Rattle.cord_position.specs.Runs.{rope_span, run_left, AreBytesOf, IsRun, IsRunPeriod};
+ghost use Rattle.cord_position.specs.Runs.{rope_span, AreBytesOf, IsRun, IsRunPeriod, IsRunStart};
 
 use crate::fetch::fetch_here;
 use crate::fill::fill_part;
@@ -74,7 +75,7 @@ impl<'a, S: NodeSpace> Pos<'a, S> {
     #[inline]
     pub fn index(&self) -> u64
         ensures index { result ≡ self.now.index }
-        ensures limit { result < 2 ^ 40 }
+        ensures limit { result < TEXT_LIMIT }
     {
         self.place
     }
@@ -177,9 +178,7 @@ impl<'a, S: NodeSpace> Pos<'a, S> {
 
     /// The place of the first byte of the present leaf's span; at the end, the end.
     pub fn run_start(&self) -> u64
-        ensures before { result ≤ self.now.index }
-        ensures same_end { result + run_left (S.table self.now.space) self.now.rope result
-            ≡ self.now.index + left_here S.table self.now }
+        ensures { IsRunStart (S.table self.now.space) self.now.rope self.now.index result }
     {
         if holds(self.here, self.place) {
             self.here.first

@@ -2,6 +2,7 @@
 //! What a call leaves as it was where memory is refused, its contract says.
 
 mod certificates;
+mod editing;
 mod editor;
 mod edits;
 mod images;

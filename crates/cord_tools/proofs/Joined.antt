@@ -12,8 +12,7 @@ use Rattle.rope_node.specs.declared.node.NodeId.{NodeId}
 use Rattle.rope_node.specs.Table.{Table, IsSound, HasTrueRecords}
 use Rattle.rope_node.specs.Denotes.{Cell, Place, cell_byte, rope_cells, rope_len, text, IsRope}
 use Rattle.rope_node.specs.Extends.{Extends}
-use Rattle.rope_node.proofs.Ropes.{rope_kept, rope_cells_kept}
-use Rattle.rebalance.proofs.SlotSteps.{rope_length}
+use Rattle.rope_node.proofs.Ropes.{rope_kept, rope_cells_kept, rope_length}
 use Rattle.lazy_file.specs.SourceTexts.{Stated, text_at}
 use Rattle.cord_position.specs.Fetched.{AreStated, IsStated}
 use Rattle.cord_position.proofs.Spans.{each_cell}

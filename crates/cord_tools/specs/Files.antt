@@ -1,10 +1,11 @@
 -- What the tools say of the bytes of files.
-use Rattle.std.specs.Prelude.{◌≡◌, ◌↔◌, ◌⊎◌, ℕ, ◌<◌, ◌≤◌, ◌^◌, List, ◌++◌, length, map, take, drop, get_or, Option, None, Result, Ok, Err, IsSome, IsOk, IsErrOf, IfErr, OnOk, OnErr, codes}
+use Rattle.std.specs.Prelude.{◌≡◌, ◌↔◌, ◌⊎◌, ℕ, ◌<◌, ◌≤◌, List, ◌++◌, length, map, take, drop, get_or, Option, None, Result, Ok, Err, IsSome, IsOk, IsErrOf, IfErr, OnOk, OnErr, codes}
 use Rattle.std.specs.List.{flat_map, range_with_len, sum}
 use Rattle.std.specs.Fmt.{decimal}
 use Rattle.std.specs.Io.KnownBytes.{Appends, Keeps}
 use Rattle.std.specs.declared.cmp.Ordering.{Ordering}
 use Rattle.std.specs.declared.cmp.Ordering.TheVariants.{Less, Equal, Greater}
+use Rattle.rope_node.specs.declared.limits.TheConstants.{TEXT_LIMIT}
 use Rattle.byte_output.specs.Prefix.{AppendsPrefix}
 use Rattle.lazy_file.specs.SourceTexts.{Agrees, Stated, text_at}
 use Rattle.rope_node.specs.Denotes.{Cell, Place}
@@ -76,9 +77,9 @@ pub record JoinsFiles {T : Type 0} (stated : T → Stated) (failures : T → ℕ
   pub err : OnErr outcome (OfAllFiles (stated old) (AppendsPrefix before after))
   pub fault : IfErr outcome IsJoinFault
   pub refused : (fault : BalanceFault) → IsErrOf outcome (Rope fault) → Keeps before after
-  pub too_long : IsErrOf outcome (Rope (Node TooLong)) → 2 ^ 40 ≤ sum (stated old).sizes
-  pub short : IsOk outcome ⊎ (IsErrOf outcome Write ⊎ IsErrOf outcome Read) → sum (stated old).sizes < 2 ^ 40
-  pub long : 2 ^ 40 ≤ sum (stated old).sizes → Keeps before after
+  pub too_long : IsErrOf outcome (Rope (Node TooLong)) → TEXT_LIMIT ≤ sum (stated old).sizes
+  pub short : IsOk outcome ⊎ (IsErrOf outcome Write ⊎ IsErrOf outcome Read) → sum (stated old).sizes < TEXT_LIMIT
+  pub long : TEXT_LIMIT ≤ sum (stated old).sizes → Keeps before after
 
 -- ---- the first place of a pattern
 

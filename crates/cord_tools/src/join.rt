@@ -1,7 +1,8 @@
 //! Files, one behind the other.
 
 ghost use Rattle.std.specs.Prelude.{◌≡◌, ℕ, ◌+◌, ◌*◌, ◌<◌, ◌≤◌, ◌^◌, [], length, IfOk, IfErr, OnOk, IsErrOf};
-ghost use Rattle.rope_node.specs.declared.limits.TheConstants.{MOST_SOURCES};
+ghost use Rattle.rope_store.specs.declared.endings.TheConstants.{MOST_MERGED};
+ghost use Rattle.rope_node.specs.declared.limits.TheConstants.{MOST_SOURCES, TEXT_LIMIT};
 ghost use Rattle.std.specs.List.{sum};
 ghost use Rattle.function_leaf.specs.Coded.{coded_byte};
 ghost use Rattle.rope_node.specs.Denotes.{IsRope, rope_cells, rope_depth};
@@ -29,7 +30,7 @@ fn join_range(store: &mut Store<Coded>, first: u32, count: u32) -> Result<Rope, 
     requires there { first + count ≤ length store.old.sources }
     requires few { length store.old.sources ≤ MOST_SOURCES }
     requires nodes { length store.old.nodes ≤ 4 * first }
-    requires bytes { length store.old.pool.bytes ≤ 31 * first }
+    requires bytes { length store.old.pool.bytes ≤ MOST_MERGED * first }
     ensures is_rope { IfOk result (IsRope (table_of coded_byte store.new)) }
     ensures text { IfOk result (λ rope.
         rope_cells (table_of coded_byte store.new) rope ≡ cells_of store.old.sources first count) }
@@ -37,10 +38,11 @@ fn join_range(store: &mut Store<Coded>, first: u32, count: u32) -> Result<Rope, 
         → IfOk result (λ rope. rope_depth (table_of coded_byte store.new) rope ≤ levels) }
     ensures nodes { OnOk result (length store.new.nodes + 3 ≤ length store.old.nodes + 4 * count) }
     ensures bytes { OnOk result
-        (length store.new.pool.bytes + 31 ≤ length store.old.pool.bytes + 31 * count) }
-    ensures short { OnOk result (length (cells_of store.old.sources first count) < 2 ^ 40) }
+        (length store.new.pool.bytes + MOST_MERGED
+        ≤ length store.old.pool.bytes + MOST_MERGED * count) }
+    ensures short { OnOk result (length (cells_of store.old.sources first count) < TEXT_LIMIT) }
     ensures too_long { IsErrOf result (Node NodeFault.TooLong)
-        → 2 ^ 40 ≤ length (cells_of store.old.sources first count) }
+        → TEXT_LIMIT ≤ length (cells_of store.old.sources first count) }
     ensures fault { IfErr result (λ e. IsJoinFault (rope_fault e)) }
     ensures kept { Extends (table_of coded_byte store.old) (table_of coded_byte store.new) }
     ensures sources { store.new.sources ≡ store.old.sources }
@@ -67,8 +69,8 @@ fn join_sources(store: &mut Store<Coded>) -> Result<Rope, BalanceFault>
     ensures is_rope { IfOk result (IsRope (table_of coded_byte store.new)) }
     ensures text { IfOk result
         (λ rope. rope_cells (table_of coded_byte store.new) rope ≡ all_cells store.old.sources) }
-    ensures short { OnOk result (sum store.old.sources < 2 ^ 40) }
-    ensures too_long { IsErrOf result (Node NodeFault.TooLong) → 2 ^ 40 ≤ sum store.old.sources }
+    ensures short { OnOk result (sum store.old.sources < TEXT_LIMIT) }
+    ensures too_long { IsErrOf result (Node NodeFault.TooLong) → TEXT_LIMIT ≤ sum store.old.sources }
     ensures fault { IfErr result (λ e. IsJoinFault (rope_fault e)) }
     ensures sources { store.new.sources ≡ store.old.sources }
 {

@@ -10,8 +10,8 @@ use session_checker::check;
 use std::alloc::Global;
 use std::io;
 
-/// Writes the text of revision `revision` of the image that the reader gives, with these sources, and nothing else. The bytes are
-/// fetched one after the other, when the image is checked.
+/// Writes the text of revision `revision` of the image that the reader gives, with these sources, and nothing else, once the image
+/// is checked.
 ///
 /// # Errors
 ///

@@ -197,7 +197,7 @@ fn edit(rt: &HostRuntime, image: &str, file: Option<&str>) -> Result<Status, Too
     )
 }
 
-/// Does what the words ask for. The image is opened and the sources are read before anything is written.
+/// Does what the words ask for. `check` and `show` open the image and read the sources before anything is written.
 fn run(rt: &HostRuntime, action: &Action) -> Result<Status, ToolFault> {
     match action {
         Action::CheckInput => run_stdin(rt.alloc(), rt.reader(), &mut io::writer(rt)),

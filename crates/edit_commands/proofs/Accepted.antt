@@ -21,8 +21,7 @@ use Rattle.rebalance.specs.AnyForms.{StandsAt}
 use Rattle.rebalance.proofs.AnyCalls.{IsRight}
 use Rattle.span_certificate.specs.Commands.{span, bounded, replaced, spliced, result_of}
 use Rattle.span_certificate.specs.Parts.{root_at, givens_of, AreRopes}
-use Rattle.span_certificate.proofs.Covering.{length-rope_cells}
-use Rattle.span_certificate.proofs.Joined.{text_at}
+use Rattle.span_certificate.proofs.Joined.{text_at, span_is, bounded_is}
 use Rattle.edit_commands.specs.declared.building.Built.{Built}
 use Rattle.edit_commands.specs.declared.command.Command.{Command}
 use Rattle.edit_commands.specs.declared.command.Command.TheVariants.{New, Open, Insert, Delete, Replace, Paste, Join, Cut, Fill, Back, Balance}
@@ -33,6 +32,7 @@ use Rattle.edit_commands.specs.Building.{Builds, BuildsCommand, IsRootFor, Stand
 use Rattle.edit_commands.specs.Refusals.{bytes_of, names_no_revision, names_no_source, is_out_of_range, is_empty_text, is_full, is_too_long, result_len, first_of, refusal_of}
 use Rattle.edit_commands.specs.Session.{SessionValue, length_at, roots_of}
 use Rattle.edit_commands.proofs.BuiltTexts.{stand_inside}
+use Rattle.rope_node.proofs.Ropes.{rope_length}
 
 -- ---- the tests, none of which holds
 
@@ -98,12 +98,6 @@ abbrev pub FillsBytes : Command → Type 0
 FillsBytes (Fill r p c n) = c ≤ 255
 FillsBytes _ = Unit {0}
 
-span_is : (cells : List Cell) (i n : ℕ) → i + n ≤ length cells → span cells i n ≡ Some (take n (drop i cells))
-span_is cells i n fits = rw (le-leb (i + n) (length cells) fits) refl
-
-bounded_is : (cells : List Cell) → length cells < TEXT_LIMIT → bounded cells ≡ Some cells
-bounded_is cells short = rw (lt-ltb (length cells) TEXT_LIMIT short) refl
-
 spliced_is : (cells : List Cell) (p m : ℕ) (x : List Cell) → p + m ≤ length cells → (length cells - m) + length x < TEXT_LIMIT → spliced cells p m x ≡ Some (replaced cells p m x)
 spliced_is cells p m x fits short =
     rw (le-leb (p + m) (length cells) fits)
@@ -133,7 +127,7 @@ is_text : (old : Held Coded) (revisions : List Revision) (r : ℕ) → IsRight C
 is_text old revisions r k ropes lt =
     let t = table_of coded_byte old in
     let there : r < length (roots_of revisions) = omega (arith, lt, length-map revisions (λ (v : Revision). v.root)) in
-    record { text = text_at t (roots_of revisions) r there; len = length-rope_cells t k.sound k.true_records (root_at (roots_of revisions) r) (ropes r there) }
+    record { text = text_at t (roots_of revisions) r there; len = rope_length t k.sound k.true_records (root_at (roots_of revisions) r) (ropes r there) }
 
 pub gives : (old new : Held Coded) (revisions : List Revision) (place : ℕ) (command : Command) → IsAccepted old revisions command → new.sources ≡ old.sources → StandNew old.pool.bytes new.pool.bytes place (bytes_of command)
     → result_of (givens_of (table_of coded_byte new)) (map (rope_cells (table_of coded_byte old)) (roots_of revisions)) (edit_with place command) ≡ Some (wanted_of (table_of coded_byte old) (roots_of revisions) command)

@@ -19,11 +19,10 @@ use Rattle.rope_store.specs.Refusals.{IsTooDeep}
 use Rattle.rebalance.specs.declared.fault.BalanceFault.{BalanceFault}
 use Rattle.rebalance.specs.AnyForms.{AppendsAny, CatsAny, PartsAny, IsPlaced, StandsAt, lifted, next_place}
 use Rattle.rebalance.proofs.AnyCalls.{IsRight}
-use Rattle.rebalance.proofs.SlotSteps.{rope_short}
-use Rattle.span_certificate.proofs.Covering.{length-rope_cells}
 use Rattle.edit_commands.specs.Building.{GoesOn, IsCall, Builds, Closes, Splices, StandNew}
 use Rattle.edit_commands.proofs.GoingOn.{HasText, builds_later, built_text, goes_on_itself, goes_on_through, own_text, refused_for, text_later, text_len}
 use Rattle.edit_commands.proofs.BuildSteps.{part_step, both_step, bytes_step, close_step, leaf_step}
+use Rattle.rope_node.proofs.Ropes.{rope_short, rope_length}
 
 -- a part of a rope of the table that is built on
 pub own_part : {old new : Held Coded} (rope : Option NodeId) (i n : ℕ) (result : Result (Option NodeId) BalanceFault) → IsRope (table_of coded_byte old) rope → PartsAny coded_byte old rope i n result new → Builds old (take n (drop i (rope_cells (table_of coded_byte old) rope))) result new
@@ -110,7 +109,7 @@ middle_behind front part result k k' first second short cats =
 -- where nothing stands between
 pub deleted_short : (t : Table) → IsSound t → HasTrueRecords t → (rope : Option NodeId) (p n : ℕ) → IsRope t rope → p + n ≤ rope_len t rope → length (take p (rope_cells t rope) ++ []) + (rope_len t rope - (p + n)) < TEXT_LIMIT
 deleted_short t s h rope p n there inside =
-    omega (arith, ap length (append-nil (take p (rope_cells t rope))), length-take p (rope_cells t rope), length-rope_cells t s h rope there, rope_short t s rope there, inside)
+    omega (arith, ap length (append-nil (take p (rope_cells t rope))), length-take p (rope_cells t rope), rope_length t s h rope there, rope_short t s rope there, inside)
 
 -- ---- refused behind the front
 

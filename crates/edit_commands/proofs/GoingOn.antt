@@ -4,14 +4,13 @@ use Rattle.function_leaf.specs.declared.coded.Coded.{Coded}
 use Rattle.function_leaf.specs.Coded.{coded_byte}
 use Rattle.rope_node.specs.declared.node.NodeId.{NodeId}
 use Rattle.rope_node.specs.Denotes.{Cell, rope_cells, rope_len, IsRope}
-use Rattle.rope_node.proofs.Ropes.{extends_itself, extends_through, rope_cells_kept, rope_kept}
+use Rattle.rope_node.proofs.Ropes.{extends_itself, extends_through, rope_cells_kept, rope_kept, rope_length}
 use Rattle.node_table.specs.declared.fault.NodeFault.TheVariants.{TooLong, TooDeep, TableFull, PoolFull, BadSpan, TooManySources, Memory}
 use Rattle.node_table.specs.Held.{Held, table_of}
 use Rattle.rebalance.specs.declared.fault.BalanceFault.{BalanceFault}
 use Rattle.rebalance.specs.declared.fault.BalanceFault.TheVariants.{TooManyPieces, Node}
 use Rattle.rebalance.proofs.AnyCalls.{IsRight}
 use Rattle.rebalance.proofs.StepLaws.{functions_itself, functions_through}
-use Rattle.span_certificate.proofs.Covering.{length-rope_cells}
 use Rattle.edit_commands.specs.Building.{GoesOn, WasMet, IsMetFault, Builds}
 
 pub goes_on_itself : (h : Held Coded) → GoesOn h h
@@ -71,4 +70,4 @@ text_later {a} {b} {rope} k x has =
     }
 
 pub text_len : {h : Held Coded} {rope : Option NodeId} {cells : List Cell} → IsRight Coded coded_byte h → HasText h rope cells → rope_len (table_of coded_byte h) rope ≡ length cells
-text_len {h} {rope} k has = sym (length-rope_cells (table_of coded_byte h) k.sound k.true_records rope has.is_rope) ∙ ap length has.text
+text_len {h} {rope} k has = sym (rope_length (table_of coded_byte h) k.sound k.true_records rope has.is_rope) ∙ ap length has.text

@@ -16,7 +16,6 @@ use Rattle.span_certificate.specs.declared.edit.Edit.{Edit}
 use Rattle.span_certificate.specs.Commands.{Givens, result_of, IsHistory}
 use Rattle.span_certificate.specs.Leads.{AreAnswered}
 use Rattle.span_certificate.specs.Parts.{AreRopes, givens_of}
-use Rattle.span_certificate.proofs.Covering.{length-rope_cells}
 use Rattle.span_certificate.proofs.Joined.{parts_joined}
 use Rattle.span_certificate.proofs.MappedResults.{mapped_givens, history_mapped}
 use Rattle.span_certificate.proofs.PartsInRange.{parts_in_range}
@@ -24,13 +23,11 @@ use Rattle.span_certificate.proofs.Sameness.{covered_cells}
 use Rattle.edit_commands.specs.declared.revision.Revision.{Revision}
 use Rattle.edit_commands.specs.Session.{SessionValue, edits_of, roots_of, cells_of, texts_of, text_givens, parts_behind, IsRevision, AreRevisions, HoldsHistory}
 use Rattle.edit_commands.proofs.RevisionLists.{there_is, are_ropes, ropes_before}
+use Rattle.rope_node.proofs.Ropes.{rope_length}
+use Rattle.rope_node.proofs.Parts.{map_alike}
 
 answered : (h : Held Coded) → AreAnswered (table_of coded_byte h) (coded_at h)
 answered h k = answers_as_filled (get_or h.functions k None)
-
-map_alike : {A B : Type 0} (f g : A → B) → ((x : A) → f x ≡ g x) → (xs : List A) → map f xs ≡ map g xs
-map_alike f g same [] = refl
-map_alike f g same (x ∷ xs) = rw (same x, map_alike f g same xs) refl
 
 -- what commands take from outside, as bytes and as cells
 givens_mapped : (t : Table) (source : ℕ → ℕ → ℕ) → text_givens source t ≡ mapped_givens (cell_byte source) (givens_of t)
@@ -79,7 +76,7 @@ module _ (h : Held Coded) (s : IsSound (table_of coded_byte h)) (true_records : 
   lengths_are : (roots : List (Option NodeId)) → AreRopes (table_of coded_byte h) roots → map length (map (rope_cells (table_of coded_byte h)) roots) ≡ map (rope_len (table_of coded_byte h)) roots
   lengths_are [] ropes = refl
   lengths_are (r ∷ rs) ropes =
-      rw (length-rope_cells (table_of coded_byte h) s true_records r (ropes 0 (omega arith)), lengths_are rs (λ k lt. ropes (suc k) (omega arith))) refl
+      rw (rope_length (table_of coded_byte h) s true_records r (ropes 0 (omega arith)), lengths_are rs (λ k lt. ropes (suc k) (omega arith))) refl
 
   pub holds_history : (revisions : List Revision) → AreRevisions h revisions → HoldsHistory (record { held = h; revisions = revisions })
   holds_history revisions are =

@@ -13,14 +13,9 @@ use Rattle.node_table.specs.Held.{Held, table_of}
 use Rattle.span_certificate.specs.Parts.{root_at, AreRopes}
 use Rattle.edit_commands.specs.declared.revision.Revision.{Revision}
 use Rattle.edit_commands.specs.Session.{roots_of, rows_held, IsRevision, AreRevisions}
+use Rattle.rope_node.proofs.Parts.{slice_get-take}
 
 -- ---- lists
-
-slice_get-take : {X : Type 0} (n k : ℕ) (xs : List X) → k < n → slice_get (take n xs) k ≡ slice_get xs k
-slice_get-take zero k xs lt = absurd (omega arith)
-slice_get-take (suc n) k [] lt = refl
-slice_get-take (suc n) zero (x ∷ xs) lt = refl
-slice_get-take (suc n) (suc k) (x ∷ xs) lt = slice_get-take n k xs (omega arith)
 
 -- what stands in a list with one more is the one more, or stood there before
 at_more : {X : Type 0} (xs : List X) (x y : X) (k : ℕ) → slice_get (xs ++ x ∷ []) k ≡ Some y → (slice_get xs k ≡ Some y) ⊎ ((k ≡ length xs) × (x ≡ y))

@@ -3,12 +3,7 @@ use Rattle.std.proofs.Common.{◌≡◌, ℕ, zero, suc, ◌+◌, ◌<◌, ◌�
 use Rattle.std.specs.Prelude.{slice_get}
 use Rattle.std.proofs.Math.Nat.{suc-add}
 use Rattle.std.proofs.lemmas.List.{length-take, length-drop}
-
-slice_get-take : {X : Type 0} (n j : ℕ) (xs : List X) → j < n → slice_get (take n xs) j ≡ slice_get xs j
-slice_get-take zero j xs lt = absurd (omega arith)
-slice_get-take (suc n) j [] lt = refl
-slice_get-take (suc n) zero (x ∷ xs) lt = refl
-slice_get-take (suc n) (suc j) (x ∷ xs) lt = slice_get-take n j xs (omega arith)
+use Rattle.rope_node.proofs.Parts.{slice_get-take}
 
 slice_get-drop : {X : Type 0} (i j : ℕ) (xs : List X) → slice_get (drop i xs) j ≡ slice_get xs (i + j)
 slice_get-drop zero j xs = rw zero-add refl

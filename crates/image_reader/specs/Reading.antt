@@ -7,6 +7,7 @@ use Rattle.rope_node.specs.declared.node.NodeView.{NodeView}
 use Rattle.rope_node.specs.declared.node.NodeView.TheVariants.{Lit, Src, Fun, Cat, Sub}
 use Rattle.function_leaf.specs.declared.coded.Coded.{Coded}
 use Rattle.function_leaf.specs.declared.coded.Coded.TheVariants.{Fill, Ramp, Cycle}
+use Rattle.function_leaf.specs.declared.pattern.TheConstants.{PATTERN_LIMIT}
 use Rattle.span_certificate.specs.declared.edit.Edit.{Edit}
 use Rattle.span_certificate.specs.declared.row.Row.{Row}
 use Rattle.span_certificate.specs.declared.row.RowKind.{RowKind}
@@ -19,10 +20,10 @@ use Rattle.image_reader.specs.declared.header.Header.{Header}
 use Rattle.image_reader.specs.declared.revision.Revision.{Revision}
 use Rattle.image_reader.specs.Layout.{number_in, records}
 use Rattle.span_certificate.specs.declared.edit.TheConstants.{MOST_REVISIONS}
-use Rattle.image_reader.specs.declared.header.TheConstants.{MAGIC, MOST_POOL}
+use Rattle.image_reader.specs.declared.header.TheConstants.{MAGIC, MOST_POOL, VERSION}
 use Rattle.span_certificate.specs.declared.making.TheConstants.{ROWS_LIMIT}
 use Rattle.image_reader.specs.declared.decode.TheConstants.{NIL_ROOT}
-use Rattle.rope_node.specs.declared.limits.TheConstants.{MOST_NODES, MOST_SOURCES}
+use Rattle.rope_node.specs.declared.limits.TheConstants.{MOST_NODES, MOST_SOURCES, TEXT_LIMIT}
 use Rattle.image_reader.specs.Value.{ImageNode, ImageValue}
 use Rattle.image_reader.specs.Spelling.{field_of}
 
@@ -198,20 +199,20 @@ unfoldable pub header_fault : List ℕ → Option ReadFault
 header_fault bytes =
     fault_if (nat_lt (length bytes) 40) Truncated
     else fault_if (not (number_in w64 0 bytes == MAGIC)) Magic
-    else fault_if (not (number_in w32 8 bytes == 1)) Version
+    else fault_if (not (number_in w32 8 bytes == VERSION)) Version
     else fault_if (is_over_limit bytes) Count
     else fault_if (not (number_in w32 28 bytes == 0)) NonZeroPad
     else fault_if (nat_lt (length bytes) (stated_len bytes)) Truncated
     else fault_if (nat_lt (stated_len bytes) (length bytes)) Trailing
 
 unfoldable pub source_record_fault : List ℕ → Option ReadFault
-source_record_fault bytes = fault_if (not (nat_lt (number_in w64 0 bytes) 1099511627776)) Count
+source_record_fault bytes = fault_if (not (nat_lt (number_in w64 0 bytes) TEXT_LIMIT)) Count
 
 -- a function code that stands for none, or a pattern of a length that none may have
 abbrev pub is_unknown_function : List ℕ → Bool
 is_unknown_function bytes =
     nat_lt (function_code_in bytes) 1 || (nat_lt 3 (function_code_in bytes)
-    || (function_code_in bytes == 3 && (nat_lt (pattern_size_in bytes) 1 || nat_lt 16 (pattern_size_in bytes))))
+    || (function_code_in bytes == 3 && (nat_lt (pattern_size_in bytes) 1 || nat_lt PATTERN_LIMIT (pattern_size_in bytes))))
 
 abbrev pub is_unknown_node : List ℕ → Bool
 is_unknown_node bytes = nat_lt (kind_in bytes) 1 || (nat_lt 5 (kind_in bytes) || (kind_in bytes == 3 && is_unknown_function bytes))

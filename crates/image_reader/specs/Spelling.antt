@@ -17,7 +17,7 @@ use Rattle.span_certificate.specs.declared.row.RowKind.TheVariants.{Shared, Leaf
 use Rattle.image_reader.specs.declared.revision.Revision.{Revision}
 use Rattle.image_reader.specs.Layout.{spelled}
 use Rattle.image_reader.specs.declared.decode.TheConstants.{NIL_ROOT}
-use Rattle.image_reader.specs.declared.header.TheConstants.{MAGIC}
+use Rattle.image_reader.specs.declared.header.TheConstants.{MAGIC, VERSION}
 use Rattle.image_reader.specs.Value.{ImageNode, ImageValue}
 
 -- the magic number, the version, the numbers of sources, nodes, revisions and rows, zero, the pool's length
@@ -25,7 +25,7 @@ abbrev pub header_layout : List Width
 header_layout = w64 ∷ w32 ∷ w32 ∷ w32 ∷ w32 ∷ w32 ∷ w32 ∷ w64 ∷ []
 
 abbrev pub header_numbers : ImageValue → List ℕ
-header_numbers v = MAGIC ∷ 1 ∷ length v.sources ∷ length v.nodes ∷ length v.revisions ∷ length v.rows ∷ 0 ∷ length v.pool ∷ []
+header_numbers v = MAGIC ∷ VERSION ∷ length v.sources ∷ length v.nodes ∷ length v.revisions ∷ length v.rows ∷ 0 ∷ length v.pool ∷ []
 
 -- its length
 abbrev pub source_layout : List Width

@@ -20,7 +20,7 @@ use Rattle.span_certificate.specs.declared.edit.TheConstants.{MOST_REVISIONS}
 use Rattle.image_reader.specs.declared.header.TheConstants.{MOST_POOL}
 use Rattle.span_certificate.specs.declared.making.TheConstants.{ROWS_LIMIT}
 use Rattle.image_reader.specs.declared.decode.TheConstants.{NIL_ROOT}
-use Rattle.rope_node.specs.declared.limits.TheConstants.{MOST_NODES, MOST_SOURCES}
+use Rattle.rope_node.specs.declared.limits.TheConstants.{MOST_NODES, MOST_SOURCES, TEXT_LIMIT}
 
 -- a node, and the function that it holds where it is one
 pub record ImageNode : Type 0 where
@@ -94,7 +94,7 @@ pub record FitsRow (r : Row) : Type 0 where
   pub kind : FitsKind r.kind
 
 abbrev pub FitsSource : ℕ → Type 0
-FitsSource n = n < 2 ^ 40
+FitsSource n = n < TEXT_LIMIT
 
 -- what has a spelling
 pub record IsImage (v : ImageValue) : Type 0 where

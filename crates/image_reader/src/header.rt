@@ -23,7 +23,8 @@ pub struct Header {
 /// `CORDSESS` as a number of eight bytes.
 pub const MAGIC: u64 = 0x434f_5244_5345_5353;
 
-const VERSION: u32 = 1;
+/// The version of the format.
+pub const VERSION: u32 = 1;
 
 /// The most bytes of a pool.
 pub const MOST_POOL: u64 = POOL_LIMIT - 1;

@@ -1,7 +1,8 @@
 //! An image, over its bytes.
 
-ghost use Rattle.std.specs.Prelude.{◌≡◌, ◌<◌, ◌^◌, length, IfOk, Ok, slice_get, Some};
+ghost use Rattle.std.specs.Prelude.{◌≡◌, ◌<◌, length, IfOk, Ok, slice_get, Some};
 ghost use Rattle.std.specs.Result.{result_err};
+ghost use Rattle.rope_node.specs.declared.limits.TheConstants.{TEXT_LIMIT};
 ghost use Rattle.rope_node.specs.declared.node.NodeView.TheVariants.{Fun};
 ghost use Rattle.rope_node.specs.Table.{view_at, len_at, depth_at};
 ghost use Rattle.image_reader.specs.Value.{ImageValue, IsImage, function_at, image_table};
@@ -153,7 +154,7 @@ impl<'a> Image<'a> {
     pub fn source_len(&self, s: u32) -> u64
         requires { s < length self.now.sources }
         ensures value { slice_get self.now.sources s ≡ Some result }
-        ensures limit { result < 2 ^ 40 }
+        ensures limit { result < TEXT_LIMIT }
     {
         source_in(cell_at(self.sources, 8, s as usize))
     }

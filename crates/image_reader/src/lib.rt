@@ -16,7 +16,7 @@ mod section;
 pub use command::Numbers;
 pub use decode::NIL_ROOT;
 pub use fault::ReadFault;
-pub use header::{MAGIC, MOST_POOL};
+pub use header::{MAGIC, MOST_POOL, VERSION};
 pub use image::Image;
 pub use revision::Revision;
 pub use roots::EarlierRoots;

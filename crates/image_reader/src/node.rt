@@ -5,7 +5,7 @@ ghost use Rattle.function_leaf.specs.Pattern.{IsPatternLength};
 ghost use Rattle.image_reader.specs.Reading.{image_node, view_of, kind_in, pattern_size_in, pattern_of, coded_of, function_of, any_nonzero, is_unknown_function, is_unknown_node, unused_in_span, unused_in_concatenation, unused_in_function, unused_in_node, node_record_fault};
 
 use crate::number::{bytes_from, u8_in, u32_in, u64_in};
-use function_leaf::Coded;
+use function_leaf::{Coded, PATTERN_LIMIT};
 use rope_node::{NodeId, NodeView};
 
 /// The length of a node.
@@ -86,7 +86,7 @@ fn is_unknown_function(bytes: &[u8]) -> bool
 {
     let code = u8_in(bytes, 2);
     let size = u8_in(bytes, 3);
-    code < 1 || code > 3 || (code == 3 && (size < 1 || size > 16))
+    code < 1 || code > 3 || (code == 3 && (size < 1 || usize::from(size) > PATTERN_LIMIT))
 }
 
 /// Whether a node is of no known kind, or a function that is not known.

@@ -1,6 +1,6 @@
 -- What a read of one of several devices leaves of them all.
-use Rattle.std.proofs.Common.{◌≡◌, ℕ, ◌+◌, ◌-◌, ◌<◌, ◌≤◌, List, drop, get_or, length, map, take, arith, ap, ◌∙◌, sym, length-take}
-use Rattle.std.specs.Prelude.{Option, Some, None, Result, slice_set, OnOk, IfSome}
+use Rattle.std.proofs.Common.{◌≡◌, ◌≢◌, ℕ, zero, suc, ◌+◌, ◌-◌, ◌<◌, ◌≤◌, List, [], ◌∷◌, refl, drop, get_or, length, map, take, arith, ap, ◌∙◌, sym, length-take}
+use Rattle.std.specs.Prelude.{Option, Some, None, Result, slice_get, slice_set, OnOk, IfSome}
 use Rattle.std.proofs.Math.Seq.{map-set_same}
 use Rattle.std.proofs.lemmas.List.{get_or-map, length-map, take-take}
 use Rattle.std.proofs.lemmas.Result.{on_ok_weaker}
@@ -8,6 +8,14 @@ use Rattle.std.proofs.lemmas.Slice.{between_is}
 use Rattle.std.proofs.lemmas.List.Sums.{sum_by-set}
 use Rattle.lazy_file.specs.DeviceTexts.{AreBytesAt, AreBytesOf, DeviceText, FillsFrom, HasSpan, ReadsSource, no_device, source_text}
 use Rattle.lazy_file.specs.declared.faults.SourceFault.{SourceFault}
+
+-- what is set at one place leaves every other
+slice_get-set_other : {D : Type 0} (ds : List D) (s k : ℕ) (d : D) → k ≢ s → slice_get (slice_set ds s d) k ≡ slice_get ds k
+slice_get-set_other [] s k d other = refl
+slice_get-set_other (x ∷ xs) zero zero d other = absurd (other refl)
+slice_get-set_other (x ∷ xs) zero (suc k) d other = refl
+slice_get-set_other (x ∷ xs) (suc s) zero d other = refl
+slice_get-set_other (x ∷ xs) (suc s) (suc k) d other = slice_get-set_other xs s k d (λ e. other (ap suc e))
 
 -- bytes of a text that end inside its first n are bytes of those
 pub bytes_inside : (n : ℕ) (text : Option (List ℕ)) (off : ℕ) (xs : List ℕ) → off + length xs ≤ n
@@ -37,6 +45,7 @@ read_of_one stated failures ds d after s off buffer outcome span fills =
     let within : off + length buffer ≤ one.size = rw own at span.inside in (
       record {
         same = map-set_same stated ds s after d fills.same;
+        others = λ k other. slice_get-set_other ds s k after other;
         later = omega (arith, sums, fills.later);
         device = (λ failed. omega (arith, sums, fills.device.0 failed), λ more. fills.device.1 (omega (arith, sums, more)));
         short = λ ended. rw own (shorter one.size one.text (off + length buffer) within (fills.short ended));

@@ -1,5 +1,5 @@
 -- Reads one after the other.
-use Rattle.std.proofs.Common.{◌≡◌, ◌<◌, ℕ, ◌∙◌, arith}
+use Rattle.std.proofs.Common.{◌<◌, ℕ, ◌∙◌, arith}
 use Rattle.lazy_file.specs.SourceTexts.{Reads, ReadsUnfailed, Stated}
 
 pub reads_then : {T : Type 0} {stated : T → Stated} {failures : T → ℕ} {a b c : T} → Reads stated failures a b → Reads stated failures b c → Reads stated failures a c

@@ -12,6 +12,7 @@ no_fault stated failures old new s off n x there = record {
   device = λ e. absurd cc;
   short = λ e. absurd cc;
   bad_source = (λ e. absurd cc, λ missing. absurd cc);
+  unfailing = λ e never. absurd cc;
 }
 
 -- a read of a span that is not there
@@ -21,4 +22,5 @@ refused_span stated failures old new s off n missing = record {
   device = λ e. absurd cc;
   short = λ e. absurd cc;
   bad_source = (λ _. missing, λ _. refl);
+  unfailing = λ _ never. refl;
 }

@@ -1,4 +1,4 @@
-use Rattle.std.specs.Prelude.{◌≡◌, ◌↔◌, ◌<◌, ◌≤◌, ℕ, false, ◌+◌, List, Option, None, Result, drop, get_or, length, map, take, option_map, IfOk, IfSome, IsErr, IsErrOf, OnOk}
+use Rattle.std.specs.Prelude.{◌≡◌, ◌≢◌, ◌↔◌, ◌<◌, ◌≤◌, ℕ, false, ◌+◌, List, Option, None, Result, drop, get_or, length, map, slice_get, take, option_map, IfOk, IfSome, IsErr, IsErrOf, OnOk}
 use Rattle.std.specs.List.{sum_by}
 use Rattle.lazy_file.specs.SourceTexts.{Stated}
 use Rattle.lazy_file.specs.declared.sources.TheConstants.{SOURCE_LIMIT}
@@ -60,10 +60,15 @@ pub record HasSpan (ds : List DeviceText) (s off n : ℕ) : Type 0 where
 abbrev pub AreBytesOf : List DeviceText → ℕ → ℕ → List ℕ → Type 0
 AreBytesOf ds s off bytes = AreBytesAt (source_text (get_or ds s no_device)) off bytes
 
+-- every device but that of source s is as it was
+abbrev pub KeepsOthers : {D : Type 0} → List D → List D → ℕ → Type 0
+KeepsOthers old new s = (k : ℕ) → k ≢ s → slice_get new k ≡ slice_get old k
+
 -- what reading source s leaves of the devices, and when each fault of it comes
 pub record ReadsSource {D X : Type 0} (stated : D → DeviceText) (failures : D → ℕ) (old new : List D) (s : ℕ)
     (outcome : Result X SourceFault) : Type 0 where
   pub same : map stated new ≡ map stated old
+  pub others : KeepsOthers old new s
   pub later : sum_by failures old ≤ sum_by failures new
   pub device : IsErrOf outcome Device ↔ sum_by failures old < sum_by failures new
   pub short : IsErrOf outcome Short

@@ -3,7 +3,7 @@ ghost use Rattle.std.specs.Prelude.{◌≡◌, ◌+◌, ◌*◌, ◌<◌, ◌≤
 ghost use Rattle.std.specs.List.{sum_by};
 ghost use Rattle.lazy_file.specs.SourceTexts.{AreSizes, Reads, holds_span, text_at};
 ghost use Rattle.lazy_file.specs.ReadFaults.{IsFaultOf, TellsFailure};
-ghost use Rattle.lazy_file.specs.DeviceTexts.{AreBytesOf, HasSpan, ReadsSource, no_device, stated_by};
+ghost use Rattle.lazy_file.specs.DeviceTexts.{AreBytesOf, HasSpan, KeepsOthers, ReadsSource, no_device, stated_by};
 ghost use Rattle.lazy_file.specs.KeptBlocks.{AreKept};
 
 use crate::device::Device;
@@ -188,6 +188,7 @@ pub(crate) fn read_source<D: Device>(
     requires sizes { AreSizes (stated_by (map D.stated devices.old)).sizes }
     requires kept { AreKept (map D.stated devices.old) kept.old.entries }
     ensures same { map D.stated devices.new ≡ map D.stated devices.old }
+    ensures others { KeepsOthers devices.old devices.new s }
     ensures later { sum_by D.failures devices.old ≤ sum_by D.failures devices.new }
     ensures bytes { OnOk result (IfSome (text_at (stated_by (map D.stated devices.old)) s)
         (λ t. buffer.new ≡ take (length buffer.old) (drop off t))) }

@@ -1,8 +1,10 @@
 //! Sources that are devices, such as files.
-ghost use Rattle.std.specs.Prelude.{◌≡◌, ◌↔◌, ◌<◌, ◌≤◌, ◌++◌, ◌∷◌, [], IfErr, IfOk, IsErrAnd, OnErr, OnOk, length, map};
+ghost use Rattle.std.specs.Prelude.{◌≡◌, ◌↔◌, ◌<◌, ◌≤◌, ◌++◌, ◌∷◌, [], IfErr, IfOk, IfSome, IsErrAnd, OnErr, OnOk, drop, length, map, take};
 ghost use Rattle.std.specs.List.{sum_by};
 ghost use Rattle.lazy_file.specs.declared.sources.TheConstants.{COUNT_LIMIT, SOURCE_LIMIT};
-ghost use Rattle.lazy_file.specs.DeviceTexts.{stated_by};
+ghost use Rattle.lazy_file.specs.SourceTexts.{Reads, text_at};
+ghost use Rattle.lazy_file.specs.ReadFaults.{IsFaultOf, TellsFailure};
+ghost use Rattle.lazy_file.specs.DeviceTexts.{KeepsOthers, stated_by};
 
 use crate::device::Device;
 use crate::device_blocks::{read_source, source_size};
@@ -104,7 +106,17 @@ impl<D: Device> Sources for FileSources<D> {
         source_size(&self.devices, s)
     }
 
-    fn read(&mut self, s: u8, off: u64, buffer: &mut [u8]) -> Result<(), SourceFault> {
+    /// As of any sources; and every device but that of source `s` is left as it was.
+    fn read(&mut self, s: u8, off: u64, buffer: &mut [u8]) -> Result<(), SourceFault>
+        ensures reads { Reads (λ ds. stated_by (map D.stated ds)) (sum_by D.failures)
+            self.old self.new }
+        ensures bytes { OnOk result (IfSome (text_at (stated_by (map D.stated self.old)) s)
+            (λ t. buffer.new ≡ take (length buffer.old) (drop off t))) }
+        ensures fault { IsFaultOf (λ ds. stated_by (map D.stated ds)) (sum_by D.failures)
+            self.old self.new s off (length buffer.old) result }
+        ensures told { TellsFailure (sum_by D.failures) self.old self.new result }
+        ensures others { KeepsOthers self.old self.new s }
+    {
         read_source(
             self.alloc,
             &mut self.devices,

@@ -5,14 +5,14 @@ use Rattle.std.specs.Prelude.{IsErrOf}
 use Rattle.std.proofs.Math.Seq.{drop-append_seam}
 use Rattle.leaf_buffer.specs.Contents.{Contents}
 use Rattle.rope_node.specs.declared.node.NodeId.{NodeId}
-use Rattle.rope_node.specs.Table.{Table, len_at, depth_at, view_at, IsSound, HasTrueRecords}
+use Rattle.rope_node.specs.Table.{Table, len_at, view_at, IsSound, HasTrueRecords}
 use Rattle.rope_node.specs.Extends.{Extends}
-use Rattle.rope_node.specs.Denotes.{Byte, cells, rope_cells, rope_len, IsRope}
+use Rattle.rope_node.specs.Denotes.{Byte, Cell, cells, rope_cells, rope_len, IsRope}
 use Rattle.rope_node.proofs.Ropes.{extends_itself, rope_kept}
 use Rattle.node_table.specs.declared.fault.NodeFault.{NodeFault}
 use Rattle.node_table.specs.declared.fault.NodeFault.TheVariants.{TooLong, TooDeep}
 use Rattle.node_table.specs.Held.{Held, table_of}
-use Rattle.rope_store.specs.Additions.{Addition, Makes, part_added, pool_with}
+use Rattle.rope_store.specs.Additions.{Addition, Makes, node_part, part_added, pool_with}
 use Rattle.rope_store.specs.Appending.{Appends, IsTooLong}
 use Rattle.rope_store.specs.Joining.{joined}
 use Rattle.rope_store.specs.Refusals.{Refuses, IsTooDeep, deepest}
@@ -20,15 +20,17 @@ use Rattle.rope_node.proofs.Cells.{cells_length}
 use Rattle.rope_store.proofs.PartTexts.{no_part, take_least}
 use Rattle.rope_store.proofs.CallSizes.{joined_few, joined_shallow, part_few, sized_append}
 use Rattle.leaf_buffer.proofs.Appending.{appended_bytes}
-use Rattle.rebalance.specs.AnyForms.{AnyForm, Anew, AppendsAny, IsPlaced, IsPut, LiesLower, StandsAt, next_place, PartsAny, lifted}
+use Rattle.rebalance.specs.AnyForms.{AnyForm, Anew, AppendsAny, IsLowest, IsPlaced, IsPut, LiesLower, StandsAt, next_place, PartsAny, lifted}
 use Rattle.rebalance.specs.declared.fault.BalanceFault.{BalanceFault}
 use Rattle.rebalance.specs.declared.pieces.Span.{Span}
 use Rattle.rebalance.specs.Balancing.{Rebuilds}
-use Rattle.rebalance.specs.Pieces.{kept_pieces, part_pieces, pieces, IsWithin, LiesInChild}
+use Rattle.rebalance.specs.Pieces.{kept_pieces, part_count, part_pieces, pieces, IsWithin, LiesInChild, RopeLeadsDown, here}
 use Rattle.rebalance.specs.Steps.{Grows}
 use Rattle.rebalance.proofs.AnyLaws.{any_anew, any_plain, any_plain_if, rebuilt_anew, rebuilt_grows, called_anew, few_pieces, stands_earlier, stands_for, stands_later, unchanged_at}
+use Rattle.rebalance.proofs.AnyDepths.{append_roughly, joined_roughly, nearly_kept}
 use Rattle.rebalance.proofs.Filling.{whole_text}
 use Rattle.rebalance.proofs.PieceCounts.{all_pieces_kept}
+use Rattle.rebalance.proofs.PieceWays.{GoesDown, stays_here}
 use Rattle.rebalance.proofs.StepLaws.{grows_through, grows_within}
 
 -- a table keeps the rules
@@ -65,6 +67,7 @@ cat_called {F = F} meaning old one two new l r left right plain k0 k1 k2 left_th
     called_anew meaning old two new (joined t2 left right) (rope_cells t0 l ++ rope_cells t0 r) (rope_cells t2 left ++ rope_cells t2 right) (2 ^ 40 ≤ rope_len t2 left + rope_len t2 right) p q 2 31 plain grows (few_pieces first) (λ many. few_pieces second (omega (arith, many, same)))
     (joined_few t2 k2.sound k2.true_records left right a.is_rope b.is_rope) (joined_shallow F t2 k2.sound k2.true_records left right a.is_rope b.is_rope a.shallow b.shallow)
     (λ long. absurd (omega (arith, long, a.len, b.len, short))) made refuses (rw (a.text, b.text) refl)
+    (joined_roughly meaning two new (rope_cells t2 left ++ rope_cells t2 right) left right k2.sound k2.true_records a.is_rope b.is_rope (nearly_kept t1 t2 second.kept left first.is_rope first.shallow) second.shallow plain made)
 
 -- ---- parts
 
@@ -88,109 +91,142 @@ lies_lower : (t : Table) (node : NodeId) (i n : ℕ) → i + n ≤ len_at t node
 lies_lower t node i n fits lies =
     let all : min n (len_at t node.0 - i) ≡ n = omega (arith, fits) in (omega (arith, lies.1, all), subst (λ (k : ℕ). LiesInChild t i k (view_at t node.0)) all lies.2)
 
-part_lowest : (t : Table) (node : NodeId) (i n : ℕ) (p : Span) → IsWithin t node.0 i n p → ¬ LiesLower t (Some p.node) p.start n
-part_lowest t node i n p within lies =
-    let lower = lies_lower t p.node p.start n (omega (arith, within.inside, within.len)) lies in within.lowest lower.0 lower.1
+-- bytes that are all there are so many
+count_all : (t : Table) (node : NodeId) (i n : ℕ) → i + n ≤ len_at t node.0 → part_count t (Some node) i n ≡ n
+count_all t node i n fits = omega (arith, fits)
 
-part_below : (t : Table) (node : NodeId) (i n : ℕ) (p : Span) → IsWithin t node.0 i n p → i + n ≤ len_at t node.0 → LiesLower t (Some node) i n → depth_at t p.node.0 < depth_at t node.0
-part_below t node i n p within fits lies = let lower = lies_lower t node i n fits lies in within.below lower.0 lower.1
+pub lies_above : (t : Table) (node : NodeId) (i n : ℕ) → i + n ≤ len_at t node.0 → 1 ≤ n → GoesDown t n node.0 i → LiesLower t (Some node) i n
+lies_above t node i n fits some down =
+    let all : min n (len_at t node.0 - i) ≡ n = omega (arith, fits) in
+    subst (λ (k : ℕ). (1 ≤ k) × (k < len_at t node.0) × LiesInChild t i k (view_at t node.0)) (sym all) (some, down.0, down.1)
+
+-- the lowest node that all of the bytes lie in
+within_is_lowest : (t : Table) (node : NodeId) (i n : ℕ) (p : Span) → 1 ≤ n → i + n ≤ len_at t node.0 → IsWithin t node.0 i n p → IsLowest t (Some node) i (part_count t (Some node) i n) (Some p.node) p.start
+within_is_lowest t node i n p some fits within =
+    let lowest : IsLowest t (Some node) i n (Some p.node) p.start = record {
+      there = within.there;
+      leads = within.leads;
+      lowest = λ lies. let lower = lies_lower t p.node p.start n (omega (arith, within.inside, within.len)) lies in within.lowest lower.0 lower.1;
+      here = λ no. let same = stays_here t within.leads (λ down. no (lies_above t node i n fits some down)) in (ap (λ (k : ℕ). let r : Option NodeId = Some (record { 0 = k }) in r) (sym same.0), sym same.1);
+      below = λ lies. let lower = lies_lower t node i n fits lies in within.below lower.0 lower.1;
+      no_deeper = within.shallow;
+      cells = sym within.cells;
+    } in
+    subst (λ (k : ℕ). IsLowest t (Some node) i k (Some p.node) p.start) (sym (count_all t node i n fits)) lowest
+
+-- of no bytes it is the rope itself
+leads_here : (t : Table) (n : ℕ) (x : Option NodeId) (i : ℕ) → RopeLeadsDown t n x i x i
+leads_here t n None i = refl
+leads_here t n (Some k) i = here refl refl
+
+none_is_lowest : (t : Table) (x : Option NodeId) (i n : ℕ) → IsRope t x → ((node : NodeId) → x ≡ Some node → min n (len_at t node.0 - i) ≡ 0) → IsLowest t x i n x i
+none_is_lowest t x i n there none = record {
+  there = there;
+  leads = leads_here t n x i;
+  lowest = no_bytes_lie t x i n none;
+  here = λ _. (refl, refl);
+  below = λ lies. absurd (no_bytes_lie t x i n none lies);
+  no_deeper = omega arith;
+  cells = refl;
+}
+
+-- so many bytes are added, wanted or there
+added_alike : (F : Type 0) (t : Table) (x : Option NodeId) (i n : ℕ) → part_added {F = F} t x i (part_count t x i n) ≡ part_added t x i n
+added_alike F t None i n = refl
+added_alike F t (Some node) i n =
+    let same : min (min n (len_at t node.0 - i)) (len_at t node.0 - i) ≡ min n (len_at t node.0 - i) = omega arith in
+    ap (λ (k : ℕ). node_part {F = F} t node i k) same
+
+none_there : (t : Table) (x : Option NodeId) (i n : ℕ) → ((node : NodeId) → x ≡ Some node → min n (len_at t node.0 - i) ≡ 0) → (node : NodeId) → x ≡ Some node → min (part_count t x i n) (len_at t node.0 - i) ≡ 0
+none_there t None i n none node is = absurd cc
+none_there t (Some y) i n none node is =
+    let few : min n (len_at t y.0 - i) ≡ 0 = none y refl in
+    omega (arith, few)
 
 pub part_none : {F : Type 0} (meaning : F → ℕ → ℕ) (old new : Held F) (x : Option NodeId) (i n : ℕ) (plain : Result (Option NodeId) NodeFault) → IsRope (table_of meaning old) x → ((node : NodeId) → x ≡ Some node → min n (len_at (table_of meaning old) node.0 - i) ≡ 0)
     → Makes meaning old (part_added (table_of meaning old) x i n) (take n (drop i (rope_cells (table_of meaning old) x))) plain new → Refuses old (part_added (table_of meaning old) x i n) ⊥ ⊥ plain → PartsAny meaning old x i n (lifted plain) new
 part_none {F = F} meaning old new x i n plain there none made refuses =
     let t = table_of meaning old in
-    let shallow = no_bytes_shallow F t x i n none in
+    let m = part_count t x i n in
+    let nothing_there : (node : NodeId) → x ≡ Some node → min m (len_at t node.0 - i) ≡ 0 = none_there t x i n none in
+    let shallow : ¬ IsTooDeep {F = F} (part_added t x i m) = no_bytes_shallow F t x i m nothing_there in
+    let any : AnyForm meaning old (part_added t x i n) (take n (drop i (rope_cells t x))) ⊥ (part_pieces t x i n) 0 1 0 (lifted plain) new =
+    any_plain meaning old new (part_added t x i n) (take n (drop i (rope_cells t x))) ⊥ (part_pieces t x i n) 0 1 0 plain (part_few t x i n) made refuses (λ e. no_bytes_shallow F t x i n none (refuses.too_deep.0 e).2) in
     record {
       inner = x;
       start = i;
-      count = n;
-      there = there;
-      no_deeper = omega arith;
-      lowest = no_bytes_lie t x i n none;
-      below = λ lies. absurd (no_bytes_lie t x i n none lies);
-      any = any_plain meaning old new (part_added t x i n) (take n (drop i (rope_cells t x))) ⊥ (part_pieces t x i n) 0 1 0 plain (part_few t x i n) made refuses (λ e. shallow (refuses.too_deep.0 e).2);
+      is_lowest = none_is_lowest t x i m there nothing_there;
+      any = subst (λ (a : Addition F). AnyForm meaning old a (take n (drop i (rope_cells t x))) ⊥ (part_pieces t x i n) 0 1 0 (lifted plain) new) (sym (added_alike F t x i n)) any;
       rebuilt = λ deep. absurd (shallow deep);
     }
 
-least_lies : (t : Table) (node : NodeId) (i n m : ℕ) → m ≡ min n (len_at t node.0 - i) → LiesLower t (Some node) i n → LiesLower t (Some node) i m
-least_lies t node i n m least lies =
-    let few : min n (len_at t node.0 - i) ≡ min m (len_at t node.0 - i) = omega (arith, least) in
-    subst (λ (k : ℕ). (1 ≤ k) × (k < len_at t node.0) × LiesInChild t i k (view_at t node.0)) few lies
+-- what a part is, of so many bytes, cells and pieces
+record PartIs {F : Type 0} (meaning : F → ℕ → ℕ) (old : Held F) (x : Option NodeId) (i m : ℕ) (wanted : List Cell) (p : ℕ) (inner : Option NodeId) (start : ℕ) (result : Result (Option NodeId) BalanceFault) (new : Held F) : Type 0 where
+  pub is_lowest : IsLowest (table_of meaning old) x i m inner start
+  pub any : AnyForm meaning old (part_added (table_of meaning old) inner start m) wanted ⊥ p 0 1 0 result new
+  pub rebuilt : IsTooDeep (part_added {F = F} (table_of meaning old) inner start m) → Rebuilds meaning old wanted p result new
 
 -- no more bytes than there are
 pub part_more : {F : Type 0} (meaning : F → ℕ → ℕ) (old new : Held F) (node : NodeId) (i n m : ℕ) (result : Result (Option NodeId) BalanceFault) → IsSound (table_of meaning old) → HasTrueRecords (table_of meaning old) → node.0 < length old.nodes → m ≡ min n (len_at (table_of meaning old) node.0 - i)
     → PartsAny meaning old (Some node) i m result new → PartsAny meaning old (Some node) i n result new
 part_more {F = F} meaning old new node i n m result s h there least part =
     let t = table_of meaning old in
-    let few : min m (len_at t node.0 - i) ≡ min n (len_at t node.0 - i) = omega (arith, least) in
+    let few : part_count t (Some node) i m ≡ part_count t (Some node) i n = omega (arith, least) in
     let count : part_pieces t (Some node) i m ≡ part_pieces t (Some node) i n = ap (λ (k : ℕ). pieces true t node.0 i k) few in
     let text : take m (drop i (cells t node.0)) ≡ take n (drop i (cells t node.0)) =
     ap (λ (k : ℕ). take k (drop i (cells t node.0))) least ∙ take_least (cells t node.0) i n (len_at t node.0) (cells_length t s h node.0 there) in
-    let a : Addition F = part_added t part.inner part.start part.count in
-    let one = subst (λ (p : ℕ). AnyForm meaning old a (take m (drop i (cells t node.0))) ⊥ p 0 1 0 result new) count part.any in
+    let with_count = subst (λ (k : ℕ). PartIs meaning old (Some node) i k (take m (drop i (cells t node.0))) (part_pieces t (Some node) i m) part.inner part.start result new) few (record { is_lowest = part.is_lowest; any = part.any; rebuilt = part.rebuilt }) in
+    let with_pieces = subst (λ (p : ℕ). PartIs meaning old (Some node) i (part_count t (Some node) i n) (take m (drop i (cells t node.0))) p part.inner part.start result new) count with_count in
+    let all = subst (λ cs. PartIs meaning old (Some node) i (part_count t (Some node) i n) cs (part_pieces t (Some node) i n) part.inner part.start result new) text with_pieces in
+    record { inner = part.inner; start = part.start; is_lowest = all.is_lowest; any = all.any; rebuilt = all.rebuilt }
+
+-- a part of bytes that are all there
+part_is : {F : Type 0} (meaning : F → ℕ → ℕ) (old new : Held F) (node : NodeId) (i n : ℕ) (inner : Option NodeId) (start : ℕ) (result : Result (Option NodeId) BalanceFault) → i + n ≤ len_at (table_of meaning old) node.0 → IsLowest (table_of meaning old) (Some node) i (part_count (table_of meaning old) (Some node) i n) inner start
+    → AnyForm meaning old (part_added (table_of meaning old) inner start n) (take n (drop i (cells (table_of meaning old) node.0))) ⊥ (part_pieces (table_of meaning old) (Some node) i n) 0 1 0 result new
+    → (IsTooDeep {F = F} (part_added (table_of meaning old) inner start n) → Rebuilds meaning old (take n (drop i (cells (table_of meaning old) node.0))) (part_pieces (table_of meaning old) (Some node) i n) result new)
+    → PartsAny meaning old (Some node) i n result new
+part_is {F = F} meaning old new node i n inner start result fits lowest any rebuilt =
+    let t = table_of meaning old in
+    let same = sym (count_all t node i n fits) in
     record {
-      inner = part.inner;
-      start = part.start;
-      count = part.count;
-      there = part.there;
-      no_deeper = part.no_deeper;
-      lowest = part.lowest;
-      below = λ lies. part.below (least_lies t node i n m least lies);
-      any = subst (λ cs. AnyForm meaning old a cs ⊥ (part_pieces t (Some node) i n) 0 1 0 result new) text one;
-      rebuilt = λ deep.
-          let built = subst (λ (p : ℕ). Rebuilds meaning old (take m (drop i (cells t node.0))) p result new) count (part.rebuilt deep) in
-          subst (λ cs. Rebuilds meaning old cs (part_pieces t (Some node) i n) result new) text built;
+      inner = inner;
+      start = start;
+      is_lowest = lowest;
+      any = subst (λ (k : ℕ). AnyForm meaning old (part_added t inner start k) (take n (drop i (cells t node.0))) ⊥ (part_pieces t (Some node) i n) 0 1 0 result new) same any;
+      rebuilt = subst (λ (k : ℕ). IsTooDeep {F = F} (part_added t inner start k) → Rebuilds meaning old (take n (drop i (cells t node.0))) (part_pieces t (Some node) i n) result new) same rebuilt;
     }
 
 -- the plain call takes the part of a lower node
-pub part_plain : {F : Type 0} (meaning : F → ℕ → ℕ) (old new : Held F) (node : NodeId) (i n : ℕ) (p : Span) (plain : Result (Option NodeId) NodeFault) → IsWithin (table_of meaning old) node.0 i n p → i + n ≤ len_at (table_of meaning old) node.0
+pub part_plain : {F : Type 0} (meaning : F → ℕ → ℕ) (old new : Held F) (node : NodeId) (i n : ℕ) (p : Span) (plain : Result (Option NodeId) NodeFault) → IsWithin (table_of meaning old) node.0 i n p → 1 ≤ n → i + n ≤ len_at (table_of meaning old) node.0
     → Makes meaning old (part_added (table_of meaning old) (Some p.node) p.start n) (take n (drop p.start (cells (table_of meaning old) p.node.0))) plain new → Refuses old (part_added (table_of meaning old) (Some p.node) p.start n) ⊥ ⊥ plain → ¬ IsErrOf plain TooDeep
     → PartsAny meaning old (Some node) i n (lifted plain) new
-part_plain {F = F} meaning old new node i n p plain within fits made refuses shallow =
+part_plain {F = F} meaning old new node i n p plain within some fits made refuses shallow =
     let t = table_of meaning old in
     let a : Addition F = part_added t (Some p.node) p.start n in
     let made' : Makes meaning old a (take n (drop i (cells t node.0))) plain new = rw within.cells made in
-    record {
-      inner = Some p.node;
-      start = p.start;
-      count = n;
-      there = within.there;
-      no_deeper = within.shallow;
-      lowest = part_lowest t node i n p within;
-      below = part_below t node i n p within fits;
-      any = any_plain meaning old new a (take n (drop i (cells t node.0))) ⊥ (part_pieces t (Some node) i n) 0 1 0 plain (part_few t (Some p.node) p.start n) made' refuses shallow;
-      rebuilt = λ deep. absurd (shallow (refuses.too_deep.1 ((λ bad. bad), (λ long. long), deep)));
-    }
+    let any = any_plain meaning old new a (take n (drop i (cells t node.0))) ⊥ (part_pieces t (Some node) i n) 0 1 0 plain (part_few t (Some p.node) p.start n) made' refuses shallow in
+    part_is meaning old new node i n (Some p.node) p.start (lifted plain) fits (within_is_lowest t node i n p some fits within) any (λ deep. absurd (shallow (refuses.too_deep.1 ((λ bad. bad), (λ long. long), deep))))
 
 -- the part is put together alone
-part_anew : {F : Type 0} (meaning : F → ℕ → ℕ) (old new : Held F) (node : NodeId) (i n : ℕ) (p : Span) (result : Result (Option NodeId) BalanceFault) → IsWithin (table_of meaning old) node.0 i n p → i + n ≤ len_at (table_of meaning old) node.0
+part_anew : {F : Type 0} (meaning : F → ℕ → ℕ) (old new : Held F) (node : NodeId) (i n : ℕ) (p : Span) (result : Result (Option NodeId) BalanceFault) → IsWithin (table_of meaning old) node.0 i n p → 1 ≤ n → i + n ≤ len_at (table_of meaning old) node.0
     → IsTooDeep {F = F} (part_added (table_of meaning old) (Some p.node) p.start n) → Rebuilds meaning old (take n (drop i (cells (table_of meaning old) node.0))) (pieces true (table_of meaning old) node.0 i n) result new
     → PartsAny meaning old (Some node) i n result new
-part_anew {F = F} meaning old new node i n p result within fits deep built =
+part_anew {F = F} meaning old new node i n p result within some fits deep built =
     let t = table_of meaning old in
     let a : Addition F = part_added t (Some p.node) p.start n in
     let wanted = take n (drop i (cells t node.0)) in
     let built' : Rebuilds meaning old wanted (part_pieces t (Some node) i n) result new = rw (part_of t node i n fits) built in
-    record {
-      inner = Some p.node;
-      start = p.start;
-      count = n;
-      there = within.there;
-      no_deeper = within.shallow;
-      lowest = part_lowest t node i n p within;
-      below = part_below t node i n p within fits;
-      any = any_anew meaning old new a wanted ⊥ (part_pieces t (Some node) i n) 0 1 0 result (λ long. long) deep (rebuilt_anew meaning old new wanted (part_pieces t (Some node) i n) result built');
-      rebuilt = λ _. built';
-    }
+    let any = any_anew meaning old new a wanted ⊥ (part_pieces t (Some node) i n) 0 1 0 result (λ long. long) deep (rebuilt_anew meaning old new wanted (part_pieces t (Some node) i n) result built') in
+    part_is meaning old new node i n (Some p.node) p.start result fits (within_is_lowest t node i n p some fits within) any (λ _. built')
 
 -- behind a plain call that changed nothing
-pub part_deep : {F : Type 0} (meaning : F → ℕ → ℕ) (old mid new : Held F) (node : NodeId) (i n : ℕ) (p : Span) (plain : Result (Option NodeId) NodeFault) (result : Result (Option NodeId) BalanceFault) → IsWithin (table_of meaning old) node.0 i n p → i + n ≤ len_at (table_of meaning old) node.0
+pub part_deep : {F : Type 0} (meaning : F → ℕ → ℕ) (old mid new : Held F) (node : NodeId) (i n : ℕ) (p : Span) (plain : Result (Option NodeId) NodeFault) (result : Result (Option NodeId) BalanceFault) → IsWithin (table_of meaning old) node.0 i n p → 1 ≤ n → i + n ≤ len_at (table_of meaning old) node.0
     → Makes meaning old (part_added (table_of meaning old) (Some p.node) p.start n) (take n (drop p.start (cells (table_of meaning old) p.node.0))) plain mid → Refuses old (part_added (table_of meaning old) (Some p.node) p.start n) ⊥ ⊥ plain → IsErrOf plain TooDeep
     → Rebuilds meaning mid (take n (drop i (cells (table_of meaning mid) node.0))) (pieces true (table_of meaning mid) node.0 i n) result new → PartsAny meaning old (Some node) i n result new
-part_deep {F = F} meaning old mid new node i n p plain result within fits made refuses deep built =
+part_deep {F = F} meaning old mid new node i n p plain result within some fits made refuses deep built =
     let same = unchanged_at plain TooDeep made deep in
     let built' = subst (λ (h : Held F). Rebuilds meaning h (take n (drop i (cells (table_of meaning h) node.0))) (pieces true (table_of meaning h) node.0 i n) result new) same built in
-    part_anew meaning old new node i n p result within fits (refuses.too_deep.0 deep).2 built'
+    part_anew meaning old new node i n p result within some fits (refuses.too_deep.0 deep).2 built'
 
 -- ---- bytes put behind a rope
 
@@ -263,3 +299,4 @@ append_called {F = F} meaning old one new x rope bytes plain k0 k1 there short f
     let grows : Grows meaning old (length old.nodes + (2 * p + 2 * 0)) (length old.pool.bytes + (31 * p + 31 * 0)) one = grows_within (rebuilt_grows first) (omega arith) (omega arith) in
     called_anew meaning old one new done.addition (rope_cells t0 x ++ map Byte bytes) (rope_cells t1 rope ++ map Byte bytes) (IsTooLong t1 rope bytes) p 0 3 (length bytes + 31) plain grows (few_pieces first) (λ many. omega (arith, many))
     sized.few (λ deep. omega (arith, deep, low)) still done.makes done.refuses (rw a.text refl)
+    (append_roughly meaning one new (rope_cells t1 rope ++ map Byte bytes) rope bytes done.addition k1.sound k1.true_records a.is_rope first.shallow (done.is still) plain done.makes)

@@ -5,9 +5,10 @@ use Rattle.std.proofs.lemmas.Bool.{cases_lt}
 use Rattle.rope_node.specs.declared.node.NodeId.{NodeId}
 use Rattle.rope_node.specs.Table.{Table, depth_at, IsSound, HasTrueRecords}
 use Rattle.rope_node.specs.Denotes.{Cell, rope_cells, rope_len, rope_depth, IsRope}
+use Rattle.rope_node.specs.Balance.{fibonacci}
 use Rattle.rope_node.specs.Extends.{Extends}
 use Rattle.rope_node.proofs.Extensions.{depth_kept}
-use Rattle.rope_node.proofs.Ropes.{extends_itself, rope_cells_kept, rope_kept}
+use Rattle.rope_node.proofs.Ropes.{extends_itself, rope_cells_kept, rope_kept, rope_length}
 use Rattle.node_table.specs.declared.fault.NodeFault.{NodeFault}
 use Rattle.node_table.specs.declared.fault.NodeFault.TheVariants.{TooLong, TooDeep, TableFull, PoolFull, BadSpan, TooManySources, Memory}
 use Rattle.node_table.specs.Held.{Held, table_of, KeepsFunctions}
@@ -17,13 +18,12 @@ use Rattle.rope_store.proofs.CallSizes.{IsFew}
 use Rattle.rebalance.specs.declared.fault.BalanceFault.{BalanceFault}
 use Rattle.rebalance.specs.declared.fault.BalanceFault.TheVariants.{TooManyPieces, Node}
 use Rattle.rebalance.specs.AnyForms.{AnyForm, Anew, IsAnewFault, lifted}
-use Rattle.rebalance.specs.Balancing.{IsNearlyBalanced, Rebuilds}
+use Rattle.rebalance.specs.Balancing.{IsNearlyBalanced, IsRoughlyBalanced, Rebuilds}
 use Rattle.rebalance.specs.Pieces.{kept_pieces}
 use Rattle.rebalance.specs.declared.pieces.TheConstants.{MOST_PIECES}
 use Rattle.rebalance.specs.Steps.{IsStepFault, Grows}
-use Rattle.rebalance.proofs.Fibonacci.{fibonacci_below, sixtieth}
+use Rattle.rebalance.proofs.Fibonacci.{fibonacci_below, fibonacci_up, sixtieth}
 use Rattle.rebalance.proofs.PieceCounts.{all_pieces_kept}
-use Rattle.rebalance.proofs.SlotSteps.{rope_length}
 use Rattle.rebalance.proofs.StepLaws.{functions_itself, grows_through, grows_within}
 use Rattle.rebalance.proofs.StoreCalls.{made_grows, refused_fault}
 
@@ -103,6 +103,14 @@ any_plain meaning old new a wanted IsLong p q more bytes plain few made refuses 
 anew_fault : {A : Type 0} (result : Result A BalanceFault) (nodes bytes : ℕ) (e : BalanceFault) → IfErr result (IsAnewFault nodes bytes) → IsErrOf result e → IsAnewFault nodes bytes e
 anew_fault {A = A} result nodes bytes e h is = subst (λ (r : Result A BalanceFault). IfErr r (IsAnewFault nodes bytes)) is h
 
+-- a nearly balanced rope is roughly balanced
+pub nearly_roughly : (t : Table) (rope : Option NodeId) → IsNearlyBalanced t rope → IsRoughlyBalanced t rope
+unfolding fibonacci
+nearly_roughly t None near = omega arith
+nearly_roughly t (Some id) near =
+    let up = fibonacci_up (depth_at t id.0) (depth_at t id.0 + 1) (omega arith) in
+    omega (arith, up, near)
+
 -- the call does it once the ropes are balanced
 pub any_anew : {F : Type 0} (meaning : F → ℕ → ℕ) (old new : Held F) (a : Addition F) (wanted : List Cell) (IsLong : Type 0) (p q more bytes : ℕ) (result : Result (Option NodeId) BalanceFault) → ¬ IsLong → IsTooDeep a → Anew meaning old wanted p q more bytes result new
     → AnyForm meaning old a wanted IsLong p q more bytes result new
@@ -125,6 +133,14 @@ nearly_shallow t s None there near = omega arith
 nearly_shallow t s (Some id) there near =
     let short = (s.nodes id.0 there).not_long in
     let below = fibonacci_below (depth_at t id.0 + 1) 60 (omega (arith, near, short, sixtieth)) in
+    omega (arith, below)
+
+-- and one that is roughly balanced leaves room for five levels
+pub roughly_shallow : (t : Table) → IsSound t → (rope : Option NodeId) → IsRope t rope → IsRoughlyBalanced t rope → rope_depth t rope ≤ 59
+roughly_shallow t s None there rough = omega arith
+roughly_shallow t s (Some id) there rough =
+    let short = (s.nodes id.0 there).not_long in
+    let below = fibonacci_below (depth_at t id.0) 60 (omega (arith, rough, short, sixtieth)) in
     omega (arith, below)
 
 pub rope_depth_kept : (old new : Table) → Extends old new → (rope : Option NodeId) → IsRope old rope → rope_depth new rope ≡ rope_depth old rope
@@ -157,6 +173,7 @@ many_anew meaning old wanted p q more bytes not_few = record {
     text = tt;
     grows = record { kept = extends_itself (table_of meaning old); sources = refl; functions = functions_itself old; few_nodes = omega arith; few_bytes = omega arith };
   };
+  shallow = tt;
   too_many = (
     λ _. ⊎_elim (λ (few : p ≤ MOST_PIECES). inr (⊎_elim (λ (more : q ≤ MOST_PIECES). absurd (not_few (few, more))) (λ (many : MOST_PIECES < q). many) (cases_le q MOST_PIECES)))
         (λ (many : MOST_PIECES < p). inl many) (cases_le p MOST_PIECES),
@@ -177,6 +194,7 @@ first_refused meaning old new wanted cs p q more bytes e few_p few_q r = record 
     text = tt;
     grows = grows_within (rebuilt_grows r) (omega arith) (omega arith);
   };
+  shallow = tt;
   too_many = (λ many. absurd (omega (arith, few_p, r.too_many.0 many)), ⊎_elim (λ (many : MOST_PIECES < p). absurd (omega (arith, many, few_p))) (λ (many : MOST_PIECES < q). absurd (omega (arith, many, few_q))));
   unchanged = r.unchanged;
   fault = rebuilt_fault e _ _ r (omega arith) (omega arith);
@@ -190,6 +208,7 @@ rebuilt_refused meaning old new wanted cs p more bytes e r = record {
     text = tt;
     grows = grows_within (rebuilt_grows r) (omega arith) (omega arith);
   };
+  shallow = tt;
   too_many = (λ many. inl (r.too_many.0 many), ⊎_elim (λ (many : MOST_PIECES < p). r.too_many.1 many) (λ (many : MOST_PIECES < 0). absurd (omega (arith, many))));
   unchanged = r.unchanged;
   fault = rebuilt_fault e _ _ r (omega arith) (omega arith);
@@ -204,6 +223,7 @@ rebuilt_anew meaning old new wanted p (Ok rope) r = record {
     text = r.text;
     grows = grows_within (rebuilt_grows r) (omega arith) (omega arith);
   };
+  shallow = nearly_roughly (table_of meaning new) rope r.shallow;
   too_many = (λ many. absurd cc, ⊎_elim (λ (many : MOST_PIECES < p). absurd (few_pieces r many)) (λ (many : MOST_PIECES < 0). absurd (omega (arith, many))));
   unchanged = λ many. absurd cc;
   fault = tt;
@@ -221,6 +241,7 @@ second_refused meaning old mid new wanted cs ds p r left more bytes e s there fe
         text = tt;
         grows = grows_through (rebuilt_grows first) (rebuilt_grows second) (omega (arith, second.few_nodes, first.few_nodes, same)) (omega (arith, second.few_bytes, first.few_bytes, same));
       };
+      shallow = tt;
       too_many = (
         λ many. absurd (omega (arith, few, same, second.too_many.0 many)),
         ⊎_elim (λ (many : MOST_PIECES < p). absurd (few_pieces first many)) (λ (many : MOST_PIECES < kept_pieces t r). absurd (omega (arith, many, few))),
@@ -231,8 +252,8 @@ second_refused meaning old mid new wanted cs ds p r left more bytes e s there fe
 
 -- the call behind the balancing
 pub called_anew : {F : Type 0} (meaning : F → ℕ → ℕ) (old mid new : Held F) (a : Addition F) (wanted cs : List Cell) (IsLong : Type 0) (p q more bytes : ℕ) (plain : Result (Option NodeId) NodeFault) → Grows meaning old (length old.nodes + (2 * p + 2 * q)) (length old.pool.bytes + (31 * p + 31 * q)) mid → ¬ (MOST_PIECES < p) → ¬ (MOST_PIECES < q)
-    → IsFew a more bytes → ¬ IsTooDeep a → ¬ IsLong → Makes meaning mid a cs plain new → Refuses mid a ⊥ IsLong plain → cs ≡ wanted → Anew meaning old wanted p q more bytes (lifted plain) new
-called_anew {F = F} meaning old mid new a wanted cs IsLong p q more bytes plain grows few_p few_q few shallow short made refuses text =
+    → IsFew a more bytes → ¬ IsTooDeep a → ¬ IsLong → Makes meaning mid a cs plain new → Refuses mid a ⊥ IsLong plain → cs ≡ wanted → IfOk plain (λ r. IsRoughlyBalanced (table_of meaning new) r) → Anew meaning old wanted p q more bytes (lifted plain) new
+called_anew {F = F} meaning old mid new a wanted cs IsLong p q more bytes plain grows few_p few_q few shallow short made refuses text rough =
     let nodes = length old.nodes + (2 * p + 2 * q + more) in
     let most = length old.pool.bytes + (31 * p + 31 * q + bytes) in
     let n : length mid.nodes + length a.records ≤ nodes = omega (arith, grows.few_nodes, few.records) in
@@ -245,6 +266,7 @@ called_anew {F = F} meaning old mid new a wanted cs IsLong p q more bytes plain 
         text = lifted_ok (λ r. rope_cells (table_of meaning new) r ≡ wanted) plain there;
         grows = grows_through grows step step.few_nodes step.few_bytes;
       };
+      shallow = lifted_ok (λ r. IsRoughlyBalanced (table_of meaning new) r) plain rough;
       too_many = (λ e. absurd (lifted_many plain e), ⊎_elim (λ (many : MOST_PIECES < p). absurd (few_p many)) (λ (many : MOST_PIECES < q). absurd (few_q many)));
       unchanged = λ e. absurd (lifted_many plain e);
       fault = lifted_fault plain nodes most (refused_fault plain nodes most refuses (λ bad. bad) short shallow n b);

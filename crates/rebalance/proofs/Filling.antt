@@ -14,12 +14,13 @@ use Rattle.node_table.specs.Held.{Held, table_of}
 use Rattle.rebalance.specs.declared.pieces.Span.{Span}
 use Rattle.rebalance.specs.Balancing.{text_with, Fills, FillsSpan}
 use Rattle.rebalance.specs.Pieces.{span_cells, span_pieces, IsOfBase, IsOfChildren}
-use Rattle.rebalance.specs.Slots.{full_slots, slots_cells, slot_count, AreSlots, Inserts, IsSpread}
+use Rattle.rebalance.specs.Slots.{full_slots, slots_cells, AreSlots, Inserts, IsSpread}
 use Rattle.rebalance.specs.Steps.{AddsNodes, Grows, Steps}
 use Rattle.rebalance.proofs.Gathered.{spread_text}
 use Rattle.rebalance.proofs.SlotLists.{cells_stay}
 use Rattle.rebalance.proofs.Splits.{span_cells_kept, span_pieces_kept}
 use Rattle.rebalance.proofs.StepLaws.{grows_itself, ok_map, refused_through, steps_after}
+use Rattle.rebalance.specs.declared.slots.TheConstants.{SLOTS}
 
 -- the slots are the same text in other words
 spread_is : {t : Table} {most most' : ℕ} {text text' : List Cell} {m : ℕ} {slots : List (Option NodeId)} → IsSpread t most text m slots None → text ≡ text' → most ≤ most' → IsSpread t most' text' m slots None
@@ -133,5 +134,5 @@ none_at zero m = refl
 none_at (suc n) zero = refl
 none_at (suc n) (suc m) = none_at n m
 
-pub no_slots : (t : Table) → AreSlots t (replicate slot_count None)
-no_slots t = record { size = refl; each = λ m. rw (none_at slot_count m) tt }
+pub no_slots : (t : Table) → AreSlots t (replicate SLOTS None)
+no_slots t = record { size = refl; each = λ m. rw (none_at SLOTS m) tt }

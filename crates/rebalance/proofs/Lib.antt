@@ -12,4 +12,6 @@ pub mod StoreCalls
 pub mod Gathered
 pub mod PieceTexts
 pub mod AnyLaws
+pub mod AnyDepths
 pub mod AnyCalls
+pub mod LowestParts

@@ -11,20 +11,13 @@ use Rattle.std.specs.Option.{is_some}
 use Rattle.rope_node.proofs.Extensions.{len_kept, depth_kept}
 use Rattle.rope_node.proofs.Cells.{cells_length}
 use Rattle.node_table.specs.Held.{Held, table_of}
-use Rattle.rebalance.specs.Slots.{slot_count, ropes_in, slots_cells, AreSlots, AreEmptyBelow, IsSlot, IsGathered, IsCarried, IsPiece, IsJoin, IsSpread}
+use Rattle.rebalance.specs.Slots.{ropes_in, slots_cells, AreSlots, AreEmptyBelow, IsSlot, IsGathered, IsCarried, IsPiece, IsJoin, IsSpread}
 use Rattle.rebalance.proofs.Fibonacci.{fibonacci_sum, fibonacci_up, fibonacci_below, first_ones, sixtieth, over_both}
 use Rattle.rebalance.proofs.SlotLists.{full-set, cells-set, cells_stay, slots_stay, slot_rope}
+use Rattle.rope_node.proofs.Ropes.{rope_length, rope_short}
+use Rattle.rebalance.specs.declared.slots.TheConstants.{SLOTS}
 
--- a rope has as many cells as it is long
-pub rope_length : (t : Table) → IsSound t → HasTrueRecords t → (rope : Option NodeId) → IsRope t rope → length (rope_cells t rope) ≡ rope_len t rope
-rope_length t s h None there = refl
-rope_length t s h (Some id) there = cells_length t s h id.0 there
-
-pub rope_short : (t : Table) → IsSound t → (rope : Option NodeId) → IsRope t rope → rope_len t rope < 2 ^ 40
-rope_short t s None there = omega arith
-rope_short t s (Some id) there = (s.nodes id.0 there).not_long
-
-set_each : (t : Table) (xs : List (Option NodeId)) (m : ℕ) (y : Option NodeId) → AreSlots t xs → m < slot_count → IsSlot t m y → AreSlots t (set xs m y)
+set_each : (t : Table) (xs : List (Option NodeId)) (m : ℕ) (y : Option NodeId) → AreSlots t xs → m < SLOTS → IsSlot t m y → AreSlots t (set xs m y)
 set_each t xs m y are lt good = record {
   size = length-set xs m y ∙ are.size;
   each = λ i. elim (cases_eq i m) [
@@ -41,7 +34,7 @@ empty_on xs m empty inside i lt =
     ]
 
 -- a slot and the rope are no longer than the text
-pub both_short : (t : Table) → IsSound t → HasTrueRecords t → (most : ℕ) (text : List Cell) (m : ℕ) (slots : List (Option NodeId)) (rope : Option NodeId) → IsSpread t most text m slots rope → m < slot_count → length text < 2 ^ 40
+pub both_short : (t : Table) → IsSound t → HasTrueRecords t → (most : ℕ) (text : List Cell) (m : ℕ) (slots : List (Option NodeId)) (rope : Option NodeId) → IsSpread t most text m slots rope → m < SLOTS → length text < 2 ^ 40
     → rope_len t (get_or slots m None) + rope_len t rope < 2 ^ 40
 both_short t s h most text m slots rope spread lt short =
     let x = get_or slots m None in
@@ -56,7 +49,7 @@ both_short t s h most text m slots rope spread lt short =
 
 -- the slot m emptied, and its rope joined with the rope
 pub spread_join : {F : Type 0} (meaning : F → ℕ → ℕ) (old new : Held F) → IsSound (table_of meaning old) → Extends (table_of meaning old) (table_of meaning new) → (most : ℕ) (text : List Cell) (m : ℕ) (slots : List (Option NodeId)) (rope joined : Option NodeId)
-    → IsSpread (table_of meaning old) most text m slots rope → m < slot_count → IsJoin meaning old (get_or slots m None) rope joined new → IsSpread (table_of meaning new) most text (m + 1) (set slots m None) joined
+    → IsSpread (table_of meaning old) most text m slots rope → m < SLOTS → IsJoin meaning old (get_or slots m None) rope joined new → IsSpread (table_of meaning new) most text (m + 1) (set slots m None) joined
 spread_join meaning old new s x most text m slots rope joined spread lt join =
     let t = table_of meaning old in
     let t' = table_of meaning new in
@@ -76,7 +69,7 @@ spread_join meaning old new s x most text m slots rope joined spread lt join =
     }
 
 -- the rope put into the empty slot m
-pub spread_put : (t : Table) (most : ℕ) (text : List Cell) (m : ℕ) (slots : List (Option NodeId)) (rope : Option NodeId) → IsSpread t most text m slots rope → m < slot_count → get_or slots m None ≡ None → IsSlot t m rope → IsSpread t most text 0 (set slots m rope) None
+pub spread_put : (t : Table) (most : ℕ) (text : List Cell) (m : ℕ) (slots : List (Option NodeId)) (rope : Option NodeId) → IsSpread t most text m slots rope → m < SLOTS → get_or slots m None ≡ None → IsSlot t m rope → IsSpread t most text 0 (set slots m rope) None
 spread_put t most text m slots rope spread lt none good =
     let inside : m < length slots = omega (arith, spread.are.size) in
     let same : set slots m None ≡ slots = rw none at (set-get_or slots m None) in
@@ -221,7 +214,7 @@ first_carry meaning old new m (Some l) (Some r) joined low piece some long short
     }
 
 -- a carried rope has a slot to look at
-pub carried_inside : (t : Table) → IsSound t → (m : ℕ) (rope : Option NodeId) → IsRope t rope → IsCarried t m rope → m < slot_count
+pub carried_inside : (t : Table) → IsSound t → (m : ℕ) (rope : Option NodeId) → IsRope t rope → IsCarried t m rope → m < SLOTS
 carried_inside t s m rope there carried =
     let short = rope_short t s rope there in
     fibonacci_below m 60 (omega (arith, carried.long, short, sixtieth))
@@ -233,16 +226,16 @@ carried_fits t m (Some id) there carried short =
     let below = fibonacci_below (depth_at t id.0 + 2) (m + 1) (omega (arith, carried.balanced, short)) in
     (there, omega (arith, below), carried.long)
 
-pub slot_shallow : (t : Table) (m : ℕ) (s : Option NodeId) → IsSlot t m s → m < slot_count → rope_depth t s < 64
+pub slot_shallow : (t : Table) (m : ℕ) (s : Option NodeId) → IsSlot t m s → m < SLOTS → rope_depth t s < 64
 slot_shallow t m None h lt = omega arith
 slot_shallow t m (Some id) h lt = omega (arith, h.1)
 
-pub gathered_shallow : (t : Table) (m : ℕ) (s : Option NodeId) → IsGathered t m s → m < slot_count → rope_depth t s < 64
+pub gathered_shallow : (t : Table) (m : ℕ) (s : Option NodeId) → IsGathered t m s → m < SLOTS → rope_depth t s < 64
 gathered_shallow t m None h lt = omega arith
 gathered_shallow t m (Some id) h lt = omega (arith, h.0)
 
 -- there is room for the node that joins a slot's rope and the carried one
-pub room_for : (t : Table) (most : ℕ) (text : List Cell) (m : ℕ) (slots : List (Option NodeId)) (rope : Option NodeId) → IsSpread t most text m slots rope → m < slot_count → length t.nodes + (ropes_in (get_or slots m None) + ropes_in rope) ≤ most
+pub room_for : (t : Table) (most : ℕ) (text : List Cell) (m : ℕ) (slots : List (Option NodeId)) (rope : Option NodeId) → IsSpread t most text m slots rope → m < SLOTS → length t.nodes + (ropes_in (get_or slots m None) + ropes_in rope) ≤ most
 room_for t most text m slots rope spread lt =
     let count = full-set slots m None (omega (arith, spread.are.size)) in
     omega (arith, spread.nodes, count)

@@ -16,8 +16,8 @@ use Rattle.rope_store.specs.Appending.{Appends, IsAppend, IsTooLong}
 use Rattle.rope_store.specs.Refusals.{Refuses, IsTooDeep}
 use Rattle.rebalance.specs.declared.fault.BalanceFault.{BalanceFault}
 use Rattle.rebalance.specs.declared.fault.BalanceFault.TheVariants.{TooManyPieces, Node}
-use Rattle.rebalance.specs.Balancing.{Rebuilds}
-use Rattle.rebalance.specs.Pieces.{kept_pieces, part_pieces, LiesInChild}
+use Rattle.rebalance.specs.Balancing.{IsRoughlyBalanced, Rebuilds}
+use Rattle.rebalance.specs.Pieces.{kept_pieces, part_count, part_pieces, LiesInChild, RopeLeadsDown}
 use Rattle.rebalance.specs.declared.pieces.TheConstants.{MOST_PIECES}
 use Rattle.rebalance.specs.Steps.{Grows, IsStepFault}
 
@@ -48,6 +48,7 @@ IsAnewFault nodes bytes (Node e) = IsStepFault nodes bytes e
 -- the call once the ropes of p and q pieces are balanced
 pub record Anew {F : Type 0} (meaning : F → ℕ → ℕ) (old : Held F) (wanted : List Cell) (p q more bytes : ℕ) (result : Result (Option NodeId) BalanceFault) (new : Held F) : Type 0 where
   pub gives : GivesRope meaning old wanted p q more bytes result new
+  pub shallow : IfOk result (λ r. IsRoughlyBalanced (table_of meaning new) r)
   pub too_many : IsErrOf result TooManyPieces ↔ ((MOST_PIECES < p) ⊎ (MOST_PIECES < q))
   pub unchanged : IsErrOf result TooManyPieces → new ≡ old
   pub fault : IfErr result (IsAnewFault (length old.nodes + (2 * p + 2 * q + more)) (length old.pool.bytes + (MOST_MERGED * p + MOST_MERGED * q + bytes)))
@@ -87,18 +88,30 @@ LiesLower t None i n = ⊥
 LiesLower t (Some id) i n =
     let m = min n (len_at t id.0 - i) in (1 ≤ m) × (m < len_at t id.0) × LiesInChild t i m (view_at t id.0)
 
--- The plain call takes these bytes of the lowest node in which all of them lie: so many, from start on. It is less deep than the rope
--- where they lie in one child. Where the part is too deep they are put together alone.
+-- The n bytes of a rope from i on are those of inner from start on, the lowest node that has all of them: the rope
+-- itself where no child holds them, and else a less deep one.
+pub record IsLowest (t : Table) (x : Option NodeId) (i n : ℕ) (inner : Option NodeId) (start : ℕ) : Type 0 where
+  pub there : IsRope t inner
+  pub leads : RopeLeadsDown t n inner start x i
+  pub lowest : ¬ LiesLower t inner start n
+  pub here : ¬ LiesLower t x i n → (inner ≡ x) × (start ≡ i)
+  pub below : LiesLower t x i n → rope_depth t inner < rope_depth t x
+  pub no_deeper : rope_depth t inner ≤ rope_depth t x
+  pub cells : take n (drop start (rope_cells t inner)) ≡ take n (drop i (rope_cells t x))
+
+-- The plain call takes the wanted bytes of the lowest node that has all of them. Where that part is too deep they are
+-- put together alone.
 pub record PartsAny {F : Type 0} (meaning : F → ℕ → ℕ) (old : Held F) (x : Option NodeId) (i n : ℕ) (result : Result (Option NodeId) BalanceFault) (new : Held F) : Type 0 where
   pub inner : Option NodeId
   pub start : ℕ
-  pub count : ℕ
-  pub there : IsRope (table_of meaning old) inner
-  pub no_deeper : rope_depth (table_of meaning old) inner ≤ rope_depth (table_of meaning old) x
-  pub lowest : ¬ LiesLower (table_of meaning old) inner start count
-  pub below : LiesLower (table_of meaning old) x i n → rope_depth (table_of meaning old) inner < rope_depth (table_of meaning old) x
-  pub any : AnyForm meaning old (part_added (table_of meaning old) inner start count) (take n (drop i (rope_cells (table_of meaning old) x))) ⊥ (part_pieces (table_of meaning old) x i n) 0 1 0 result new
-  pub rebuilt : IsTooDeep (part_added {F = F} (table_of meaning old) inner start count) → Rebuilds meaning old (take n (drop i (rope_cells (table_of meaning old) x))) (part_pieces (table_of meaning old) x i n) result new
+  pub is_lowest : IsLowest (table_of meaning old) x i (part_count (table_of meaning old) x i n) inner start
+  pub any : AnyForm meaning old
+      (part_added (table_of meaning old) inner start (part_count (table_of meaning old) x i n))
+      (take n (drop i (rope_cells (table_of meaning old) x))) ⊥
+      (part_pieces (table_of meaning old) x i n) 0 1 0 result new
+  pub rebuilt : IsTooDeep {F = F} (part_added (table_of meaning old) inner start (part_count (table_of meaning old) x i n))
+      → Rebuilds meaning old (take n (drop i (rope_cells (table_of meaning old) x)))
+      (part_pieces (table_of meaning old) x i n) result new
 
 -- ---- bytes put behind a rope
 

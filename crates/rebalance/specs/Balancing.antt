@@ -6,7 +6,7 @@ use Rattle.rope_node.specs.declared.limits.TheConstants.{MOST_NODES}
 use Rattle.rope_node.specs.declared.node.NodeId.{NodeId}
 use Rattle.rope_node.specs.Balance.{fibonacci}
 use Rattle.rope_node.specs.Table.{Table, len_at, depth_at}
-use Rattle.rope_node.specs.Denotes.{Cell, cells, rope_cells, IsRope}
+use Rattle.rope_node.specs.Denotes.{Cell, cells, rope_cells, rope_depth, rope_len, IsRope}
 use Rattle.rope_node.specs.Extends.{Extends}
 use Rattle.node_table.specs.declared.fault.NodeFault.TheVariants.{TooLong, TooDeep, TableFull, PoolFull, BadSpan, TooManySources}
 use Rattle.node_table.specs.Held.{Held, table_of, KeepsFunctions}
@@ -23,6 +23,10 @@ use Rattle.rebalance.specs.declared.pieces.TheConstants.{MOST_PIECES}
 abbrev pub IsNearlyBalanced : Table → Option NodeId → Type 0
 IsNearlyBalanced t None = Unit {0}
 IsNearlyBalanced t (Some id) = fibonacci (depth_at t id.0 + 1) ≤ len_at t id.0
+
+-- a rope as long as its depth asks for, but for two
+abbrev pub IsRoughlyBalanced : Table → Option NodeId → Type 0
+IsRoughlyBalanced t rope = fibonacci (rope_depth t rope) ≤ rope_len t rope
 
 -- a shallow rope of this text is answered, put together from p pieces, or why there is none; what was there is kept
 pub record Rebuilds {F : Type 0} (meaning : F → ℕ → ℕ) (old : Held F) (wanted : List Cell) (p : ℕ) (result : Result (Option NodeId) BalanceFault) (new : Held F) : Type 0 where

@@ -6,7 +6,7 @@ use Rattle.rope_node.specs.declared.node.NodeView.{NodeView}
 use Rattle.rope_node.specs.declared.node.NodeView.TheVariants.{Lit, Src, Fun, Cat, Sub}
 use Rattle.rope_node.specs.Balance.{fibonacci}
 use Rattle.rope_node.specs.Table.{Table, view_at, len_at, depth_at, IsLeaf}
-use Rattle.rope_node.specs.Denotes.{Cell, cells}
+use Rattle.rope_node.specs.Denotes.{Cell, cells, rope_len}
 use Rattle.rebalance.specs.declared.pieces.Span.{Span}
 use Rattle.rebalance.specs.declared.pieces.Split.{Split}
 use Rattle.rebalance.specs.declared.pieces.Split.TheVariants.{Piece, Base, Children}
@@ -49,6 +49,10 @@ kept_pieces t rope = all_pieces true t rope
 abbrev pub part_pieces : Table → Option NodeId → ℕ → ℕ → ℕ
 part_pieces t None i n = 0
 part_pieces t (Some id) i n = pieces true t id.0 i (min n (len_at t id.0 - i))
+
+-- how many bytes a rope has from i on, at most n
+abbrev pub part_count : Table → Option NodeId → ℕ → ℕ → ℕ
+part_count t rope i n = min n (rope_len t rope - i)
 
 -- n bytes from start on of the function at a leaf
 abbrev pub answered_bytes : Table → NodeId → ℕ → ℕ → List ℕ
@@ -111,8 +115,28 @@ LiesInChild t i n Fun = ⊥
 LiesInChild t i n (Cat l r) = (i + n ≤ len_at t l.0) ⊎ (len_at t l.0 ≤ i)
 LiesInChild t i n (Sub b start) = Unit {0}
 
--- these bytes are the same n as those of a node from i on; no child holds them, and where one held those, this node is less deep
+-- The n bytes of node x from p on lead down to node k from o on: they stand there; or they are not all of x and lie in
+-- one child of a concatenation, or in the base of a substring, and from there they lead down.
+pub data LeadsDown (t : Table) (n k o : ℕ) : ℕ → ℕ → Type 0 where
+  here : {x p : ℕ} → x ≡ k → p ≡ o → LeadsDown t n k o x p
+  in_left : {x p : ℕ} (l r : NodeId) → view_at t x ≡ Cat l r → n < len_at t x → p + n ≤ len_at t l.0
+      → LeadsDown t n k o l.0 p → LeadsDown t n k o x p
+  in_right : {x p : ℕ} (l r : NodeId) → view_at t x ≡ Cat l r → n < len_at t x → len_at t l.0 ≤ p
+      → LeadsDown t n k o r.0 (p - len_at t l.0) → LeadsDown t n k o x p
+  in_base : {x p : ℕ} (b : NodeId) (i : ℕ) → view_at t x ≡ Sub b i → n < len_at t x
+      → LeadsDown t n k o b.0 (p + i) → LeadsDown t n k o x p
+
+-- the same of ropes
+abbrev pub RopeLeadsDown : Table → ℕ → Option NodeId → ℕ → Option NodeId → ℕ → Type 0
+RopeLeadsDown t n None o None p = p ≡ o
+RopeLeadsDown t n (Some k) o None p = ⊥
+RopeLeadsDown t n None o (Some x) p = ⊥
+RopeLeadsDown t n (Some k) o (Some x) p = LeadsDown t n k.0 o x.0 p
+
+-- The n bytes of a node from i on lead down to these: no child holds them, and where one held those, this node is less
+-- deep.
 pub record IsWithin (t : Table) (id i n : ℕ) (p : Span) : Type 0 where
+  pub leads : LeadsDown t n p.node.0 p.start id i
   pub there : p.node.0 < length t.nodes
   pub inside : p.start + p.len ≤ len_at t p.node.0
   pub len : p.len ≡ n

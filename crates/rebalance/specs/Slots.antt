@@ -5,9 +5,7 @@ use Rattle.rope_node.specs.Balance.{fibonacci, IsBalanced}
 use Rattle.rope_node.specs.Table.{Table, len_at, depth_at}
 use Rattle.rope_node.specs.Denotes.{Cell, rope_cells, rope_len, rope_depth, IsRope}
 use Rattle.node_table.specs.Held.{Held, table_of}
-
-abbrev pub slot_count : ℕ
-slot_count = 60
+use Rattle.rebalance.specs.declared.slots.TheConstants.{SLOTS}
 
 -- how many ropes this is
 abbrev pub ropes_in : Option NodeId → ℕ
@@ -29,7 +27,7 @@ IsSlot t m None = Unit {0}
 IsSlot t m (Some id) = (id.0 < length t.nodes) × (depth_at t id.0 + 2 ≤ m) × (fibonacci m ≤ len_at t id.0)
 
 pub record AreSlots (t : Table) (slots : List (Option NodeId)) : Type 0 where
-  pub size : length slots ≡ slot_count
+  pub size : length slots ≡ SLOTS
   pub each : (m : ℕ) → IsSlot t m (get_or slots m None)
 
 abbrev pub AreEmptyBelow : ℕ → List (Option NodeId) → Type 0

@@ -1,6 +1,7 @@
 //! The rule of balance.
 
 ghost use Rattle.std.specs.Prelude.{◌≡◌, ◌≤◌, ◌↔◌, IsTrue};
+ghost use Rattle.rope_node.specs.declared.limits.TheConstants.{MOST_DEPTH};
 ghost use Rattle.rope_node.specs.Balance.{fibonacci, IsBalanced};
 
 /// The Fibonacci numbers at 0 to 67: the highest that a depth asks for.
@@ -85,7 +86,7 @@ pub(crate) fn fibonacci(n: u8) -> u64
 
 /// Whether a rope of this length and depth is balanced.
 pub fn is_balanced(len: u64, depth: u8) -> bool
-    requires { depth ≤ 64 }
+    requires { depth ≤ MOST_DEPTH }
     ensures { IsTrue result ↔ IsBalanced len depth }
 {
     fibonacci(depth + 2) <= len

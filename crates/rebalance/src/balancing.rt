@@ -118,7 +118,7 @@ fn rebuild<F: LeafFn>(store: &mut Store<F>, keep: bool, span: Span) -> Result<Ro
     ensures shallow { IfOk result (λ rope. IsNearlyBalanced (table_of F.meaning store.new) rope) }
 {
     let _count = store.count();
-    let mut slots = [None; 60];
+    let mut slots = [None; SLOTS as usize];
     fill(store, &mut slots, keep, span)?;
     let _count = store.count();
     join_below(store, &mut slots, SLOTS)

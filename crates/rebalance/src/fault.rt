@@ -7,7 +7,7 @@ use std::fmt;
 /// Why a call gave no rope.
 #[derive(Clone, Copy, Debug, PartialEq, Eq)]
 pub enum BalanceFault {
-    /// `B1`: the text of a rope goes through more than 1,048,576 leaf spans.
+    /// `B1`: the text of a rope goes through more than 1,048,576 pieces.
     TooManyPieces,
     /// A call of the store made no node.
     Node(NodeFault),

@@ -1,12 +1,13 @@
 //! Slots for ropes: a longer rope in a slot of a higher number, and more to the left in the text.
 
 ghost use Rattle.std.specs.Prelude.{◌≡◌, ◌+◌, ◌<◌, ◌≤◌, length, IfOk};
-ghost use Rattle.rope_node.specs.declared.limits.TheConstants.{TEXT_LIMIT};
+ghost use Rattle.rope_node.specs.declared.limits.TheConstants.{MOST_DEPTH, TEXT_LIMIT};
 ghost use Rattle.rope_node.specs.Balance.{fibonacci};
 ghost use Rattle.rope_node.specs.Denotes.{rope_cells, rope_len, rope_depth, IsRope};
 ghost use Rattle.node_table.specs.Held.{table_of};
-ghost use Rattle.rebalance.specs.Slots.{full_slots, ropes_in, slots_cells, slot_count, AreSlots, AreEmptyBelow, IsCarried, IsGathered, IsJoin, IsPiece, Gathers, Inserts, Settles, cells_with, joined_len};
+ghost use Rattle.rebalance.specs.Slots.{full_slots, ropes_in, slots_cells, AreSlots, AreEmptyBelow, IsCarried, IsGathered, IsJoin, IsPiece, Gathers, Inserts, Settles, cells_with, joined_len};
 ghost use Rattle.rebalance.specs.Steps.{AddsNodes};
+ghost use Rattle.rebalance.specs.declared.slots.TheConstants.{SLOTS};
 
 use crate::balanced::fibonacci;
 use function_leaf::LeafFn;
@@ -14,15 +15,15 @@ use node_table::NodeFault;
 use rope_node::{NodeSpace, Rope};
 use rope_store::Store;
 
-/// How many slots there are. A text of 2^40 bytes would need one more.
-pub(crate) const SLOTS: u8 = 60;
+/// How many slots there are: a rope shorter than 2^40 bytes has its own among them.
+pub const SLOTS: u8 = 60;
 
 /// The slot of a rope of this length, in bytes: the Fibonacci number at the slot is the last that is not above it.
 fn slot_for(len: u64) -> u8
     requires some { 1 ≤ len }
     requires short { len < TEXT_LIMIT }
     ensures some { 2 ≤ result }
-    ensures last { result < slot_count }
+    ensures last { result < SLOTS }
     ensures long { fibonacci result ≤ len }
     ensures short { len < fibonacci (result + 1) }
 {
@@ -37,8 +38,8 @@ fn slot_for(len: u64) -> u8
 fn join<F: LeafFn>(store: &mut Store<F>, l: Rope, r: Rope) -> Result<Rope, NodeFault>
     requires left { IsRope (table_of F.meaning store.old) l }
     requires right { IsRope (table_of F.meaning store.old) r }
-    requires left_shallow { rope_depth (table_of F.meaning store.old) l < 64 }
-    requires right_shallow { rope_depth (table_of F.meaning store.old) r < 64 }
+    requires left_shallow { rope_depth (table_of F.meaning store.old) l < MOST_DEPTH }
+    requires right_shallow { rope_depth (table_of F.meaning store.old) r < MOST_DEPTH }
     requires short { joined_len (table_of F.meaning store.old) l r < TEXT_LIMIT }
     ensures steps { AddsNodes F.meaning store.old (ropes_in l + ropes_in r) result store.new }
     ensures join { IfOk result (λ rope. IsJoin F.meaning store.old l r rope store.new) }
@@ -57,7 +58,7 @@ pub(crate) fn join_below<F: LeafFn>(
     slots: &mut [Rope],
     end: u8,
 ) -> Result<Rope, NodeFault>
-    requires end { end ≤ slot_count }
+    requires end { end ≤ SLOTS }
     requires slots { AreSlots (table_of F.meaning store.old) slots.old }
     requires short { length (slots_cells (table_of F.meaning store.old) slots.old) < TEXT_LIMIT }
     ensures steps { AddsNodes F.meaning store.old (full_slots slots.old) result store.new }

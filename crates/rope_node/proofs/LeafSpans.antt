@@ -35,6 +35,14 @@ span_step t s id i inside v is =
     (λ c j lt. steps_enough t s id (suc c) c j (omega arith) lt (omega arith))
     ∙ ap (node_span t (span_at t) id i (len_at t id)) is
 
+-- at a leaf the span is what is left of it
+pub rest_at : (t : Table) → IsSound t → (id i : ℕ) → id < length t.nodes → (v : NodeView) → view_at t id ≡ v → IsLeaf v → span_at t id i ≡ rest_of id i (len_at t id)
+rest_at t s id i there (Lit a) e leaf = span_step t s id i there (Lit a) e
+rest_at t s id i there (Src s' a) e leaf = span_step t s id i there (Src s' a) e
+rest_at t s id i there Fun e leaf = span_step t s id i there Fun e
+rest_at t s id i there (Cat l r) e leaf = absurd leaf
+rest_at t s id i there (Sub b start) e leaf = absurd leaf
+
 -- this span of a leaf is what the cells of node y begin with at place q
 pub record BeginsWith (t : Table) (y q : ℕ) (x : LeafSpan) : Type 0 where
   pub there : x.leaf.0 < length t.nodes
@@ -127,62 +135,3 @@ begins_by t s h (suc m) y q there below inside =
 -- a node's cells begin with its leaf span at each place
 pub begins : (t : Table) → IsSound t → HasTrueRecords t → (y q : ℕ) → y < length t.nodes → q < len_at t y → BeginsWith t y q (span_at t y q)
 begins t s h y q there inside = begins_by t s h (suc y) y q there (omega arith) inside
-
--- place p of node x, with room for so many bytes, is where the path from place q of node y leads
-pub record IsOnWay (t : Table) (y q x p room : ℕ) : Type 0 where
-  pub there : x < length t.nodes
-  pub inside : p < len_at t x
-  pub span : shortened room (span_at t x p) ≡ span_at t y q
-
-pub way_left : (t : Table) → IsSound t → (y q x p room : ℕ) (l r : NodeId) → view_at t x ≡ Cat l r → p < len_at t l.0 → IsOnWay t y q x p room → IsOnWay t y q l.0 p room
-way_left t s y q x p room l r e fits way =
-    let first = rw e at (s.nodes x way.there).references in
-    let step : span_at t x p ≡ span_at t l.0 p = rw (lt-ltb p (len_at t l.0) fits) at (span_step t s x p way.there (Cat l r) e) in
-    record {
-      there = omega (arith, first.0, way.there);
-      inside = fits;
-      span = ap (shortened room) (sym step) ∙ way.span;
-    }
-
-pub way_right : (t : Table) → IsSound t → HasTrueRecords t → (y q x p room : ℕ) (l r : NodeId) → view_at t x ≡ Cat l r → len_at t l.0 ≤ p → IsOnWay t y q x p room → IsOnWay t y q r.0 (p - len_at t l.0) room
-way_right t s h y q x p room l r e past way =
-    let first = rw e at (s.nodes x way.there).references in
-    let len = rw e at (h.nodes x way.there).len in
-    let step : span_at t x p ≡ span_at t r.0 (p - len_at t l.0) = rw (le-ltb p (len_at t l.0) past) at (span_step t s x p way.there (Cat l r) e) in
-    record {
-      there = omega (arith, first.1, way.there);
-      inside = omega (arith, len, way.inside, past);
-      span = ap (shortened room) (sym step) ∙ way.span;
-    }
-
-pub way_down : (t : Table) → IsSound t → (y q x p room : ℕ) (b : NodeId) (i : ℕ) → view_at t x ≡ Sub b i → IsOnWay t y q x p room → IsOnWay t y q b.0 (p + i) (min room (len_at t x - p))
-way_down t s y q x p room b i e way =
-    let first = rw e at (s.nodes x way.there).references in
-    let held = rw e at (s.nodes x way.there).span in
-    let swap : i + p ≡ p + i = omega arith in
-    let step : span_at t x p ≡ shortened (len_at t x - p) (span_at t b.0 (p + i)) = rw swap at (span_step t s x p way.there (Sub b i) e) in
-    let below = span_at t b.0 (p + i) in
-    record {
-      there = omega (arith, first, way.there);
-      inside = omega (arith, held, way.inside);
-      span = ap (λ (n : ℕ). record below { len = n }) (omega arith) ∙ ap (shortened room) (sym step) ∙ way.span;
-    }
-
--- at the start there is room for all of the node
-pub way_begins : (t : Table) → IsSound t → HasTrueRecords t → (y q : ℕ) → y < length t.nodes → q < len_at t y → IsOnWay t y q y q (len_at t y - q)
-way_begins t s h y q there inside =
-    let x = span_at t y q in
-    let few = (begins t s h y q there inside).in_node in
-    record {
-      there = there;
-      inside = inside;
-      span = ap (λ (n : ℕ). record x { len = n }) (omega (arith, few));
-    }
-
--- the path ends at a leaf
-pub way_ends : (t : Table) → IsSound t → (y q x p room : ℕ) (v : NodeView) → IsLeaf v → view_at t x ≡ v → IsOnWay t y q x p room → shortened room (rest_of x p (len_at t x)) ≡ span_at t y q
-way_ends t s y q x p room (Lit a) leaf e way = ap (shortened room) (sym (span_step t s x p way.there (Lit a) e)) ∙ way.span
-way_ends t s y q x p room (Src s' a) leaf e way = ap (shortened room) (sym (span_step t s x p way.there (Src s' a) e)) ∙ way.span
-way_ends t s y q x p room Fun leaf e way = ap (shortened room) (sym (span_step t s x p way.there Fun e)) ∙ way.span
-way_ends t s y q x p room (Cat l r) leaf e way = absurd leaf
-way_ends t s y q x p room (Sub b i) leaf e way = absurd leaf

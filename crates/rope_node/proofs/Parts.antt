@@ -1,6 +1,7 @@
--- Parts of lists: of two put together, of a part, of a range, and under a map.
-use Rattle.std.proofs.Common.{◌≡◌, ℕ, zero, suc, ◌+◌, ◌-◌, ◌≤◌, List, ◌∷◌, ◌++◌, map, length, take, drop, refl, ap, ◌∙◌, arith, add-zero}
+-- Parts of lists: of two put together, of a part, of a range, and under a map; and what stands in them.
+use Rattle.std.proofs.Common.{◌≡◌, ℕ, zero, suc, ◌+◌, ◌-◌, ◌<◌, ◌≤◌, List, [], ◌∷◌, ◌++◌, map, length, take, drop, refl, ap, ◌∙◌, arith, add-zero}
 use Rattle.std.proofs.Math.Nat.{sub-zero}
+use Rattle.std.specs.Prelude.{slice_get}
 use Rattle.std.specs.List.{range_with_len}
 use Rattle.std.proofs.lemmas.List.{length-drop, drop-drop, drop-take, take-take, take-append-le, drop-append-le, take-map, drop-map}
 use Rattle.std.proofs.Math.Seq.{drop-append-add}
@@ -42,3 +43,14 @@ span-range_with_len n o a m fits =
 -- a span of a list under a map
 pub span-map : {X Y : Type 0} (f : X → Y) (n o : ℕ) (xs : List X) → take n (drop o (map f xs)) ≡ map f (take n (drop o xs))
 span-map f n o xs = ap (take n) (drop-map f o xs) ∙ take-map f n (drop o xs)
+
+pub slice_get-take : {X : Type 0} (n k : ℕ) (xs : List X) → k < n → slice_get (take n xs) k ≡ slice_get xs k
+slice_get-take zero k xs lt = absurd (omega arith)
+slice_get-take (suc n) k [] lt = refl
+slice_get-take (suc n) zero (x ∷ xs) lt = refl
+slice_get-take (suc n) (suc k) (x ∷ xs) lt = slice_get-take n k xs (omega arith)
+
+-- functions that answer alike map alike
+pub map_alike : {A B : Type 0} (f g : A → B) → ((x : A) → f x ≡ g x) → (xs : List A) → map f xs ≡ map g xs
+map_alike f g same [] = refl
+map_alike f g same (x ∷ xs) = rw (same x, map_alike f g same xs) refl

@@ -3,12 +3,14 @@ use Rattle.std.proofs.Common.{◌≡◌, ℕ, ◌+◌, ◌-◌, ◌<◌, ◌≤�
 use Rattle.std.proofs.lemmas.Bool.{lt-ltb, le-ltb}
 use Rattle.std.proofs.lemmas.List.{get_or_append_left, get_or-append_right, get_or-take, get_or-drop}
 use Rattle.rope_node.specs.declared.node.NodeId.{NodeId}
+use Rattle.rope_node.specs.declared.node.LeafSpan.{LeafSpan}
 use Rattle.rope_node.specs.declared.node.NodeView.{NodeView}
 use Rattle.rope_node.specs.declared.node.NodeView.TheVariants.{Lit, Src, Fun, Cat, Sub}
 use Rattle.rope_node.specs.Table.{Table, view_at, len_at, IsLeaf, IsSound, HasTrueRecords}
 use Rattle.rope_node.specs.Denotes.{Byte, cells, cell_at}
-use Rattle.rope_node.specs.Path.{visits, node_visits}
+use Rattle.rope_node.specs.Path.{shortened, span_at, visits, node_visits}
 use Rattle.rope_node.proofs.Cells.{cells_at, cells_length}
+use Rattle.rope_node.proofs.LeafSpans.{span_step}
 use Rattle.rope_node.proofs.Visits.{visits_step, visits-le}
 
 -- place p of node x is where the path from place q of node y leads, after so many nodes above x
@@ -16,6 +18,8 @@ pub record IsOnPath (t : Table) (y q x p seen : ℕ) : Type 0 where
   pub there : x < length t.nodes
   pub inside : p < len_at t x
   pub cell : cell_at t x p ≡ cell_at t y q
+  pub leaf : (span_at t x p).leaf ≡ (span_at t y q).leaf
+  pub start : (span_at t x p).start ≡ (span_at t y q).start
   pub count : seen + visits t x p ≡ visits t y q
 
 -- one step of the count, where it is known what the node is
@@ -28,10 +32,13 @@ goes_left t s h y q x p seen l r e fits path =
     let there : l.0 < length t.nodes = omega (arith, below.0, path.there) in
     let held : p < length (cells t l.0) = rw (cells_length t s h l.0 there) fits in
     let step : visits t x p ≡ 1 + visits t l.0 p = rw (lt-ltb p (len_at t l.0) fits) at (visits_at t s x p path.there (Cat l r) e) in
+    let span : span_at t x p ≡ span_at t l.0 p = rw (lt-ltb p (len_at t l.0) fits) at (span_step t s x p path.there (Cat l r) e) in
     record {
       there = there;
       inside = fits;
       cell = sym (get_or_append_left (cells t l.0) (cells t r.0) (Byte 0) p held) ∙ sym (ap (λ cs. get_or cs p (Byte 0)) (cells_at t s x path.there (Cat l r) e)) ∙ path.cell;
+      leaf = ap (λ (z : LeafSpan). z.leaf) (sym span) ∙ path.leaf;
+      start = ap (λ (z : LeafSpan). z.start) (sym span) ∙ path.start;
       count = omega (arith, step, path.count);
     }
 
@@ -42,11 +49,14 @@ goes_right t s h y q x p seen l r e past path =
     let there : l.0 < length t.nodes = omega (arith, below.0, path.there) in
     let left : length (cells t l.0) ≡ len_at t l.0 = cells_length t s h l.0 there in
     let step : visits t x p ≡ 1 + visits t r.0 (p - len_at t l.0) = rw (le-ltb p (len_at t l.0) past) at (visits_at t s x p path.there (Cat l r) e) in
+    let span : span_at t x p ≡ span_at t r.0 (p - len_at t l.0) = rw (le-ltb p (len_at t l.0) past) at (span_step t s x p path.there (Cat l r) e) in
     record {
       there = omega (arith, below.1, path.there);
       inside = omega (arith, len, path.inside, past);
       cell = sym (get_or-append_right (cells t l.0) (cells t r.0) (len_at t l.0) p (Byte 0) left past)
           ∙ sym (ap (λ cs. get_or cs p (Byte 0)) (cells_at t s x path.there (Cat l r) e)) ∙ path.cell;
+      leaf = ap (λ (z : LeafSpan). z.leaf) (sym span) ∙ path.leaf;
+      start = ap (λ (z : LeafSpan). z.start) (sym span) ∙ path.start;
       count = omega (arith, step, path.count);
     }
 
@@ -56,6 +66,7 @@ goes_down t s y q x p seen b i e path =
     let held = rw e at (s.nodes x path.there).span in
     let swap : i + p ≡ p + i = omega arith in
     let step : visits t x p ≡ 1 + visits t b.0 (p + i) = rw swap at (visits_at t s x p path.there (Sub b i) e) in
+    let span : span_at t x p ≡ shortened (len_at t x - p) (span_at t b.0 (p + i)) = rw swap at (span_step t s x p path.there (Sub b i) e) in
     record {
       there = omega (arith, below, path.there);
       inside = omega (arith, held, path.inside);
@@ -63,6 +74,8 @@ goes_down t s y q x p seen b i e path =
           ∙ sym (get_or-drop i (cells t b.0) p (Byte 0))
           ∙ sym (get_or-take (len_at t x) (drop i (cells t b.0)) p (Byte 0) path.inside)
           ∙ sym (ap (λ cs. get_or cs p (Byte 0)) (cells_at t s x path.there (Sub b i) e)) ∙ path.cell;
+      leaf = ap (λ (z : LeafSpan). z.leaf) (sym span) ∙ path.leaf;
+      start = ap (λ (z : LeafSpan). z.start) (sym span) ∙ path.start;
       count = omega (arith, step, path.count);
     }
 

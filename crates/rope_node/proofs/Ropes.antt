@@ -1,10 +1,22 @@
--- Ropes of a table that goes on.
-use Rattle.std.proofs.Common.{◌≡◌, Option, Some, None, refl, ◌∙◌, arith}
+-- How long ropes are, and ropes of a table that goes on.
+use Rattle.std.proofs.Common.{◌≡◌, ◌<◌, length, Option, Some, None, refl, ◌∙◌, arith}
 use Rattle.rope_node.specs.declared.node.NodeId.{NodeId}
-use Rattle.rope_node.specs.Table.{Table, IsSound}
-use Rattle.rope_node.specs.Denotes.{rope_cells, IsRope}
+use Rattle.rope_node.specs.declared.limits.TheConstants.{TEXT_LIMIT}
+use Rattle.rope_node.specs.Table.{Table, IsSound, HasTrueRecords}
+use Rattle.rope_node.specs.Denotes.{rope_cells, rope_len, IsRope}
 use Rattle.rope_node.specs.Extends.{Extends}
+use Rattle.rope_node.proofs.Cells.{cells_length}
 use Rattle.rope_node.proofs.Extensions.{cells_kept}
+
+-- a rope has as many cells as it is long
+pub rope_length : (t : Table) → IsSound t → HasTrueRecords t → (rope : Option NodeId) → IsRope t rope → length (rope_cells t rope) ≡ rope_len t rope
+rope_length t s h None there = refl
+rope_length t s h (Some id) there = cells_length t s h id.0 there
+
+-- and is shorter than the limit
+pub rope_short : (t : Table) → IsSound t → (rope : Option NodeId) → IsRope t rope → rope_len t rope < TEXT_LIMIT
+rope_short t s None there = omega arith
+rope_short t s (Some id) there = (s.nodes id.0 there).not_long
 
 -- a rope stays one
 pub rope_kept : (old new : Table) → Extends old new → (rope : Option NodeId) → IsRope old rope → IsRope new rope

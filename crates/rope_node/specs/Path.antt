@@ -1,11 +1,11 @@
 -- The path from a node to the leaf that holds a place: how many nodes it has, and the span of the leaf that it leads to.
-use Rattle.std.specs.Prelude.{◌≡◌, ℕ, zero, suc, ◌+◌, ◌-◌, min, nat_lt, take, drop, if◌then◌else◌, Option, Some, None}
+use Rattle.std.specs.Prelude.{◌≡◌, ℕ, zero, suc, ◌+◌, ◌-◌, min, nat_lt, if◌then◌else◌, Option, Some, None}
 use Rattle.rope_node.specs.declared.node.NodeId.{NodeId}
 use Rattle.rope_node.specs.declared.node.LeafSpan.{LeafSpan}
 use Rattle.rope_node.specs.declared.node.NodeView.{NodeView}
 use Rattle.rope_node.specs.declared.node.NodeView.TheVariants.{Lit, Src, Fun, Cat, Sub}
+use Rattle.rope_node.specs.declared.path.LeafPlace.{LeafPlace}
 use Rattle.rope_node.specs.Table.{Table, view_at, len_at}
-use Rattle.rope_node.specs.Denotes.{cells}
 
 -- the visits from a node on, where below gives those from a child on at a place
 abbrev pub node_visits : Table → (ℕ → ℕ → ℕ) → ℕ → NodeView → ℕ
@@ -50,6 +50,7 @@ span_in t (suc steps) id i = node_span t (span_in t steps) id i (len_at t id) (v
 abbrev pub span_at : Table → ℕ → ℕ → LeafSpan
 span_at t id i = span_in t (suc id) id i
 
--- the cells of a node from place i on begin with those of this leaf span
-abbrev pub BeginsWith : Table → ℕ → ℕ → LeafSpan → Type 0
-BeginsWith t id i span = take span.len (drop i (cells t id)) ≡ take span.len (drop span.start (cells t span.leaf.0))
+-- the leaf, and the place in it, at which the path from place i of a node ends
+pub record IsPlaceOf (t : Table) (id i : ℕ) (x : LeafPlace) : Type 0 where
+  pub leaf : x.leaf ≡ (span_at t id i).leaf
+  pub start : x.start ≡ (span_at t id i).start

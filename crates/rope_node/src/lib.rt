@@ -5,10 +5,8 @@ mod limits;
 mod node;
 mod path;
 mod space;
-mod span;
 
 pub use limits::{MOST_DEPTH, MOST_NODES, MOST_SOURCES, TEXT_LIMIT};
 pub use node::{LeafSpan, NodeId, NodeView, Rope};
 pub use path::{LeafPlace, find_leaf};
 pub use space::{CodedSpace, NodeSpace, rope_len};
-pub use span::find_span;

@@ -3,7 +3,7 @@
 ghost use Rattle.std.specs.Prelude.{◌≡◌, ◌<◌, ◌≤◌, ◌+◌, length};
 ghost use Rattle.rope_node.specs.Table.{view_at, len_at, depth_at, IsLeaf};
 ghost use Rattle.rope_node.specs.Denotes.{cell_at};
-ghost use Rattle.rope_node.specs.Path.{visits};
+ghost use Rattle.rope_node.specs.Path.{visits, IsPlaceOf};
 
 use crate::node::{NodeId, NodeView};
 use crate::space::NodeSpace;
@@ -25,6 +25,7 @@ pub fn find_leaf<S: NodeSpace>(space: &S, node: NodeId, place: u64) -> LeafPlace
     ensures there { result.leaf.0 < length (S.table space.now).nodes }
     ensures inside { result.start < len_at (S.table space.now) result.leaf.0 }
     ensures leaf { IsLeaf (view_at (S.table space.now) result.leaf.0) }
+    ensures place { IsPlaceOf (S.table space.now) node.0 place result }
     ensures cell { cell_at (S.table space.now) result.leaf.0 result.start ≡ cell_at (S.table space.now) node.0 place }
     ensures visits { result.visits ≡ visits (S.table space.now) node.0 place }
     ensures few { result.visits ≤ depth_at (S.table space.now) node.0 + 1 }

@@ -10,3 +10,4 @@ pub mod MergedTexts
 pub mod GrownTexts
 pub mod AppendedTexts
 pub mod CallSizes
+pub mod CallDepths

@@ -30,6 +30,11 @@ given_first : (source : ℕ → ℕ → ℕ) (v : SessionValue) (sizes : List �
 given_first source v [] a e = refl
 given_first source v (n ∷ sizes) a e = ap (λ (s : List ℕ). slice_get (map (λ (k : ℕ). map (source k) (range_with_len 0 (get_or s k 0))) (range_with_len 0 (length s))) 0) e
 
+-- it is recorded alike wherever the pool ends
+first_anywhere : (sizes : List ℕ) (a : ℕ) → edit_with a (first_command sizes) ≡ edit_with 0 (first_command sizes)
+first_anywhere [] a = refl
+first_anywhere (n ∷ sizes) a = refl
+
 first_len : (source : ℕ → ℕ → ℕ) (sizes : List ℕ) → length (first_text source sizes) ≡ get_or sizes 0 0
 first_len source [] = refl
 first_len source (n ∷ sizes) = length-map (range_with_len 0 n) (source 0) ∙ length-range_with_len 0 n
@@ -44,6 +49,7 @@ first_made sizes old new k applies is_sources none history short =
     record {
       sources = sources;
       one = ap length revisions;
+      command = ap edits_of revisions ∙ ap (λ (x : Edit). x ∷ []) (h.is.edit ∙ first_anywhere sizes h.is.place);
       text = text;
       short = rw (sym (text_len new history (λ s p. 0) 0), ap (λ (ts : List (List ℕ)). length (get_or ts 0 [])) (text (λ s p. 0)), first_len (λ s p. 0) sizes) short;
     }
@@ -61,5 +67,8 @@ is_short test st h e = elim (cases_lt LONGEST_TEXT (get_or st.sizes 0 0)) [
 
 -- an editor of such a session, at its first byte
 pub begun : (sizes : List ℕ) (v : SessionValue) (e : Editing) → IsFirst sizes v → e ≡ record { session = v; priors = None ∷ []; place = 0; mark = None; cuts = []; message = None } → IsMade sizes e
-begun sizes v e first is source =
-    ap (state_of source) is ∙ ap (λ (ts : List (List ℕ)). record { texts = ts; priors = None ∷ []; place = 0; mark = None; cuts = []; message = None }) (first.text source)
+begun sizes v e first is = record {
+  state = λ source. ap (state_of source) is
+      ∙ ap (λ (ts : List (List ℕ)). record { texts = ts; priors = None ∷ []; place = 0; mark = None; cuts = []; message = None }) (first.text source);
+  command = ap (λ (x : Editing). edits_of x.session.revisions) is ∙ first.command;
+}

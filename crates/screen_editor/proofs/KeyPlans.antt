@@ -1,9 +1,8 @@
 -- What a key does by one command of the session, and what one does that makes no revision.
 use Rattle.std.proofs.Common.{◌≡◌, ℕ, ◌+◌, ◌-◌, ◌<◌, ◌≤◌, List, [], ◌∷◌, ◌++◌, length, get_or, Option, Some, None, Result, Ok, Err, refl, sym, ap, subst, arith, ◌∙◌}
 use Rattle.std.specs.Prelude.{IsErrOf}
-use Rattle.std.specs.List.{cons_option}
 use Rattle.std.specs.Option.{option_map}
-use Rattle.std.proofs.lemmas.List.{append-nil, length-append}
+use Rattle.std.proofs.lemmas.List.{length-append}
 use Rattle.std.proofs.Math.Seq.{get_or-append_seam}
 use Rattle.rope_node.proofs.Ropes.{extends_itself}
 use Rattle.function_leaf.specs.Coded.{coded_byte}
@@ -11,10 +10,10 @@ use Rattle.node_table.specs.Held.{table_of}
 use Rattle.edit_commands.specs.declared.command.Command.{Command}
 use Rattle.edit_commands.specs.declared.fault.EditFault.{EditFault}
 use Rattle.edit_commands.specs.declared.fault.EditFault.TheVariants as Edit
+use Rattle.edit_commands.specs.Applying.{Applies}
 use Rattle.edit_commands.specs.Building.{edit_with}
 use Rattle.edit_commands.specs.Refusals.{result_len}
-use Rattle.edit_commands.specs.Session.{SessionValue, HoldsHistory, cells_of, edits_of, texts_of}
-use Rattle.span_certificate.specs.declared.edit.Edit.{Edit}
+use Rattle.edit_commands.specs.Session.{SessionValue, HoldsHistory, texts_of}
 use Rattle.screen_editor.specs.declared.cut_span.CutSpan.{CutSpan}
 use Rattle.screen_editor.specs.declared.fault.KeyFault.{KeyFault}
 use Rattle.screen_editor.specs.declared.fault.KeyFault.TheVariants as Fault
@@ -23,10 +22,10 @@ use Rattle.screen_editor.specs.declared.workspace.TheConstants.{LONGEST_TEXT}
 use Rattle.screen_editor.specs.Editing.{Editing, IsEditing, current_len, key_code, last_of, state_of}
 use Rattle.screen_editor.specs.Machine.{done, edit_of, revised}
 use Rattle.screen_editor.specs.Refusals.{GrowsTooLong, IsPlainFault, MakesRevision}
-use Rattle.screen_editor.specs.Revising.{Does, KeepsAll}
+use Rattle.screen_editor.specs.Revising.{AppliesCommand, Does, KeepsAll}
 use Rattle.screen_editor.specs.State.{EditorState, current}
 use Rattle.screen_editor.specs.Taking.{IsInOrder, IsReviseFault, RevisesOrNot, CarriesOut}
-use Rattle.screen_editor.proofs.NewTexts.{count_texts, edits_more, given_len, text_given, text_len, texts_more}
+use Rattle.screen_editor.proofs.NewTexts.{count_texts, given_len, text_given, text_len, texts_more}
 
 pub no_source : ℕ → ℕ → ℕ
 no_source s p = 0
@@ -81,18 +80,14 @@ stays_short key e is h same long =
 
 pub record Stays (key : Key) (old new : Editing) : Type 0 where
   pub texts : (source : ℕ → ℕ → ℕ) → (done key (state_of source old)).texts ≡ texts_of source old.session
-  pub edit : (source : ℕ → ℕ → ℕ) → edit_of 0 key (state_of source old) ≡ None
+  pub edit : (a : ℕ) (source : ℕ → ℕ → ℕ) → edit_of a key (state_of source old) ≡ None
   pub does : Does key old new
   pub session : new.session ≡ old.session
 
 pub stays : (key : Key) (old new : Editing) → IsEditing old → HoldsHistory old.session → Stays key old new → CarriesOut key old (Ok tt) new
 stays key old new e h s = record {
   done = s.does;
-  command = (
-    0,
-    λ source. ap (λ (v : SessionValue). edits_of v.revisions) s.session ∙ sym (append-nil (edits_of old.session.revisions))
-        ∙ ap (λ (o : Option Edit). edits_of old.session.revisions ++ cons_option o []) (sym (s.edit source)),
-  );
+  command = AppliesCommand.none s.edit s.session;
   kept = tt;
   too_long = (λ x. absurd cc, λ long. absurd (stays_short key old e h (s.texts no_source) long));
   too_many = λ one no full. absurd (makes_none key old (s.texts no_source) one);
@@ -101,7 +96,7 @@ stays key old new e h s = record {
 }
 
 pub idle : (key : Key) (e : Editing) → IsEditing e → HoldsHistory e.session → ((source : ℕ → ℕ → ℕ) → done key (state_of source e) ≡ state_of source e)
-    → ((source : ℕ → ℕ → ℕ) → edit_of 0 key (state_of source e) ≡ None) → CarriesOut key e (Ok tt) e
+    → ((a : ℕ) (source : ℕ → ℕ → ℕ) → edit_of a key (state_of source e) ≡ None) → CarriesOut key e (Ok tt) e
 idle key e is h same none = stays key e e is h (record {
   texts = λ source. ap (λ (s : EditorState). s.texts) (same source);
   edit = none;
@@ -152,11 +147,9 @@ pub plan_taken : (key : Key) (old : Editing) (command : Command) (prior : Option
     → RevisesOrNot command prior q old (Ok tt) mid → new ≡ record mid { cuts = cuts } → CarriesOut key old (Ok tt) new
 plan_taken key old command prior q cuts mid new h p r is = record {
   done = does;
-  command = (
-    r.revises.applies.is.place,
-    λ source. ap (λ (n : Editing). edits_of n.session.revisions) is ∙ edits_more old.session command mid.session r.revises.applies
-        ∙ ap (λ (o : Option Edit). edits_of old.session.revisions ++ cons_option o []) (sym (p.edit r.revises.applies.is.place source)),
-  );
+  command = AppliesCommand.one command p.edit
+      (subst (λ (v : SessionValue). Applies old.session command (length old.session.revisions) v)
+      (sym (ap (λ (n : Editing). n.session) is)) r.revises.applies);
   kept = tt;
   too_long = (λ x. absurd cc, λ long. absurd (not_long key old command prior q cuts h p long));
   too_many = λ one no full. r.too_many full;

@@ -86,7 +86,7 @@ pub erase_before_idle : (e : Editing) → IsEditing e → HoldsHistory e.session
 erase_before_idle e is h none =
     let test = le-ltb 0 e.place (omega (arith, none)) in
     idle Keys.EraseBefore e is h (λ source. left_so (nat_lt 0 e.place) (edited (state_of source e) (e.place - 1) 1 [] (e.place - 1)) (state_of source e) test)
-    (λ source. left_so (nat_lt 0 e.place) (Some (Recorded.Delete (last_revision (state_of source e)) (e.place - 1) 1)) None test)
+    (λ a source. left_so (nat_lt 0 e.place) (Some (Recorded.Delete (last_revision (state_of source e)) (e.place - 1) 1)) None test)
 
 current_test : (e : Editing) → HoldsHistory e.session → (source : ℕ → ℕ → ℕ) → nat_lt e.place (length (current (state_of source e))) ≡ nat_lt e.place (current_len e)
 current_test e h source = ap (nat_lt e.place) (current_text_len e h source)
@@ -106,7 +106,7 @@ pub erase_at_idle : (e : Editing) → IsEditing e → HoldsHistory e.session →
 erase_at_idle e is h none =
     let test : (source : ℕ → ℕ → ℕ) → nat_lt e.place (length (current (state_of source e))) ≡ false = λ source. current_test e h source ∙ le-ltb e.place (current_len e) none in
     idle Keys.EraseAt e is h (λ source. left_so (nat_lt e.place (length (current (state_of source e)))) (edited (state_of source e) e.place 1 [] e.place) (state_of source e) (test source))
-    (λ source. left_so (nat_lt e.place (length (current (state_of source e)))) (Some (Recorded.Delete (last_revision (state_of source e)) e.place 1)) None (test source))
+    (λ a source. left_so (nat_lt e.place (length (current (state_of source e)))) (Some (Recorded.Delete (last_revision (state_of source e)) e.place 1)) None (test source))
 
 -- ---- the text again, balanced, or an earlier one
 
@@ -135,7 +135,7 @@ undo_plan e j is h prior before =
 
 pub undo_idle : (e : Editing) → IsEditing e → HoldsHistory e.session → get_or e.priors (last_of e) None ≡ None → CarriesOut Keys.Undo e (Ok tt) e
 undo_idle e is h none = idle Keys.Undo e is h (λ source. ap (λ (o : Option ℕ). gone_back o (state_of source e)) (last_prior e source None none))
-    (λ source. ap (option_map Recorded.Back) (last_prior e source None none))
+    (λ a source. ap (option_map Recorded.Back) (last_prior e source None none))
 
 -- ---- the latest cut span put in
 
@@ -177,7 +177,7 @@ paste_too_long e c is h first span long = long_kept Keys.Paste e (Some (last_of 
         omega (arith, len, all, put, long)
 
 pub paste_idle : (e : Editing) → IsEditing e → HoldsHistory e.session → slice_get e.cuts 0 ≡ None → CarriesOut Keys.Paste e (Ok tt) e
-paste_idle e is h none = idle Keys.Paste e is h (λ source. ap (λ (cs : List CutSpan). pasted cs (state_of source e)) (none_is e.cuts none)) (λ source. ap (λ (cs : List CutSpan). pasting cs (state_of source e)) (none_is e.cuts none))
+paste_idle e is h none = idle Keys.Paste e is h (λ source. ap (λ (cs : List CutSpan). pasted cs (state_of source e)) (none_is e.cuts none)) (λ a source. ap (λ (cs : List CutSpan). pasting cs (state_of source e)) (none_is e.cuts none))
 
 -- ---- the bytes from the mark to the place, cut
 
@@ -205,10 +205,10 @@ pub cut_idle_here : (e : Editing) (m : ℕ) → IsEditing e → HoldsHistory e.s
 cut_idle_here e m is h mark same =
     let test : (m == e.place) ≡ true = eq-eqb m e.place same in
     idle Keys.Cut e is h (λ source. ap (λ (o : Option ℕ). cut_to o (state_of source e)) mark ∙ taken_so (m == e.place) (state_of source e) (cut_out (state_of source e) (min m e.place) (max m e.place)) test)
-    (λ source. ap (λ (o : Option ℕ). cutting o (state_of source e)) mark ∙ taken_so (m == e.place) None (Some (Recorded.Delete (last_revision (state_of source e)) (min m e.place) (max m e.place - min m e.place))) test)
+    (λ a source. ap (λ (o : Option ℕ). cutting o (state_of source e)) mark ∙ taken_so (m == e.place) None (Some (Recorded.Delete (last_revision (state_of source e)) (min m e.place) (max m e.place - min m e.place))) test)
 
 pub cut_idle : (e : Editing) → IsEditing e → HoldsHistory e.session → e.mark ≡ None → CarriesOut Keys.Cut e (Ok tt) e
-cut_idle e is h mark = idle Keys.Cut e is h (λ source. ap (λ (o : Option ℕ). cut_to o (state_of source e)) mark) (λ source. ap (λ (o : Option ℕ). cutting o (state_of source e)) mark)
+cut_idle e is h mark = idle Keys.Cut e is h (λ source. ap (λ (o : Option ℕ). cut_to o (state_of source e)) mark) (λ a source. ap (λ (o : Option ℕ). cutting o (state_of source e)) mark)
 
 -- what was cut lies in the revision that it was cut from
 pub cut_lies : (e mid : Editing) (m : ℕ) (prior : Option ℕ) (q : ℕ) → IsEditing e → HoldsHistory e.session → HoldsHistory mid.session → m ≤ current_len e → (m ≡ e.place → ⊥)
@@ -227,20 +227,20 @@ left_stays e is h some =
     let test = lt-ltb 0 e.place some in
     stays Keys.Left e (record e { place = e.place - 1 }) is h (record {
       texts = λ source. ap (λ (t : Bool). (if t then record (state_of source e) { place = e.place - 1 } else state_of source e).texts) test;
-      edit = λ source. refl;
+      edit = λ a source. refl;
       does = λ source. sym (taken_so (nat_lt 0 e.place) (record (state_of source e) { place = e.place - 1 }) (state_of source e) test);
       session = refl;
     })
 
 pub left_idle : (e : Editing) → IsEditing e → HoldsHistory e.session → e.place ≡ 0 → CarriesOut Keys.Left e (Ok tt) e
-left_idle e is h none = idle Keys.Left e is h (λ source. left_so (nat_lt 0 e.place) (record (state_of source e) { place = e.place - 1 }) (state_of source e) (le-ltb 0 e.place (omega (arith, none)))) (λ source. refl)
+left_idle e is h none = idle Keys.Left e is h (λ source. left_so (nat_lt 0 e.place) (record (state_of source e) { place = e.place - 1 }) (state_of source e) (le-ltb 0 e.place (omega (arith, none)))) (λ a source. refl)
 
 pub right_stays : (e : Editing) → IsEditing e → HoldsHistory e.session → e.place < current_len e → CarriesOut Keys.Right e (Ok tt) (record e { place = e.place + 1 })
 right_stays e is h some =
     let test : (source : ℕ → ℕ → ℕ) → nat_lt e.place (length (current (state_of source e))) ≡ true = λ source. current_test e h source ∙ lt-ltb e.place (current_len e) some in
     stays Keys.Right e (record e { place = e.place + 1 }) is h (record {
       texts = λ source. ap (λ (t : Bool). (if t then record (state_of source e) { place = e.place + 1 } else state_of source e).texts) (test source);
-      edit = λ source. refl;
+      edit = λ a source. refl;
       does = λ source. sym (taken_so (nat_lt e.place (length (current (state_of source e)))) (record (state_of source e) { place = e.place + 1 }) (state_of source e) (test source));
       session = refl;
     })
@@ -248,10 +248,10 @@ right_stays e is h some =
 pub right_idle : (e : Editing) → IsEditing e → HoldsHistory e.session → current_len e ≤ e.place → CarriesOut Keys.Right e (Ok tt) e
 right_idle e is h none = idle Keys.Right e is h
     (λ source. left_so (nat_lt e.place (length (current (state_of source e)))) (record (state_of source e) { place = e.place + 1 }) (state_of source e) (current_test e h source ∙ le-ltb e.place (current_len e) none))
-    (λ source. refl)
+    (λ a source. refl)
 
 pub mark_stays : (e : Editing) → IsEditing e → HoldsHistory e.session → CarriesOut Keys.Mark e (Ok tt) (record e { mark = Some e.place })
-mark_stays e is h = stays Keys.Mark e (record e { mark = Some e.place }) is h (record { texts = λ source. refl; edit = λ source. refl; does = λ source. refl; session = refl })
+mark_stays e is h = stays Keys.Mark e (record e { mark = Some e.place }) is h (record { texts = λ source. refl; edit = λ a source. refl; does = λ source. refl; session = refl })
 
 pub drop_cut_stays : (e : Editing) → IsEditing e → HoldsHistory e.session → CarriesOut Keys.DropCut e (Ok tt) (record e { cuts = drop 1 e.cuts })
-drop_cut_stays e is h = stays Keys.DropCut e (record e { cuts = drop 1 e.cuts }) is h (record { texts = λ source. refl; edit = λ source. refl; does = λ source. refl; session = refl })
+drop_cut_stays e is h = stays Keys.DropCut e (record e { cuts = drop 1 e.cuts }) is h (record { texts = λ source. refl; edit = λ a source. refl; does = λ source. refl; session = refl })

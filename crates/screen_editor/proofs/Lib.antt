@@ -4,6 +4,7 @@ pub mod MadeFrames
 pub mod ToldKeys
 pub mod TakenKeys
 pub mod ManyTurns
+pub mod ToldRuns
 pub mod CurrentTexts
 pub mod NewTexts
 pub mod LineLaws
@@ -11,6 +12,7 @@ pub mod LineSearches
 pub mod LineTurns
 pub mod Revising
 pub mod KeyPlans
+pub mod KeyCommands
 pub mod KeySteps
 pub mod KeysTaken
 pub mod RowLaws
@@ -18,6 +20,5 @@ pub mod RowWalk
 pub mod Screens
 pub mod Showing
 pub mod Status
-pub mod WiderReads
 pub mod WindowLaws
 pub mod PlainKeys

@@ -1,5 +1,5 @@
 -- Keys that look for line breaks.
-use Rattle.std.proofs.Common.{◌≡◌, ℕ, ◌-◌, ◌<◌, List, [], get_or, Result, Ok, Err, Option, Some, None, true, false, refl, sym, ap, subst, ◌∙◌, append-nil}
+use Rattle.std.proofs.Common.{◌≡◌, ℕ, ◌-◌, ◌<◌, List, [], get_or, Result, Ok, Err, Option, Some, None, true, false, refl, sym, ap, subst, ◌∙◌}
 use Rattle.std.specs.Prelude.{IsTrue, IfErr, OnOk, IsErrOf, IsOk}
 use Rattle.std.proofs.Math.ListN.{get_or-map}
 use Rattle.std.proofs.lemmas.Option.{same_Some}
@@ -12,7 +12,7 @@ use Rattle.lazy_file.specs.SourceTexts.{Agrees, Reads, Stated}
 use Rattle.lazy_file.specs.declared.faults.SourceFault.{SourceFault}
 use Rattle.cord_position.specs.Fetched.{IsStated, ReadsSpan, rope_cell}
 use Rattle.edit_commands.specs.Applying.{Keeps}
-use Rattle.edit_commands.specs.Session.{HoldsHistory, SessionValue, cells_of, edits_of, roots_of, session_table, texts_of}
+use Rattle.edit_commands.specs.Session.{HoldsHistory, SessionValue, cells_of, roots_of, session_table, texts_of}
 use Rattle.edit_commands.proofs.GoingOn.{goes_on_itself}
 use Rattle.screen_editor.specs.declared.fault.KeyFault.{KeyFault}
 use Rattle.screen_editor.specs.declared.fault.KeyFault.TheVariants as Fault
@@ -23,6 +23,7 @@ use Rattle.screen_editor.specs.Keys.{looks_for_lines}
 use Rattle.screen_editor.specs.LineKeys.{DoesStated, IsLinePlace, Takes, line_place}
 use Rattle.screen_editor.specs.Machine.{done, edit_of, moved}
 use Rattle.screen_editor.specs.Refusals.{IsKeyFault, IsPlainFault}
+use Rattle.screen_editor.specs.Revising.{AppliesCommand}
 use Rattle.screen_editor.specs.State.{EditorState, current}
 use Rattle.screen_editor.specs.Taking.{CarriesOut}
 use Rattle.screen_editor.proofs.KeyPlans.{makes_none, no_source, stays_short}
@@ -135,7 +136,7 @@ pub moved_takes : {T : Type 0} (stated : T → Stated) (failures : T → ℕ) (k
 moved_takes {T} stated failures key before now old new p is history h e reads none =
     subst (λ (x : Editing). Takes stated failures key before old (Ok tt) now x) (sym e) (record {
       done = λ source agrees told. moved_state source (stated before) key old p h agrees (told h.looks);
-      command = (0, λ source. rw (no_edit key 0 (state_of source old) h.looks) (sym (append-nil (edits_of old.session.revisions))));
+      command = AppliesCommand.none (λ a source. no_edit key a (state_of source old) h.looks) refl;
       moves = λ _. refl;
       kept = tt;
       too_long = ((λ told. absurd (taken_is_taken Fault.TooLong told)), (λ grows. absurd (stays_short key old is history (same_texts key (state_of no_source old) h.looks) grows)));

@@ -9,7 +9,9 @@ use Rattle.node_table.specs.Held.{Held, table_of}
 use Rattle.rope_node.specs.declared.node.NodeId.{NodeId}
 use Rattle.rope_node.specs.Denotes.{rope_len}
 use Rattle.lazy_file.specs.SourceTexts.{Reads, Stated}
+use Rattle.lazy_file.specs.ReadFaults.{TellsAs}
 use Rattle.lazy_file.specs.declared.faults.SourceFault.{SourceFault}
+use Rattle.lazy_file.specs.declared.faults.SourceFault.TheVariants.{Device}
 use Rattle.cord_position.specs.Fetched.{EachCell, IsReadable, rope_cell}
 use Rattle.cord_search.specs.Stated.{OfText}
 use Rattle.edit_commands.specs.Session.{SessionValue}
@@ -51,12 +53,13 @@ shown st e (Ok v) h = λ source agrees stated.
 
 pub frame_made : {T : Type 0} (stated : T → Stated) (failures : T → ℕ) (before now : T) (result : Result (Vec ℕ) FrameFault) (e : Editing) (session : SessionValue) (held : Held Coded) (root : Option NodeId) (place last : ℕ) (message : Option KeyFault)
     → session ≡ e.session → held ≡ session.held → root ≡ current_root e → place ≡ e.place → last ≡ last_of e → message ≡ e.message
-    → IsTold stated failures before now result held root place last message → Reads stated failures before now → MakesFrame stated failures (record { sources = before; editing = e }) result (record { sources = now; editing = e })
-frame_made {T} stated failures before now result e session held root place last message is_session is_held is_root is_place is_last is_message h reads =
+    → IsTold stated failures before now result held root place last message → TellsAs failures before now (Frames.Source Device) result → Reads stated failures before now → MakesFrame stated failures (record { sources = before; editing = e }) result (record { sources = now; editing = e })
+frame_made {T} stated failures before now result e session held root place last message is_session is_held is_root is_place is_last is_message h device reads =
     let told = told_of stated failures before now result e held root place last message (is_held ∙ ap (λ (v : SessionValue). v.held) is_session) is_root is_place is_last is_message h in
     record {
       bytes = shown (stated before) e result told.bytes;
       fault = told.fault;
+      told = device;
       succeeds = told.succeeds;
       reads = reads;
       kept = refl;

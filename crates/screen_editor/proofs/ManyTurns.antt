@@ -1,18 +1,18 @@
 -- The turns of a run, one after the other.
 use Rattle.std.proofs.Common.{◌≡◌, ℕ, suc, ◌+◌, ◌<◌, ◌≤◌, inl, inr, List, [], ◌∷◌, ◌++◌, length, take, drop, Option, Some, None, refl, sym, ap, subst, arith, ◌∙◌, append_assoc, append-nil, Result, Ok, Err}
-use Rattle.std.specs.Prelude.{IsErrOf, slice_get}
+use Rattle.std.specs.Prelude.{slice_get}
 use Rattle.std.specs.List.{All}
 use Rattle.std.proofs.lemmas.List.{length-append}
 use Rattle.std.proofs.lemmas.List.Elements.{All-drop, All-head, All-nil, All-push, All-same, All-take}
 use Rattle.std.proofs.Math.Seq.{take-append-add, take-append_seam, drop-append_seam}
 use Rattle.std.specs.Io.KnownBytes.{Appends, Consumes}
 use Rattle.std.proofs.KnownBytes.{Appends-nil, Appends-trans, Consumes-nil, Consumes-trans}
-use Rattle.lazy_file.specs.SourceTexts.{Reads, Stated}
+use Rattle.lazy_file.specs.SourceTexts.{Reads, ReadsUnfailed, Stated}
+use Rattle.lazy_file.proofs.LaterReads.{reads_then, reads_unfailed}
 use Rattle.cord_position.specs.Fetched.{IsStated}
 use Rattle.byte_output.specs.Prefix.{AppendsPrefix}
 use Rattle.screen_editor.specs.declared.fault.End.{End}
 use Rattle.screen_editor.specs.declared.fault.End.TheVariants.{Save, Leave}
-use Rattle.screen_editor.specs.declared.fault.FrameFault.{FrameFault}
 use Rattle.screen_editor.specs.declared.fault.RunFault.{RunFault}
 use Rattle.screen_editor.specs.declared.fault.RunFault.TheVariants.{Read, Write, Frame, TooManyKeys}
 use Rattle.screen_editor.specs.declared.key.Step.{Step}
@@ -20,9 +20,8 @@ use Rattle.screen_editor.specs.declared.running.TheConstants.{MOST_KEYS}
 use Rattle.screen_editor.specs.Editing.{Editing, EachCurrent, EditorValue, state_of}
 use Rattle.screen_editor.specs.Frame.{frame_of}
 use Rattle.screen_editor.specs.Keys.{answer_to, key_of}
-use Rattle.screen_editor.specs.Runs.{Answers, EndsBy, Follow, GoesOn, IsFrame, IsRun, MakesFrame, MayGoOn, Passes, Shows, ShowsPrefix, frames_of, over}
+use Rattle.screen_editor.specs.Runs.{Answers, EndsBy, EndsOver, Follow, GoesOn, IsFrame, IsRun, MakesFrame, MayGoOn, Passes, Shows, ShowsPrefix, frames_of, over}
 use Rattle.screen_editor.specs.Turns.{IsTurn, TakesNone, TakesOne}
-use Rattle.screen_editor.proofs.WiderReads.{no_reads, wider_frame, wider_key, wider_states}
 
 -- ---- states: all but the last, and the last
 
@@ -62,14 +61,24 @@ follow_length : {T : Type 0} (stated : T → Stated) (failures : T → ℕ) (a z
 follow_length stated failures a z old [] [] h = refl
 follow_length stated failures a z old [] (e ∷ es) h = absurd h
 follow_length stated failures a z old (b ∷ bs) [] h = absurd h
-follow_length stated failures a z old (b ∷ bs) (e ∷ es) h = ap suc (follow_length stated failures a z e bs es h.1)
+follow_length stated failures a z old (b ∷ bs) (e ∷ es) h = ap suc (follow_length stated failures h.0 z e bs es h.2)
 
-follow_more : {T : Type 0} (stated : T → Stated) (failures : T → ℕ) (a z : T) (old new : Editing) (keys : List ℕ) (behind : List Editing) (b : ℕ)
-    → Follow stated failures a z old keys behind → Passes stated failures a z b (final old behind) new → Follow stated failures a z old (keys ++ b ∷ []) (behind ++ new ∷ [])
-follow_more stated failures a z old new [] [] b h p = (p, tt)
-follow_more stated failures a z old new [] (e ∷ es) b h p = absurd h
-follow_more stated failures a z old new (k ∷ ks) [] b h p = absurd h
-follow_more stated failures a z old new (k ∷ ks) (e ∷ es) b h p = (h.0, follow_more stated failures a z e new ks es b h.1 p)
+follow_more : {T : Type 0} (stated : T → Stated) (failures : T → ℕ) (a m z : T) (old new : Editing) (keys : List ℕ) (behind : List Editing) (b : ℕ)
+    → Follow stated failures a m old keys behind → Passes stated failures m z b (final old behind) new → Follow stated failures a z old (keys ++ b ∷ []) (behind ++ new ∷ [])
+follow_more {T} stated failures a m z old new [] [] b h p = (z, subst (λ (x : T). Passes stated failures x z b old new) h p, refl)
+follow_more stated failures a m z old new [] (e ∷ es) b h p = absurd h
+follow_more stated failures a m z old new (k ∷ ks) [] b h p = absurd h
+follow_more stated failures a m z old new (k ∷ ks) (e ∷ es) b h p = (h.0, h.1, follow_more stated failures h.0 m z e new ks es b h.2 p)
+
+no_reads : {T : Type 0} (stated : T → Stated) (failures : T → ℕ) (a : T) → ReadsUnfailed stated failures a a
+no_reads stated failures a = record { same = refl; unfailed = refl }
+
+-- the sources are read from key to key
+pub follow_reads : {T : Type 0} (stated : T → Stated) (failures : T → ℕ) (a z : T) (old : Editing) (keys : List ℕ) (behind : List Editing) → Follow stated failures a z old keys behind → Reads stated failures a z
+follow_reads {T} stated failures a z old [] [] h = subst (λ (x : T). Reads stated failures a x) (sym h) (reads_unfailed (no_reads stated failures a))
+follow_reads stated failures a z old [] (e ∷ es) h = absurd h
+follow_reads stated failures a z old (k ∷ ks) [] h = absurd h
+follow_reads stated failures a z old (k ∷ ks) (e ∷ es) h = reads_then (reads_unfailed h.1.unfailed) (reads_then h.1.takes.reads (follow_reads stated failures h.0 z e ks es h.2))
 
 -- ---- frames, one behind the other
 
@@ -131,31 +140,12 @@ abbrev Continues : ℕ → Type 0
 Continues b = answer_to (key_of b) ≡ Step.Going
 
 pub ran_none : {T : Type 0} (stated : T → Stated) (failures : T → ℕ) (keys screen : Option (List ℕ)) (old : EditorValue T) → Ran stated failures keys keys screen screen old old 0
-ran_none stated failures keys screen old = record { keys = []; behind = []; taken = Consumes-nil keys; count = refl; follow = tt; last = refl; on = All-nil Continues; shown = shows_none (stated old.sources) screen }
+ran_none stated failures keys screen old = record { keys = []; behind = []; taken = Consumes-nil keys; count = refl; follow = refl; last = refl; on = All-nil Continues; shown = shows_none (stated old.sources) screen }
 
--- a turn behind others, as one over their first sources
-turn_one : {T : Type 0} (stated : T → Stated) (failures : T → ℕ) (keys left before now : Option (List ℕ)) (a : T) (answer : Step) (old new : EditorValue T)
-    → Reads stated failures a old.sources → TakesOne stated failures keys left before now answer old new → TakesOne stated failures keys left before now answer (over a old.editing) new
-turn_one stated failures keys left before now a answer old new reads h = record {
-  byte = h.byte;
-  key = h.key;
-  answers = h.answers;
-  passes = (h.passes.0, wider_key stated failures a old.sources new.sources new.sources (key_of h.byte) old.editing new.editing h.passes.0 reads h.passes.1 (no_reads stated failures new.sources));
-  shown = subst (λ (st : Stated). Shows st before now (old.editing ∷ [])) reads.same h.shown;
-}
-
-pub turn_from : {T : Type 0} (stated : T → Stated) (failures : T → ℕ) (keys left before now : Option (List ℕ)) (a : T) (old new : EditorValue T) (result : Result (Option End) RunFault)
-    → Reads stated failures a old.sources → IsTurn stated failures keys left before now old result new → IsTurn stated failures keys left before now (over a old.editing) result new
-turn_from stated failures keys left before now a old new (Ok None) reads h = turn_one stated failures keys left before now a Step.Going old new reads h
-turn_from stated failures keys left before now a old new (Ok (Some Save)) reads h = turn_one stated failures keys left before now a Step.Save old new reads h
-turn_from stated failures keys left before now a old new (Ok (Some Leave)) reads (inl h) = inl (turn_one stated failures keys left before now a Step.Leave old new reads h)
-turn_from stated failures keys left before now a old new (Ok (Some Leave)) reads (inr (none, end, shown)) =
-    inr (none, end, subst (λ (st : Stated). Shows st before now (old.editing ∷ [])) reads.same shown)
-turn_from stated failures keys left before now a old new (Err Read) reads (none, shown) = (none, subst (λ (st : Stated). Shows st before now (old.editing ∷ [])) reads.same shown)
-turn_from stated failures keys left before now a old new (Err Write) reads (none, shown) = (none, subst (λ (st : Stated). ShowsPrefix st before now (old.editing ∷ [])) reads.same shown)
-turn_from stated failures keys left before now a old new (Err (Frame f)) reads (none, h) =
-    (none, (subst (λ (st : Stated). Shows st before now []) reads.same h.0, wider_frame stated failures a old new f reads h.1))
-turn_from stated failures keys left before now a old new (Err TooManyKeys) reads (none, shown) = absurd shown
+-- the sources state what they did
+ran_stated : {T : Type 0} (stated : T → Stated) (failures : T → ℕ) (keys_before keys_left before now : Option (List ℕ)) (old new : EditorValue T) (n : ℕ)
+    → Ran stated failures keys_before keys_left before now old new n → stated new.sources ≡ stated old.sources
+ran_stated stated failures keys_before keys_left before now old new n h = (follow_reads stated failures old.sources new.sources old.editing h.keys h.behind h.follow).same
 
 -- one more key: the states behind the keys, all but the last of them shown
 record Longer {T : Type 0} (stated : T → Stated) (failures : T → ℕ) (keys_before keys_left before now : Option (List ℕ)) (old new : EditorValue T) (keys : List ℕ) : Type 0 where
@@ -166,25 +156,25 @@ record Longer {T : Type 0} (stated : T → Stated) (failures : T → ℕ) (keys_
   shown : Shows (stated old.sources) before now (earlier old.editing behind)
 
 longer : {T : Type 0} (stated : T → Stated) (failures : T → ℕ) (keys_before keys_mid keys_left before mid now : Option (List ℕ)) (old cur new : EditorValue T) (n : ℕ) (answer : Step)
-    → (h : Ran stated failures keys_before keys_mid before mid old cur n) → Reads stated failures cur.sources new.sources → (one : TakesOne stated failures keys_mid keys_left mid now answer (over old.sources cur.editing) new)
+    → (h : Ran stated failures keys_before keys_mid before mid old cur n) → (one : TakesOne stated failures keys_mid keys_left mid now answer cur new)
     → Longer stated failures keys_before keys_left before now old new (h.keys ++ one.byte ∷ [])
-longer stated failures keys_before keys_mid keys_left before mid now old cur new n answer h reads one =
+longer stated failures keys_before keys_mid keys_left before mid now old cur new n answer h one =
     let st = stated old.sources in
+    let same = ran_stated stated failures keys_before keys_mid before mid old cur n h in
     record {
       behind = h.behind ++ new.editing ∷ [];
       taken = Consumes-trans keys_before keys_mid keys_left h.keys (one.byte ∷ []) h.taken one.key;
-      follow = follow_more stated failures old.sources new.sources old.editing new.editing h.keys h.behind one.byte
-          (wider_states stated failures old.sources cur.sources new.sources old.editing h.keys h.behind h.follow reads)
-          (subst (λ (e : Editing). Passes stated failures old.sources new.sources one.byte e new.editing) (sym h.last) one.passes);
+      follow = follow_more stated failures old.sources cur.sources new.sources old.editing new.editing h.keys h.behind one.byte h.follow
+          (subst (λ (e : Editing). Passes stated failures cur.sources new.sources one.byte e new.editing) (sym h.last) one.passes);
       last = final_more old.editing new.editing h.behind;
-      shown = subst (Shows st before now) (sym (earlier_more old.editing new.editing h.behind)) (shows_more st before mid now (earlier old.editing h.behind) (final old.editing h.behind ∷ []) h.shown (subst (λ (e : Editing). Shows st mid now (e ∷ [])) (sym h.last) one.shown));
+      shown = subst (Shows st before now) (sym (earlier_more old.editing new.editing h.behind)) (shows_more st before mid now (earlier old.editing h.behind) (final old.editing h.behind ∷ []) h.shown (subst (λ (e : Editing). Shows st mid now (e ∷ [])) (sym h.last) (subst (λ (s : Stated). Shows s mid now (cur.editing ∷ [])) same one.shown)));
     }
 
 pub ran_more : {T : Type 0} (stated : T → Stated) (failures : T → ℕ) (keys_before keys_mid keys_left before mid now : Option (List ℕ)) (old cur new : EditorValue T) (n : ℕ)
-    → Ran stated failures keys_before keys_mid before mid old cur n → Reads stated failures cur.sources new.sources → IsTurn stated failures keys_mid keys_left mid now (over old.sources cur.editing) (Ok None) new
+    → Ran stated failures keys_before keys_mid before mid old cur n → IsTurn stated failures keys_mid keys_left mid now cur (Ok None) new
     → Ran stated failures keys_before keys_left before now old new (n + 1)
-ran_more stated failures keys_before keys_mid keys_left before mid now old cur new n h reads one =
-    let l = longer stated failures keys_before keys_mid keys_left before mid now old cur new n Step.Going h reads one in
+ran_more stated failures keys_before keys_mid keys_left before mid now old cur new n h one =
+    let l = longer stated failures keys_before keys_mid keys_left before mid now old cur new n Step.Going h one in
     record {
       keys = h.keys ++ one.byte ∷ [];
       behind = l.behind;
@@ -207,39 +197,41 @@ earlier_named stated failures a z old keys behind follow = rw (follow_length sta
 
 -- by a key
 ended_by : {T : Type 0} (stated : T → Stated) (failures : T → ℕ) (keys_before keys_mid keys_left before mid now : Option (List ℕ)) (old cur new : EditorValue T) (n : ℕ) (answer : Step) (end : End) → n < MOST_KEYS
-    → (h : Ran stated failures keys_before keys_mid before mid old cur n) → Reads stated failures cur.sources new.sources → TakesOne stated failures keys_mid keys_left mid now answer (over old.sources cur.editing) new
+    → (h : Ran stated failures keys_before keys_mid before mid old cur n) → TakesOne stated failures keys_mid keys_left mid now answer cur new
     → ((keys : List ℕ) (states : List Editing) → EndsBy answer keys → Shows (stated old.sources) before now (take (length keys) states) → Answers (stated old.sources) keys_left before now keys states (Ok end))
     → IsRun stated failures keys_before keys_left before now old (Ok end) new
-ended_by stated failures keys_before keys_mid keys_left before mid now old cur new n answer end few h reads one answers =
-    let l = longer stated failures keys_before keys_mid keys_left before mid now old cur new n answer h reads one in
+ended_by stated failures keys_before keys_mid keys_left before mid now old cur new n answer end few h one answers =
+    let l = longer stated failures keys_before keys_mid keys_left before mid now old cur new n answer h one in
     let keys = h.keys ++ one.byte ∷ [] in
     record {
       keys = keys;
       behind = l.behind;
+      sources = new.sources;
       taken = l.taken;
       few = omega (arith, length-append h.keys (one.byte ∷ []), h.count, few);
       follow = l.follow;
       last = last_named stated failures old.sources new.sources old.editing new.editing keys l.behind l.follow l.last;
       answers = answers keys (old.editing ∷ l.behind) (record { before = h.keys; last = one.byte; all = refl; answers = one.answers; on = h.on })
           (subst (Shows (stated old.sources) before now) (earlier_named stated failures old.sources new.sources old.editing keys l.behind l.follow) l.shown);
-      no_frame = λ f is. absurd cc;
+      ends = no_reads stated failures new.sources;
     }
 
 -- without a key
 ended_without : {T : Type 0} (stated : T → Stated) (failures : T → ℕ) (keys_before keys_mid keys_left before mid now : Option (List ℕ)) (old cur new : EditorValue T) (n : ℕ) (result : Result End RunFault) → n ≤ MOST_KEYS
-    → (h : Ran stated failures keys_before keys_mid before mid old cur n) → Reads stated failures cur.sources new.sources → TakesNone keys_mid keys_left cur.editing new.editing
+    → (h : Ran stated failures keys_before keys_mid before mid old cur n) → TakesNone keys_mid keys_left cur.editing new.editing
     → Answers (stated old.sources) keys_left before now h.keys (old.editing ∷ h.behind) result
-    → ((f : FrameFault) → IsErrOf result (Frame f) → MakesFrame stated failures (over old.sources cur.editing) (Err f) new)
+    → EndsOver stated failures cur.sources result new
     → IsRun stated failures keys_before keys_left before now old result new
-ended_without stated failures keys_before keys_mid keys_left before mid now old cur new n result few h reads none answer no_frame = record {
+ended_without stated failures keys_before keys_mid keys_left before mid now old cur new n result few h none answer ends = record {
   keys = h.keys;
   behind = h.behind;
+  sources = cur.sources;
   taken = subst (Consumes keys_before keys_left) (append-nil h.keys) (Consumes-trans keys_before keys_mid keys_left h.keys [] h.taken none.keys);
   few = omega (arith, h.count, few);
-  follow = wider_states stated failures old.sources cur.sources new.sources old.editing h.keys h.behind h.follow reads;
+  follow = h.follow;
   last = last_named stated failures old.sources cur.sources old.editing new.editing h.keys h.behind h.follow (h.last ∙ sym none.same);
   answers = answer;
-  no_frame = λ f is. subst (λ (e : Editing). MakesFrame stated failures (over old.sources e) (Err f) new) (sym none.same) (no_frame f is);
+  ends = ends;
 }
 
 -- another key may follow these
@@ -247,53 +239,56 @@ may_go_on : (keys : List ℕ) (n : ℕ) → GoesOn keys → length keys ≡ n �
 may_go_on keys n on count few = (on, subst (λ (k : ℕ). k < MOST_KEYS) (sym count) few)
 
 -- all the states are shown, or a prefix, or all but the last
-all_shown : {T : Type 0} (stated : T → Stated) (failures : T → ℕ) (keys_before keys_mid before mid now : Option (List ℕ)) (old cur : EditorValue T) (n : ℕ) → (h : Ran stated failures keys_before keys_mid before mid old cur n) → Shows (stated old.sources) mid now (cur.editing ∷ [])
+all_shown : {T : Type 0} (stated : T → Stated) (failures : T → ℕ) (keys_before keys_mid before mid now : Option (List ℕ)) (old cur : EditorValue T) (n : ℕ) → (h : Ran stated failures keys_before keys_mid before mid old cur n) → Shows (stated cur.sources) mid now (cur.editing ∷ [])
     → Shows (stated old.sources) before now (old.editing ∷ h.behind)
 all_shown stated failures keys_before keys_mid before mid now old cur n h k =
     let st = stated old.sources in
-    subst (Shows st before now) (sym (split old.editing h.behind)) (shows_more st before mid now (earlier old.editing h.behind) (final old.editing h.behind ∷ []) h.shown (subst (λ (e : Editing). Shows st mid now (e ∷ [])) (sym h.last) k))
+    let same = ran_stated stated failures keys_before keys_mid before mid old cur n h in
+    subst (Shows st before now) (sym (split old.editing h.behind)) (shows_more st before mid now (earlier old.editing h.behind) (final old.editing h.behind ∷ []) h.shown (subst (λ (e : Editing). Shows st mid now (e ∷ [])) (sym h.last) (subst (λ (s : Stated). Shows s mid now (cur.editing ∷ [])) same k)))
 
-prefix_shown : {T : Type 0} (stated : T → Stated) (failures : T → ℕ) (keys_before keys_mid before mid now : Option (List ℕ)) (old cur : EditorValue T) (n : ℕ) → (h : Ran stated failures keys_before keys_mid before mid old cur n) → ShowsPrefix (stated old.sources) mid now (cur.editing ∷ [])
+prefix_shown : {T : Type 0} (stated : T → Stated) (failures : T → ℕ) (keys_before keys_mid before mid now : Option (List ℕ)) (old cur : EditorValue T) (n : ℕ) → (h : Ran stated failures keys_before keys_mid before mid old cur n) → ShowsPrefix (stated cur.sources) mid now (cur.editing ∷ [])
     → ShowsPrefix (stated old.sources) before now (old.editing ∷ h.behind)
 prefix_shown stated failures keys_before keys_mid before mid now old cur n h k =
     let st = stated old.sources in
-    subst (ShowsPrefix st before now) (sym (split old.editing h.behind)) (shows_prefix_more st before mid now (earlier old.editing h.behind) (final old.editing h.behind ∷ []) h.shown (subst (λ (e : Editing). ShowsPrefix st mid now (e ∷ [])) (sym h.last) k))
+    let same = ran_stated stated failures keys_before keys_mid before mid old cur n h in
+    subst (ShowsPrefix st before now) (sym (split old.editing h.behind)) (shows_prefix_more st before mid now (earlier old.editing h.behind) (final old.editing h.behind ∷ []) h.shown (subst (λ (e : Editing). ShowsPrefix st mid now (e ∷ [])) (sym h.last) (subst (λ (s : Stated). ShowsPrefix s mid now (cur.editing ∷ [])) same k)))
 
-earlier_shown : {T : Type 0} (stated : T → Stated) (failures : T → ℕ) (keys_before keys_mid before mid now : Option (List ℕ)) (old cur : EditorValue T) (n : ℕ) → (h : Ran stated failures keys_before keys_mid before mid old cur n) → Shows (stated old.sources) mid now []
+earlier_shown : {T : Type 0} (stated : T → Stated) (failures : T → ℕ) (keys_before keys_mid before mid now : Option (List ℕ)) (old cur : EditorValue T) (n : ℕ) → (h : Ran stated failures keys_before keys_mid before mid old cur n) → Shows (stated cur.sources) mid now []
     → Shows (stated old.sources) before now (take (length h.keys) (old.editing ∷ h.behind))
 earlier_shown stated failures keys_before keys_mid before mid now old cur n h k =
     let st = stated old.sources in
-    subst (Shows st before now) (append-nil (earlier old.editing h.behind) ∙ earlier_named stated failures old.sources cur.sources old.editing h.keys h.behind h.follow) (shows_more st before mid now (earlier old.editing h.behind) [] h.shown k)
+    let same = ran_stated stated failures keys_before keys_mid before mid old cur n h in
+    subst (Shows st before now) (append-nil (earlier old.editing h.behind) ∙ earlier_named stated failures old.sources cur.sources old.editing h.keys h.behind h.follow) (shows_more st before mid now (earlier old.editing h.behind) [] h.shown (subst (λ (s : Stated). Shows s mid now []) same k))
 
 pub ran_to_end : {T : Type 0} (stated : T → Stated) (failures : T → ℕ) (keys_before keys_mid keys_left before mid now : Option (List ℕ)) (old cur new : EditorValue T) (n : ℕ) (end : End) → n < MOST_KEYS
-    → Ran stated failures keys_before keys_mid before mid old cur n → Reads stated failures cur.sources new.sources → IsTurn stated failures keys_mid keys_left mid now (over old.sources cur.editing) (Ok (Some end)) new
+    → Ran stated failures keys_before keys_mid before mid old cur n → IsTurn stated failures keys_mid keys_left mid now cur (Ok (Some end)) new
     → IsRun stated failures keys_before keys_left before now old (Ok end) new
-ran_to_end stated failures keys_before keys_mid keys_left before mid now old cur new n Save few h reads one =
-    ended_by stated failures keys_before keys_mid keys_left before mid now old cur new n Step.Save Save few h reads one (λ keys states by shown. (by, shown))
-ran_to_end stated failures keys_before keys_mid keys_left before mid now old cur new n Leave few h reads (inl one) =
-    ended_by stated failures keys_before keys_mid keys_left before mid now old cur new n Step.Leave Leave few h reads one (λ keys states by shown. inl (by, shown))
-ran_to_end stated failures keys_before keys_mid keys_left before mid now old cur new n Leave few h reads (inr (none, end, shown)) =
-    ended_without stated failures keys_before keys_mid keys_left before mid now old cur new n (Ok Leave) (omega (arith, few)) h reads none
-    (inr (may_go_on h.keys n h.on h.count few, end, all_shown stated failures keys_before keys_mid before mid now old cur n h shown)) (λ f is. absurd cc)
+ran_to_end stated failures keys_before keys_mid keys_left before mid now old cur new n Save few h one =
+    ended_by stated failures keys_before keys_mid keys_left before mid now old cur new n Step.Save Save few h one (λ keys states by shown. (by, shown))
+ran_to_end stated failures keys_before keys_mid keys_left before mid now old cur new n Leave few h (inl one) =
+    ended_by stated failures keys_before keys_mid keys_left before mid now old cur new n Step.Leave Leave few h one (λ keys states by shown. inl (by, shown))
+ran_to_end stated failures keys_before keys_mid keys_left before mid now old cur new n Leave few h (inr (none, end, shown, unfailed)) =
+    ended_without stated failures keys_before keys_mid keys_left before mid now old cur new n (Ok Leave) (omega (arith, few)) h none
+    (inr (may_go_on h.keys n h.on h.count few, end, all_shown stated failures keys_before keys_mid before mid now old cur n h shown)) unfailed
 
 pub ran_to_fault : {T : Type 0} (stated : T → Stated) (failures : T → ℕ) (keys_before keys_mid keys_left before mid now : Option (List ℕ)) (old cur new : EditorValue T) (n : ℕ) (fault : RunFault) → n < MOST_KEYS
-    → Ran stated failures keys_before keys_mid before mid old cur n → Reads stated failures cur.sources new.sources → IsTurn stated failures keys_mid keys_left mid now (over old.sources cur.editing) (Err fault) new
+    → Ran stated failures keys_before keys_mid before mid old cur n → IsTurn stated failures keys_mid keys_left mid now cur (Err fault) new
     → IsRun stated failures keys_before keys_left before now old (Err fault) new
-ran_to_fault stated failures keys_before keys_mid keys_left before mid now old cur new n Read few h reads (none, shown) =
-    ended_without stated failures keys_before keys_mid keys_left before mid now old cur new n (Err Read) (omega (arith, few)) h reads none
-    (may_go_on h.keys n h.on h.count few, all_shown stated failures keys_before keys_mid before mid now old cur n h shown) (λ f is. absurd cc)
-ran_to_fault stated failures keys_before keys_mid keys_left before mid now old cur new n Write few h reads (none, shown) =
-    ended_without stated failures keys_before keys_mid keys_left before mid now old cur new n (Err Write) (omega (arith, few)) h reads none
-    (may_go_on h.keys n h.on h.count few, prefix_shown stated failures keys_before keys_mid before mid now old cur n h shown) (λ f is. absurd cc)
-ran_to_fault stated failures keys_before keys_mid keys_left before mid now old cur new n (Frame f) few h reads (none, not_shown) =
-    ended_without stated failures keys_before keys_mid keys_left before mid now old cur new n (Err (Frame f)) (omega (arith, few)) h reads none
+ran_to_fault stated failures keys_before keys_mid keys_left before mid now old cur new n Read few h (none, shown, unfailed) =
+    ended_without stated failures keys_before keys_mid keys_left before mid now old cur new n (Err Read) (omega (arith, few)) h none
+    (may_go_on h.keys n h.on h.count few, all_shown stated failures keys_before keys_mid before mid now old cur n h shown) unfailed
+ran_to_fault stated failures keys_before keys_mid keys_left before mid now old cur new n Write few h (none, not_shown) =
+    ended_without stated failures keys_before keys_mid keys_left before mid now old cur new n (Err Write) (omega (arith, few)) h none
+    (may_go_on h.keys n h.on h.count few, prefix_shown stated failures keys_before keys_mid before mid now old cur n h not_shown.0) not_shown.1
+ran_to_fault stated failures keys_before keys_mid keys_left before mid now old cur new n (Frame f) few h (none, not_shown) =
+    ended_without stated failures keys_before keys_mid keys_left before mid now old cur new n (Err (Frame f)) (omega (arith, few)) h none
     (may_go_on h.keys n h.on h.count few, earlier_shown stated failures keys_before keys_mid before mid now old cur n h not_shown.0)
-    (λ e is. (let same : f ≡ e = cc in subst (λ (x : FrameFault). MakesFrame stated failures (over old.sources cur.editing) (Err x) new) same not_shown.1))
-ran_to_fault stated failures keys_before keys_mid keys_left before mid now old cur new n TooManyKeys few h reads (none, shown) = absurd shown
+    (subst (λ (e : Editing). MakesFrame stated failures (over cur.sources e) (Err f) new) (sym none.same) not_shown.1)
+ran_to_fault stated failures keys_before keys_mid keys_left before mid now old cur new n TooManyKeys few h (none, shown) = absurd shown
 
 -- after the last key
 pub ran_too_long : {T : Type 0} (stated : T → Stated) (failures : T → ℕ) (keys_before keys_left before now : Option (List ℕ)) (old new : EditorValue T)
     → Ran stated failures keys_before keys_left before now old new MOST_KEYS → IsRun stated failures keys_before keys_left before now old (Err TooManyKeys) new
 ran_too_long stated failures keys_before keys_left before now old new h =
-    ended_without stated failures keys_before keys_left keys_left before now now old new new MOST_KEYS (Err TooManyKeys) (omega arith) h (no_reads stated failures new.sources) (record { keys = Consumes-nil keys_left; same = refl })
-    (h.on, h.count, earlier_shown stated failures keys_before keys_left before now now old new MOST_KEYS h (shows_none (stated old.sources) now)) (λ f is. absurd cc)
+    ended_without stated failures keys_before keys_left keys_left before now now old new new MOST_KEYS (Err TooManyKeys) (omega arith) h (record { keys = Consumes-nil keys_left; same = refl })
+    (h.on, h.count, earlier_shown stated failures keys_before keys_left before now now old new MOST_KEYS h (shows_none (stated new.sources) now)) (no_reads stated failures new.sources)

@@ -1,7 +1,7 @@
 -- Keys that end no run.
 use Rattle.std.proofs.Common.{◌≡◌, ℕ, List, [], ◌∷◌, Option, Result, true, false, refl, sym, subst, ◌∙◌}
 use Rattle.std.specs.Io.KnownBytes.{Consumes}
-use Rattle.lazy_file.specs.SourceTexts.{Reads, Stated}
+use Rattle.lazy_file.specs.SourceTexts.{ReadsUnfailed, Stated}
 use Rattle.edit_commands.specs.Session.{texts_of}
 use Rattle.screen_editor.specs.declared.fault.KeyFault.{KeyFault}
 use Rattle.screen_editor.specs.declared.fault.KeyFault.TheVariants as Fault
@@ -13,11 +13,10 @@ use Rattle.screen_editor.specs.Keys.{answer_to, key_of, looks_for_lines}
 use Rattle.screen_editor.specs.Machine.{done}
 use Rattle.screen_editor.specs.Refusals.{IsKeyFault}
 use Rattle.screen_editor.specs.Revising.{TakesKey}
-use Rattle.screen_editor.specs.Runs.{Passes, Shows}
+use Rattle.screen_editor.specs.Runs.{Shows, over}
 use Rattle.screen_editor.specs.Turns.{TakesOne}
 use Rattle.screen_editor.proofs.KeyPlans.{makes_none, no_source}
 use Rattle.screen_editor.proofs.ToldKeys.{goes_on}
-use Rattle.screen_editor.proofs.WiderReads.{no_reads, wider_key}
 
 -- ---- a key that is refused ends no run
 
@@ -36,13 +35,17 @@ refused_goes_on stated failures before now key old new fault h = goes_on key
 -- ---- a key behind a frame, whose making changed nothing that the key sees
 
 pub takes_one : {T : Type 0} (stated : T → Stated) (failures : T → ℕ) (keys left before now : Option (List ℕ)) (answer : Step) (b : ℕ) (result : Result Step KeyFault) (old mid new : EditorValue T)
-    → Consumes keys left (b ∷ []) → Shows (stated old.sources) before now (old.editing ∷ []) → Reads stated failures old.sources mid.sources → mid.editing ≡ old.editing
+    → Consumes keys left (b ∷ []) → Shows (stated old.sources) before now (old.editing ∷ []) → ReadsUnfailed stated failures old.sources mid.sources → mid.editing ≡ old.editing
     → TakesKey stated failures (key_of b) mid result new → answer_to (key_of b) ≡ answer → TakesOne stated failures keys left before now answer old new
-takes_one stated failures keys left before now answer b result old mid new key shown reads same h answers = record {
+takes_one stated failures keys left before now answer b result old mid new key shown unfailed same h answers = record {
   byte = b;
   key = key;
   answers = answers;
-  passes = subst (λ (e : Editing). Passes stated failures old.sources new.sources b e new.editing) same
-      (result, wider_key stated failures old.sources mid.sources new.sources new.sources (key_of b) mid.editing new.editing result reads h (no_reads stated failures new.sources));
+  passes = record {
+    before = mid.sources;
+    unfailed = unfailed;
+    result = result;
+    takes = subst (λ (e : Editing). TakesKey stated failures (key_of b) (over mid.sources e) result new) same h;
+  };
   shown = shown;
 }

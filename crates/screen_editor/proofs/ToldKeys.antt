@@ -131,6 +131,7 @@ refused_told {T} stated failures key before now old new told f h e =
         | inr is ↦ inr (same_fault f (Fault.Edit Edit.Memory) is)
       ];
       fault = fault_alike stated failures before now key old f new (Some f) h.fault;
+      told = h.told;
       reads = h.reads;
       succeeds = λ each k is. h.succeeds each k (same_fault f (Fault.Source k) is);
     })
@@ -149,6 +150,7 @@ taken_key {T} stated failures key before now old new told answer h is step = rec
     | inr no_such ↦ absurd (no_fault tt (Fault.Edit Edit.Memory) no_such)
   ];
   fault = tt;
+  told = h.told;
   reads = h.reads;
   succeeds = λ each k no_such. no_fault answer (Fault.Source k) no_such;
 }

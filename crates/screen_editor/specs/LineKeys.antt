@@ -17,7 +17,7 @@ use Rattle.screen_editor.specs.Keys.{looks_for_lines}
 use Rattle.screen_editor.specs.Lines.{line_start, line_end, place_up, place_down}
 use Rattle.screen_editor.specs.Machine.{done}
 use Rattle.screen_editor.specs.Refusals.{GrowsTooLong, IsKeyFault, MakesRevision}
-use Rattle.screen_editor.specs.Revising.{KeepsAll, RecordsEdit}
+use Rattle.screen_editor.specs.Revising.{AppliesCommand, KeepsAll}
 
 -- where a key leads that looks for line breaks
 abbrev pub line_place : Key → List ℕ → ℕ → Option ℕ
@@ -44,7 +44,7 @@ DoesStated st key old new = (source : ℕ → ℕ → ℕ) → Agrees st source 
 -- what a key does to all but the message
 pub record Takes {T : Type 0} (stated : T → Stated) (failures : T → ℕ) (key : Key) (before : T) (old : Editing) (result : Result (Unit {0}) KeyFault) (now : T) (new : Editing) : Type 0 where
   pub done : OnOk result (DoesStated (stated before) key old new)
-  pub command : OnOk result (RecordsEdit key old new)
+  pub command : OnOk result (AppliesCommand key old new.session)
   pub moves : OnOk result (IsTrue (looks_for_lines key) → new ≡ record old { place = new.place })
   pub kept : OnErr result (KeepsAll old new)
   pub too_long : IsErrOf result Fault.TooLong ↔ GrowsTooLong key old

@@ -1,14 +1,17 @@
 -- What one key does, where it is taken and where it is refused.
 use Rattle.std.specs.Prelude.{◌≡◌, ◌↔◌, ◌⊎◌, ℕ, ◌≤◌, IsTrue, List, [], ◌∷◌, ◌++◌, length, map, Option, Some, None, Result, IfOk, IfErr, OnOk, IsErrOf}
-use Rattle.std.specs.List.{cons_option, range_with_len}
+use Rattle.std.specs.List.{range_with_len}
 use Rattle.lazy_file.specs.SourceTexts.{Agrees, Reads, Stated}
+use Rattle.lazy_file.specs.ReadFaults.{TellsAs}
 use Rattle.lazy_file.specs.declared.faults.SourceFault.{SourceFault}
+use Rattle.lazy_file.specs.declared.faults.SourceFault.TheVariants.{Device}
 use Rattle.cord_position.specs.Fetched.{IsReadable, IsStated}
 use Rattle.edit_commands.specs.declared.command.Command.{Command}
 use Rattle.edit_commands.specs.declared.fault.EditFault.TheVariants as Edit
 use Rattle.span_certificate.specs.declared.edit.TheConstants.{MOST_REVISIONS}
 use Rattle.edit_commands.specs.Applying.{Applies, Keeps}
-use Rattle.edit_commands.specs.Session.{edits_of}
+use Rattle.edit_commands.specs.Building.{edit_with}
+use Rattle.edit_commands.specs.Session.{SessionValue, edits_of}
 use Rattle.screen_editor.specs.declared.fault.KeyFault.{KeyFault}
 use Rattle.screen_editor.specs.declared.fault.KeyFault.TheVariants as Fault
 use Rattle.screen_editor.specs.declared.key.Key.{Key}
@@ -16,22 +19,28 @@ use Rattle.screen_editor.specs.declared.key.Step.{Step}
 use Rattle.screen_editor.specs.Editing.{Editing, EditorValue, EachCurrent, key_code, state_of}
 use Rattle.screen_editor.specs.Keys.{answer_to, looks_for_lines}
 use Rattle.screen_editor.specs.Machine.{done, edit_of, refused, step}
-use Rattle.screen_editor.specs.Refusals.{GrowsTooLong, IsKeyFault, MakesRevision}
+use Rattle.screen_editor.specs.Refusals.{GrowsTooLong, IsKeyFault, MakesRevision, first_command}
 use Rattle.screen_editor.specs.State.{start_of}
 
 -- what a key does but for the message, whatever bytes the sources have
 abbrev pub Does : Key → Editing → Editing → Type 0
 Does key old new = (source : ℕ → ℕ → ℕ) → state_of source new ≡ done key (state_of source old)
 
--- the revisions that a key makes, one or none
-abbrev pub RecordsEdit : Key → Editing → Editing → Type 0
-RecordsEdit key old new = (place : ℕ) × ((source : ℕ → ℕ → ℕ) → edits_of new.session.revisions ≡ edits_of old.session.revisions ++ cons_option (edit_of place key (state_of source old)) [])
+-- The session after a key, whatever bytes the sources have: as before, where the key makes no command; else what its
+-- command makes of it, wherever in the pool the command's bytes come to stand.
+pub data AppliesCommand (key : Key) (old : Editing) (new : SessionValue) : Type 0 where
+  none : ((place : ℕ) (source : ℕ → ℕ → ℕ) → edit_of place key (state_of source old) ≡ None)
+      → new ≡ old.session → AppliesCommand key old new
+  one : (command : Command)
+      → ((place : ℕ) (source : ℕ → ℕ → ℕ) → edit_of place key (state_of source old) ≡ Some (edit_with place command))
+      → Applies old.session command (length old.session.revisions) new → AppliesCommand key old new
 
--- The new state is the machine's, whatever bytes the sources have that agree with what they state: of a key that looks for line breaks,
--- where each cell of the text is stated; in any case such a key moves the place alone. The session records the key's command.
+-- The new state is the machine's, whatever bytes the sources have that agree with what they state: of a key that
+-- looks for line breaks, where each cell of the text is stated; in any case such a key moves the place alone. The
+-- session applies the key's command.
 pub record IsStep (st : Stated) (key : Key) (old new : Editing) : Type 0 where
   pub state : (source : ℕ → ℕ → ℕ) → Agrees st source → (IsTrue (looks_for_lines key) → EachCurrent old (IsStated st)) → state_of source new ≡ step key (state_of source old)
-  pub command : RecordsEdit key old new
+  pub command : AppliesCommand key old new.session
   pub moves : IsTrue (looks_for_lines key) → new ≡ record old { place = new.place; message = None }
 
 -- The message alone is new, whatever bytes the sources have. The session may have nodes and bytes more, to which nothing refers.
@@ -43,6 +52,7 @@ pub record IsRefusedBy (fault : KeyFault) (old new : Editing) : Type 0 where
 
 -- A key is taken, as the machine says, or refused. It is too long exactly where its text would be; else, where there are too many
 -- revisions, that or want of memory is told; a source's fault is told only where a read of it failed, and of no text that can be read.
+-- Where one more read has failed, it is the device's fault that is told.
 pub record TakesKey {T : Type 0} (stated : T → Stated) (failures : T → ℕ) (key : Key) (old : EditorValue T) (result : Result Step KeyFault) (new : EditorValue T) : Type 0 where
   pub step : OnOk result (IsStep (stated old.sources) key old.editing new.editing)
   pub answer : IfOk result (λ a. a ≡ answer_to key)
@@ -51,6 +61,7 @@ pub record TakesKey {T : Type 0} (stated : T → Stated) (failures : T → ℕ) 
   pub too_many : MakesRevision key old.editing → ¬ IsErrOf result Fault.TooLong → MOST_REVISIONS ≤ length old.editing.session.revisions
       → IsErrOf result (Fault.Edit Edit.TooManyRevisions) ⊎ IsErrOf result (Fault.Edit Edit.Memory)
   pub fault : IfErr result (λ f. IsKeyFault stated failures old.sources new.sources key old.editing f new.editing)
+  pub told : TellsAs failures old.sources new.sources (Fault.Source Device) result
   pub reads : Reads stated failures old.sources new.sources
   pub succeeds : EachCurrent old.editing (IsReadable (stated old.sources)) → (f : SourceFault) → ¬ IsErrOf result (Fault.Source f)
 
@@ -74,6 +85,8 @@ abbrev pub first_text : (ℕ → ℕ → ℕ) → List ℕ → List ℕ
 first_text source [] = []
 first_text source (n ∷ sizes) = map (source 0) (range_with_len 0 n)
 
--- its state is the first one, whatever bytes the sources have
-abbrev pub IsMade : List ℕ → Editing → Type 0
-IsMade sizes e = (source : ℕ → ℕ → ℕ) → state_of source e ≡ start_of (first_text source sizes)
+-- Its state is the first one, whatever bytes the sources have. Its one command opens source 0, or makes an empty text
+-- where there is no source.
+pub record IsMade (sizes : List ℕ) (e : Editing) : Type 0 where
+  pub state : (source : ℕ → ℕ → ℕ) → state_of source e ≡ start_of (first_text source sizes)
+  pub command : edits_of e.session.revisions ≡ edit_with 0 (first_command sizes) ∷ []

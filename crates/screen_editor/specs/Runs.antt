@@ -3,8 +3,10 @@ use Rattle.std.specs.Prelude.{◌≡◌, ◌⊎◌, ℕ, ◌<◌, ◌≤◌, Lis
 use Rattle.std.specs.Global.{Vec}
 use Rattle.std.specs.List.{flat_map}
 use Rattle.std.specs.Io.KnownBytes.{Appends, Consumes, IsAtEnd}
-use Rattle.lazy_file.specs.SourceTexts.{Agrees, Reads, Stated}
+use Rattle.lazy_file.specs.SourceTexts.{Agrees, Reads, ReadsUnfailed, Stated}
+use Rattle.lazy_file.specs.ReadFaults.{TellsAs}
 use Rattle.lazy_file.specs.declared.faults.SourceFault.{SourceFault}
+use Rattle.lazy_file.specs.declared.faults.SourceFault.TheVariants.{Device}
 use Rattle.cord_position.specs.Fetched.{IsReadable, IsStated}
 use Rattle.screen_editor.specs.declared.fault.End.{End}
 use Rattle.screen_editor.specs.declared.fault.End.TheVariants.{Save, Leave}
@@ -26,10 +28,12 @@ use Rattle.screen_editor.specs.Refusals.{IsFrameFault}
 abbrev pub IsFrame : Stated → Editing → List ℕ → Type 0
 IsFrame st e bytes = (source : ℕ → ℕ → ℕ) → Agrees st source → EachCurrent e (IsStated st) → bytes ≡ frame_of (state_of source e)
 
--- a frame is made, or a source's read failed, or memory was refused; nothing but the sources changes
+-- a frame is made, or a source's read failed, or memory was refused; where one more read has failed, the device's
+-- fault is told; nothing but the sources changes
 pub record MakesFrame {T : Type 0} (stated : T → Stated) (failures : T → ℕ) (old : EditorValue T) (result : Result (Vec ℕ) FrameFault) (new : EditorValue T) : Type 0 where
   pub bytes : IfOk result (λ v. IsFrame (stated old.sources) old.editing v.items)
   pub fault : IfErr result (IsFrameFault stated failures old.sources new.sources old.editing)
+  pub told : TellsAs failures old.sources new.sources (Frames.Source Device) result
   pub succeeds : EachCurrent old.editing (IsReadable (stated old.sources)) → (f : SourceFault) → ¬ IsErrOf result (Frames.Source f)
   pub reads : Reads stated failures old.sources new.sources
   pub kept : new.editing ≡ old.editing
@@ -38,18 +42,21 @@ pub record MakesFrame {T : Type 0} (stated : T → Stated) (failures : T → ℕ
 abbrev pub over : {T : Type 0} → T → Editing → EditorValue T
 over sources e = record { sources = sources; editing = e }
 
--- a byte's key is taken, or refused for a reason, between these sources
-abbrev pub Passes : {T : Type 0} → (T → Stated) → (T → ℕ) → T → T → ℕ → Editing → Editing → Type 0
-Passes stated failures before now b old new =
-    (result : Result Step KeyFault) × TakesKey stated failures (key_of b) (over before old) result (over now new)
+-- a byte's key is taken, or refused for a reason; from the first sources to its own no read failed
+pub record Passes {T : Type 0} (stated : T → Stated) (failures : T → ℕ) (first now : T) (b : ℕ) (old new : Editing)
+    : Type 0 where
+  pub before : T
+  pub unfailed : ReadsUnfailed stated failures first before
+  pub result : Result Step KeyFault
+  pub takes : TakesKey stated failures (key_of b) (over before old) result (over now new)
 
--- each state follows from the one before it
+-- each state follows from the one before it, from the first sources to the last ones
 abbrev pub Follow : {T : Type 0} → (T → Stated) → (T → ℕ) → T → T → Editing → List ℕ → List Editing → Type 0
-Follow stated failures before now old [] [] = Unit {0}
-Follow stated failures before now old [] (e ∷ es) = ⊥
-Follow stated failures before now old (b ∷ bs) [] = ⊥
-Follow stated failures before now old (b ∷ bs) (e ∷ es) =
-    Passes stated failures before now b old e × Follow stated failures before now e bs es
+Follow stated failures first last old [] [] = last ≡ first
+Follow stated failures first last old [] (e ∷ es) = ⊥
+Follow stated failures first last old (b ∷ bs) [] = ⊥
+Follow {T} stated failures first last old (b ∷ bs) (e ∷ es) =
+    (now : T) × Passes stated failures first now b old e × Follow stated failures now last e bs es
 
 -- the frames of these states, one behind the other
 abbrev pub frames_of : (ℕ → ℕ → ℕ) → List Editing → List ℕ
@@ -92,17 +99,22 @@ Answers st left before now keys states (Err Write) = MayGoOn keys × ShowsPrefix
 Answers st left before now keys states (Err (Frame f)) = MayGoOn keys × Shows st before now (take (length keys) states)
 Answers st left before now keys states (Err TooManyKeys) = GoesOn keys × (length keys ≡ MOST_KEYS) × Shows st before now (take (length keys) states)
 
--- A run takes keys, of which each makes the next state from the first one, old, to the last one, new. That a read failed is
--- said of the whole run, from its first sources to its last ones.
+-- behind the last key, over these sources: there is no frame, for this reason; or no read fails
+abbrev pub EndsOver : {T : Type 0} → (T → Stated) → (T → ℕ) → T → Result End RunFault → EditorValue T → Type 0
+EndsOver stated failures sources (Err (Frame f)) new = MakesFrame stated failures (over sources new.editing) (Err f) new
+EndsOver stated failures sources _ new = ReadsUnfailed stated failures sources new.sources
+
+-- A run takes keys, of which each makes the next state from the first one, old, to the last one, new; the sources are
+-- those behind the last key. Where a read failed, it was one of a key, or of the last frame, and that was told.
 pub record IsRun {T : Type 0} (stated : T → Stated) (failures : T → ℕ)
     (keys_before keys_left before now : Option (List ℕ))
     (old : EditorValue T) (result : Result End RunFault) (new : EditorValue T) : Type 0 where
   pub keys : List ℕ
   pub behind : List Editing
+  pub sources : T
   pub taken : Consumes keys_before keys_left keys
   pub few : length keys ≤ MOST_KEYS
-  pub follow : Follow stated failures old.sources new.sources old.editing keys behind
+  pub follow : Follow stated failures old.sources sources old.editing keys behind
   pub last : slice_get (old.editing ∷ behind) (length keys) ≡ Some new.editing
   pub answers : Answers (stated old.sources) keys_left before now keys (old.editing ∷ behind) result
-  pub no_frame : (f : FrameFault) → IsErrOf result (Frame f)
-      → MakesFrame stated failures (over old.sources new.editing) (Err f) new
+  pub ends : EndsOver stated failures sources result new

@@ -11,7 +11,7 @@ use Rattle.screen_editor.specs.declared.fault.KeyFault.TheVariants as Fault
 use Rattle.screen_editor.specs.declared.key.Key.{Key}
 use Rattle.screen_editor.specs.Editing.{Editing}
 use Rattle.screen_editor.specs.Refusals.{GrowsTooLong, IsPlainFault, MakesRevision}
-use Rattle.screen_editor.specs.Revising.{Does, KeepsAll, RecordsEdit, Revises}
+use Rattle.screen_editor.specs.Revising.{AppliesCommand, Does, KeepsAll, Revises}
 
 -- ---- a command
 
@@ -43,7 +43,7 @@ pub record RevisesOrNot (command : Command) (prior : Option ℕ) (q : ℕ) (old 
 -- what a key does to all but the sources and the message
 pub record CarriesOut (key : Key) (old : Editing) (result : Result (Unit {0}) KeyFault) (new : Editing) : Type 0 where
   pub done : OnOk result (Does key old new)
-  pub command : OnOk result (RecordsEdit key old new)
+  pub command : OnOk result (AppliesCommand key old new.session)
   pub kept : OnErr result (KeepsAll old new)
   pub too_long : IsErrOf result Fault.TooLong ↔ GrowsTooLong key old
   pub too_many : MakesRevision key old → ¬ IsErrOf result Fault.TooLong → MOST_REVISIONS ≤ length old.session.revisions

@@ -1,7 +1,7 @@
 -- What one turn of a run does: a frame is shown, and a key is taken.
 use Rattle.std.specs.Prelude.{◌≡◌, ◌⊎◌, ℕ, List, [], ◌∷◌, Option, Some, None, Result, Ok, Err}
 use Rattle.std.specs.Io.KnownBytes.{Consumes, IsAtEnd}
-use Rattle.lazy_file.specs.SourceTexts.{Stated}
+use Rattle.lazy_file.specs.SourceTexts.{ReadsUnfailed, Stated}
 use Rattle.screen_editor.specs.declared.fault.End.{End}
 use Rattle.screen_editor.specs.declared.fault.End.TheVariants.{Save, Leave}
 use Rattle.screen_editor.specs.declared.fault.RunFault.{RunFault}
@@ -14,7 +14,9 @@ use Rattle.screen_editor.specs.Runs.{MakesFrame, Passes, Shows, ShowsPrefix}
 -- what the screen took where a state was not shown, and why there was no frame
 abbrev pub NotShown : {T : Type 0} → (T → Stated) → (T → ℕ) → Option (List ℕ) → Option (List ℕ)
     → EditorValue T → EditorValue T → RunFault → Type 0
-NotShown stated failures before now old new Write = ShowsPrefix (stated old.sources) before now (old.editing ∷ [])
+NotShown stated failures before now old new Write =
+    ShowsPrefix (stated old.sources) before now (old.editing ∷ [])
+    × ReadsUnfailed stated failures old.sources new.sources
 NotShown stated failures before now old new (Frame f) =
     Shows (stated old.sources) before now [] × MakesFrame stated failures old (Err f) new
 NotShown stated failures before now old new _ = ⊥
@@ -48,8 +50,9 @@ IsTurn stated failures keys left before now old (Ok (Some Save)) new =
 IsTurn stated failures keys left before now old (Ok (Some Leave)) new =
     TakesOne stated failures keys left before now Step.Leave old new
     ⊎ (TakesNone keys left old.editing new.editing × IsAtEnd left
-    × Shows (stated old.sources) before now (old.editing ∷ []))
+    × Shows (stated old.sources) before now (old.editing ∷ []) × ReadsUnfailed stated failures old.sources new.sources)
 IsTurn stated failures keys left before now old (Err Read) new =
     TakesNone keys left old.editing new.editing × Shows (stated old.sources) before now (old.editing ∷ [])
+    × ReadsUnfailed stated failures old.sources new.sources
 IsTurn stated failures keys left before now old (Err fault) new =
     TakesNone keys left old.editing new.editing × NotShown stated failures before now old new fault

@@ -1,8 +1,6 @@
 //! The editor: a workspace over the sources that its text may lie in.
 
 ghost use Rattle.std.specs.Prelude.{◌≡◌, ◌↔◌, IfOk, IfErr, IsErrOf, IsTrue, OnErr};
-ghost use Rattle.lazy_file.specs.ReadFaults.{TellsAs};
-ghost use Rattle.lazy_file.specs.declared.faults.SourceFault.TheVariants.{Device};
 ghost use Rattle.cord_position.specs.Fetched.{ReadsSpan};
 ghost use Rattle.screen_editor.specs.Editing.{IsEditor, current_cell, current_len};
 ghost use Rattle.screen_editor.specs.Keys.{key_of, looks_for_lines};
@@ -95,7 +93,6 @@ fn take_key<R: Sources>(
     ensures takes { TakesKey R.stated R.failures key
         (record { sources = sources.old; editing = workspace.old }) result
         (record { sources = sources.new; editing = workspace.new }) }
-    ensures told { TellsAs R.failures sources.old sources.new (KeyFault.Source Device) result }
     ensures sizes { workspace.new.session.held.sources ≡ workspace.old.session.held.sources }
 {
     if let Err(fault) = take(alloc, sources, workspace, key) {
@@ -121,7 +118,6 @@ fn frame_of<R: Sources>(
     ensures makes { MakesFrame R.stated R.failures
         (record { sources = sources.old; editing = workspace.now }) result
         (record { sources = sources.new; editing = workspace.now }) }
-    ensures told { TellsAs R.failures sources.old sources.new (FrameFault.Source Device) result }
 {
     let (root, place) = (workspace.root(), workspace.place());
     let (last, message) = (workspace.last(), workspace.message());
@@ -166,7 +162,6 @@ impl<R: Sources + Drop> Editor<R> {
     /// `Source` where a line break was looked for and a read failed.
     pub fn key(&mut self, byte: u8) -> Result<Step, KeyFault>
         ensures takes { TakesKey R.stated R.failures (key_of byte) self.old result self.new }
-        ensures told { TellsAs R.failures self.old.sources self.new.sources (KeyFault.Source Device) result }
     {
         take_key(
             self.alloc,
@@ -183,7 +178,6 @@ impl<R: Sources + Drop> Editor<R> {
     /// `Source`, where a byte or a line break could not be read. `Memory`, where memory was refused.
     pub fn frame(&mut self) -> Result<Vec<u8>, FrameFault>
         ensures makes { MakesFrame R.stated R.failures self.old result self.new }
-        ensures told { TellsAs R.failures self.old.sources self.new.sources (FrameFault.Source Device) result }
     {
         frame_of(self.alloc, &mut self.sources, &self.workspace)
     }

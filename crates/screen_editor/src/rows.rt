@@ -16,8 +16,10 @@ use lazy_file::Sources;
 use rope_node::{NodeSpace, Rope, rope_len};
 use std::alloc::Global;
 
+/// So many lines of the text are shown.
 const SCREEN_ROWS: u32 = 23;
 
+/// So many bytes of a line are shown.
 pub const SCREEN_COLUMNS: u64 = 80;
 
 /// A byte that can be shown, or `?` in its place.

@@ -2,7 +2,7 @@
 
 ghost use Rattle.std.specs.Prelude.{◌≡◌, [], ◌∷◌, IfOk, IfErr, OnOk, OnErr};
 ghost use Rattle.std.specs.Io.KnownBytes.{Consumes};
-ghost use Rattle.lazy_file.specs.SourceTexts.{Reads};
+ghost use Rattle.lazy_file.specs.SourceTexts.{Reads, ReadsUnfailed};
 ghost use Rattle.screen_editor.specs.declared.fault.RunFault.TheVariants.{Read};
 ghost use Rattle.screen_editor.specs.Runs.{IsRun, Shows};
 ghost use Rattle.screen_editor.specs.Turns.{IsNextKey, IsTurn, NotShown};
@@ -47,6 +47,7 @@ impl<R: Sources + Drop> Editor<R> {
             (W.contents screen.old) (W.contents screen.new) (self.old.editing ∷ [])) }
         ensures not_shown { IfErr result (NotShown R.stated R.failures
             (W.contents screen.old) (W.contents screen.new) self.old self.new) }
+        ensures unfailed { OnOk result (ReadsUnfailed R.stated R.failures self.old.sources self.new.sources) }
         ensures kept { self.new.editing ≡ self.old.editing }
         ensures reads { Reads R.stated R.failures self.old.sources self.new.sources }
     {

@@ -9,7 +9,7 @@ use Rattle.lazy_file.proofs.MemoryTexts.{stated_text}
 use Rattle.std.proofs.lemmas.List.{length-map}
 use Rattle.cord_position.specs.Fetched.{IsReadable, IsStated}
 use Rattle.span_certificate.specs.Covers.{IsFirstBad}
-use Rattle.span_certificate.proofs.MadeRows.{no_source_readable, no_source_stated, own_rows_readable}
+use Rattle.span_certificate.proofs.MadeRows.{no_source_readable, no_source_stated, own_rows_readable, agreeing}
 use Rattle.image_reader.specs.declared.fault.ReadFault.{ReadFault}
 use Rattle.image_reader.specs.Value.{ImageValue, IsImage, image_table, coded_at}
 use Rattle.image_reader.specs.Spelling.{spelling}
@@ -26,7 +26,8 @@ use Rattle.session_checker.specs.RevisionRules.{HasStatedRows, HasStatedBefore, 
 use Rattle.session_checker.specs.Accepted.{StatesAll, HasGoodTables, IsFirstTableFault, IsAccepted, IsFirstFault, IsExact, NeedsNoRead, Accepts}
 use Rattle.session_checker.specs.Faithful.{EachRevision}
 use Rattle.session_checker.proofs.SoundTables.{sound_table}
-use Rattle.session_checker.proofs.FaithfulImages.{ready, agreeing}
+use Rattle.session_checker.proofs.FaithfulImages.{ready}
+use Rattle.span_certificate.proofs.Verdicts.{not_both, one_first}
 
 -- two places before which all is good, and which are not
 one_place : (Good : ℕ → Type 0) (a b : ℕ) → ((c : ℕ) → c < a → Good c) → ¬ Good a → ((c : ℕ) → c < b → Good c) → ¬ Good b → a ≡ b
@@ -119,24 +120,6 @@ readable_rows v st is k earlier rules =
     own_rows_readable (image_table v) (sound_table v is.image is.tables.1) st (record { never_fails = is.all.never_fails; sizes = sym is.tables.0 }) (parts_at v k) (revision_at v k).root (rows_at v k)
     (ready v k (λ c lt. (earlier c lt).rules) rules).parts rules.root.0
 
--- rows that cover have no first bad one, and there is at most one
-no_bad_row : (v : ImageValue) (source : ℕ → ℕ → ℕ) (k j : ℕ) → HasGoodRows v source k → IsFirstBad (image_table v) (coded_at v) source (parts_at v k) (revision_at v k).root (rows_at v k) j → ⊥
-no_bad_row v source k j c bad =
-    elim (cases_order j (length (rows_at v k))) [
-      | inl e ↦ bad.uncovered e (c.whole_root, c.whole_parts)
-      | inr (inl lt) ↦ bad.unfit lt (c.fit j lt)
-      | inr (inr gt) ↦ absurd (omega (arith, bad.at_most))
-    ]
-
-one_bad_row : (v : ImageValue) (source : ℕ → ℕ → ℕ) (k i j : ℕ) → IsFirstBad (image_table v) (coded_at v) source (parts_at v k) (revision_at v k).root (rows_at v k) i
-    → IsFirstBad (image_table v) (coded_at v) source (parts_at v k) (revision_at v k).root (rows_at v k) j → i ≡ j
-one_bad_row v source k i j a b =
-    elim (cases_order i j) [
-      | inl e ↦ e
-      | inr (inl lt) ↦ absurd (a.unfit (omega (arith, b.at_most)) (b.before i lt))
-      | inr (inr gt) ↦ absurd (b.unfit (omega (arith, a.at_most)) (a.before j gt))
-    ]
-
 -- what revision k breaks first, where its rows can be read
 data Broken (v : ImageValue) (st : Stated) (k : ℕ) (f : CheckFault) : Type 0 where
   command : f ≡ faults.Command k → ¬ IsCommandInRange v k → Broken v st k f
@@ -187,7 +170,7 @@ not_good v st k f (root e in_range bad) g = bad g.rules.root
 not_good v st k f (mark e in_range is_root bad) g = bad g.rules.mark
 not_good v st k f (row j e rules bad stated) g =
     let some = agreeing st in
-    no_bad_row v some.0 k j (g.rows some.0 some.1 stated) (bad some.0 some.1 (stated_before v st k (j + 1) stated))
+    not_both (image_table v) (coded_at v) some.0 (parts_at v k) (revision_at v k).root (rows_at v k) j (g.rows some.0 some.1 stated) (bad some.0 some.1 (stated_before v st k (j + 1) stated))
 
 one_broken : (v : ImageValue) (st : Stated) (k : ℕ) (f g : CheckFault) → Broken v st k f → Broken v st k g → f ≡ g
 one_broken v st k f g (command e bad) (command d also) = e ∙ sym d
@@ -207,7 +190,7 @@ one_broken v st k f g (row i e rules bad stated) (root d in_range also) = absurd
 one_broken v st k f g (row i e rules bad stated) (mark d in_range is_root also) = absurd (also rules.mark)
 one_broken v st k f g (row i e rules bad stated) (row j d too also again) =
     let some = agreeing st in
-    e ∙ ap (faults.Rows k) (one_bad_row v some.0 k i j (bad some.0 some.1 (stated_before v st k (i + 1) stated)) (also some.0 some.1 (stated_before v st k (j + 1) stated))) ∙ sym d
+    e ∙ ap (faults.Rows k) (one_first (image_table v) (coded_at v) some.0 (parts_at v k) (revision_at v k).root (rows_at v k) i j (bad some.0 some.1 (stated_before v st k (i + 1) stated)) (also some.0 some.1 (stated_before v st k (j + 1) stated))) ∙ sym d
 
 -- no revision of an image that keeps the rules has a fault
 pub no_revision_fault : {T : Type 0} (stated : T → Stated) (failures : T → ℕ) (old new : T) (v : ImageValue) (f : CheckFault) → IsOver v (stated old) → AreGoodOver v (stated old) → IsFirstRevisionFault stated failures old new v f → ⊥

@@ -18,7 +18,7 @@ use Rattle.span_certificate.specs.Leads.{AreAnswered}
 use Rattle.span_certificate.proofs.Joined.{parts_joined}
 use Rattle.span_certificate.proofs.MappedResults.{mapped_givens, result_mapped}
 use Rattle.span_certificate.proofs.Sameness.{covered_text, covered_cells}
-use Rattle.span_certificate.proofs.MadeRows.{no_source_stated}
+use Rattle.span_certificate.proofs.MadeRows.{no_source_stated, agreeing}
 use Rattle.image_reader.specs.declared.revision.Revision.{Revision}
 use Rattle.image_reader.specs.Value.{ImageValue, IsImage, image_table, function_at, coded_at}
 use Rattle.image_reader.specs.Accepted.{AreGoodNodes, no_revision, revision_at, roots_before, parts_at, rows_at, KeepsRules}
@@ -27,24 +27,11 @@ use Rattle.session_checker.specs.Faithful.{source_text, givens, commands, texts_
 use Rattle.session_checker.proofs.SoundTables.{sound_table, true_table}
 use Rattle.session_checker.proofs.EarlierRevisions.{earlier_ropes}
 use Rattle.span_certificate.proofs.PartsInRange.{parts_in_range}
+use Rattle.rope_node.proofs.Parts.{map_alike}
 
 -- the functions at an image's nodes answer as they are coded
 pub answered : (v : ImageValue) → AreAnswered (image_table v) (coded_at v)
 answered v k = answers_as_filled (function_at v k)
-
--- some bytes agree with what sources state
-abbrev stated_byte : Option (List ℕ) → ℕ → ℕ
-stated_byte None p = 0
-stated_byte (Some t) p = slice_index t p
-
-pub agreeing : (st : Stated) → (source : ℕ → ℕ → ℕ) × Agrees st source
-agreeing st = (λ s p. stated_byte (text_at st s) p, λ s p t is inside. ap (λ o. stated_byte o p) is)
-
--- ---- lists
-
-map_alike : {A B : Type 0} (f g : A → B) → ((x : A) → f x ≡ g x) → (xs : List A) → map f xs ≡ map g xs
-map_alike f g same [] = refl
-map_alike f g same (x ∷ xs) = rw (same x, map_alike f g same xs) refl
 
 -- what stands at a revision's place, and the command there
 at_revision : {X : Type 0} (v : ImageValue) (f : Revision → X) (k : ℕ) → k < length v.revisions → slice_get (map f v.revisions) k ≡ Some (f (revision_at v k))

@@ -29,6 +29,7 @@ later_unread stated failures old mid new v k e before h = record {
   failed = record {
     j = h.failed.j;
     inside = h.failed.inside;
+    may_be_read = h.failed.may_be_read;
     row = later_fault_in stated failures old mid new _ _ _ e before h.failed.row;
     fit = rw (sym before.same) h.failed.fit;
   };

@@ -1,5 +1,6 @@
 -- The rules that each node of an image has to keep, in their order, and which one it breaks first.
-use Rattle.std.specs.Prelude.{◌≡◌, ℕ, ◌^◌, ◌<◌, ◌≤◌, length}
+use Rattle.std.specs.Prelude.{◌≡◌, ℕ, ◌<◌, ◌≤◌, length}
+use Rattle.rope_node.specs.declared.limits.TheConstants.{MOST_DEPTH, TEXT_LIMIT}
 use Rattle.rope_node.specs.declared.node.NodeView.{NodeView}
 use Rattle.rope_node.specs.Table.{Node, Table, node_at, HasGoodReferences, HasTrueLength, HasSpanInside, depth_of}
 use Rattle.image_reader.specs.Accepted.{IsGoodNode}
@@ -11,13 +12,13 @@ use Rattle.session_checker.specs.declared.node_rules.NodeRule.TheVariants.{Refer
 -- the length is not 0, not over the limit, and a concatenation's is its children's together
 pub record HasGoodLength (t : Table) (n : ℕ) (v : NodeView) : Type 0 where
   pub not_empty : 1 ≤ n
-  pub not_long : n < 2 ^ 40
+  pub not_long : n < TEXT_LIMIT
   pub sum : HasTrueLength t n v
 
 -- the depth follows from the children's, and is at most 64
 pub record HasGoodDepth (t : Table) (d : ℕ) (v : NodeView) : Type 0 where
   pub follows : d ≡ depth_of t v
-  pub not_deep : d ≤ 64
+  pub not_deep : d ≤ MOST_DEPTH
 
 -- the first rule that node id breaks
 abbrev pub Breaks : Table → ℕ → Node → NodeRule → Type 0

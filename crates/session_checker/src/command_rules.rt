@@ -1,6 +1,7 @@
 //! The range of commands, tested by the recorded lengths of the roots before them.
 
-ghost use Rattle.std.specs.Prelude.{◌≡◌, ◌+◌, ◌<◌, ◌≤◌, ◌^◌, ◌↔◌, length, IsTrue};
+ghost use Rattle.std.specs.Prelude.{◌≡◌, ◌+◌, ◌<◌, ◌≤◌, ◌↔◌, length, IsTrue};
+ghost use Rattle.rope_node.specs.declared.limits.TheConstants.{TEXT_LIMIT};
 ghost use Rattle.span_certificate.specs.Parts.{AreRopes, IsInRange, len_of};
 
 use crate::node_rules::is_inside;
@@ -28,7 +29,7 @@ fn takes<S: NodeSpace, R: Roots>(space: &S, roots: &R, r: u32, p: u64, m: u64, n
     requires { AreRopes (S.table space.now) (R.roots roots.now) }
     ensures { IsTrue result ↔ ((r < length (R.roots roots.now))
         × (p + m ≤ len_of (S.table space.now) (R.roots roots.now) r)
-        × (len_of (S.table space.now) (R.roots roots.now) r + n < 2 ^ 40 + m)) }
+        × (len_of (S.table space.now) (R.roots roots.now) r + n < TEXT_LIMIT + m)) }
 {
     if !is_there(roots, r) {
         return false;
@@ -42,7 +43,7 @@ fn joins<S: NodeSpace, R: Roots>(space: &S, roots: &R, r: u32, q: u32) -> bool
     requires { AreRopes (S.table space.now) (R.roots roots.now) }
     ensures { IsTrue result ↔ ((r < length (R.roots roots.now)) × (q < length (R.roots roots.now))
         × (len_of (S.table space.now) (R.roots roots.now) r
-        + len_of (S.table space.now) (R.roots roots.now) q < 2 ^ 40)) }
+        + len_of (S.table space.now) (R.roots roots.now) q < TEXT_LIMIT)) }
 {
     if !is_there(roots, r) || !is_there(roots, q) {
         return false;

@@ -2,13 +2,13 @@
 
 ghost use Rattle.std.specs.Prelude.{◌≡◌, [], ◌∷◌};
 ghost use Rattle.image_reader.specs.Layout.{spelled};
-ghost use Rattle.image_reader.specs.declared.header.TheConstants.{MAGIC};
+ghost use Rattle.image_reader.specs.declared.header.TheConstants.{MAGIC, VERSION};
 ghost use Rattle.image_reader.specs.Spelling.{header_layout, source_spelling, row_layout, row_spelling, revision_layout, revision_numbers, revision_spelling, numbers_of, mark_number, root_number};
 ghost use Rattle.image_reader.specs.Value.{FitsRow};
 ghost use Rattle.span_certificate.specs.Fields.{recorded, FitsRecord};
 
 use crate::record::Record;
-use image_reader::{MAGIC, NIL_ROOT, Numbers, Revision};
+use image_reader::{MAGIC, NIL_ROOT, Numbers, Revision, VERSION};
 use rope_node::Rope;
 use span_certificate::{Edit, Row, RowKind};
 
@@ -24,12 +24,12 @@ pub(crate) struct Counts {
 
 /// The header.
 pub(crate) fn header_record(counts: Counts) -> Record
-    ensures { result ≡ spelled header_layout (MAGIC ∷ 1 ∷ counts.sources ∷ counts.nodes
+    ensures { result ≡ spelled header_layout (MAGIC ∷ VERSION ∷ counts.sources ∷ counts.nodes
         ∷ counts.revisions ∷ counts.rows ∷ 0 ∷ counts.pool ∷ []) }
 {
     let mut record = Record::new();
     record.push_u64(MAGIC);
-    record.push_u32(1);
+    record.push_u32(VERSION);
     record.push_u32(counts.sources);
     record.push_u32(counts.nodes);
     record.push_u32(counts.revisions);

@@ -15,13 +15,10 @@ use Rattle.span_certificate.specs.declared.part.Part.TheVariants.{Old, Pool, Sou
 use Rattle.span_certificate.specs.declared.row.Row.{Row}
 use Rattle.span_certificate.specs.Parts.{part_len, parts_len, part_cells, parts_cells, IsPart, AreParts, part_at}
 use Rattle.span_certificate.specs.Covers.{row_at, no_row, rows_len, place_of}
-
-pub length-rope_cells : (t : Table) → IsSound t → HasTrueRecords t → (root : Option NodeId) → IsRope t root → length (rope_cells t root) ≡ rope_len t root
-length-rope_cells t s h None there = refl
-length-rope_cells t s h (Some id) there = cells_length t s h id.0 there
+use Rattle.rope_node.proofs.Ropes.{rope_length}
 
 pub length-part_cells : (t : Table) → IsSound t → HasTrueRecords t → (part : Part) → IsPart t part → length (part_cells t part) ≡ part_len part
-length-part_cells t s h (Old rope i n) is = let len = length-rope_cells t s h rope is.1.0 in omega (arith, length-take n (drop i (rope_cells t rope)), length-drop i (rope_cells t rope), len, is.1.1)
+length-part_cells t s h (Old rope i n) is = let len = rope_length t s h rope is.1.0 in omega (arith, length-take n (drop i (rope_cells t rope)), length-drop i (rope_cells t rope), len, is.1.1)
 length-part_cells t s h (Pool a n) is = omega (arith, length-map (take n (drop a t.pool)) Byte, length-take n (drop a t.pool), length-drop a t.pool, is.1)
 length-part_cells t s h (Source r n) is = length-map-range_with_len (Place r) 0 n
 length-part_cells t s h (Fill c n) is = length-replicate n (Byte c)

@@ -13,8 +13,8 @@ use Rattle.span_certificate.specs.declared.edit.Edit.{Edit}
 use Rattle.span_certificate.specs.declared.edit.Edit.TheVariants as Command
 use Rattle.span_certificate.specs.Commands.{◌>>=◌, span, bounded, replaced, spliced, result_of}
 use Rattle.span_certificate.specs.Parts.{root_at, AreRopes, IsInRange, givens_of}
-use Rattle.span_certificate.proofs.Covering.{length-rope_cells}
 use Rattle.span_certificate.proofs.Joined.{text_at, terms_joined}
+use Rattle.rope_node.proofs.Ropes.{rope_length}
 
 -- what a result of a step tells of what the step began with
 if_some : {A : Type 0} (b : Bool) (o : Option A) → IsSome (if b then o else None) → (b ≡ true) × IsSome o
@@ -81,12 +81,12 @@ ranged t s h roots (Command.Insert r p a n) ropes some =
     let pool = got_pool t a n (λ y. if nat_le 1 n then spliced cs p 0 y else None) text.1 in
     let test = if_some (leb 1 n) (spliced cs p 0 x) pool.2 in
     let fits = spliced_some cs p 0 x test.1 in
-    let len = length-rope_cells t s h (root_at roots r) (ropes r text.0) in
+    let len = rope_length t s h (root_at roots r) (ropes r text.0) in
     (text.0, omega (arith, fits.0, len), leb-true 1 n test.0, pool.0, omega (arith, fits.1, len, pool.1))
 ranged t s h roots (Command.Delete r p n) ropes some =
     let cs = rope_cells t (root_at roots r) in
     let text = got_text t roots r (λ u. spliced u p n []) some in
-    let len = length-rope_cells t s h (root_at roots r) (ropes r text.0) in
+    let len = rope_length t s h (root_at roots r) (ropes r text.0) in
     (text.0, omega (arith, (spliced_some cs p n [] text.1).0, len))
 ranged t s h roots (Command.Replace r p m a n) ropes some =
     let cs = rope_cells t (root_at roots r) in
@@ -95,7 +95,7 @@ ranged t s h roots (Command.Replace r p m a n) ropes some =
     let pool = got_pool t a n (λ y. if nat_le 1 n then spliced cs p m y else None) text.1 in
     let test = if_some (leb 1 n) (spliced cs p m x) pool.2 in
     let fits = spliced_some cs p m x test.1 in
-    let len = length-rope_cells t s h (root_at roots r) (ropes r text.0) in
+    let len = rope_length t s h (root_at roots r) (ropes r text.0) in
     (text.0, omega (arith, fits.0, len), leb-true 1 n test.0, pool.0, omega (arith, fits.1, len, pool.1))
 ranged t s h roots (Command.Paste r p q i n) ropes some =
     let cs = rope_cells t (root_at roots r) in
@@ -105,8 +105,8 @@ ranged t s h roots (Command.Paste r p q i n) ropes some =
     let other = got_text t roots q (λ v. span v i n >>= (λ y. spliced cs p 0 y)) text.1 in
     let part = got_span ds i n (λ y. spliced cs p 0 y) other.1 in
     let fits = spliced_some cs p 0 x part.1 in
-    let len_r = length-rope_cells t s h (root_at roots r) (ropes r text.0) in
-    let len_q = length-rope_cells t s h (root_at roots q) (ropes q other.0) in
+    let len_r = rope_length t s h (root_at roots r) (ropes r text.0) in
+    let len_q = rope_length t s h (root_at roots q) (ropes q other.0) in
     let few : length x ≡ n = omega (arith, length-take n (drop i ds), length-drop i ds, part.0) in
     (text.0, omega (arith, fits.0, len_r), other.0, omega (arith, part.0, len_q), omega (arith, fits.1, len_r, few))
 ranged t s h roots (Command.Join r q) ropes some =
@@ -115,21 +115,21 @@ ranged t s h roots (Command.Join r q) ropes some =
     let text = got_text t roots r (λ u. slice_get (map (rope_cells t) roots) q >>= (λ v. bounded (u ++ v))) some in
     let other = got_text t roots q (λ v. bounded (cs ++ v)) text.1 in
     let short = bounded_some (cs ++ ds) other.1 in
-    let len_r = length-rope_cells t s h (root_at roots r) (ropes r text.0) in
-    let len_q = length-rope_cells t s h (root_at roots q) (ropes q other.0) in
+    let len_r = rope_length t s h (root_at roots r) (ropes r text.0) in
+    let len_q = rope_length t s h (root_at roots q) (ropes q other.0) in
     (text.0, other.0, omega (arith, short, length-append cs ds, len_r, len_q))
 ranged t s h roots (Command.Cut r i n) ropes some =
     let cs = rope_cells t (root_at roots r) in
     let text = got_text t roots r (λ u. span u i n) some in
     let test = if_some (leb (i + n) (length cs)) (Some (take n (drop i cs))) text.1 in
-    (text.0, omega (arith, leb-true (i + n) (length cs) test.0, length-rope_cells t s h (root_at roots r) (ropes r text.0)))
+    (text.0, omega (arith, leb-true (i + n) (length cs) test.0, rope_length t s h (root_at roots r) (ropes r text.0)))
 ranged t s h roots (Command.Fill r p c n) ropes some =
     let cs = rope_cells t (root_at roots r) in
     let x = replicate n (Byte c) in
     let text = got_text t roots r (λ u. if nat_le c 255 then spliced u p 0 (replicate n (Byte c)) else None) some in
     let test = if_some (leb c 255) (spliced cs p 0 x) text.1 in
     let fits = spliced_some cs p 0 x test.1 in
-    let len = length-rope_cells t s h (root_at roots r) (ropes r text.0) in
+    let len = rope_length t s h (root_at roots r) (ropes r text.0) in
     (text.0, omega (arith, fits.0, len), leb-true c 255 test.0, omega (arith, fits.1, len, length-replicate n (Byte c)))
 ranged t s h roots (Command.Back r) ropes some = whole_text t roots r some
 ranged t s h roots (Command.Balance r) ropes some = whole_text t roots r some

@@ -3,6 +3,7 @@ pub mod Cells
 pub mod Describing
 pub mod Ways
 pub mod Steps
+pub mod FirstLeaves
 pub mod Walks
 pub mod NextRows
 pub mod ComparedCells

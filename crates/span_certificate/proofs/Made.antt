@@ -15,7 +15,8 @@ use Rattle.span_certificate.specs.Covers.{row_at, no_row, rows_len, place_of, ro
 use Rattle.span_certificate.specs.declared.making.TheConstants.{ROWS_LIMIT}
 use Rattle.span_certificate.specs.Steps.{IsNext}
 use Rattle.span_certificate.proofs.ComparedCells.{all_compared, each_byte}
-use Rattle.span_certificate.proofs.Covering.{length-parts_cells, length-rope_cells, holds_place, place_of_all}
+use Rattle.span_certificate.proofs.Covering.{length-parts_cells, holds_place, place_of_all}
+use Rattle.rope_node.proofs.Ropes.{rope_length}
 
 row_before : (rows : List Row) (row : Row) (j : ℕ) → j < length rows → row_at (rows ++ row ∷ []) j ≡ row_at rows j
 row_before rows row j lt = get_or_append_left rows (row ∷ []) no_row j lt
@@ -65,7 +66,7 @@ pub record IsStep (t : Table) (part : Part) (off : ℕ) (node : NodeId) (place l
   pub same : take left (drop off (part_cells t part)) ≡ take left (drop place (cells t node.0))
 
 pub whole_parts : (t : Table) → IsSound t → HasTrueRecords t → (parts : List Part) (node : NodeId) → AreParts t parts → node.0 < length t.nodes → parts_cells t parts ≡ cells t node.0 → parts_len parts ≡ len_at t node.0
-whole_parts t s h parts node are there same = sym (length-parts_cells t s h parts are) ∙ ap length same ∙ length-rope_cells t s h (Some node) there
+whole_parts t s h parts node are there same = sym (length-parts_cells t s h parts are) ∙ ap length same ∙ rope_length t s h (Some node) there
 
 pub step_of : (t : Table) → IsSound t → HasTrueRecords t → (parts : List Part) (node : NodeId) (place off : ℕ) (part : Part) → AreParts t parts → node.0 < length t.nodes → parts_cells t parts ≡ cells t node.0
     → part_at parts place ≡ Some (part, off) → IsStep t part off node place (part_len part - off)
@@ -110,6 +111,6 @@ making_more t s h coded parts node rows place off left part row are same e step 
 pub covers_at_end : (t : Table) → IsSound t → HasTrueRecords t → (coded : ℕ → Coded) (parts : List Part) (root : Option NodeId) (rows : List Row) (place : ℕ) → AreParts t parts → IsRope t root → parts_cells t parts ≡ rope_cells t root
     → IsMaking t coded parts root rows place → rope_len t root ≤ place → CoversAlways t coded parts root rows
 covers_at_end t s h coded parts root rows place are there same making past source =
-    let whole : parts_len parts ≡ rope_len t root = sym (length-parts_cells t s h parts are) ∙ ap length same ∙ length-rope_cells t s h root there in
+    let whole : parts_len parts ≡ rope_len t root = sym (length-parts_cells t s h parts are) ∙ ap length same ∙ rope_length t s h root there in
     let end : rows_len rows ≡ rope_len t root = omega (arith, making.stands, making.made.in_root, past) in
     record { fit = making.made.fit source; whole_root = end; whole_parts = end ∙ sym whole }

@@ -47,7 +47,7 @@ abbrev stated_byte : Option (List ℕ) → ℕ → ℕ
 stated_byte None p = 0
 stated_byte (Some t) p = slice_index t p
 
-agreeing : (st : Stated) → (source : ℕ → ℕ → ℕ) × Agrees st source
+pub agreeing : (st : Stated) → (source : ℕ → ℕ → ℕ) × Agrees st source
 agreeing st = (λ s p. stated_byte (text_at st s) p, λ s p t is inside. ap (λ o. stated_byte o p) is)
 
 -- rows that cover whatever the sources hold, and over none, are found good over any sources

@@ -1,5 +1,5 @@
 -- Rows for the first bytes of a part and of the root.
-use Rattle.std.proofs.Common.{◌≡◌, ℕ, zero, suc, ◌+◌, ◌≤◌, List, ◌∷◌, map, take, drop, Some, refl, sym, ap, subst, ◌∙◌, arith}
+use Rattle.std.proofs.Common.{◌≡◌, ℕ, ◌+◌, ◌≤◌, List, ◌∷◌, map, take, drop, Some, refl, sym, ap, subst, ◌∙◌, arith}
 use Rattle.std.specs.Prelude.{replicate}
 use Rattle.std.specs.List.{range_with_len, drop-map}
 use Rattle.std.proofs.lemmas.List.{take-take}
@@ -19,13 +19,10 @@ use Rattle.span_certificate.specs.Leads.{PartHasDescription}
 use Rattle.span_certificate.specs.Covers.{KindFits}
 use Rattle.span_certificate.specs.Steps.{SpansFit, IsRowOf, DescribedFits, IsDescribedRow, IsNext, AreBytes}
 use Rattle.span_certificate.proofs.Walks.{bytes_take}
+use Rattle.span_certificate.proofs.MappedResults.{map-replicate}
 
 bytes_drop : (n : ℕ) (cs : List Cell) → AreBytes cs → AreBytes (drop n cs)
 bytes_drop n cs (bytes, e) = (drop n bytes, ap (drop n) e ∙ drop-map Byte n bytes)
-
-map-replicate : (n c : ℕ) → replicate n (Byte c) ≡ map Byte (replicate n c)
-map-replicate zero c = refl
-map-replicate (suc n) c = ap (λ l. Byte c ∷ l) (map-replicate n c)
 
 -- the bytes of a pool part and of a fill, and the places of a source part
 pub pool_next : (t : Table) (part : Part) (a n off left : ℕ) (cs : List Cell) → part ≡ Pool a n → take left (drop off (part_cells t part)) ≡ cs → AreBytes cs
@@ -35,7 +32,7 @@ pool_next t part a n off left cs is same =
 
 pub fill_next : (t : Table) (part : Part) (c n off left : ℕ) (cs : List Cell) → part ≡ Fill c n → take left (drop off (part_cells t part)) ≡ cs → AreBytes cs
 fill_next t part c n off left cs is same =
-    let here : AreBytes (take left (drop off (part_cells t part))) = rw is (bytes_take left (drop off (replicate n (Byte c))) (bytes_drop off (replicate n (Byte c)) (replicate n c, map-replicate n c))) in
+    let here : AreBytes (take left (drop off (part_cells t part))) = rw is (bytes_take left (drop off (replicate n (Byte c))) (bytes_drop off (replicate n (Byte c)) (replicate n c, map-replicate Byte n c))) in
     subst AreBytes same here
 
 pub source_next : (t : Table) (part : Part) (s n off left : ℕ) (cs : List Cell) → part ≡ Source s n → off + left ≤ n → take left (drop off (part_cells t part)) ≡ cs → cs ≡ map (Place s) (range_with_len off left)

@@ -21,8 +21,9 @@ use Rattle.span_certificate.specs.Steps.{AreBytes}
 use Rattle.span_certificate.proofs.ComparedCells.{bytes_of_each, compared_all}
 use Rattle.span_certificate.proofs.Cells.{leads_cells, leads_inside}
 use Rattle.span_certificate.proofs.Describing.{leaf_cells}
-use Rattle.span_certificate.proofs.Covering.{holds_place, length-parts_cells, length-rope_cells, place_of_more, place_of_all}
+use Rattle.span_certificate.proofs.Covering.{holds_place, length-parts_cells, place_of_more, place_of_all}
 use Rattle.span_certificate.proofs.RunLaws.{pool_run, source_run, fill_cells}
+use Rattle.rope_node.proofs.Ropes.{rope_length}
 
 -- ---- one row
 
@@ -107,7 +108,7 @@ pub covered_text : (t : Table) → IsSound t → HasTrueRecords t → (coded : �
     → text source (parts_cells t parts) ≡ text source (rope_cells t root)
 covered_text t s h coded answers source parts root rows are there c =
     let len_p : length (text source (parts_cells t parts)) ≡ rows_len rows = length-map (parts_cells t parts) (cell_byte source) ∙ length-parts_cells t s h parts are ∙ sym c.whole_parts in
-    let len_r : length (text source (rope_cells t root)) ≡ rows_len rows = length-map (rope_cells t root) (cell_byte source) ∙ length-rope_cells t s h root there ∙ sym c.whole_root in
+    let len_r : length (text source (rope_cells t root)) ≡ rows_len rows = length-map (rope_cells t root) (cell_byte source) ∙ rope_length t s h root there ∙ sym c.whole_root in
     same_whole (text source (parts_cells t parts)) (text source (rope_cells t root)) rows
     (λ i lt.
     let fits = c.fit i lt in
@@ -135,4 +136,4 @@ covered_cells t s h coded answers source parts root rows are there c none =
     let bytes = compared_all IsByte (row_at rows i).kind xs ys is (none i lt) in
     sym same ∙ bytes_same source xs ys (bytes_of_each xs bytes.0) (bytes_of_each ys bytes.1) (ap (text source) same ∙ both))
     fits.kind)
-    (length-parts_cells t s h parts are ∙ sym c.whole_parts) (length-rope_cells t s h root there ∙ sym c.whole_root)
+    (length-parts_cells t s h parts are ∙ sym c.whole_parts) (rope_length t s h root there ∙ sym c.whole_root)

@@ -1,6 +1,6 @@
 -- What testing one row tells, what verifying keeps from row to row, and what its answers say.
 use Rattle.std.proofs.Common.{◌≡◌, ℕ, ◌+◌, ◌<◌, ◌≤◌, List, ◌++◌, length, take, drop, Option, Some, None, Result, Ok, Err, refl, sym, ap, subst, ◌∙◌, arith, inl, inr, below_more, zero-add}
-use Rattle.std.specs.Prelude.{◌↔◌, Bool, true, false, IsTrue, IfOk, slice_get}
+use Rattle.std.specs.Prelude.{◌↔◌, Bool, true, false, IsTrue, IfOk, IfErr, slice_get}
 use Rattle.std.proofs.lemmas.Bool.{cases_order}
 use Rattle.std.proofs.lemmas.Option.{get_or_from_slice_get, some_pair_parts}
 use Rattle.function_leaf.specs.declared.coded.Coded.{Coded}
@@ -23,7 +23,7 @@ use Rattle.span_certificate.specs.Leads.{PartLeads}
 use Rattle.span_certificate.specs.Covers.{row_at, no_row, rows_len, place_of, compared, kind_compares, row_compares, KindFits, Fits, Covers, IsFirstBad}
 use Rattle.span_certificate.specs.declared.walk.TheConstants.{BYTES_LIMIT}
 use Rattle.span_certificate.specs.Runs.{ReadsCells, TellsSame}
-use Rattle.span_certificate.specs.Verdicts.{TellsKind, TellsRow, TellsRows, IsVerdict, ReadsRows}
+use Rattle.span_certificate.specs.Verdicts.{MayBeRead, TellsKind, TellsRow, TellsRows, IsVerdict, ReadsRows}
 use Rattle.span_certificate.proofs.ComparedCells.{each_listed, failed_among}
 use Rattle.span_certificate.proofs.Covering.{holds_place, no_part, place_of_more, place_of_all}
 
@@ -84,6 +84,12 @@ passes_part t coded source parts root place off part row at past fits =
     let len : part_len fits.part ≡ part_len part = ap part_len one.0 in
     omega (arith, fits.inside_part, one.1, len, past)
 
+-- a row whose test of its kind failed may be read
+pub row_read : (t : Table) (parts : List Part) (root : Option NodeId) (place off : ℕ) (part : Part) (row : Row) (r : Result Bool SourceFault) → part_at parts place ≡ Some (part, off) → 1 ≤ row.len → off + row.len ≤ part_len part → place + row.len ≤ rope_len t root
+    → IfErr r (λ _. (row.kind ≡ Bytes) × (row.len ≤ BYTES_LIMIT)) → IfErr r (λ _. MayBeRead t parts root place row)
+row_read t parts root place off part row (Ok answer) at some in_part in_root few = tt
+row_read t parts root place off part row (Err e) at some in_part in_root few = record { part = part; off = off; at_part = at; not_empty = some; inside_part = in_part; inside_root = in_root; kind = few.0; few = few.1 }
+
 -- what a row that fits leaves inside
 pub row_inside : (t : Table) → IsSound t → HasTrueRecords t → (parts : List Part) (place off : ℕ) (part : Part) (n : ℕ) → AreParts t parts → part_at parts place ≡ Some (part, off) → off + n ≤ part_len part → place + n ≤ parts_len parts
 row_inside t s h parts place off part n are at in_part = let held = holds_place t s h parts place part off are at in omega (arith, held.inside, in_part)
@@ -118,7 +124,7 @@ verifying_more t coded st parts root rows j place row lt is so_far tells inside 
     }
 
 -- rows that cover have no first bad one, and there is at most one
-not_both : (t : Table) (coded : ℕ → Coded) (source : ℕ → ℕ → ℕ) (parts : List Part) (root : Option NodeId) (rows : List Row) (j : ℕ) → Covers t coded source parts root rows → IsFirstBad t coded source parts root rows j → ⊥
+pub not_both : (t : Table) (coded : ℕ → Coded) (source : ℕ → ℕ → ℕ) (parts : List Part) (root : Option NodeId) (rows : List Row) (j : ℕ) → Covers t coded source parts root rows → IsFirstBad t coded source parts root rows j → ⊥
 not_both t coded source parts root rows j c bad =
     elim (cases_order j (length rows)) [
       | inl e ↦ bad.uncovered e (c.whole_root, c.whole_parts)
@@ -126,7 +132,7 @@ not_both t coded source parts root rows j c bad =
       | inr (inr gt) ↦ absurd (omega (arith, bad.at_most))
     ]
 
-one_first : (t : Table) (coded : ℕ → Coded) (source : ℕ → ℕ → ℕ) (parts : List Part) (root : Option NodeId) (rows : List Row) (i j : ℕ) → IsFirstBad t coded source parts root rows i → IsFirstBad t coded source parts root rows j → i ≡ j
+pub one_first : (t : Table) (coded : ℕ → Coded) (source : ℕ → ℕ → ℕ) (parts : List Part) (root : Option NodeId) (rows : List Row) (i j : ℕ) → IsFirstBad t coded source parts root rows i → IsFirstBad t coded source parts root rows j → i ≡ j
 one_first t coded source parts root rows i j a b =
     elim (cases_order i j) [
       | inl e ↦ e
@@ -177,15 +183,16 @@ answers_left t coded st parts root rows j place e so_far missed source agrees st
 -- the read of row j failed
 pub verdict_failed : {T : Type 0} (stated : T → Stated) (failures : T → ℕ) (old mid new : T) (t : Table) (coded : ℕ → Coded) (parts : List Part) (root : Option NodeId) (rows : List Row) (j place : ℕ) (row : Row) (e : SourceFault)
     → j < length rows → slice_get rows j ≡ Some row → IsVerifying t coded (stated old) parts root rows j place → ReadsUnfailed stated failures old mid
-    → ReadsCells {X = Bool} stated failures mid new (row_compares t parts root place row) (Err e) → ReadsRows stated failures old new t coded parts root rows (Err e)
-verdict_failed stated failures old mid new t coded parts root rows j place row e lt is so_far before h =
+    → ReadsCells {X = Bool} stated failures mid new (row_compares t parts root place row) (Err e) → MayBeRead t parts root place row → ReadsRows stated failures old new t coded parts root rows (Err e)
+verdict_failed stated failures old mid new t coded parts root rows j place row e lt is so_far before h may =
     let cs = row_compares t parts root (place_of rows j) (row_at rows j) in
     let here : ReadsCells {X = Bool} stated failures mid new cs (Err e) = rw (get_or_from_slice_get rows j row no_row is, ← so_far.stands) h in
     let whole = failed_among {X = Bool} {Y = Verdict} stated failures old mid new cs cs e before here (λ k inside. (k, inside, refl)) in
+    let may_here : MayBeRead t parts root (place_of rows j) (row_at rows j) = rw (get_or_from_slice_get rows j row no_row is, ← so_far.stands) may in
     record {
       reads = whole.reads;
       told = whole.told;
-      fault = record { j = j; inside = lt; row = whole.fault; fit = so_far.fit };
+      fault = record { j = j; inside = lt; may_be_read = may_here; row = whole.fault; fit = so_far.fit };
       succeeds = λ readable. let ok = whole.succeeds (each_listed (IsReadable (stated old)) cs (readable j lt)) in absurd cc;
     }
 

@@ -1,6 +1,7 @@
 -- The parts of a command's text, and what they denote.
-use Rattle.std.specs.Prelude.{ℕ, ◌+◌, ◌-◌, ◌^◌, ◌<◌, ◌≤◌, List, [], ◌∷◌, length, map, take, drop, replicate, get_or, filter, Option, Some, None, nat_lt, if◌then◌else◌}
+use Rattle.std.specs.Prelude.{ℕ, ◌+◌, ◌-◌, ◌<◌, ◌≤◌, List, [], ◌∷◌, length, map, take, drop, replicate, get_or, filter, Option, Some, None, nat_lt, if◌then◌else◌}
 use Rattle.std.specs.List.{flat_map, sum_by, AllByRecursion, range_with_len}
+use Rattle.rope_node.specs.declared.limits.TheConstants.{TEXT_LIMIT}
 use Rattle.rope_node.specs.declared.node.NodeId.{NodeId}
 use Rattle.rope_node.specs.Table.{Table}
 use Rattle.rope_node.specs.Denotes.{Cell, Byte, Place, rope_cells, rope_len, IsRope}
@@ -91,13 +92,13 @@ len_of t roots r = rope_len t (root_at roots r)
 abbrev pub IsInRange : Table → List (Option NodeId) → Edit → Type 0
 IsInRange t roots Command.New = Unit {0}
 IsInRange t roots (Command.Open s) = s < length t.sources
-IsInRange t roots (Command.Insert r p a n) = (r < length roots) × (p ≤ len_of t roots r) × (1 ≤ n) × (a + n ≤ length t.pool) × (len_of t roots r + n < 2 ^ 40)
+IsInRange t roots (Command.Insert r p a n) = (r < length roots) × (p ≤ len_of t roots r) × (1 ≤ n) × (a + n ≤ length t.pool) × (len_of t roots r + n < TEXT_LIMIT)
 IsInRange t roots (Command.Delete r p n) = (r < length roots) × (p + n ≤ len_of t roots r)
-IsInRange t roots (Command.Replace r p m a n) = (r < length roots) × (p + m ≤ len_of t roots r) × (1 ≤ n) × (a + n ≤ length t.pool) × (len_of t roots r + n < 2 ^ 40 + m)
-IsInRange t roots (Command.Paste r p q i n) = (r < length roots) × (p ≤ len_of t roots r) × (q < length roots) × (i + n ≤ len_of t roots q) × (len_of t roots r + n < 2 ^ 40)
-IsInRange t roots (Command.Join r q) = (r < length roots) × (q < length roots) × (len_of t roots r + len_of t roots q < 2 ^ 40)
+IsInRange t roots (Command.Replace r p m a n) = (r < length roots) × (p + m ≤ len_of t roots r) × (1 ≤ n) × (a + n ≤ length t.pool) × (len_of t roots r + n < TEXT_LIMIT + m)
+IsInRange t roots (Command.Paste r p q i n) = (r < length roots) × (p ≤ len_of t roots r) × (q < length roots) × (i + n ≤ len_of t roots q) × (len_of t roots r + n < TEXT_LIMIT)
+IsInRange t roots (Command.Join r q) = (r < length roots) × (q < length roots) × (len_of t roots r + len_of t roots q < TEXT_LIMIT)
 IsInRange t roots (Command.Cut r i n) = (r < length roots) × (i + n ≤ len_of t roots r)
-IsInRange t roots (Command.Fill r p c n) = (r < length roots) × (p ≤ len_of t roots r) × (c ≤ 255) × (len_of t roots r + n < 2 ^ 40)
+IsInRange t roots (Command.Fill r p c n) = (r < length roots) × (p ≤ len_of t roots r) × (c ≤ 255) × (len_of t roots r + n < TEXT_LIMIT)
 IsInRange t roots (Command.Back r) = r < length roots
 IsInRange t roots (Command.Balance r) = r < length roots
 

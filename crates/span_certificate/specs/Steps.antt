@@ -1,10 +1,12 @@
 -- Spans of nodes, what a step down leads to, and rows for the first bytes of two spans.
-use Rattle.std.specs.Prelude.{◌≡◌, ℕ, ◌+◌, ◌<◌, ◌≤◌, List, length, map, take, drop, Some}
+use Rattle.std.specs.Prelude.{◌≡◌, ℕ, ◌+◌, ◌-◌, ◌<◌, ◌≤◌, min, nat_lt, if◌then◌else◌, List, length, map, take, drop, Option, Some, None}
 use Rattle.std.specs.List.{range_with_len}
 use Rattle.function_leaf.specs.declared.coded.Coded.{Coded}
 use Rattle.rope_node.specs.Table.{Table, len_at}
 use Rattle.rope_node.specs.Denotes.{Cell, Byte, Place, cells}
 use Rattle.rope_node.specs.declared.node.NodeId.{NodeId}
+use Rattle.rope_node.specs.declared.node.NodeView.{NodeView}
+use Rattle.rope_node.specs.declared.node.NodeView.TheVariants.{Lit, Src, Fun, Cat, Sub}
 use Rattle.span_certificate.specs.declared.describe.Description.{Description}
 use Rattle.span_certificate.specs.declared.describe.Description.TheVariants.{Pooled, Sourced, Computed}
 use Rattle.span_certificate.specs.declared.part.Part.{Part}
@@ -39,6 +41,21 @@ pub record IsReached (t : Table) (x z : Span) : Type 0 where
 pub record IsBelow (t : Table) (x z : Span) : Type 0 where
   pub lower : z.node.0 < x.node.0
   pub reached : IsReached t x z
+
+-- the first bytes of a span of a concatenation, as a span of the child that holds them: as many as lie in that child
+abbrev pub cat_span : Table → Span → NodeId → NodeId → Span
+cat_span t x l r =
+    if nat_lt x.start (len_at t l.0)
+    then record { node = l; start = x.start; len = min x.len (len_at t l.0 - x.start) }
+    else record { node = r; start = x.start - len_at t l.0; len = x.len }
+
+-- of a span of any node: all of a substring's bytes lie in its base, and a leaf has no child
+abbrev pub child_span : Table → Span → NodeView → Option Span
+child_span t x (Lit a) = None
+child_span t x (Src s a) = None
+child_span t x Fun = None
+child_span t x (Cat l r) = Some (cat_span t x l r)
+child_span t x (Sub b i) = Some (record { node = b; start = x.start + i; len = x.len })
 
 -- spans x and y have the same first n bytes by what the kind of row says, over any sources; and a row of bytes is over bytes alone
 abbrev pub SpansFit : Table → (ℕ → Coded) → Span → Span → ℕ → RowKind → Type 0

@@ -1,16 +1,18 @@
 -- What verifying tells of rows over what the sources state, and when it answers a source's fault.
-use Rattle.std.specs.Prelude.{◌≡◌, ◌↔◌, ℕ, ◌+◌, ◌<◌, List, length, Option, Result, Bool, IsTrue, IfErr, IsOk}
+use Rattle.std.specs.Prelude.{◌≡◌, ◌↔◌, ℕ, ◌+◌, ◌<◌, ◌≤◌, List, length, Option, Some, Result, Bool, IsTrue, IfErr, IsOk}
 use Rattle.function_leaf.specs.declared.coded.Coded.{Coded}
 use Rattle.rope_node.specs.declared.node.NodeId.{NodeId}
 use Rattle.rope_node.specs.Table.{Table}
-use Rattle.rope_node.specs.Denotes.{rope_cells, text}
+use Rattle.rope_node.specs.Denotes.{rope_cells, rope_len, text}
 use Rattle.lazy_file.specs.SourceTexts.{Agrees, Reads, Stated}
 use Rattle.lazy_file.specs.ReadFaults.{TellsFailure}
 use Rattle.lazy_file.specs.declared.faults.SourceFault.{SourceFault}
 use Rattle.cord_position.specs.Fetched.{AreStated, IsReadable, IsStated}
 use Rattle.span_certificate.specs.declared.part.Part.{Part}
 use Rattle.span_certificate.specs.declared.row.Row.{Row}
-use Rattle.span_certificate.specs.Parts.{parts_cells}
+use Rattle.span_certificate.specs.declared.row.RowKind.TheVariants.{Bytes}
+use Rattle.span_certificate.specs.declared.walk.TheConstants.{BYTES_LIMIT}
+use Rattle.span_certificate.specs.Parts.{part_at, part_len, parts_cells}
 use Rattle.span_certificate.specs.Covers.{MeetsNoSource, row_at, place_of, kind_compares, row_compares, ComparesOnly, KindFits, Fits, Covers, IsFirstBad}
 use Rattle.span_certificate.specs.declared.cover.Verdict.{Verdict}
 use Rattle.span_certificate.specs.declared.cover.Verdict.TheVariants.{Good, Bad}
@@ -59,11 +61,24 @@ pub record ShowsSame (t : Table) (st : Stated) (parts : List Part) (root : Optio
   pub same_text : (source : ℕ → ℕ → ℕ) → Agrees st source → AreStatedRows t st parts root rows → text source (parts_cells t parts) ≡ text source (rope_cells t root)
   pub same_cells : MeetsNoSource t parts root rows → parts_cells t parts ≡ rope_cells t root
 
--- a read for row j, which is one of bytes, failed so, and each row before it fits, where it compares stated cells
+-- A row at place for which a source may be read: one of bytes, not empty and no longer than such a row may be, inside
+-- one part and inside the root. Any other row is judged without a read.
+pub record MayBeRead (t : Table) (parts : List Part) (root : Option NodeId) (place : ℕ) (row : Row) : Type 0 where
+  pub part : Part
+  pub off : ℕ
+  pub at_part : part_at parts place ≡ Some (part, off)
+  pub not_empty : 1 ≤ row.len
+  pub inside_part : off + row.len ≤ part_len part
+  pub inside_root : place + row.len ≤ rope_len t root
+  pub kind : row.kind ≡ Bytes
+  pub few : row.len ≤ BYTES_LIMIT
+
+-- a read for row j, which may be read, failed so, and each row before it fits, where it compares stated cells
 pub record IsVerdictFault {T : Type 0} (stated : T → Stated) (failures : T → ℕ) (old new : T) (t : Table) (coded : ℕ → Coded)
     (parts : List Part) (root : Option NodeId) (rows : List Row) (fault : SourceFault) : Type 0 where
   pub j : ℕ
   pub inside : j < length rows
+  pub may_be_read : MayBeRead t parts root (place_of rows j) (row_at rows j)
   pub row : IsFaultAmong stated failures old new (row_compares t parts root (place_of rows j) (row_at rows j)) fault
   pub fit : (source : ℕ → ℕ → ℕ) → Agrees (stated old) source → (i : ℕ) → i < j → AreStated (stated old) (row_compares t parts root (place_of rows i) (row_at rows i)) → Fits t coded source parts root (place_of rows i) (row_at rows i)
 

@@ -1,12 +1,14 @@
 //! Rows tested against the parts of a command and its root.
 
-ghost use Rattle.std.specs.Prelude.{◌≡◌, ◌+◌, ◌<◌, ◌≤◌, ◌↔◌, length, Some, Ok, IsTrue, IfOk};
+ghost use Rattle.std.specs.Prelude.{◌≡◌, ◌+◌, ◌<◌, ◌≤◌, ◌↔◌, length, Some, Ok, IsTrue, IfOk, IfErr};
 ghost use Rattle.rope_node.specs.Table.{IsSound, HasTrueRecords};
 ghost use Rattle.rope_node.specs.Denotes.{rope_len, IsRope};
 ghost use Rattle.span_certificate.specs.Parts.{part_at, part_len, parts_len, IsPart, AreParts};
 ghost use Rattle.span_certificate.specs.Covers.{HaveOneDescription, kind_compares, row_compares};
 ghost use Rattle.span_certificate.specs.Runs.{ReadsCells};
-ghost use Rattle.span_certificate.specs.Verdicts.{ReadsRows, ShowsSame, TellsKind, TellsRow, TellsRows};
+ghost use Rattle.span_certificate.specs.Verdicts.{MayBeRead, ReadsRows, ShowsSame, TellsKind, TellsRow, TellsRows};
+ghost use Rattle.span_certificate.specs.declared.row.RowKind.TheVariants.{Bytes};
+ghost use Rattle.span_certificate.specs.declared.walk.TheConstants.{BYTES_LIMIT};
 
 use crate::bytes::same_bytes;
 use crate::exact::{describe_part, part_leads};
@@ -75,6 +77,7 @@ fn kind_fits<S: CodedSpace, T: Sources>(
         (T.stated sources.old) part off root place row) }
     ensures reads { ReadsCells T.stated T.failures sources.old sources.new
         (kind_compares (S.NodeSpace.table space.now) part off root place row) result }
+    ensures few { IfErr result (λ _. (row.kind ≡ Bytes) × (row.len ≤ BYTES_LIMIT)) }
 {
     let other = Part::Old {
         rope: root,
@@ -117,6 +120,8 @@ fn row_fits<S: CodedSpace, T: Sources>(
         × (place + row.len ≤ parts_len parts.now)) }
     ensures reads { ReadsCells T.stated T.failures sources.old sources.new
         (row_compares (S.NodeSpace.table space.now) parts.now root place row) result }
+    ensures may_be_read { IfErr result (λ _.
+        MayBeRead (S.NodeSpace.table space.now) parts.now root place row) }
 {
     match part_at(parts, place) {
         None => Ok(false),
@@ -153,7 +158,7 @@ fn is_whole<S: NodeSpace>(space: &S, parts: &[Part], root: Rope, place: u64) -> 
 /// # Errors
 ///
 /// A source's fault, where a read for a row of bytes over that source failed and all rows before it
-/// fit.
+/// fit. No source is read for a row that is empty, too long, or passes the end of its part or of the root.
 pub fn verify<S: CodedSpace, T: Sources, R: Rows>(
     space: &S,
     sources: &mut T,

@@ -46,7 +46,7 @@ fn leads_to<S: NodeSpace>(space: &S, x: Span, node: NodeId, at: u64) -> bool
     }
 }
 
-/// The same of the `len` bytes of a part from `off` on.
+/// Whether the `len` bytes of a part from `off` on lead to the place `at` of a node.
 pub fn part_leads<S: NodeSpace>(
     space: &S,
     part: Part,
@@ -100,7 +100,7 @@ fn describe_node<S: CodedSpace>(
     }
 }
 
-/// The same of the `len` bytes of a part from `off` on.
+/// What the leaf span is that the `len` bytes of a part from `off` on lead to, where they lie in one.
 pub fn describe_part<S: CodedSpace>(
     space: &S,
     part: Part,

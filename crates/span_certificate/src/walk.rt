@@ -3,7 +3,7 @@
 ghost use Rattle.std.specs.Prelude.{◌≡◌, ℕ, min, None, IfSome};
 ghost use Rattle.rope_node.specs.Table.{view_at, IsLeaf, IsSound, HasTrueRecords};
 ghost use Rattle.span_certificate.specs.Descents.{IsLeafOf};
-ghost use Rattle.span_certificate.specs.Steps.{IsSpan, IsBelow, span_cells, CellsAs, IsRowOf, IsDescribedRow};
+ghost use Rattle.span_certificate.specs.Steps.{IsSpan, IsBelow, span_cells, child_span, CellsAs, IsRowOf, IsDescribedRow};
 ghost use Rattle.span_certificate.specs.declared.walk.TheConstants.{BYTES_LIMIT};
 ghost use Rattle.rope_node.specs.declared.node.NodeId.{NodeId};
 
@@ -50,6 +50,7 @@ pub fn down<S: NodeSpace>(space: &S, x: Span, view: NodeView) -> Option<Span>
     requires true_records { HasTrueRecords (S.table space.now) }
     requires span { IsSpan (S.table space.now) x }
     requires view { view ≡ view_at (S.table space.now) x.node.0 }
+    ensures exact { result ≡ child_span (S.table space.now) x view }
     ensures leaf { result ≡ None → IsLeaf view }
     ensures below { IfSome result (IsBelow (S.table space.now) x) }
 {

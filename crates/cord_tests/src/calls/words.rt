@@ -159,6 +159,22 @@ fn cmp_is_read(rt: HostRuntime) -> Result<(), Fail> {
 }
 
 #[test]
+fn edit_is_read(rt: HostRuntime) -> Result<(), Fail> {
+    for (text, wanted) in [
+        ("cordkit edit a.cord", None),
+        ("cordkit edit a.cord b.txt", Some("b.txt")),
+    ] {
+        let line = line(&rt, text)?;
+        let is_read = match read(&rt, line.as_slice()) {
+            Ok(Action::Edit { image, file }) => image == "a.cord" && file == wanted,
+            _ => false,
+        };
+        assert!(rt; is_read, "{text}");
+    }
+    Ok(())
+}
+
+#[test]
 fn words_of_files_are_usage_faults(rt: HostRuntime) -> Result<(), Fail> {
     for (text, wanted) in [
         ("cordkit cut", ErrorKind::MissingRequiredArgument),
@@ -171,6 +187,8 @@ fn words_of_files_are_usage_faults(rt: HostRuntime) -> Result<(), Fail> {
         ("cordkit find x b a", ErrorKind::ValueValidation),
         ("cordkit cmp a", ErrorKind::MissingRequiredArgument),
         ("cordkit cmp a b c", ErrorKind::UnknownArgument),
+        ("cordkit edit", ErrorKind::MissingRequiredArgument),
+        ("cordkit edit a b c", ErrorKind::UnknownArgument),
     ] {
         let is_refused = match usage_of(&rt, text)? {
             Some((kind, _)) => kind == wanted,

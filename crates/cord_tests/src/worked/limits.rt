@@ -7,7 +7,7 @@ ghost use Rattle.cord_search.specs.declared.pattern.TheConstants.{PATTERN_LIMIT 
 ghost use Rattle.cord_tools.specs.declared.input.TheConstants.{IMAGE_LIMIT};
 ghost use Rattle.function_leaf.specs.declared.pattern.TheConstants.{PATTERN_LIMIT};
 ghost use Rattle.image_reader.specs.declared.decode.TheConstants.{NIL_ROOT};
-ghost use Rattle.image_reader.specs.declared.header.TheConstants.{MAGIC, MOST_POOL};
+ghost use Rattle.image_reader.specs.declared.header.TheConstants.{MAGIC, MOST_POOL, VERSION};
 ghost use Rattle.lazy_file.specs.declared.sources.TheConstants.{COUNT_LIMIT, SOURCE_LIMIT};
 ghost use Rattle.rebalance.specs.declared.pieces.TheConstants.{MOST_PIECES};
 ghost use Rattle.leaf_buffer.specs.declared.block.TheConstants.{BLOCK_SIZE};
@@ -45,6 +45,7 @@ fn limits_of_sources()
 /// Of images: what they begin with, the root that is none, and one byte more than the largest.
 fn limits_of_images()
     ensures magic { MAGIC ≡ 0x434F524453455353 }
+    ensures version { VERSION ≡ 1 }
     ensures nil { NIL_ROOT ≡ 0xFFFFFFFF }
     ensures pool { MOST_POOL ≡ 4294967295 }
     ensures longer { IMAGE_LIMIT ≡ 5293213728 }

@@ -45,6 +45,19 @@ closed-requires-clause-rope c =
     (part_few (rope_cells (table_of coded_byte c.args.store.now) c.args.other) c.args.i c.args.n) c.in_ok-front.ensures part c.in_ok-text.ensures in
     (middle_ready (take c.args.n (drop c.args.i (rope_cells (table_of coded_byte c.args.store.now) c.args.other))) c.args.rope c.in_ok-text.text c.args.p c.args.n (record { sound = k.sound; true_records = k.true_records }) (record { sound = k'''.sound; true_records = k'''.true_records }) c.requires.rope c.requires.place c.requires.short (part_few (rope_cells (table_of coded_byte c.args.store.now) c.args.other) c.args.i c.args.n) text).is_rope
 
+pub closed-requires-clause-inside : goal.closed-requires-clause-inside
+closed-requires-clause-inside c =
+    let k = c.count-count.ensures in
+    let k' = c.count-count-2.ensures in
+    let k'' = c.count-count-3.ensures in
+    let k''' = c.count-count-4.ensures in
+    let front = front_built c.args.rope c.args.p c.in_ok-front.front c.requires.rope c.in_ok-front.ensures in
+    let part = other_part c.in_ok-front.front c.args.other c.args.i c.args.n _ (record { sound = k.sound; true_records = k.true_records }) c.requires.other front c.in_ok-part.ensures in
+    let text =
+    middle_built c.args.rope c.args.p c.args.n c.in_ok-front.front c.in_ok-part.part _ (record { sound = k.sound; true_records = k.true_records }) (record { sound = k'.sound; true_records = k'.true_records }) (record { sound = k''.sound; true_records = k''.true_records }) c.requires.rope c.requires.short
+    (part_few (rope_cells (table_of coded_byte c.args.store.now) c.args.other) c.args.i c.args.n) c.in_ok-front.ensures part c.in_ok-text.ensures in
+    (middle_ready (take c.args.n (drop c.args.i (rope_cells (table_of coded_byte c.args.store.now) c.args.other))) c.args.rope c.in_ok-text.text c.args.p c.args.n (record { sound = k.sound; true_records = k.true_records }) (record { sound = k'''.sound; true_records = k'''.true_records }) c.requires.rope c.requires.place c.requires.short (part_few (rope_cells (table_of coded_byte c.args.store.now) c.args.other) c.args.i c.args.n) text).inside
+
 pub closed-requires-clause-short : goal.closed-requires-clause-short
 closed-requires-clause-short c =
     let k = c.count-count.ensures in

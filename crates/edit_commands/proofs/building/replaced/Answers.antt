@@ -2,10 +2,10 @@ use Rattle.std.proofs.Common.{◌+◌, arith}
 use Rattle.std.proofs.lemmas.Result.{err_from_is_err_and}
 use Rattle.function_leaf.specs.Coded.{coded_byte}
 use Rattle.node_table.specs.Held.{table_of}
-use Rattle.rebalance.proofs.SlotSteps.{rope_short}
 use Rattle.edit_commands.proofs.BuiltTexts.{bytes_behind, bytes_ready, front_built, part_refused, rest_closes, stand_new}
 use Rattle.edit_commands.proofs.GoingOn.{refused_for}
 use Rattle.edit_commands.proofs.building.replaced.Goals as goal
+use Rattle.rope_node.proofs.Ropes.{rope_short}
 
 pub returns-in_err-front : goal.returns-in_err-front
 returns-in_err-front c =

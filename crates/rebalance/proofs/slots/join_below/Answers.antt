@@ -2,11 +2,12 @@ use Rattle.std.proofs.Common.{◌≡◌, ◌+◌, ◌<◌, None, length, get_or,
 use Rattle.std.proofs.lemmas.List.{append-nil}
 use Rattle.std.proofs.lemmas.Result.{err_from_is_err_and}
 use Rattle.node_table.specs.Held.{table_of}
-use Rattle.rebalance.specs.Slots.{full_slots, slots_cells, slot_count}
+use Rattle.rebalance.specs.Slots.{full_slots, slots_cells}
 use Rattle.rebalance.proofs.SlotLists.{slot_rope}
 use Rattle.rebalance.proofs.SlotSteps.{both_short, gather_step, gathered_shallow, room_for, slot_shallow, spread_join}
 use Rattle.rebalance.proofs.StepLaws.{grows_itself, grows_through, refused_through}
 use Rattle.rebalance.proofs.slots.join_below.Goals as goal
+use Rattle.rebalance.specs.declared.slots.TheConstants.{SLOTS}
 
 pub loop-m-init : goal.loop-m-init
 loop-m-init g c = record {
@@ -41,7 +42,7 @@ pub returns-in_err-rope-clause-steps : goal.returns-in_err-rope-clause-steps
 returns-in_err-rope-clause-steps g c =
     let t = table_of g.F.LeafFn.meaning c.loop-m.store in
     let p = err_from_is_err_and c.from_residual.result c.from_residual.ensures.1 in
-    let lt : c.loop-m.m < slot_count = omega (arith, c.loop-m-test.true, c.requires.end) in
+    let lt : c.loop-m.m < SLOTS = omega (arith, c.loop-m-test.true, c.requires.end) in
     let steps = rw c.from.ensures at c.in_err-rope.ensures.steps in
     let room = room_for t _ _ c.loop-m.m c.loop-m.slots c.loop-m.rope c.loop-m.invariant.spread lt in
     rw (p.1, p.2) (refused_through c.in_err-rope.field-0.0 c.loop-m.invariant.grows steps room c.loop-m.invariant.grows.few_bytes)
@@ -52,7 +53,7 @@ loop-m-preserved g c =
     let t = table_of meaning c.loop-m.store in
     let m = c.loop-m.m in
     let left = get_or c.loop-m.slots m None in
-    let lt : m < slot_count = omega (arith, c.loop-m-test.true, c.requires.end) in
+    let lt : m < SLOTS = omega (arith, c.loop-m-test.true, c.requires.end) in
     let inv = c.loop-m.invariant in
     let ensured = rw c.from.ensures at c.in_ok-rope.ensures in
     let spread = spread_join meaning c.loop-m.store c.join.new.store c.count-count.ensures.sound ensured.steps.grows.kept (length c.args.store.now.nodes + full_slots c.args.slots.now) (slots_cells (table_of meaning c.args.store.now) c.args.slots.now) m c.loop-m.slots c.loop-m.rope c.in_ok-rope.rope inv.spread lt ensured.join in

@@ -1,9 +1,10 @@
 use Rattle.std.proofs.Common.{◌+◌, ◌-◌, ◌++◌, length}
 use Rattle.rope_node.specs.Denotes.{rope_cells}
 use Rattle.node_table.specs.Held.{table_of}
-use Rattle.rebalance.specs.Slots.{full_slots, ropes_in, slots_cells, slot_count, IsCarried, IsSpread}
+use Rattle.rebalance.specs.Slots.{full_slots, ropes_in, slots_cells, IsCarried, IsSpread}
 use Rattle.rebalance.specs.Steps.{Grows}
 use Rattle.rebalance.proofs.slots.settle.Given as goal
+use Rattle.rebalance.specs.declared.slots.TheConstants.{SLOTS}
 
 abbrev pub invariant-loop-store : goal.invariant-loop-store
 invariant-loop-store g l =
@@ -17,4 +18,4 @@ invariant-loop-store g l =
     }
 
 abbrev pub decreases-loop-store : goal.decreases-loop-store
-decreases-loop-store g l = slot_count - l.slot
+decreases-loop-store g l = SLOTS - l.slot

@@ -1,6 +1,8 @@
-use Rattle.std.proofs.Common.{sym, subst, arith, ◌≡◌, ◌+◌}
-use Rattle.rope_node.specs.Table.{IsLeaf}
-use Rattle.rope_node.specs.Path.{visits}
+use Rattle.std.proofs.Common.{sym, ap, subst, ◌∙◌, arith, ◌≡◌, ◌+◌}
+use Rattle.rope_node.specs.declared.node.LeafSpan.{LeafSpan}
+use Rattle.rope_node.specs.Table.{len_at, IsLeaf}
+use Rattle.rope_node.specs.Path.{rest_of, span_at, visits}
+use Rattle.rope_node.proofs.LeafSpans.{rest_at}
 use Rattle.rope_node.proofs.Visits.{visits-le}
 use Rattle.rope_node.proofs.Paths.{goes_left, goes_right, goes_down, seen_few, visits_leaf, is_leaf_of}
 use Rattle.rope_node.proofs.path.find_leaf.Goals as goal
@@ -31,11 +33,17 @@ returns-in-Lit g c =
     let path = c.down.invariant in
     let leaf = is_leaf_of c.node-view.result c.in-Lit.is in
     let one = visits_leaf t c.node-view.ensures.sound c.down.leaf.0 c.down.start path.there c.node-view.result c.node-view.ensures.view leaf in
+    let rest : span_at t c.down.leaf.0 c.down.start ≡ rest_of c.down.leaf.0 c.down.start (len_at t c.down.leaf.0) =
+    rest_at t c.node-view.ensures.sound c.down.leaf.0 c.down.start path.there c.node-view.result (sym c.node-view.ensures.view) leaf in
     let all : c.down.visits + 1 ≡ visits t c.args.node.0 c.args.place = omega (arith, one, path.count) in
     record {
       there = path.there;
       inside = path.inside;
       leaf = subst IsLeaf c.node-view.ensures.view leaf;
+      place = record {
+        leaf = ap (λ (z : LeafSpan). z.leaf) (sym rest) ∙ path.leaf;
+        start = ap (λ (z : LeafSpan). z.start) (sym rest) ∙ path.start;
+      };
       cell = path.cell;
       visits = all;
       few = omega (arith, all, visits-le t c.node-view.ensures.sound c.node-view.ensures.true_records c.args.node.0 c.args.place c.requires.there);

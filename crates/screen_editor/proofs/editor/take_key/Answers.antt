@@ -20,6 +20,5 @@ pub returns-in_default-key : goal.returns-in_default-key
 returns-in_default-key g c = record {
   takes = going_told g.R.Sources.stated g.R.Sources.failures c.args.key c.args.sources.now c.take.new.sources c.args.workspace.now c.take.new.workspace c.tell-in_default-key.new.self c.in_default.ensures
       (goes_on c.args.key c.in_default-key.not-Save c.in_default-key.not-Leave) c.tell-in_default-key.ensures;
-  told = c.in_default.ensures.told;
   sizes = rw c.tell-in_default-key.ensures c.take.ensures.sources;
 }

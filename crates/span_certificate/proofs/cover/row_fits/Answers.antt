@@ -2,7 +2,7 @@ use Rattle.std.proofs.Common.{◌+◌, ◌≤◌, sym, arith}
 use Rattle.span_certificate.specs.Parts.{part_len}
 use Rattle.rope_node.specs.Denotes.{rope_len}
 use Rattle.span_certificate.proofs.Covering.{holds_place}
-use Rattle.span_certificate.proofs.Verdicts.{row_tells, row_inside, joined_compare, inside_both}
+use Rattle.span_certificate.proofs.Verdicts.{row_tells, row_read, row_inside, joined_compare, inside_both}
 use Rattle.span_certificate.proofs.cover.row_fits.Goals as goal
 
 pub overflow_sub-part_left : goal.overflow_sub-part_left
@@ -35,3 +35,11 @@ returns-else-row-root_left-clause-reads g c =
     let held = holds_place t c.requires.sound c.requires.true_records c.args.parts.now c.args.place c.in-Some.part c.in-Some.off c.requires.parts (sym c.in-Some.ensures) in
     let in_part : c.in-Some.off + c.args.row.len ≤ part_len c.in-Some.part = omega (arith, held.before_end) in
     rw (joined_compare t c.requires.sound c.requires.true_records c.args.parts.now c.args.root c.args.place c.in-Some.off c.in-Some.part c.args.row c.requires.parts (sym c.in-Some.ensures) in_part) c.kind_fits.ensures.reads
+
+pub returns-else-row-root_left-clause-may_be_read : goal.returns-else-row-root_left-clause-may_be_read
+returns-else-row-root_left-clause-may_be_read g c =
+    let t = g.S.NodeSpace.table c.args.space.now in
+    let held = holds_place t c.requires.sound c.requires.true_records c.args.parts.now c.args.place c.in-Some.part c.in-Some.off c.requires.parts (sym c.in-Some.ensures) in
+    let in_part : c.in-Some.off + c.args.row.len ≤ part_len c.in-Some.part = omega (arith, held.before_end) in
+    let in_root : c.args.place + c.args.row.len ≤ rope_len t c.args.root = omega (arith, c.rope_len.ensures.exact) in
+    row_read t c.args.parts.now c.args.root c.args.place c.in-Some.off c.in-Some.part c.args.row c.kind_fits.result (sym c.in-Some.ensures) (omega arith) in_part in_root c.kind_fits.ensures.few

@@ -9,7 +9,7 @@ returns-in-Err-clause-reads g c =
     let lt : c.loop-j.j < length (g.R.Rows.listed c.args.rows.now) = omega (arith, c.count-j-end.ensures) in
     verdict_failed g.T.Sources.stated g.T.Sources.failures c.args.sources.now c.loop-j.sources c.row_fits.new.sources (g.S.NodeSpace.table c.args.space.now) (g.S.CodedSpace.coded c.args.space.now)
     c.args.parts.now c.args.root (g.R.Rows.listed c.args.rows.now) c.loop-j.j c.loop-j.place c.row-row.result c.in-Err.fault
-    lt c.row-row.ensures c.loop-j.invariant.verifying c.loop-j.invariant.reads c.in-Err.ensures.reads
+    lt c.row-row.ensures c.loop-j.invariant.verifying c.loop-j.invariant.reads c.in-Err.ensures.reads c.in-Err.ensures.may_be_read
 
 pub returns-in-Ok-false-clause-exact : goal.returns-in-Ok-false-clause-exact
 returns-in-Ok-false-clause-exact g c =

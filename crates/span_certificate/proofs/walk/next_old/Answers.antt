@@ -1,4 +1,5 @@
 use Rattle.span_certificate.proofs.Steps.{reached_itself}
+use Rattle.span_certificate.proofs.FirstLeaves.{first_of_leaf}
 use Rattle.span_certificate.proofs.Walks.{are_reached_none, first_below, second_below, reached_same, row_through}
 use Rattle.span_certificate.proofs.walk.next_old.Goals as goal
 
@@ -33,6 +34,9 @@ down-preserved g c =
 pub leaf_row-requires-clause-x : goal.leaf_row-requires-clause-x
 leaf_row-requires-clause-x g c = record {
   reached = reached_itself (g.S.NodeSpace.table c.args.space.now) c.down.a c.down.invariant.first.is_span;
+  whole =
+      first_of_leaf (g.S.NodeSpace.table c.args.space.now) c.requires.sound c.down.a c.node-of_a.result
+      c.down.invariant.first.is_span c.node-of_a.ensures.view (c.down-in-down.ensures.leaf c.in-None-None.is-0);
   view = c.node-of_a.ensures.view;
   leaf = c.down-in-down.ensures.leaf c.in-None-None.is-0;
 }
@@ -40,6 +44,9 @@ leaf_row-requires-clause-x g c = record {
 pub leaf_row-requires-clause-y : goal.leaf_row-requires-clause-y
 leaf_row-requires-clause-y g c = record {
   reached = reached_itself (g.S.NodeSpace.table c.args.space.now) c.down.b c.down.invariant.second.is_span;
+  whole =
+      first_of_leaf (g.S.NodeSpace.table c.args.space.now) c.requires.sound c.down.b c.node-of_b.result
+      c.down.invariant.second.is_span c.node-of_b.ensures.view (c.down-in-down-2.ensures.leaf c.in-None-None.is-1);
   view = c.node-of_b.ensures.view;
   leaf = c.down-in-down-2.ensures.leaf c.in-None-None.is-1;
 }

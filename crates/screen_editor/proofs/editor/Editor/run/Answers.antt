@@ -1,8 +1,8 @@
-use Rattle.std.proofs.Common.{◌≡◌, ◌<◌, Some, None, Ok, Err, arith, refl, subst}
+use Rattle.std.proofs.Common.{◌≡◌, ◌<◌, arith, refl, subst}
 use Rattle.std.proofs.lemmas.Result.{err_from_is_err_and}
 use Rattle.lazy_file.proofs.LaterReads.{reads_then}
 use Rattle.screen_editor.specs.declared.running.TheConstants.{MOST_KEYS}
-use Rattle.screen_editor.proofs.ManyTurns.{Ran, ran_none, ran_more, ran_to_end, ran_to_fault, ran_too_long, turn_from}
+use Rattle.screen_editor.proofs.ManyTurns.{Ran, ran_none, ran_more, ran_to_end, ran_to_fault, ran_too_long}
 use Rattle.screen_editor.proofs.editor.Editor.run.Goals as goal
 
 pub loop-init : goal.loop-init
@@ -17,21 +17,21 @@ returns-in_err-end-clause-run g c =
     let fault = c.in_err-end.field-0.0 in
     let few : c.loop.counter < MOST_KEYS = c.loop-test.true in
     rw (p.1, p.2) (ran_to_fault g.R.Sources.stated g.R.Sources.failures (g.K.Read.remaining c.args.keys.now) (g.K.Read.remaining c.loop.keys) (g.K.Read.remaining c.turn.new.keys)
-    (g.W.Write.contents c.args.screen.now) (g.W.Write.contents c.loop.screen) (g.W.Write.contents c.turn.new.screen) c.args.self.now c.loop.self c.turn.new.self c.loop.counter fault few c.loop.invariant.ran c.turn.ensures.reads
-    (turn_from g.R.Sources.stated g.R.Sources.failures (g.K.Read.remaining c.loop.keys) (g.K.Read.remaining c.turn.new.keys) (g.W.Write.contents c.loop.screen) (g.W.Write.contents c.turn.new.screen) c.args.self.now.sources c.loop.self c.turn.new.self (Err fault) c.loop.invariant.reads c.in_err-end.ensures.turn))
+    (g.W.Write.contents c.args.screen.now) (g.W.Write.contents c.loop.screen) (g.W.Write.contents c.turn.new.screen) c.args.self.now c.loop.self c.turn.new.self c.loop.counter fault few c.loop.invariant.ran
+    c.in_err-end.ensures.turn)
 
 pub returns-in-Some-clause-run : goal.returns-in-Some-clause-run
 returns-in-Some-clause-run g c =
     let few : c.loop.counter < MOST_KEYS = c.loop-test.true in
     ran_to_end g.R.Sources.stated g.R.Sources.failures (g.K.Read.remaining c.args.keys.now) (g.K.Read.remaining c.loop.keys) (g.K.Read.remaining c.turn.new.keys)
-    (g.W.Write.contents c.args.screen.now) (g.W.Write.contents c.loop.screen) (g.W.Write.contents c.turn.new.screen) c.args.self.now c.loop.self c.turn.new.self c.loop.counter c.in-Some.end few c.loop.invariant.ran c.turn.ensures.reads
-    (turn_from g.R.Sources.stated g.R.Sources.failures (g.K.Read.remaining c.loop.keys) (g.K.Read.remaining c.turn.new.keys) (g.W.Write.contents c.loop.screen) (g.W.Write.contents c.turn.new.screen) c.args.self.now.sources c.loop.self c.turn.new.self (Ok (Some c.in-Some.end)) c.loop.invariant.reads (rw c.in-Some.is at c.in_ok-end.ensures.turn))
+    (g.W.Write.contents c.args.screen.now) (g.W.Write.contents c.loop.screen) (g.W.Write.contents c.turn.new.screen) c.args.self.now c.loop.self c.turn.new.self c.loop.counter c.in-Some.end few c.loop.invariant.ran
+    (rw c.in-Some.is at c.in_ok-end.ensures.turn)
 
 pub loop-preserved : goal.loop-preserved
 loop-preserved g c = record {
   ran = ran_more g.R.Sources.stated g.R.Sources.failures (g.K.Read.remaining c.args.keys.now) (g.K.Read.remaining c.loop.keys) (g.K.Read.remaining c.turn.new.keys)
-      (g.W.Write.contents c.args.screen.now) (g.W.Write.contents c.loop.screen) (g.W.Write.contents c.turn.new.screen) c.args.self.now c.loop.self c.turn.new.self c.loop.counter c.loop.invariant.ran c.turn.ensures.reads
-      (turn_from g.R.Sources.stated g.R.Sources.failures (g.K.Read.remaining c.loop.keys) (g.K.Read.remaining c.turn.new.keys) (g.W.Write.contents c.loop.screen) (g.W.Write.contents c.turn.new.screen) c.args.self.now.sources c.loop.self c.turn.new.self (Ok None) c.loop.invariant.reads (rw c.in_default.is at c.in_ok-end.ensures.turn));
+      (g.W.Write.contents c.args.screen.now) (g.W.Write.contents c.loop.screen) (g.W.Write.contents c.turn.new.screen) c.args.self.now c.loop.self c.turn.new.self c.loop.counter c.loop.invariant.ran
+      (rw c.in_default.is at c.in_ok-end.ensures.turn);
   reads = reads_then c.loop.invariant.reads c.turn.ensures.reads;
 }
 
