@@ -39,6 +39,10 @@ truncate -s 1099511627776 too_long || exit 1
 printf 'ab\025c\030' > keys_saved
 printf 'ab\025c\003' > keys_left
 printf 'ab\025c' > keys_ended
+mkfifo pipe || exit 1
+cat one_insert > pipe &
+writer=$!
+trap 'kill "$writer" 2> /dev/null; rm -rf "$room"' EXIT
 
 # What the program has to write: the text of a file of tests/data, or what printf makes of the column.
 expected() {
@@ -147,6 +151,8 @@ a command past its text is refused;check insert_past_the_end;;1;refused C8(2)\n;
 256 sources are refused;check one_source $(yes abc | head -n 256);;1;refused S4\n;
 an image that is not there;check missing;;3;;read\n
 a source that is not there;check one_source missing;;3;;read\n
+an image by a pipe;check pipe;;0;accepted 2 revisions 1 nodes 1 rows\n;
+an image that is standard input;check /dev/stdin;one_insert;0;accepted 2 revisions 1 nodes 1 rows\n;
 an image that is a folder;check folder;;3;;read\n
 standard input that is a folder;;folder;3;;read\n
 a line on a full device;check one_insert;;3;/dev/full;write\n

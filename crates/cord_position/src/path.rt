@@ -1,9 +1,9 @@
 //! The path from a rope's root to the leaf that holds a place.
 
 ghost use Rattle.std.specs.Prelude.{◌≡◌, ◌↔◌, ◌<◌, ◌≤◌, ◌+◌, ◌-◌, Some, length, IsTrue};
-ghost use Rattle.smallvec.specs.SmallVec.{small_vec_len, HasRoomFor};
+ghost use Rattle.smallvec.specs.SmallVec.{small_vec_len};
 ghost use Rattle.rope_node.specs.declared.limits.TheConstants.{TEXT_LIMIT};
-ghost use Rattle.rope_node.specs.Table.{view_at, len_at};
+ghost use Rattle.rope_node.specs.Table.{len_at};
 ghost use Rattle.cord_position.specs.Steps.{Holds, IsLeafStep, IsPath, IsStepAt, left_step, right_step};
 
 use rope_node::{NodeId, NodeSpace, NodeView};

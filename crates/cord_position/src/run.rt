@@ -2,7 +2,7 @@
 //! the contract alone.
 
 ghost use Rattle.std.specs.Prelude.{◌≡◌, ◌↔◌, ◌<◌, ◌≤◌, ◌+◌, None, map, length, IfSome};
-ghost use Rattle.rope_node.specs.Table.{view_at, len_at};
+ghost use Rattle.rope_node.specs.Table.{len_at};
 ghost use Rattle.rope_node.specs.Denotes.{Byte, rope_len};
 ghost use Rattle.cord_position.specs.Fetched.{leaf_part, rope_part};
 ghost use Rattle.cord_position.specs.Runs.{rope_span, run_bytes, run_left, span_bytes, IsRun, IsRunPeriod};

@@ -1,6 +1,5 @@
 -- The first and the last place of a text at which a pattern stands.
 use Rattle.std.specs.Prelude.{◌≡◌, ℕ, ◌+◌, ◌<◌, ◌≤◌, List, length, take, drop, Option, Some, None}
-use Rattle.cord_search.specs.declared.pattern.TheConstants.{PATTERN_LIMIT}
 
 -- s stands at place k of t
 pub record StandsAt (s t : List ℕ) (k : ℕ) : Type 0 where

@@ -1,15 +1,14 @@
 //! A text written to its end.
 
-ghost use Rattle.std.specs.Prelude.{◌≡◌, ◌≤◌, ◌+◌, None, length, take, drop, OnOk, OnErr, IfErr, IsOk};
+ghost use Rattle.std.specs.Prelude.{◌≡◌, ◌+◌, None, OnOk, OnErr, IfErr, IsOk};
 ghost use Rattle.std.specs.Io.KnownBytes.{Appends};
 ghost use Rattle.rope_node.specs.Denotes.{IsRope, rope_len};
 ghost use Rattle.lazy_file.specs.SourceTexts.{Reads};
 ghost use Rattle.lazy_file.specs.ReadFaults.{TellsAs};
 ghost use Rattle.lazy_file.specs.declared.faults.SourceFault.TheVariants.{Device};
-ghost use Rattle.cord_position.specs.Fetched.{EachCell, IsReadable, ReadsSpan, rope_cell};
+ghost use Rattle.cord_position.specs.Fetched.{EachCell, IsReadable, rope_cell};
 ghost use Rattle.byte_output.specs.Prefix.{AppendsPrefix};
-ghost use Rattle.cord_search.specs.Reached.{StandsAtPlace};
-ghost use Rattle.cord_search.specs.Stated.{OfSpan, OfText};
+ghost use Rattle.cord_search.specs.Stated.{OfText};
 ghost use Rattle.cord_search.specs.Faults.{IsPutFault};
 ghost use Rattle.cord_search.specs.declared.fault.PutFault.TheVariants.{Write};
 

@@ -1,5 +1,5 @@
 -- The parts of a text taken back, and of one that is put behind itself.
-use Rattle.std.proofs.Common.{◌≡◌, ℕ, zero, suc, ◌+◌, ◌^◌, ◌<◌, Bool, true, false, List, [], ◌∷◌, ◌++◌, length, Option, Some, None, sym, ap, arith, lit<}
+use Rattle.std.proofs.Common.{◌≡◌, zero, suc, ◌+◌, ◌^◌, ◌<◌, Bool, true, false, List, [], ◌∷◌, ◌++◌, length, Option, Some, None, sym, ap, arith, lit<}
 use Rattle.std.specs.Prelude.{nat_lt, if◌then◌else◌}
 use Rattle.rope_node.specs.declared.node.NodeId.{NodeId}
 use Rattle.rope_node.specs.Table.{Table, IsSound, HasTrueRecords}

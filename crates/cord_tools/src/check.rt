@@ -60,7 +60,7 @@ fn answer_with<S: Sources>(
 }
 
 /// Checks the image that the reader gives, with these sources, and writes one line: `accepted R revisions N nodes K rows`
-/// or `refused CODE`. It reads sources only where rows compare their bytes.
+/// or `refused CODE`. It reads sources only where rows compare their bytes. Room for `expected` bytes of the image is taken first.
 ///
 /// # Errors
 ///
@@ -69,13 +69,14 @@ fn answer_with<S: Sources>(
 pub fn run_check<R: io::Read + Drop, S: Sources, W: io::Write>(
     alloc: Global,
     reader: R,
+    expected: u64,
     sources: &mut S,
     writer: &mut W,
 ) -> Result<Status, ToolFault>
     ensures { ChecksImage S.stated S.failures sources.old sources.new (R.remaining reader)
         (W.contents writer.old) (W.contents writer.new) result }
 {
-    let bytes = read_image(alloc, reader)?;
+    let bytes = read_image(alloc, reader, expected)?;
     let (line, status) = answer_with(alloc, &bytes, sources)?;
     write_bytes(writer, line.as_bytes())?;
     Ok(status)
@@ -93,7 +94,7 @@ pub fn run_stdin<R: io::Read + Drop, W: io::Write>(
 ) -> Result<Status, ToolFault>
     ensures { ChecksInput (R.remaining reader) (W.contents writer.old) (W.contents writer.new) result }
 {
-    run_check(alloc, reader, &mut MemSources::new(alloc), writer)
+    run_check(alloc, reader, 0, &mut MemSources::new(alloc), writer)
 }
 
 /// Answers a check whose sources are refused, before the image's bytes are looked at: it writes the line `refused CODE`, and answers

@@ -1,6 +1,5 @@
 //! A file edited on a screen, and its session saved.
 
-ghost use Rattle.std.specs.Prelude.{◌≡◌};
 ghost use Rattle.cord_tools.specs.Editing.{Concludes, EditsFile, SavesImage};
 
 use crate::fault::ToolFault;

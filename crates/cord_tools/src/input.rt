@@ -1,6 +1,6 @@
 //! Reading.
 
-ghost use Rattle.std.specs.Prelude.{◌≡◌, ◌⊎◌, IfOk, IfErr};
+ghost use Rattle.std.specs.Prelude.{◌≡◌, ◌⊎◌, [], IfOk, IfErr};
 ghost use Rattle.cord_tools.specs.Answers.{AreRead, AreReadUpTo};
 ghost use Rattle.cord_tools.specs.declared.fault.ToolFault.TheVariants.{Memory, Read};
 
@@ -12,24 +12,40 @@ use std::io::{ErrorKind, Read};
 /// One more byte than the largest image has.
 pub const IMAGE_LIMIT: u64 = 5_293_213_728;
 
-/// Reads all the bytes of an image, up to the limit. A longer one is refused by what was read.
-pub fn read_image<R: Read + Drop>(alloc: Global, reader: R) -> Result<Vec<u8>, ToolFault>
+/// Reads all the bytes of an image, up to the limit. A longer one is refused by what was read. Room for `expected` bytes is taken first.
+pub fn read_image<R: Read + Drop>(
+    alloc: Global,
+    reader: R,
+    expected: u64,
+) -> Result<Vec<u8>, ToolFault>
     ensures ok { IfOk result (λ v. AreRead (R.remaining reader) v.items) }
     ensures fault { IfErr result (λ e. (e ≡ Memory) ⊎ (e ≡ Read)) }
 {
-    read_up_to(alloc, reader, IMAGE_LIMIT)
+    read_up_to(alloc, reader, expected, IMAGE_LIMIT)
 }
 
-/// Reads all the bytes, and at most `limit` of them.
+/// Room for so many bytes, and for one more, which tells that they are all.
+fn room(alloc: Global, expected: u64) -> Result<Vec<u8>, ToolFault>
+    ensures ok { IfOk result (λ v. v.items ≡ []) }
+    ensures fault { IfErr result (λ e. e ≡ Memory) }
+{
+    match usize::try_from(expected.saturating_add(1)) {
+        Ok(capacity) => Ok(Vec::with_capacity(alloc, capacity)?),
+        Err(_) => Err(ToolFault::Memory),
+    }
+}
+
+/// Reads all the bytes, and at most `limit` of them. Room for `expected` bytes is taken first.
 pub fn read_up_to<R: Read + Drop>(
     alloc: Global,
     reader: R,
+    expected: u64,
     limit: u64,
 ) -> Result<Vec<u8>, ToolFault>
     ensures ok { IfOk result (λ v. AreReadUpTo limit (R.remaining reader) v.items) }
     ensures fault { IfErr result (λ e. (e ≡ Memory) ⊎ (e ≡ Read)) }
 {
-    let mut bytes = Vec::new(alloc);
+    let mut bytes = room(alloc, expected.min(limit))?;
     match reader.take(limit).read_to_end(&mut bytes) {
         Ok(_) => Ok(bytes),
         Err(error) => {

@@ -11,7 +11,7 @@ use std::alloc::Global;
 use std::io;
 
 /// Writes the text of revision `revision` of the image that the reader gives, with these sources, and nothing else, once the image
-/// is checked.
+/// is checked. Room for `expected` bytes of the image is taken first.
 ///
 /// # Errors
 ///
@@ -21,6 +21,7 @@ use std::io;
 pub fn run_show<R: io::Read + Drop, S: Sources, W: io::Write>(
     alloc: Global,
     reader: R,
+    expected: u64,
     sources: &mut S,
     revision: u64,
     writer: &mut W,
@@ -28,7 +29,7 @@ pub fn run_show<R: io::Read + Drop, S: Sources, W: io::Write>(
     ensures { ShowsRevision S.stated S.failures sources.old sources.new (R.remaining reader)
         revision (W.contents writer.old) (W.contents writer.new) result }
 {
-    let bytes = read_image(alloc, reader)?;
+    let bytes = read_image(alloc, reader, expected)?;
     let image = check(&bytes, sources)?;
     if revision >= u64::from(image.revisions()) {
         return Err(ToolFault::NoRevision);

@@ -13,16 +13,20 @@ use std::alloc::Global;
 use std::io;
 
 /// Reads the text of a source, and at most 2^40 bytes of it. That is one more than a source may
-/// have, so a longer one is refused by what was read.
+/// have, so a longer one is refused by what was read. Room for `expected` bytes is taken first.
 ///
 /// # Errors
 ///
 /// `Read`, where the reader failed. `Memory`.
-pub fn read_source<R: io::Read + Drop>(alloc: Global, reader: R) -> Result<Vec<u8>, ToolFault>
+pub fn read_source<R: io::Read + Drop>(
+    alloc: Global,
+    reader: R,
+    expected: u64,
+) -> Result<Vec<u8>, ToolFault>
     ensures ok { IfOk result (λ v. AreReadUpTo source_limit (R.remaining reader) v.items) }
     ensures fault { IfErr result (λ e. (e ≡ Memory) ⊎ (e ≡ Read)) }
 {
-    read_up_to(alloc, reader, SOURCE_LIMIT + 1)
+    read_up_to(alloc, reader, expected, SOURCE_LIMIT + 1)
 }
 
 /// The texts as sources, in their order. There may be 255 of them, each of less than 2^40 bytes.

@@ -32,13 +32,23 @@ fn open(rt: &HostRuntime, path: &str) -> Result<File, ToolFault> {
     }
 }
 
+/// So many bytes a file tells that it has. A pipe tells none.
+fn told_size(file: &File) -> u64 {
+    match file.metadata() {
+        Ok(metadata) if metadata.is_file() => metadata.len(),
+        _ => 0,
+    }
+}
+
 /// Reads the sources whole, in the order of their paths.
 fn source_texts(rt: &HostRuntime, paths: &[&str]) -> Result<Vec<Vec<u8>>, ToolFault>
     ensures { IfOk result (λ texts. length texts.items ≡ length paths.entry.now) }
 {
     let mut texts = Vec::new(rt.alloc());
     for path in paths {
-        let text = read_source(rt.alloc(), open(rt, path)?)?;
+        let file = open(rt, path)?;
+        let expected = told_size(&file);
+        let text = read_source(rt.alloc(), file, expected)?;
         texts.push(text).map_err(|_| ToolFault::Memory)?;
     }
     Ok(texts)
@@ -47,10 +57,11 @@ fn source_texts(rt: &HostRuntime, paths: &[&str]) -> Result<Vec<Vec<u8>>, ToolFa
 /// Checks an image with its sources. Sources that are refused answer for it.
 fn check(rt: &HostRuntime, image: &str, paths: &[&str]) -> Result<Status, ToolFault> {
     let image = open(rt, image)?;
+    let expected = told_size(&image);
     let texts = source_texts(rt, paths)?;
     let mut writer = io::writer(rt);
     match sources_of(rt.alloc(), texts.as_slice()) {
-        Ok(mut sources) => run_check(rt.alloc(), image, &mut sources, &mut writer),
+        Ok(mut sources) => run_check(rt.alloc(), image, expected, &mut sources, &mut writer),
         Err(refusal) => refuse_check(rt.alloc(), refusal, &mut writer),
     }
 }
@@ -58,11 +69,13 @@ fn check(rt: &HostRuntime, image: &str, paths: &[&str]) -> Result<Status, ToolFa
 /// Writes the text of a revision of an image.
 fn show(rt: &HostRuntime, image: &str, revision: u64, paths: &[&str]) -> Result<Status, ToolFault> {
     let image = open(rt, image)?;
+    let expected = told_size(&image);
     let texts = source_texts(rt, paths)?;
     let mut sources = sources_of(rt.alloc(), texts.as_slice())?;
     run_show(
         rt.alloc(),
         image,
+        expected,
         &mut sources,
         revision,
         &mut io::writer(rt),

@@ -3,7 +3,7 @@ use Rattle.std.proofs.Common.{◌≡◌, ℕ, ◌+◌, ◌-◌, ◌<◌, ◌≤�
 use Rattle.std.specs.Prelude.{IfOk, slice_get, get_or, replicate, nat_le, nat_lt, ◌||◌, ◌==◌}
 use Rattle.std.specs.Option.{option_map}
 use Rattle.std.specs.List.{range_with_len}
-use Rattle.std.proofs.lemmas.Bool.{lt-ltb, le-leb, ltb-false, leb-false}
+use Rattle.std.proofs.lemmas.Bool.{le-leb, ltb-false, leb-false}
 use Rattle.std.proofs.lemmas.List.{length-append, length-map, length-take, length-drop, length-replicate}
 use Rattle.std.proofs.lemmas.List.FromFn.{length-range_with_len, get_or-range_with_len}
 use Rattle.std.proofs.lemmas.Option.{slice_get-get_or, slice_get-map}
@@ -19,7 +19,7 @@ use Rattle.node_table.specs.Held.{Held, table_of}
 use Rattle.rebalance.specs.declared.fault.BalanceFault.{BalanceFault}
 use Rattle.rebalance.specs.AnyForms.{StandsAt}
 use Rattle.rebalance.proofs.AnyCalls.{IsRight}
-use Rattle.span_certificate.specs.Commands.{span, bounded, replaced, spliced, result_of}
+use Rattle.span_certificate.specs.Commands.{span, replaced, spliced, result_of}
 use Rattle.span_certificate.specs.Parts.{root_at, givens_of, AreRopes}
 use Rattle.span_certificate.proofs.Joined.{text_at, span_is, bounded_is}
 use Rattle.edit_commands.specs.declared.building.Built.{Built}

@@ -1,6 +1,6 @@
 //! The tests of a command before anything changes.
 
-ghost use Rattle.std.specs.Prelude.{◌≡◌, ◌+◌, ◌<◌, ◌≤◌, false, nat_lt, length};
+ghost use Rattle.std.specs.Prelude.{◌≡◌, ◌+◌, ◌<◌, false, nat_lt, length};
 ghost use Rattle.std.specs.Option.{option_map};
 ghost use Rattle.function_leaf.specs.Coded.{coded_byte};
 ghost use Rattle.rope_node.specs.declared.limits.TheConstants.{TEXT_LIMIT};

@@ -1,13 +1,12 @@
 -- A command's numbers: what is spelled is read again, and what is read without a fault is spelled so.
-use Rattle.std.proofs.Common.{◌≡◌, ℕ, zero, suc, ◌<◌, ◌≤◌, Bool, true, false, eqb, List, [], ◌∷◌, get_or, refl, sym, ap, subst, ◌∙◌, arith, lit<, inl, inr}
-use Rattle.std.specs.Prelude.{◌⊎◌, cond}
+use Rattle.std.proofs.Common.{◌≡◌, ℕ, zero, suc, ◌<◌, ◌≤◌, false, List, [], ◌∷◌, refl, subst, arith, lit<, inl, inr}
 use Rattle.std.specs.List.{AllByRecursion}
 use Rattle.std.proofs.lemmas.Bool.{cases_Bool, eqb-true}
 use Rattle.span_certificate.specs.declared.edit.Edit.{Edit}
 use Rattle.span_certificate.specs.declared.edit.Edit.TheVariants.{New, Open, Insert, Delete, Replace, Paste, Join, Cut, Fill, Back, Balance}
 use Rattle.span_certificate.specs.Fields.{Field, R, Q, P, M, A, N, place_in_record, number_limit, recorded, last_code, edit_by, is_in_field, number_for, unused, FitsField, FitsRecord}
 use Rattle.image_reader.specs.declared.command.Numbers.{Numbers}
-use Rattle.image_reader.specs.Spelling.{field_of, number_of, numbers_of}
+use Rattle.image_reader.specs.Spelling.{field_of, numbers_of}
 use Rattle.image_reader.specs.Reading.{any_nonzero}
 use Rattle.image_reader.proofs.Faults.{AreZero, are_zero}
 

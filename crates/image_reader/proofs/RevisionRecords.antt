@@ -1,10 +1,10 @@
 -- Records of revisions: one that has no fault fits and is spelled as it was, and one that fits is read again.
-use Rattle.std.proofs.Common.{lit<, ◌≡◌, ◌≢◌, ℕ, zero, suc, ◌^◌, ◌<◌, ◌≤◌, Bool, true, false, eqb, ltb, List, [], ◌∷◌, length, get_or, Option, Some, None, refl, sym, ap, ◌∙◌, arith, inl, inr}
+use Rattle.std.proofs.Common.{lit<, ◌≡◌, ◌≢◌, ℕ, zero, suc, ◌^◌, ◌<◌, ◌≤◌, Bool, true, false, eqb, ltb, List, ◌∷◌, length, get_or, Option, Some, None, refl, sym, ap, ◌∙◌, arith, inl, inr}
 use Rattle.std.specs.Int.{w8, w16, w32, w64}
 use Rattle.std.proofs.lemmas.Bool.{or_parts, or_from, le-ltb, eqb-true, eqb-false, ne_eqb, ltb-false, cases_Bool}
 use Rattle.rope_node.specs.declared.node.NodeId.{NodeId}
 use Rattle.span_certificate.specs.declared.edit.Edit.{Edit}
-use Rattle.span_certificate.specs.Fields.{Field, R, Q, P, M, A, N, place_in_record, number_limit, recorded, last_code, edit_by, unused, FitsRecord}
+use Rattle.span_certificate.specs.Fields.{Field, R, Q, P, M, A, N, place_in_record, number_limit, recorded, edit_by, unused, FitsRecord}
 use Rattle.image_reader.specs.declared.command.Numbers.{Numbers}
 use Rattle.image_reader.specs.declared.fault.ReadFault.TheVariants.{NonZeroPad}
 use Rattle.image_reader.specs.declared.revision.Revision.{Revision}
@@ -13,7 +13,7 @@ use Rattle.image_reader.specs.Layout.{IsBytes, spelled, number_in}
 use Rattle.image_reader.specs.Value.{FitsRoot, FitsRevision}
 use Rattle.image_reader.specs.Spelling.{field_of, numbers_of, mark_number, root_number, revision_layout, revision_numbers, revision_spelling}
 use Rattle.image_reader.specs.Reading.{command_code_in, numbers_in, edit_of, root_of, revision_of, is_unknown_revision, any_nonzero, unused_in_revision, revision_record_fault}
-use Rattle.image_reader.proofs.Commands.{edit_again, unused_again, code_small, number_fits, IsOfCode, is_of_code, edit_fits}
+use Rattle.image_reader.proofs.Commands.{edit_again, unused_again, code_small, number_fits, is_of_code, edit_fits}
 use Rattle.image_reader.proofs.Faults.{else_none, fault_if_none, zero_first}
 use Rattle.image_reader.proofs.Fields.{AreWide, FitFields, wide8, wide16, wide32, wide64, number_in_small, numbers_from, spelled_whole, numbers_whole, length-spelled}
 use Rattle.image_reader.proofs.Records.{IsRecord}

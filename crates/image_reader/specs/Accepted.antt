@@ -1,11 +1,10 @@
 -- What an image needs to be accepted: rules of its sources, its nodes and its revisions, each by what is recorded.
-use Rattle.std.specs.Prelude.{◌≡◌, ℕ, ◌<◌, true, false, List, length, map, take, drop, get_or, Option, Some, None}
+use Rattle.std.specs.Prelude.{◌≡◌, ℕ, ◌<◌, true, false, List, length, map, take, drop, get_or, Option, None}
 use Rattle.std.specs.List.{sum_by}
 use Rattle.rope_node.specs.declared.node.NodeId.{NodeId}
 use Rattle.rope_node.specs.Table.{Table, node_at, IsSoundNode, IsTrueNode}
 use Rattle.rope_node.specs.Denotes.{rope_len, IsRope}
 use Rattle.rope_node.specs.Balance.{IsBalancedRope}
-use Rattle.span_certificate.specs.declared.edit.Edit.{Edit}
 use Rattle.span_certificate.specs.declared.edit.Edit.TheVariants.{New}
 use Rattle.span_certificate.specs.declared.part.Part.{Part}
 use Rattle.span_certificate.specs.declared.row.Row.{Row}

@@ -1,9 +1,9 @@
 //! Commands as a revision's record holds them: a code, and the numbers that a command of this code uses.
 
 ghost use Rattle.std.specs.Prelude.{◌≡◌, length};
-ghost use Rattle.span_certificate.specs.Fields.{edit_by, recorded, unused};
+ghost use Rattle.span_certificate.specs.Fields.{edit_by, unused};
 ghost use Rattle.image_reader.specs.Reading.{numbers_in, any_nonzero};
-ghost use Rattle.image_reader.specs.Spelling.{field_of, numbers_of};
+ghost use Rattle.image_reader.specs.Spelling.{field_of};
 
 use crate::number::{u32_in, u64_in};
 use span_certificate::Edit;

@@ -1,8 +1,6 @@
 //! What single records of sources, revisions and rows say.
 
-ghost use Rattle.std.specs.Prelude.{◌≡◌, ◌+◌, ◌*◌, ◌≤◌, ◌<◌, ◌^◌, length};
-ghost use Rattle.std.specs.Int.{w8, w32, w64};
-ghost use Rattle.image_reader.specs.Layout.{number_in};
+ghost use Rattle.std.specs.Prelude.{◌≡◌, ◌+◌, ◌*◌, ◌≤◌, length};
 ghost use Rattle.image_reader.specs.Reading.{source_of, root_of, revision_of, row_kind_of, row_of, counted_rows};
 
 use crate::command::{edit_by, numbers_in};

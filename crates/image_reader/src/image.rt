@@ -37,7 +37,7 @@ pub struct Image<'a> {
 }
 
 impl<'a> Model for Image<'a> {
-    ghost use Rattle.std.specs.Prelude.{◌≡◌, ◌*◌, ◌≤◌, length, None};
+    ghost use Rattle.std.specs.Prelude.{◌≡◌, ◌*◌, length, None};
     ghost use Rattle.image_reader.specs.Value.{ImageValue, IsImage};
     ghost use Rattle.image_reader.specs.Layout.{records};
     ghost use Rattle.image_reader.specs.Reading.{sections_value, HasRoom, first_fault, node_record_fault};

@@ -1,6 +1,6 @@
 //! What the record of a node says, and what in it is at fault.
 
-ghost use Rattle.std.specs.Prelude.{◌≡◌, length, drop, false, None, Some};
+ghost use Rattle.std.specs.Prelude.{◌≡◌, length, false, None, Some};
 ghost use Rattle.function_leaf.specs.Pattern.{IsPatternLength};
 ghost use Rattle.image_reader.specs.Reading.{image_node, view_of, kind_in, pattern_size_in, pattern_of, coded_of, function_of, any_nonzero, is_unknown_function, is_unknown_node, unused_in_span, unused_in_concatenation, unused_in_function, unused_in_node, node_record_fault};
 

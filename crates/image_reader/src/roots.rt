@@ -1,6 +1,6 @@
 //! The roots of the revisions before one.
 
-ghost use Rattle.std.specs.Prelude.{◌≡◌, ◌<◌, ◌≤◌, length};
+ghost use Rattle.std.specs.Prelude.{◌<◌, ◌≤◌, length};
 ghost use Rattle.image_reader.specs.Accepted.{roots_before};
 
 use crate::image::Image;

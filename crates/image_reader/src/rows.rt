@@ -1,6 +1,6 @@
 //! The rows of one revision.
 
-ghost use Rattle.std.specs.Prelude.{◌≡◌, ◌+◌, ◌<◌, ◌≤◌, length, take, drop, slice_get, Some};
+ghost use Rattle.std.specs.Prelude.{◌+◌, ◌<◌, ◌≤◌, length, take, drop};
 
 use crate::image::Image;
 use span_certificate::{Row, Rows};

@@ -1,10 +1,9 @@
 //! Sections of records: each record of a kind has one size and one test.
 
-ghost use Rattle.std.specs.Prelude.{◌≡◌, ◌+◌, ◌*◌, ◌≤◌, ◌<◌, ◌^◌, ℕ, List, length, Option};
+ghost use Rattle.std.specs.Prelude.{◌≡◌, ◌*◌, ◌≤◌, ◌<◌, ℕ, List, length, Option};
 ghost use Rattle.std.specs.Result.{result_err};
 ghost use Rattle.image_reader.specs.declared.fault.ReadFault.{ReadFault};
-ghost use Rattle.image_reader.specs.Layout.{records, number_in};
-ghost use Rattle.std.specs.Int.{w8};
+ghost use Rattle.image_reader.specs.Layout.{records};
 ghost use Rattle.image_reader.specs.Reading.{source_record_fault, node_record_fault, revision_record_fault, row_record_fault, first_fault, any_nonzero, unused_in_revision, unused_in_row, sections_fault};
 
 use crate::command::{edit_by, has_unused_number, numbers_in};

@@ -1,5 +1,5 @@
 //! Sources that are devices, such as files.
-ghost use Rattle.std.specs.Prelude.{◌≡◌, ◌↔◌, ◌<◌, ◌≤◌, ◌++◌, ◌∷◌, [], IfErr, IfOk, IfSome, IsErrAnd, OnErr, OnOk, drop, length, map, take};
+ghost use Rattle.std.specs.Prelude.{◌≡◌, ◌↔◌, ◌<◌, ◌++◌, ◌∷◌, [], IfErr, IfOk, IfSome, IsErrAnd, OnErr, OnOk, drop, length, map, take};
 ghost use Rattle.std.specs.List.{sum_by};
 ghost use Rattle.lazy_file.specs.declared.sources.TheConstants.{COUNT_LIMIT, SOURCE_LIMIT};
 ghost use Rattle.lazy_file.specs.SourceTexts.{Reads, text_at};

@@ -1,5 +1,5 @@
 //! Reads of a device until a buffer is full.
-ghost use Rattle.std.specs.Prelude.{◌≡◌, ◌+◌, ◌<◌, ◌≤◌, ◌^◌, length};
+ghost use Rattle.std.specs.Prelude.{◌+◌, ◌<◌, ◌^◌, length};
 ghost use Rattle.lazy_file.specs.DeviceTexts.{FillsFrom};
 
 use crate::device::Device;

@@ -1,6 +1,6 @@
 //! A cursor in one leaf.
 
-ghost use Rattle.std.specs.Prelude.{◌≡◌, ◌+◌, ◌<◌, ◌≤◌, ◌↔◌, ◌++◌, [], ◌∷◌, min, length, slice_get, take, drop, IsNone, IfSome, IfNone};
+ghost use Rattle.std.specs.Prelude.{◌≡◌, ◌+◌, ◌<◌, ◌↔◌, ◌++◌, [], min, length, slice_get, take, drop, IsNone, IfSome, IfNone};
 ghost use Rattle.leaf_buffer.specs.Progress.{Progress, Passes, leaf_of};
 
 use crate::lent::Lent;

@@ -1,5 +1,5 @@
 -- What a table holds, and what may be put into it.
-use Rattle.std.specs.Prelude.{◌≡◌, ℕ, ◌+◌, ◌^◌, ◌<◌, ◌≤◌, List, All, length, map, get_or, ◌++◌, Option, Some, None}
+use Rattle.std.specs.Prelude.{◌≡◌, ℕ, ◌+◌, ◌<◌, ◌≤◌, List, All, length, map, get_or, ◌++◌, Option, Some, None}
 use Rattle.function_leaf.specs.declared.coded.Coded.{Coded}
 use Rattle.function_leaf.specs.Optional.{answer_of, or_fill}
 use Rattle.leaf_buffer.specs.Contents.{Contents, IsInOneBlock}

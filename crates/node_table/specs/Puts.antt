@@ -1,7 +1,7 @@
 -- What a call does that puts nodes or a source into a table: all of it, or nothing.
 use Rattle.std.specs.Prelude.{◌≡◌, ◌↔◌, ◌⊎◌, ℕ, ◌+◌, ◌-◌, ◌<◌, ◌≤◌, List, ◌++◌, [], ◌∷◌, length, Option, Some, Result, OnOk, OnErr, IfOk, IfErr, IsErrOf}
 use Rattle.leaf_buffer.specs.declared.pool.TheConstants.{POOL_LIMIT}
-use Rattle.leaf_buffer.specs.Contents.{Contents, appended, extended}
+use Rattle.leaf_buffer.specs.Contents.{appended, extended}
 use Rattle.rope_node.specs.declared.limits.TheConstants.{MOST_NODES, MOST_SOURCES, TEXT_LIMIT}
 use Rattle.rope_node.specs.declared.node.NodeId.{NodeId}
 use Rattle.rope_node.specs.Extends.{Extends}

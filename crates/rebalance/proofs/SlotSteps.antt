@@ -9,7 +9,6 @@ use Rattle.rope_node.specs.Denotes.{Cell, rope_cells, rope_len, rope_depth, IsRo
 use Rattle.rope_node.specs.Extends.{Extends}
 use Rattle.std.specs.Option.{is_some}
 use Rattle.rope_node.proofs.Extensions.{len_kept, depth_kept}
-use Rattle.rope_node.proofs.Cells.{cells_length}
 use Rattle.node_table.specs.Held.{Held, table_of}
 use Rattle.rebalance.specs.Slots.{ropes_in, slots_cells, AreSlots, AreEmptyBelow, IsSlot, IsGathered, IsCarried, IsPiece, IsJoin, IsSpread}
 use Rattle.rebalance.proofs.Fibonacci.{fibonacci_sum, fibonacci_up, fibonacci_below, first_ones, sixtieth, over_both}

@@ -1,9 +1,9 @@
 //! The store's calls, for ropes that may be too deep for them.
 
-ghost use Rattle.std.specs.Prelude.{◌≡◌, ◌↔◌, ◌+◌, ◌^◌, ◌<◌, ◌≤◌, ◌++◌, length, map, [], Some, IsTrue, IfOk, IsErrOf};
+ghost use Rattle.std.specs.Prelude.{◌≡◌, ◌↔◌, ◌+◌, ◌<◌, ◌≤◌, length, [], Some, IsTrue, IfOk, IsErrOf};
 ghost use Rattle.rope_node.specs.declared.limits.TheConstants.{TEXT_LIMIT};
 ghost use Rattle.rope_node.specs.Table.{len_at};
-ghost use Rattle.rope_node.specs.Denotes.{Byte, rope_cells, rope_len, IsRope};
+ghost use Rattle.rope_node.specs.Denotes.{IsRope};
 ghost use Rattle.node_table.specs.Held.{table_of};
 ghost use Rattle.rope_store.specs.Appending.{IsTooLong};
 ghost use Rattle.rebalance.specs.AnyForms.{AppendsAny, AppendsAnew, CatsAny, CatsAnew, IsPlaced, IsPut, PartsAny, lifted, ropes_of};

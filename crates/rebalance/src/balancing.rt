@@ -1,6 +1,6 @@
 //! A rope put together anew.
 
-ghost use Rattle.std.specs.Prelude.{◌≡◌, ◌+◌, ◌<◌, ◌≤◌, ◌↔◌, length, IfOk, IsTrue};
+ghost use Rattle.std.specs.Prelude.{◌+◌, ◌<◌, ◌≤◌, ◌↔◌, length, IfOk, IsTrue};
 ghost use Rattle.rope_node.specs.declared.limits.TheConstants.{TEXT_LIMIT};
 ghost use Rattle.rope_node.specs.Table.{len_at};
 ghost use Rattle.rope_node.specs.Denotes.{IsRope};

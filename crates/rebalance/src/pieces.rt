@@ -2,7 +2,6 @@
 
 ghost use Rattle.std.specs.Prelude.{◌≡◌, ◌↔◌, ◌+◌, ◌<◌, ◌≤◌, min, length, take, IsTrue, IfOk};
 ghost use Rattle.rope_node.specs.Table.{view_at, len_at, IsLeaf, IsFunction};
-ghost use Rattle.rope_node.specs.Denotes.{Byte, cells, rope_cells};
 ghost use Rattle.node_table.specs.Held.{table_of};
 ghost use Rattle.rebalance.specs.Pieces.{answered_bytes, is_kept, span_pieces, IsPieceSpan, IsSpan, IsSplit};
 ghost use Rattle.rebalance.specs.declared.pieces.TheConstants.{MOST_PIECES};

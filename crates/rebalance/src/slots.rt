@@ -1,9 +1,9 @@
 //! Slots for ropes: a longer rope in a slot of a higher number, and more to the left in the text.
 
-ghost use Rattle.std.specs.Prelude.{◌≡◌, ◌+◌, ◌<◌, ◌≤◌, length, IfOk};
+ghost use Rattle.std.specs.Prelude.{◌+◌, ◌<◌, ◌≤◌, length, IfOk};
 ghost use Rattle.rope_node.specs.declared.limits.TheConstants.{MOST_DEPTH, TEXT_LIMIT};
 ghost use Rattle.rope_node.specs.Balance.{fibonacci};
-ghost use Rattle.rope_node.specs.Denotes.{rope_cells, rope_len, rope_depth, IsRope};
+ghost use Rattle.rope_node.specs.Denotes.{rope_depth, IsRope};
 ghost use Rattle.node_table.specs.Held.{table_of};
 ghost use Rattle.rebalance.specs.Slots.{full_slots, ropes_in, slots_cells, AreSlots, AreEmptyBelow, IsCarried, IsGathered, IsJoin, IsPiece, Gathers, Inserts, Settles, cells_with, joined_len};
 ghost use Rattle.rebalance.specs.Steps.{AddsNodes};

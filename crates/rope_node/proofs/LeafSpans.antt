@@ -1,7 +1,7 @@
 -- Laws of leaf spans: one step down to them, and which cells they are.
 use Rattle.std.proofs.Common.{◌≡◌, ℕ, zero, suc, ◌+◌, ◌-◌, ◌<◌, ◌≤◌, ◌++◌, min, ltb, length, take, drop, refl, sym, ap, subst, ◌∙◌, arith}
 use Rattle.std.proofs.Math.Nat.{min-le_left, min-le_right}
-use Rattle.std.proofs.lemmas.Bool.{lt-ltb, le-ltb, ltb-true, ltb-false, cond_both}
+use Rattle.std.proofs.lemmas.Bool.{ltb-true, ltb-false, cond_both}
 use Rattle.std.proofs.lemmas.List.{take-take}
 use Rattle.rope_node.specs.declared.node.LeafSpan.{LeafSpan}
 use Rattle.rope_node.specs.declared.node.NodeId.{NodeId}

@@ -1,5 +1,5 @@
 -- A table of nodes: what each node is, which tables are sound, and which records are true.
-use Rattle.std.specs.Prelude.{◌≡◌, ℕ, ◌+◌, ◌^◌, ◌<◌, ◌≤◌, max, List, [], length, get_or, slice_range}
+use Rattle.std.specs.Prelude.{◌≡◌, ℕ, ◌+◌, ◌<◌, ◌≤◌, max, List, [], length, get_or, slice_range}
 use Rattle.leaf_buffer.specs.declared.pool.TheConstants.{POOL_LIMIT}
 use Rattle.rope_node.specs.declared.limits.TheConstants.{MOST_DEPTH, TEXT_LIMIT}
 use Rattle.rope_node.specs.declared.node.NodeView.{NodeView}

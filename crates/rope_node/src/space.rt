@@ -1,6 +1,6 @@
 //! What every table of nodes offers.
 
-ghost use Rattle.std.specs.Prelude.{◌≡◌, ◌<◌, ◌≤◌, ◌^◌, ℕ, length, take, drop, get_or, IfSome};
+ghost use Rattle.std.specs.Prelude.{◌≡◌, ◌<◌, ◌≤◌, ℕ, length, take, drop, get_or, IfSome};
 ghost use Rattle.leaf_buffer.specs.declared.pool.TheConstants.{POOL_LIMIT};
 ghost use Rattle.rope_node.specs.declared.limits.TheConstants.{MOST_DEPTH, TEXT_LIMIT};
 ghost use Rattle.rope_node.specs.Denotes.{rope_cells, rope_len, IsRope};

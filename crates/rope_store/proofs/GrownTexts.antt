@@ -1,5 +1,5 @@
 -- Literals that grow in place, and bytes put before their merged copy.
-use Rattle.std.proofs.Common.{◌≡◌, ℕ, ◌+◌, ◌^◌, ◌<◌, ◌≤◌, List, [], ◌∷◌, ◌++◌, length, map, Option, Some, None, refl, sym, ap, subst, ◌∙◌, arith, add-zero, length-append, append_assoc}
+use Rattle.std.proofs.Common.{◌≡◌, ℕ, ◌+◌, ◌<◌, ◌≤◌, List, [], ◌∷◌, ◌++◌, length, map, Option, Some, None, refl, sym, ap, subst, ◌∙◌, arith, add-zero, length-append, append_assoc}
 use Rattle.std.specs.List.{slice_range}
 use Rattle.leaf_buffer.specs.declared.block.TheConstants.{BLOCK_SIZE}
 use Rattle.rope_node.specs.declared.limits.TheConstants.{TEXT_LIMIT}

@@ -1,5 +1,5 @@
 -- Short literals that are read, and the bytes that are made of them.
-use Rattle.std.proofs.Common.{◌≡◌, ℕ, ◌+◌, ◌-◌, ◌^◌, ◌<◌, ◌≤◌, List, ◌++◌, length, take, Fits, w64, ap, ◌∙◌, arith, length-append, length-take}
+use Rattle.std.proofs.Common.{◌≡◌, ℕ, ◌+◌, ◌-◌, ◌<◌, ◌≤◌, List, ◌++◌, length, take, Fits, w64, ap, ◌∙◌, arith, length-append, length-take}
 use Rattle.leaf_buffer.specs.declared.block.TheConstants.{BLOCK_SIZE}
 use Rattle.rope_node.specs.declared.limits.TheConstants.{TEXT_LIMIT}
 use Rattle.rope_node.specs.declared.node.NodeId.{NodeId}

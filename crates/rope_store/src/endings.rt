@@ -1,6 +1,6 @@
 //! Literals at the end of texts.
 
-ghost use Rattle.std.specs.Prelude.{◌≡◌, ◌<◌, ◌≤◌, length, IfSome};
+ghost use Rattle.std.specs.Prelude.{◌≡◌, ◌<◌, length, IfSome};
 ghost use Rattle.rope_node.specs.Table.{IsLiteral, view_at};
 ghost use Rattle.node_table.specs.Held.{table_of};
 ghost use Rattle.rope_store.specs.Joining.{ending_of, ending_taking, ending_with, IsShortEnding, TakesLiteral};

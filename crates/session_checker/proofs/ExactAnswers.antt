@@ -8,13 +8,12 @@ use Rattle.lazy_file.specs.SourceTexts.{Stated, stated_in_memory}
 use Rattle.lazy_file.proofs.MemoryTexts.{stated_text}
 use Rattle.std.proofs.lemmas.List.{length-map}
 use Rattle.cord_position.specs.Fetched.{IsReadable, IsStated}
-use Rattle.span_certificate.specs.Covers.{IsFirstBad}
 use Rattle.span_certificate.proofs.MadeRows.{no_source_readable, no_source_stated, own_rows_readable, agreeing}
 use Rattle.image_reader.specs.declared.fault.ReadFault.{ReadFault}
 use Rattle.image_reader.specs.Value.{ImageValue, IsImage, image_table, coded_at}
 use Rattle.image_reader.specs.Spelling.{spelling}
 use Rattle.image_reader.specs.Reading.{fault_of, image_of}
-use Rattle.image_reader.specs.Accepted.{HasSources, IsAlwaysAccepted, IsGoodNode, revision_at, parts_at, rows_at, HasGoodMark, KeepsRules, HasGoodRows}
+use Rattle.image_reader.specs.Accepted.{HasSources, IsAlwaysAccepted, IsGoodNode, revision_at, parts_at, rows_at, HasGoodMark, KeepsRules}
 use Rattle.image_reader.proofs.WholeImages.{whole_again}
 use Rattle.session_checker.specs.declared.fault.CheckFault.{CheckFault}
 use Rattle.session_checker.specs.declared.fault.CheckFault.TheVariants as faults

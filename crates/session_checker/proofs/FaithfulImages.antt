@@ -1,5 +1,5 @@
 -- Rules on single records imply that the whole image is faithful.
-use Rattle.std.proofs.Common.{◌≡◌, ℕ, ◌<◌, List, [], ◌∷◌, length, map, take, Option, Some, None, refl, sym, ap, ◌∙◌, arith}
+use Rattle.std.proofs.Common.{◌≡◌, ℕ, ◌<◌, List, length, map, take, Some, sym, ap, ◌∙◌, arith}
 use Rattle.std.specs.Prelude.{slice_get, slice_index}
 use Rattle.std.specs.Option.{option_map}
 use Rattle.std.specs.List.{range_with_len}
@@ -10,7 +10,7 @@ use Rattle.rope_node.specs.Coded.{answers_as_filled}
 use Rattle.rope_node.specs.Table.{IsSound, HasTrueRecords}
 use Rattle.rope_node.specs.Denotes.{Cell, Byte, Place, cell_byte, rope_cells, text}
 use Rattle.rope_node.proofs.Cells.{cells_length}
-use Rattle.lazy_file.specs.SourceTexts.{Agrees, Stated, text_at}
+use Rattle.lazy_file.specs.SourceTexts.{Agrees, Stated}
 use Rattle.span_certificate.specs.declared.edit.Edit.{Edit}
 use Rattle.span_certificate.specs.Commands.{Givens, result_of, IsHistory}
 use Rattle.span_certificate.specs.Parts.{parts_cells, AreRopes, AreParts, givens_of}

@@ -1,6 +1,6 @@
 //! Accepted images.
 
-ghost use Rattle.std.specs.Prelude.{◌≡◌, ◌↔◌, ◌<◌, ◌≤◌, ◌+◌, ℕ, true, length, slice_get, None, IfOk, IfErr, IfSome, IsOk, IsSome};
+ghost use Rattle.std.specs.Prelude.{◌≡◌, ◌↔◌, ◌<◌, ◌≤◌, ◌+◌, length, None, IfOk, IfErr, IfSome, IsOk, IsSome};
 ghost use Rattle.rope_node.specs.Denotes.{rope_len, rope_depth};
 ghost use Rattle.cord_position.specs.Fetched.{ReadsSpan};
 ghost use Rattle.image_reader.specs.Accepted.{HasSources, revision_at};

@@ -1,6 +1,6 @@
 //! The range of commands, tested by the recorded lengths of the roots before them.
 
-ghost use Rattle.std.specs.Prelude.{◌≡◌, ◌+◌, ◌<◌, ◌≤◌, ◌↔◌, length, IsTrue};
+ghost use Rattle.std.specs.Prelude.{◌+◌, ◌<◌, ◌≤◌, ◌↔◌, length, IsTrue};
 ghost use Rattle.rope_node.specs.declared.limits.TheConstants.{TEXT_LIMIT};
 ghost use Rattle.span_certificate.specs.Parts.{AreRopes, IsInRange, len_of};
 

@@ -4,7 +4,7 @@ ghost use Rattle.std.specs.Prelude.{◌≡◌, ◌≤◌, ◌++◌, length};
 ghost use Rattle.function_leaf.specs.Pattern.{padded};
 ghost use Rattle.function_leaf.specs.declared.pattern.TheConstants.{PATTERN_LIMIT};
 ghost use Rattle.image_reader.specs.Layout.{spelled};
-ghost use Rattle.image_reader.specs.Spelling.{span_layout, span_numbers, concatenation_layout, concatenation_numbers, function_layout, function_numbers, function_code, pattern_size, payload, function_spelling, view_spelling};
+ghost use Rattle.image_reader.specs.Spelling.{span_layout, span_numbers, concatenation_layout, concatenation_numbers, function_layout, function_numbers, function_spelling, view_spelling};
 ghost use Rattle.image_reader.specs.Value.{FitsFunction};
 ghost use Rattle.session_image.specs.Written.{FitsHeld};
 

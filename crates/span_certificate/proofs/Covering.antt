@@ -5,10 +5,8 @@ use Rattle.std.proofs.lemmas.List.{length-append, length-take, length-drop, leng
 use Rattle.std.proofs.lemmas.List.FromFn.{length-map-range_with_len}
 use Rattle.std.proofs.lemmas.List.Sums.{sum_by-cons, sum_by_more}
 use Rattle.std.proofs.lemmas.Option.{some_pair_parts}
-use Rattle.rope_node.specs.declared.node.NodeId.{NodeId}
 use Rattle.rope_node.specs.Table.{Table, IsSound, HasTrueRecords}
-use Rattle.rope_node.specs.Denotes.{Byte, Place, rope_cells, rope_len, IsRope}
-use Rattle.rope_node.proofs.Cells.{cells_length}
+use Rattle.rope_node.specs.Denotes.{Byte, Place, rope_cells}
 use Rattle.rope_node.proofs.Parts.{span_left, span_right}
 use Rattle.span_certificate.specs.declared.part.Part.{Part}
 use Rattle.span_certificate.specs.declared.part.Part.TheVariants.{Old, Pool, Source, Fill}

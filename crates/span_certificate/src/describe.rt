@@ -1,6 +1,6 @@
 //! What a span of a leaf is, told apart from the leaf.
 
-ghost use Rattle.std.specs.Prelude.{◌≡◌, ◌+◌, ◌<◌, ◌≤◌, ◌^◌, ◌↔◌, length, IfSome, IsTrue};
+ghost use Rattle.std.specs.Prelude.{◌≡◌, ◌+◌, ◌<◌, ◌≤◌, ◌↔◌, length, IfSome, IsTrue};
 ghost use Rattle.rope_node.specs.Table.{view_at, len_at, IsSound};
 ghost use Rattle.span_certificate.specs.Leads.{coded_description, leaf_description, Describes};
 

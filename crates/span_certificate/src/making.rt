@@ -1,6 +1,6 @@
 //! Rows made for the parts of a command and its root.
 
-ghost use Rattle.std.specs.Prelude.{◌≡◌, ◌+◌, ◌<◌, ◌≤◌, ℕ, length, take, drop, Some, IfOk, IsErrOf};
+ghost use Rattle.std.specs.Prelude.{◌≡◌, ◌+◌, ◌<◌, ◌≤◌, length, take, drop, Some, IfOk, IsErrOf};
 ghost use Rattle.rope_node.specs.Table.{len_at, IsSound, HasTrueRecords};
 ghost use Rattle.rope_node.specs.Denotes.{cells, rope_cells, IsRope};
 ghost use Rattle.span_certificate.specs.Parts.{part_at, part_len, part_cells, parts_cells, IsPart, AreParts};

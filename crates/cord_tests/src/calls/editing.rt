@@ -46,6 +46,7 @@ fn what_is_typed_is_saved(rt: HostRuntime) {
         let shown = run_show(
             rt.alloc(),
             image.as_slice(),
+            image.len() as u64,
             &mut sources,
             revision,
             &mut text,

@@ -210,7 +210,7 @@ fn shown<A: AllocGlobal, S: Sources>(
     k: u64,
 ) -> Result<Vec<u8>, ToolFault> {
     let mut written = Vec::new(rt.alloc());
-    run_show(rt.alloc(), image, sources, k, &mut written)?;
+    run_show(rt.alloc(), image, 0, sources, k, &mut written)?;
     Ok(written)
 }
 
@@ -252,10 +252,10 @@ fn a_source_that_works_again_is_accepted(rt: HostRuntime) {
 fn a_check_answers_once_its_source_works_again(rt: HostRuntime) {
     let mut sources = FailsOnce { failed: false };
     let mut written = Vec::new(rt.alloc());
-    let outcome = run_check(rt.alloc(), OPENED, &mut sources, &mut written);
+    let outcome = run_check(rt.alloc(), OPENED, 0, &mut sources, &mut written);
     assert_same(&rt, &outcome, &Err(ToolFault::Read));
     assert!(&rt; written.is_empty());
-    let outcome = run_check(rt.alloc(), OPENED, &mut sources, &mut written);
+    let outcome = run_check(rt.alloc(), OPENED, 0, &mut sources, &mut written);
     assert_same(&rt, &outcome, &Ok(Status::Success));
     assert_same(
         &rt,

@@ -213,7 +213,7 @@ fn show(
     writer: &mut Sink,
 ) -> Result<(), ToolFault> {
     let mut none = MemSources::new(rt.alloc());
-    run_show(rt.alloc(), whole(image), &mut none, revision, writer)
+    run_show(rt.alloc(), whole(image), 0, &mut none, revision, writer)
 }
 
 #[test]
@@ -245,22 +245,24 @@ fn a_prefix_is_shown_where_the_writer_fails(rt: HostRuntime) {
     }
 }
 
-/// Reads a source.
-fn read(rt: &impl AllocGlobal, reader: Source<'_>) -> Result<Vec<u8>, ToolFault> {
-    read_source(rt.alloc(), reader)
+/// Reads a source, with room for `expected` bytes.
+fn read(rt: &impl AllocGlobal, reader: Source<'_>, expected: u64) -> Result<Vec<u8>, ToolFault> {
+    read_source(rt.alloc(), reader, expected)
 }
 
 #[test]
 fn a_source_is_read_whole(rt: HostRuntime) {
-    let mut reader = whole(ONE_INSERT);
-    reader.cut = Some(100);
-    reader.kind = ErrorKind::Interrupted;
-    for reader in [whole(ONE_INSERT), reader] {
-        let outcome = read(&rt, reader);
-        assert!(rt; outcome.is_ok_and(|text| text.as_slice() == ONE_INSERT));
+    for expected in [0, 1, 211, 212, 213, 4096] {
+        let mut interrupted = whole(ONE_INSERT);
+        interrupted.cut = Some(100);
+        interrupted.kind = ErrorKind::Interrupted;
+        let text = read(&rt, whole(ONE_INSERT), expected).expect(&rt, "a text");
+        assert_same(&rt, &text.as_slice(), &ONE_INSERT);
+        let text = read(&rt, interrupted, expected).expect(&rt, "a text");
+        assert_same(&rt, &text.as_slice(), &ONE_INSERT);
+        let empty = read(&rt, whole(b""), expected).expect(&rt, "a text");
+        assert!(rt; empty.is_empty());
     }
-    let empty = read(&rt, whole(b""));
-    assert!(rt; empty.is_ok_and(|text| text.is_empty()));
 }
 
 #[test]
@@ -268,7 +270,7 @@ fn a_source_that_fails_in_the_middle_is_a_read_fault(rt: HostRuntime) {
     for cut in [0, 1, 40, 211] {
         let mut reader = whole(ONE_INSERT);
         reader.cut = Some(cut);
-        let outcome = read(&rt, reader);
+        let outcome = read(&rt, reader, 212);
         assert!(rt;
             outcome.is_err_and(|fault| fault == ToolFault::Read),
             "at {cut}"
@@ -317,7 +319,7 @@ fn check_with(
     writer: &mut Sink,
 ) -> Result<Status, ToolFault> {
     let mut sources = sources_of(rt.alloc(), texts)?;
-    run_check(rt.alloc(), whole(image), &mut sources, writer)
+    run_check(rt.alloc(), whole(image), 0, &mut sources, writer)
 }
 
 /// One text.
@@ -428,6 +430,7 @@ fn a_session_without_the_sources_bytes_is_read_without_them(rt: HostRuntime) {
     let outcome = run_check(
         rt.alloc(),
         whole(INSERT_BESIDE_A_SOURCE),
+        0,
         &mut sources,
         &mut writer,
     );
@@ -437,6 +440,7 @@ fn a_session_without_the_sources_bytes_is_read_without_them(rt: HostRuntime) {
     let outcome = run_show(
         rt.alloc(),
         whole(INSERT_BESIDE_A_SOURCE),
+        0,
         &mut sources,
         1,
         &mut shown,
@@ -450,11 +454,18 @@ fn a_session_without_the_sources_bytes_is_read_without_them(rt: HostRuntime) {
 fn sources_of_other_lengths_are_refused_without_a_read(rt: HostRuntime) {
     let mut sources = Broken::at(0, SourceFault::Device);
     let mut writer = Sink::with_room(64, End::Fails);
-    let outcome = run_check(rt.alloc(), whole(ONE_INSERT), &mut sources, &mut writer);
+    let outcome = run_check(rt.alloc(), whole(ONE_INSERT), 0, &mut sources, &mut writer);
     assert_same(&rt, &outcome, &Ok(Status::Failure));
     assert_same(&rt, &writer.taken(), &b"refused C2\n".as_slice());
     let mut shown = Sink::with_room(64, End::Fails);
-    let outcome = run_show(rt.alloc(), whole(ONE_INSERT), &mut sources, 1, &mut shown);
+    let outcome = run_show(
+        rt.alloc(),
+        whole(ONE_INSERT),
+        0,
+        &mut sources,
+        1,
+        &mut shown,
+    );
     assert_same(
         &rt,
         &outcome,

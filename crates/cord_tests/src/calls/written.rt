@@ -23,7 +23,7 @@ fn written<R: AllocGlobal + Abort>(rt: &R, session: &Session) -> Vec<u8> {
 /// What the checker says of an image.
 fn line<R: AllocGlobal + Abort, S: Sources>(rt: &R, image: &[u8], sources: &mut S) -> Vec<u8> {
     let mut line: Vec<u8> = Vec::new(rt.alloc());
-    let status = run_check(rt.alloc(), image, sources, &mut line).expect(rt, "an answer");
+    let status = run_check(rt.alloc(), image, 0, sources, &mut line).expect(rt, "an answer");
     assert_same(rt, &status, &Status::Success);
     line
 }
@@ -219,7 +219,7 @@ fn shown<R: AllocGlobal + Abort>(
     k: u64,
 ) -> Vec<u8> {
     let mut bytes: Vec<u8> = Vec::new(rt.alloc());
-    run_show(rt.alloc(), image, sources, k, &mut bytes).expect(rt, "a text");
+    run_show(rt.alloc(), image, 0, sources, k, &mut bytes).expect(rt, "a text");
     bytes
 }
 

@@ -9,7 +9,7 @@ use prog.Wp.{Env, WpFn}
 use contract.BorrowLft.{◌⊑◌, ⊑_trans}
 use contract.Monad.{fact, fact_i}
 use contract.Running.{tables}
-use types.Kit.{‵, raw, ◌⊛◌, later, prop, at_ret, ◌$◌, ◌∵◌, !, qed, by, move, keep, drop, use0, use1, use2, split, join, regoal, rewrite, fsplit, fjoin, feq_i, await, Post, any_q}
+use types.Kit.{‵, raw, ◌⊛◌, later, prop, at_ret, ◌$◌, ◌∵◌, !, qed, by, move, drop, use0, use1, use2, split, join, regoal, rewrite, fsplit, fjoin, feq_i, await, Post, any_q}
 use prog.Wp.{Wp, after_seq, at_return}
 use types.Part.{whole, agg}
 use types.Match.{live, vrt, in_variant}
