@@ -1,6 +1,6 @@
 //! The limits that definitions take from the code, as numbers.
 
-ghost use Rattle.std.specs.Prelude.{◌≡◌, ◌*◌, ◌-◌, [], length, replicate};
+ghost use Rattle.std.specs.Prelude.{◌≡◌, ◌+◌, ◌*◌, ◌-◌, [], length, replicate};
 ghost use Rattle.cord_tests.specs.Keys.{stated_of_size};
 ghost use Rattle.span_certificate.specs.declared.edit.TheConstants.{MOST_REVISIONS};
 ghost use Rattle.cord_search.specs.declared.pattern.TheConstants.{PATTERN_LIMIT as SEARCH_LIMIT};
@@ -42,13 +42,15 @@ fn limits_of_sources()
     ensures longest { SOURCE_LIMIT ≡ 1099511627775 }
 {}
 
-/// Of images: what they begin with, the root that is none, and one byte more than the largest.
+/// Of images: what they begin with, the root that is none, and one byte more than the largest, which has as many records of each kind,
+/// and of bytes, as there may be.
 fn limits_of_images()
     ensures magic { MAGIC ≡ 0x434F524453455353 }
     ensures version { VERSION ≡ 1 }
     ensures nil { NIL_ROOT ≡ 0xFFFFFFFF }
     ensures pool { MOST_POOL ≡ 4294967295 }
-    ensures longer { IMAGE_LIMIT ≡ 5293213728 }
+    ensures longer { IMAGE_LIMIT ≡ 1 + 40 + MOST_SOURCES * 8 + MOST_NODES * 32 + MOST_REVISIONS * 56
+        + ROWS_LIMIT * 24 + MOST_POOL }
 {}
 
 /// Of sessions and their rows.
