@@ -1,8 +1,7 @@
 //! The editor's machine and its frame, on worked examples.
 
 ghost use Rattle.std.specs.Prelude.{◌≡◌, ◌∷◌, [], ◌++◌, codes, length, replicate, Some, None};
-ghost use Rattle.std.specs.List.{flat_map, range_with_len};
-ghost use Rattle.cord_tests.specs.Keys.{typed};
+ghost use Rattle.cord_tests.specs.Keys.{cut_of_ab, seventeen_cuts, typed};
 ghost use Rattle.screen_editor.specs.Lines.{line_end, line_start, place_down, place_up};
 ghost use Rattle.screen_editor.specs.State.{current, last_revision, start_of, text_of};
 ghost use Rattle.screen_editor.specs.Machine.{refused};
@@ -40,12 +39,9 @@ fn up_and_down_keep_the_column()
 
 /// `a`, `b`, `c`, line start, mark, right, right, cut, line end, paste.
 fn what_was_cut_is_pasted()
-    ensures cut { text_of (typed (0x61 ∷ 0x62 ∷ 0x63 ∷ 0x01 ∷ 0x00 ∷ 0x06 ∷ 0x06 ∷ 0x17 ∷ []) (start_of [])) 4
-        ≡ codes "c" }
-    ensures pasted { current (typed (0x61 ∷ 0x62 ∷ 0x63 ∷ 0x01 ∷ 0x00 ∷ 0x06 ∷ 0x06 ∷ 0x17 ∷ 0x05 ∷ 0x19 ∷ [])
-        (start_of [])) ≡ codes "cab" }
-    ensures place { (typed (0x61 ∷ 0x62 ∷ 0x63 ∷ 0x01 ∷ 0x00 ∷ 0x06 ∷ 0x06 ∷ 0x17 ∷ 0x05 ∷ 0x19 ∷ [])
-        (start_of [])).place ≡ 3 }
+    ensures cut { text_of (typed cut_of_ab (start_of [])) 4 ≡ codes "c" }
+    ensures pasted { current (typed (cut_of_ab ++ 0x05 ∷ 0x19 ∷ []) (start_of [])) ≡ codes "cab" }
+    ensures place { (typed (cut_of_ab ++ 0x05 ∷ 0x19 ∷ []) (start_of [])).place ≡ 3 }
 {}
 
 /// `a`, `b`, and undo three times: the third finds no earlier text.
@@ -58,8 +54,7 @@ fn undo_ends_at_the_first_text()
 
 /// Seventeen times `a`, mark, left, cut.
 fn sixteen_cut_spans_are_kept()
-    ensures { length (typed (flat_map (λ _. 0x61 ∷ 0x00 ∷ 0x02 ∷ 0x17 ∷ []) (range_with_len 0 17)) (start_of [])).cuts
-        ≡ 16 }
+    ensures { length (typed seventeen_cuts (start_of [])).cuts ≡ 16 }
 {}
 
 /// A refused key sets the message, which any other key but Save and Leave takes away.
