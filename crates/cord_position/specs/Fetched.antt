@@ -40,14 +40,17 @@ rope_part t rope start n = take n (drop start (rope_cells t rope))
 
 -- the byte at a place of the rope's text, where its cell is stated
 abbrev pub IsFetched : Table → Stated → Option NodeId → ℕ → Option ℕ → Type 0
-IsFetched t st rope i found = (source : ℕ → ℕ → ℕ) → Agrees st source → IsStated st (rope_cell t rope i) → found ≡ slice_get (text source (rope_cells t rope)) i
+IsFetched t st rope i found =
+    (source : ℕ → ℕ → ℕ) → Agrees st source → IsStated st (rope_cell t rope i)
+    → found ≡ slice_get (text source (rope_cells t rope)) i
 
 -- a read of one byte at this place failed so
 abbrev pub IsReadFault : {T : Type 0} → (T → Stated) → (T → ℕ) → T → T → ℕ → ℕ → SourceFault → Type 0
 IsReadFault stated failures old new s p fault = IsFaultOf {X = Unit {0}} stated failures old new s p 1 (Err fault)
 
 -- the cell is a source's, and a read of its place failed so
-pub record IsPlaceFault {T : Type 0} (stated : T → Stated) (failures : T → ℕ) (old new : T) (cell : Cell) (fault : SourceFault) : Type 0 where
+pub record IsPlaceFault {T : Type 0} (stated : T → Stated) (failures : T → ℕ) (old new : T) (cell : Cell)
+    (fault : SourceFault) : Type 0 where
   pub s : ℕ
   pub p : ℕ
   pub is : cell ≡ Place s p
@@ -62,7 +65,8 @@ abbrev pub EachCell : (ℕ → Cell) → ℕ → ℕ → (Cell → Type 0) → T
 EachCell cell i j P = (p : ℕ) → i ≤ p → p < j → P (cell p)
 
 -- one of these cells is a source's, and a read of its place failed so
-pub record IsFaultIn {T : Type 0} (stated : T → Stated) (failures : T → ℕ) (old new : T) (cell : ℕ → Cell) (i j : ℕ) (fault : SourceFault) : Type 0 where
+pub record IsFaultIn {T : Type 0} (stated : T → Stated) (failures : T → ℕ) (old new : T) (cell : ℕ → Cell) (i j : ℕ)
+    (fault : SourceFault) : Type 0 where
   pub place : ℕ
   pub from : i ≤ place
   pub until : place < j

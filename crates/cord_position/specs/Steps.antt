@@ -76,7 +76,8 @@ pub record AreStepBytes (t : Table) (x : Step) (bytes : List ℕ) : Type 0 where
   pub cells : 1 ≤ length bytes → map Byte bytes ≡ leaf_part t x.node x.skipped x.len
 
 -- a place of a rope, with the step to its leaf, the bytes of that step and the path to it
-pub record IsPlaced (t : Table) (rope : Option NodeId) (i : ℕ) (x : Step) (bytes : List ℕ) (path : SmallVec Step) : Type 0 where
+pub record IsPlaced (t : Table) (rope : Option NodeId) (i : ℕ) (x : Step) (bytes : List ℕ) (path : SmallVec Step)
+    : Type 0 where
   pub position : IsPosition t rope i
   pub here : IsHere t rope i x
   pub literal : AreStepBytes t x bytes

@@ -9,7 +9,8 @@ use Rattle.cord_position.specs.Position.{Position}
 
 -- these bytes are the rope's from place i on: each whose cell is stated is the text's
 abbrev pub IsPiece : Table → Stated → Option NodeId → ℕ → List ℕ → Type 0
-IsPiece t st rope i bytes = (source : ℕ → ℕ → ℕ) → Agrees st source → (k : ℕ) → k < length bytes → IsStated st (rope_cell t rope (i + k))
+IsPiece t st rope i bytes =
+    (source : ℕ → ℕ → ℕ) → Agrees st source → (k : ℕ) → k < length bytes → IsStated st (rope_cell t rope (i + k))
     → slice_get bytes k ≡ slice_get (text source (rope_cells t rope)) (i + k)
 
 -- the same from a position on

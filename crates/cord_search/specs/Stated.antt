@@ -66,6 +66,8 @@ OfTexts t st x y P = (source : ℕ → ℕ → ℕ) → Agrees st source
 pub record ReadsTwoSpans {T X : Type 0} (stated : T → Stated) (failures : T → ℕ) (old new : T) (cell : ℕ → Cell) (i : ℕ)
     (other : ℕ → Cell) (j n : ℕ) (outcome : Result X SourceFault) : Type 0 where
   pub reads : Reads stated failures old new
-  pub fault : IfErr outcome (λ e. IsFaultIn stated failures old new cell i (i + n) e ⊎ IsFaultIn stated failures old new other j (j + n) e)
+  pub fault : IfErr outcome (λ e. IsFaultIn stated failures old new cell i (i + n) e
+      ⊎ IsFaultIn stated failures old new other j (j + n) e)
   pub told : TellsFailure failures old new outcome
-  pub succeeds : EachCell cell i (i + n) (IsReadable (stated old)) → EachCell other j (j + n) (IsReadable (stated old)) → IsOk outcome
+  pub succeeds : EachCell cell i (i + n) (IsReadable (stated old)) → EachCell other j (j + n) (IsReadable (stated old))
+      → IsOk outcome

@@ -80,8 +80,9 @@ abbrev pub StopsCheck : {T : Type 0} → (T → Stated) → (T → ℕ) → T �
 StopsCheck stated failures old new remaining told =
     (bytes : List ℕ) × AreRead remaining bytes × StopsAtSource stated failures old new bytes told
 
--- The line that answers for the bytes read was written; where the writer failed, a prefix of it; where the tool was stopped before,
--- nothing. It tells a failed read only where the reader failed and no source was read, or where a source stopped the check.
+-- The line that answers for the bytes read was written; where the writer failed, a prefix of it; where the tool was
+-- stopped before, nothing. It tells a failed read only where the reader failed and no source was read, or where a
+-- source stopped the check.
 abbrev pub AnswersCheck : {T : Type 0} → (T → Stated) → (T → ℕ) → T → T → Option (List ℕ) → Option (List ℕ)
     → Option (List ℕ) → Result Status ToolFault → Type 0
 AnswersCheck stated failures old new remaining before after (Ok status) =
@@ -106,8 +107,8 @@ abbrev pub ChecksInput : Option (List ℕ) → Option (List ℕ) → Option (Lis
 ChecksInput remaining before after outcome =
     AnswersCheck stated_in_memory (λ (texts : List (List ℕ)). 0) [] [] remaining before after outcome
 
--- The line that refuses a source was written, and the status tells a refusal; where the writer failed, a prefix of that line. Want of
--- memory is no refusal, and then nothing was written.
+-- The line that refuses a source was written, and the status tells a refusal; where the writer failed, a prefix of that
+-- line. Want of memory is no refusal, and then nothing was written.
 abbrev pub RefusesCheck : AddFault → Option (List ℕ) → Option (List ℕ) → Result Status ToolFault → Type 0
 RefusesCheck refusal before after (Ok status) =
     (status ≡ Failure) × (refusal ≢ Add.Memory) × Appends before after (refused_source_line refusal)
@@ -120,7 +121,8 @@ RefusesCheck refusal before after (Err other) = ⊥
 abbrev pub revision_cells : ImageValue → ℕ → List Cell
 revision_cells v k = rope_cells (image_table v) (revision_at v k).root
 
--- P holds of the text of revision k, whatever bytes the sources have that agree with what they state, where its cells are stated
+-- P holds of the text of revision k, whatever bytes the sources have that agree with what they state, where its cells
+-- are stated
 abbrev pub OfRevision : ImageValue → Stated → ℕ → (List ℕ → Type 0) → Type 0
 OfRevision v st k P =
     (source : ℕ → ℕ → ℕ) → Agrees st source → AreStated st (revision_cells v k) → P (revision_text v source k)
@@ -134,8 +136,8 @@ pub record ReadsRevision (remaining : Option (List ℕ)) (st : Stated) (k : ℕ)
   pub there : k < length v.revisions
   pub text : OfRevision v st k P
 
--- The text of the revision was written; where it ended before, a prefix of it, or nothing. Where each of its cells is readable, it can
--- end for the writer alone once the image is accepted.
+-- The text of the revision was written; where it ended before, a prefix of it, or nothing. Where each of its cells is
+-- readable, it can end for the writer alone once the image is accepted.
 abbrev pub AnswersShow : {T : Type 0} → (T → Stated) → (T → ℕ) → T → T → Option (List ℕ) → ℕ → Option (List ℕ)
     → Option (List ℕ) → Result (Unit {0}) ToolFault → Type 0
 AnswersShow stated failures old new remaining k before after (Ok u) =
@@ -157,7 +159,8 @@ AnswersShow stated failures old new remaining k before after (Err NoRevision) =
     × SpellsFaithful bytes (stated old) v × (length v.revisions ≤ k))
 AnswersShow stated failures old new remaining k before after (Err other) = ⊥
 
-pub record ShowsRevision {T : Type 0} (stated : T → Stated) (failures : T → ℕ) (old new : T) (remaining : Option (List ℕ)) (k : ℕ)
+pub record ShowsRevision {T : Type 0} (stated : T → Stated) (failures : T → ℕ) (old new : T)
+    (remaining : Option (List ℕ)) (k : ℕ)
     (before after : Option (List ℕ)) (outcome : Result (Unit {0}) ToolFault) : Type 0 where
   pub reads : Reads stated failures old new
   pub answer : AnswersShow stated failures old new remaining k before after outcome

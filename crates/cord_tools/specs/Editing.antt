@@ -44,8 +44,9 @@ Concludes sizes (Ok Save) last before now result = SavesImage sizes last before 
 Concludes sizes (Ok Leave) last before now result = (result ≡ Ok Success) × Keeps before now
 Concludes sizes (Err fault) last before now result = (result ≡ Err (run_fault fault)) × Keeps before now
 
--- Over these sources there is no editor, which is told as a text too long exactly where source 0 is; or source 0 is not, and
--- there is one whose run takes these keys and shows its states; behind the key Save the image of its last state is written.
+-- Over these sources there is no editor, which is told as a text too long exactly where source 0 is; or source 0 is
+-- not, and there is one whose run takes these keys and shows its states; behind the key Save the image of its last
+-- state is written.
 pub data EditsFile {T : Type 0} (stated : T → Stated) (failures : T → ℕ) (sources : T)
     (keys_before keys_left shown_before shown_now before now : Option (List ℕ))
     (result : Result Status ToolFault) : Type 0 where

@@ -26,7 +26,8 @@ use Rattle.cord_tools.specs.declared.status.Status.TheVariants.{Success, Failure
 abbrev pub file_bytes : List ℕ → (ℕ → ℕ → ℕ) → ℕ → List ℕ
 file_bytes sizes source s = map (source s) (range_with_len 0 (get_or sizes s 0))
 
--- P holds of the bytes of source s, whatever bytes the sources have that agree with what they state, where it states a text
+-- P holds of the bytes of source s, whatever bytes the sources have that agree with what they state, where it states a
+-- text
 abbrev pub OfFile : Stated → ℕ → (List ℕ → Type 0) → Type 0
 OfFile st s P = (source : ℕ → ℕ → ℕ) → Agrees st source → IsSome (text_at st s) → P (file_bytes st.sizes source s)
 
@@ -58,7 +59,8 @@ OfAllFiles st P = (source : ℕ → ℕ → ℕ) → Agrees st source → ((s : 
 
 -- ---- a part of a file
 
--- At most count bytes of source 0 from start on were written, and nothing else; where it ended before, a prefix of them.
+-- At most count bytes of source 0 from start on were written, and nothing else; where it ended before, a prefix of
+-- them.
 pub record CutsFile {T : Type 0} (stated : T → Stated) (failures : T → ℕ) (old new : T) (start count : ℕ)
     (before after : Option (List ℕ)) (outcome : Result (Unit {0}) ToolFault) : Type 0 where
   pub reads : ReadsCells stated failures old new (take count (drop start (file_cells (stated old).sizes 0))) outcome
@@ -68,8 +70,8 @@ pub record CutsFile {T : Type 0} (stated : T → Stated) (failures : T → ℕ) 
 
 -- ---- files, one behind the other
 
--- The bytes of all the sources were written, and nothing else; where it ended before, a prefix of them. They are refused as too
--- long alone, and then nothing was written.
+-- The bytes of all the sources were written, and nothing else; where it ended before, a prefix of them. They are
+-- refused as too long alone, and then nothing was written.
 pub record JoinsFiles {T : Type 0} (stated : T → Stated) (failures : T → ℕ) (old new : T)
     (before after : Option (List ℕ)) (outcome : Result (Unit {0}) ToolFault) : Type 0 where
   pub reads : ReadsCells stated failures old new (all_cells (stated old).sizes) outcome
@@ -87,8 +89,8 @@ pub record JoinsFiles {T : Type 0} (stated : T → Stated) (failures : T → ℕ
 abbrev pub place_line : ℕ → List ℕ
 place_line k = decimal k ++ codes "\n"
 
--- The line of the pattern's first place was written, or nothing where it has none; where the writer failed, a prefix of that line;
--- where the tool was stopped before, nothing.
+-- The line of the pattern's first place was written, or nothing where it has none; where the writer failed, a prefix of
+-- that line; where the tool was stopped before, nothing.
 abbrev pub AnswersFind : Stated → ℕ → List ℕ → Option (List ℕ) → Option (List ℕ) → Result Status ToolFault → Type 0
 AnswersFind st start pattern before after (Ok Success) =
     (k : ℕ) × OfFile st 0 (λ t. IsFirstPlace pattern t start k) × Appends before after (place_line k)
@@ -102,7 +104,8 @@ AnswersFind st start pattern before after (Err PatternTooLong) = Keeps before af
 AnswersFind st start pattern before after (Err other) = ⊥
 
 -- The search reads source 0 from start on, and refuses long patterns alone.
-pub record FindsPattern {T : Type 0} (stated : T → Stated) (failures : T → ℕ) (old new : T) (start : ℕ) (pattern : List ℕ)
+pub record FindsPattern {T : Type 0} (stated : T → Stated) (failures : T → ℕ) (old new : T) (start : ℕ)
+    (pattern : List ℕ)
     (before after : Option (List ℕ)) (outcome : Result Status ToolFault) : Type 0 where
   pub reads : ReadsCells stated failures old new (drop start (file_cells (stated old).sizes 0)) outcome
   pub answer : AnswersFind (stated old) start pattern before after outcome
@@ -125,8 +128,8 @@ order_status Greater = Failure
 abbrev pub IsOrderOfFiles : Stated → Ordering → Type 0
 IsOrderOfFiles st found = OfFiles st 0 1 (λ t u. found ≡ order t u)
 
--- The line of the order of sources 0 and 1 was written, and the status says whether they are equal; where the writer failed, a
--- prefix of that line; where the tool was stopped before, nothing.
+-- The line of the order of sources 0 and 1 was written, and the status says whether they are equal; where the writer
+-- failed, a prefix of that line; where the tool was stopped before, nothing.
 abbrev pub AnswersCompare : Stated → Option (List ℕ) → Option (List ℕ) → Result Status ToolFault → Type 0
 AnswersCompare st before after (Ok status) =
     (found : Ordering) × IsOrderOfFiles st found × (status ≡ order_status found)
@@ -140,5 +143,6 @@ AnswersCompare st before after (Err other) = ⊥
 -- The comparison reads sources 0 and 1.
 pub record ComparesFiles {T : Type 0} (stated : T → Stated) (failures : T → ℕ) (old new : T)
     (before after : Option (List ℕ)) (outcome : Result Status ToolFault) : Type 0 where
-  pub reads : ReadsCells stated failures old new (file_cells (stated old).sizes 0 ++ file_cells (stated old).sizes 1) outcome
+  pub reads : ReadsCells stated failures old new
+      (file_cells (stated old).sizes 0 ++ file_cells (stated old).sizes 1) outcome
   pub answer : AnswersCompare (stated old) before after outcome

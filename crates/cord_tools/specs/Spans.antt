@@ -21,4 +21,6 @@ IsSpan t s a n (Some id) = (id.0 < length t.nodes) × (node_at t id.0 ≡ source
 
 -- the rope is at most count bytes of source s, of the table's, from start on
 abbrev pub IsSourcePart : Table → ℕ → ℕ → ℕ → Option NodeId → Type 0
-IsSourcePart t s start count rope = IsSpan t s (min start (get_or t.sources s 0)) (min count (get_or t.sources s 0 - min start (get_or t.sources s 0))) rope
+IsSourcePart t s start count rope =
+    IsSpan t s (min start (get_or t.sources s 0))
+    (min count (get_or t.sources s 0 - min start (get_or t.sources s 0))) rope

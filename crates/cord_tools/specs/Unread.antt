@@ -16,7 +16,8 @@ pub record CouldNotRead {T : Type 0} (stated : T → Stated) (failures : T → �
   pub place : IsPlaceFault stated failures old new cell fault
 
 -- one of these cells could not be read, and not each of them was readable
-pub record IsUnread {T : Type 0} (stated : T → Stated) (failures : T → ℕ) (old new : T) (cells : List Cell) : Type 0 where
+pub record IsUnread {T : Type 0} (stated : T → Stated) (failures : T → ℕ) (old new : T) (cells : List Cell)
+    : Type 0 where
   pub some : Any (CouldNotRead stated failures old new) cells
   pub not_all : ¬ All (IsReadable (stated old)) cells
 

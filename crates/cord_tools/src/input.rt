@@ -5,12 +5,13 @@ ghost use Rattle.cord_tools.specs.Answers.{AreRead, AreReadUpTo};
 ghost use Rattle.cord_tools.specs.declared.fault.ToolFault.TheVariants.{Memory, Read};
 
 use crate::fault::ToolFault;
+use image_reader::LONGEST_IMAGE;
 use std::alloc::Global;
 use std::io;
 use std::io::{ErrorKind, Read};
 
 /// One more byte than the largest image has.
-pub const IMAGE_LIMIT: u64 = 5_293_213_728;
+pub const IMAGE_LIMIT: u64 = LONGEST_IMAGE + 1;
 
 /// Reads all the bytes of an image, up to the limit. A longer one is refused by what was read. Room for `expected` bytes is taken first.
 pub fn read_image<R: Read + Drop>(

@@ -30,15 +30,18 @@ pub record Keeps (old new : SessionValue) : Type 0 where
 
 -- ---- refused on the way
 
--- The root that the command gives stands. The rows for its first bytes are more than there is room for behind those of the earlier
--- revisions; or they are as many, and text is left.
+-- The root that the command gives stands. The rows for its first bytes are more than there is room for behind those of
+-- the earlier revisions; or they are as many, and text is left.
 pub record RowsPass (old : Held Coded) (revisions : List Revision) (command : Command) (new : Held Coded) : Type 0 where
   pub place : ℕ
   pub root : Option NodeId
   pub bytes : StandNew old.pool.bytes new.pool.bytes place (bytes_of command)
-  pub result : result_of (givens_of (table_of coded_byte new)) (map (rope_cells (table_of coded_byte old)) (roots_of revisions)) (edit_with place command) ≡ Some (rope_cells (table_of coded_byte new) root)
+  pub result : result_of (givens_of (table_of coded_byte new))
+      (map (rope_cells (table_of coded_byte old)) (roots_of revisions)) (edit_with place command)
+      ≡ Some (rope_cells (table_of coded_byte new) root)
   pub rows : List Row
-  pub made : AreMade (table_of coded_byte new) (coded_at new) (parts_of (table_of coded_byte new) (roots_of revisions) (edit_with place command)) root rows
+  pub made : AreMade (table_of coded_byte new) (coded_at new)
+      (parts_of (table_of coded_byte new) (roots_of revisions) (edit_with place command)) root rows
   pub full : ROWS_LIMIT ≤ rows_held revisions + length rows
   pub left : ROWS_LIMIT ≡ rows_held revisions + length rows → rows_len rows < rope_len (table_of coded_byte new) root
 
@@ -53,16 +56,21 @@ IsLaterFault old revisions command _ new = ⊥
 
 -- ---- the revision that a command makes
 
--- its command is recorded, with the place at which its bytes were put into the pool, and its cells are what the command gives
-pub record IsMadeBy (old : Held Coded) (revisions : List Revision) (command : Command) (made : Revision) (new : Held Coded) : Type 0 where
+-- its command is recorded, with the place at which its bytes were put into the pool, and its cells are what the command
+-- gives
+pub record IsMadeBy (old : Held Coded) (revisions : List Revision) (command : Command) (made : Revision)
+    (new : Held Coded) : Type 0 where
   pub place : ℕ
   pub edit : made.edit ≡ edit_with place command
   pub bytes : StandNew old.pool.bytes new.pool.bytes place (bytes_of command)
-  pub result : result_of (givens_of (table_of coded_byte new)) (map (rope_cells (table_of coded_byte old)) (roots_of revisions)) made.edit ≡ Some (rope_cells (table_of coded_byte new) made.root)
+  pub result : result_of (givens_of (table_of coded_byte new))
+      (map (rope_cells (table_of coded_byte old)) (roots_of revisions)) made.edit
+      ≡ Some (rope_cells (table_of coded_byte new) made.root)
   pub root : IsRootFor (table_of coded_byte new) (roots_of revisions) command made.root
 
 -- a revision to stand behind these, with its rows, or why there is none; these are as before
-pub record Revises (old : Held Coded) (revisions : List Revision) (command : Command) (result : Result Revision EditFault) (new : Held Coded) : Type 0 where
+pub record Revises (old : Held Coded) (revisions : List Revision) (command : Command)
+    (result : Result Revision EditFault) (new : Held Coded) : Type 0 where
   pub keeps : Keeps (record { held = old; revisions = revisions }) (record { held = new; revisions = revisions })
   pub earlier : AreRevisions new revisions
   pub is : IfOk result (λ made. IsRevision new revisions made × IsMadeBy old revisions command made new)
@@ -80,7 +88,8 @@ pub record Applies (old : SessionValue) (command : Command) (k : ℕ) (new : Ses
 -- ---- sources
 
 -- a source more, or a refusal as the store's, which changes nothing; every revision's cells are as before
-pub record AddsSourceOrNot (old : SessionValue) (len : ℕ) (result : Result ℕ EditFault) (new : SessionValue) : Type 0 where
+pub record AddsSourceOrNot (old : SessionValue) (len : ℕ) (result : Result ℕ EditFault) (new : SessionValue)
+    : Type 0 where
   pub plain : Result ℕ NodeFault
   pub adds : AddsSource coded_byte old.held len plain new.held
   pub told : result ≡ told plain
@@ -89,9 +98,10 @@ pub record AddsSourceOrNot (old : SessionValue) (len : ℕ) (result : Result ℕ
 
 -- ---- the whole
 
--- A command is refused for the first reason that there is, and nothing changes; where there is none it makes its revision, or meets a
--- limit on the way, and every earlier revision is as before.
-pub record AppliesOrNot (old : SessionValue) (command : Command) (result : Result ℕ EditFault) (new : SessionValue) : Type 0 where
+-- A command is refused for the first reason that there is, and nothing changes; where there is none it makes its
+-- revision, or meets a limit on the way, and every earlier revision is as before.
+pub record AppliesOrNot (old : SessionValue) (command : Command) (result : Result ℕ EditFault) (new : SessionValue)
+    : Type 0 where
   pub made : IfOk result (λ k. Applies old command k new)
   pub refused : (f : EditFault) → refusal_of old command ≡ Some f → (result ≡ Err f) × (new ≡ old)
   pub later : refusal_of old command ≡ None → IfErr result (λ f. IsLaterFault old.held old.revisions command f new.held)

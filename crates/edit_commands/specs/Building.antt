@@ -32,10 +32,13 @@ pub record GoesOn (old new : Held Coded) : Type 0 where
 
 -- one of the calls by which roots are built
 pub data IsCall (before : Held Coded) (result : Result (Option NodeId) BalanceFault) (after : Held Coded) : Type 0 where
-  of_source : (s n : ℕ) (plain : Result (Option NodeId) NodeFault) → MakesSource coded_byte before s 0 n plain after → result ≡ lifted plain → IsCall before result after
-  of_function : (f : Coded) (n : ℕ) (plain : Result (Option NodeId) NodeFault) → MakesFunction coded_byte before f n plain after → result ≡ lifted plain → IsCall before result after
+  of_source : (s n : ℕ) (plain : Result (Option NodeId) NodeFault) → MakesSource coded_byte before s 0 n plain after
+      → result ≡ lifted plain → IsCall before result after
+  of_function : (f : Coded) (n : ℕ) (plain : Result (Option NodeId) NodeFault)
+      → MakesFunction coded_byte before f n plain after → result ≡ lifted plain → IsCall before result after
   of_part : (x : Option NodeId) (i n : ℕ) → PartsAny coded_byte before x i n result after → IsCall before result after
-  with_bytes : (x : Option NodeId) (put : List ℕ) → AppendsAny coded_byte before x put result after → IsCall before result after
+  with_bytes : (x : Option NodeId) (put : List ℕ) → AppendsAny coded_byte before x put result after
+      → IsCall before result after
   of_both : (l r : Option NodeId) → CatsAny coded_byte before l r result after → IsCall before result after
   of_balance : (x : Option NodeId) → Rebalances coded_byte before x result after → IsCall before result after
 
@@ -54,20 +57,23 @@ IsMetFault old (Node Memory) new = Unit {0}
 IsMetFault old _ new = ⊥
 
 -- a rope of these cells is built, or a limit was met
-pub record Builds (old : Held Coded) (wanted : List Cell) (result : Result (Option NodeId) BalanceFault) (new : Held Coded) : Type 0 where
+pub record Builds (old : Held Coded) (wanted : List Cell) (result : Result (Option NodeId) BalanceFault)
+    (new : Held Coded) : Type 0 where
   pub is_rope : IfOk result (λ r. IsRope (table_of coded_byte new) r)
   pub text : IfOk result (λ r. rope_cells (table_of coded_byte new) r ≡ wanted)
   pub goes_on : GoesOn old new
   pub fault : IfErr result (λ fault. IsMetFault old fault new)
 
 -- a text, and then the bytes of a rope from p on
-abbrev pub Closes : Held Coded → Option NodeId → Option NodeId → ℕ → Result (Option NodeId) BalanceFault → Held Coded → Type 0
+abbrev pub Closes : Held Coded → Option NodeId → Option NodeId → ℕ → Result (Option NodeId) BalanceFault → Held Coded
+    → Type 0
 Closes old front rope p result new =
     let t = table_of coded_byte old in
     Builds old (rope_cells t front ++ drop p (rope_cells t rope)) result new
 
 -- a rope with these cells in place of its m from p on
-abbrev pub Splices : Held Coded → Option NodeId → ℕ → ℕ → List Cell → Result (Option NodeId) BalanceFault → Held Coded → Type 0
+abbrev pub Splices : Held Coded → Option NodeId → ℕ → ℕ → List Cell → Result (Option NodeId) BalanceFault → Held Coded
+    → Type 0
 Splices old rope p m x result new = Builds old (replaced (rope_cells (table_of coded_byte old) rope) p m x) result new
 
 -- ---- with bytes handed in
@@ -83,7 +89,8 @@ StandNew old pool a None = Unit {0}
 StandNew old pool a (Some bytes) = (length old ≤ a) × StandsAt pool a bytes
 
 -- a rope with these bytes, put into the pool, in place of its m from p on
-pub record ReplacesBytes (old : Held Coded) (rope : Option NodeId) (p m : ℕ) (bytes : List ℕ) (result : Result Built BalanceFault) (new : Held Coded) : Type 0 where
+pub record ReplacesBytes (old : Held Coded) (rope : Option NodeId) (p m : ℕ) (bytes : List ℕ)
+    (result : Result Built BalanceFault) (new : Held Coded) : Type 0 where
   pub splices : Splices old rope p m (map Byte bytes) (root_alone result) new
   pub place : IfOk result (λ built. StandNew old.pool.bytes new.pool.bytes built.place (Some bytes))
 
@@ -101,17 +108,19 @@ edit_with a (Fill r p c n) = Edit.Fill r p c n
 edit_with a (Back r) = Edit.Back r
 edit_with a (Balance r) = Edit.Balance r
 
--- what a command says of its root beside the text: Back gives the very root of the revision, Balance one whose length is at least the
--- Fibonacci number at its depth and one
+-- what a command says of its root beside the text: Back gives the very root of the revision, Balance one whose length
+-- is at least the Fibonacci number at its depth and one
 abbrev pub IsRootFor : Table → List (Option NodeId) → Command → Option NodeId → Type 0
 IsRootFor t roots (Back r) root = root ≡ root_at roots r
 IsRootFor t roots (Balance r) root = IsNearlyBalanced t root
 IsRootFor t roots _ root = Unit {0}
 
 -- a root is built whose cells are what the recorded command gives of those of the earlier roots
-pub record BuildsCommand (old : Held Coded) (revisions : List Revision) (command : Command) (result : Result Built BalanceFault) (new : Held Coded) : Type 0 where
+pub record BuildsCommand (old : Held Coded) (revisions : List Revision) (command : Command)
+    (result : Result Built BalanceFault) (new : Held Coded) : Type 0 where
   pub wanted : List Cell
   pub builds : Builds old wanted (root_alone result) new
   pub place : IfOk result (λ built. StandNew old.pool.bytes new.pool.bytes built.place (bytes_of command))
-  pub gives : IfOk result (λ built. result_of (givens_of (table_of coded_byte new)) (map (rope_cells (table_of coded_byte old)) (roots_of revisions)) (edit_with built.place command) ≡ Some wanted)
+  pub gives : IfOk result (λ built. result_of (givens_of (table_of coded_byte new))
+      (map (rope_cells (table_of coded_byte old)) (roots_of revisions)) (edit_with built.place command) ≡ Some wanted)
   pub root : IfOk result (λ built. IsRootFor (table_of coded_byte new) (roots_of revisions) command built.root)

@@ -49,20 +49,26 @@ length_at v k = rope_len (session_table v) (get_or (roots_of v.revisions) k None
 
 -- what commands take from outside the earlier texts, over the sources' bytes
 abbrev pub text_givens : (ℕ → ℕ → ℕ) → Table → Givens ℕ
-text_givens source t = record { pool = t.pool; sources = map (λ s. map (source s) (range_with_len 0 (get_or t.sources s 0))) (range_with_len 0 (length t.sources)); byte = λ b. b }
+text_givens source t = record {
+  pool = t.pool;
+  sources = map (λ s. map (source s) (range_with_len 0 (get_or t.sources s 0))) (range_with_len 0 (length t.sources));
+  byte = λ b. b;
+}
 
 -- the parts of a revision's command, where these are the revisions before it
 abbrev pub parts_behind : Table → List Revision → Revision → List Part
 parts_behind t before r = parts_of t (roots_of before) r.edit
 
--- Behind these revisions: its command is in range; its root is a rope, and marked exactly where it is balanced; its rows cover the
--- command's parts and the root whatever the sources hold, and none that compares bytes is over a source.
+-- Behind these revisions: its command is in range; its root is a rope, and marked exactly where it is balanced; its
+-- rows cover the command's parts and the root whatever the sources hold, and none that compares bytes is over a source.
 pub record IsRevision (h : Held Coded) (before : List Revision) (r : Revision) : Type 0 where
   pub range : IsInRange (table_of coded_byte h) (roots_of before) r.edit
   pub root : IsRope (table_of coded_byte h) r.root
   pub mark : IsTrue r.mark ↔ IsBalancedRope (table_of coded_byte h) r.root
-  pub rows : CoversAlways (table_of coded_byte h) (coded_at h) (parts_behind (table_of coded_byte h) before r) r.root r.rows.items
-  pub no_source : MeetsNoSource (table_of coded_byte h) (parts_behind (table_of coded_byte h) before r) r.root r.rows.items
+  pub rows : CoversAlways (table_of coded_byte h) (coded_at h)
+      (parts_behind (table_of coded_byte h) before r) r.root r.rows.items
+  pub no_source : MeetsNoSource (table_of coded_byte h)
+      (parts_behind (table_of coded_byte h) before r) r.root r.rows.items
 
 -- each is, behind those before it
 abbrev pub AreRevisions : Held Coded → List Revision → Type 0
@@ -74,11 +80,12 @@ pub record IsSession (v : SessionValue) : Type 0 where
   pub few : length v.revisions ≤ MOST_REVISIONS
   pub few_rows : rows_held v.revisions ≤ ROWS_LIMIT
 
--- The cells of the roots are the history of the commands, and so are the texts, whatever the sources hold; a revision's length is its
--- text's.
+-- The cells of the roots are the history of the commands, and so are the texts, whatever the sources hold; a revision's
+-- length is its text's.
 pub record HoldsHistory (v : SessionValue) : Type 0 where
   pub cells : IsHistory (givens_of (session_table v)) (edits_of v.revisions) (cells_of v)
-  pub texts : (source : ℕ → ℕ → ℕ) → IsHistory (text_givens source (session_table v)) (edits_of v.revisions) (texts_of source v)
+  pub texts : (source : ℕ → ℕ → ℕ) → IsHistory (text_givens source (session_table v)) (edits_of v.revisions)
+      (texts_of source v)
   pub lengths : map length (cells_of v) ≡ map (rope_len (session_table v)) (roots_of v.revisions)
 
 abbrev pub root_of : SessionValue → ℕ → Option (Option NodeId)

@@ -2,9 +2,10 @@
 use Rattle.std.proofs.Common.{◌≡◌, ℕ, zero, suc, ◌<◌, ◌≤◌, false, List, [], ◌∷◌, refl, subst, arith, lit<, inl, inr}
 use Rattle.std.specs.List.{AllByRecursion}
 use Rattle.std.proofs.lemmas.Bool.{cases_Bool, eqb-true}
+use Rattle.span_certificate.specs.declared.codes.TheConstants.{BALANCE}
 use Rattle.span_certificate.specs.declared.edit.Edit.{Edit}
 use Rattle.span_certificate.specs.declared.edit.Edit.TheVariants.{New, Open, Insert, Delete, Replace, Paste, Join, Cut, Fill, Back, Balance}
-use Rattle.span_certificate.specs.Fields.{Field, R, Q, P, M, A, N, place_in_record, number_limit, recorded, last_code, edit_by, is_in_field, number_for, unused, FitsField, FitsRecord}
+use Rattle.span_certificate.specs.Fields.{Field, R, Q, P, M, A, N, place_in_record, number_limit, recorded, edit_by, is_in_field, number_for, unused, FitsField, FitsRecord}
 use Rattle.image_reader.specs.declared.command.Numbers.{Numbers}
 use Rattle.image_reader.specs.Spelling.{field_of, numbers_of}
 use Rattle.image_reader.specs.Reading.{any_nonzero}
@@ -38,7 +39,7 @@ unused_again (Fill r p c n) = refl
 unused_again (Back r) = refl
 unused_again (Balance r) = refl
 
-pub code_small : (e : Edit) → (1 ≤ (recorded e).code) × ((recorded e).code ≤ last_code)
+pub code_small : (e : Edit) → (1 ≤ (recorded e).code) × ((recorded e).code ≤ BALANCE)
 code_small New = (omega arith, omega arith)
 code_small (Open s) = (omega arith, omega arith)
 code_small (Insert r p a n) = (omega arith, omega arith)
@@ -80,7 +81,7 @@ pub record IsOfCode (code : ℕ) (x : Numbers) : Type 0 where
 abbrev numbers : ℕ → ℕ → ℕ → ℕ → ℕ → ℕ → Numbers
 numbers r q p m a n = record { r = r; q = q; p = p; m = m; a = a; n = n }
 
-of_code : (code r q p m a n : ℕ) → 1 ≤ code → code ≤ last_code → AreZero (unused (edit_by code (field_of (numbers r q p m a n))) (field_of (numbers r q p m a n))) → IsOfCode code (numbers r q p m a n)
+of_code : (code r q p m a n : ℕ) → 1 ≤ code → code ≤ BALANCE → AreZero (unused (edit_by code (field_of (numbers r q p m a n))) (field_of (numbers r q p m a n))) → IsOfCode code (numbers r q p m a n)
 of_code zero r q p m a n low high z = absurd (omega arith)
 of_code (suc zero) r q p m a n low high z = record { code_is = refl; numbers = rw (z.0, z.1.0, z.1.1.0, z.1.1.1.0, z.1.1.1.1.0, z.1.1.1.1.1.0) refl }
 of_code (suc (suc zero)) r q p m a n low high z = record { code_is = refl; numbers = rw (z.0, z.1.0, z.1.1.0, z.1.1.1.0, z.1.1.1.1.0) refl }
@@ -95,7 +96,7 @@ of_code (suc (suc (suc (suc (suc (suc (suc (suc (suc (suc zero)))))))))) r q p m
 of_code (suc (suc (suc (suc (suc (suc (suc (suc (suc (suc (suc zero))))))))))) r q p m a n low high z = record { code_is = refl; numbers = rw (z.0, z.1.0, z.1.1.0, z.1.1.1.0, z.1.1.1.1.0) refl }
 of_code (suc (suc (suc (suc (suc (suc (suc (suc (suc (suc (suc (suc code)))))))))))) r q p m a n low high z = absurd (omega arith)
 
-pub is_of_code : (code : ℕ) (x : Numbers) → 1 ≤ code → code ≤ last_code → any_nonzero (unused (edit_by code (field_of x)) (field_of x)) ≡ false → IsOfCode code x
+pub is_of_code : (code : ℕ) (x : Numbers) → 1 ≤ code → code ≤ BALANCE → any_nonzero (unused (edit_by code (field_of x)) (field_of x)) ≡ false → IsOfCode code x
 is_of_code code x low high none = of_code code x.r x.q x.p x.m x.a x.n low high (are_zero _ none)
 
 -- a command read from numbers that fit has numbers that fit

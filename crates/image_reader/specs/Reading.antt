@@ -12,15 +12,18 @@ use Rattle.span_certificate.specs.declared.edit.Edit.{Edit}
 use Rattle.span_certificate.specs.declared.row.Row.{Row}
 use Rattle.span_certificate.specs.declared.row.RowKind.{RowKind}
 use Rattle.span_certificate.specs.declared.row.RowKind.TheVariants.{Shared, Leaf, Bytes}
-use Rattle.span_certificate.specs.Fields.{last_code, edit_by, unused}
+use Rattle.span_certificate.specs.Fields.{edit_by, unused}
 use Rattle.image_reader.specs.declared.command.Numbers.{Numbers}
 use Rattle.image_reader.specs.declared.fault.ReadFault.{ReadFault}
 use Rattle.image_reader.specs.declared.fault.ReadFault.TheVariants.{Truncated, Trailing, Magic, Version, Count, NonZeroPad, Kind}
 use Rattle.image_reader.specs.declared.header.Header.{Header}
 use Rattle.image_reader.specs.declared.revision.Revision.{Revision}
 use Rattle.image_reader.specs.Layout.{number_in, records}
+use Rattle.span_certificate.specs.declared.codes.TheConstants.{BALANCE, NEW}
 use Rattle.span_certificate.specs.declared.edit.TheConstants.{MOST_REVISIONS}
 use Rattle.image_reader.specs.declared.header.TheConstants.{MAGIC, MOST_POOL, VERSION}
+use Rattle.image_reader.specs.declared.codes.TheConstants.{BYTES_ROW, CONCATENATION, CYCLE, FILL, FUNCTION, LEAF_ROW, LITERAL, RAMP, SHARED_ROW, SOURCE_SPAN, SUBSTRING}
+use Rattle.image_reader.specs.declared.layout.TheConstants.{HEADER_SIZE, NODE_SIZE, REVISION_SIZE, ROW_SIZE, SOURCE_SIZE}
 use Rattle.span_certificate.specs.declared.making.TheConstants.{ROWS_LIMIT}
 use Rattle.image_reader.specs.declared.decode.TheConstants.{NIL_ROOT}
 use Rattle.rope_node.specs.declared.limits.TheConstants.{MOST_NODES, MOST_SOURCES, TEXT_LIMIT}
@@ -35,11 +38,11 @@ source_of bytes = number_in w64 0 bytes
 abbrev pub id_of : ℕ → NodeId
 id_of n = record { 0 = n }
 
--- the kind of a node: 1 a literal, 2 a span of a source, 3 a function, 4 a concatenation, 5 a substring
+-- what a node is
 abbrev pub kind_in : List ℕ → ℕ
 kind_in bytes = number_in w8 0 bytes
 
--- the code of a function: 1 a fill, 2 a ramp, 3 a cycle
+-- which function it is
 abbrev pub function_code_in : List ℕ → ℕ
 function_code_in bytes = number_in w8 2 bytes
 
@@ -48,10 +51,10 @@ pattern_size_in bytes = number_in w8 3 bytes
 
 unfoldable pub view_of : List ℕ → NodeView
 view_of bytes =
-    if kind_in bytes == 1 then Lit (number_in w64 16 bytes)
-    else (if kind_in bytes == 2 then Src (number_in w32 4 bytes) (number_in w64 16 bytes)
-    else (if kind_in bytes == 4 then Cat (id_of (number_in w32 4 bytes)) (id_of (number_in w32 16 bytes))
-    else (if kind_in bytes == 5 then Sub (id_of (number_in w32 4 bytes)) (number_in w64 16 bytes) else Fun)))
+    if kind_in bytes == LITERAL then Lit (number_in w64 16 bytes)
+    else (if kind_in bytes == SOURCE_SPAN then Src (number_in w32 4 bytes) (number_in w64 16 bytes)
+    else (if kind_in bytes == CONCATENATION then Cat (id_of (number_in w32 4 bytes)) (id_of (number_in w32 16 bytes))
+    else (if kind_in bytes == SUBSTRING then Sub (id_of (number_in w32 4 bytes)) (number_in w64 16 bytes) else Fun)))
 
 -- the pattern of a cycle
 abbrev pub pattern_of : List ℕ → List ℕ
@@ -59,14 +62,17 @@ pattern_of bytes = take (pattern_size_in bytes) (drop 16 bytes)
 
 unfoldable pub coded_of : List ℕ → Coded
 coded_of bytes =
-    if function_code_in bytes == 1 then Fill (number_in w8 16 bytes)
-    else (if function_code_in bytes == 2 then Ramp (number_in w8 16 bytes) else Cycle (pattern_of bytes))
+    if function_code_in bytes == FILL then Fill (number_in w8 16 bytes)
+    else (if function_code_in bytes == RAMP then Ramp (number_in w8 16 bytes) else Cycle (pattern_of bytes))
 
 unfoldable pub function_of : List ℕ → Option Coded
-function_of bytes = if kind_in bytes == 3 then Some (coded_of bytes) else None
+function_of bytes = if kind_in bytes == FUNCTION then Some (coded_of bytes) else None
 
 abbrev pub image_node : List ℕ → ImageNode
-image_node bytes = record { node = record { view = view_of bytes; len = number_in w64 8 bytes; depth = number_in w8 1 bytes }; function = function_of bytes }
+image_node bytes = record {
+  node = record { view = view_of bytes; len = number_in w64 8 bytes; depth = number_in w8 1 bytes };
+  function = function_of bytes;
+}
 
 -- the code of a command, and the numbers that are a command's
 abbrev pub command_code_in : List ℕ → ℕ
@@ -89,16 +95,21 @@ abbrev pub root_of : ℕ → Option NodeId
 root_of n = if n == NIL_ROOT then None else Some (id_of n)
 
 unfoldable pub revision_of : List ℕ → Revision
-revision_of bytes = record { edit = edit_of bytes; mark = number_in w8 1 bytes == 1; root = root_of (number_in w32 4 bytes); rows = number_in w32 48 bytes }
+revision_of bytes = record {
+  edit = edit_of bytes;
+  mark = number_in w8 1 bytes == 1;
+  root = root_of (number_in w32 4 bytes);
+  rows = number_in w32 48 bytes;
+}
 
--- the tag of a row: 1 shared, 2 a leaf, 3 bytes
+-- what a row is
 abbrev pub tag_in : List ℕ → ℕ
 tag_in bytes = number_in w8 0 bytes
 
 abbrev pub row_kind_of : List ℕ → RowKind
 row_kind_of bytes =
-    if tag_in bytes == 1 then Shared (id_of (number_in w32 4 bytes)) (number_in w64 16 bytes)
-    else (if tag_in bytes == 2 then Leaf else Bytes)
+    if tag_in bytes == SHARED_ROW then Shared (id_of (number_in w32 4 bytes)) (number_in w64 16 bytes)
+    else (if tag_in bytes == LEAF_ROW then Leaf else Bytes)
 
 unfoldable pub row_of : List ℕ → Row
 row_of bytes = record { len = number_in w64 8 bytes; kind = row_kind_of bytes }
@@ -122,7 +133,9 @@ pool_len bytes = number_in w64 32 bytes
 
 -- the whole length that the header states
 unfoldable pub stated_len : List ℕ → ℕ
-stated_len bytes = 40 + 8 * source_count bytes + 32 * node_count bytes + 56 * revision_count bytes + 24 * row_count bytes + pool_len bytes
+stated_len bytes =
+    HEADER_SIZE + SOURCE_SIZE * source_count bytes + NODE_SIZE * node_count bytes + REVISION_SIZE * revision_count bytes
+    + ROW_SIZE * row_count bytes + pool_len bytes
 
 -- a header holds the numbers of these bytes, which are as many as it states
 pub record HasHeader (bytes : List ℕ) (h : Header) : Type 0 where
@@ -131,45 +144,49 @@ pub record HasHeader (bytes : List ℕ) (h : Header) : Type 0 where
   pub revisions : h.revisions ≡ revision_count bytes
   pub rows : h.rows ≡ row_count bytes
   pub pool : h.pool ≡ pool_len bytes
-  pub whole : length bytes ≡ 40 + 8 * h.sources + 32 * h.nodes + 56 * h.revisions + 24 * h.rows + h.pool
+  pub whole : length bytes ≡ HEADER_SIZE + SOURCE_SIZE * h.sources + NODE_SIZE * h.nodes + REVISION_SIZE * h.revisions
+      + ROW_SIZE * h.rows + h.pool
 
 -- ---- where each section begins, and what is from there on
 
 abbrev pub from_sources : List ℕ → List ℕ
-from_sources bytes = drop 40 bytes
+from_sources bytes = drop HEADER_SIZE bytes
 
 abbrev pub from_nodes : List ℕ → List ℕ
-from_nodes bytes = drop (8 * source_count bytes) (from_sources bytes)
+from_nodes bytes = drop (SOURCE_SIZE * source_count bytes) (from_sources bytes)
 
 abbrev pub from_revisions : List ℕ → List ℕ
-from_revisions bytes = drop (32 * node_count bytes) (from_nodes bytes)
+from_revisions bytes = drop (NODE_SIZE * node_count bytes) (from_nodes bytes)
 
 abbrev pub from_rows : List ℕ → List ℕ
-from_rows bytes = drop (56 * revision_count bytes) (from_revisions bytes)
+from_rows bytes = drop (REVISION_SIZE * revision_count bytes) (from_revisions bytes)
 
 abbrev pub from_pool : List ℕ → List ℕ
-from_pool bytes = drop (24 * row_count bytes) (from_rows bytes)
+from_pool bytes = drop (ROW_SIZE * row_count bytes) (from_rows bytes)
 
 -- the bytes from each section on are enough for its records
-pub record HasRoom (s : ℕ) (sources : List ℕ) (n : ℕ) (nodes : List ℕ) (k : ℕ) (revisions : List ℕ) (j : ℕ) (rows : List ℕ) : Type 0 where
-  pub for_sources : 8 * s ≤ length sources
-  pub for_nodes : 32 * n ≤ length nodes
-  pub for_revisions : 56 * k ≤ length revisions
-  pub for_rows : 24 * j ≤ length rows
+pub record HasRoom (s : ℕ) (sources : List ℕ) (n : ℕ) (nodes : List ℕ) (k : ℕ) (revisions : List ℕ) (j : ℕ)
+    (rows : List ℕ) : Type 0 where
+  pub for_sources : SOURCE_SIZE * s ≤ length sources
+  pub for_nodes : NODE_SIZE * n ≤ length nodes
+  pub for_revisions : REVISION_SIZE * k ≤ length revisions
+  pub for_rows : ROW_SIZE * j ≤ length rows
 
 -- what sections say, each given with its number of records and with the bytes from it on
 unfoldable pub sections_value : ℕ → List ℕ → ℕ → List ℕ → ℕ → List ℕ → ℕ → List ℕ → List ℕ → ImageValue
 sections_value source_count sources node_count nodes revision_count revisions row_count rows pool = record {
-  sources = map source_of (records 8 source_count sources);
-  nodes = map image_node (records 32 node_count nodes);
-  revisions = map revision_of (records 56 revision_count revisions);
-  rows = map row_of (records 24 row_count rows);
+  sources = map source_of (records SOURCE_SIZE source_count sources);
+  nodes = map image_node (records NODE_SIZE node_count nodes);
+  revisions = map revision_of (records REVISION_SIZE revision_count revisions);
+  rows = map row_of (records ROW_SIZE row_count rows);
   pool = pool;
 }
 
 -- what bytes say
 abbrev pub image_of : List ℕ → ImageValue
-image_of bytes = sections_value (source_count bytes) (from_sources bytes) (node_count bytes) (from_nodes bytes) (revision_count bytes) (from_revisions bytes) (row_count bytes) (from_rows bytes) (from_pool bytes)
+image_of bytes =
+    sections_value (source_count bytes) (from_sources bytes) (node_count bytes) (from_nodes bytes)
+    (revision_count bytes) (from_revisions bytes) (row_count bytes) (from_rows bytes) (from_pool bytes)
 
 -- ---- faults
 
@@ -193,11 +210,15 @@ any_nonzero [] = false
 any_nonzero (n ∷ ns) = not (n == 0) || any_nonzero ns
 
 abbrev pub is_over_limit : List ℕ → Bool
-is_over_limit bytes = nat_lt MOST_SOURCES (source_count bytes) || (nat_lt MOST_NODES (node_count bytes) || (nat_lt MOST_REVISIONS (revision_count bytes) || (nat_lt ROWS_LIMIT (row_count bytes) || nat_lt MOST_POOL (pool_len bytes))))
+is_over_limit bytes =
+    nat_lt MOST_SOURCES (source_count bytes)
+    || (nat_lt MOST_NODES (node_count bytes)
+    || (nat_lt MOST_REVISIONS (revision_count bytes)
+    || (nat_lt ROWS_LIMIT (row_count bytes) || nat_lt MOST_POOL (pool_len bytes))))
 
 unfoldable pub header_fault : List ℕ → Option ReadFault
 header_fault bytes =
-    fault_if (nat_lt (length bytes) 40) Truncated
+    fault_if (nat_lt (length bytes) HEADER_SIZE) Truncated
     else fault_if (not (number_in w64 0 bytes == MAGIC)) Magic
     else fault_if (not (number_in w32 8 bytes == VERSION)) Version
     else fault_if (is_over_limit bytes) Count
@@ -211,19 +232,24 @@ source_record_fault bytes = fault_if (not (nat_lt (number_in w64 0 bytes) TEXT_L
 -- a function code that stands for none, or a pattern of a length that none may have
 abbrev pub is_unknown_function : List ℕ → Bool
 is_unknown_function bytes =
-    nat_lt (function_code_in bytes) 1 || (nat_lt 3 (function_code_in bytes)
-    || (function_code_in bytes == 3 && (nat_lt (pattern_size_in bytes) 1 || nat_lt PATTERN_LIMIT (pattern_size_in bytes))))
+    nat_lt (function_code_in bytes) FILL || (nat_lt CYCLE (function_code_in bytes)
+    || (function_code_in bytes == CYCLE && (nat_lt (pattern_size_in bytes) 1
+    || nat_lt PATTERN_LIMIT (pattern_size_in bytes))))
 
 abbrev pub is_unknown_node : List ℕ → Bool
-is_unknown_node bytes = nat_lt (kind_in bytes) 1 || (nat_lt 5 (kind_in bytes) || (kind_in bytes == 3 && is_unknown_function bytes))
+is_unknown_node bytes =
+    nat_lt (kind_in bytes) LITERAL || (nat_lt SUBSTRING (kind_in bytes)
+    || (kind_in bytes == FUNCTION && is_unknown_function bytes))
 
 -- the fields that a function of this code does not use
 abbrev pub unused_in_function : List ℕ → List ℕ
 unused_in_function bytes =
-    number_in w32 4 bytes ∷ (if function_code_in bytes == 3 then drop (pattern_size_in bytes) (drop 16 bytes) else pattern_size_in bytes ∷ drop 1 (drop 16 bytes))
+    number_in w32 4 bytes ∷ (if function_code_in bytes == CYCLE then drop (pattern_size_in bytes) (drop 16 bytes)
+    else pattern_size_in bytes ∷ drop 1 (drop 16 bytes))
 
 abbrev pub unused_in_concatenation : List ℕ → List ℕ
-unused_in_concatenation bytes = number_in w8 2 bytes ∷ number_in w8 3 bytes ∷ number_in w32 20 bytes ∷ number_in w64 24 bytes ∷ []
+unused_in_concatenation bytes =
+    number_in w8 2 bytes ∷ number_in w8 3 bytes ∷ number_in w32 20 bytes ∷ number_in w64 24 bytes ∷ []
 
 -- those of a literal, of a span of a source and of a substring
 abbrev pub unused_in_span : List ℕ → List ℕ
@@ -232,9 +258,9 @@ unused_in_span bytes = number_in w8 2 bytes ∷ number_in w8 3 bytes ∷ number_
 -- the fields that a node of this kind does not use
 abbrev pub unused_in_node : List ℕ → List ℕ
 unused_in_node bytes =
-    if kind_in bytes == 3 then unused_in_function bytes
-    else (if kind_in bytes == 4 then unused_in_concatenation bytes
-    else (if kind_in bytes == 1 then number_in w32 4 bytes ∷ unused_in_span bytes else unused_in_span bytes))
+    if kind_in bytes == FUNCTION then unused_in_function bytes
+    else (if kind_in bytes == CONCATENATION then unused_in_concatenation bytes
+    else (if kind_in bytes == LITERAL then number_in w32 4 bytes ∷ unused_in_span bytes else unused_in_span bytes))
 
 unfoldable pub node_record_fault : List ℕ → Option ReadFault
 node_record_fault bytes =
@@ -248,7 +274,7 @@ unused_in_revision bytes =
 
 abbrev pub is_unknown_revision : List ℕ → Bool
 is_unknown_revision bytes =
-    nat_lt (command_code_in bytes) 1 || (nat_lt last_code (command_code_in bytes) || nat_lt 1 (number_in w8 1 bytes))
+    nat_lt (command_code_in bytes) NEW || (nat_lt BALANCE (command_code_in bytes) || nat_lt 1 (number_in w8 1 bytes))
 
 unfoldable pub revision_record_fault : List ℕ → Option ReadFault
 revision_record_fault bytes =
@@ -259,31 +285,33 @@ revision_record_fault bytes =
 abbrev pub unused_in_row : List ℕ → List ℕ
 unused_in_row bytes =
     number_in w8 1 bytes ∷ number_in w16 2 bytes
-    ∷ (if tag_in bytes == 1 then [] else number_in w32 4 bytes ∷ number_in w64 16 bytes ∷ [])
+    ∷ (if tag_in bytes == SHARED_ROW then [] else number_in w32 4 bytes ∷ number_in w64 16 bytes ∷ [])
 
 unfoldable pub row_record_fault : List ℕ → Option ReadFault
 row_record_fault bytes =
-    fault_if (nat_lt (tag_in bytes) 1 || nat_lt 3 (tag_in bytes)) Kind
+    fault_if (nat_lt (tag_in bytes) SHARED_ROW || nat_lt BYTES_ROW (tag_in bytes)) Kind
     else fault_if (any_nonzero (unused_in_row bytes)) NonZeroPad
 
 -- the rows that revisions have in all
 unfoldable pub counted_rows : ℕ → List ℕ → ℕ
-counted_rows count revisions = sum_by (λ (r : Revision). r.rows) (map revision_of (records 56 count revisions))
+counted_rows count revisions =
+    sum_by (λ (r : Revision). r.rows) (map revision_of (records REVISION_SIZE count revisions))
 
 -- the first fault of sections, each given with its number of records and with the bytes from it on
 unfoldable pub sections_fault : ℕ → List ℕ → ℕ → List ℕ → ℕ → List ℕ → ℕ → List ℕ → Option ReadFault
 sections_fault source_count sources node_count nodes revision_count revisions row_count rows =
-    first_fault source_record_fault (records 8 source_count sources)
-    else first_fault node_record_fault (records 32 node_count nodes)
-    else first_fault revision_record_fault (records 56 revision_count revisions)
+    first_fault source_record_fault (records SOURCE_SIZE source_count sources)
+    else first_fault node_record_fault (records NODE_SIZE node_count nodes)
+    else first_fault revision_record_fault (records REVISION_SIZE revision_count revisions)
     else fault_if (not (counted_rows revision_count revisions == row_count)) Count
-    else first_fault row_record_fault (records 24 row_count rows)
+    else first_fault row_record_fault (records ROW_SIZE row_count rows)
 
 -- the first fault of bytes that are no image
 unfoldable pub fault_of : List ℕ → Option ReadFault
 fault_of bytes =
     header_fault bytes
-    else sections_fault (source_count bytes) (from_sources bytes) (node_count bytes) (from_nodes bytes) (revision_count bytes) (from_revisions bytes) (row_count bytes) (from_rows bytes)
+    else sections_fault (source_count bytes) (from_sources bytes) (node_count bytes) (from_nodes bytes)
+    (revision_count bytes) (from_revisions bytes) (row_count bytes) (from_rows bytes)
 
 -- the code that the program prints
 abbrev pub fault_code : ReadFault → List ℕ

@@ -16,6 +16,7 @@ use Rattle.span_certificate.specs.declared.row.RowKind.{RowKind}
 use Rattle.span_certificate.specs.declared.row.RowKind.TheVariants.{Shared, Leaf, Bytes}
 use Rattle.image_reader.specs.declared.revision.Revision.{Revision}
 use Rattle.image_reader.specs.Layout.{spelled}
+use Rattle.image_reader.specs.declared.codes.TheConstants.{BYTES_ROW, CONCATENATION, CYCLE, FILL, FUNCTION, LEAF_ROW, LITERAL, RAMP, SHARED_ROW, SOURCE_SPAN, SUBSTRING}
 use Rattle.image_reader.specs.declared.decode.TheConstants.{NIL_ROOT}
 use Rattle.image_reader.specs.declared.header.TheConstants.{MAGIC, VERSION}
 use Rattle.image_reader.specs.Value.{ImageNode, ImageValue}
@@ -25,7 +26,8 @@ abbrev pub header_layout : List Width
 header_layout = w64 ∷ w32 ∷ w32 ∷ w32 ∷ w32 ∷ w32 ∷ w32 ∷ w64 ∷ []
 
 abbrev pub header_numbers : ImageValue → List ℕ
-header_numbers v = MAGIC ∷ VERSION ∷ length v.sources ∷ length v.nodes ∷ length v.revisions ∷ length v.rows ∷ 0 ∷ length v.pool ∷ []
+header_numbers v =
+    MAGIC ∷ VERSION ∷ length v.sources ∷ length v.nodes ∷ length v.revisions ∷ length v.rows ∷ 0 ∷ length v.pool ∷ []
 
 -- its length
 abbrev pub source_layout : List Width
@@ -46,16 +48,16 @@ abbrev pub concatenation_layout : List Width
 concatenation_layout = w8 ∷ w8 ∷ w8 ∷ w8 ∷ w32 ∷ w64 ∷ w32 ∷ w32 ∷ w64 ∷ []
 
 abbrev pub concatenation_numbers : ℕ → ℕ → ℕ → ℕ → List ℕ
-concatenation_numbers depth len l r = 4 ∷ depth ∷ 0 ∷ 0 ∷ l ∷ len ∷ r ∷ 0 ∷ 0 ∷ []
+concatenation_numbers depth len l r = CONCATENATION ∷ depth ∷ 0 ∷ 0 ∷ l ∷ len ∷ r ∷ 0 ∷ 0 ∷ []
 
 -- the same up to the length, in front of a function's payload
 abbrev pub function_layout : List Width
 function_layout = w8 ∷ w8 ∷ w8 ∷ w8 ∷ w32 ∷ w64 ∷ []
 
 abbrev pub function_code : Coded → ℕ
-function_code (Fill c) = 1
-function_code (Ramp c) = 2
-function_code (Cycle pattern) = 3
+function_code (Fill c) = FILL
+function_code (Ramp c) = RAMP
+function_code (Cycle pattern) = CYCLE
 
 -- the pattern length, 0 where there is no pattern
 abbrev pub pattern_size : Coded → ℕ
@@ -70,19 +72,20 @@ payload (Ramp c) = c ∷ []
 payload (Cycle pattern) = pattern
 
 abbrev pub function_numbers : ℕ → ℕ → ℕ → ℕ → List ℕ
-function_numbers depth len code size = 3 ∷ depth ∷ code ∷ size ∷ 0 ∷ len ∷ []
+function_numbers depth len code size = FUNCTION ∷ depth ∷ code ∷ size ∷ 0 ∷ len ∷ []
 
 unfoldable pub function_spelling : ℕ → ℕ → Coded → List ℕ
-function_spelling depth len c = spelled function_layout (function_numbers depth len (function_code c) (pattern_size c)) ++ padded (payload c)
+function_spelling depth len c =
+    spelled function_layout (function_numbers depth len (function_code c) (pattern_size c)) ++ padded (payload c)
 
 -- a node that is a function and holds none has no spelling
 unfoldable pub view_spelling : ℕ → ℕ → NodeView → Option Coded → List ℕ
-view_spelling depth len (Lit a) function = spelled span_layout (span_numbers 1 depth 0 len a)
-view_spelling depth len (Src s a) function = spelled span_layout (span_numbers 2 depth s len a)
+view_spelling depth len (Lit a) function = spelled span_layout (span_numbers LITERAL depth 0 len a)
+view_spelling depth len (Src s a) function = spelled span_layout (span_numbers SOURCE_SPAN depth s len a)
 view_spelling depth len Fun None = []
 view_spelling depth len Fun (Some c) = function_spelling depth len c
 view_spelling depth len (Cat l r) function = spelled concatenation_layout (concatenation_numbers depth len l.0 r.0)
-view_spelling depth len (Sub b i) function = spelled span_layout (span_numbers 5 depth b.0 len i)
+view_spelling depth len (Sub b i) function = spelled span_layout (span_numbers SUBSTRING depth b.0 len i)
 
 abbrev pub node_spelling : ImageNode → List ℕ
 node_spelling n = view_spelling n.node.depth n.node.len n.node.view n.function
@@ -101,7 +104,14 @@ abbrev pub number_of : Edit → Field → ℕ
 number_of edit f = number_for (recorded edit).uses f
 
 abbrev pub numbers_of : Edit → Numbers
-numbers_of e = record { r = number_of e R; q = number_of e Q; p = number_of e P; m = number_of e M; a = number_of e A; n = number_of e N }
+numbers_of e = record {
+  r = number_of e R;
+  q = number_of e Q;
+  p = number_of e P;
+  m = number_of e M;
+  a = number_of e A;
+  n = number_of e N;
+}
 
 abbrev pub mark_number : Bool → ℕ
 mark_number false = 0
@@ -119,16 +129,18 @@ abbrev pub revision_numbers : ℕ → Numbers → ℕ → ℕ → ℕ → List �
 revision_numbers code x mark root rows = code ∷ mark ∷ 0 ∷ root ∷ x.r ∷ x.q ∷ x.p ∷ x.m ∷ x.a ∷ x.n ∷ rows ∷ 0 ∷ []
 
 unfoldable pub revision_spelling : Revision → List ℕ
-revision_spelling r = spelled revision_layout (revision_numbers (recorded r.edit).code (numbers_of r.edit) (mark_number r.mark) (root_number r.root) r.rows)
+revision_spelling r =
+    spelled revision_layout (revision_numbers (recorded r.edit).code (numbers_of r.edit) (mark_number r.mark)
+    (root_number r.root) r.rows)
 
 -- tag, zeros, node, length, offset
 abbrev pub row_layout : List Width
 row_layout = w8 ∷ w8 ∷ w16 ∷ w32 ∷ w64 ∷ w64 ∷ []
 
 abbrev pub row_numbers : ℕ → RowKind → List ℕ
-row_numbers len (Shared k o) = 1 ∷ 0 ∷ 0 ∷ k.0 ∷ len ∷ o ∷ []
-row_numbers len Leaf = 2 ∷ 0 ∷ 0 ∷ 0 ∷ len ∷ 0 ∷ []
-row_numbers len Bytes = 3 ∷ 0 ∷ 0 ∷ 0 ∷ len ∷ 0 ∷ []
+row_numbers len (Shared k o) = SHARED_ROW ∷ 0 ∷ 0 ∷ k.0 ∷ len ∷ o ∷ []
+row_numbers len Leaf = LEAF_ROW ∷ 0 ∷ 0 ∷ 0 ∷ len ∷ 0 ∷ []
+row_numbers len Bytes = BYTES_ROW ∷ 0 ∷ 0 ∷ 0 ∷ len ∷ 0 ∷ []
 
 unfoldable pub row_spelling : Row → List ℕ
 row_spelling r = spelled row_layout (row_numbers r.len r.kind)

@@ -45,7 +45,12 @@ function_at v id = (get_or v.nodes id no_image_node).function
 
 -- the table of an image's nodes
 abbrev pub image_table : ImageValue → Table
-image_table v = record { nodes = map (λ (n : ImageNode). n.node) v.nodes; pool = v.pool; sources = v.sources; answer = λ id k. answer_of coded_byte (function_at v id) k }
+image_table v = record {
+  nodes = map (λ (n : ImageNode). n.node) v.nodes;
+  pool = v.pool;
+  sources = v.sources;
+  answer = λ id k. answer_of coded_byte (function_at v id) k;
+}
 
 -- the function at a node, where it is one
 abbrev pub coded_at : ImageValue → ℕ → Coded

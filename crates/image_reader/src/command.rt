@@ -2,11 +2,15 @@
 
 ghost use Rattle.std.specs.Prelude.{◌≡◌, length};
 ghost use Rattle.span_certificate.specs.Fields.{edit_by, unused};
+ghost use Rattle.image_reader.specs.declared.layout.TheConstants.{REVISION_SIZE};
 ghost use Rattle.image_reader.specs.Reading.{numbers_in, any_nonzero};
 ghost use Rattle.image_reader.specs.Spelling.{field_of};
 
 use crate::number::{u32_in, u64_in};
 use span_certificate::Edit;
+use span_certificate::codes::{
+    BACK, BALANCE, CUT, DELETE, FILL, INSERT, JOIN, OPEN, PASTE, REPLACE,
+};
 
 /// The numbers of a revision's record that are its command's.
 #[derive(Clone, Copy, Debug, PartialEq, Eq)]
@@ -21,7 +25,7 @@ pub struct Numbers {
 
 /// The numbers that a revision's record holds.
 pub fn numbers_in(bytes: &[u8]) -> Numbers
-    requires { length bytes.now ≡ 56 }
+    requires { length bytes.now ≡ REVISION_SIZE }
     ensures { result ≡ numbers_in bytes.now }
 {
     Numbers {
@@ -40,16 +44,16 @@ pub fn edit_by(code: u8, numbers: Numbers) -> Edit
 {
     let Numbers { r, q, p, m, a, n } = numbers;
     match code {
-        2 => Edit::Open { s: q },
-        3 => Edit::Insert { r, p, a, n },
-        4 => Edit::Delete { r, p, n },
-        5 => Edit::Replace { r, p, m, a, n },
-        6 => Edit::Paste { r, p, q, i: a, n },
-        7 => Edit::Join { r, q },
-        8 => Edit::Cut { r, i: a, n },
-        9 => Edit::Fill { r, p, c: a, n },
-        10 => Edit::Back { r },
-        11 => Edit::Balance { r },
+        OPEN => Edit::Open { s: q },
+        INSERT => Edit::Insert { r, p, a, n },
+        DELETE => Edit::Delete { r, p, n },
+        REPLACE => Edit::Replace { r, p, m, a, n },
+        PASTE => Edit::Paste { r, p, q, i: a, n },
+        JOIN => Edit::Join { r, q },
+        CUT => Edit::Cut { r, i: a, n },
+        FILL => Edit::Fill { r, p, c: a, n },
+        BACK => Edit::Back { r },
+        BALANCE => Edit::Balance { r },
         _ => Edit::New,
     }
 }

@@ -1,9 +1,12 @@
 //! What single records of sources, revisions and rows say.
 
 ghost use Rattle.std.specs.Prelude.{◌≡◌, ◌+◌, ◌*◌, ◌≤◌, length};
+ghost use Rattle.image_reader.specs.declared.layout.TheConstants.{REVISION_SIZE, ROW_SIZE, SOURCE_SIZE};
 ghost use Rattle.image_reader.specs.Reading.{source_of, root_of, revision_of, row_kind_of, row_of, counted_rows};
 
+use crate::codes::{LEAF_ROW, SHARED_ROW};
 use crate::command::{edit_by, numbers_in};
+use crate::layout::REVISION_SIZE;
 use crate::number::{u8_in, u32_in, u64_in};
 use crate::revision::Revision;
 use rope_node::{NodeId, Rope};
@@ -12,7 +15,7 @@ use span_certificate::{Row, RowKind};
 /// The length of a source.
 #[tactic(auto, unfolding(crate::specs::Reading::source_of))]
 pub fn source_in(bytes: &[u8]) -> u64
-    requires { length bytes.now ≡ 8 }
+    requires { length bytes.now ≡ SOURCE_SIZE }
     ensures { result ≡ source_of bytes.now }
 {
     u64_in(bytes, 0)
@@ -34,7 +37,7 @@ fn root_in(number: u32) -> Rope
 /// What a revision is.
 #[tactic(auto, unfolding(crate::specs::Reading::revision_of))]
 pub fn revision_in(bytes: &[u8]) -> Revision
-    requires { length bytes.now ≡ 56 }
+    requires { length bytes.now ≡ REVISION_SIZE }
     ensures { result ≡ revision_of bytes.now }
 {
     Revision {
@@ -46,12 +49,12 @@ pub fn revision_in(bytes: &[u8]) -> Revision
 }
 
 fn row_kind_in(bytes: &[u8]) -> RowKind
-    requires { length bytes.now ≡ 24 }
+    requires { length bytes.now ≡ ROW_SIZE }
     ensures { result ≡ row_kind_of bytes.now }
 {
     match u8_in(bytes, 0) {
-        1 => RowKind::Shared(NodeId(u32_in(bytes, 4)), u64_in(bytes, 16)),
-        2 => RowKind::Leaf,
+        SHARED_ROW => RowKind::Shared(NodeId(u32_in(bytes, 4)), u64_in(bytes, 16)),
+        LEAF_ROW => RowKind::Leaf,
         _ => RowKind::Bytes,
     }
 }
@@ -59,7 +62,7 @@ fn row_kind_in(bytes: &[u8]) -> RowKind
 /// What a row is.
 #[tactic(auto, unfolding(crate::specs::Reading::row_of))]
 pub fn row_in(bytes: &[u8]) -> Row
-    requires { length bytes.now ≡ 24 }
+    requires { length bytes.now ≡ ROW_SIZE }
     ensures { result ≡ row_of bytes.now }
 {
     Row {
@@ -70,13 +73,13 @@ pub fn row_in(bytes: &[u8]) -> Row
 
 /// The rows that `count` revisions have in all.
 pub fn counted_rows(count: u32, bytes: &[u8]) -> u64
-    requires { 56 * count ≤ length bytes.now }
+    requires { REVISION_SIZE * count ≤ length bytes.now }
     ensures { result ≡ counted_rows count bytes.now }
 {
     let mut rest = bytes;
     let mut sum: u64 = 0;
     for _ in 0..count {
-        let (front, after) = rest.split_at(56);
+        let (front, after) = rest.split_at(REVISION_SIZE);
         sum += u32_in(front, 48) as u64;
         rest = after;
     }

@@ -5,6 +5,7 @@ ghost use Rattle.std.specs.Result.{result_err};
 ghost use Rattle.image_reader.specs.Reading.{header_fault, HasHeader};
 
 use crate::fault::ReadFault;
+use crate::layout::{HEADER_SIZE, NODE_SIZE, REVISION_SIZE, ROW_SIZE, SOURCE_SIZE};
 use crate::number::{u32_in, u64_in};
 use leaf_buffer::POOL_LIMIT;
 use rope_node::{MOST_NODES, MOST_SOURCES};
@@ -29,13 +30,21 @@ pub const VERSION: u32 = 1;
 /// The most bytes of a pool.
 pub const MOST_POOL: u64 = POOL_LIMIT - 1;
 
+/// The most bytes of an image: it has as many records of each kind, and of bytes of the pool, as there may be.
+pub const LONGEST_IMAGE: u64 = HEADER_SIZE as u64
+    + SOURCE_SIZE as u64 * MOST_SOURCES as u64
+    + NODE_SIZE as u64 * MOST_NODES as u64
+    + REVISION_SIZE as u64 * MOST_REVISIONS as u64
+    + ROW_SIZE as u64 * ROWS_LIMIT as u64
+    + MOST_POOL;
+
 /// The numbers of the header, where it has no fault and the bytes are as many as it states.
 #[tactic(auto, unfolding(crate::specs::Reading::header_fault, crate::specs::Reading::stated_len))]
 pub fn read_header(bytes: &[u8]) -> Result<Header, ReadFault>
     ensures fault { result_err result ≡ header_fault bytes.now }
     ensures numbers { IfOk result (HasHeader bytes.now) }
 {
-    if bytes.len() < 40 {
+    if bytes.len() < HEADER_SIZE {
         return Err(ReadFault::Truncated);
     }
     if u64_in(bytes, 0) != MAGIC {
@@ -71,6 +80,7 @@ impl Header {
     ghost use Rattle.std.specs.Prelude.{◌≡◌, ◌+◌, ◌*◌, ◌<◌, ◌^◌, ◌||◌, nat_lt};
     ghost use Rattle.span_certificate.specs.declared.edit.TheConstants.{MOST_REVISIONS};
     ghost use Rattle.image_reader.specs.declared.header.TheConstants.{MOST_POOL};
+    ghost use Rattle.image_reader.specs.declared.layout.TheConstants.{HEADER_SIZE, NODE_SIZE, REVISION_SIZE, ROW_SIZE, SOURCE_SIZE};
     ghost use Rattle.span_certificate.specs.declared.making.TheConstants.{ROWS_LIMIT};
     ghost use Rattle.rope_node.specs.declared.limits.TheConstants.{MOST_NODES, MOST_SOURCES};
 
@@ -90,13 +100,14 @@ impl Header {
     /// The length of the whole image, in bytes.
     fn stated_len(&self) -> u64
         requires { self.now.pool < 2 ^ 32 }
-        ensures { result ≡ 40 + 8 * self.now.sources + 32 * self.now.nodes
-            + 56 * self.now.revisions + 24 * self.now.rows + self.now.pool }
+        ensures { result ≡ HEADER_SIZE + SOURCE_SIZE * self.now.sources + NODE_SIZE * self.now.nodes
+            + REVISION_SIZE * self.now.revisions + ROW_SIZE * self.now.rows + self.now.pool }
     {
-        40 + 8 * self.sources as u64
-            + 32 * self.nodes as u64
-            + 56 * self.revisions as u64
-            + 24 * self.rows as u64
+        HEADER_SIZE as u64
+            + SOURCE_SIZE as u64 * self.sources as u64
+            + NODE_SIZE as u64 * self.nodes as u64
+            + REVISION_SIZE as u64 * self.revisions as u64
+            + ROW_SIZE as u64 * self.rows as u64
             + self.pool
     }
 }

@@ -13,6 +13,7 @@ ghost use Rattle.image_reader.specs.Reading.{fault_of, image_of};
 use crate::decode::{revision_in, row_in, source_in};
 use crate::fault::ReadFault;
 use crate::header::read_header;
+use crate::layout::{HEADER_SIZE, NODE_SIZE, REVISION_SIZE, ROW_SIZE, SOURCE_SIZE};
 use crate::node::{depth_in, function_in, len_in, view_in};
 use crate::number::{bytes_from, cell_at};
 use crate::revision::Revision;
@@ -40,6 +41,7 @@ impl<'a> Model for Image<'a> {
     ghost use Rattle.std.specs.Prelude.{◌≡◌, ◌*◌, length, None};
     ghost use Rattle.image_reader.specs.Value.{ImageValue, IsImage};
     ghost use Rattle.image_reader.specs.Layout.{records};
+    ghost use Rattle.image_reader.specs.declared.layout.TheConstants.{NODE_SIZE};
     ghost use Rattle.image_reader.specs.Reading.{sections_value, HasRoom, first_fault, node_record_fault};
 
     ghost Value = { ImageValue };
@@ -51,7 +53,7 @@ impl<'a> Model for Image<'a> {
         a.revision_count a.revisions.now a.row_count a.rows.now
         × IsImage (sections_value a.source_count a.sources.now a.node_count a.nodes.now
         a.revision_count a.revisions.now a.row_count a.rows.now a.pool.now)
-        × (first_fault node_record_fault (records 32 a.node_count a.nodes.now) ≡ None) };
+        × (first_fault node_record_fault (records NODE_SIZE a.node_count a.nodes.now) ≡ None) };
 }
 
 impl<'a> Image<'a> {
@@ -62,11 +64,11 @@ impl<'a> Image<'a> {
         ensures value { IfOk result (λ v. v ≡ image_of bytes.now) }
     {
         let header = read_header(bytes)?;
-        let sources = bytes_from(bytes, 40);
-        let nodes = bytes_from(sources, 8 * header.sources as usize);
-        let revisions = bytes_from(nodes, 32 * header.nodes as usize);
-        let rows = bytes_from(revisions, 56 * header.revisions as usize);
-        let pool = bytes_from(rows, 24 * header.rows as usize);
+        let sources = bytes_from(bytes, HEADER_SIZE);
+        let nodes = bytes_from(sources, SOURCE_SIZE * header.sources as usize);
+        let revisions = bytes_from(nodes, NODE_SIZE * header.nodes as usize);
+        let rows = bytes_from(revisions, REVISION_SIZE * header.revisions as usize);
+        let pool = bytes_from(rows, ROW_SIZE * header.rows as usize);
         check_sections(&header, sources, nodes, revisions, rows)?;
         Ok(Image {
             source_count: header.sources,
@@ -156,7 +158,7 @@ impl<'a> Image<'a> {
         ensures value { slice_get self.now.sources s ≡ Some result }
         ensures limit { result < TEXT_LIMIT }
     {
-        source_in(cell_at(self.sources, 8, s as usize))
+        source_in(cell_at(self.sources, SOURCE_SIZE, s as usize))
     }
 
     /// What node `id` is.
@@ -164,7 +166,7 @@ impl<'a> Image<'a> {
         requires { id.0 < length (image_table self.now).nodes }
         ensures { result ≡ view_at (image_table self.now) id.0 }
     {
-        view_in(cell_at(self.nodes, 32, id.0 as usize))
+        view_in(cell_at(self.nodes, NODE_SIZE, id.0 as usize))
     }
 
     /// The length that is recorded with node `id`, in bytes.
@@ -172,7 +174,7 @@ impl<'a> Image<'a> {
         requires { id.0 < length (image_table self.now).nodes }
         ensures { result ≡ len_at (image_table self.now) id.0 }
     {
-        len_in(cell_at(self.nodes, 32, id.0 as usize))
+        len_in(cell_at(self.nodes, NODE_SIZE, id.0 as usize))
     }
 
     /// The depth that is recorded with node `id`.
@@ -180,7 +182,7 @@ impl<'a> Image<'a> {
         requires { id.0 < length (image_table self.now).nodes }
         ensures { result ≡ depth_at (image_table self.now) id.0 }
     {
-        depth_in(cell_at(self.nodes, 32, id.0 as usize))
+        depth_in(cell_at(self.nodes, NODE_SIZE, id.0 as usize))
     }
 
     /// The function that node `id` holds.
@@ -189,7 +191,7 @@ impl<'a> Image<'a> {
         requires function { view_at (image_table self.now) id.0 ≡ Fun }
         ensures { function_at self.now id.0 ≡ Some result }
     {
-        function_in(cell_at(self.nodes, 32, id.0 as usize))
+        function_in(cell_at(self.nodes, NODE_SIZE, id.0 as usize))
     }
 
     /// Revision `k`.
@@ -198,7 +200,7 @@ impl<'a> Image<'a> {
         ensures value { slice_get self.now.revisions k ≡ Some result }
         ensures at { result ≡ revision_at self.now k }
     {
-        revision_in(cell_at(self.revisions, 56, k as usize))
+        revision_in(cell_at(self.revisions, REVISION_SIZE, k as usize))
     }
 
     /// Row `j` of all rows.
@@ -206,6 +208,6 @@ impl<'a> Image<'a> {
         requires { j < length self.now.rows }
         ensures { slice_get self.now.rows j ≡ Some result }
     {
-        row_in(cell_at(self.rows, 24, j))
+        row_in(cell_at(self.rows, ROW_SIZE, j))
     }
 }

@@ -1,11 +1,13 @@
 //! Session images, read in place: the bytes are borrowed, and no memory is taken.
 #![tactic(auto)]
 
+pub mod codes;
 mod command;
 mod decode;
 mod fault;
 mod header;
 mod image;
+mod layout;
 mod node;
 mod number;
 mod revision;
@@ -16,8 +18,9 @@ mod section;
 pub use command::Numbers;
 pub use decode::NIL_ROOT;
 pub use fault::ReadFault;
-pub use header::{MAGIC, MOST_POOL, VERSION};
+pub use header::{LONGEST_IMAGE, MAGIC, MOST_POOL, VERSION};
 pub use image::Image;
+pub use layout::{HEADER_SIZE, NODE_SIZE, REVISION_SIZE, ROW_SIZE, SOURCE_SIZE};
 pub use revision::Revision;
 pub use roots::EarlierRoots;
 pub use rows::RevisionRows;

@@ -3,16 +3,20 @@
 ghost use Rattle.std.specs.Prelude.{◌≡◌, ◌*◌, ◌≤◌, ◌<◌, ℕ, List, length, Option};
 ghost use Rattle.std.specs.Result.{result_err};
 ghost use Rattle.image_reader.specs.declared.fault.ReadFault.{ReadFault};
+ghost use Rattle.image_reader.specs.declared.layout.TheConstants.{NODE_SIZE, REVISION_SIZE, ROW_SIZE, SOURCE_SIZE};
 ghost use Rattle.image_reader.specs.Layout.{records};
 ghost use Rattle.image_reader.specs.Reading.{source_record_fault, node_record_fault, revision_record_fault, row_record_fault, first_fault, any_nonzero, unused_in_revision, unused_in_row, sections_fault};
 
+use crate::codes::{BYTES_ROW, SHARED_ROW};
 use crate::command::{edit_by, has_unused_number, numbers_in};
 use crate::decode::counted_rows;
 use crate::fault::ReadFault;
 use crate::header::Header;
+use crate::layout::{NODE_SIZE, REVISION_SIZE, ROW_SIZE, SOURCE_SIZE};
 use crate::node::{has_unused_node_field, is_unknown_node};
 use crate::number::{u8_in, u16_in, u32_in, u64_in};
 use rope_node::TEXT_LIMIT;
+use span_certificate::codes::{BALANCE, NEW};
 
 /// A kind of record.
 pub trait Records {
@@ -51,10 +55,10 @@ pub fn check_sections(
     revisions: &[u8],
     rows: &[u8],
 ) -> Result<(), ReadFault>
-    requires sources { 8 * header.now.sources ≤ length sources.now }
-    requires nodes { 32 * header.now.nodes ≤ length nodes.now }
-    requires revisions { 56 * header.now.revisions ≤ length revisions.now }
-    requires rows { 24 * header.now.rows ≤ length rows.now }
+    requires sources { SOURCE_SIZE * header.now.sources ≤ length sources.now }
+    requires nodes { NODE_SIZE * header.now.nodes ≤ length nodes.now }
+    requires revisions { REVISION_SIZE * header.now.revisions ≤ length revisions.now }
+    requires rows { ROW_SIZE * header.now.rows ≤ length rows.now }
     ensures { result_err result ≡ sections_fault header.now.sources sources.now header.now.nodes nodes.now
         header.now.revisions revisions.now header.now.rows rows.now }
 {
@@ -71,9 +75,9 @@ pub fn check_sections(
 pub struct SourceRecords;
 
 impl Records for SourceRecords {
-    const SIZE: usize = 8;
+    const SIZE: usize = SOURCE_SIZE;
 
-    ghost SIZE = { 8 };
+    ghost SIZE = { SOURCE_SIZE };
 
     ghost fault = { source_record_fault };
 
@@ -90,9 +94,9 @@ impl Records for SourceRecords {
 pub struct NodeRecords;
 
 impl Records for NodeRecords {
-    const SIZE: usize = 32;
+    const SIZE: usize = NODE_SIZE;
 
-    ghost SIZE = { 32 };
+    ghost SIZE = { NODE_SIZE };
 
     ghost fault = { node_record_fault };
 
@@ -112,16 +116,16 @@ impl Records for NodeRecords {
 pub struct RevisionRecords;
 
 impl Records for RevisionRecords {
-    const SIZE: usize = 56;
+    const SIZE: usize = REVISION_SIZE;
 
-    ghost SIZE = { 56 };
+    ghost SIZE = { REVISION_SIZE };
 
     ghost fault = { revision_record_fault };
 
     #[tactic(auto, unfolding(crate::specs::Reading::revision_record_fault))]
     fn check(bytes: &[u8]) -> Result<(), ReadFault> {
         let code = u8_in(bytes, 0);
-        if code < 1 || code > 11 || u8_in(bytes, 1) > 1 {
+        if code < NEW || code > BALANCE || u8_in(bytes, 1) > 1 {
             return Err(ReadFault::Kind);
         }
         if has_unused_revision_field(bytes) {
@@ -133,7 +137,7 @@ impl Records for RevisionRecords {
 
 /// Whether a field that this command does not use, or no revision, is not zero.
 fn has_unused_revision_field(bytes: &[u8]) -> bool
-    requires { length bytes.now ≡ 56 }
+    requires { length bytes.now ≡ REVISION_SIZE }
     ensures { result ≡ any_nonzero (unused_in_revision bytes.now) }
 {
     let numbers = numbers_in(bytes);
@@ -145,16 +149,16 @@ fn has_unused_revision_field(bytes: &[u8]) -> bool
 pub struct RowRecords;
 
 impl Records for RowRecords {
-    const SIZE: usize = 24;
+    const SIZE: usize = ROW_SIZE;
 
-    ghost SIZE = { 24 };
+    ghost SIZE = { ROW_SIZE };
 
     ghost fault = { row_record_fault };
 
     #[tactic(auto, unfolding(crate::specs::Reading::row_record_fault))]
     fn check(bytes: &[u8]) -> Result<(), ReadFault> {
         let tag = u8_in(bytes, 0);
-        if tag < 1 || tag > 3 {
+        if tag < SHARED_ROW || tag > BYTES_ROW {
             return Err(ReadFault::Kind);
         }
         if has_unused_row_field(bytes) {
@@ -166,11 +170,11 @@ impl Records for RowRecords {
 
 /// Whether a field that a row of this tag does not use, or no row, is not zero.
 fn has_unused_row_field(bytes: &[u8]) -> bool
-    requires { length bytes.now ≡ 24 }
+    requires { length bytes.now ≡ ROW_SIZE }
     ensures { result ≡ any_nonzero (unused_in_row bytes.now) }
 {
     if u8_in(bytes, 1) != 0 || u16_in(bytes, 2) != 0 {
         return true;
     }
-    u8_in(bytes, 0) != 1 && (u32_in(bytes, 4) != 0 || u64_in(bytes, 16) != 0)
+    u8_in(bytes, 0) != SHARED_ROW && (u32_in(bytes, 4) != 0 || u64_in(bytes, 16) != 0)
 }

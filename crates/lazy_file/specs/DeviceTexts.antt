@@ -23,7 +23,8 @@ abbrev pub AreBytesAt : Option (List ℕ) → ℕ → List ℕ → Type 0
 AreBytesAt text off bytes = IfSome text (λ t. bytes ≡ take (length bytes) (drop off t))
 
 -- what a device may answer to one read of it from off on, where its buffer was old and is new
-pub record ReadsAt {D E : Type 0} (stated : D → DeviceText) (failures : D → ℕ) (before after : D) (off : ℕ) (old new : List ℕ)
+pub record ReadsAt {D E : Type 0} (stated : D → DeviceText) (failures : D → ℕ) (before after : D) (off : ℕ)
+    (old new : List ℕ)
     (outcome : Result ℕ E) : Type 0 where
   pub same : stated after ≡ stated before
   pub later : failures before ≤ failures after
@@ -41,7 +42,8 @@ abbrev pub stated_by : List DeviceText → Stated
 stated_by ds = record { sizes = map (λ d. d.size) ds; texts = map source_text ds; never_fails = false }
 
 -- the outcome of reading a device from off on until the buffer was full
-pub record FillsFrom {D X : Type 0} (stated : D → DeviceText) (failures : D → ℕ) (before after : D) (off : ℕ) (buffer : List ℕ)
+pub record FillsFrom {D X : Type 0} (stated : D → DeviceText) (failures : D → ℕ) (before after : D) (off : ℕ)
+    (buffer : List ℕ)
     (outcome : Result X SourceFault) : Type 0 where
   pub same : stated after ≡ stated before
   pub later : failures before ≤ failures after
@@ -72,5 +74,6 @@ pub record ReadsSource {D X : Type 0} (stated : D → DeviceText) (failures : D 
   pub later : sum_by failures old ≤ sum_by failures new
   pub device : IsErrOf outcome Device ↔ sum_by failures old < sum_by failures new
   pub short : IsErrOf outcome Short
-      → IfSome (source_text (get_or (map stated old) s no_device)) (λ t. length t < (get_or (map stated old) s no_device).size)
+      → IfSome (source_text (get_or (map stated old) s no_device))
+      (λ t. length t < (get_or (map stated old) s no_device).size)
   pub inside : IsErrOf outcome BadSource → ⊥

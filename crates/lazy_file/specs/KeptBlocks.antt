@@ -15,11 +15,16 @@ pub record IsBlockOf (ds : List DeviceText) (key : ℕ × ℕ) (block : List ℕ
 abbrev pub AreKept : {A : Type 0} → List DeviceText → Kept A → Type 0
 AreKept {A} ds kept = (key : ℕ × ℕ) (block : Vec ℕ A) → Contains kept (key, block) → IsBlockOf ds key block.items
 
--- a part from place from on was copied out of the block under this key, if one is kept with so many bytes; no block is new
-pub record CopiesKept {A : Type 0} (old new : Kept A) (key : ℕ × ℕ) (from : ℕ) (part : List ℕ) (copied : Bool) : Type 0 where
-  pub found : IsTrue copied → (block : Vec ℕ A) × Contains old (key, block) × (part ≡ take (length part) (drop from block.items))
+-- a part from place from on was copied out of the block under this key, if one is kept with so many bytes; no block is
+-- new
+pub record CopiesKept {A : Type 0} (old new : Kept A) (key : ℕ × ℕ) (from : ℕ) (part : List ℕ) (copied : Bool)
+    : Type 0 where
+  pub found : IsTrue copied → (block : Vec ℕ A) × Contains old (key, block)
+      × (part ≡ take (length part) (drop from block.items))
   pub kept : (key : ℕ × ℕ) (block : Vec ℕ A) → Contains new (key, block) → Contains old (key, block)
 
 -- no block but this one is new
 abbrev pub KeepsOne : {A : Type 0} → Kept A → Kept A → ℕ × ℕ → Vec ℕ A → Type 0
-KeepsOne {A} old new key block = (other : ℕ × ℕ) (bytes : Vec ℕ A) → Contains new (other, bytes) → Contains old (other, bytes) ⊎ ((other ≡ key) × (bytes ≡ block))
+KeepsOne {A} old new key block =
+    (other : ℕ × ℕ) (bytes : Vec ℕ A) → Contains new (other, bytes)
+    → Contains old (other, bytes) ⊎ ((other ≡ key) × (bytes ≡ block))

@@ -24,10 +24,20 @@ abbrev pub function_of : {F : Type 0} → Record F → Option F
 function_of r = r.function
 
 abbrev pub held_of : {F : Type 0} → List (Record F) → Contents → List ℕ → Held F
-held_of records pool sources = record { nodes = map node_of records; functions = map function_of records; pool = pool; sources = sources }
+held_of records pool sources = record {
+  nodes = map node_of records;
+  functions = map function_of records;
+  pool = pool;
+  sources = sources;
+}
 
 abbrev pub table_of : {F : Type 0} → (F → ℕ → ℕ) → Held F → Table
-table_of meaning h = record { nodes = h.nodes; pool = h.pool.bytes; sources = h.sources; answer = λ id i. answer_of meaning (get_or h.functions id None) i }
+table_of meaning h = record {
+  nodes = h.nodes;
+  pool = h.pool.bytes;
+  sources = h.sources;
+  answer = λ id i. answer_of meaning (get_or h.functions id None) i;
+}
 
 -- the coded function of a node, a fill of zeros where there is none
 abbrev pub coded_at : Held Coded → ℕ → Coded
@@ -35,7 +45,12 @@ coded_at h id = or_fill (get_or h.functions id None)
 
 -- with these nodes behind the others, and this pool
 abbrev pub with_records : {F : Type 0} → Held F → Contents → List (Record F) → Held F
-with_records h pool records = record { nodes = h.nodes ++ map node_of records; functions = h.functions ++ map function_of records; pool = pool; sources = h.sources }
+with_records h pool records = record {
+  nodes = h.nodes ++ map node_of records;
+  functions = h.functions ++ map function_of records;
+  pool = pool;
+  sources = h.sources;
+}
 
 -- the functions of the older nodes are as they were
 pub record KeepsFunctions {F : Type 0} (old new : Held F) : Type 0 where
@@ -55,7 +70,8 @@ IsKeptNode pool n (Sub b i) f = f ≡ None
 pub record IsGoodNode {F : Type 0} (meaning : F → ℕ → ℕ) (h : Held F) (id : ℕ) : Type 0 where
   pub sound : IsSoundNode (table_of meaning h) id (node_at (table_of meaning h) id)
   pub true_record : IsTrueNode (table_of meaning h) (node_at (table_of meaning h) id)
-  pub kept : IsKeptNode h.pool (node_at (table_of meaning h) id).len (node_at (table_of meaning h) id).view (get_or h.functions id None)
+  pub kept : IsKeptNode h.pool (node_at (table_of meaning h) id).len (node_at (table_of meaning h) id).view
+      (get_or h.functions id None)
 
 -- what a table keeps to; each block of its pool begins before the pool's end
 pub record IsKept {F : Type 0} (meaning : F → ℕ → ℕ) (h : Held F) : Type 0 where
@@ -68,5 +84,7 @@ pub record IsKept {F : Type 0} (meaning : F → ℕ → ℕ) (h : Held F) : Type
   pub sources : (s : ℕ) → get_or h.sources s 0 < TEXT_LIMIT
 
 -- each of these nodes keeps every rule, once it stands behind the table's own
-pub record CanHold {F : Type 0} (meaning : F → ℕ → ℕ) (h : Held F) (pool : Contents) (records : List (Record F)) : Type 0 where
-  pub nodes : (id : ℕ) → length h.nodes ≤ id → id < length h.nodes + length records → IsGoodNode meaning (with_records h pool records) id
+pub record CanHold {F : Type 0} (meaning : F → ℕ → ℕ) (h : Held F) (pool : Contents) (records : List (Record F))
+    : Type 0 where
+  pub nodes : (id : ℕ) → length h.nodes ≤ id → id < length h.nodes + length records
+      → IsGoodNode meaning (with_records h pool records) id

@@ -15,17 +15,20 @@ abbrev pub last_node : {F : Type 0} → Held F → List (Record F) → NodeId
 last_node h records = record { 0 = length h.nodes + (length records - 1) }
 
 -- these bytes stand at the pool's end and the nodes behind the others, of which the last is answered
-pub record Puts {F : Type 0} (meaning : F → ℕ → ℕ) (old : Held F) (bytes : List ℕ) (records : List (Record F)) (result : Result (Option NodeId) NodeFault) (new : Held F) : Type 0 where
+pub record Puts {F : Type 0} (meaning : F → ℕ → ℕ) (old : Held F) (bytes : List ℕ) (records : List (Record F))
+    (result : Result (Option NodeId) NodeFault) (new : Held F) : Type 0 where
   pub ok : OnOk result (new ≡ with_records old (appended old.pool bytes) records)
   pub rope : IfOk result (λ rope. rope ≡ Some (last_node old records))
   pub held : IsKept meaning new
   pub table_full : IsErrOf result TableFull ↔ (MOST_NODES < length old.nodes + length records)
-  pub pool_full : IsErrOf result PoolFull ↔ ((length old.nodes + length records ≤ MOST_NODES) × (POOL_LIMIT ≤ length old.pool.bytes + length bytes))
+  pub pool_full : IsErrOf result PoolFull
+      ↔ ((length old.nodes + length records ≤ MOST_NODES) × (POOL_LIMIT ≤ length old.pool.bytes + length bytes))
   pub faults : IfErr result (λ e. (e ≡ TableFull) ⊎ ((e ≡ PoolFull) ⊎ (e ≡ Memory)))
   pub err : OnErr result (new ≡ old)
 
 -- the same where the pool's last piece grows by these bytes
-pub record PutsGrown {F : Type 0} (meaning : F → ℕ → ℕ) (old : Held F) (bytes : List ℕ) (records : List (Record F)) (result : Result (Option NodeId) NodeFault) (new : Held F) : Type 0 where
+pub record PutsGrown {F : Type 0} (meaning : F → ℕ → ℕ) (old : Held F) (bytes : List ℕ) (records : List (Record F))
+    (result : Result (Option NodeId) NodeFault) (new : Held F) : Type 0 where
   pub ok : OnOk result (new ≡ with_records old (extended old.pool bytes) records)
   pub rope : IfOk result (λ rope. rope ≡ Some (last_node old records))
   pub held : IsKept meaning new
@@ -34,7 +37,8 @@ pub record PutsGrown {F : Type 0} (meaning : F → ℕ → ℕ) (old : Held F) (
   pub err : OnErr result (new ≡ old)
 
 -- a further source of this length, whose number is answered
-pub record AddsSource {F : Type 0} (meaning : F → ℕ → ℕ) (old : Held F) (len : ℕ) (result : Result ℕ NodeFault) (new : Held F) : Type 0 where
+pub record AddsSource {F : Type 0} (meaning : F → ℕ → ℕ) (old : Held F) (len : ℕ) (result : Result ℕ NodeFault)
+    (new : Held F) : Type 0 where
   pub number : IfOk result (λ s. s ≡ length old.sources)
   pub ok : OnOk result (new ≡ record old { sources = old.sources ++ len ∷ [] })
   pub kept : Extends (table_of meaning old) (table_of meaning new)

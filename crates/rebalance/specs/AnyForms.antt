@@ -27,18 +27,21 @@ lifted (Ok a) = Ok a
 lifted (Err e) = Err (Node e)
 
 -- this is what the plain call does
-pub record IsPlain {F : Type 0} (meaning : F → ℕ → ℕ) (old : Held F) (a : Addition F) (wanted : List Cell) (IsLong : Type 0) (result : Result (Option NodeId) BalanceFault) (new : Held F) : Type 0 where
+pub record IsPlain {F : Type 0} (meaning : F → ℕ → ℕ) (old : Held F) (a : Addition F) (wanted : List Cell)
+    (IsLong : Type 0) (result : Result (Option NodeId) BalanceFault) (new : Held F) : Type 0 where
   pub plain : Result (Option NodeId) NodeFault
   pub same : result ≡ lifted plain
   pub makes : Makes meaning old a wanted plain new
   pub refuses : Refuses old a ⊥ IsLong plain
 
--- What is answered is a rope of the wanted text. Answered or refused, what was there is kept, and new are at most 2 nodes and 31
--- bytes for each of the p and q pieces, and so many nodes and bytes more, as the plain call adds.
-pub record GivesRope {F : Type 0} (meaning : F → ℕ → ℕ) (old : Held F) (wanted : List Cell) (p q more bytes : ℕ) (result : Result (Option NodeId) BalanceFault) (new : Held F) : Type 0 where
+-- What is answered is a rope of the wanted text. Answered or refused, what was there is kept, and new are at most 2
+-- nodes and 31 bytes for each of the p and q pieces, and so many nodes and bytes more, as the plain call adds.
+pub record GivesRope {F : Type 0} (meaning : F → ℕ → ℕ) (old : Held F) (wanted : List Cell) (p q more bytes : ℕ)
+    (result : Result (Option NodeId) BalanceFault) (new : Held F) : Type 0 where
   pub is_rope : IfOk result (λ r. IsRope (table_of meaning new) r)
   pub text : IfOk result (λ r. rope_cells (table_of meaning new) r ≡ wanted)
-  pub grows : Grows meaning old (length old.nodes + (2 * p + 2 * q + more)) (length old.pool.bytes + (MOST_MERGED * p + MOST_MERGED * q + bytes)) new
+  pub grows : Grows meaning old (length old.nodes + (2 * p + 2 * q + more))
+      (length old.pool.bytes + (MOST_MERGED * p + MOST_MERGED * q + bytes)) new
 
 -- what may refuse such a call after which there are at most so many nodes and bytes
 abbrev pub IsAnewFault : ℕ → ℕ → BalanceFault → Type 0
@@ -46,36 +49,42 @@ IsAnewFault nodes bytes TooManyPieces = Unit {0}
 IsAnewFault nodes bytes (Node e) = IsStepFault nodes bytes e
 
 -- the call once the ropes of p and q pieces are balanced
-pub record Anew {F : Type 0} (meaning : F → ℕ → ℕ) (old : Held F) (wanted : List Cell) (p q more bytes : ℕ) (result : Result (Option NodeId) BalanceFault) (new : Held F) : Type 0 where
+pub record Anew {F : Type 0} (meaning : F → ℕ → ℕ) (old : Held F) (wanted : List Cell) (p q more bytes : ℕ)
+    (result : Result (Option NodeId) BalanceFault) (new : Held F) : Type 0 where
   pub gives : GivesRope meaning old wanted p q more bytes result new
   pub shallow : IfOk result (λ r. IsRoughlyBalanced (table_of meaning new) r)
   pub too_many : IsErrOf result TooManyPieces ↔ ((MOST_PIECES < p) ⊎ (MOST_PIECES < q))
   pub unchanged : IsErrOf result TooManyPieces → new ≡ old
-  pub fault : IfErr result (IsAnewFault (length old.nodes + (2 * p + 2 * q + more)) (length old.pool.bytes + (MOST_MERGED * p + MOST_MERGED * q + bytes)))
+  pub fault : IfErr result (IsAnewFault (length old.nodes + (2 * p + 2 * q + more))
+      (length old.pool.bytes + (MOST_MERGED * p + MOST_MERGED * q + bytes)))
 
 -- the call where the plain one makes addition a
-pub record AnyForm {F : Type 0} (meaning : F → ℕ → ℕ) (old : Held F) (a : Addition F) (wanted : List Cell) (IsLong : Type 0) (p q more bytes : ℕ) (result : Result (Option NodeId) BalanceFault) (new : Held F) : Type 0 where
+pub record AnyForm {F : Type 0} (meaning : F → ℕ → ℕ) (old : Held F) (a : Addition F) (wanted : List Cell)
+    (IsLong : Type 0) (p q more bytes : ℕ) (result : Result (Option NodeId) BalanceFault) (new : Held F) : Type 0 where
   pub gives : GivesRope meaning old wanted p q more bytes result new
   pub as_plain : (¬ IsTooDeep a) ⊎ IsLong → IsPlain meaning old a wanted IsLong result new
   pub anew : IsTooDeep a → ¬ IsLong → Anew meaning old wanted p q more bytes result new
   pub too_long : IsErrOf result (Node TooLong) ↔ IsLong
   pub too_many : IsErrOf result TooManyPieces → IsTooDeep a × (¬ IsLong)
   pub table_full : IsErrOf result (Node TableFull) → MOST_NODES < length old.nodes + (2 * p + 2 * q + more)
-  pub pool_full : IsErrOf result (Node PoolFull) → POOL_LIMIT ≤ length old.pool.bytes + (MOST_MERGED * p + MOST_MERGED * q + bytes)
+  pub pool_full : IsErrOf result (Node PoolFull)
+      → POOL_LIMIT ≤ length old.pool.bytes + (MOST_MERGED * p + MOST_MERGED * q + bytes)
   pub not_deep : ¬ IsErrOf result (Node TooDeep)
   pub no_bad_span : ¬ IsErrOf result (Node BadSpan)
   pub no_source : ¬ IsErrOf result (Node TooManySources)
 
 -- ---- two ropes, one behind the other
 
-abbrev pub CatsAny : {F : Type 0} → (F → ℕ → ℕ) → Held F → Option NodeId → Option NodeId → Result (Option NodeId) BalanceFault → Held F → Type 0
+abbrev pub CatsAny : {F : Type 0} → (F → ℕ → ℕ) → Held F → Option NodeId → Option NodeId
+    → Result (Option NodeId) BalanceFault → Held F → Type 0
 CatsAny meaning old l r result new =
     let t = table_of meaning old in
     AnyForm meaning old (joined t l r) (rope_cells t l ++ rope_cells t r) (TEXT_LIMIT ≤ rope_len t l + rope_len t r)
     (kept_pieces t l) (kept_pieces t r) 2 MOST_MERGED result new
 
 -- the same once both are balanced
-abbrev pub CatsAnew : {F : Type 0} → (F → ℕ → ℕ) → Held F → Option NodeId → Option NodeId → Result (Option NodeId) BalanceFault → Held F → Type 0
+abbrev pub CatsAnew : {F : Type 0} → (F → ℕ → ℕ) → Held F → Option NodeId → Option NodeId
+    → Result (Option NodeId) BalanceFault → Held F → Type 0
 CatsAnew meaning old l r result new =
     let t = table_of meaning old in
     Anew meaning old (rope_cells t l ++ rope_cells t r) (kept_pieces t l) (kept_pieces t r) 2 MOST_MERGED result new
@@ -101,7 +110,8 @@ pub record IsLowest (t : Table) (x : Option NodeId) (i n : ℕ) (inner : Option 
 
 -- The plain call takes the wanted bytes of the lowest node that has all of them. Where that part is too deep they are
 -- put together alone.
-pub record PartsAny {F : Type 0} (meaning : F → ℕ → ℕ) (old : Held F) (x : Option NodeId) (i n : ℕ) (result : Result (Option NodeId) BalanceFault) (new : Held F) : Type 0 where
+pub record PartsAny {F : Type 0} (meaning : F → ℕ → ℕ) (old : Held F) (x : Option NodeId) (i n : ℕ)
+    (result : Result (Option NodeId) BalanceFault) (new : Held F) : Type 0 where
   pub inner : Option NodeId
   pub start : ℕ
   pub is_lowest : IsLowest (table_of meaning old) x i (part_count (table_of meaning old) x i n) inner start
@@ -109,7 +119,8 @@ pub record PartsAny {F : Type 0} (meaning : F → ℕ → ℕ) (old : Held F) (x
       (part_added (table_of meaning old) inner start (part_count (table_of meaning old) x i n))
       (take n (drop i (rope_cells (table_of meaning old) x))) ⊥
       (part_pieces (table_of meaning old) x i n) 0 1 0 result new
-  pub rebuilt : IsTooDeep {F = F} (part_added (table_of meaning old) inner start (part_count (table_of meaning old) x i n))
+  pub rebuilt : IsTooDeep {F = F} (part_added (table_of meaning old) inner start
+      (part_count (table_of meaning old) x i n))
       → Rebuilds meaning old (take n (drop i (rope_cells (table_of meaning old) x)))
       (part_pieces (table_of meaning old) x i n) result new
 
@@ -121,7 +132,8 @@ ropes_of (Ok p) = Ok p.0
 ropes_of (Err e) = Err e
 
 -- bytes put behind a rope once it is balanced
-abbrev pub AppendsAnew : {F : Type 0} → (F → ℕ → ℕ) → Held F → Option NodeId → List ℕ → Result (Option NodeId) BalanceFault → Held F → Type 0
+abbrev pub AppendsAnew : {F : Type 0} → (F → ℕ → ℕ) → Held F → Option NodeId → List ℕ
+    → Result (Option NodeId) BalanceFault → Held F → Type 0
 AppendsAnew meaning old x bytes result new =
     let t = table_of meaning old in
     Anew meaning old (rope_cells t x ++ map Byte bytes) (kept_pieces t x) 0 3 (length bytes + MOST_MERGED) result new
@@ -135,8 +147,10 @@ next_place pool (b ∷ bs) = length pool
 abbrev pub StandsAt : List ℕ → ℕ → List ℕ → Type 0
 StandsAt pool place bytes = slice_range pool place (place + length bytes) ≡ bytes
 
--- the plain call put the bytes behind a rope of a table that went on from the old one, and their place is where its pool ended then
-pub record IsPut {F : Type 0} (meaning : F → ℕ → ℕ) (old : Held F) (bytes : List ℕ) (p : Option NodeId × ℕ) (new : Held F) : Type 0 where
+-- the plain call put the bytes behind a rope of a table that went on from the old one, and their place is where its
+-- pool ended then
+pub record IsPut {F : Type 0} (meaning : F → ℕ → ℕ) (old : Held F) (bytes : List ℕ) (p : Option NodeId × ℕ)
+    (new : Held F) : Type 0 where
   pub before : Held F
   pub behind : Option NodeId
   pub kept : Extends (table_of meaning old) (table_of meaning before)
@@ -145,12 +159,16 @@ pub record IsPut {F : Type 0} (meaning : F → ℕ → ℕ) (old : Held F) (byte
   pub stands : StandsAt new.pool.bytes p.1 bytes
 
 -- that table is the old one, unless the plain call refuses there as too deep
-pub record IsPlaced {F : Type 0} (meaning : F → ℕ → ℕ) (old : Held F) (x : Option NodeId) (bytes : List ℕ) (p : Option NodeId × ℕ) (new : Held F) : Type 0 where
+pub record IsPlaced {F : Type 0} (meaning : F → ℕ → ℕ) (old : Held F) (x : Option NodeId) (bytes : List ℕ)
+    (p : Option NodeId × ℕ) (new : Held F) : Type 0 where
   pub put : IsPut meaning old bytes p new
   pub at_once : ¬ Appends meaning old x bytes (Err TooDeep) old → (put.before ≡ old) × (put.behind ≡ x)
 
 -- what the plain call adds, and what this one does
-pub record AppendsAny {F : Type 0} (meaning : F → ℕ → ℕ) (old : Held F) (x : Option NodeId) (bytes : List ℕ) (result : Result (Option NodeId) BalanceFault) (new : Held F) : Type 0 where
+pub record AppendsAny {F : Type 0} (meaning : F → ℕ → ℕ) (old : Held F) (x : Option NodeId) (bytes : List ℕ)
+    (result : Result (Option NodeId) BalanceFault) (new : Held F) : Type 0 where
   pub addition : Addition F
   pub is : ¬ IsTooLong (table_of meaning old) x bytes → IsAppend old.pool (table_of meaning old) x bytes addition
-  pub any : AnyForm meaning old addition (rope_cells (table_of meaning old) x ++ map Byte bytes) (IsTooLong (table_of meaning old) x bytes) (kept_pieces (table_of meaning old) x) 0 3 (length bytes + MOST_MERGED) result new
+  pub any : AnyForm meaning old addition (rope_cells (table_of meaning old) x ++ map Byte bytes)
+      (IsTooLong (table_of meaning old) x bytes) (kept_pieces (table_of meaning old) x) 0 3
+      (length bytes + MOST_MERGED) result new

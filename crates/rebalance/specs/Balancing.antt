@@ -29,7 +29,8 @@ abbrev pub IsRoughlyBalanced : Table → Option NodeId → Type 0
 IsRoughlyBalanced t rope = fibonacci (rope_depth t rope) ≤ rope_len t rope
 
 -- a shallow rope of this text is answered, put together from p pieces, or why there is none; what was there is kept
-pub record Rebuilds {F : Type 0} (meaning : F → ℕ → ℕ) (old : Held F) (wanted : List Cell) (p : ℕ) (result : Result (Option NodeId) BalanceFault) (new : Held F) : Type 0 where
+pub record Rebuilds {F : Type 0} (meaning : F → ℕ → ℕ) (old : Held F) (wanted : List Cell) (p : ℕ)
+    (result : Result (Option NodeId) BalanceFault) (new : Held F) : Type 0 where
   pub is_rope : IfOk result (λ r. IsRope (table_of meaning new) r)
   pub text : IfOk result (λ r. rope_cells (table_of meaning new) r ≡ wanted)
   pub shallow : IfOk result (λ r. IsNearlyBalanced (table_of meaning new) r)
@@ -49,39 +50,50 @@ pub record Rebuilds {F : Type 0} (meaning : F → ℕ → ℕ) (old : Held F) (w
 
 -- the rope is so many bytes of a node from start on
 abbrev pub IsPart : {F : Type 0} → (F → ℕ → ℕ) → Held F → NodeId → ℕ → ℕ → Held F → Option NodeId → Type 0
-IsPart meaning old node start len new rope = rope_cells (table_of meaning new) rope ≡ take len (drop start (cells (table_of meaning old) node.0))
+IsPart meaning old node start len new rope =
+    rope_cells (table_of meaning new) rope ≡ take len (drop start (cells (table_of meaning old) node.0))
 
 -- a step that goes through the pieces of these bytes
-abbrev pub StepsThrough : {F : Type 0} {A : Type 0} → (F → ℕ → ℕ) → Held F → Bool → NodeId → ℕ → ℕ → Result A NodeFault → Held F → Type 0
-StepsThrough meaning old keep node start len result new = AddsPieces meaning old (pieces keep (table_of meaning old) node.0 start len) result new
+abbrev pub StepsThrough : {F : Type 0} {A : Type 0} → (F → ℕ → ℕ) → Held F → Bool → NodeId → ℕ → ℕ → Result A NodeFault
+    → Held F → Type 0
+StepsThrough meaning old keep node start len result new =
+    AddsPieces meaning old (pieces keep (table_of meaning old) node.0 start len) result new
 
 -- the text of the slots, and then of a span
 abbrev pub text_with : Table → List (Option NodeId) → Span → List Cell
 text_with t slots span = slots_cells t slots ++ span_cells t span
 
 -- a step that puts a text of p pieces behind that of the slots
-pub record Fills {F : Type 0} {A : Type 0} (meaning : F → ℕ → ℕ) (old : Held F) (slots : List (Option NodeId)) (p : ℕ) (text : List Cell) (result : Result A NodeFault) (after : List (Option NodeId)) (new : Held F) : Type 0 where
-  pub steps : Steps meaning old (length old.nodes + (full_slots slots + 2 * p)) (length old.pool.bytes + MOST_MERGED * p) result new
-  pub spread : IfOk result (λ _. Spreads meaning old (full_slots slots + 2 * p) (slots_cells (table_of meaning old) slots ++ text) 0 after new None)
+pub record Fills {F : Type 0} {A : Type 0} (meaning : F → ℕ → ℕ) (old : Held F) (slots : List (Option NodeId)) (p : ℕ)
+    (text : List Cell) (result : Result A NodeFault) (after : List (Option NodeId)) (new : Held F) : Type 0 where
+  pub steps : Steps meaning old (length old.nodes + (full_slots slots + 2 * p))
+      (length old.pool.bytes + MOST_MERGED * p) result new
+  pub spread : IfOk result (λ _. Spreads meaning old (full_slots slots + 2 * p)
+      (slots_cells (table_of meaning old) slots ++ text) 0 after new None)
 
 -- and so for a span and its pieces
-abbrev pub FillsSpan : {F : Type 0} {A : Type 0} → (F → ℕ → ℕ) → Held F → Bool → List (Option NodeId) → Span → Result A NodeFault → List (Option NodeId) → Held F → Type 0
+abbrev pub FillsSpan : {F : Type 0} {A : Type 0} → (F → ℕ → ℕ) → Held F → Bool → List (Option NodeId) → Span
+    → Result A NodeFault → List (Option NodeId) → Held F → Type 0
 FillsSpan meaning old keep slots span result after new =
     let t = table_of meaning old in
     Fills meaning old slots (span_pieces keep t span) (span_cells t span) result after new
 
 -- all of a rope is put together from its pieces
-abbrev pub RebuildsRope : {F : Type 0} → (F → ℕ → ℕ) → Held F → Bool → Option NodeId → Result (Option NodeId) BalanceFault → Held F → Type 0
+abbrev pub RebuildsRope : {F : Type 0} → (F → ℕ → ℕ) → Held F → Bool → Option NodeId
+    → Result (Option NodeId) BalanceFault → Held F → Type 0
 RebuildsRope meaning old keep rope result new =
     let t = table_of meaning old in
     Rebuilds meaning old (rope_cells t rope) (all_pieces keep t rope) result new
 
 -- so many bytes of a node from start on are
-abbrev pub RebuildsPart : {F : Type 0} → (F → ℕ → ℕ) → Held F → Bool → NodeId → ℕ → ℕ → Result (Option NodeId) BalanceFault → Held F → Type 0
+abbrev pub RebuildsPart : {F : Type 0} → (F → ℕ → ℕ) → Held F → Bool → NodeId → ℕ → ℕ
+    → Result (Option NodeId) BalanceFault → Held F → Type 0
 RebuildsPart meaning old keep node start len result new =
     let t = table_of meaning old in
     Rebuilds meaning old (take len (drop start (cells t node.0))) (pieces keep t node.0 start len) result new
 
 -- a rope put together from its leaf spans
-abbrev pub Rebalances : {F : Type 0} → (F → ℕ → ℕ) → Held F → Option NodeId → Result (Option NodeId) BalanceFault → Held F → Type 0
-Rebalances meaning old rope result new = Rebuilds meaning old (rope_cells (table_of meaning old) rope) (rope_pieces (table_of meaning old) rope) result new
+abbrev pub Rebalances : {F : Type 0} → (F → ℕ → ℕ) → Held F → Option NodeId → Result (Option NodeId) BalanceFault
+    → Held F → Type 0
+Rebalances meaning old rope result new =
+    Rebuilds meaning old (rope_cells (table_of meaning old) rope) (rope_pieces (table_of meaning old) rope) result new

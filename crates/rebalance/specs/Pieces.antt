@@ -1,4 +1,5 @@
--- The pieces that a text goes through: spans of leaves and, where nodes are kept, whole nodes that are longer than their depth asks for.
+-- The pieces that a text goes through: spans of leaves and, where nodes are kept, whole nodes that are longer than
+-- their depth asks for.
 use Rattle.std.specs.Prelude.{◌≡◌, ◌⊎◌, ℕ, zero, suc, ◌+◌, ◌-◌, ◌<◌, ◌≤◌, min, Bool, true, false, ◌&&◌, nat_eq, nat_le, if◌then◌else◌, List, ◌++◌, length, map, take, drop, Option, Some, None}
 use Rattle.std.specs.List.{range_with_len}
 use Rattle.rope_node.specs.declared.node.NodeId.{NodeId}
@@ -12,8 +13,8 @@ use Rattle.rebalance.specs.declared.pieces.Split.{Split}
 use Rattle.rebalance.specs.declared.pieces.Split.TheVariants.{Piece, Base, Children}
 use Rattle.rebalance.specs.declared.pieces.TheConstants.{MOST_PIECES}
 
--- whether the n bytes of a node from i on are a piece: where nodes are kept, all of one whose length is at least the Fibonacci number
--- at its depth and three
+-- whether the n bytes of a node from i on are a piece: where nodes are kept, all of one whose length is at least the
+-- Fibonacci number at its depth and three
 abbrev pub is_kept : Bool → Table → ℕ → ℕ → ℕ → Bool
 is_kept keep t id i n = keep && (nat_eq i 0 && (nat_eq n (len_at t id) && nat_le (fibonacci (depth_at t id + 3)) n))
 
@@ -22,13 +23,15 @@ abbrev pub node_pieces : Table → (ℕ → ℕ → ℕ → ℕ) → ℕ → ℕ
 node_pieces t below i n (Lit a) = 1
 node_pieces t below i n (Src s a) = 1
 node_pieces t below i n Fun = 1
-node_pieces t below i n (Cat l r) = below l.0 i (min n (len_at t l.0 - i)) + below r.0 (i - len_at t l.0) (n - (len_at t l.0 - i))
+node_pieces t below i n (Cat l r) =
+    below l.0 i (min n (len_at t l.0 - i)) + below r.0 (i - len_at t l.0) (n - (len_at t l.0 - i))
 node_pieces t below i n (Sub b start) = below b.0 (start + i) n
 
 abbrev pub pieces_in : Bool → Table → ℕ → ℕ → ℕ → ℕ → ℕ
 pieces_in keep t zero id i n = 0
 pieces_in keep t (suc steps) id i zero = 0
-pieces_in keep t (suc steps) id i (suc n) = if is_kept keep t id i (suc n) then 1 else node_pieces t (pieces_in keep t steps) i (suc n) (view_at t id)
+pieces_in keep t (suc steps) id i (suc n) =
+    if is_kept keep t id i (suc n) then 1 else node_pieces t (pieces_in keep t steps) i (suc n) (view_at t id)
 
 abbrev pub pieces : Bool → Table → ℕ → ℕ → ℕ → ℕ
 pieces keep t id i n = pieces_in keep t (suc id) id i n

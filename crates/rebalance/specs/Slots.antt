@@ -61,15 +61,18 @@ abbrev pub joined_len : Table → Option NodeId → Option NodeId → ℕ
 joined_len t l r = rope_len t l + rope_len t r
 
 -- two ropes put together
-pub record IsJoin {F : Type 0} (meaning : F → ℕ → ℕ) (old : Held F) (l r rope : Option NodeId) (new : Held F) : Type 0 where
+pub record IsJoin {F : Type 0} (meaning : F → ℕ → ℕ) (old : Held F) (l r rope : Option NodeId) (new : Held F)
+    : Type 0 where
   pub is_rope : IsRope (table_of meaning new) rope
-  pub text : rope_cells (table_of meaning new) rope ≡ rope_cells (table_of meaning old) l ++ rope_cells (table_of meaning old) r
+  pub text : rope_cells (table_of meaning new) rope
+      ≡ rope_cells (table_of meaning old) l ++ rope_cells (table_of meaning old) r
   pub len : rope_len (table_of meaning new) rope ≡ joined_len (table_of meaning old) l r
   pub depth : rope_depth (table_of meaning new) rope ≡ joined_depth (table_of meaning old) l r
   pub nodes : length new.nodes + ropes_in rope ≡ length old.nodes + (ropes_in l + ropes_in r)
 
 -- the slots from m on, and then the rope, are this text; the nodes and the ropes are together at most so many
-pub record IsSpread (t : Table) (most : ℕ) (text : List Cell) (m : ℕ) (slots : List (Option NodeId)) (rope : Option NodeId) : Type 0 where
+pub record IsSpread (t : Table) (most : ℕ) (text : List Cell) (m : ℕ) (slots : List (Option NodeId))
+    (rope : Option NodeId) : Type 0 where
   pub are : AreSlots t slots
   pub empty : AreEmptyBelow m slots
   pub is_rope : IsRope t rope
@@ -80,18 +83,26 @@ pub record IsSpread (t : Table) (most : ℕ) (text : List Cell) (m : ℕ) (slots
 abbrev pub cells_with : Table → List (Option NodeId) → Option NodeId → List Cell
 cells_with t slots rope = slots_cells t slots ++ rope_cells t rope
 
--- the slots from m on, and then the rope, are this text once a step is done that adds at most n nodes for the slots and the rope
-abbrev pub Spreads : {F : Type 0} → (F → ℕ → ℕ) → Held F → ℕ → List Cell → ℕ → List (Option NodeId) → Held F → Option NodeId → Type 0
+-- the slots from m on, and then the rope, are this text once a step is done that adds at most n nodes for the slots and
+-- the rope
+abbrev pub Spreads : {F : Type 0} → (F → ℕ → ℕ) → Held F → ℕ → List Cell → ℕ → List (Option NodeId) → Held F
+    → Option NodeId → Type 0
 Spreads meaning old n text m slots new rope = IsSpread (table_of meaning new) (length old.nodes + n) text m slots rope
 
 -- the slots hold their text and then the rope's, and at most a node more for each of them
-abbrev pub Settles : {F : Type 0} → (F → ℕ → ℕ) → Held F → List (Option NodeId) → Option NodeId → List (Option NodeId) → Held F → Type 0
+abbrev pub Settles : {F : Type 0} → (F → ℕ → ℕ) → Held F → List (Option NodeId) → Option NodeId → List (Option NodeId)
+    → Held F → Type 0
 Settles meaning old slots carried after new =
-    Spreads meaning old (full_slots slots + ropes_in carried) (cells_with (table_of meaning old) slots carried) 0 after new None
+    Spreads meaning old (full_slots slots + ropes_in carried)
+    (cells_with (table_of meaning old) slots carried) 0 after new None
 
-abbrev pub Inserts : {F : Type 0} → (F → ℕ → ℕ) → Held F → List (Option NodeId) → Option NodeId → List (Option NodeId) → Held F → Type 0
-Inserts meaning old slots piece after new = Spreads meaning old (full_slots slots + 1) (cells_with (table_of meaning old) slots piece) 0 after new None
+abbrev pub Inserts : {F : Type 0} → (F → ℕ → ℕ) → Held F → List (Option NodeId) → Option NodeId → List (Option NodeId)
+    → Held F → Type 0
+Inserts meaning old slots piece after new =
+    Spreads meaning old (full_slots slots + 1) (cells_with (table_of meaning old) slots piece) 0 after new None
 
 -- the slots below m are joined to the rope, and the others and it hold the text of all
-abbrev pub Gathers : {F : Type 0} → (F → ℕ → ℕ) → Held F → List (Option NodeId) → ℕ → List (Option NodeId) → Held F → Option NodeId → Type 0
-Gathers meaning old slots m after new rope = Spreads meaning old (full_slots slots) (slots_cells (table_of meaning old) slots) m after new rope
+abbrev pub Gathers : {F : Type 0} → (F → ℕ → ℕ) → Held F → List (Option NodeId) → ℕ → List (Option NodeId) → Held F
+    → Option NodeId → Type 0
+Gathers meaning old slots m after new rope =
+    Spreads meaning old (full_slots slots) (slots_cells (table_of meaning old) slots) m after new rope

@@ -26,7 +26,8 @@ pub record Grows {F : Type 0} (meaning : F → ℕ → ℕ) (old : Held F) (node
   pub few_nodes : length new.nodes ≤ nodes
   pub few_bytes : length new.pool.bytes ≤ bytes
 
-pub record Steps {F : Type 0} {A : Type 0} (meaning : F → ℕ → ℕ) (old : Held F) (nodes bytes : ℕ) (result : Result A NodeFault) (new : Held F) : Type 0 where
+pub record Steps {F : Type 0} {A : Type 0} (meaning : F → ℕ → ℕ) (old : Held F) (nodes bytes : ℕ)
+    (result : Result A NodeFault) (new : Held F) : Type 0 where
   pub grows : Grows meaning old nodes bytes new
   pub fault : IfErr result (IsStepFault nodes bytes)
 
@@ -36,8 +37,10 @@ AddsNodes meaning old n result new = Steps meaning old (length old.nodes + n) (l
 
 -- a step that makes one piece: at most a node, and the bytes of a short literal
 abbrev pub AddsPiece : {F : Type 0} {A : Type 0} → (F → ℕ → ℕ) → Held F → Result A NodeFault → Held F → Type 0
-AddsPiece meaning old result new = Steps meaning old (length old.nodes + 1) (length old.pool.bytes + MOST_MERGED) result new
+AddsPiece meaning old result new =
+    Steps meaning old (length old.nodes + 1) (length old.pool.bytes + MOST_MERGED) result new
 
 -- a step that goes through p pieces
 abbrev pub AddsPieces : {F : Type 0} {A : Type 0} → (F → ℕ → ℕ) → Held F → ℕ → Result A NodeFault → Held F → Type 0
-AddsPieces meaning old p result new = Steps meaning old (length old.nodes + 2 * p) (length old.pool.bytes + MOST_MERGED * p) result new
+AddsPieces meaning old p result new =
+    Steps meaning old (length old.nodes + 2 * p) (length old.pool.bytes + MOST_MERGED * p) result new

@@ -1,4 +1,5 @@
--- The path from a node to the leaf that holds a place: how many nodes it has, and the span of the leaf that it leads to.
+-- The path from a node to the leaf that holds a place: how many nodes it has, and the span of the leaf that it leads
+-- to.
 use Rattle.std.specs.Prelude.{◌≡◌, ℕ, zero, suc, ◌+◌, ◌-◌, min, nat_lt, if◌then◌else◌, Option, Some, None}
 use Rattle.rope_node.specs.declared.node.NodeId.{NodeId}
 use Rattle.rope_node.specs.declared.node.LeafSpan.{LeafSpan}

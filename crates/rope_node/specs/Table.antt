@@ -11,7 +11,8 @@ pub record Node : Type 0 where
   pub len : ℕ
   pub depth : ℕ
 
--- the nodes in their order, the pool that literals lie in, the sources' lengths, and what the function at a node answers at a place
+-- the nodes in their order, the pool that literals lie in, the sources' lengths, and what the function at a node
+-- answers at a place
 pub record Table : Type 0 where
   pub nodes : List Node
   pub pool : List ℕ

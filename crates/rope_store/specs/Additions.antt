@@ -12,7 +12,8 @@ use Rattle.node_table.specs.declared.fault.NodeFault.{NodeFault}
 use Rattle.node_table.specs.Records.{literal_record, source_record, function_record, concatenation_record, part_record}
 use Rattle.node_table.specs.Held.{Held, table_of, with_records}
 
--- bytes for the pool's end, whether the last piece grows by them in place, nodes behind the others, and the rope that is answered
+-- bytes for the pool's end, whether the last piece grows by them in place, nodes behind the others, and the rope that
+-- is answered
 pub record Addition (F : Type 0) : Type 0 where
   pub bytes : List ℕ
   pub in_place : Bool
@@ -26,7 +27,8 @@ abbrev pub after : {F : Type 0} → Held F → Addition F → Held F
 after h a = with_records h (pool_with h.pool a.in_place a.bytes) a.records
 
 -- the call made this addition, its rope denotes these cells, and what was there is kept; or nothing changed
-pub record Makes {F : Type 0} (meaning : F → ℕ → ℕ) (old : Held F) (a : Addition F) (wanted : List Cell) (result : Result (Option NodeId) NodeFault) (new : Held F) : Type 0 where
+pub record Makes {F : Type 0} (meaning : F → ℕ → ℕ) (old : Held F) (a : Addition F) (wanted : List Cell)
+    (result : Result (Option NodeId) NodeFault) (new : Held F) : Type 0 where
   pub table : OnOk result (new ≡ after old a)
   pub rope : IfOk result (λ rope. rope ≡ a.rope)
   pub is_rope : IfOk result (λ rope. IsRope (table_of meaning new) rope)
@@ -67,7 +69,8 @@ source_added t s a (suc n) = one_node t (source_record s a (suc n))
 
 -- two nodes under one
 abbrev pub concatenated : {F : Type 0} → Table → NodeId → NodeId → Addition F
-concatenated t l r = one_node t (concatenation_record l r (len_at t l.0 + len_at t r.0) (1 + max (depth_at t l.0) (depth_at t r.0)))
+concatenated t l r =
+    one_node t (concatenation_record l r (len_at t l.0 + len_at t r.0) (1 + max (depth_at t l.0) (depth_at t r.0)))
 
 -- the n bytes of a node from i on, which are some and not all of it
 abbrev pub inner_part : {F : Type 0} → Table → NodeId → ℕ → ℕ → NodeView → Addition F
@@ -79,7 +82,8 @@ inner_part t x i n (Sub b j) = one_node t (part_record b (j + i) n (1 + depth_at
 
 abbrev pub node_part : {F : Type 0} → Table → NodeId → ℕ → ℕ → Addition F
 node_part t x i zero = nothing None
-node_part t x i (suc n) = if nat_eq (suc n) (len_at t x.0) then nothing (Some x) else inner_part t x i (suc n) (view_at t x.0)
+node_part t x i (suc n) =
+    if nat_eq (suc n) (len_at t x.0) then nothing (Some x) else inner_part t x i (suc n) (view_at t x.0)
 
 -- the bytes from i on, at most n
 abbrev pub part_added : {F : Type 0} → Table → Option NodeId → ℕ → ℕ → Addition F

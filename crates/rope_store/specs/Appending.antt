@@ -31,11 +31,17 @@ pool_piece t x = record { start = place_of (view_at t x.0); len = len_at t x.0 }
 
 -- the literal, longer by bytes that are written behind it, and behind what stands before it
 abbrev pub grown : {F : Type 0} → Table → Option NodeId → ℕ → ℕ → List ℕ → Addition F
-grown t None a n bytes = record { bytes = bytes; in_place = true; records = literal_record a (n + length bytes) ∷ []; rope = Some (new_node t 0) }
+grown t None a n bytes = record {
+  bytes = bytes;
+  in_place = true;
+  records = literal_record a (n + length bytes) ∷ [];
+  rope = Some (new_node t 0);
+}
 grown t (Some l) a n bytes = record {
   bytes = bytes;
   in_place = true;
-  records = literal_record a (n + length bytes) ∷ concatenation_record l (new_node t 0) (len_at t l.0 + (n + length bytes)) (1 + depth_at t l.0) ∷ [];
+  records = literal_record a (n + length bytes)
+      ∷ concatenation_record l (new_node t 0) (len_at t l.0 + (n + length bytes)) (1 + depth_at t l.0) ∷ [];
   rope = Some (new_node t 1);
 }
 
@@ -52,7 +58,8 @@ abbrev pub merged_after : {F : Type 0} → Table → Option NodeId → List ℕ 
 merged_after t None bytes all = record {
   bytes = bytes ++ all;
   in_place = false;
-  records = literal_record (length t.pool) (length bytes) ∷ literal_record (length t.pool + length bytes) (length all) ∷ [];
+  records = literal_record (length t.pool) (length bytes) ∷ literal_record (length t.pool + length bytes) (length all)
+      ∷ [];
   rope = Some (new_node t 1);
 }
 merged_after t (Some l) bytes all = record {
@@ -86,7 +93,8 @@ abbrev pub CannotGrow : Contents → Table → NodeId → ℕ → Type 0
 CannotGrow pool t x n = (e : Ending) → ending_of t x ≡ Some e → ¬ CanGrow pool t e n
 
 -- where the literal that the node ends with can grow, it does, and else the bytes are a literal, which merges or not
-pub record IsAppendTo {F : Type 0} (pool : Contents) (t : Table) (x : NodeId) (bytes : List ℕ) (a : Addition F) : Type 0 where
+pub record IsAppendTo {F : Type 0} (pool : Contents) (t : Table) (x : NodeId) (bytes : List ℕ) (a : Addition F)
+    : Type 0 where
   pub in_place : (e : Ending) → ending_of t x ≡ Some e → CanGrow pool t e (length bytes) → a ≡ grown_by t e bytes
   pub copied : CannotGrow pool t x (length bytes) → a ≡ copied_behind t x bytes
 
@@ -100,14 +108,16 @@ abbrev pub IsTooLong : Table → Option NodeId → List ℕ → Type 0
 IsTooLong t x bytes = (BLOCK_SIZE < length bytes) ⊎ (TEXT_LIMIT ≤ rope_len t x + length bytes)
 
 -- what a call did that puts bytes behind a rope
-pub record Appends {F : Type 0} (meaning : F → ℕ → ℕ) (old : Held F) (x : Option NodeId) (bytes : List ℕ) (result : Result (Option NodeId) NodeFault) (new : Held F) : Type 0 where
+pub record Appends {F : Type 0} (meaning : F → ℕ → ℕ) (old : Held F) (x : Option NodeId) (bytes : List ℕ)
+    (result : Result (Option NodeId) NodeFault) (new : Held F) : Type 0 where
   pub addition : Addition F
   pub is : ¬ IsTooLong (table_of meaning old) x bytes → IsAppend old.pool (table_of meaning old) x bytes addition
   pub makes : Makes meaning old addition (rope_cells (table_of meaning old) x ++ map Byte bytes) result new
   pub refuses : Refuses old addition ⊥ (IsTooLong (table_of meaning old) x bytes) result
 
 -- the same where bytes are put behind a node, and nothing is too long
-pub record AppendsTo {F : Type 0} (meaning : F → ℕ → ℕ) (old : Held F) (x : NodeId) (bytes : List ℕ) (result : Result (Option NodeId) NodeFault) (new : Held F) : Type 0 where
+pub record AppendsTo {F : Type 0} (meaning : F → ℕ → ℕ) (old : Held F) (x : NodeId) (bytes : List ℕ)
+    (result : Result (Option NodeId) NodeFault) (new : Held F) : Type 0 where
   pub addition : Addition F
   pub is : IsAppendTo old.pool (table_of meaning old) x bytes addition
   pub makes : Makes meaning old addition (cells (table_of meaning old) x.0 ++ map Byte bytes) result new

@@ -60,7 +60,8 @@ merged t None bytes = one_literal t bytes
 merged t (Some l) bytes = record {
   bytes = bytes;
   in_place = false;
-  records = literal_record (length t.pool) (length bytes) ∷ concatenation_record l (new_node t 0) (len_at t l.0 + length bytes) (1 + depth_at t l.0) ∷ [];
+  records = literal_record (length t.pool) (length bytes)
+      ∷ concatenation_record l (new_node t 0) (len_at t l.0 + length bytes) (1 + depth_at t l.0) ∷ [];
   rope = Some (new_node t 1);
 }
 

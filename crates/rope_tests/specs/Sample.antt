@@ -1,4 +1,5 @@
--- A table that the tests read: `ab` and `c` of two sources, the literal `def`, four bytes of a function, and all of them put together.
+-- A table that the tests read: `ab` and `c` of two sources, the literal `def`, four bytes of a function, and all of
+-- them put together.
 use Rattle.std.specs.Prelude.{◌%◌, ◌∷◌, [], codes}
 use Rattle.rope_node.specs.declared.node.NodeView.TheVariants.{Lit, Src, Fun, Cat}
 use Rattle.rope_node.specs.Table.{Table}

@@ -33,7 +33,8 @@ key_code Key.TooLong = codes "K1"
 key_code (Key.Edit f) = edit_code f
 key_code (Key.Source f) = source_fault_code f
 
--- the session, each revision's prior or none, the place, the mark, the cut spans, the latest first, and why the last key was refused
+-- the session, each revision's prior or none, the place, the mark, the cut spans, the latest first, and why the last
+-- key was refused
 pub record Editing : Type 0 where
   pub session : SessionValue
   pub priors : List (Option ℕ)
@@ -49,7 +50,14 @@ pub record EditorValue (R : Type 0) : Type 0 where
 
 -- the machine's state, where source gives each source's bytes
 abbrev pub state_of : (ℕ → ℕ → ℕ) → Editing → EditorState
-state_of source e = record { texts = texts_of source e.session; priors = e.priors; place = e.place; mark = e.mark; cuts = e.cuts; message = option_map key_code e.message }
+state_of source e = record {
+  texts = texts_of source e.session;
+  priors = e.priors;
+  place = e.place;
+  mark = e.mark;
+  cuts = e.cuts;
+  message = option_map key_code e.message;
+}
 
 -- ---- the current text: its revision, root, length and cells
 
@@ -77,8 +85,8 @@ pub record IsCutSpan (v : SessionValue) (c : CutSpan) : Type 0 where
   pub inside : c.start + c.len ≤ length_at v c.revision
   pub some : 1 ≤ c.len
 
--- There is a revision, each has its prior, and each text is short enough; the place and the mark lie in the current text, and the cut
--- spans in theirs.
+-- There is a revision, each has its prior, and each text is short enough; the place and the mark lie in the current
+-- text, and the cut spans in theirs.
 pub record IsEditing (e : Editing) : Type 0 where
   pub session : IsSession e.session
   pub some : 1 ≤ length e.session.revisions

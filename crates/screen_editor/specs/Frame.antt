@@ -26,7 +26,9 @@ glyph b = if nat_le 0x20 b && nat_le b 0x7E then b else 0x3F
 
 -- row k of the screen
 abbrev pub row_of : List ℕ → ℕ → ℕ → List ℕ
-row_of t p k = map glyph (take SCREEN_COLUMNS (drop (first_column t p) (get_or (slice_split is_break t) (first_line t p + k) []))) ++ 0x0D ∷ 0x0A ∷ []
+row_of t p k =
+    map glyph (take SCREEN_COLUMNS (drop (first_column t p) (get_or (slice_split is_break t) (first_line t p + k) [])))
+    ++ 0x0D ∷ 0x0A ∷ []
 
 abbrev pub rows_of_text : List ℕ → ℕ → List ℕ
 rows_of_text t p = flat_map (row_of t p) (range_with_len 0 SCREEN_ROWS)
@@ -37,14 +39,18 @@ message_of (Some m) = codes " " ++ m
 
 -- revision k, the place in a text of n bytes, and the message
 abbrev pub status_of : ℕ → ℕ → ℕ → Option (List ℕ) → List ℕ
-status_of k p n message = codes "rev " ++ decimal k ++ codes " byte " ++ decimal p ++ codes " of " ++ decimal n ++ message_of message
+status_of k p n message =
+    codes "rev " ++ decimal k ++ codes " byte " ++ decimal p ++ codes " of " ++ decimal n ++ message_of message
 
 abbrev pub cursor_of : List ℕ → ℕ → List ℕ
-cursor_of t p = control (decimal (line_of t p - first_line t p + 1) ++ codes ";" ++ decimal (column t p - first_column t p + 1) ++ codes "H")
+cursor_of t p =
+    control (decimal (line_of t p - first_line t p + 1) ++ codes ";" ++ decimal
+    (column t p - first_column t p + 1) ++ codes "H")
 
 -- the screen for place p of text t, the text of revision k
 abbrev pub screen_of : List ℕ → ℕ → ℕ → Option (List ℕ) → List ℕ
-screen_of t p k message = control (codes "2J") ++ control (codes "H") ++ rows_of_text t p ++ status_of k p (length t) message ++ cursor_of t p
+screen_of t p k message =
+    control (codes "2J") ++ control (codes "H") ++ rows_of_text t p ++ status_of k p (length t) message ++ cursor_of t p
 
 abbrev pub frame_of : EditorState → List ℕ
 frame_of s = screen_of (current s) s.place (last_revision s) s.message

@@ -39,10 +39,13 @@ FindsLinePlace st key e (Some p) = IsLinePlace st key e p
 
 -- what a key does, whatever bytes the sources have that agree with what they state
 abbrev pub DoesStated : Stated → Key → Editing → Editing → Type 0
-DoesStated st key old new = (source : ℕ → ℕ → ℕ) → Agrees st source → (IsTrue (looks_for_lines key) → EachCurrent old (IsStated st)) → state_of source new ≡ done key (state_of source old)
+DoesStated st key old new =
+    (source : ℕ → ℕ → ℕ) → Agrees st source → (IsTrue (looks_for_lines key) → EachCurrent old (IsStated st))
+    → state_of source new ≡ done key (state_of source old)
 
 -- what a key does to all but the message
-pub record Takes {T : Type 0} (stated : T → Stated) (failures : T → ℕ) (key : Key) (before : T) (old : Editing) (result : Result (Unit {0}) KeyFault) (now : T) (new : Editing) : Type 0 where
+pub record Takes {T : Type 0} (stated : T → Stated) (failures : T → ℕ) (key : Key) (before : T) (old : Editing)
+    (result : Result (Unit {0}) KeyFault) (now : T) (new : Editing) : Type 0 where
   pub done : OnOk result (DoesStated (stated before) key old new)
   pub command : OnOk result (AppliesCommand key old new.session)
   pub moves : OnOk result (IsTrue (looks_for_lines key) → new ≡ record old { place = new.place })

@@ -24,7 +24,14 @@ edited s p m x q = revised s (replaced (current s) p m x) (Some (last_revision s
 
 -- the bytes from a up to b join the cut spans, the oldest of 16 falling out, and are deleted
 abbrev pub cut_out : EditorState → ℕ → ℕ → EditorState
-cut_out s a b = edited (record s { cuts = take MOST_CUTS (record { revision = last_revision s; start = a; len = b - a } ∷ s.cuts) }) a (b - a) [] a
+cut_out s a b =
+    edited (record s {
+      cuts = take MOST_CUTS (record {
+        revision = last_revision s;
+        start = a;
+        len = b - a;
+      } ∷ s.cuts);
+    }) a (b - a) [] a
 
 abbrev pub cut_to : Option ℕ → EditorState → EditorState
 cut_to None s = s
@@ -75,7 +82,9 @@ refused code s = record s { message = Some code }
 
 abbrev pub cutting : Option ℕ → EditorState → Option Edit
 cutting None s = None
-cutting (Some m) s = if m == s.place then None else Some (Recorded.Delete (last_revision s) (min m s.place) (max m s.place - min m s.place))
+cutting (Some m) s =
+    if m == s.place then None else Some (Recorded.Delete (last_revision s) (min m s.place)
+    (max m s.place - min m s.place))
 
 abbrev pub pasting : List CutSpan → EditorState → Option Edit
 pasting [] s = None
@@ -84,7 +93,8 @@ pasting (c ∷ cs) s = Some (Recorded.Paste (last_revision s) s.place c.revision
 abbrev pub edit_of : ℕ → Key → EditorState → Option Edit
 edit_of a (Typed b) s = Some (Recorded.Insert (last_revision s) s.place a 1)
 edit_of a EraseBefore s = if nat_lt 0 s.place then Some (Recorded.Delete (last_revision s) (s.place - 1) 1) else None
-edit_of a EraseAt s = if nat_lt s.place (length (current s)) then Some (Recorded.Delete (last_revision s) s.place 1) else None
+edit_of a EraseAt s =
+    if nat_lt s.place (length (current s)) then Some (Recorded.Delete (last_revision s) s.place 1) else None
 edit_of a Cut s = cutting s.mark s
 edit_of a Paste s = pasting s.cuts s
 edit_of a Undo s = option_map Recorded.Back (prior_of s (last_revision s))

@@ -29,7 +29,8 @@ use Rattle.screen_editor.specs.State.{current}
 
 -- the key makes a revision
 abbrev pub MakesRevision : Key → Editing → Type 0
-MakesRevision key e = (source : ℕ → ℕ → ℕ) → length (step key (state_of source e)).texts ≡ length e.session.revisions + 1
+MakesRevision key e =
+    (source : ℕ → ℕ → ℕ) → length (step key (state_of source e)).texts ≡ length e.session.revisions + 1
 
 -- the text that a key would give has too many bytes
 abbrev pub GrowsTooLong : Key → Editing → Type 0
@@ -42,7 +43,8 @@ pub record WasRefused (key : Key) (old : Editing) (fault : EditFault) (new : Edi
   pub edit : (source : ℕ → ℕ → ℕ) → edit_of place key (state_of source old) ≡ Some (edit_with place command)
   pub met : IsLaterFault old.session.held old.session.revisions command fault new.session.held
 
--- there are too many revisions, the session's call met a limit, or memory was refused, to it or to the new revision's prior
+-- there are too many revisions, the session's call met a limit, or memory was refused, to it or to the new revision's
+-- prior
 abbrev pub IsEditFault : Key → Editing → EditFault → Editing → Type 0
 IsEditFault key old Edit.TooManyRevisions new = MOST_REVISIONS ≤ length old.session.revisions
 IsEditFault key old Edit.Memory new = Unit {0}
@@ -62,11 +64,13 @@ IsKeyFault stated failures before now key old fault new = IsPlainFault key old f
 
 -- a source's fault is one at these cells
 abbrev pub IsFrameFaultAt : {T : Type 0} → (T → Stated) → (T → ℕ) → T → T → (ℕ → Cell) → ℕ → FrameFault → Type 0
-IsFrameFaultAt stated failures old new cell len (Frame.Source fault) = IsFaultIn stated failures old new cell 0 len fault
+IsFrameFaultAt stated failures old new cell len (Frame.Source fault) =
+    IsFaultIn stated failures old new cell 0 len fault
 IsFrameFaultAt stated failures old new cell len Frame.Memory = Unit {0}
 
 abbrev pub IsFrameFault : {T : Type 0} → (T → Stated) → (T → ℕ) → T → T → Editing → FrameFault → Type 0
-IsFrameFault stated failures before now e fault = IsFrameFaultAt stated failures before now (current_cell e) (current_len e) fault
+IsFrameFault stated failures before now e fault =
+    IsFrameFaultAt stated failures before now (current_cell e) (current_len e) fault
 
 -- what a call that may read these cells, and takes memory, does to the sources, and when it fails
 pub record ReadsToShow {T X : Type 0} (stated : T → Stated) (failures : T → ℕ) (old new : T) (cell : ℕ → Cell) (len : ℕ)

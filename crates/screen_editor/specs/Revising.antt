@@ -39,31 +39,36 @@ pub data AppliesCommand (key : Key) (old : Editing) (new : SessionValue) : Type 
 -- looks for line breaks, where each cell of the text is stated; in any case such a key moves the place alone. The
 -- session applies the key's command.
 pub record IsStep (st : Stated) (key : Key) (old new : Editing) : Type 0 where
-  pub state : (source : ℕ → ℕ → ℕ) → Agrees st source → (IsTrue (looks_for_lines key) → EachCurrent old (IsStated st)) → state_of source new ≡ step key (state_of source old)
+  pub state : (source : ℕ → ℕ → ℕ) → Agrees st source → (IsTrue (looks_for_lines key) → EachCurrent old (IsStated st))
+      → state_of source new ≡ step key (state_of source old)
   pub command : AppliesCommand key old new.session
   pub moves : IsTrue (looks_for_lines key) → new ≡ record old { place = new.place; message = None }
 
--- The message alone is new, whatever bytes the sources have. The session may have nodes and bytes more, to which nothing refers.
+-- The message alone is new, whatever bytes the sources have. The session may have nodes and bytes more, to which
+-- nothing refers.
 pub record IsRefusedBy (fault : KeyFault) (old new : Editing) : Type 0 where
   pub state : (source : ℕ → ℕ → ℕ) → state_of source new ≡ refused (key_code fault) (state_of source old)
   pub keeps : Keeps old.session new.session
   pub revisions : new.session.revisions ≡ old.session.revisions
   pub rest : new ≡ record old { session = new.session; message = Some fault }
 
--- A key is taken, as the machine says, or refused. It is too long exactly where its text would be; else, where there are too many
--- revisions, that or want of memory is told; a source's fault is told only where a read of it failed, and of no text that can be read.
--- Where one more read has failed, it is the device's fault that is told.
-pub record TakesKey {T : Type 0} (stated : T → Stated) (failures : T → ℕ) (key : Key) (old : EditorValue T) (result : Result Step KeyFault) (new : EditorValue T) : Type 0 where
+-- A key is taken, as the machine says, or refused. It is too long exactly where its text would be; else, where there
+-- are too many revisions, that or want of memory is told; a source's fault is told only where a read of it failed, and
+-- of no text that can be read. Where one more read has failed, it is the device's fault that is told.
+pub record TakesKey {T : Type 0} (stated : T → Stated) (failures : T → ℕ) (key : Key) (old : EditorValue T)
+    (result : Result Step KeyFault) (new : EditorValue T) : Type 0 where
   pub step : OnOk result (IsStep (stated old.sources) key old.editing new.editing)
   pub answer : IfOk result (λ a. a ≡ answer_to key)
   pub refused : IfErr result (λ f. IsRefusedBy f old.editing new.editing)
   pub too_long : IsErrOf result Fault.TooLong ↔ GrowsTooLong key old.editing
-  pub too_many : MakesRevision key old.editing → ¬ IsErrOf result Fault.TooLong → MOST_REVISIONS ≤ length old.editing.session.revisions
+  pub too_many : MakesRevision key old.editing → ¬ IsErrOf result Fault.TooLong
+      → MOST_REVISIONS ≤ length old.editing.session.revisions
       → IsErrOf result (Fault.Edit Edit.TooManyRevisions) ⊎ IsErrOf result (Fault.Edit Edit.Memory)
   pub fault : IfErr result (λ f. IsKeyFault stated failures old.sources new.sources key old.editing f new.editing)
   pub told : TellsAs failures old.sources new.sources (Fault.Source Device) result
   pub reads : Reads stated failures old.sources new.sources
-  pub succeeds : EachCurrent old.editing (IsReadable (stated old.sources)) → (f : SourceFault) → ¬ IsErrOf result (Fault.Source f)
+  pub succeeds : EachCurrent old.editing (IsReadable (stated old.sources)) → (f : SourceFault)
+      → ¬ IsErrOf result (Fault.Source f)
 
 -- ---- a revision more
 

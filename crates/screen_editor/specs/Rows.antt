@@ -40,7 +40,8 @@ pub record IsAbove (t : List ℕ) (start top row : ℕ) : Type 0 where
   pub begins : IsLineStart t start → IsLineStart t top
   pub lines : IsLineStart t start → line_of t start ≡ line_of t top + row
 
--- Where the first line begins, how many lines are between it and that of place p, and how far p is behind its line's start.
+-- Where the first line begins, how many lines are between it and that of place p, and how far p is behind its line's
+-- start.
 pub record IsWindow (t : List ℕ) (p top above behind : ℕ) : Type 0 where
   pub lines : slice_split is_break (drop top t) ≡ drop (first_line t p) (slice_split is_break t)
   pub row : above ≡ line_of t p - first_line t p

@@ -24,17 +24,21 @@ use Rattle.byte_output.specs.Prefix.{AppendsPrefix}
 use Rattle.screen_editor.specs.Frame.{frame_of}
 use Rattle.screen_editor.specs.Refusals.{IsFrameFault}
 
--- the bytes that show it, whatever bytes the sources have that agree with what they state, where each cell of the text is stated
+-- the bytes that show it, whatever bytes the sources have that agree with what they state, where each cell of the text
+-- is stated
 abbrev pub IsFrame : Stated → Editing → List ℕ → Type 0
-IsFrame st e bytes = (source : ℕ → ℕ → ℕ) → Agrees st source → EachCurrent e (IsStated st) → bytes ≡ frame_of (state_of source e)
+IsFrame st e bytes =
+    (source : ℕ → ℕ → ℕ) → Agrees st source → EachCurrent e (IsStated st) → bytes ≡ frame_of (state_of source e)
 
 -- a frame is made, or a source's read failed, or memory was refused; where one more read has failed, the device's
 -- fault is told; nothing but the sources changes
-pub record MakesFrame {T : Type 0} (stated : T → Stated) (failures : T → ℕ) (old : EditorValue T) (result : Result (Vec ℕ) FrameFault) (new : EditorValue T) : Type 0 where
+pub record MakesFrame {T : Type 0} (stated : T → Stated) (failures : T → ℕ) (old : EditorValue T)
+    (result : Result (Vec ℕ) FrameFault) (new : EditorValue T) : Type 0 where
   pub bytes : IfOk result (λ v. IsFrame (stated old.sources) old.editing v.items)
   pub fault : IfErr result (IsFrameFault stated failures old.sources new.sources old.editing)
   pub told : TellsAs failures old.sources new.sources (Frames.Source Device) result
-  pub succeeds : EachCurrent old.editing (IsReadable (stated old.sources)) → (f : SourceFault) → ¬ IsErrOf result (Frames.Source f)
+  pub succeeds : EachCurrent old.editing (IsReadable (stated old.sources)) → (f : SourceFault)
+      → ¬ IsErrOf result (Frames.Source f)
   pub reads : Reads stated failures old.sources new.sources
   pub kept : new.editing ≡ old.editing
 
@@ -62,9 +66,11 @@ Follow {T} stated failures first last old (b ∷ bs) (e ∷ es) =
 abbrev pub frames_of : (ℕ → ℕ → ℕ) → List Editing → List ℕ
 frames_of source es = flat_map (λ e. frame_of (state_of source e)) es
 
--- P holds of the frames of these states, whatever bytes the sources have that agree with what they state, where each text is stated
+-- P holds of the frames of these states, whatever bytes the sources have that agree with what they state, where each
+-- text is stated
 abbrev pub OfFrames : Stated → List Editing → (List ℕ → Type 0) → Type 0
-OfFrames st es P = (source : ℕ → ℕ → ℕ) → Agrees st source → All (λ e. EachCurrent e (IsStated st)) es → P (frames_of source es)
+OfFrames st es P =
+    (source : ℕ → ℕ → ℕ) → Agrees st source → All (λ e. EachCurrent e (IsStated st)) es → P (frames_of source es)
 
 abbrev pub Shows : Stated → Option (List ℕ) → Option (List ℕ) → List Editing → Type 0
 Shows st before now es = OfFrames st es (Appends before now)
@@ -88,16 +94,20 @@ pub record EndsBy (answer : Step) (keys : List ℕ) : Type 0 where
   pub answers : answer_to (key_of last) ≡ answer
   pub on : GoesOn before
 
--- what is answered once these keys are taken, with the states before them and behind each of them, and what is then shown
-abbrev pub Answers : Stated → Option (List ℕ) → Option (List ℕ) → Option (List ℕ) → List ℕ → List Editing → Result End RunFault → Type 0
-Answers st left before now keys states (Ok Save) = EndsBy Step.Save keys × Shows st before now (take (length keys) states)
+-- what is answered once these keys are taken, with the states before them and behind each of them, and what is then
+-- shown
+abbrev pub Answers : Stated → Option (List ℕ) → Option (List ℕ) → Option (List ℕ) → List ℕ → List Editing
+    → Result End RunFault → Type 0
+Answers st left before now keys states (Ok Save) =
+    EndsBy Step.Save keys × Shows st before now (take (length keys) states)
 Answers st left before now keys states (Ok Leave) =
     (EndsBy Step.Leave keys × Shows st before now (take (length keys) states))
     ⊎ (MayGoOn keys × IsAtEnd left × Shows st before now states)
 Answers st left before now keys states (Err Read) = MayGoOn keys × Shows st before now states
 Answers st left before now keys states (Err Write) = MayGoOn keys × ShowsPrefix st before now states
 Answers st left before now keys states (Err (Frame f)) = MayGoOn keys × Shows st before now (take (length keys) states)
-Answers st left before now keys states (Err TooManyKeys) = GoesOn keys × (length keys ≡ MOST_KEYS) × Shows st before now (take (length keys) states)
+Answers st left before now keys states (Err TooManyKeys) =
+    GoesOn keys × (length keys ≡ MOST_KEYS) × Shows st before now (take (length keys) states)
 
 -- behind the last key, over these sources: there is no frame, for this reason; or no read fails
 abbrev pub EndsOver : {T : Type 0} → (T → Stated) → (T → ℕ) → T → Result End RunFault → EditorValue T → Type 0

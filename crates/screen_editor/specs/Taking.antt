@@ -19,7 +19,8 @@ use Rattle.screen_editor.specs.Revising.{AppliesCommand, Does, KeepsAll, Revises
 abbrev pub IsInOrder : SessionValue → Command → Type 0
 IsInOrder v (Insert r p bytes) = (r < length v.revisions) × (p ≤ length_at v r) × (length bytes.now ≡ 1)
 IsInOrder v (Delete r p n) = (r < length v.revisions) × (p + n ≤ length_at v r)
-IsInOrder v (Paste r p q i n) = (r < length v.revisions) × (p ≤ length_at v r) × (q < length v.revisions) × (i + n ≤ length_at v q)
+IsInOrder v (Paste r p q i n) =
+    (r < length v.revisions) × (p ≤ length_at v r) × (q < length v.revisions) × (i + n ≤ length_at v q)
 IsInOrder v (Back r) = r < length v.revisions
 IsInOrder v (Balance r) = r < length v.revisions
 IsInOrder v _ = ⊥
@@ -28,14 +29,17 @@ IsInOrder v _ = ⊥
 abbrev pub IsReviseFault : Command → Editing → KeyFault → Editing → Type 0
 IsReviseFault command old (Fault.Edit Edit.TooManyRevisions) new = MOST_REVISIONS ≤ length old.session.revisions
 IsReviseFault command old (Fault.Edit Edit.Memory) new = Unit {0}
-IsReviseFault command old (Fault.Edit fault) new = IsLaterFault old.session.held old.session.revisions command fault new.session.held
+IsReviseFault command old (Fault.Edit fault) new =
+    IsLaterFault old.session.held old.session.revisions command fault new.session.held
 IsReviseFault command old _ new = ⊥
 
 -- one revision more, or a refusal that keeps all
-pub record RevisesOrNot (command : Command) (prior : Option ℕ) (q : ℕ) (old : Editing) (result : Result (Unit {0}) KeyFault) (new : Editing) : Type 0 where
+pub record RevisesOrNot (command : Command) (prior : Option ℕ) (q : ℕ) (old : Editing)
+    (result : Result (Unit {0}) KeyFault) (new : Editing) : Type 0 where
   pub revises : OnOk result (Revises command prior q old new)
   pub kept : OnErr result (KeepsAll old new)
-  pub too_many : MOST_REVISIONS ≤ length old.session.revisions → IsErrOf result (Fault.Edit Edit.TooManyRevisions) ⊎ IsErrOf result (Fault.Edit Edit.Memory)
+  pub too_many : MOST_REVISIONS ≤ length old.session.revisions
+      → IsErrOf result (Fault.Edit Edit.TooManyRevisions) ⊎ IsErrOf result (Fault.Edit Edit.Memory)
   pub fault : IfErr result (λ f. IsReviseFault command old f new)
 
 -- ---- a key

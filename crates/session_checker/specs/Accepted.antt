@@ -48,7 +48,8 @@ pub record Accepts (r : Result ImageValue CheckFault) (v : ImageValue) : Type 0 
   pub ok : r ≡ Ok v
 
 -- the bytes spell an image in which this fault is the first
-pub record IsRefused {T : Type 0} (stated : T → Stated) (failures : T → ℕ) (old new : T) (bytes : List ℕ) (f : CheckFault) : Type 0 where
+pub record IsRefused {T : Type 0} (stated : T → Stated) (failures : T → ℕ) (old new : T) (bytes : List ℕ)
+    (f : CheckFault) : Type 0 where
   pub v : ImageValue
   pub image : IsImage v
   pub spelled : bytes ≡ spelling v
@@ -61,7 +62,8 @@ IsFirstFault stated failures old new bytes f =
     ((e : ReadFault) × (fault_of bytes ≡ Some e) × (f ≡ Read e)) ⊎ IsRefused stated failures old new bytes f
 
 -- what keeps the rules is accepted, and all else is refused by its first fault
-pub record AnswersExactly {T : Type 0} (stated : T → Stated) (failures : T → ℕ) (old new : T) (bytes : List ℕ) (r : Result ImageValue CheckFault) : Type 0 where
+pub record AnswersExactly {T : Type 0} (stated : T → Stated) (failures : T → ℕ) (old new : T) (bytes : List ℕ)
+    (r : Result ImageValue CheckFault) : Type 0 where
   pub accepts : IsAccepted bytes (stated old) → IsOk r
   pub refuses : (f : CheckFault) → IsFirstFault stated failures old new bytes f → r ≡ Err f
 

@@ -71,7 +71,8 @@ pub record HasTrueRecordsOf (v : ImageValue) : Type 0 where
   pub sound : IsSound (image_table v)
   -- each recorded length and depth is its node's
   pub true_records : HasTrueRecords (image_table v)
-  pub lengths : (id : ℕ) → id < length (image_table v).nodes → length (cells (image_table v) id) ≡ len_at (image_table v) id
+  pub lengths : (id : ℕ) → id < length (image_table v).nodes
+      → length (cells (image_table v) id) ≡ len_at (image_table v) id
   -- each root is nil or a node
   pub roots : (k : ℕ) → k < length v.revisions → IsRope (image_table v) (revision_at v k).root
   -- each marked root is balanced

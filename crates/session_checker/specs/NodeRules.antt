@@ -25,7 +25,9 @@ abbrev pub Breaks : Table → ℕ → Node → NodeRule → Type 0
 Breaks t id n Reference = ¬ HasGoodReferences t id n.view
 Breaks t id n Length = HasGoodReferences t id n.view × ¬ HasGoodLength t n.len n.view
 Breaks t id n Depth = HasGoodReferences t id n.view × HasGoodLength t n.len n.view × ¬ HasGoodDepth t n.depth n.view
-Breaks t id n Span = HasGoodReferences t id n.view × HasGoodLength t n.len n.view × HasGoodDepth t n.depth n.view × ¬ HasSpanInside t n.len n.view
+Breaks t id n Span =
+    HasGoodReferences t id n.view × HasGoodLength t n.len n.view × HasGoodDepth t n.depth n.view
+    × ¬ HasSpanInside t n.len n.view
 
 abbrev pub BreaksFirst : Table → ℕ → NodeRule → Type 0
 BreaksFirst t id rule = Breaks t id (node_at t id) rule

@@ -1,4 +1,5 @@
--- Which rule a revision breaks first, in the order of the rules, and when a source's fault keeps its rows from being compared.
+-- Which rule a revision breaks first, in the order of the rules, and when a source's fault keeps its rows from being
+-- compared.
 use Rattle.std.specs.Prelude.{◌≡◌, ◌⊎◌, ℕ, ◌+◌, ◌<◌, length}
 use Rattle.lazy_file.specs.SourceTexts.{Agrees, Stated}
 use Rattle.lazy_file.specs.declared.faults.SourceFault.{SourceFault}
@@ -52,7 +53,8 @@ HasRootOfParts v k = HasGoodRoot (image_table v) (revision_at v k).root (parts_l
 abbrev pub BreaksRule : ImageValue → ℕ → CheckFault → Type 0
 BreaksRule v k (Command x) = (x ≡ k) × ¬ IsCommandInRange v k
 BreaksRule v k (Root x) = (x ≡ k) × IsCommandInRange v k × ¬ HasRootOfParts v k
-BreaksRule v k (Mark x) = (x ≡ k) × IsCommandInRange v k × HasRootOfParts v k × ¬ HasGoodMark (image_table v) (revision_at v k)
+BreaksRule v k (Mark x) =
+    (x ≡ k) × IsCommandInRange v k × HasRootOfParts v k × ¬ HasGoodMark (image_table v) (revision_at v k)
 BreaksRule v k other = ⊥
 
 -- j is the first row of revision k that does not fit, over any bytes that agree with what the sources state, where
@@ -63,8 +65,10 @@ IsFirstBadRow v st k j =
     → IsFirstBad (image_table v) (coded_at v) source (parts_at v k) (revision_at v k).root (rows_at v k) j
 
 -- a read for a row of bytes of revision k failed so, and the rows before it fit
-pub record IsUnread {T : Type 0} (stated : T → Stated) (failures : T → ℕ) (old new : T) (v : ImageValue) (k : ℕ) (fault : SourceFault) : Type 0 where
-  pub failed : IsVerdictFault stated failures old new (image_table v) (coded_at v) (parts_at v k) (revision_at v k).root (rows_at v k) fault
+pub record IsUnread {T : Type 0} (stated : T → Stated) (failures : T → ℕ) (old new : T) (v : ImageValue) (k : ℕ)
+    (fault : SourceFault) : Type 0 where
+  pub failed : IsVerdictFault stated failures old new (image_table v) (coded_at v) (parts_at v k) (revision_at v k).root
+      (rows_at v k) fault
   pub unreadable : ¬ HasReadableRows v (stated old) k
 
 -- what is wrong with the rows of revision k
@@ -78,7 +82,8 @@ abbrev pub BreaksAt : {T : Type 0} → (T → Stated) → (T → ℕ) → T → 
 BreaksAt stated failures old new v k f = BreaksRule v k f ⊎ (KeepsRules v k × BreaksRows stated failures old new v k f)
 
 -- the first revision that breaks a rule, and the first rule that it breaks
-pub record IsFirstRevisionFault {T : Type 0} (stated : T → Stated) (failures : T → ℕ) (old new : T) (v : ImageValue) (f : CheckFault) : Type 0 where
+pub record IsFirstRevisionFault {T : Type 0} (stated : T → Stated) (failures : T → ℕ) (old new : T) (v : ImageValue)
+    (f : CheckFault) : Type 0 where
   pub k : ℕ
   pub there : k < length v.revisions
   pub earlier : (c : ℕ) → c < k → IsGoodOver v (stated old) c

@@ -13,4 +13,5 @@ pub record IsFirstOtherLength (lengths sizes : List ℕ) (s : ℕ) : Type 0 wher
 -- there are more or fewer of them, or else one is not as long as the image says, this one first
 pub data IsFirstSourceFault (v : ImageValue) (sizes : List ℕ) : CheckFault → Type 0 where
   count : {f : CheckFault} → ¬ (length v.sources ≡ length sizes) → f ≡ SourceCount → IsFirstSourceFault v sizes f
-  other_length : {f : CheckFault} (s : ℕ) → length v.sources ≡ length sizes → IsFirstOtherLength v.sources sizes s → f ≡ SourceLength s → IsFirstSourceFault v sizes f
+  other_length : {f : CheckFault} (s : ℕ) → length v.sources ≡ length sizes → IsFirstOtherLength v.sources sizes s
+      → f ≡ SourceLength s → IsFirstSourceFault v sizes f

@@ -22,7 +22,9 @@ use Rattle.image_reader.specs.Accepted.{IsAlwaysAccepted, revision_at, parts_at,
 
 -- each node with its function, where it is one
 abbrev pub nodes_of : Held Coded → List ImageNode
-nodes_of h = map (λ id. record { node = get_or h.nodes id no_node; function = get_or h.functions id None }) (range_with_len 0 (length h.nodes))
+nodes_of h =
+    map (λ id. record { node = get_or h.nodes id no_node; function = get_or h.functions id None })
+    (range_with_len 0 (length h.nodes))
 
 -- a revision with the number of its rows
 abbrev pub recorded_revision : Kept.Revision → Revision
@@ -75,8 +77,10 @@ pub record Writes (old new : Option (List ℕ)) (bytes : List ℕ) (result : Res
   pub ok : OnOk result (Appends old new bytes)
   pub err : OnErr result (AppendsPrefix old new bytes)
 
--- Whatever bytes its sources hold, the image satisfies the rules of acceptance with sources of the session's number and lengths, and
--- no row that compares bytes is over a source.
+-- Whatever bytes its sources hold, the image satisfies the rules of acceptance with sources of the session's number and
+-- lengths, and no row that compares bytes is over a source.
 pub record IsTrusted (v : SessionValue) : Type 0 where
   pub accepted : IsAlwaysAccepted (image_of v) v.held.sources
-  pub no_source : (k : ℕ) → k < length v.revisions → MeetsNoSource (image_table (image_of v)) (parts_at (image_of v) k) (revision_at (image_of v) k).root (rows_at (image_of v) k)
+  pub no_source : (k : ℕ) → k < length v.revisions
+      → MeetsNoSource (image_table (image_of v)) (parts_at (image_of v) k) (revision_at (image_of v) k).root
+      (rows_at (image_of v) k)

@@ -10,6 +10,9 @@ ghost use Rattle.session_image.specs.Written.{FitsHeld};
 
 use crate::record::Record;
 use function_leaf::{Coded, PATTERN_LIMIT};
+use image_reader::codes::{
+    CONCATENATION, CYCLE, FILL, FUNCTION, LITERAL, RAMP, SOURCE_SPAN, SUBSTRING,
+};
 use rope_node::NodeView;
 
 /// The record of a span of the pool, of a source or of another node: `kind` says of which, and `x` is its number.
@@ -33,7 +36,7 @@ fn concatenation_record(depth: u8, len: u64, l: u32, r: u32) -> Record
     ensures { result ≡ spelled concatenation_layout (concatenation_numbers depth len l r) }
 {
     let mut record = Record::new();
-    record.push_u8(4);
+    record.push_u8(CONCATENATION);
     record.push_u8(depth);
     record.push_u8(0);
     record.push_u8(0);
@@ -51,7 +54,7 @@ fn function_fields(depth: u8, len: u64, code: u8, size: u8) -> Record
     ensures len { length result ≡ 16 }
 {
     let mut record = Record::new();
-    record.push_u8(3);
+    record.push_u8(FUNCTION);
     record.push_u8(depth);
     record.push_u8(code);
     record.push_u8(size);
@@ -79,11 +82,11 @@ fn function_record(depth: u8, len: u64, function: Coded) -> Record
     ensures fits { FitsFunction function }
 {
     match function {
-        Coded::Fill(byte) => padded_record(depth, len, 1, 0, &[byte]),
-        Coded::Ramp(byte) => padded_record(depth, len, 2, 0, &[byte]),
+        Coded::Fill(byte) => padded_record(depth, len, FILL, 0, &[byte]),
+        Coded::Ramp(byte) => padded_record(depth, len, RAMP, 0, &[byte]),
         Coded::Cycle(pattern) => {
             let bytes = pattern.as_slice();
-            padded_record(depth, len, 3, bytes.len() as u8, bytes)
+            padded_record(depth, len, CYCLE, bytes.len() as u8, bytes)
         }
     }
 }
@@ -95,13 +98,13 @@ pub(crate) fn node_record(view: NodeView, len: u64, depth: u8, function: Option<
     ensures fits { FitsHeld view function }
 {
     match view {
-        NodeView::Lit { a } => span_record(1, depth, 0, len, a),
-        NodeView::Src { s, a } => span_record(2, depth, s, len, a),
+        NodeView::Lit { a } => span_record(LITERAL, depth, 0, len, a),
+        NodeView::Src { s, a } => span_record(SOURCE_SPAN, depth, s, len, a),
         NodeView::Fun => match function {
             None => Record::new(),
             Some(function) => function_record(depth, len, function),
         },
         NodeView::Cat { l, r } => concatenation_record(depth, len, l.0, r.0),
-        NodeView::Sub { b, i } => span_record(5, depth, b.0, len, i),
+        NodeView::Sub { b, i } => span_record(SUBSTRING, depth, b.0, len, i),
     }
 }

@@ -3,10 +3,11 @@
 ghost use Rattle.std.specs.Prelude.{◌≡◌, ◌+◌, ◌≤◌, ◌++◌, [], length};
 ghost use Rattle.std.specs.Int.{w8, w16, w32, w64, to_be_bytes};
 
+use image_reader::REVISION_SIZE;
 use std::marker::Model;
 
 /// The bytes of the longest record, a revision's.
-pub const LONGEST: usize = 56;
+pub const LONGEST: usize = REVISION_SIZE;
 
 /// A record's first fields.
 #[derive(Drop)]

@@ -8,8 +8,12 @@ ghost use Rattle.image_reader.specs.Value.{FitsRow};
 ghost use Rattle.span_certificate.specs.Fields.{recorded, FitsRecord};
 
 use crate::record::Record;
+use image_reader::codes::{BYTES_ROW, LEAF_ROW, SHARED_ROW};
 use image_reader::{MAGIC, NIL_ROOT, Numbers, Revision, VERSION};
 use rope_node::Rope;
+use span_certificate::codes::{
+    BACK, BALANCE, CUT, DELETE, FILL, INSERT, JOIN, NEW, OPEN, PASTE, REPLACE,
+};
 use span_certificate::{Edit, Row, RowKind};
 
 /// How many of each an image has.
@@ -53,17 +57,17 @@ fn code_of(edit: Edit) -> u8
     ensures { result ≡ (recorded edit).code }
 {
     match edit {
-        Edit::New => 1,
-        Edit::Open { .. } => 2,
-        Edit::Insert { .. } => 3,
-        Edit::Delete { .. } => 4,
-        Edit::Replace { .. } => 5,
-        Edit::Paste { .. } => 6,
-        Edit::Join { .. } => 7,
-        Edit::Cut { .. } => 8,
-        Edit::Fill { .. } => 9,
-        Edit::Back { .. } => 10,
-        Edit::Balance { .. } => 11,
+        Edit::New => NEW,
+        Edit::Open { .. } => OPEN,
+        Edit::Insert { .. } => INSERT,
+        Edit::Delete { .. } => DELETE,
+        Edit::Replace { .. } => REPLACE,
+        Edit::Paste { .. } => PASTE,
+        Edit::Join { .. } => JOIN,
+        Edit::Cut { .. } => CUT,
+        Edit::Fill { .. } => FILL,
+        Edit::Back { .. } => BACK,
+        Edit::Balance { .. } => BALANCE,
     }
 }
 
@@ -184,8 +188,8 @@ pub(crate) fn row_record(row: Row) -> Record
     ensures fits { FitsRow row }
 {
     match row.kind {
-        RowKind::Shared(node, start) => row_fields(1, node.0, row.len, start),
-        RowKind::Leaf => row_fields(2, 0, row.len, 0),
-        RowKind::Bytes => row_fields(3, 0, row.len, 0),
+        RowKind::Shared(node, start) => row_fields(SHARED_ROW, node.0, row.len, start),
+        RowKind::Leaf => row_fields(LEAF_ROW, 0, row.len, 0),
+        RowKind::Bytes => row_fields(BYTES_ROW, 0, row.len, 0),
     }
 }

@@ -30,17 +30,23 @@ place_of rows j = rows_len (take j rows)
 
 -- n bytes of two parts lead to leaf spans of one description
 abbrev pub HaveOneDescription : Table → (ℕ → Coded) → ℕ → Part → ℕ → Part → ℕ → Type 0
-HaveOneDescription t coded n part off other place = (d : Description) × PartHasDescription t coded n part off d × PartHasDescription t coded n other place d
+HaveOneDescription t coded n part off other place =
+    (d : Description) × PartHasDescription t coded n part off d × PartHasDescription t coded n other place d
 
--- The n bytes of the part from off on and those of the root from place on are the same by what the kind of row says. The
--- sources' bytes are those that source gives.
+-- The n bytes of the part from off on and those of the root from place on are the same by what the kind of row says.
+-- The sources' bytes are those that source gives.
 abbrev pub KindFits : Table → (ℕ → Coded) → (ℕ → ℕ → ℕ) → ℕ → Part → ℕ → Option NodeId → ℕ → RowKind → Type 0
-KindFits t coded source n part off root place (Shared k o) = PartLeads t n k.0 o part off × RopeLeads t n k.0 o root place
-KindFits t coded source n part off root place Leaf = (d : Description) × PartHasDescription t coded n part off d × RopeHasDescription t coded n root place d
-KindFits t coded source n part off root place Bytes = (n ≤ BYTES_LIMIT) × (text source (take n (drop off (part_cells t part))) ≡ text source (take n (drop place (rope_cells t root))))
+KindFits t coded source n part off root place (Shared k o) =
+    PartLeads t n k.0 o part off × RopeLeads t n k.0 o root place
+KindFits t coded source n part off root place Leaf =
+    (d : Description) × PartHasDescription t coded n part off d × RopeHasDescription t coded n root place d
+KindFits t coded source n part off root place Bytes =
+    (n ≤ BYTES_LIMIT) × (text source (take n (drop off (part_cells t part)))
+    ≡ text source (take n (drop place (rope_cells t root))))
 
 -- a row that stands at place is not empty, lies inside one part and inside the root, and fits by its kind
-pub record Fits (t : Table) (coded : ℕ → Coded) (source : ℕ → ℕ → ℕ) (parts : List Part) (root : Option NodeId) (place : ℕ) (row : Row) : Type 0 where
+pub record Fits (t : Table) (coded : ℕ → Coded) (source : ℕ → ℕ → ℕ) (parts : List Part) (root : Option NodeId)
+    (place : ℕ) (row : Row) : Type 0 where
   pub part : Part
   pub off : ℕ
   pub at_part : part_at parts place ≡ Some (part, off)
@@ -49,7 +55,8 @@ pub record Fits (t : Table) (coded : ℕ → Coded) (source : ℕ → ℕ → �
   pub inside_root : place + row.len ≤ rope_len t root
   pub kind : KindFits t coded source row.len part off root place row.kind
 
-pub record Covers (t : Table) (coded : ℕ → Coded) (source : ℕ → ℕ → ℕ) (parts : List Part) (root : Option NodeId) (rows : List Row) : Type 0 where
+pub record Covers (t : Table) (coded : ℕ → Coded) (source : ℕ → ℕ → ℕ) (parts : List Part) (root : Option NodeId)
+    (rows : List Row) : Type 0 where
   pub fit : (j : ℕ) → j < length rows → Fits t coded source parts root (place_of rows j) (row_at rows j)
   pub whole_root : rows_len rows ≡ rope_len t root
   pub whole_parts : rows_len rows ≡ parts_len parts
@@ -59,7 +66,8 @@ abbrev pub CoversAlways : Table → (ℕ → Coded) → List Part → Option Nod
 CoversAlways t coded parts root rows = (source : ℕ → ℕ → ℕ) → Covers t coded source parts root rows
 
 -- j is the first row that does not fit, or the number of rows where they leave something uncovered
-pub record IsFirstBad (t : Table) (coded : ℕ → Coded) (source : ℕ → ℕ → ℕ) (parts : List Part) (root : Option NodeId) (rows : List Row) (j : ℕ) : Type 0 where
+pub record IsFirstBad (t : Table) (coded : ℕ → Coded) (source : ℕ → ℕ → ℕ) (parts : List Part) (root : Option NodeId)
+    (rows : List Row) (j : ℕ) : Type 0 where
   pub before : (i : ℕ) → i < j → Fits t coded source parts root (place_of rows i) (row_at rows i)
   pub at_most : j ≤ length rows
   pub unfit : j < length rows → ¬ Fits t coded source parts root (place_of rows j) (row_at rows j)
@@ -73,14 +81,17 @@ compared Bytes cells others = cells ++ others
 
 -- for a row of the part from off on, and for one that stands at place of the parts joined
 abbrev pub kind_compares : Table → Part → ℕ → Option NodeId → ℕ → Row → List Cell
-kind_compares t part off root place row = compared row.kind (take row.len (drop off (part_cells t part))) (take row.len (drop place (rope_cells t root)))
+kind_compares t part off root place row =
+    compared row.kind (take row.len (drop off (part_cells t part))) (take row.len (drop place (rope_cells t root)))
 
 abbrev pub row_compares : Table → List Part → Option NodeId → ℕ → Row → List Cell
-row_compares t parts root place row = compared row.kind (take row.len (drop place (parts_cells t parts))) (take row.len (drop place (rope_cells t root)))
+row_compares t parts root place row =
+    compared row.kind (take row.len (drop place (parts_cells t parts))) (take row.len (drop place (rope_cells t root)))
 
 -- each row compares only such cells
 abbrev pub ComparesOnly : (Cell → Type 0) → Table → List Part → Option NodeId → List Row → Type 0
-ComparesOnly P t parts root rows = (j : ℕ) → j < length rows → All P (row_compares t parts root (place_of rows j) (row_at rows j))
+ComparesOnly P t parts root rows =
+    (j : ℕ) → j < length rows → All P (row_compares t parts root (place_of rows j) (row_at rows j))
 
 -- a cell that is a byte, and no place of a source
 abbrev pub IsByte : Cell → Type 0
@@ -92,11 +103,14 @@ abbrev pub MeetsNoSource : Table → List Part → Option NodeId → List Row �
 MeetsNoSource t parts root rows = ComparesOnly IsByte t parts root rows
 
 -- rows for the first bytes of the parts and of the root, over any sources
-pub record AreMade (t : Table) (coded : ℕ → Coded) (parts : List Part) (root : Option NodeId) (rows : List Row) : Type 0 where
-  pub fit : (source : ℕ → ℕ → ℕ) (j : ℕ) → j < length rows → Fits t coded source parts root (place_of rows j) (row_at rows j)
+pub record AreMade (t : Table) (coded : ℕ → Coded) (parts : List Part) (root : Option NodeId) (rows : List Row)
+    : Type 0 where
+  pub fit : (source : ℕ → ℕ → ℕ) (j : ℕ) → j < length rows
+      → Fits t coded source parts root (place_of rows j) (row_at rows j)
   pub no_source : MeetsNoSource t parts root rows
   pub in_root : rows_len rows ≤ rope_len t root
 
 -- as many rows as there may be, and text is left
 abbrev pub IsCutShort : Table → (ℕ → Coded) → List Part → Option NodeId → Type 0
-IsCutShort t coded parts root = (rows : List Row) × AreMade t coded parts root rows × (length rows ≡ ROWS_LIMIT) × (rows_len rows < rope_len t root)
+IsCutShort t coded parts root =
+    (rows : List Row) × AreMade t coded parts root rows × (length rows ≡ ROWS_LIMIT) × (rows_len rows < rope_len t root)

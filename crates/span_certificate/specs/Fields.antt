@@ -1,6 +1,7 @@
 -- How a revision's record holds its command: a code, and the numbers that a command of this code uses.
 use Rattle.std.specs.Prelude.{ℕ, ◌^◌, ◌<◌, Bool, false, not, ◌||◌, ◌==◌, nat_lt, List, [], ◌∷◌, map, filter, get_or, if◌then◌else◌}
 use Rattle.std.specs.List.{AllByRecursion}
+use Rattle.span_certificate.specs.declared.codes.TheConstants.{BACK, BALANCE, CUT, DELETE, FILL, INSERT, JOIN, NEW, OPEN, PASTE, REPLACE}
 use Rattle.span_certificate.specs.declared.edit.Edit.{Edit}
 use Rattle.span_certificate.specs.declared.edit.Edit.TheVariants.{New, Open, Insert, Delete, Replace, Paste, Join, Cut, Fill, Back, Balance}
 
@@ -36,20 +37,17 @@ pub record Recorded : Type 0 where
 
 -- what each command is recorded as
 abbrev pub recorded : Edit → Recorded
-recorded New = record { code = 1; uses = [] }
-recorded (Open s) = record { code = 2; uses = (Q, s) ∷ [] }
-recorded (Insert r p a n) = record { code = 3; uses = (R, r) ∷ (P, p) ∷ (A, a) ∷ (N, n) ∷ [] }
-recorded (Delete r p n) = record { code = 4; uses = (R, r) ∷ (P, p) ∷ (N, n) ∷ [] }
-recorded (Replace r p m a n) = record { code = 5; uses = (R, r) ∷ (P, p) ∷ (M, m) ∷ (A, a) ∷ (N, n) ∷ [] }
-recorded (Paste r p q i n) = record { code = 6; uses = (R, r) ∷ (Q, q) ∷ (P, p) ∷ (A, i) ∷ (N, n) ∷ [] }
-recorded (Join r q) = record { code = 7; uses = (R, r) ∷ (Q, q) ∷ [] }
-recorded (Cut r i n) = record { code = 8; uses = (R, r) ∷ (A, i) ∷ (N, n) ∷ [] }
-recorded (Fill r p c n) = record { code = 9; uses = (R, r) ∷ (P, p) ∷ (A, c) ∷ (N, n) ∷ [] }
-recorded (Back r) = record { code = 10; uses = (R, r) ∷ [] }
-recorded (Balance r) = record { code = 11; uses = (R, r) ∷ [] }
-
-abbrev pub last_code : ℕ
-last_code = 11
+recorded New = record { code = NEW; uses = [] }
+recorded (Open s) = record { code = OPEN; uses = (Q, s) ∷ [] }
+recorded (Insert r p a n) = record { code = INSERT; uses = (R, r) ∷ (P, p) ∷ (A, a) ∷ (N, n) ∷ [] }
+recorded (Delete r p n) = record { code = DELETE; uses = (R, r) ∷ (P, p) ∷ (N, n) ∷ [] }
+recorded (Replace r p m a n) = record { code = REPLACE; uses = (R, r) ∷ (P, p) ∷ (M, m) ∷ (A, a) ∷ (N, n) ∷ [] }
+recorded (Paste r p q i n) = record { code = PASTE; uses = (R, r) ∷ (Q, q) ∷ (P, p) ∷ (A, i) ∷ (N, n) ∷ [] }
+recorded (Join r q) = record { code = JOIN; uses = (R, r) ∷ (Q, q) ∷ [] }
+recorded (Cut r i n) = record { code = CUT; uses = (R, r) ∷ (A, i) ∷ (N, n) ∷ [] }
+recorded (Fill r p c n) = record { code = FILL; uses = (R, r) ∷ (P, p) ∷ (A, c) ∷ (N, n) ∷ [] }
+recorded (Back r) = record { code = BACK; uses = (R, r) ∷ [] }
+recorded (Balance r) = record { code = BALANCE; uses = (R, r) ∷ [] }
 
 -- the command of each code, over what the fields hold; none has code 0
 abbrev pub edits : (Field → ℕ) → List Edit

@@ -15,11 +15,14 @@ use Rattle.span_certificate.specs.declared.describe.Description.TheVariants.{Poo
 use Rattle.span_certificate.specs.declared.part.Part.{Part}
 use Rattle.span_certificate.specs.declared.part.Part.TheVariants.{Old, Pool, Source, Fill}
 
--- The span of n bytes of node x from p on leads to offset o of node k: it stands there; or it lies in one child of a concatenation, or in the base of a substring, and that span leads there.
+-- The span of n bytes of node x from p on leads to offset o of node k: it stands there; or it lies in one child of a
+-- concatenation, or in the base of a substring, and that span leads there.
 pub data Leads (t : Table) (n k o : ℕ) : ℕ → ℕ → Type 0 where
   here : {x p : ℕ} → x ≡ k → p ≡ o → Leads t n k o x p
-  in_left : {x p : ℕ} (l r : NodeId) → view_at t x ≡ Cat l r → p + n ≤ len_at t l.0 → Leads t n k o l.0 p → Leads t n k o x p
-  in_right : {x p : ℕ} (l r : NodeId) → view_at t x ≡ Cat l r → len_at t l.0 ≤ p → Leads t n k o r.0 (p - len_at t l.0) → Leads t n k o x p
+  in_left : {x p : ℕ} (l r : NodeId) → view_at t x ≡ Cat l r → p + n ≤ len_at t l.0 → Leads t n k o l.0 p
+      → Leads t n k o x p
+  in_right : {x p : ℕ} (l r : NodeId) → view_at t x ≡ Cat l r → len_at t l.0 ≤ p → Leads t n k o r.0 (p - len_at t l.0)
+      → Leads t n k o x p
   in_base : {x p : ℕ} (b : NodeId) (i : ℕ) → view_at t x ≡ Sub b i → Leads t n k o b.0 (p + i) → Leads t n k o x p
 
 abbrev pub LeadsToLeaf : Table → ℕ → ℕ → ℕ → ℕ → ℕ → Type 0
@@ -36,7 +39,8 @@ PartLeads t n k o (Pool a m) off = ⊥
 PartLeads t n k o (Source s m) off = ⊥
 PartLeads t n k o (Fill c m) off = ⊥
 
--- What a function is from its place o on: a fill its byte, a ramp one that begins with the byte there, a cycle its pattern from the place in it.
+-- What a function is from its place o on: a fill its byte, a ramp one that begins with the byte there, a cycle its
+-- pattern from the place in it.
 abbrev pub coded_description : ℕ → Coded → Description
 coded_description o (Function.Fill c) = Computed (Function.Fill c) 0
 coded_description o (Function.Ramp c) = Computed (Function.Ramp ((c + o) % 256)) 0
@@ -52,7 +56,8 @@ leaf_description f o (Sub b i) = None
 
 -- the span of n bytes of node x from p on leads to a leaf span of this description
 abbrev pub HasDescription : Table → (ℕ → Coded) → ℕ → ℕ → ℕ → Description → Type 0
-HasDescription t coded n x p d = (k : ℕ) × (o : ℕ) × LeadsToLeaf t n k o x p × (leaf_description (coded k) o (view_at t k) ≡ Some d)
+HasDescription t coded n x p d =
+    (k : ℕ) × (o : ℕ) × LeadsToLeaf t n k o x p × (leaf_description (coded k) o (view_at t k) ≡ Some d)
 
 -- the same of a rope
 abbrev pub RopeHasDescription : Table → (ℕ → Coded) → ℕ → Option NodeId → ℕ → Description → Type 0

@@ -69,17 +69,22 @@ terms_of t roots Command.New = []
 terms_of t roots (Command.Open s) = Source s (get_or t.sources s 0) ∷ []
 terms_of t roots (Command.Insert r p a n) = front (root_at roots r) p ∷ Pool a n ∷ rest t (root_at roots r) p ∷ []
 terms_of t roots (Command.Delete r p n) = front (root_at roots r) p ∷ rest t (root_at roots r) (p + n) ∷ []
-terms_of t roots (Command.Replace r p m a n) = front (root_at roots r) p ∷ Pool a n ∷ rest t (root_at roots r) (p + m) ∷ []
-terms_of t roots (Command.Paste r p q i n) = front (root_at roots r) p ∷ Old (root_at roots q) i n ∷ rest t (root_at roots r) p ∷ []
+terms_of t roots (Command.Replace r p m a n) =
+    front (root_at roots r) p ∷ Pool a n ∷ rest t (root_at roots r) (p + m) ∷ []
+terms_of t roots (Command.Paste r p q i n) =
+    front (root_at roots r) p ∷ Old (root_at roots q) i n ∷ rest t (root_at roots r) p ∷ []
 terms_of t roots (Command.Join r q) = whole t (root_at roots r) ∷ whole t (root_at roots q) ∷ []
 terms_of t roots (Command.Cut r i n) = Old (root_at roots r) i n ∷ []
 terms_of t roots (Command.Fill r p c n) = front (root_at roots r) p ∷ Fill c n ∷ rest t (root_at roots r) p ∷ []
 terms_of t roots (Command.Back r) = whole t (root_at roots r) ∷ []
 terms_of t roots (Command.Balance r) = whole t (root_at roots r) ∷ []
 
+abbrev pub nonempty : List Part → List Part
+nonempty parts = filter (λ part. nat_lt 0 (part_len part)) parts
+
 -- the parts of a command: its terms that are not empty
 abbrev pub parts_of : Table → List (Option NodeId) → Edit → List Part
-parts_of t roots edit = filter (λ part. nat_lt 0 (part_len part)) (terms_of t roots edit)
+parts_of t roots edit = nonempty (terms_of t roots edit)
 
 abbrev pub AreRopes : Table → List (Option NodeId) → Type 0
 AreRopes t roots = (r : ℕ) → r < length roots → IsRope t (root_at roots r)
@@ -92,16 +97,28 @@ len_of t roots r = rope_len t (root_at roots r)
 abbrev pub IsInRange : Table → List (Option NodeId) → Edit → Type 0
 IsInRange t roots Command.New = Unit {0}
 IsInRange t roots (Command.Open s) = s < length t.sources
-IsInRange t roots (Command.Insert r p a n) = (r < length roots) × (p ≤ len_of t roots r) × (1 ≤ n) × (a + n ≤ length t.pool) × (len_of t roots r + n < TEXT_LIMIT)
+IsInRange t roots (Command.Insert r p a n) =
+    (r < length roots) × (p ≤ len_of t roots r) × (1 ≤ n) × (a + n ≤ length t.pool)
+    × (len_of t roots r + n < TEXT_LIMIT)
 IsInRange t roots (Command.Delete r p n) = (r < length roots) × (p + n ≤ len_of t roots r)
-IsInRange t roots (Command.Replace r p m a n) = (r < length roots) × (p + m ≤ len_of t roots r) × (1 ≤ n) × (a + n ≤ length t.pool) × (len_of t roots r + n < TEXT_LIMIT + m)
-IsInRange t roots (Command.Paste r p q i n) = (r < length roots) × (p ≤ len_of t roots r) × (q < length roots) × (i + n ≤ len_of t roots q) × (len_of t roots r + n < TEXT_LIMIT)
-IsInRange t roots (Command.Join r q) = (r < length roots) × (q < length roots) × (len_of t roots r + len_of t roots q < TEXT_LIMIT)
+IsInRange t roots (Command.Replace r p m a n) =
+    (r < length roots) × (p + m ≤ len_of t roots r) × (1 ≤ n) × (a + n ≤ length t.pool)
+    × (len_of t roots r + n < TEXT_LIMIT + m)
+IsInRange t roots (Command.Paste r p q i n) =
+    (r < length roots) × (p ≤ len_of t roots r) × (q < length roots) × (i + n ≤ len_of t roots q)
+    × (len_of t roots r + n < TEXT_LIMIT)
+IsInRange t roots (Command.Join r q) =
+    (r < length roots) × (q < length roots) × (len_of t roots r + len_of t roots q < TEXT_LIMIT)
 IsInRange t roots (Command.Cut r i n) = (r < length roots) × (i + n ≤ len_of t roots r)
-IsInRange t roots (Command.Fill r p c n) = (r < length roots) × (p ≤ len_of t roots r) × (c ≤ 255) × (len_of t roots r + n < TEXT_LIMIT)
+IsInRange t roots (Command.Fill r p c n) =
+    (r < length roots) × (p ≤ len_of t roots r) × (c ≤ 255) × (len_of t roots r + n < TEXT_LIMIT)
 IsInRange t roots (Command.Back r) = r < length roots
 IsInRange t roots (Command.Balance r) = r < length roots
 
 -- what a command takes its cells from
 abbrev pub givens_of : Table → Givens Cell
-givens_of t = record { pool = map Byte t.pool; sources = map (λ s. map (Place s) (range_with_len 0 (get_or t.sources s 0))) (range_with_len 0 (length t.sources)); byte = Byte }
+givens_of t = record {
+  pool = map Byte t.pool;
+  sources = map (λ s. map (Place s) (range_with_len 0 (get_or t.sources s 0))) (range_with_len 0 (length t.sources));
+  byte = Byte;
+}

@@ -57,10 +57,12 @@ child_span t x Fun = None
 child_span t x (Cat l r) = Some (cat_span t x l r)
 child_span t x (Sub b i) = Some (record { node = b; start = x.start + i; len = x.len })
 
--- spans x and y have the same first n bytes by what the kind of row says, over any sources; and a row of bytes is over bytes alone
+-- spans x and y have the same first n bytes by what the kind of row says, over any sources; and a row of bytes is over
+-- bytes alone
 abbrev pub SpansFit : Table → (ℕ → Coded) → Span → Span → ℕ → RowKind → Type 0
 SpansFit t coded x y n (Shared k o) = Leads t n k.0 o x.node.0 x.start × Leads t n k.0 o y.node.0 y.start
-SpansFit t coded x y n Leaf = (d : Description) × HasDescription t coded n x.node.0 x.start d × HasDescription t coded n y.node.0 y.start d
+SpansFit t coded x y n Leaf =
+    (d : Description) × HasDescription t coded n x.node.0 x.start d × HasDescription t coded n y.node.0 y.start d
 SpansFit t coded x y n Bytes = (n ≤ BYTES_LIMIT) × AreBytes (take n (drop y.start (cells t y.node.0)))
 
 -- a row for the first bytes of both
@@ -86,8 +88,10 @@ pub record IsDescribedRow (t : Table) (coded : ℕ → Coded) (d : Description) 
   pub few : row.len ≤ y.len
   pub fits : DescribedFits t coded d y row.len row.kind
 
--- a row for the first of the bytes of the part from off on and of the root from place on, over any sources; and a row of bytes is over bytes alone
-pub record IsNext (t : Table) (coded : ℕ → Coded) (part : Part) (off : ℕ) (root : NodeId) (place left : ℕ) (row : Row) : Type 0 where
+-- a row for the first of the bytes of the part from off on and of the root from place on, over any sources; and a row
+-- of bytes is over bytes alone
+pub record IsNext (t : Table) (coded : ℕ → Coded) (part : Part) (off : ℕ) (root : NodeId) (place left : ℕ) (row : Row)
+    : Type 0 where
   pub some : 1 ≤ row.len
   pub few : row.len ≤ left
   pub fits : (source : ℕ → ℕ → ℕ) → KindFits t coded source row.len part off (Some root) place row.kind

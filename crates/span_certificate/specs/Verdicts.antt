@@ -27,7 +27,8 @@ TellsKind t coded st part off root place row answer =
 -- the same of a row
 abbrev pub TellsRow : Table → (ℕ → Coded) → Stated → List Part → Option NodeId → ℕ → Row → Bool → Type 0
 TellsRow t coded st parts root place row answer =
-    (source : ℕ → ℕ → ℕ) → Agrees st source → AreStated st (row_compares t parts root place row) → IsTrue answer ↔ Fits t coded source parts root place row
+    (source : ℕ → ℕ → ℕ) → Agrees st source → AreStated st (row_compares t parts root place row)
+    → IsTrue answer ↔ Fits t coded source parts root place row
 
 -- each row of bytes is over cells that the sources state, or that no read of fails
 abbrev pub AreStatedRows : Table → Stated → List Part → Option NodeId → List Row → Type 0
@@ -37,7 +38,8 @@ abbrev pub AreReadableRows : Table → Stated → List Part → Option NodeId �
 AreReadableRows t st parts root rows = ComparesOnly (IsReadable st) t parts root rows
 
 -- an answer over these bytes of the sources: Good exactly where the rows cover, Bad j exactly for the first bad row
-pub record IsVerdict (t : Table) (coded : ℕ → Coded) (source : ℕ → ℕ → ℕ) (parts : List Part) (root : Option NodeId) (rows : List Row) (v : Verdict) : Type 0 where
+pub record IsVerdict (t : Table) (coded : ℕ → Coded) (source : ℕ → ℕ → ℕ) (parts : List Part) (root : Option NodeId)
+    (rows : List Row) (v : Verdict) : Type 0 where
   pub good : (v ≡ Good) ↔ Covers t coded source parts root rows
   pub bad : (j : ℕ) → (v ≡ Bad j) ↔ IsFirstBad t coded source parts root rows j
 
@@ -48,17 +50,22 @@ rows_judged rows (Bad j) = j + 1
 
 -- each of the first n rows compares stated cells alone
 abbrev pub AreStatedBefore : Table → Stated → List Part → Option NodeId → List Row → ℕ → Type 0
-AreStatedBefore t st parts root rows n = (i : ℕ) → i < n → i < length rows → AreStated st (row_compares t parts root (place_of rows i) (row_at rows i))
+AreStatedBefore t st parts root rows n =
+    (i : ℕ) → i < n → i < length rows → AreStated st (row_compares t parts root (place_of rows i) (row_at rows i))
 
--- the same over any bytes that agree with what the sources state, where the rows that the answer depends on compare stated cells
+-- the same over any bytes that agree with what the sources state, where the rows that the answer depends on compare
+-- stated cells
 abbrev pub TellsRows : Table → (ℕ → Coded) → Stated → List Part → Option NodeId → List Row → Verdict → Type 0
 TellsRows t coded st parts root rows v =
-    (source : ℕ → ℕ → ℕ) → Agrees st source → AreStatedBefore t st parts root rows (rows_judged rows v) → IsVerdict t coded source parts root rows v
+    (source : ℕ → ℕ → ℕ) → Agrees st source → AreStatedBefore t st parts root rows (rows_judged rows v)
+    → IsVerdict t coded source parts root rows v
 
--- The parts joined and the root have one text over any bytes that agree with what the sources state, where rows of bytes are over
--- stated cells; and the same cells, where none is over a source.
-pub record ShowsSame (t : Table) (st : Stated) (parts : List Part) (root : Option NodeId) (rows : List Row) : Type 0 where
-  pub same_text : (source : ℕ → ℕ → ℕ) → Agrees st source → AreStatedRows t st parts root rows → text source (parts_cells t parts) ≡ text source (rope_cells t root)
+-- The parts joined and the root have one text over any bytes that agree with what the sources state, where rows of
+-- bytes are over stated cells; and the same cells, where none is over a source.
+pub record ShowsSame (t : Table) (st : Stated) (parts : List Part) (root : Option NodeId) (rows : List Row)
+    : Type 0 where
+  pub same_text : (source : ℕ → ℕ → ℕ) → Agrees st source → AreStatedRows t st parts root rows
+      → text source (parts_cells t parts) ≡ text source (rope_cells t root)
   pub same_cells : MeetsNoSource t parts root rows → parts_cells t parts ≡ rope_cells t root
 
 -- A row at place for which a source may be read: one of bytes, not empty and no longer than such a row may be, inside
@@ -74,13 +81,16 @@ pub record MayBeRead (t : Table) (parts : List Part) (root : Option NodeId) (pla
   pub few : row.len ≤ BYTES_LIMIT
 
 -- a read for row j, which may be read, failed so, and each row before it fits, where it compares stated cells
-pub record IsVerdictFault {T : Type 0} (stated : T → Stated) (failures : T → ℕ) (old new : T) (t : Table) (coded : ℕ → Coded)
+pub record IsVerdictFault {T : Type 0} (stated : T → Stated) (failures : T → ℕ) (old new : T) (t : Table)
+    (coded : ℕ → Coded)
     (parts : List Part) (root : Option NodeId) (rows : List Row) (fault : SourceFault) : Type 0 where
   pub j : ℕ
   pub inside : j < length rows
   pub may_be_read : MayBeRead t parts root (place_of rows j) (row_at rows j)
   pub row : IsFaultAmong stated failures old new (row_compares t parts root (place_of rows j) (row_at rows j)) fault
-  pub fit : (source : ℕ → ℕ → ℕ) → Agrees (stated old) source → (i : ℕ) → i < j → AreStated (stated old) (row_compares t parts root (place_of rows i) (row_at rows i)) → Fits t coded source parts root (place_of rows i) (row_at rows i)
+  pub fit : (source : ℕ → ℕ → ℕ) → Agrees (stated old) source → (i : ℕ) → i < j
+      → AreStated (stated old) (row_compares t parts root (place_of rows i) (row_at rows i))
+      → Fits t coded source parts root (place_of rows i) (row_at rows i)
 
 -- what verifying does to the sources, and when it fails
 pub record ReadsRows {T : Type 0} (stated : T → Stated) (failures : T → ℕ) (old new : T) (t : Table) (coded : ℕ → Coded)

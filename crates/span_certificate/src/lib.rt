@@ -2,6 +2,7 @@
 #![tactic(auto)]
 
 mod bytes;
+pub mod codes;
 mod cover;
 mod descent;
 mod describe;

@@ -1,8 +1,8 @@
 //! The parts of which a command makes its text.
 
-ghost use Rattle.std.specs.Prelude.{◌≡◌, ◌+◌, ◌<◌, ◌≤◌, [], ◌∷◌, ◌++◌, length, filter, nat_lt};
+ghost use Rattle.std.specs.Prelude.{◌≡◌, ◌+◌, ◌<◌, ◌≤◌, [], ◌∷◌, ◌++◌, length};
 ghost use Rattle.rope_node.specs.Denotes.{rope_len, IsRope};
-ghost use Rattle.span_certificate.specs.Parts.{part_len, part_at, parts_of, front, rest, whole, IsInRange, AreRopes, AreParts};
+ghost use Rattle.span_certificate.specs.Parts.{part_len, part_at, nonempty, parts_of, front, rest, whole, IsInRange, AreRopes, AreParts};
 
 use crate::edit::Edit;
 use crate::roots::Roots;
@@ -76,60 +76,38 @@ impl Parts {
         ensures exact { result ≡ parts_of (S.table space.now) (R.roots roots.now) edit.now }
         ensures are_parts { AreParts (S.table space.now) result }
     {
-        let mut parts = Parts::new();
         match *edit {
-            Edit::New => {}
-            Edit::Open { s } => parts.push(Part::Source {
+            Edit::New => Parts::new(),
+            Edit::Open { s } => Parts::one(Part::Source {
                 s,
                 n: space.source_len(s),
             }),
             Edit::Insert { r, p, a, n } => {
-                let rope = roots.root(r);
-                parts.push(front(rope, p));
-                parts.push(Part::Pool { a, n });
-                parts.push(rest(space, rope, p, 0));
+                Parts::around(space, roots.root(r), p, 0, Part::Pool { a, n })
             }
             Edit::Delete { r, p, n } => {
                 let rope = roots.root(r);
-                parts.push(front(rope, p));
-                parts.push(rest(space, rope, p, n));
+                Parts::two(front(rope, p), rest(space, rope, p, n))
             }
             Edit::Replace { r, p, m, a, n } => {
-                let rope = roots.root(r);
-                parts.push(front(rope, p));
-                parts.push(Part::Pool { a, n });
-                parts.push(rest(space, rope, p, m));
+                Parts::around(space, roots.root(r), p, m, Part::Pool { a, n })
             }
             Edit::Paste { r, p, q, i, n } => {
-                let rope = roots.root(r);
-                parts.push(front(rope, p));
-                parts.push(Part::Old {
-                    rope: roots.root(q),
-                    i,
-                    n,
-                });
-                parts.push(rest(space, rope, p, 0));
+                let rope = roots.root(q);
+                Parts::around(space, roots.root(r), p, 0, Part::Old { rope, i, n })
             }
             Edit::Join { r, q } => {
-                parts.push(whole(space, roots.root(r)));
-                parts.push(whole(space, roots.root(q)));
+                Parts::two(whole(space, roots.root(r)), whole(space, roots.root(q)))
             }
-            Edit::Cut { r, i, n } => parts.push(Part::Old {
-                rope: roots.root(r),
-                i,
-                n,
-            }),
-            Edit::Fill { r, p, c, n } => {
+            Edit::Cut { r, i, n } => {
                 let rope = roots.root(r);
-                parts.push(front(rope, p));
-                parts.push(Part::Fill { c: c as u8, n });
-                parts.push(rest(space, rope, p, 0));
+                Parts::one(Part::Old { rope, i, n })
             }
-            Edit::Back { r } | Edit::Balance { r } => {
-                parts.push(whole(space, roots.root(r)));
+            Edit::Fill { r, p, c, n } => {
+                Parts::around(space, roots.root(r), p, 0, Part::Fill { c: c as u8, n })
             }
+            Edit::Back { r } | Edit::Balance { r } => Parts::one(whole(space, roots.root(r))),
         }
-        parts
     }
 
     /// No parts.
@@ -142,10 +120,39 @@ impl Parts {
         }
     }
 
+    /// The one part, where it is not empty.
+    fn one(part: Part) -> Parts
+        ensures { result ≡ nonempty (part ∷ []) }
+    {
+        let mut parts = Parts::new();
+        parts.push(part);
+        parts
+    }
+
+    /// Those of the two that are not empty.
+    fn two(first: Part, second: Part) -> Parts
+        ensures { result ≡ nonempty (first ∷ second ∷ []) }
+    {
+        let mut parts = Parts::one(first);
+        parts.push(second);
+        parts
+    }
+
+    /// The parts of a rope whose `m` bytes at place `p` give way to `middle`.
+    fn around<S: NodeSpace>(space: &S, rope: Rope, p: u64, m: u64, middle: Part) -> Parts
+        requires there { IsRope (S.table space.now) rope }
+        requires inside { p + m ≤ rope_len (S.table space.now) rope }
+        ensures { result ≡ nonempty (front rope p ∷ middle ∷ rest (S.table space.now) rope (p + m) ∷ []) }
+    {
+        let mut parts = Parts::two(front(rope, p), middle);
+        parts.push(rest(space, rope, p, m));
+        parts
+    }
+
     /// Puts a part at the end, where it is not empty.
     fn push(&mut self, part: Part)
         requires { length self.old < 3 }
-        ensures { self.new ≡ self.old ++ filter (λ p. nat_lt 0 (part_len p)) (part ∷ []) }
+        ensures { self.new ≡ self.old ++ nonempty (part ∷ []) }
     {
         if part.len() > 0 {
             self.parts[self.count] = part;

@@ -1,13 +1,16 @@
-//! The limits that definitions take from the code, as numbers.
+//! The limits, sizes and codes that definitions take from the code, as numbers.
 
 ghost use Rattle.std.specs.Prelude.{◌≡◌, ◌+◌, ◌*◌, ◌-◌, [], length, replicate};
 ghost use Rattle.cord_tests.specs.Keys.{stated_of_size};
+ghost use Rattle.span_certificate.specs.declared.codes.TheConstants.{BACK, BALANCE, CUT, DELETE, FILL, INSERT, JOIN, NEW, OPEN, PASTE, REPLACE};
 ghost use Rattle.span_certificate.specs.declared.edit.TheConstants.{MOST_REVISIONS};
 ghost use Rattle.cord_search.specs.declared.pattern.TheConstants.{PATTERN_LIMIT as SEARCH_LIMIT};
 ghost use Rattle.cord_tools.specs.declared.input.TheConstants.{IMAGE_LIMIT};
 ghost use Rattle.function_leaf.specs.declared.pattern.TheConstants.{PATTERN_LIMIT};
+ghost use Rattle.image_reader.specs.declared.codes.TheConstants.{BYTES_ROW, CONCATENATION, CYCLE, FILL as FILL_FUNCTION, FUNCTION, LEAF_ROW, LITERAL, RAMP, SHARED_ROW, SOURCE_SPAN, SUBSTRING};
 ghost use Rattle.image_reader.specs.declared.decode.TheConstants.{NIL_ROOT};
-ghost use Rattle.image_reader.specs.declared.header.TheConstants.{MAGIC, MOST_POOL, VERSION};
+ghost use Rattle.image_reader.specs.declared.header.TheConstants.{LONGEST_IMAGE, MAGIC, MOST_POOL, VERSION};
+ghost use Rattle.image_reader.specs.declared.layout.TheConstants.{HEADER_SIZE, NODE_SIZE, REVISION_SIZE, ROW_SIZE, SOURCE_SIZE};
 ghost use Rattle.lazy_file.specs.declared.sources.TheConstants.{COUNT_LIMIT, SOURCE_LIMIT};
 ghost use Rattle.rebalance.specs.declared.pieces.TheConstants.{MOST_PIECES};
 ghost use Rattle.leaf_buffer.specs.declared.block.TheConstants.{BLOCK_SIZE};
@@ -42,15 +45,55 @@ fn limits_of_sources()
     ensures longest { SOURCE_LIMIT ≡ 1099511627775 }
 {}
 
-/// Of images: what they begin with, the root that is none, and one byte more than the largest, which has as many records of each kind,
-/// and of bytes, as there may be.
+/// Of images: what they begin with, the root that is none, and the largest, which has as many records of each kind, and of bytes, as
+/// there may be; one byte more is read of it.
 fn limits_of_images()
     ensures magic { MAGIC ≡ 0x434F524453455353 }
     ensures version { VERSION ≡ 1 }
     ensures nil { NIL_ROOT ≡ 0xFFFFFFFF }
     ensures pool { MOST_POOL ≡ 4294967295 }
-    ensures longer { IMAGE_LIMIT ≡ 1 + 40 + MOST_SOURCES * 8 + MOST_NODES * 32 + MOST_REVISIONS * 56
+    ensures longest { LONGEST_IMAGE ≡ 40 + MOST_SOURCES * 8 + MOST_NODES * 32 + MOST_REVISIONS * 56
         + ROWS_LIMIT * 24 + MOST_POOL }
+    ensures longer { IMAGE_LIMIT ≡ 5293213728 }
+{}
+
+/// Of an image's header and records, in bytes.
+fn sizes_of_records()
+    ensures header { HEADER_SIZE ≡ 40 }
+    ensures source { SOURCE_SIZE ≡ 8 }
+    ensures node { NODE_SIZE ≡ 32 }
+    ensures revision { REVISION_SIZE ≡ 56 }
+    ensures row { ROW_SIZE ≡ 24 }
+{}
+
+/// What a node is, and which function.
+fn codes_of_nodes()
+    ensures literal { LITERAL ≡ 1 }
+    ensures source { SOURCE_SPAN ≡ 2 }
+    ensures function { FUNCTION ≡ 3 }
+    ensures concatenation { CONCATENATION ≡ 4 }
+    ensures substring { SUBSTRING ≡ 5 }
+    ensures fill { FILL_FUNCTION ≡ 1 }
+    ensures ramp { RAMP ≡ 2 }
+    ensures cycle { CYCLE ≡ 3 }
+{}
+
+/// Which command made a revision, and what its rows are.
+fn codes_of_revisions()
+    ensures new { NEW ≡ 1 }
+    ensures open { OPEN ≡ 2 }
+    ensures insert { INSERT ≡ 3 }
+    ensures delete { DELETE ≡ 4 }
+    ensures replace { REPLACE ≡ 5 }
+    ensures paste { PASTE ≡ 6 }
+    ensures join { JOIN ≡ 7 }
+    ensures cut { CUT ≡ 8 }
+    ensures fill { FILL ≡ 9 }
+    ensures back { BACK ≡ 10 }
+    ensures balance { BALANCE ≡ 11 }
+    ensures shared { SHARED_ROW ≡ 1 }
+    ensures leaf { LEAF_ROW ≡ 2 }
+    ensures bytes { BYTES_ROW ≡ 3 }
 {}
 
 /// Of sessions and their rows.
