@@ -9,9 +9,10 @@ use Rattle.rope_node.specs.Table.{Table, view_at, len_at, IsSound, HasTrueRecord
 use Rattle.rope_node.specs.Path.{span_at, shortened}
 use Rattle.rope_node.proofs.LeafSpans.{begins, span_step}
 use Rattle.cord_position.specs.declared.path.Step.{Step}
+use Rattle.cord_position.specs.declared.path.Fork.{Fork}
 use Rattle.smallvec.specs.SmallVec.{SmallVec, small_vec_len}
 use Rattle.cord_position.specs.Runs.{run_left, span_len, IsSpanBorder}
-use Rattle.cord_position.specs.Steps.{Holds, IsStep, IsStepAt, AreSteps, IsPath, left_step, right_step, base_step}
+use Rattle.cord_position.specs.Steps.{Holds, IsStep, IsStepAt, IsForkAt, AreForks, IsPath, left_step, right_step, base_step}
 
 -- the root's own step
 pub root_step : (t : Table) → IsSound t → HasTrueRecords t → (root : NodeId) (n : ℕ) → root.0 < length t.nodes → n ≡ len_at t root.0
@@ -141,58 +142,84 @@ get_last : {X : Type 0} (xs : List X) (y : X) → slice_get (xs ++ y ∷ []) (le
 get_last [] y = refl
 get_last (z ∷ zs) y = get_last zs y
 
-pub path_pushed : (t : Table) (rope : Option NodeId) (xs : List Step) (y : Step) → AreSteps t rope xs → IsStepAt t rope (length xs) y → AreSteps t rope (xs ++ y ∷ [])
-path_pushed t rope xs y steps last n x e =
+path_pushed : (t : Table) (rope : Option NodeId) (xs : List Fork) (y : Fork) → AreForks t rope xs → IsForkAt t rope (length xs) y → AreForks t rope (xs ++ y ∷ [])
+path_pushed t rope xs y forks last n x e =
     elim (get_pushed xs y n x e) [
-      | inl here ↦ steps n x here
-      | inr is ↦ subst (λ z. IsStepAt t rope n z) is.1 (subst (λ m. IsStepAt t rope m y) (sym is.0) last)
+      | inl here ↦ forks n x here
+      | inr is ↦ subst (λ z. IsForkAt t rope n z) is.1 (subst (λ m. IsForkAt t rope m y) (sym is.0) last)
     ]
 
-pub path_before : (t : Table) (rope : Option NodeId) (xs ys : List Step) → AreSteps t rope (xs ++ ys) → AreSteps t rope xs
-path_before t rope xs ys steps n x e = steps n x (get_front xs ys n x e)
+path_before : (t : Table) (rope : Option NodeId) (xs ys : List Fork) → AreForks t rope (xs ++ ys) → AreForks t rope xs
+path_before t rope xs ys forks n x e = forks n x (get_front xs ys n x e)
 
-pub path_last : (t : Table) (rope : Option NodeId) (xs : List Step) (y : Step) → AreSteps t rope (xs ++ y ∷ []) → IsStepAt t rope (length xs) y
-path_last t rope xs y steps = steps (length xs) y (get_last xs y)
+path_last : (t : Table) (rope : Option NodeId) (xs : List Fork) (y : Fork) → AreForks t rope (xs ++ y ∷ []) → IsForkAt t rope (length xs) y
+path_last t rope xs y forks = forks (length xs) y (get_last xs y)
+
+-- the step from a fork to the child that holds a place
+pub side_is_step : (t : Table) → IsSound t → HasTrueRecords t → (rope : Option NodeId) (n : ℕ) (x : Fork) (y : Step) (i : ℕ)
+    → (x.step.skipped + (i - x.step.first) < x.left → y ≡ left_step x.step x.l x.left) → (x.left ≤ x.step.skipped + (i - x.step.first) → y ≡ right_step x.step x.r x.left)
+    → IsForkAt t rope n x → Holds x.step i → IsStepAt t rope (n + 1) y × Holds y i
+side_is_step t s h rope n x y i left right fork held =
+    let m = x.left in
+    let z = x.step in
+    let same = fork.left in
+    elim (cases_lt (z.skipped + (i - z.first)) m) [
+      | inl lt ↦ subst (λ w. IsStepAt t rope (n + 1) w × Holds w i) (sym (left lt))
+          (subst (λ (k : ℕ). IsStepAt t rope (n + 1) (left_step z x.l k)) (sym same) (left_is_step t s h rope n z x.l x.r fork.view (omega (arith, lt, same)) fork.at), (held.0, omega (arith, lt, held.0, held.1)))
+      | inr past ↦ subst (λ w. IsStepAt t rope (n + 1) w × Holds w i) (sym (right past))
+          (subst (λ (k : ℕ). IsStepAt t rope (n + 1) (right_step z x.r k)) (sym same) (right_is_step t s h rope n z x.l x.r fork.view (omega (arith, past, same, held.0, held.1)) fork.at), (omega (arith, past, held.0, held.1), omega (arith, past, held.0, held.1)))
+    ]
+
+-- a step is one also with fewer steps above it
+fewer_above : (t : Table) (rope : Option NodeId) (n : ℕ) (x : Step) → IsStepAt t rope (n + 1) x → IsStepAt t rope n x
+fewer_above t rope n x at = record { step = at.step; deep = omega (arith, at.deep) }
 
 -- a path, and the step below it that holds a place
-pub record IsOnWay (t : Table) (rope : Option NodeId) (path : SmallVec Step) (x : Step) (i : ℕ) : Type 0 where
+pub record IsOnWay (t : Table) (rope : Option NodeId) (path : SmallVec Fork) (x : Step) (i : ℕ) : Type 0 where
   pub way : IsPath t rope path
   pub at : IsStepAt t rope (small_vec_len path) x
   pub held : Holds x i
 
--- the step goes onto the path, and the way leads on by a child's
-pub way_pushed : (t : Table) (rope : Option NodeId) (path new : SmallVec Step) (x : Step) (i : ℕ) → new.items ≡ path.items ++ x ∷ [] → new.capacity ≡ path.capacity → IsOnWay t rope path x i → IsPath t rope new
-way_pushed t rope path new x i items room on = record {
-  steps = subst (AreSteps t rope) (sym items) (path_pushed t rope path.items x on.way.steps on.at);
-  room = room ∙ on.way.room;
+-- a fork goes onto the path
+pub fork_pushed : (t : Table) (rope : Option NodeId) (path new : SmallVec Fork) (x : Fork) → new.items ≡ path.items ++ x ∷ [] → new.capacity ≡ path.capacity
+    → IsPath t rope path → IsForkAt t rope (small_vec_len path) x → IsPath t rope new
+fork_pushed t rope path new x items room way fork = record {
+  forks = subst (AreForks t rope) (sym items) (path_pushed t rope path.items x way.forks fork);
+  room = room ∙ way.room;
 }
 
-way_on : (t : Table) (rope : Option NodeId) (path new : SmallVec Step) (x y : Step) (i : ℕ) → new.items ≡ path.items ++ x ∷ [] → new.capacity ≡ path.capacity → IsOnWay t rope path x i
-    → IsStepAt t rope (small_vec_len path + 1) y → Holds y i → IsOnWay t rope new y i
-way_on t rope path new x y i items room on at held =
+-- and comes off it
+pub fork_popped : (t : Table) (rope : Option NodeId) (path new : SmallVec Fork) (x : Fork) → path.items ≡ new.items ++ x ∷ [] → new.capacity ≡ path.capacity
+    → IsPath t rope path → IsPath t rope new × IsForkAt t rope (small_vec_len new) x
+fork_popped t rope path new x items room way =
+    let forks = subst (AreForks t rope) items way.forks in
+    (record { forks = path_before t rope new.items (x ∷ []) forks; room = room ∙ way.room }, path_last t rope new.items x forks)
+
+-- the way leads on by the child that holds the place, with the fork on the path or without it
+pub way_to_side : (t : Table) → IsSound t → HasTrueRecords t → (rope : Option NodeId) (path new : SmallVec Fork) (x : Fork) (y : Step) (i : ℕ)
+    → new.items ≡ path.items ++ x ∷ [] → new.capacity ≡ path.capacity
+    → (x.step.skipped + (i - x.step.first) < x.left → y ≡ left_step x.step x.l x.left) → (x.left ≤ x.step.skipped + (i - x.step.first) → y ≡ right_step x.step x.r x.left)
+    → IsPath t rope path → IsForkAt t rope (small_vec_len path) x → Holds x.step i → IsOnWay t rope new y i
+way_to_side t s h rope path new x y i items room left right way fork held =
     let longer : small_vec_len path + 1 ≡ small_vec_len new = omega (arith, ap length items, length-append path.items (x ∷ [])) in
+    let side = side_is_step t s h rope (small_vec_len path) x y i left right fork held in
     record {
-      way = way_pushed t rope path new x i items room on;
-      at = subst (λ (n : ℕ). IsStepAt t rope n y) longer at;
-      held = held;
+      way = fork_pushed t rope path new x items room way fork;
+      at = subst (λ (n : ℕ). IsStepAt t rope n y) longer side.0;
+      held = side.1;
     }
 
-pub way_to_side : (t : Table) → IsSound t → HasTrueRecords t → (rope : Option NodeId) (path new : SmallVec Step) (x y : Step) (i : ℕ) (l r : NodeId) → view_at t x.node.0 ≡ Cat l r
-    → new.items ≡ path.items ++ x ∷ [] → new.capacity ≡ path.capacity
-    → (x.skipped + (i - x.first) < len_at t l.0 → y ≡ left_step x l (len_at t l.0)) → (len_at t l.0 ≤ x.skipped + (i - x.first) → y ≡ right_step x r (len_at t l.0))
-    → IsOnWay t rope path x i → IsOnWay t rope new y i
-way_to_side t s h rope path new x y i l r e items room left right on =
-    let n = small_vec_len path in
-    let m = len_at t l.0 in
-    let to : Step → Type 0 = λ z. IsOnWay t rope new z i in
-    elim (cases_lt (x.skipped + (i - x.first)) m) [
-      | inl lt ↦ subst to (sym (left lt)) (way_on t rope path new x (left_step x l m) i items room on
-          (left_is_step t s h rope n x l r e (omega (arith, lt)) on.at) (on.held.0, omega (arith, lt, on.held.0, on.held.1)))
-      | inr past ↦ subst to (sym (right past)) (way_on t rope path new x (right_step x r m) i items room on
-          (right_is_step t s h rope n x l r e (omega (arith, past, on.held.0, on.held.1)) on.at) (omega (arith, past, on.held.0, on.held.1), omega (arith, past, on.held.0, on.held.1)))
-    ]
+pub way_past_fork : (t : Table) → IsSound t → HasTrueRecords t → (rope : Option NodeId) (path : SmallVec Fork) (x : Fork) (y : Step) (i : ℕ)
+    → (x.step.skipped + (i - x.step.first) < x.left → y ≡ left_step x.step x.l x.left) → (x.left ≤ x.step.skipped + (i - x.step.first) → y ≡ right_step x.step x.r x.left)
+    → IsPath t rope path → IsForkAt t rope (small_vec_len path) x → Holds x.step i → IsOnWay t rope path y i
+way_past_fork t s h rope path x y i left right way fork held =
+    let side = side_is_step t s h rope (small_vec_len path) x y i left right fork held in
+    record { way = way; at = fewer_above t rope (small_vec_len path) y side.0; held = side.1 }
 
-pub way_to_base : (t : Table) → IsSound t → HasTrueRecords t → (rope : Option NodeId) (path new : SmallVec Step) (x : Step) (i : ℕ) (b : NodeId) (o : ℕ) → view_at t x.node.0 ≡ Sub b o
-    → new.items ≡ path.items ++ x ∷ [] → new.capacity ≡ path.capacity → IsOnWay t rope path x i → IsOnWay t rope new (base_step x b o) i
-way_to_base t s h rope path new x i b o e items room on =
-    way_on t rope path new x (base_step x b o) i items room on (base_is_step t s h rope (small_vec_len path) x b o e on.at) on.held
+pub way_to_base : (t : Table) → IsSound t → HasTrueRecords t → (rope : Option NodeId) (path : SmallVec Fork) (x : Step) (i : ℕ) (b : NodeId) (o : ℕ) → view_at t x.node.0 ≡ Sub b o
+    → IsOnWay t rope path x i → IsOnWay t rope path (base_step x b o) i
+way_to_base t s h rope path x i b o e on = record {
+  way = on.way;
+  at = fewer_above t rope (small_vec_len path) (base_step x b o) (base_is_step t s h rope (small_vec_len path) x b o e on.at);
+  held = on.held;
+}

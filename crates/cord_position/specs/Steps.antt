@@ -1,13 +1,15 @@
--- The steps from a rope's root down to the leaf that holds a place.
+-- The steps from a rope's root down to the leaf that holds a place, and the forks on that path.
 use Rattle.std.specs.Prelude.{◌≡◌, ℕ, ◌+◌, ◌-◌, ◌<◌, ◌≤◌, min, map, List, length, Option, Some, slice_get}
 use Rattle.rope_node.specs.declared.limits.TheConstants.{MOST_DEPTH}
 use Rattle.smallvec.specs.SmallVec.{SmallVec}
 use Rattle.rope_node.specs.declared.node.NodeId.{NodeId}
 use Rattle.rope_node.specs.declared.node.LeafSpan.{LeafSpan}
+use Rattle.rope_node.specs.declared.node.NodeView.TheVariants.{Cat}
 use Rattle.rope_node.specs.Table.{Table, view_at, len_at, depth_at, IsLeaf, IsSound, HasTrueRecords}
 use Rattle.rope_node.specs.Denotes.{Byte, rope_len, IsRope}
 use Rattle.rope_node.specs.Path.{shortened, span_at}
 use Rattle.cord_position.specs.declared.path.Step.{Step}
+use Rattle.cord_position.specs.declared.path.Fork.{Fork}
 use Rattle.cord_position.specs.Fetched.{leaf_part}
 use Rattle.cord_position.specs.Position.{IsPosition}
 use Rattle.cord_position.specs.Runs.{rope_span, span_bytes, IsSpanBorder}
@@ -31,13 +33,19 @@ pub record IsStepAt (t : Table) (rope : Option NodeId) (n : ℕ) (x : Step) : Ty
   pub step : IsStep t rope x
   pub deep : depth_at t x.node.0 + n ≤ MOST_DEPTH
 
--- the steps of a path, from the root on
-abbrev pub AreSteps : Table → Option NodeId → List Step → Type 0
-AreSteps t rope steps = (n : ℕ) (x : Step) → slice_get steps n ≡ Some x → IsStepAt t rope n x
+-- a step to a concatenation with n steps above it: its children, and how many bytes the left one has
+pub record IsForkAt (t : Table) (rope : Option NodeId) (n : ℕ) (x : Fork) : Type 0 where
+  pub at : IsStepAt t rope n x.step
+  pub view : view_at t x.step.node.0 ≡ Cat x.l x.r
+  pub left : x.left ≡ len_at t x.l.0
+
+-- the forks of a path, from the root on
+abbrev pub AreForks : Table → Option NodeId → List Fork → Type 0
+AreForks t rope forks = (n : ℕ) (x : Fork) → slice_get forks n ≡ Some x → IsForkAt t rope n x
 
 -- a path, with room for the longest one
-pub record IsPath (t : Table) (rope : Option NodeId) (path : SmallVec Step) : Type 0 where
-  pub steps : AreSteps t rope path.items
+pub record IsPath (t : Table) (rope : Option NodeId) (path : SmallVec Fork) : Type 0 where
+  pub forks : AreForks t rope path.items
   pub room : path.capacity ≡ MOST_DEPTH + 1
 
 -- a step to a leaf
@@ -76,7 +84,7 @@ pub record AreStepBytes (t : Table) (x : Step) (bytes : List ℕ) : Type 0 where
   pub cells : 1 ≤ length bytes → map Byte bytes ≡ leaf_part t x.node x.skipped x.len
 
 -- a place of a rope, with the step to its leaf, the bytes of that step and the path to it
-pub record IsPlaced (t : Table) (rope : Option NodeId) (i : ℕ) (x : Step) (bytes : List ℕ) (path : SmallVec Step)
+pub record IsPlaced (t : Table) (rope : Option NodeId) (i : ℕ) (x : Step) (bytes : List ℕ) (path : SmallVec Fork)
     : Type 0 where
   pub position : IsPosition t rope i
   pub here : IsHere t rope i x

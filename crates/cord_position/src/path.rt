@@ -31,8 +31,31 @@ impl Default for Step {
     }
 }
 
-/// The steps from the root on, each of them a part of the one before it. A node is at most 64 deep, so they are at most 65.
-pub type Path = SmallVec<Step, 65>;
+/// A step to a concatenation, from which the path goes on to the left or to the right child.
+#[derive(Clone, Copy, Debug)]
+pub struct Fork {
+    pub step: Step,
+    pub l: NodeId,
+    pub r: NodeId,
+    /// How many bytes the left child has.
+    pub left: u64,
+}
+
+impl Default for Fork {
+    ghost is_default = { λ x. x.left ≡ 0 };
+
+    fn default() -> Fork {
+        Fork {
+            step: Step::default(),
+            l: NodeId(0),
+            r: NodeId(0),
+            left: 0,
+        }
+    }
+}
+
+/// The forks from the root on, each in a part of the one before it. A node is at most 64 deep, so they are at most 65.
+pub type Path = SmallVec<Fork, 65>;
 
 /// Whether the place is one of the step's bytes.
 #[inline]
@@ -42,8 +65,36 @@ pub fn holds(step: Step, place: u64) -> bool
     step.first <= place && place - step.first < step.len
 }
 
-/// Takes the steps that do not hold the place off the path's end, and the last one that does, which it gives. Where none does, that is
-/// the root's.
+/// What the child that holds the place has of a fork's step.
+fn side_of(fork: Fork, place: u64) -> Step
+    requires holds { Holds fork.step place }
+    requires limit { fork.step.skipped + fork.step.len < TEXT_LIMIT }
+    ensures left { fork.step.skipped + (place - fork.step.first) < fork.left
+        → result ≡ left_step fork.step fork.l fork.left }
+    ensures right { fork.left ≤ fork.step.skipped + (place - fork.step.first)
+        → result ≡ right_step fork.step fork.r fork.left }
+{
+    let step = fork.step;
+    let cut = fork.left.saturating_sub(step.skipped);
+    if place - step.first < cut {
+        Step {
+            node: fork.l,
+            first: step.first,
+            skipped: step.skipped,
+            len: step.len.min(cut),
+        }
+    } else {
+        Step {
+            node: fork.r,
+            first: step.first + cut,
+            skipped: step.skipped.saturating_sub(fork.left),
+            len: step.len - cut,
+        }
+    }
+}
+
+/// Takes the forks that do not hold the place off the path's end, and gives the step from the last one that does to the child that
+/// holds it. Where none does, that is the root's.
 fn climb<S: NodeSpace>(space: &S, root: NodeId, path: &mut Path, place: u64) -> Step
     requires there { root.0 < length (S.table space.now).nodes }
     requires inside { place < len_at (S.table space.now) root.0 }
@@ -52,9 +103,11 @@ fn climb<S: NodeSpace>(space: &S, root: NodeId, path: &mut Path, place: u64) -> 
     ensures step { IsStepAt (S.table space.now) (Some root) (small_vec_len path.new) result }
     ensures holds { Holds result place }
 {
-    'up: while let Some(step) = path.pop() {
-        if holds(step, place) {
-            return step;
+    let _count = space.count();
+    'up: while let Some(fork) = path.pop() {
+        if holds(fork.step, place) {
+            path.push_reserved(fork);
+            return side_of(fork, place);
         }
     }
     Step {
@@ -65,32 +118,8 @@ fn climb<S: NodeSpace>(space: &S, root: NodeId, path: &mut Path, place: u64) -> 
     }
 }
 
-/// What the left or the right child has of a step, whichever holds the place. The left child has `left` bytes.
-fn side_of(step: Step, l: NodeId, r: NodeId, left: u64, place: u64) -> Step
-    requires holds { Holds step place }
-    requires limit { step.skipped + step.len < TEXT_LIMIT }
-    ensures left { step.skipped + (place - step.first) < left → result ≡ left_step step l left }
-    ensures right { left ≤ step.skipped + (place - step.first) → result ≡ right_step step r left }
-{
-    let cut = left.saturating_sub(step.skipped);
-    if place - step.first < cut {
-        Step {
-            node: l,
-            first: step.first,
-            skipped: step.skipped,
-            len: step.len.min(cut),
-        }
-    } else {
-        Step {
-            node: r,
-            first: step.first + cut,
-            skipped: step.skipped.saturating_sub(left),
-            len: step.len - cut,
-        }
-    }
-}
-
-/// Goes down from a step that holds the place to a leaf's, and puts them and those between on the path.
+/// Goes down from a step that holds the place to a leaf's, and puts the forks between them on the path: the concatenations of which
+/// the step has bytes of both children.
 fn descend<S: NodeSpace>(space: &S, root: NodeId, path: &mut Path, from: Step, place: u64) -> Step
     requires path { IsPath (S.table space.now) (Some root) path.old }
     requires step { IsStepAt (S.table space.now) (Some root) (small_vec_len path.old) from }
@@ -101,11 +130,14 @@ fn descend<S: NodeSpace>(space: &S, root: NodeId, path: &mut Path, from: Step, p
 {
     let mut step = from;
     'down: loop {
-        let view = space.node(step.node);
-        path.push_reserved(step);
-        match view {
+        match space.node(step.node) {
             NodeView::Cat { l, r } => {
-                step = side_of(step, l, r, space.len(l), place);
+                let left = space.len(l);
+                let fork = Fork { step, l, r, left };
+                step = side_of(fork, place);
+                if step.len < fork.step.len {
+                    path.push_reserved(fork);
+                }
             }
             NodeView::Sub { b, i } => {
                 step.node = b;

@@ -23,7 +23,7 @@ pub struct Pos<'a, S: NodeSpace> {
     space: &'a S,
     rope: Rope,
     place: u64,
-    /// The path's last step, to the leaf that holds the place. At the end it may be an earlier one, or empty.
+    /// The step to the leaf that holds the place, below the path's last fork. At the end it may be an earlier one, or empty.
     here: Step,
     /// The bytes of that step, where its leaf is a literal; else none.
     bytes: &'a [u8],

@@ -67,7 +67,7 @@ fn cycle_in(bytes: &[u8]) -> Coded
     }
 }
 
-/// The function that a node of its kind holds.
+/// The function that a function node holds.
 #[tactic(auto, unfolding(crate::specs::Reading::function_of, crate::specs::Reading::coded_of, crate::specs::Reading::node_record_fault))]
 pub fn function_in(bytes: &[u8]) -> Coded
     requires len { length bytes.now ≡ NODE_SIZE }

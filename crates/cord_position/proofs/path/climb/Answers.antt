@@ -1,27 +1,32 @@
-use Rattle.std.proofs.Common.{Some, [], ◌∷◌, ◌≡◌, ℕ, length, ◌-◌, ◌<◌, ap, subst, sym, arith}
+use Rattle.std.proofs.Common.{Some, ◌≡◌, ℕ, length, ◌-◌, ◌<◌, ap, subst, sym, arith, rules}
 use Rattle.std.proofs.lemmas.List.{length-take}
 use Rattle.cord_position.specs.declared.path.Step.{Step}
-use Rattle.cord_position.specs.Steps.{AreSteps, IsStepAt}
-use Rattle.cord_position.proofs.StepLaws.{path_before, path_last, root_step}
+use Rattle.cord_position.specs.Steps.{IsStepAt}
+use Rattle.cord_position.proofs.StepLaws.{fork_popped, root_step, way_to_side}
 use Rattle.cord_position.proofs.path.climb.Goals as goal
 
-pub returns-then-holds-clause-path : goal.returns-then-holds-clause-path
-returns-then-holds-clause-path g c =
-    let t = g.S.NodeSpace.table c.args.space.now in
-    let steps = subst (AreSteps t (Some c.args.root)) c.in-Some.ensures.items c.up.invariant.steps in
-    record { steps = path_before t (Some c.args.root) c.pop.new.self.items (c.in-Some.step ∷ []) steps; room = cc }
+pub push_reserved-requires : goal.push_reserved-requires
+push_reserved-requires g c =
+    let popped = fork_popped (g.S.NodeSpace.table c.args.space.now) (Some c.args.root) c.up.path c.pop.new.self c.in-Some.fork c.in-Some.ensures.items c.in-Some.ensures.capacity c.up.invariant in
+    (omega arith, omega (arith, popped.0.room, popped.1.at.deep))
 
-pub returns-then-holds-clause-step : goal.returns-then-holds-clause-step
-returns-then-holds-clause-step g c =
+pub side_of-requires-clause-limit : goal.side_of-requires-clause-limit
+side_of-requires-clause-limit g c =
+    let popped = fork_popped (g.S.NodeSpace.table c.args.space.now) (Some c.args.root) c.up.path c.pop.new.self c.in-Some.fork c.in-Some.ensures.items c.in-Some.ensures.capacity c.up.invariant in
+    let step = popped.1.at.step in
+    omega (arith, step.in_node, (c.count-count.ensures.sound.nodes c.in-Some.fork.step.node.0 step.there).not_long)
+
+pub returns-then-holds : goal.returns-then-holds
+returns-then-holds g c =
     let t = g.S.NodeSpace.table c.args.space.now in
-    let steps = subst (AreSteps t (Some c.args.root)) c.in-Some.ensures.items c.up.invariant.steps in
-    path_last t (Some c.args.root) c.pop.new.self.items c.in-Some.step steps
+    let popped = fork_popped t (Some c.args.root) c.up.path c.pop.new.self c.in-Some.fork c.in-Some.ensures.items c.in-Some.ensures.capacity c.up.invariant in
+    let on = way_to_side t c.count-count.ensures.sound c.count-count.ensures.true_records (Some c.args.root) c.pop.new.self c.push_reserved.new.self c.in-Some.fork c.side_of.result c.args.place
+    c.push_reserved.ensures.items c.push_reserved.ensures.capacity c.side_of.ensures.left c.side_of.ensures.right popped.0 popped.1 (search rules) in
+    record { path = on.way; step = on.at; holds = on.held }
 
 pub up-preserved : goal.up-preserved
 up-preserved g c =
-    let t = g.S.NodeSpace.table c.args.space.now in
-    let steps = subst (AreSteps t (Some c.args.root)) c.in-Some.ensures.items c.up.invariant.steps in
-    record { steps = path_before t (Some c.args.root) c.pop.new.self.items (c.in-Some.step ∷ []) steps; room = cc }
+    (fork_popped (g.S.NodeSpace.table c.args.space.now) (Some c.args.root) c.up.path c.pop.new.self c.in-Some.fork c.in-Some.ensures.items c.in-Some.ensures.capacity c.up.invariant).0
 
 pub returns-clause-step : goal.returns-clause-step
 returns-clause-step g c =
