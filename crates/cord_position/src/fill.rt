@@ -48,7 +48,12 @@ fn fill_answers<S: NodeSpace>(space: &S, leaf: NodeId, start: u64, buffer: &mut 
     }
 }
 
-/// The bytes of a leaf from `start` on.
+/// Writes the bytes of a leaf from its byte `start` on into the whole of the buffer.
+///
+/// # Errors
+///
+/// A source's fault, where the leaf is a part of that source and the read of these bytes failed. They may then be any bytes in the
+/// buffer.
 pub fn fill_part<S: NodeSpace, T: Sources>(
     space: &S,
     sources: &mut T,

@@ -9,5 +9,5 @@ mod position;
 mod run;
 
 pub use fetch::fetch_byte;
-pub use fill::fill_source;
+pub use fill::{fill_part, fill_source};
 pub use position::Pos;

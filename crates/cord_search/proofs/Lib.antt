@@ -1,5 +1,6 @@
 pub mod BytePieces
 pub mod Fetches
+pub mod NodePieces
 pub mod Orders
 pub mod PatternPieces
 pub mod Pieces

@@ -5,10 +5,7 @@ use Rattle.std.proofs.lemmas.Bool.{cases_lt}
 use Rattle.lazy_file.specs.declared.faults.SourceFault.{SourceFault}
 use Rattle.std.specs.List.{slice_range, range_with_len}
 use Rattle.std.proofs.Math.ListN as ListN
-use Rattle.std.proofs.lemmas.List.{get_or-append-add, get_or_append_left, length-append, get_or-map, get_or-take, get_or-drop, get_or_default, ext_get_or, take_all, length-take, length-take-le, take-take, length-drop, map-id}
-use Rattle.std.proofs.lemmas.Slice.{take-put_mid}
-use borrow.Rule.Slice.PartMut.{post_of, put_mid}
-use Rattle.std.proofs.Math.Seq.{take-append-add}
+use Rattle.std.proofs.lemmas.List.{get_or-append-add, get_or_append_left, length-append, get_or-map, get_or-take, get_or-drop, get_or_default, ext_get_or, take_all, length-take, length-take-le, length-drop, length-map, map-id}
 use Rattle.std.proofs.lemmas.List.FromFn.{length-range_with_len}
 use Rattle.std.proofs.lemmas.Option.{slice_get-get_or, slice_get_within, get_or_from_slice_get}
 use Rattle.std.proofs.lemmas.Simd.{map-map}
@@ -17,7 +14,7 @@ use Rattle.rope_node.specs.declared.node.NodeId.{NodeId}
 use Rattle.rope_node.specs.declared.node.NodeView.{NodeView}
 use Rattle.rope_node.specs.declared.node.NodeView.TheVariants.{Lit, Src, Fun, Cat, Sub}
 use Rattle.rope_node.specs.Table.{Table, view_at, len_at, IsLeaf}
-use Rattle.rope_node.specs.Denotes.{Cell, Byte, Place, cell_byte, cells, cells_in, node_cells, rope_cells, text}
+use Rattle.rope_node.specs.Denotes.{Cell, Byte, Place, cell_at, cell_byte, cells, cells_in, node_cells, rope_cells, text}
 use Rattle.rope_node.proofs.Parts.{span-map}
 use Rattle.lazy_file.specs.SourceTexts.{Agrees, Stated}
 use Rattle.cord_position.specs.Fetched.{AreStated, IsStated, rope_cell, rope_part}
@@ -39,6 +36,12 @@ byte_of_part : (xs bytes : List ℕ) (i n k : ℕ) → bytes ≡ take n (drop i 
 byte_of_part xs bytes i n k is lt =
     let held : k < length (take n (drop i xs)) = omega (arith, lt, ap length is) in
     ap (λ ys. slice_get ys k) is ∙ byte_of_first (drop i xs) n k held ∙ byte_of_rest xs i k (omega (arith, held, length-take n (drop i xs)))
+
+-- a byte of a text is that of its cell
+pub byte_of_cell : (t : Table) (id : ℕ) (source : ℕ → ℕ → ℕ) (k : ℕ) → k < length (cells t id) → slice_get (text source (cells t id)) k ≡ Some (cell_byte source (cell_at t id k))
+byte_of_cell t id source k lt =
+    slice_get-get_or (map (cell_byte source) (cells t id)) k 0 (omega (arith, lt, length-map (cells t id) (cell_byte source)))
+    ∙ ap Some (get_or-map (cell_byte source) (cells t id) k (Byte 0) 0 lt)
 
 -- a literal's bytes stand for themselves
 pub literal_piece : (t : Table) (st : Stated) (rope : Option NodeId) (i m n : ℕ) (run : List ℕ) → map Byte run ≡ rope_part t rope i m → IsPiece t st rope i (take n run)
@@ -107,17 +110,6 @@ piece_after t st rope i d xs ys long first second source agrees k lt stated =
           slice_get-get_or (xs ++ ys) k 0 lt ∙ ap Some (ap (λ (p : ℕ). get_or (xs ++ ys) p 0) is ∙ get_or-append-add xs ys j 0) ∙ sym (slice_get-get_or ys j 0 held)
           ∙ second source agrees j held (subst (λ (p : ℕ). IsStated st (rope_cell t rope p)) (sym there) stated) ∙ ap (slice_get (text source (rope_cells t rope))) there
     ]
-
--- what is written behind the first bytes of a buffer
-pub written_behind : (xs ys : List ℕ) (d k n : ℕ) → d ≤ length xs → n ≤ length ys → take (d + n) (put_mid d k xs ys) ≡ take d xs ++ take n ys
-written_behind xs ys d k n inside le =
-    sym (take-take (d + n) (d + length ys) (put_mid d k xs ys) (omega (arith, le)))
-    ∙ ap (take (d + n)) (take-put_mid d k xs ys (d + length ys) refl inside)
-    ∙ ap (λ (m : ℕ). take (m + n) (take d xs ++ ys)) (sym (length-take-le d xs inside))
-    ∙ take-append-add (take d xs) ys n
-
-pub length_written : (xs ys : List ℕ) (d k n : ℕ) → d ≤ length xs → n ≤ length ys → d + n ≤ length (put_mid d k xs ys)
-length_written xs ys d k n inside le = omega (arith, length-append (take d xs) (ys ++ post_of d k xs), length-append ys (post_of d k xs), length-take-le d xs inside, le)
 
 -- the first bytes of a piece are the text's where their cells are stated
 pub first_bytes : (xs u : List ℕ) (i q : ℕ) → q ≤ length xs → ((k : ℕ) → k < q → slice_get xs k ≡ slice_get u (i + k)) → take q xs ≡ take q (drop i u)

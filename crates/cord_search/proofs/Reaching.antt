@@ -8,6 +8,7 @@ use Rattle.rope_node.specs.declared.node.NodeId.{NodeId}
 use Rattle.rope_node.specs.Table.{Table}
 use Rattle.rope_node.specs.Denotes.{Cell, Byte, cell_byte, cells, rope_cells, rope_len, text}
 use Rattle.lazy_file.specs.SourceTexts.{Agrees, ReadsUnfailed, Stated}
+use Rattle.lazy_file.proofs.LaterReads.{reads_then, reads_unfailed}
 use Rattle.cord_position.proofs.Spans.{failed_in}
 use Rattle.lazy_file.specs.declared.faults.SourceFault.{SourceFault}
 use Rattle.cord_position.specs.Fetched.{EachCell, IsFaultIn, IsFetched, IsReadable, IsStated, ReadsSpan, rope_cell}
@@ -175,9 +176,17 @@ reads_back stated failures old new table here s x p n r space rope index h =
     let in_rope = subst (λ y. ReadsSpan stated failures old new (rope_cell (table here.space) y) p (p + n) r) (sym rope) in_space in
     subst (λ (q : ℕ). ReadsSpan stated failures old new (rope_cell (table here.space) here.rope) q (q + n) r) index in_rope
 
--- a call that reads some of the cells reads no others
+-- a call that reads some of the cells reads no others, and so after reads that did not fail
+pub reads_after : {T X : Type 0} (stated : T → Stated) (failures : T → ℕ) (old mid new : T) (cell : ℕ → Cell) (i j k l : ℕ) (r : Result X SourceFault) → ReadsUnfailed stated failures old mid → i ≤ k → l ≤ j
+    → ReadsSpan stated failures mid new cell k l r → ReadsSpan stated failures old new cell i j r
+reads_after stated failures old mid new cell i j k l (Ok v) before from until h = record {
+  reads = reads_then (reads_unfailed before) h.reads;
+  fault = tt;
+  told = λ more. h.told (omega (arith, more, before.unfailed));
+  succeeds = λ readable. refl;
+}
+reads_after stated failures old mid new cell i j k l (Err e) before from until h = failed_in stated failures old mid new cell i j k l e before h from until
+
 pub reads_more : {T X : Type 0} (stated : T → Stated) (failures : T → ℕ) (old new : T) (cell : ℕ → Cell) (i j k : ℕ) (r : Result X SourceFault) → k ≤ j
     → ReadsSpan stated failures old new cell i k r → ReadsSpan stated failures old new cell i j r
-reads_more stated failures old new cell i j k (Ok v) le h = record { reads = h.reads; fault = tt; told = h.told; succeeds = λ readable. refl }
-reads_more stated failures old new cell i j k (Err e) le h =
-    failed_in stated failures old old new cell i j i k e (record { same = refl; unfailed = refl }) h (omega arith) le
+reads_more stated failures old new cell i j k r le = reads_after stated failures old old new cell i j i k r (record { same = refl; unfailed = refl }) (omega arith) le

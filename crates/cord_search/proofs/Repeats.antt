@@ -1,12 +1,12 @@
 -- Where a pattern stands in a leaf that repeats.
-use Rattle.std.proofs.Common.{◌≡◌, ℕ, zero, suc, ◌+◌, ◌-◌, ◌<◌, ◌≤◌, List, length, map, Option, Some, None, inl, inr, sym, subst, ap, ◌∙◌, arith}
+use Rattle.std.proofs.Common.{◌≡◌, ℕ, zero, suc, ◌+◌, ◌-◌, ◌<◌, ◌≤◌, List, length, Option, Some, None, inl, inr, sym, subst, ap, ◌∙◌, arith}
 use Rattle.std.specs.Prelude.{slice_get}
 use Rattle.std.proofs.lemmas.Bool.{cases_lt}
-use Rattle.std.proofs.lemmas.List.{get_or-map, length-map, take_all}
+use Rattle.std.proofs.lemmas.List.{take_all}
 use Rattle.std.proofs.lemmas.Option.{slice_get-get_or}
 use Rattle.rope_node.specs.declared.node.NodeId.{NodeId}
 use Rattle.rope_node.specs.Table.{Table}
-use Rattle.rope_node.specs.Denotes.{Byte, cell_at, cell_byte, cells, rope_cells, rope_len, text}
+use Rattle.rope_node.specs.Denotes.{cell_byte, rope_cells, rope_len, text}
 use Rattle.cord_position.specs.Fetched.{rope_cell}
 use Rattle.cord_position.specs.Position.{Position, left_here, text_len}
 use Rattle.cord_position.specs.Runs.{run_left, IsRunPeriod}
@@ -14,19 +14,14 @@ use Rattle.cord_search.specs.Places.{StandsAt}
 use Rattle.cord_search.specs.Reached.{StandsAtPlace}
 use Rattle.cord_search.specs.Skipped.{IsClearAlso}
 use Rattle.cord_search.proofs.Fetches.{text_length}
-use Rattle.cord_search.proofs.Pieces.{first_bytes}
+use Rattle.cord_search.proofs.Pieces.{byte_of_cell, first_bytes}
 use Rattle.cord_search.proofs.Standing.{pattern_byte}
 
 -- where the cells are the same, so are the bytes
 same_byte : (t : Table) (x : Option NodeId) (source : ℕ → ℕ → ℕ) (a b : ℕ) → a < length (rope_cells t x) → b < length (rope_cells t x) → rope_cell t x a ≡ rope_cell t x b
     → slice_get (text source (rope_cells t x)) a ≡ slice_get (text source (rope_cells t x)) b
 same_byte t None source a b left right same = absurd (omega (arith, left))
-same_byte t (Some id) source a b left right same = byte a left ∙ ap (λ cell. Some (cell_byte source cell)) same ∙ sym (byte b right)
-  where
-    byte : (k : ℕ) → k < length (cells t id.0) → slice_get (map (cell_byte source) (cells t id.0)) k ≡ Some (cell_byte source (cell_at t id.0 k))
-    byte k lt =
-        slice_get-get_or (map (cell_byte source) (cells t id.0)) k 0 (omega (arith, lt, length-map (cells t id.0) (cell_byte source)))
-        ∙ ap Some (get_or-map (cell_byte source) (cells t id.0) k (Byte 0) 0 lt)
+same_byte t (Some id) source a b left right same = byte_of_cell t id.0 source a left ∙ ap (λ cell. Some (cell_byte source cell)) same ∙ sym (byte_of_cell t id.0 source b right)
 
 stands_alike : (t : Table) (x : Option NodeId) (source : ℕ → ℕ → ℕ) (s : List ℕ) (a b : ℕ) → b + length s ≤ length (rope_cells t x)
     → ((d : ℕ) → d < length s → rope_cell t x (b + d) ≡ rope_cell t x (a + d)) → StandsAt s (text source (rope_cells t x)) a → StandsAt s (text source (rope_cells t x)) b

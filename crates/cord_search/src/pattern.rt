@@ -63,16 +63,7 @@ fn find_some<S: NodeSpace, T: Sources>(
     let mut buffer = [0; WINDOW];
     let mut place = start;
     while place < places {
-        let window = next_window(
-            alloc,
-            &pos,
-            space,
-            sources,
-            x,
-            need,
-            len - place,
-            &mut buffer,
-        )?;
+        let window = next_window(&pos, space, sources, x, need, len - place, &mut buffer)?;
         if let Some(k) = finder.find(window) {
             return Ok(Some(place + k as u64));
         }

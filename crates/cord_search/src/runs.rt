@@ -1,15 +1,15 @@
 //! The next bytes of a text, as many as lie together.
 
-ghost use Rattle.std.specs.Prelude.{◌≡◌, ◌<◌, ◌≤◌, ◌+◌, length, take, IfOk, OnOk};
-ghost use Rattle.rope_node.specs.Denotes.{IsRope, rope_len};
-ghost use Rattle.cord_position.specs.Fetched.{ReadsSpan, rope_cell};
+ghost use Rattle.std.specs.Prelude.{◌≡◌, ◌<◌, ◌≤◌, ◌+◌, Some, length, take, IfOk, OnOk};
+ghost use Rattle.rope_node.specs.Table.{len_at};
+ghost use Rattle.rope_node.specs.Denotes.{IsRope, cell_at, rope_len};
+ghost use Rattle.cord_position.specs.Fetched.{ReadsSpan};
 ghost use Rattle.cord_position.specs.Position.{cell_of, text_len};
 ghost use Rattle.cord_search.specs.Pieces.{IsPiece, IsPieceHere};
 
-use cord_position::Pos;
+use cord_position::{Pos, fill_part};
 use lazy_file::{SourceFault, Sources};
-use rope_node::{NodeSpace, Rope, rope_len};
-use std::alloc::Global;
+use rope_node::{NodeId, NodeSpace, NodeView, Rope};
 
 /// How many bytes are looked at at once where the answer is often near.
 pub const PIECE: usize = 4096;
@@ -66,38 +66,46 @@ pub fn next_run<'r, S: NodeSpace, T: Sources>(
     Ok(&buffer[..n])
 }
 
-/// Writes the bytes from `place` on into the whole buffer, run by run.
+/// Writes the bytes of a node from its byte `start` on into the whole buffer, leaf by leaf. It goes down by calls of itself.
 fn gather<S: NodeSpace, T: Sources>(
-    alloc: Global,
     space: &S,
     sources: &mut T,
-    x: Rope,
-    place: u64,
+    node: NodeId,
+    start: u64,
     buffer: &mut [u8],
 ) -> Result<(), SourceFault>
-    requires rope { IsRope (S.table space.now) x }
-    requires inside { place + length buffer.old ≤ rope_len (S.table space.now) x }
+    requires there { node.0 < length (S.table space.now).nodes }
+    requires some { 1 ≤ length buffer.old }
+    requires inside { start + length buffer.old ≤ len_at (S.table space.now) node.0 }
     ensures length { length buffer.new ≡ length buffer.old }
     ensures bytes { OnOk result
-        (IsPiece (S.table space.now) (T.stated sources.old) x place buffer.new) }
+        (IsPiece (S.table space.now) (T.stated sources.old) (Some node) start buffer.new) }
     ensures reads { ReadsSpan T.stated T.failures sources.old sources.new
-        (rope_cell (S.table space.now) x) place (place + length buffer.old) result }
+        (cell_at (S.table space.now) node.0) start (start + length buffer.old) result }
 {
-    let _len = rope_len(space, x);
-    let mut pos = Pos::set(alloc, space, x, place);
-    let mut done = 0;
-    while done < buffer.len() {
-        let count = fill_run(&pos, sources, &mut buffer[done..])?;
-        pos.skip(count as u64);
-        done += count;
+    match space.node(node) {
+        NodeView::Cat { l, r } => {
+            let left = space.len(l);
+            if start >= left {
+                return gather(space, sources, r, start - left, buffer);
+            }
+            if buffer.len() as u64 <= left - start {
+                return gather(space, sources, l, start, buffer);
+            }
+            let cut = (left - start) as usize;
+            gather(space, sources, l, start, &mut buffer[..cut])?;
+            gather(space, sources, r, 0, &mut buffer[cut..])
+        }
+        NodeView::Sub { b, i } => gather(space, sources, b, i + start, buffer),
+        NodeView::Lit { .. } | NodeView::Src { .. } | NodeView::Fun => {
+            fill_part(space, sources, node, start, buffer)
+        }
     }
-    Ok(())
 }
 
 /// The next bytes from a position on, at least `need` and at most `most`: a literal's where they lie, if they are enough, and else
 /// those of as many runs as the buffer takes.
 pub fn next_window<'r, S: NodeSpace, T: Sources>(
-    alloc: Global,
     pos: &'r Pos<'_, S>,
     space: &S,
     sources: &mut T,
@@ -123,6 +131,9 @@ pub fn next_window<'r, S: NodeSpace, T: Sources>(
         return Ok(&run[..n]);
     }
     let n = most.min(buffer.len() as u64) as usize;
-    gather(alloc, space, sources, x, pos.index(), &mut buffer[..n])?;
+    match x {
+        Some(node) => gather(space, sources, node, pos.index(), &mut buffer[..n])?,
+        None => unreachable!(),
+    }
     Ok(&buffer[..n])
 }

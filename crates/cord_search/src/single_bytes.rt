@@ -76,16 +76,7 @@ pub fn rchr<S: NodeSpace, T: Sources>(
         let from = end.saturating_sub(PIECE as u64);
         let count = end - from;
         let pos = Pos::set(alloc, space, x, from);
-        let window = next_window(
-            alloc,
-            &pos,
-            space,
-            sources,
-            x,
-            count as usize,
-            count,
-            &mut buffer,
-        )?;
+        let window = next_window(&pos, space, sources, x, count as usize, count, &mut buffer)?;
         if let Some(k) = memrchr(c, window) {
             return Ok(Some(from + k as u64));
         }

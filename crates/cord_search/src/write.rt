@@ -53,7 +53,7 @@ pub fn put<S: NodeSpace, T: Sources, W: io::Write>(
     while done < len {
         let left = len - done;
         let need = left.min(PIECE as u64) as usize;
-        let window = next_window(alloc, &pos, space, sources, x, need, left, &mut buffer)?;
+        let window = next_window(&pos, space, sources, x, need, left, &mut buffer)?;
         write_bytes(writer, window)?;
         let count = window.len() as u64;
         pos.skip(count);

@@ -1,7 +1,7 @@
 //! Positions in a rope of two parts of sources, a literal and a function.
 
 use super::assert_same;
-use cord_position::Pos;
+use cord_position::{Pos, fill_part};
 use function_leaf::Coded;
 use lazy_file::{MemSources, SourceFault, Sources};
 use rope_node::{NodeId, NodeSpace, NodeView, Rope};
@@ -201,6 +201,18 @@ fn a_buffer_takes_a_run(rt: HostRuntime) {
         &Pos::set(rt.alloc(), &Sample, ALL, 0).fill(&mut sources, &mut []),
         &Ok(0),
     );
+}
+
+#[test]
+fn a_part_of_a_leaf_fills_its_buffer(rt: HostRuntime) {
+    let mut sources = texts(&rt);
+    let mut buffer = *b"..";
+    fill_part(&Sample, &mut sources, NodeId(0), 0, &mut buffer).expect(&rt, "a part of a source");
+    assert_same(&rt, &buffer, b"ab");
+    fill_part(&Sample, &mut sources, NodeId(2), 1, &mut buffer).expect(&rt, "of a literal");
+    assert_same(&rt, &buffer, b"ef");
+    fill_part(&Sample, &mut sources, NodeId(3), 2, &mut buffer).expect(&rt, "of a function");
+    assert_same(&rt, &buffer, &[2, 3]);
 }
 
 #[test]
