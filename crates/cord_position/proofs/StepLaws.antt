@@ -33,7 +33,7 @@ root_step t s h root n there many = record {
   deep = omega (arith, (s.nodes root.0 there).not_deep);
 }
 
--- a child's step is one, each with one step more above it
+-- a child's step is one, each with one fork more above it
 pub left_is_step : (t : Table) → IsSound t → HasTrueRecords t → (rope : Option NodeId) (n : ℕ) (x : Step) (l r : NodeId) → view_at t x.node.0 ≡ Cat l r
     → x.skipped < len_at t l.0 → IsStepAt t rope n x → IsStepAt t rope (n + 1) (left_step x l (len_at t l.0))
 left_is_step t s h rope n x l r e some at =
@@ -170,7 +170,7 @@ side_is_step t s h rope n x y i left right fork held =
           (subst (λ (k : ℕ). IsStepAt t rope (n + 1) (right_step z x.r k)) (sym same) (right_is_step t s h rope n z x.l x.r fork.view (omega (arith, past, same, held.0, held.1)) fork.at), (omega (arith, past, held.0, held.1), omega (arith, past, held.0, held.1)))
     ]
 
--- a step is one also with fewer steps above it
+-- a step is one also with fewer forks above it
 fewer_above : (t : Table) (rope : Option NodeId) (n : ℕ) (x : Step) → IsStepAt t rope (n + 1) x → IsStepAt t rope n x
 fewer_above t rope n x at = record { step = at.step; deep = omega (arith, at.deep) }
 

@@ -28,12 +28,12 @@ pub record IsStep (t : Table) (rope : Option NodeId) (x : Step) : Type 0 where
       → rope_span t rope i ≡ Some (shortened ((x.first + x.len) - i) (span_at t x.node.0 (x.skipped + (i - x.first))))
   pub border : IsSpanBorder t rope x.first
 
--- a step with n steps above it
+-- a step with n forks above it
 pub record IsStepAt (t : Table) (rope : Option NodeId) (n : ℕ) (x : Step) : Type 0 where
   pub step : IsStep t rope x
   pub deep : depth_at t x.node.0 + n ≤ MOST_DEPTH
 
--- a step to a concatenation with n steps above it: its children, and how many bytes the left one has
+-- a step to a concatenation with n forks above it: its children, and how many bytes the left one has
 pub record IsForkAt (t : Table) (rope : Option NodeId) (n : ℕ) (x : Fork) : Type 0 where
   pub at : IsStepAt t rope n x.step
   pub view : view_at t x.step.node.0 ≡ Cat x.l x.r

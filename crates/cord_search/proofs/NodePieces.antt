@@ -74,7 +74,7 @@ base_cells t s h x b o i n there e fits =
     }
 
 -- so their bytes are the same, and so is a read of them
-pub piece_of_same : (t : Table) (st : Stated) (x y : NodeId) (i j n : ℕ) (bytes : List ℕ) → SameCells t x y i j n → length bytes ≡ n → IsPiece t st (Some y) j bytes → IsPiece t st (Some x) i bytes
+piece_of_same : (t : Table) (st : Stated) (x y : NodeId) (i j n : ℕ) (bytes : List ℕ) → SameCells t x y i j n → length bytes ≡ n → IsPiece t st (Some y) j bytes → IsPiece t st (Some x) i bytes
 piece_of_same t st x y i j n bytes same long piece source agrees k lt stated =
     let each = same.each k (omega (arith, lt, long)) in
     piece source agrees k lt (subst (IsStated st) each stated)
@@ -87,7 +87,7 @@ pub reads_of_same : {T X : Type 0} (stated : T → Stated) (failures : T → ℕ
 reads_of_same stated failures old new t x y i j n r same = moved stated failures old new (cell_at t x.0) (cell_at t y.0) i j n r same.each
 
 -- the bytes of a leaf
-pub leaf_piece : (t : Table) (st : Stated) (leaf : NodeId) (start n : ℕ) (bytes : List ℕ) → leaf.0 < length t.nodes → IsLeaf (view_at t leaf.0) → 1 ≤ n → start + n ≤ len_at t leaf.0
+leaf_piece : (t : Table) (st : Stated) (leaf : NodeId) (start n : ℕ) (bytes : List ℕ) → leaf.0 < length t.nodes → IsLeaf (view_at t leaf.0) → 1 ≤ n → start + n ≤ len_at t leaf.0
     → length bytes ≡ n → AreBytesOf st (leaf_part t leaf start n) bytes → IsPiece t st (Some leaf) start bytes
 leaf_piece t st leaf start n bytes there is some fits long are =
     let span : LeafSpan = record { leaf = leaf; start = start; len = n } in
