@@ -13,3 +13,5 @@ pub mod Nodes
 pub mod SectionLaws
 pub mod WholeImages
 pub mod RowSpans
+pub mod Blanks
+pub mod PoolsAside

@@ -1,5 +1,5 @@
 -- What an image needs to be accepted: rules of its sources, its nodes and its revisions, each by what is recorded.
-use Rattle.std.specs.Prelude.{◌≡◌, ℕ, ◌<◌, true, false, List, length, map, take, drop, get_or, Option, None}
+use Rattle.std.specs.Prelude.{◌≡◌, ◌≢◌, All, ℕ, ◌<◌, true, false, List, length, map, take, drop, get_or, Option, None}
 use Rattle.std.specs.List.{sum_by}
 use Rattle.rope_node.specs.declared.node.NodeId.{NodeId}
 use Rattle.rope_node.specs.Table.{Table, node_at, IsSoundNode, IsTrueNode}
@@ -8,6 +8,7 @@ use Rattle.rope_node.specs.Balance.{IsBalancedRope}
 use Rattle.span_certificate.specs.declared.edit.Edit.TheVariants.{New}
 use Rattle.span_certificate.specs.declared.part.Part.{Part}
 use Rattle.span_certificate.specs.declared.row.Row.{Row}
+use Rattle.span_certificate.specs.declared.row.RowKind.TheVariants.{Bytes}
 use Rattle.span_certificate.specs.Parts.{parts_of, parts_len, IsInRange}
 use Rattle.span_certificate.specs.Covers.{Covers}
 use Rattle.image_reader.specs.declared.revision.Revision.{Revision}
@@ -87,3 +88,7 @@ pub record IsAcceptedWith (v : ImageValue) (sizes : List ℕ) (source : ℕ → 
 -- with sources of these lengths, whatever bytes they hold
 abbrev pub IsAlwaysAccepted : ImageValue → List ℕ → Type 0
 IsAlwaysAccepted v sizes = (source : ℕ → ℕ → ℕ) → IsAcceptedWith v sizes source
+
+-- none of its rows is one of bytes
+abbrev pub ComparesNoBytes : List Row → Type 0
+ComparesNoBytes rows = All (λ (r : Row). r.kind ≢ Bytes) rows

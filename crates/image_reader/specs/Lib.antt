@@ -3,3 +3,4 @@ pub mod Value
 pub mod Spelling
 pub mod Reading
 pub mod Accepted
+pub mod Outlines

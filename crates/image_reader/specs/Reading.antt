@@ -131,6 +131,12 @@ row_count bytes = number_in w32 24 bytes
 abbrev pub pool_len : List ℕ → ℕ
 pool_len bytes = number_in w64 32 bytes
 
+-- where the pool begins
+unfoldable pub pool_place : List ℕ → ℕ
+pool_place bytes =
+    HEADER_SIZE + SOURCE_SIZE * source_count bytes + NODE_SIZE * node_count bytes + REVISION_SIZE * revision_count bytes
+    + ROW_SIZE * row_count bytes
+
 -- the whole length that the header states
 unfoldable pub stated_len : List ℕ → ℕ
 stated_len bytes =

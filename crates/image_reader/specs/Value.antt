@@ -114,3 +114,13 @@ pub record IsImage (v : ImageValue) : Type 0 where
   pub few_rows : length v.rows ≤ ROWS_LIMIT
   pub small_pool : length v.pool ≤ MOST_POOL
   pub rows_counted : sum_by (λ (r : Revision). r.rows) v.revisions ≡ length v.rows
+
+-- the image with these bytes for its pool
+abbrev pub with_pool : ImageValue → List ℕ → ImageValue
+with_pool v pool = record {
+  sources = v.sources;
+  nodes = v.nodes;
+  revisions = v.revisions;
+  rows = v.rows;
+  pool = pool;
+}

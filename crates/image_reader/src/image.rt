@@ -1,21 +1,25 @@
 //! An image, over its bytes.
 
-ghost use Rattle.std.specs.Prelude.{◌≡◌, ◌<◌, length, IfOk, Ok, slice_get, Some};
+ghost use Rattle.std.specs.Prelude.{◌≡◌, ◌<◌, ◌≤◌, ◌↔◌, length, take, drop, replicate, IfOk, Ok, slice_get, Some, IfSome, IsSome, IsTrue};
 ghost use Rattle.std.specs.Result.{result_err};
 ghost use Rattle.rope_node.specs.declared.limits.TheConstants.{TEXT_LIMIT};
 ghost use Rattle.rope_node.specs.declared.node.NodeView.TheVariants.{Fun};
-ghost use Rattle.rope_node.specs.Table.{view_at, len_at, depth_at};
-ghost use Rattle.image_reader.specs.Value.{ImageValue, IsImage, function_at, image_table};
-ghost use Rattle.image_reader.specs.Accepted.{revision_at};
+ghost use Rattle.rope_node.specs.Table.{view_at, len_at, depth_at, HasSpanInside, IsLiteral, literal_from};
+ghost use Rattle.image_reader.specs.Value.{ImageValue, IsImage, function_at, image_table, with_pool};
+ghost use Rattle.image_reader.specs.Accepted.{ComparesNoBytes, revision_at};
 ghost use Rattle.image_reader.specs.Spelling.{spelling};
 ghost use Rattle.image_reader.specs.Reading.{fault_of, image_of};
+ghost use Rattle.image_reader.specs.Outlines.{HasShortLiterals};
+ghost use Rattle.image_reader.specs.declared.header.TheConstants.{MOST_POOL};
 
+use crate::blank::{pool_rest, pool_span};
 use crate::decode::{revision_in, row_in, source_in};
 use crate::fault::ReadFault;
-use crate::header::read_header;
+use crate::header::{MOST_POOL, read_header};
 use crate::layout::{HEADER_SIZE, NODE_SIZE, REVISION_SIZE, ROW_SIZE, SOURCE_SIZE};
 use crate::node::{depth_in, function_in, len_in, view_in};
 use crate::number::{bytes_from, cell_at};
+use crate::outline::{compares_no_bytes, has_short_literals};
 use crate::revision::Revision;
 use crate::section::check_sections;
 use function_leaf::Coded;
@@ -24,6 +28,7 @@ use span_certificate::Row;
 use std::marker::Model;
 
 /// A session image. It borrows the bytes that it was read from, and reads its fields from them as they are asked for.
+/// Its pool is bytes that were read, or else `blank` zeros, which take no memory.
 #[derive(Drop)]
 pub struct Image<'a> {
     source_count: u32,
@@ -35,25 +40,29 @@ pub struct Image<'a> {
     revisions: &'a [u8],
     rows: &'a [u8],
     pool: &'a [u8],
+    blank: u64,
 }
 
 impl<'a> Model for Image<'a> {
-    ghost use Rattle.std.specs.Prelude.{◌≡◌, ◌*◌, length, None};
+    ghost use Rattle.std.specs.Prelude.{◌≡◌, ◌*◌, ◌++◌, length, replicate, None};
     ghost use Rattle.image_reader.specs.Value.{ImageValue, IsImage};
     ghost use Rattle.image_reader.specs.Layout.{records};
     ghost use Rattle.image_reader.specs.declared.layout.TheConstants.{NODE_SIZE};
     ghost use Rattle.image_reader.specs.Reading.{sections_value, HasRoom, first_fault, node_record_fault};
+    ghost use Rattle.image_reader.specs.Outlines.{KeepsBlank};
 
     ghost Value = { ImageValue };
 
     ghost view = { λ a. sections_value a.source_count a.sources.now a.node_count a.nodes.now
-        a.revision_count a.revisions.now a.row_count a.rows.now a.pool.now };
+        a.revision_count a.revisions.now a.row_count a.rows.now (a.pool.now ++ replicate a.blank 0) };
 
     ghost invariant = { λ a. HasRoom a.source_count a.sources.now a.node_count a.nodes.now
         a.revision_count a.revisions.now a.row_count a.rows.now
         × IsImage (sections_value a.source_count a.sources.now a.node_count a.nodes.now
-        a.revision_count a.revisions.now a.row_count a.rows.now a.pool.now)
-        × (first_fault node_record_fault (records NODE_SIZE a.node_count a.nodes.now) ≡ None) };
+        a.revision_count a.revisions.now a.row_count a.rows.now (a.pool.now ++ replicate a.blank 0))
+        × (first_fault node_record_fault (records NODE_SIZE a.node_count a.nodes.now) ≡ None)
+        × KeepsBlank a.blank a.pool.now (sections_value a.source_count a.sources.now a.node_count a.nodes.now
+        a.revision_count a.revisions.now a.row_count a.rows.now (a.pool.now ++ replicate a.blank 0)) };
 }
 
 impl<'a> Image<'a> {
@@ -80,6 +89,7 @@ impl<'a> Image<'a> {
             revisions,
             rows,
             pool,
+            blank: 0,
         })
     }
 
@@ -113,7 +123,32 @@ impl<'a> Image<'a> {
             revisions: self.revisions,
             rows: self.rows,
             pool: self.pool,
+            blank: self.blank,
         }
+    }
+
+    /// The same image with a pool of `n` zeros, which takes no memory.
+    ///
+    /// `None` where `n` is over `MOST_POOL`, or where the recorded length of a literal is over 65,536.
+    pub fn with_blank_pool(&self, n: u64) -> Option<Image<'a>>
+        ensures value { IfSome result (λ v. v ≡ with_pool self.now (replicate n 0)) }
+        ensures there { IsSome result ↔ ((n ≤ MOST_POOL) × HasShortLiterals self.now) }
+    {
+        if n > MOST_POOL || !has_short_literals(self) {
+            return None;
+        }
+        Some(Image {
+            source_count: self.source_count,
+            node_count: self.node_count,
+            revision_count: self.revision_count,
+            row_count: self.row_count,
+            sources: self.sources,
+            nodes: self.nodes,
+            revisions: self.revisions,
+            rows: self.rows,
+            pool: &self.pool[..0],
+            blank: n,
+        })
     }
 
     /// How many sources the image has.
@@ -145,11 +180,42 @@ impl<'a> Image<'a> {
         self.row_count
     }
 
-    /// The pool.
-    pub fn pool(&self) -> &'a [u8]
-        ensures { result.now ≡ self.now.pool }
+    /// Whether none of its rows is one of bytes.
+    pub fn compares_no_bytes(&self) -> bool
+        ensures { IsTrue result ↔ ComparesNoBytes self.now.rows }
     {
-        self.pool
+        compares_no_bytes(self)
+    }
+
+    /// The length of the pool, in bytes.
+    pub fn pool_len(&self) -> u64
+        ensures { result ≡ length self.now.pool }
+    {
+        self.pool.len() as u64 + self.blank
+    }
+
+    /// Bytes of the pool from place `a` on: one or more of them.
+    pub fn pool_from(&self, a: u64) -> &[u8]
+        requires { a < length self.now.pool }
+        ensures some { 1 ≤ length result.now }
+        ensures bytes { result.now ≡ take (length result.now) (drop a self.now.pool) }
+    {
+        pool_rest(self.pool, self.blank, a)
+    }
+
+    /// A literal's bytes from its byte `off` on.
+    pub fn literal(&self, id: NodeId, off: u64) -> &[u8]
+        requires there { id.0 < length (image_table self.now).nodes }
+        requires literal { IsLiteral (view_at (image_table self.now) id.0) }
+        requires inside { off ≤ len_at (image_table self.now) id.0 }
+        requires span { HasSpanInside (image_table self.now) (len_at (image_table self.now) id.0)
+            (view_at (image_table self.now) id.0) }
+        ensures { result.now ≡ literal_from (image_table self.now) id.0 off }
+    {
+        match self.node(id) {
+            NodeView::Lit { a } => pool_span(self.pool, self.blank, a + off, a + self.len(id)),
+            _ => unreachable!(),
+        }
     }
 
     /// The length of source `s`, in bytes.

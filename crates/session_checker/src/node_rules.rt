@@ -80,7 +80,7 @@ fn has_span_inside(image: &Image, id: u32, view: NodeView, len: u64) -> bool
     ensures { IsTrue result ↔ HasSpanInside (image_table image.now) len view }
 {
     match view {
-        NodeView::Lit { a } => is_inside(a, len, image.pool().len() as u64),
+        NodeView::Lit { a } => is_inside(a, len, image.pool_len()),
         NodeView::Src { s, a } => is_inside(a, len, image.source_len(s)),
         NodeView::Fun | NodeView::Cat { .. } => true,
         NodeView::Sub { b, i } => is_inside(i, len, image.len(b)),

@@ -73,13 +73,7 @@ impl NodeSpace for Tables<'_> {
     }
 
     fn literal(&self, id: NodeId, off: u64) -> &[u8] {
-        match self.image.node(id) {
-            NodeView::Lit { a } => {
-                let len = self.image.len(id);
-                &self.image.pool()[(a + off) as usize..(a + len) as usize]
-            }
-            _ => unreachable!(),
-        }
+        self.image.literal(id, off)
     }
 
     fn fun_byte(&self, id: NodeId, i: u64) -> u8 {
@@ -99,11 +93,11 @@ impl NodeSpace for Tables<'_> {
     }
 
     fn pool_len(&self) -> u64 {
-        self.image.pool().len() as u64
+        self.image.pool_len()
     }
 
     fn pool(&self, a: u64) -> &[u8] {
-        &self.image.pool()[a as usize..]
+        self.image.pool_from(a)
     }
 }
 
@@ -156,6 +150,7 @@ pub fn check_tables<'a, S: Sources>(
 ) -> Result<Tables<'a>, CheckFault>
     ensures ok { IsOk result ↔ HasGoodTables image.now (S.stated sources.now).sizes }
     ensures value { IfOk result (λ v. v ≡ image.now) }
+    ensures image { IfOk result IsImage }
     ensures err { IfErr result (IsFirstTableFault image.now (S.stated sources.now).sizes) }
 {
     check_sources(image, sources)?;
