@@ -230,7 +230,7 @@ broken_unread stated failures old new v f none first =
     ]
 
 -- what keeps the rules whatever the sources hold keeps them over what they state
-always_good : (v : ImageValue) (sizes : List ℕ) (st : Stated) → IsAlwaysAccepted v sizes → AreGoodOver v st
+pub always_good : (v : ImageValue) (sizes : List ℕ) (st : Stated) → IsAlwaysAccepted v sizes → AreGoodOver v st
 always_good v sizes st always k lt = record {
   rules = ((always (λ s p. 0)).revisions k lt).rules;
   rows = λ source agrees stated. ((always source).revisions k lt).rows;

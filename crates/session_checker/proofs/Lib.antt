@@ -5,3 +5,6 @@ pub mod FaithfulImages
 pub mod ExactAnswers
 pub mod RevisionTexts
 pub mod SameSources
+pub mod TablePools
+pub mod OtherPools
+pub mod PoolTexts
