@@ -8,6 +8,7 @@ mod edits;
 mod images;
 mod sessions;
 mod sources;
+mod streamed;
 mod tools;
 mod words;
 mod written;

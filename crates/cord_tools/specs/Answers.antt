@@ -1,7 +1,7 @@
 -- What the tools answer.
 use Rattle.std.specs.Prelude.{◌≡◌, ◌≢◌, ◌⊎◌, ℕ, List, [], ◌++◌, ◌<◌, ◌≤◌, length, take, Option, Result, Ok, Err, All, IfSome, codes}
 use Rattle.std.specs.Fmt.{decimal}
-use Rattle.std.specs.Io.KnownBytes.{Appends, Keeps}
+use Rattle.std.specs.Io.KnownBytes.{Appends, Consumes, Keeps}
 use Rattle.byte_output.specs.Prefix.{AppendsPrefix}
 use Rattle.lazy_file.specs.SourceTexts.{Agrees, Reads, Stated, stated_in_memory}
 use Rattle.lazy_file.specs.ReadFaults.{TellsAs}
@@ -136,8 +136,8 @@ pub record ReadsRevision (remaining : Option (List ℕ)) (st : Stated) (k : ℕ)
   pub there : k < length v.revisions
   pub text : OfRevision v st k P
 
--- The text of the revision was written; where it ended before, a prefix of it, or nothing. Where each of its cells is
--- readable, it can end for the writer alone once the image is accepted.
+-- The text of the revision was written; where it ended before, a prefix of it, or nothing. Once the image is accepted, and
+-- where each of its cells is readable, it can end for the writer or for the image's reader alone.
 abbrev pub AnswersShow : {T : Type 0} → (T → Stated) → (T → ℕ) → T → T → Option (List ℕ) → ℕ → Option (List ℕ)
     → Option (List ℕ) → Result (Unit {0}) ToolFault → Type 0
 AnswersShow stated failures old new remaining k before after (Ok u) =
@@ -147,7 +147,7 @@ AnswersShow stated failures old new remaining k before after (Err Write) =
 AnswersShow stated failures old new remaining k before after (Err Read) =
     (Keeps before after × ((new ≡ old) ⊎ StopsCheck stated failures old new remaining Read))
     ⊎ ((v : ImageValue) × ReadsRevision remaining (stated old) k v (AppendsPrefix before after)
-    × IsUnread stated failures old new (revision_cells v k))
+    × ((new ≡ old) ⊎ IsUnread stated failures old new (revision_cells v k)))
 AnswersShow stated failures old new remaining k before after (Err Memory) =
     (Keeps before after × ((new ≡ old) ⊎ StopsCheck stated failures old new remaining Memory))
     ⊎ ((v : ImageValue) × ReadsRevision remaining (stated old) k v (AppendsPrefix before after)
@@ -165,3 +165,7 @@ pub record ShowsRevision {T : Type 0} (stated : T → Stated) (failures : T → 
   pub reads : Reads stated failures old new
   pub answer : AnswersShow stated failures old new remaining k before after outcome
   pub told : TellsAs failures old new Read outcome
+
+-- the bytes behind these are read
+abbrev pub ReadsBehind : List ℕ → Option (List ℕ) → (Option (List ℕ) → Type 0) → Type 0
+ReadsBehind bytes left P = (remaining : Option (List ℕ)) → Consumes remaining left bytes → P remaining

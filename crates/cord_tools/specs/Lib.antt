@@ -1,4 +1,5 @@
 pub mod Answers
+pub mod Copied
 pub mod Editing
 pub mod Faults
 pub mod Files

@@ -1,7 +1,7 @@
 //! Reading.
 
-ghost use Rattle.std.specs.Prelude.{◌≡◌, ◌⊎◌, [], IfOk, IfErr};
-ghost use Rattle.cord_tools.specs.Answers.{AreRead, AreReadUpTo};
+ghost use Rattle.std.specs.Prelude.{◌≡◌, ◌⊎◌, ◌≤◌, [], length, IfOk, IfErr};
+ghost use Rattle.cord_tools.specs.Answers.{AreRead, AreReadUpTo, ReadsBehind};
 ghost use Rattle.cord_tools.specs.declared.fault.ToolFault.TheVariants.{Memory, Read};
 
 use crate::fault::ToolFault;
@@ -26,13 +26,38 @@ pub fn read_image<R: Read + Drop>(
 }
 
 /// Room for so many bytes, and for one more, which tells that they are all.
-fn room(alloc: Global, expected: u64) -> Result<Vec<u8>, ToolFault>
+pub fn room(alloc: Global, expected: u64) -> Result<Vec<u8>, ToolFault>
     ensures ok { IfOk result (λ v. v.items ≡ []) }
     ensures fault { IfErr result (λ e. e ≡ Memory) }
 {
     match usize::try_from(expected.saturating_add(1)) {
         Ok(capacity) => Ok(Vec::with_capacity(alloc, capacity)?),
         Err(_) => Err(ToolFault::Memory),
+    }
+}
+
+/// Reads what is left behind the bytes that are there, up to `limit` bytes in all.
+pub fn read_behind<R: Read + Drop>(
+    bytes: Vec<u8>,
+    reader: R,
+    limit: u64,
+) -> Result<Vec<u8>, ToolFault>
+    requires { length bytes.items ≤ limit }
+    ensures ok { IfOk result (λ v. ReadsBehind bytes.items (R.remaining reader)
+        (λ remaining. AreReadUpTo limit remaining v.items)) }
+    ensures fault { IfErr result (λ e. (e ≡ Memory) ⊎ (e ≡ Read)) }
+{
+    let mut bytes = bytes;
+    let left = limit - bytes.len() as u64;
+    match reader.take(left).read_to_end(&mut bytes) {
+        Ok(_) => Ok(bytes),
+        Err(error) => {
+            if error.kind() == ErrorKind::OutOfMemory {
+                Err(ToolFault::Memory)
+            } else {
+                Err(ToolFault::Read)
+            }
+        }
     }
 }
 
@@ -46,15 +71,7 @@ pub fn read_up_to<R: Read + Drop>(
     ensures ok { IfOk result (λ v. AreReadUpTo limit (R.remaining reader) v.items) }
     ensures fault { IfErr result (λ e. (e ≡ Memory) ⊎ (e ≡ Read)) }
 {
-    let mut bytes = room(alloc, expected.min(limit))?;
-    match reader.take(limit).read_to_end(&mut bytes) {
-        Ok(_) => Ok(bytes),
-        Err(error) => {
-            if error.kind() == ErrorKind::OutOfMemory {
-                Err(ToolFault::Memory)
-            } else {
-                Err(ToolFault::Read)
-            }
-        }
-    }
+    let first = room(alloc, expected.min(limit))?;
+    let bytes = read_behind(first, reader, limit)?;
+    Ok(bytes)
 }

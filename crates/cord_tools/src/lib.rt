@@ -3,6 +3,7 @@
 
 mod check;
 mod cmp;
+mod copying;
 mod cut;
 mod edit;
 mod fault;
@@ -12,6 +13,7 @@ mod input;
 mod join;
 mod outcome;
 mod show;
+mod sized;
 mod sources;
 mod status;
 
@@ -24,5 +26,6 @@ pub use find::run_find;
 pub use join::run_join;
 pub use outcome::{Outcome, exit_status};
 pub use show::run_show;
+pub use sized::SizedRead;
 pub use sources::{read_source, sources_of};
 pub use status::Status;

@@ -69,17 +69,10 @@ fn check(rt: &HostRuntime, image: &str, paths: &[&str]) -> Result<Status, ToolFa
 /// Writes the text of a revision of an image.
 fn show(rt: &HostRuntime, image: &str, revision: u64, paths: &[&str]) -> Result<Status, ToolFault> {
     let image = open(rt, image)?;
-    let expected = told_size(&image);
     let texts = source_texts(rt, paths)?;
     let mut sources = sources_of(rt.alloc(), texts.as_slice())?;
-    run_show(
-        rt.alloc(),
-        image,
-        expected,
-        &mut sources,
-        revision,
-        &mut io::writer(rt),
-    )?;
+    let mut writer = io::writer(rt);
+    run_show(rt.alloc(), image, &mut sources, revision, &mut writer)?;
     Ok(Status::Success)
 }
 

@@ -46,7 +46,6 @@ fn what_is_typed_is_saved(rt: HostRuntime) {
         let shown = run_show(
             rt.alloc(),
             image.as_slice(),
-            image.len() as u64,
             &mut sources,
             revision,
             &mut text,

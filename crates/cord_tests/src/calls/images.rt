@@ -210,7 +210,7 @@ fn shown<A: AllocGlobal, S: Sources>(
     k: u64,
 ) -> Result<Vec<u8>, ToolFault> {
     let mut written = Vec::new(rt.alloc());
-    run_show(rt.alloc(), image, 0, sources, k, &mut written)?;
+    run_show(rt.alloc(), image, sources, k, &mut written)?;
     Ok(written)
 }
 

@@ -2,8 +2,8 @@
 
 use super::{assert_same, assert_same_at};
 use cord_tools::{
-    Outcome, Status, ToolFault, exit_status, read_source, refuse_check, run_check, run_cmp,
-    run_cut, run_find, run_join, run_show, run_stdin, sources_of,
+    Outcome, SizedRead, Status, ToolFault, exit_status, read_source, refuse_check, run_check,
+    run_cmp, run_cut, run_find, run_join, run_show, run_stdin, sources_of,
 };
 use edit_commands::EditFault;
 use image_reader::ReadFault;
@@ -54,19 +54,21 @@ const INSERT_BESIDE_A_SOURCE: &[u8] = b"CORDSESS\0\0\0\x01\0\0\0\x01\0\0\0\x01\0
 
 const ACCEPTED: &[u8] = b"accepted 2 revisions 1 nodes 1 rows\n";
 
-/// Gives its bytes. Where it has given `cut` of them, it fails once.
+/// Gives its bytes, one a read. Where it has given `cut` of them, it fails once. It tells its size where it has one to tell.
 #[derive(Clone, Copy)]
-struct Source<'a> {
+pub(super) struct Source<'a> {
     bytes: &'a [u8],
-    cut: Option<usize>,
+    pub(super) cut: Option<usize>,
     kind: ErrorKind,
+    pub(super) told: Option<u64>,
 }
 
-fn whole(bytes: &[u8]) -> Source<'_> {
+pub(super) fn whole(bytes: &[u8]) -> Source<'_> {
     Source {
         bytes,
         cut: None,
         kind: ErrorKind::BrokenPipe,
+        told: None,
     }
 }
 
@@ -88,16 +90,22 @@ impl<'a> Read for Source<'a> {
     }
 }
 
+impl<'a> SizedRead for Source<'a> {
+    fn size(&self) -> Option<u64> {
+        self.told
+    }
+}
+
 /// How a writer answers that has no room.
 #[derive(Clone, Copy, Debug, PartialEq)]
-enum End {
+pub(super) enum End {
     Fails,
     TakesNothing,
 }
 
 /// Takes `room` bytes, one a write. It may be interrupted once.
 #[derive(Drop)]
-struct Sink {
+pub(super) struct Sink {
     held: [u8; 512],
     count: usize,
     room: usize,
@@ -106,7 +114,7 @@ struct Sink {
 }
 
 impl Sink {
-    fn with_room(room: usize, end: End) -> Sink {
+    pub(super) fn with_room(room: usize, end: End) -> Sink {
         Sink {
             held: [0; 512],
             count: 0,
@@ -116,7 +124,7 @@ impl Sink {
         }
     }
 
-    fn taken(&self) -> &[u8] {
+    pub(super) fn taken(&self) -> &[u8] {
         self.held.get(..self.count).unwrap_or(&[])
     }
 
@@ -213,7 +221,7 @@ fn show(
     writer: &mut Sink,
 ) -> Result<(), ToolFault> {
     let mut none = MemSources::new(rt.alloc());
-    run_show(rt.alloc(), whole(image), 0, &mut none, revision, writer)
+    run_show(rt.alloc(), whole(image), &mut none, revision, writer)
 }
 
 #[test]
@@ -440,7 +448,6 @@ fn a_session_without_the_sources_bytes_is_read_without_them(rt: HostRuntime) {
     let outcome = run_show(
         rt.alloc(),
         whole(INSERT_BESIDE_A_SOURCE),
-        0,
         &mut sources,
         1,
         &mut shown,
@@ -458,14 +465,7 @@ fn sources_of_other_lengths_are_refused_without_a_read(rt: HostRuntime) {
     assert_same(&rt, &outcome, &Ok(Status::Failure));
     assert_same(&rt, &writer.taken(), &b"refused C2\n".as_slice());
     let mut shown = Sink::with_room(64, End::Fails);
-    let outcome = run_show(
-        rt.alloc(),
-        whole(ONE_INSERT),
-        0,
-        &mut sources,
-        1,
-        &mut shown,
-    );
+    let outcome = run_show(rt.alloc(), whole(ONE_INSERT), &mut sources, 1, &mut shown);
     assert_same(
         &rt,
         &outcome,

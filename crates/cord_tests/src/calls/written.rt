@@ -219,7 +219,7 @@ fn shown<R: AllocGlobal + Abort>(
     k: u64,
 ) -> Vec<u8> {
     let mut bytes: Vec<u8> = Vec::new(rt.alloc());
-    run_show(rt.alloc(), image, 0, sources, k, &mut bytes).expect(rt, "a text");
+    run_show(rt.alloc(), image, sources, k, &mut bytes).expect(rt, "a text");
     bytes
 }
 
