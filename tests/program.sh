@@ -39,6 +39,11 @@ truncate -s 1099511627776 too_long || exit 1
 printf 'ab\025c\030' > keys_saved
 printf 'ab\025c\003' > keys_left
 printf 'ab\025c' > keys_ended
+# the insertion of abc with a pool of 1,048,576 bytes, which begins with abc; the same a byte shorter, longer, and with a row of bytes
+{ head -c 32 one_insert && printf '\0\0\0\0\0\020\0\0' && tail -c +41 one_insert && head -c 1048573 /dev/zero; } > long_pool
+head -c -1 long_pool > long_pool_short
+{ cat long_pool && printf x; } > long_pool_more
+{ head -c 184 long_pool && printf '\003' && tail -c +186 long_pool; } > long_pool_bytes
 mkfifo pipe || exit 1
 cat one_insert > pipe &
 writer=$!
@@ -169,6 +174,15 @@ the largest number is no revision;show one_insert 18446744073709551615;;1;;refus
 a refused image is not shown;show child_not_earlier 0;;1;;refused C4(1)\n
 an image is not shown beside a source too many;show one_insert 1 abc;;1;;refused C2\n
 an image is not shown beside 256 sources;show one_insert 1 $(yes abc | head -n 256);;1;;refused S4\n
+a text in a long pool is shown;show long_pool 1;;0;abc;
+the text of New beside a long pool is shown;show long_pool 0;;0;;
+a text in a long pool by a pipe is shown;show /dev/stdin 1;long_pool;0;abc;
+a text in a long pool that a row compares is shown;show long_pool_bytes 1;;0;abc;
+a revision that is not there beside a long pool;show long_pool 2;;1;;refused no revision\n
+an image of a long pool that is cut short is not shown;show long_pool_short 1;;1;;refused C1(I1)\n
+an image of a long pool and a byte more is not shown;show long_pool_more 1;;1;;refused C1(I2)\n
+an image of a long pool is not shown beside a source too many;show long_pool 1 abc;;1;;refused C2\n
+a text in a long pool on a full device;show long_pool 1;;3;/dev/full;write\n
 an image to show that is not there;show missing 0;;3;;read\n
 a text on a full device;show one_insert 1;;3;/dev/full;write\n
 keys are shown and saved;edit saved;keys_saved;0;edit.txt;
