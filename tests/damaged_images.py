@@ -21,6 +21,7 @@ FILL, RAMP, CYCLE = 1, 2, 3
 NEW, OPEN, INSERT, DELETE, REPLACE, PASTE, JOIN, CUT, FILL_IN, BACK, BALANCE = range(1, 12)
 SHARED, LEAF, BYTES = 1, 2, 3
 LONGEST_SHOWN = 1 << 20
+MEGABYTE = 1 << 20
 
 
 def text_of(command, revision, texts, sources, pool):
@@ -355,7 +356,7 @@ def run(program, *words):
     return subprocess.run([program, *words], stdin=subprocess.DEVNULL, capture_output=True, check=False)
 
 
-def answers(program, folder, data, sources, whole):
+def answers(program, folder, data, sources, whole, long_pool):
     """Whether an image is accepted, and what is wrong with the answers for it, or nothing."""
     image = os.path.join(folder, "image")
     with open(image, "wb") as file:
@@ -373,14 +374,24 @@ def answers(program, folder, data, sources, whole):
     if checked.returncode != 0 or checked.stderr or not checked.stdout.startswith(b"accepted %d revisions " % len(spelled)):
         return False, f"answered {checked.stdout!r} {checked.stderr!r}, status {checked.returncode}"
     texts = []
-    for k, (kind, fields) in enumerate(spelled):
+    for kind, fields in spelled:
         if kind == FILL_IN and fields[5] > LONGEST_SHOWN:
             break
         texts.append(text_of(kind, fields, texts, sources, pool))
-        shown = run(program, "show", image, str(k), *files)
-        if (shown.returncode, shown.stdout, shown.stderr) != (0, texts[-1], b""):
-            return True, f"revision {k} is shown as {shown.stdout[:80]!r}"
+    for longer in [False, True] if long_pool else [False]:
+        if longer:
+            with open(image, "wb") as file:
+                file.write(with_long_pool(data, len(pool)))
+        for k, text in enumerate(texts):
+            shown = run(program, "show", image, str(k), *files)
+            if (shown.returncode, shown.stdout, shown.stderr) != (0, text, b""):
+                return True, f"revision {k} is shown as {shown.stdout[:80]!r}{' with a long pool' if longer else ''}"
     return True, None
+
+
+def with_long_pool(data, size):
+    """The image with a pool of a megabyte more, of which `show` may write a text as it reads it."""
+    return data[:32] + struct.pack(">Q", size + MEGABYTE) + data[40:] + bytes(MEGABYTE)
 
 
 def batch(given):
@@ -393,7 +404,7 @@ def batch(given):
     with tempfile.TemporaryDirectory() as folder:
         for k in range(count):
             tried = data if k == 0 else damaged(sections, chance)
-            taken, fault = answers(program, folder, tried, image.sources, k == 0)
+            taken, fault = answers(program, folder, tried, image.sources, k == 0, k > 0 or seed % 10 == 0)
             accepted += taken and tried != data
             if fault:
                 found.append(f"seed {seed}, image {k}: {fault}")
