@@ -4,8 +4,8 @@
 ghost use Rattle.std.specs.Prelude.{◌≡◌, IfOk, length};
 
 use cord_tools::{
-    Outcome, Status, ToolFault, exit_status, read_source, refuse_check, run_check, run_cmp,
-    run_cut, run_edit, run_find, run_join, run_show, run_stdin, sources_of,
+    Outcome, SizedRead, Status, ToolFault, exit_status, read_source, refuse_check, run_check,
+    run_cmp, run_cut, run_edit, run_find, run_join, run_show, run_stdin, sources_of,
 };
 use cord_words::{Action, WordsFault, words};
 use lazy_file::{FileDevice, FileSources};
@@ -32,14 +32,6 @@ fn open(rt: &HostRuntime, path: &str) -> Result<File, ToolFault> {
     }
 }
 
-/// So many bytes a file tells that it has. A pipe tells none.
-fn told_size(file: &File) -> u64 {
-    match file.metadata() {
-        Ok(metadata) if metadata.is_file() => metadata.len(),
-        _ => 0,
-    }
-}
-
 /// Reads the sources whole, in the order of their paths.
 fn source_texts(rt: &HostRuntime, paths: &[&str]) -> Result<Vec<Vec<u8>>, ToolFault>
     ensures { IfOk result (λ texts. length texts.items ≡ length paths.entry.now) }
@@ -47,7 +39,7 @@ fn source_texts(rt: &HostRuntime, paths: &[&str]) -> Result<Vec<Vec<u8>>, ToolFa
     let mut texts = Vec::new(rt.alloc());
     for path in paths {
         let file = open(rt, path)?;
-        let expected = told_size(&file);
+        let expected = file.size().unwrap_or(0);
         let text = read_source(rt.alloc(), file, expected)?;
         texts.push(text).map_err(|_| ToolFault::Memory)?;
     }
@@ -57,7 +49,7 @@ fn source_texts(rt: &HostRuntime, paths: &[&str]) -> Result<Vec<Vec<u8>>, ToolFa
 /// Checks an image with its sources. Sources that are refused answer for it.
 fn check(rt: &HostRuntime, image: &str, paths: &[&str]) -> Result<Status, ToolFault> {
     let image = open(rt, image)?;
-    let expected = told_size(&image);
+    let expected = image.size().unwrap_or(0);
     let texts = source_texts(rt, paths)?;
     let mut writer = io::writer(rt);
     match sources_of(rt.alloc(), texts.as_slice()) {
