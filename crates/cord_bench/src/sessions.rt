@@ -69,7 +69,7 @@ fn edit(session: &mut Session, work: Work) -> Option<EditFault> {
 }
 
 /// How many rows a session has.
-fn rows(session: &Session) -> u64 {
+pub fn rows(session: &Session) -> u64 {
     let mut rows: u64 = 0;
     for k in 0..session.count() {
         rows = rows.saturating_add(session.rows(k).map_or(0, <[Row]>::len) as u64);

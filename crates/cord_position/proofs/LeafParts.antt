@@ -1,6 +1,6 @@
 -- Parts of a leaf: which cells they are, what bytes these stand for, and a read of them that failed.
 use Rattle.std.proofs.Common.{[], Some, None, refl, false, ◌≡◌, ℕ, ◌+◌, ◌-◌, ◌<◌, ◌≤◌, List, map, length, take, drop, get_or, sym, ap, subst, ◌∙◌, arith}
-use Rattle.std.specs.Prelude.{true, Option, Result, Ok, Err, IfSome, IfErr, IsSome, IsOk, OnOk}
+use Rattle.std.specs.Prelude.{max, Option, Result, Ok, Err, IfSome, IsSome, OnOk}
 use Rattle.std.specs.List.{slice_range, range_with_len}
 use Rattle.std.proofs.lemmas.List.{get_or-map, get_or-take, get_or-drop, get_or_past, map-id, take-take}
 use Rattle.std.proofs.lemmas.Simd.{map-map}
@@ -13,13 +13,14 @@ use Rattle.rope_node.specs.Table.{Table, view_at, len_at, IsSound, IsLiteral, li
 use Rattle.rope_node.specs.Denotes.{Cell, Byte, Place, cell_at, cells, rope_cells, cell_byte}
 use Rattle.rope_node.proofs.Cells.{cells_at}
 use Rattle.rope_node.proofs.Parts.{span_within, span-map, span-range_with_len}
-use Rattle.lazy_file.specs.SourceTexts.{Reads, Stated, holds_span, text_at}
-use Rattle.lazy_file.specs.ReadFaults.{IsFaultOf, TellsFailure}
+use Rattle.lazy_file.specs.SourceTexts.{Stated, holds_span, text_at}
+use Rattle.lazy_file.specs.Readings.{fault_in, InSpan, Reading, Reads}
+use Rattle.lazy_file.proofs.LaterReads.{reads_weaker}
 use Rattle.lazy_file.specs.declared.faults.SourceFault.{SourceFault}
 use Rattle.lazy_file.specs.declared.faults.SourceFault.TheVariants.{BadSource}
 use Rattle.lazy_file.proofs.ReadOutcomes.{refused_span}
 use Rattle.lazy_file.proofs.AgreedBytes.{agreed_read}
-use Rattle.cord_position.specs.Fetched.{EachCell, IsFaultIn, IsReadable, IsStated, ReadsSpan, rope_cell}
+use Rattle.cord_position.specs.Fetched.{InCells, IsStated, ReadsSpan, rope_cell}
 use Rattle.cord_position.specs.Runs.{IsRun, AreBytesOf}
 
 -- a part of a literal, of a source and of a function
@@ -73,82 +74,36 @@ bytes_of_read st s p n read some whole is source agrees stated =
     let there : IsSome (text_at st s) = subst (IsStated st) first (stated 0 (Byte 0) (rw length-map-range_with_len some)) in
     agreed_read st source s p n read agrees there whole is ∙ sym (map-map (cell_byte source) (Place s) (range_with_len p n))
 
--- a read of a part fails as one of its last place would
-pub fault_in : {T : Type 0} (stated : T → Stated) (failures : T → ℕ) (old new : T) (s p n : ℕ) (fault : SourceFault) → 1 ≤ n → IsFaultOf {X = Unit {0}} stated failures old new s p n (Err fault)
-    → IsFaultIn stated failures old new (Place s) p (p + n) fault
-fault_in stated failures old new s p n fault some h =
-    let end : p + n ≡ (p + (n - 1)) + 1 = omega arith in
-    record {
-      place = p + (n - 1);
-      from = omega arith;
-      until = omega arith;
-      read = record { s = s; p = p + (n - 1); is = refl; read = record { device = h.device; short = h.short; bad_source = rw end at h.bad_source; unfailing = h.unfailing } };
-    }
-
 -- the same of a read's outcome
 pub outcome_bytes : {X : Type 0} (st : Stated) (s p n : ℕ) (read : List ℕ) (r : Result X SourceFault) → 1 ≤ n → length read ≡ n → OnOk r (IfSome (text_at st s) (λ t. read ≡ take n (drop p t)))
     → OnOk r (AreBytesOf st (map (Place s) (range_with_len p n)) read)
 outcome_bytes st s p n read (Ok x) some whole is = bytes_of_read st s p n read some whole is
 outcome_bytes st s p n read (Err e) some whole is = tt
 
-pub outcome_fault : {T : Type 0} (stated : T → Stated) (failures : T → ℕ) (old new : T) (s p n : ℕ) (r : Result (Unit {0}) SourceFault) → 1 ≤ n → IsFaultOf stated failures old new s p n r
-    → IfErr r (IsFaultIn stated failures old new (Place s) p (p + n))
-outcome_fault stated failures old new s p n (Ok x) some h = tt
-outcome_fault stated failures old new s p n (Err e) some h = fault_in stated failures old new s p n e some h
-
--- where each of these places is readable, their span is
-pub span_readable : (st : Stated) (s p n : ℕ) → 1 ≤ n → EachCell (Place s) p (p + n) (IsReadable st) → (st.never_fails ≡ true) × (holds_span st s p n ≡ true)
-span_readable st s p n some held =
-    let end : (p + (n - 1)) + 1 ≡ p + n = omega arith in
-    let here = held (p + (n - 1)) (omega arith) (omega arith) in
-    (here.0, rw end at here.1)
-
 -- what a read of a span of a source does, where it fails and where it is refused at once
-pub read_span : {T : Type 0} (stated : T → Stated) (failures : T → ℕ) (old new : T) (s p n : ℕ) (r : Result (Unit {0}) SourceFault) → 1 ≤ n → Reads stated failures old new
-    → IsFaultOf stated failures old new s p n r → TellsFailure failures old new r → ((stated old).never_fails ≡ true → holds_span (stated old) s p n ≡ true → IsOk r)
-    → ReadsSpan stated failures old new (Place s) p (p + n) r
-read_span stated failures old new s p n r some reads fault told succeeds = record {
-  reads = reads;
-  fault = outcome_fault stated failures old new s p n r some fault;
-  told = told;
-  succeeds = λ readable. let held = span_readable (stated old) s p n some readable in succeeds held.0 held.1;
-}
+span_cells : (s p n r q : ℕ) → 1 ≤ n → InSpan s p (max 1 n) r q → InCells (Place s) p (p + n) r q
+span_cells s p n r q some asked = (q, asked.1, omega (arith, asked.2, some), ap (λ (k : ℕ). Place k q) (sym asked.0))
 
-pub refuse_span : {T X : Type 0} (stated : T → Stated) (failures : T → ℕ) (old : T) (s p n : ℕ) → 1 ≤ n → holds_span (stated old) s p n ≡ false
-    → ReadsSpan {X = X} stated failures old old (Place s) p (p + n) (Err BadSource)
-refuse_span stated failures old s p n some missing = record {
-  reads = record { same = refl; later = omega arith };
-  fault = fault_in stated failures old old s p n BadSource some (refused_span stated failures old old s p n missing);
-  told = λ more. absurd (omega (arith, more));
-  succeeds = λ readable. let held = span_readable (stated old) s p n some readable in absurd cc;
-}
+pub read_span : {X : Type 0} (old new : Reading) (s p n : ℕ) (r : Result X SourceFault) → 1 ≤ n → Reads old new (InSpan s p (max 1 n)) (fault_in r) → ReadsSpan old new (Place s) p (p + n) r
+read_span old new s p n r some reads =
+    reads_weaker old new (InSpan s p (max 1 n)) (InCells (Place s) p (p + n)) (fault_in r) (λ k q asked. span_cells s p n k q some asked) reads
+
+pub refuse_span : (old : Reading) (s p n : ℕ) → 1 ≤ n → holds_span old.stated s p n ≡ false → Reads old old (InCells (Place s) p (p + n)) (Some BadSource)
+refuse_span old s p n some missing =
+    reads_weaker old old (InSpan s p (max 1 n)) (InCells (Place s) p (p + n)) (Some BadSource) (λ k q asked. span_cells s p n k q some asked) (refused_span old s p n missing)
 
 -- the same cells at other places
-pub moved : {T X : Type 0} (stated : T → Stated) (failures : T → ℕ) (old new : T) (f g : ℕ → Cell) (i j n : ℕ) (r : Result X SourceFault)
-    → ((k : ℕ) → k < n → f (i + k) ≡ g (j + k)) → ReadsSpan stated failures old new g j (j + n) r → ReadsSpan stated failures old new f i (i + n) r
-moved stated failures old new f g i j n r same h = record {
-  reads = h.reads;
-  fault = of_outcome r h.fault;
-  told = h.told;
-  succeeds = λ readable. h.succeeds (λ p above below.
-      let k = p - j in
-      let at : j + k ≡ p = omega (arith, above) in
-      let lt : k < n = omega (arith, above, below) in
-      subst (IsReadable (stated old)) (same k lt ∙ ap g at) (readable (i + k) (omega arith) (omega (arith, lt))));
-}
-  where
-    of_outcome : {X : Type 0} (r : Result X SourceFault) → IfErr r (IsFaultIn stated failures old new g j (j + n)) → IfErr r (IsFaultIn stated failures old new f i (i + n))
-    of_outcome (Ok x) fault = tt
-    of_outcome (Err e) fault =
-        let k = fault.place - j in
-        let at : j + k ≡ fault.place = omega (arith, fault.from) in
-        let lt : k < n = omega (arith, fault.from, fault.until) in
-        record {
-          place = i + k;
-          from = omega arith;
-          until = omega (arith, lt);
-          read = record { s = fault.read.s; p = fault.read.p; is = same k lt ∙ ap g at ∙ fault.read.is; read = fault.read.read };
-        }
+pub moved : {X : Type 0} (old new : Reading) (f g : ℕ → Cell) (i j n : ℕ) (r : Result X SourceFault)
+    → ((k : ℕ) → k < n → f (i + k) ≡ g (j + k)) → ReadsSpan old new g j (j + n) r → ReadsSpan old new f i (i + n) r
+moved old new f g i j n r same h =
+    reads_weaker old new (InCells g j (j + n)) (InCells f i (i + n)) (fault_in r)
+    (λ s p asked.
+    let (place, from, until, is) = asked in
+    let k = place - j in
+    let at : j + k ≡ place = omega (arith, from) in
+    let lt : k < n = omega (arith, from, until) in
+    (i + k, omega arith, omega (arith, lt), same k lt ∙ ap g at ∙ is))
+    h
 
 -- the cells of a part of a run
 pub run_cells : (t : Table) (rope : Option NodeId) (i : ℕ) (x : LeafSpan) → IsRun t rope i x → (k : ℕ) → k < x.len → rope_cell t rope (i + k) ≡ cell_at t x.leaf.0 (x.start + k)

@@ -1,7 +1,6 @@
 pub mod HereLaws
 pub mod LeafCells
 pub mod LeafParts
-pub mod Outcomes
 pub mod RopeBytes
 pub mod RunPeriods
 pub mod Spans

@@ -1,6 +1,6 @@
 -- Reads of a rope's cells, one after the other.
-use Rattle.std.proofs.Common.{◌≡◌, ◌↔◌, ℕ, ◌+◌, ◌<◌, ◌≤◌, length, refl, true, false, Option, Some, None, inl, inr, sym, subst, arith}
-use Rattle.std.specs.Prelude.{All, Err, IfSome, IsErr, IsErrOf, slice_index}
+use Rattle.std.proofs.Common.{◌≡◌, ℕ, ◌+◌, ◌≤◌, length, refl, Option, Some, None, inl, inr, sym, subst, arith}
+use Rattle.std.specs.Prelude.{All, Result, Ok, Err, IsOk, slice_index}
 use Rattle.rope_node.specs.declared.node.NodeId.{NodeId}
 use Rattle.rope_node.specs.Table.{Table, IsSound}
 use Rattle.rope_node.specs.Denotes.{Cell, Byte, Place, IsRope, cell_at, cells, rope_cells}
@@ -8,43 +8,28 @@ use Rattle.rope_node.specs.Held.{IsHeldCell}
 use Rattle.rope_node.proofs.HeldCells.{cell_held}
 use Rattle.std.proofs.lemmas.Bool.{cases_lt, lt-ltb, le-leb}
 use Rattle.std.proofs.lemmas.List.{get_or_past}
-use Rattle.lazy_file.specs.SourceTexts.{Reads, ReadsUnfailed, Stated, holds_span, text_at}
+use Rattle.lazy_file.specs.SourceTexts.{Stated}
+use Rattle.lazy_file.specs.Readings.{fault_in, Reading}
 use Rattle.lazy_file.specs.declared.faults.SourceFault.{SourceFault}
-use Rattle.lazy_file.specs.declared.faults.SourceFault.TheVariants.{BadSource}
-use Rattle.lazy_file.proofs.LaterReads.{reads_then, reads_unfailed}
-use Rattle.cord_position.specs.Fetched.{AreOwn, EachCell, IsReadable, IsPlaceFault, ReadsSpan, rope_cell}
+use Rattle.lazy_file.proofs.LaterReads.{reads_then, reads_weaker}
+use Rattle.cord_position.specs.Fetched.{AreOwn, EachCell, InCells, IsReadable, ReadsSpan, rope_cell}
 
--- a fault of a later read is one of the whole
-pub later_fault : {T : Type 0} (stated : T → Stated) (failures : T → ℕ) (old mid new : T) (cell : Cell) (e : SourceFault)
-    → Reads stated failures old mid → IsPlaceFault stated failures mid new cell e → IsPlaceFault stated failures old new cell e
-later_fault stated failures old mid new cell e before h = record {
-  s = h.s;
-  p = h.p;
-  is = h.is;
-  read = record {
-    device = λ is. let more = h.read.device is in omega (arith, more, before.later);
-    short = λ is. subst (λ st. IfSome (text_at st h.s) (λ t. length t < slice_index st.sizes h.s)) before.same (h.read.short is);
-    bad_source = subst (λ st. IsErrOf {T = Unit {0}} (Err e) BadSource ↔ (holds_span st h.s h.p 1 ≡ false)) before.same h.read.bad_source;
-    unfailing = subst (λ st. IsErr {T = Unit {0}} (Err e) → st.never_fails ≡ true → IsErrOf {T = Unit {0}} (Err e) BadSource) before.same h.read.unfailing;
-  };
-}
+-- a call that reads some of the cells, behind calls that answered no fault
+pub failed_in : {X : Type 0} (old mid new : Reading) (cell : ℕ → Cell) (i j k l : ℕ) (r : Result X SourceFault)
+    → mid ≡ old → ReadsSpan mid new cell k l r → i ≤ k → l ≤ j → ReadsSpan old new cell i j r
+failed_in old mid new cell i j k l r before h from until =
+    reads_then old mid new (InCells cell i j) (fault_in r) before
+    (reads_weaker mid new (InCells cell k l) (InCells cell i j) (fault_in r) (λ s p asked. (asked.0, omega (arith, from, asked.1), omega (arith, until, asked.2), asked.3)) h)
 
--- where a call that reads some of the cells failed
-pub failed_in : {T X Y : Type 0} (stated : T → Stated) (failures : T → ℕ) (old mid new : T) (cell : ℕ → Cell) (i j k l : ℕ) (e : SourceFault)
-    → ReadsUnfailed stated failures old mid → ReadsSpan {X = X} stated failures mid new cell k l (Err e) → i ≤ k → l ≤ j
-    → ReadsSpan {X = Y} stated failures old new cell i j (Err e)
-failed_in stated failures old mid new cell i j k l e before h from until = record {
-  reads = reads_then (reads_unfailed before) h.reads;
-  fault = record {
-    place = h.fault.place;
-    from = omega (arith, from, h.fault.from);
-    until = omega (arith, until, h.fault.until);
-    read = later_fault stated failures old mid new (cell h.fault.place) e (reads_unfailed before) h.fault.read;
-  };
-  told = λ more. (let later : failures mid < failures new = omega (arith, more, before.unfailed) in h.told later);
-  succeeds = λ readable.
-      let ok = h.succeeds (λ p above below. subst (λ st. IsReadable st (cell p)) (sym before.same) (readable p (omega (arith, above, from)) (omega (arith, below, until)))) in absurd cc;
-}
+-- where each cell is readable there is no fault
+pub span_read : {X : Type 0} (old new : Reading) (cell : ℕ → Cell) (i j : ℕ) (r : Result X SourceFault) → ReadsSpan old new cell i j r → EachCell cell i j (IsReadable old.stated) → IsOk r
+span_read old new cell i j (Ok x) h readable = refl
+span_read old new cell i j (Err e) h readable =
+    let (k, from, until, is) = h.asked in
+    let here : IsReadable old.stated (Place h.s h.p) = subst (IsReadable old.stated) is (readable k from until) in
+    let bad = h.at.bad_source (h.at.unfailing here.0) in
+    let there = here.1 in
+    absurd cc
 
 -- what holds of each of a rope's cells, and of bytes, holds from any place up to any
 pub each_cell : (t : Table) (rope : Option NodeId) (P : Cell → Type 0) → P (Byte 0) → All P (rope_cells t rope) → (i j : ℕ) → EachCell (rope_cell t rope) i j P

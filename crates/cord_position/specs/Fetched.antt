@@ -1,10 +1,10 @@
 -- The byte at a place of a rope, over what the sources state.
-use Rattle.std.specs.Prelude.{◌≡◌, ℕ, ◌<◌, ◌≤◌, true, List, Option, Some, None, Result, Err, IsSome, IsOk, IfErr, slice_get, take, drop, All}
+use Rattle.std.specs.Prelude.{◌≡◌, ℕ, ◌<◌, ◌≤◌, true, List, Option, Some, None, Result, IsSome, slice_get, take, drop, All}
 use Rattle.rope_node.specs.declared.node.NodeId.{NodeId}
 use Rattle.rope_node.specs.Table.{Table}
 use Rattle.rope_node.specs.Denotes.{Cell, Byte, Place, cell_at, cell_byte, cells, rope_cells, text}
-use Rattle.lazy_file.specs.SourceTexts.{Reads, Stated, holds_span, text_at, Agrees}
-use Rattle.lazy_file.specs.ReadFaults.{IsFaultOf, TellsFailure}
+use Rattle.lazy_file.specs.SourceTexts.{Stated, holds_span, text_at, Agrees}
+use Rattle.lazy_file.specs.Readings.{fault_in, Reading, Reads}
 use Rattle.lazy_file.specs.declared.faults.SourceFault.{SourceFault}
 
 -- the source of a cell, if it has one, states its text
@@ -44,18 +44,6 @@ IsFetched t st rope i found =
     (source : ℕ → ℕ → ℕ) → Agrees st source → IsStated st (rope_cell t rope i)
     → found ≡ slice_get (text source (rope_cells t rope)) i
 
--- a read of one byte at this place failed so
-abbrev pub IsReadFault : {T : Type 0} → (T → Stated) → (T → ℕ) → T → T → ℕ → ℕ → SourceFault → Type 0
-IsReadFault stated failures old new s p fault = IsFaultOf {X = Unit {0}} stated failures old new s p 1 (Err fault)
-
--- the cell is a source's, and a read of its place failed so
-pub record IsPlaceFault {T : Type 0} (stated : T → Stated) (failures : T → ℕ) (old new : T) (cell : Cell)
-    (fault : SourceFault) : Type 0 where
-  pub s : ℕ
-  pub p : ℕ
-  pub is : cell ≡ Place s p
-  pub read : IsReadFault stated failures old new s p fault
-
 -- each cell's source, if it has one, states its text
 abbrev pub AreStated : Stated → List Cell → Type 0
 AreStated st cells = All (IsStated st) cells
@@ -64,18 +52,10 @@ AreStated st cells = All (IsStated st) cells
 abbrev pub EachCell : (ℕ → Cell) → ℕ → ℕ → (Cell → Type 0) → Type 0
 EachCell cell i j P = (p : ℕ) → i ≤ p → p < j → P (cell p)
 
--- one of these cells is a source's, and a read of its place failed so
-pub record IsFaultIn {T : Type 0} (stated : T → Stated) (failures : T → ℕ) (old new : T) (cell : ℕ → Cell) (i j : ℕ)
-    (fault : SourceFault) : Type 0 where
-  pub place : ℕ
-  pub from : i ≤ place
-  pub until : place < j
-  pub read : IsPlaceFault stated failures old new (cell place) fault
+-- the places of sources among the cells from place i up to place j
+abbrev pub InCells : (ℕ → Cell) → ℕ → ℕ → ℕ → ℕ → Type 0
+InCells cell i j s p = (k : ℕ) × (i ≤ k) × (k < j) × (cell k ≡ Place s p)
 
--- what a call that may read these cells does to the sources, and when it fails
-pub record ReadsSpan {T X : Type 0} (stated : T → Stated) (failures : T → ℕ) (old new : T) (cell : ℕ → Cell) (i j : ℕ)
-    (outcome : Result X SourceFault) : Type 0 where
-  pub reads : Reads stated failures old new
-  pub fault : IfErr outcome (IsFaultIn stated failures old new cell i j)
-  pub told : TellsFailure failures old new outcome
-  pub succeeds : EachCell cell i j (IsReadable (stated old)) → IsOk outcome
+-- what a call does that may read these cells
+abbrev pub ReadsSpan : {X : Type 0} → Reading → Reading → (ℕ → Cell) → ℕ → ℕ → Result X SourceFault → Type 0
+ReadsSpan before after cell i j outcome = Reads before after (InCells cell i j) (fault_in outcome)

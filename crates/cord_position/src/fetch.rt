@@ -25,11 +25,11 @@ pub fn fetch_byte<S: NodeSpace, T: Sources>(
 ) -> Result<(Option<u8>, u32), SourceFault>
     requires { IsRope (S.table space.now) rope }
     ensures byte { IfOk result
-        (λ x. IsFetched (S.table space.now) (T.stated sources.old) rope i x.0) }
+        (λ x. IsFetched (S.table space.now) (T.reading sources.old).stated rope i x.0) }
     ensures inside { IfOk result (λ x. IsSome x.0 ↔ i < rope_len (S.table space.now) rope) }
     ensures visits { IfOk result (λ x. x.1 ≡ rope_visits (S.table space.now) rope i) }
     ensures few { IfOk result (λ x. x.1 ≤ rope_depth (S.table space.now) rope + 1) }
-    ensures reads { ReadsSpan T.stated T.failures sources.old sources.new
+    ensures reads { ReadsSpan (T.reading sources.old) (T.reading sources.new)
         (rope_cell (S.table space.now) rope) i (i + 1) result }
 {
     match rope {
@@ -59,10 +59,10 @@ pub fn fetch_here<S: NodeSpace, T: Sources>(
     requires here { IsHere (S.table space.now) rope place here }
     requires bytes { AreStepBytes (S.table space.now) here bytes.now }
     ensures byte { IfOk result
-        (IsFetched (S.table space.now) (T.stated sources.old) rope place) }
+        (IsFetched (S.table space.now) (T.reading sources.old).stated rope place) }
     ensures inside { IfOk result
         (λ found. IsSome found ↔ place < rope_len (S.table space.now) rope) }
-    ensures reads { ReadsSpan T.stated T.failures sources.old sources.new
+    ensures reads { ReadsSpan (T.reading sources.old) (T.reading sources.new)
         (rope_cell (S.table space.now) rope) place (place + 1) result }
 {
     let offset = place - here.first;

@@ -23,9 +23,9 @@ pub fn fill_source<T: Sources>(
 ) -> Result<(), SourceFault>
     requires { 1 ≤ length buffer.old }
     ensures length { length buffer.new ≡ length buffer.old }
-    ensures bytes { OnOk result (AreBytesOf (T.stated sources.old)
+    ensures bytes { OnOk result (AreBytesOf (T.reading sources.old).stated
         (map (Place s) (range_with_len place (length buffer.old))) buffer.new) }
-    ensures reads { ReadsSpan T.stated T.failures sources.old sources.new
+    ensures reads { ReadsSpan (T.reading sources.old) (T.reading sources.new)
         (Place s) place (place + length buffer.old) result }
 {
     if s >= u32::from(sources.count()) {
@@ -66,9 +66,9 @@ pub fn fill_part<S: NodeSpace, T: Sources>(
     requires some { 1 ≤ length buffer.old }
     requires inside { start + length buffer.old ≤ len_at (S.table space.now) leaf.0 }
     ensures length { length buffer.new ≡ length buffer.old }
-    ensures bytes { OnOk result (AreBytesOf (T.stated sources.old)
+    ensures bytes { OnOk result (AreBytesOf (T.reading sources.old).stated
         (leaf_part (S.table space.now) leaf start (length buffer.old)) buffer.new) }
-    ensures reads { ReadsSpan T.stated T.failures sources.old sources.new
+    ensures reads { ReadsSpan (T.reading sources.old) (T.reading sources.new)
         (cell_at (S.table space.now) leaf.0) start (start + length buffer.old) result }
 {
     match space.node(leaf) {

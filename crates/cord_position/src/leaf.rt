@@ -10,8 +10,8 @@ use rope_node::{NodeId, NodeSpace, NodeView};
 
 /// The byte of source `s` at `place`.
 fn source_byte<T: Sources>(sources: &mut T, s: u32, place: u64) -> Result<u8, SourceFault>
-    ensures byte { IfOk result (IsByteOf (T.stated sources.old) (Place s place)) }
-    ensures reads { ReadsSpan T.stated T.failures sources.old sources.new
+    ensures byte { IfOk result (IsByteOf (T.reading sources.old).stated (Place s place)) }
+    ensures reads { ReadsSpan (T.reading sources.old) (T.reading sources.new)
         (Place s) place (place + 1) result }
 {
     if s >= u32::from(sources.count()) {
@@ -34,8 +34,8 @@ pub fn leaf_byte<S: NodeSpace, T: Sources>(
     requires leaf { IsLeaf (view_at (S.table space.now) leaf.0) }
     requires inside { start < len_at (S.table space.now) leaf.0 }
     ensures byte { IfOk result
-        (IsByteOf (T.stated sources.old) (cell_at (S.table space.now) leaf.0 start)) }
-    ensures reads { ReadsSpan T.stated T.failures sources.old sources.new
+        (IsByteOf (T.reading sources.old).stated (cell_at (S.table space.now) leaf.0 start)) }
+    ensures reads { ReadsSpan (T.reading sources.old) (T.reading sources.new)
         (cell_at (S.table space.now) leaf.0) start (start + 1) result }
 {
     match space.node(leaf) {

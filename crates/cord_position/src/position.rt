@@ -87,11 +87,11 @@ impl<'a, S: NodeSpace> Pos<'a, S> {
     /// A source's fault, where the byte is one of that source and the read of it failed.
     #[inline]
     pub fn fetch<T: Sources>(&self, sources: &mut T) -> Result<Option<u8>, SourceFault>
-        ensures byte { IfOk result (IsFetched (S.table self.now.space) (T.stated sources.old)
+        ensures byte { IfOk result (IsFetched (S.table self.now.space) (T.reading sources.old).stated
             self.now.rope self.now.index) }
         ensures inside { IfOk result
             (λ found. IsSome found ↔ self.now.index < text_len S.table self.now) }
-        ensures reads { ReadsSpan T.stated T.failures sources.old sources.new
+        ensures reads { ReadsSpan (T.reading sources.old) (T.reading sources.new)
             (cell_of S.table self.now) self.now.index (self.now.index + 1) result }
     {
         fetch_here(
@@ -218,10 +218,10 @@ impl<'a, S: NodeSpace> Pos<'a, S> {
         ensures length { length buffer.new ≡ length buffer.old }
         ensures rest { let n = min (left_here S.table self.now) (length buffer.old) in
             drop n buffer.new ≡ drop n buffer.old }
-        ensures bytes { IfOk result (λ n. AreBytesOf (T.stated sources.old)
+        ensures bytes { IfOk result (λ n. AreBytesOf (T.reading sources.old).stated
             (cells_here S.table self.now n) (take n buffer.new)) }
         ensures reads { let n = min (left_here S.table self.now) (length buffer.old) in
-            ReadsSpan T.stated T.failures sources.old sources.new
+            ReadsSpan (T.reading sources.old) (T.reading sources.new)
             (cell_of S.table self.now) self.now.index (self.now.index + n) result }
     {
         let Some(span) = find_run(self.space, self.rope, self.here, self.place) else {

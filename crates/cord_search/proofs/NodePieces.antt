@@ -12,6 +12,7 @@ use Rattle.rope_node.specs.Denotes.{Byte, cell_at, cell_byte, cells}
 use Rattle.rope_node.proofs.Cells.{cells_at, cells_length}
 use Rattle.lazy_file.specs.SourceTexts.{Stated}
 use Rattle.lazy_file.specs.declared.faults.SourceFault.{SourceFault}
+use Rattle.lazy_file.specs.Readings.{Reading}
 use Rattle.cord_position.specs.Fetched.{IsStated, ReadsSpan, leaf_part}
 use Rattle.cord_position.specs.Runs.{AreBytesOf}
 use Rattle.cord_position.proofs.LeafParts.{moved}
@@ -82,9 +83,9 @@ piece_of_same t st x y i j n bytes same long piece source agrees k lt stated =
     ∙ ap (λ cell. Some (cell_byte source cell)) (sym each)
     ∙ sym (byte_of_cell t x.0 source (i + k) (omega (arith, lt, long, same.here)))
 
-pub reads_of_same : {T X : Type 0} (stated : T → Stated) (failures : T → ℕ) (old new : T) (t : Table) (x y : NodeId) (i j n : ℕ) (r : Result X SourceFault) → SameCells t x y i j n
-    → ReadsSpan stated failures old new (cell_at t y.0) j (j + n) r → ReadsSpan stated failures old new (cell_at t x.0) i (i + n) r
-reads_of_same stated failures old new t x y i j n r same = moved stated failures old new (cell_at t x.0) (cell_at t y.0) i j n r same.each
+pub reads_of_same : {X : Type 0} (old new : Reading) (t : Table) (x y : NodeId) (i j n : ℕ) (r : Result X SourceFault) → SameCells t x y i j n
+    → ReadsSpan old new (cell_at t y.0) j (j + n) r → ReadsSpan old new (cell_at t x.0) i (i + n) r
+reads_of_same old new t x y i j n r same = moved old new (cell_at t x.0) (cell_at t y.0) i j n r same.each
 
 -- the bytes of a leaf
 leaf_piece : (t : Table) (st : Stated) (leaf : NodeId) (start n : ℕ) (bytes : List ℕ) → leaf.0 < length t.nodes → IsLeaf (view_at t leaf.0) → 1 ≤ n → start + n ≤ len_at t leaf.0

@@ -1,17 +1,18 @@
 -- Positions that go through a text: where they stand next, and what is read there.
 use Rattle.std.proofs.Common.{◌≡◌, Bool, true, ℕ, ◌+◌, ◌<◌, ◌≤◌, min, length, take, drop, Option, Some, None, refl, inl, inr, sym, subst, ap, ◌∙◌, List, arith}
-use Rattle.std.specs.Prelude.{◌↔◌, Result, Ok, Err, IfOk, IfErr, IsSome, slice_get}
+use Rattle.std.specs.Prelude.{◌↔◌, Result, Ok, Err, IfOk, IsSome, slice_get}
 use Rattle.std.proofs.lemmas.Bool.{cases_lt}
 use Rattle.std.proofs.lemmas.List.{get_or_past, length-map}
 use Rattle.std.proofs.lemmas.Option.{slice_get_past}
 use Rattle.rope_node.specs.declared.node.NodeId.{NodeId}
 use Rattle.rope_node.specs.Table.{Table}
 use Rattle.rope_node.specs.Denotes.{Cell, Byte, cell_byte, cells, rope_cells, rope_len, text}
-use Rattle.lazy_file.specs.SourceTexts.{Agrees, ReadsUnfailed, Stated}
-use Rattle.lazy_file.proofs.LaterReads.{reads_then, reads_unfailed}
+use Rattle.lazy_file.specs.SourceTexts.{Agrees, Stated}
+use Rattle.lazy_file.specs.Readings.{fault_in, Reading}
+use Rattle.lazy_file.proofs.LaterReads.{reads_weaker}
 use Rattle.cord_position.proofs.Spans.{failed_in}
 use Rattle.lazy_file.specs.declared.faults.SourceFault.{SourceFault}
-use Rattle.cord_position.specs.Fetched.{EachCell, IsFaultIn, IsFetched, IsReadable, IsStated, ReadsSpan, rope_cell}
+use Rattle.cord_position.specs.Fetched.{EachCell, InCells, IsFetched, IsStated, ReadsSpan, rope_cell}
 use Rattle.cord_position.specs.Position.{Position, text_len}
 use Rattle.cord_search.specs.Reached.{StandsAtPlace}
 use Rattle.cord_search.specs.Pieces.{IsPiece, IsPieceHere}
@@ -67,25 +68,16 @@ fetched_past_end t st x p found long h =
     ]
 
 -- the same of a read of it
-no_fault : {T X : Type 0} (stated : T → Stated) (failures : T → ℕ) (old new : T) (t : Table) (x : Option NodeId) (i j k l : ℕ) (r : Result X SourceFault)
-    → length (rope_cells t x) ≤ i → IfErr r (IsFaultIn stated failures old new (rope_cell t x) i j) → IfErr r (IsFaultIn stated failures old new (rope_cell t x) k l)
-no_fault stated failures old new t x i j k l (Ok v) past fault = tt
-no_fault stated failures old new t x i j k l (Err e) past fault =
-    let no = sym (cell_past t x fault.place (omega (arith, past, fault.from))) ∙ fault.read.is in absurd cc
-
-reads_past_end : {T X : Type 0} (stated : T → Stated) (failures : T → ℕ) (old new : T) (t : Table) (x : Option NodeId) (p n : ℕ) (r : Result X SourceFault) → length (rope_cells t x) ≡ rope_len t x
-    → ReadsSpan stated failures old new (rope_cell t x) (min p (rope_len t x)) (min p (rope_len t x) + n) r → ReadsSpan stated failures old new (rope_cell t x) p (p + n) r
-reads_past_end stated failures old new t x p n r long h =
+reads_past_end : {X : Type 0} (old new : Reading) (t : Table) (x : Option NodeId) (p n : ℕ) (r : Result X SourceFault) → length (rope_cells t x) ≡ rope_len t x
+    → ReadsSpan old new (rope_cell t x) (min p (rope_len t x)) (min p (rope_len t x) + n) r → ReadsSpan old new (rope_cell t x) p (p + n) r
+reads_past_end old new t x p n r long h =
     elim (cases_lt p (rope_len t x)) [
-      | inl lt ↦ let same : min p (rope_len t x) ≡ p = omega (arith, lt) in subst (λ (q : ℕ). ReadsSpan stated failures old new (rope_cell t x) q (q + n) r) same h
+      | inl lt ↦ let same : min p (rope_len t x) ≡ p = omega (arith, lt) in subst (λ (q : ℕ). ReadsSpan old new (rope_cell t x) q (q + n) r) same h
       | inr past ↦
-          let end : length (rope_cells t x) ≤ min p (rope_len t x) = omega (arith, past, long) in
-          record {
-            reads = h.reads;
-            fault = no_fault stated failures old new t x (min p (rope_len t x)) (min p (rope_len t x) + n) p (p + n) r end h.fault;
-            told = h.told;
-            succeeds = λ readable. h.succeeds (λ q above below. subst (IsReadable (stated old)) (sym (cell_past t x q (omega (arith, end, above)))) tt);
-          }
+          let q = min p (rope_len t x) in
+          let end : length (rope_cells t x) ≤ q = omega (arith, past, long) in
+          reads_weaker old new (InCells (rope_cell t x) q (q + n)) (InCells (rope_cell t x) p (p + n)) (fault_in r)
+          (λ s' o asked. let no = sym (cell_past t x asked.0 (omega (arith, end, asked.1))) ∙ asked.3 in absurd cc) h
     ]
 
 -- what a position reads is the byte of the place
@@ -106,22 +98,22 @@ inside_there table here s x p (Ok found) at h =
     let len : text_len table here ≡ rope_len (table s) x = ap (λ y. rope_len (table y) here.rope) at.space ∙ ap (rope_len (table s)) at.rope in
     (λ some. omega (arith, h.0 some, at.index, len), λ below. h.1 (omega (arith, below, at.index, len)))
 
-pub reads_there : {T X S : Type 0} (stated : T → Stated) (failures : T → ℕ) (old new : T) (table : S → Table) (here : Position S) (s : S) (x : Option NodeId) (p n : ℕ) (r : Result X SourceFault)
+pub reads_there : {X S : Type 0} (old new : Reading) (table : S → Table) (here : Position S) (s : S) (x : Option NodeId) (p n : ℕ) (r : Result X SourceFault)
     → StandsAtPlace table here s x p → length (rope_cells (table s) x) ≡ rope_len (table s) x
-    → ReadsSpan stated failures old new (rope_cell (table here.space) here.rope) here.index (here.index + n) r → ReadsSpan stated failures old new (rope_cell (table s) x) p (p + n) r
-reads_there stated failures old new table here s x p n r at long h =
-    let in_space = subst (λ z. ReadsSpan stated failures old new (rope_cell (table z) here.rope) here.index (here.index + n) r) at.space h in
-    let in_rope = subst (λ y. ReadsSpan stated failures old new (rope_cell (table s) y) here.index (here.index + n) r) at.rope in_space in
-    reads_past_end stated failures old new (table s) x p n r long (subst (λ (q : ℕ). ReadsSpan stated failures old new (rope_cell (table s) x) q (q + n) r) at.index in_rope)
+    → ReadsSpan old new (rope_cell (table here.space) here.rope) here.index (here.index + n) r → ReadsSpan old new (rope_cell (table s) x) p (p + n) r
+reads_there old new table here s x p n r at long h =
+    let in_space = subst (λ z. ReadsSpan old new (rope_cell (table z) here.rope) here.index (here.index + n) r) at.space h in
+    let in_rope = subst (λ y. ReadsSpan old new (rope_cell (table s) y) here.index (here.index + n) r) at.rope in_space in
+    reads_past_end old new (table s) x p n r long (subst (λ (q : ℕ). ReadsSpan old new (rope_cell (table s) x) q (q + n) r) at.index in_rope)
 
 -- where a read from a position on failed
-pub failed_there : {T X Y S : Type 0} (stated : T → Stated) (failures : T → ℕ) (old mid new : T) (table : S → Table) (here : Position S) (s : S) (x : Option NodeId) (i j p n : ℕ) (e : SourceFault)
-    → ReadsUnfailed stated failures old mid → StandsAtPlace table here s x p → length (rope_cells (table s) x) ≡ rope_len (table s) x
-    → ReadsSpan {X = X} stated failures mid new (rope_cell (table here.space) here.rope) here.index (here.index + n) (Err e) → i ≤ p → p + n ≤ j
-    → ReadsSpan {X = Y} stated failures old new (rope_cell (table s) x) i j (Err e)
-failed_there stated failures old mid new table here s x i j p n e before at long h from until =
-    let there = reads_there stated failures mid new table here s x p n (Err e) at long h in
-    failed_in stated failures old mid new (rope_cell (table s) x) i j p (p + n) e before there from until
+pub failed_there : {S : Type 0} (old mid new : Reading) (table : S → Table) (here : Position S) (s : S) (x : Option NodeId) (i j p n : ℕ) (e : SourceFault)
+    → mid ≡ old → StandsAtPlace table here s x p → length (rope_cells (table s) x) ≡ rope_len (table s) x
+    → ReadsSpan {X = Unit {0}} mid new (rope_cell (table here.space) here.rope) here.index (here.index + n) (Err e) → i ≤ p → p + n ≤ j
+    → ReadsSpan {X = Unit {0}} old new (rope_cell (table s) x) i j (Err e)
+failed_there old mid new table here s x i j p n e before at long h from until =
+    let there = reads_there {X = Unit {0}} mid new table here s x p n (Err e) at long h in
+    failed_in {X = Unit {0}} old mid new (rope_cell (table s) x) i j p (p + n) (Err e) before there from until
 
 -- the bytes from a position on are those from its place on
 pub piece_there : {S : Type 0} (table : S → Table) (here : Position S) (s : S) (x : Option NodeId) (p : ℕ) (st : Stated) (bytes : List ℕ) → StandsAtPlace table here s x p
@@ -169,24 +161,13 @@ piece_back table here s x p st bytes space rope index piece =
     let in_rope = subst (λ y. IsPiece (table here.space) st y p bytes) (sym rope) in_space in
     subst (λ (q : ℕ). IsPiece (table here.space) st here.rope q bytes) index in_rope
 
-pub reads_back : {T X S : Type 0} (stated : T → Stated) (failures : T → ℕ) (old new : T) (table : S → Table) (here : Position S) (s : S) (x : Option NodeId) (p n : ℕ) (r : Result X SourceFault) → here.space ≡ s → here.rope ≡ x → p ≡ here.index
-    → ReadsSpan stated failures old new (rope_cell (table s) x) p (p + n) r → ReadsSpan stated failures old new (rope_cell (table here.space) here.rope) here.index (here.index + n) r
-reads_back stated failures old new table here s x p n r space rope index h =
-    let in_space = subst (λ z. ReadsSpan stated failures old new (rope_cell (table z) x) p (p + n) r) (sym space) h in
-    let in_rope = subst (λ y. ReadsSpan stated failures old new (rope_cell (table here.space) y) p (p + n) r) (sym rope) in_space in
-    subst (λ (q : ℕ). ReadsSpan stated failures old new (rope_cell (table here.space) here.rope) q (q + n) r) index in_rope
+pub reads_back : {X S : Type 0} (old new : Reading) (table : S → Table) (here : Position S) (s : S) (x : Option NodeId) (p n : ℕ) (r : Result X SourceFault) → here.space ≡ s → here.rope ≡ x → p ≡ here.index
+    → ReadsSpan old new (rope_cell (table s) x) p (p + n) r → ReadsSpan old new (rope_cell (table here.space) here.rope) here.index (here.index + n) r
+reads_back old new table here s x p n r space rope index h =
+    let in_space = subst (λ z. ReadsSpan old new (rope_cell (table z) x) p (p + n) r) (sym space) h in
+    let in_rope = subst (λ y. ReadsSpan old new (rope_cell (table here.space) y) p (p + n) r) (sym rope) in_space in
+    subst (λ (q : ℕ). ReadsSpan old new (rope_cell (table here.space) here.rope) q (q + n) r) index in_rope
 
--- a call that reads some of the cells reads no others, and so after reads that did not fail
-pub reads_after : {T X : Type 0} (stated : T → Stated) (failures : T → ℕ) (old mid new : T) (cell : ℕ → Cell) (i j k l : ℕ) (r : Result X SourceFault) → ReadsUnfailed stated failures old mid → i ≤ k → l ≤ j
-    → ReadsSpan stated failures mid new cell k l r → ReadsSpan stated failures old new cell i j r
-reads_after stated failures old mid new cell i j k l (Ok v) before from until h = record {
-  reads = reads_then (reads_unfailed before) h.reads;
-  fault = tt;
-  told = λ more. h.told (omega (arith, more, before.unfailed));
-  succeeds = λ readable. refl;
-}
-reads_after stated failures old mid new cell i j k l (Err e) before from until h = failed_in stated failures old mid new cell i j k l e before h from until
-
-pub reads_more : {T X : Type 0} (stated : T → Stated) (failures : T → ℕ) (old new : T) (cell : ℕ → Cell) (i j k : ℕ) (r : Result X SourceFault) → k ≤ j
-    → ReadsSpan stated failures old new cell i k r → ReadsSpan stated failures old new cell i j r
-reads_more stated failures old new cell i j k r le = reads_after stated failures old old new cell i j i k r (record { same = refl; unfailed = refl }) (omega arith) le
+-- a call that reads some of the cells reads no others
+pub reads_more : {X : Type 0} (old new : Reading) (cell : ℕ → Cell) (i j k : ℕ) (r : Result X SourceFault) → k ≤ j → ReadsSpan old new cell i k r → ReadsSpan old new cell i j r
+reads_more old new cell i j k r le h = failed_in old old new cell i j i k r refl h (omega arith) le

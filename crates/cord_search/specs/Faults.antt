@@ -1,9 +1,7 @@
 -- Why a search or a write of a text fails.
-use Rattle.std.specs.Prelude.{ℕ, List, codes}
-use Rattle.rope_node.specs.Denotes.{Cell}
-use Rattle.lazy_file.specs.SourceTexts.{Stated}
+use Rattle.std.specs.Prelude.{ℕ, List, Option, Some, None, codes}
+use Rattle.lazy_file.specs.declared.faults.SourceFault.{SourceFault}
 use Rattle.lazy_file.specs.Faults.{source_fault_code}
-use Rattle.cord_position.specs.Fetched.{IsFaultIn}
 use Rattle.cord_search.specs.declared.fault.FindFault.{FindFault}
 use Rattle.cord_search.specs.declared.fault.FindFault.TheVariants as Find
 use Rattle.cord_search.specs.declared.fault.PutFault.{PutFault}
@@ -14,11 +12,11 @@ abbrev pub find_fault_code : FindFault → List ℕ
 find_fault_code Find.PatternTooLong = codes "F1"
 find_fault_code (Find.Source fault) = source_fault_code fault
 
--- a source's fault is one at these cells from place i up to place j
-abbrev pub IsFindFault : {T : Type 0} → (T → Stated) → (T → ℕ) → T → T → (ℕ → Cell) → ℕ → ℕ → FindFault → Type 0
-IsFindFault stated failures old new cell i j Find.PatternTooLong = Unit {0}
-IsFindFault stated failures old new cell i j (Find.Source fault) = IsFaultIn stated failures old new cell i j fault
+-- the source's fault that a fault is, if it is one
+abbrev pub find_source_fault : FindFault → Option SourceFault
+find_source_fault Find.PatternTooLong = None
+find_source_fault (Find.Source fault) = Some fault
 
-abbrev pub IsPutFault : {T : Type 0} → (T → Stated) → (T → ℕ) → T → T → (ℕ → Cell) → ℕ → ℕ → PutFault → Type 0
-IsPutFault stated failures old new cell i j (Put.Source fault) = IsFaultIn stated failures old new cell i j fault
-IsPutFault stated failures old new cell i j Put.Write = Unit {0}
+abbrev pub put_source_fault : PutFault → Option SourceFault
+put_source_fault (Put.Source fault) = Some fault
+put_source_fault Put.Write = None

@@ -1,14 +1,14 @@
 -- What is told of the texts of ropes, over what the sources state.
-use Rattle.std.specs.Prelude.{◌≡◌, ◌≢◌, ℕ, ◌+◌, ◌≤◌, ◌⊎◌, max, List, length, take, drop, Option, Some, None, Result, IfErr, IsOk}
+use Rattle.std.specs.Prelude.{◌≡◌, ◌≢◌, ℕ, ◌+◌, ◌≤◌, ◌⊎◌, max, List, length, take, drop, Option, Some, None, Result}
 use Rattle.std.specs.declared.cmp.Ordering.{Ordering}
 use Rattle.std.specs.declared.cmp.Ordering.TheVariants.{Equal}
 use Rattle.rope_node.specs.declared.node.NodeId.{NodeId}
 use Rattle.rope_node.specs.Table.{Table}
 use Rattle.rope_node.specs.Denotes.{Cell, rope_cells, rope_len, text}
-use Rattle.lazy_file.specs.SourceTexts.{Agrees, Reads, Stated}
-use Rattle.lazy_file.specs.ReadFaults.{TellsFailure}
+use Rattle.lazy_file.specs.SourceTexts.{Agrees, Stated}
+use Rattle.lazy_file.specs.Readings.{fault_in, Reading, Reads}
 use Rattle.lazy_file.specs.declared.faults.SourceFault.{SourceFault}
-use Rattle.cord_position.specs.Fetched.{EachCell, IsFaultIn, IsReadable, IsStated, rope_cell}
+use Rattle.cord_position.specs.Fetched.{EachCell, InCells, IsStated, rope_cell}
 use Rattle.cord_search.specs.Order.{order}
 use Rattle.cord_search.specs.Places.{IsFirst, IsLast}
 
@@ -62,12 +62,8 @@ OfTexts t st x y P = (source : ℕ → ℕ → ℕ) → Agrees st source
     → EachCell (rope_cell t x) 0 (rope_len t x) (IsStated st) → EachCell (rope_cell t y) 0 (rope_len t y) (IsStated st)
     → P (text source (rope_cells t x)) (text source (rope_cells t y))
 
--- what a call that may read n of these cells from i on and n of those from j on does to the sources, and when it fails
-pub record ReadsTwoSpans {T X : Type 0} (stated : T → Stated) (failures : T → ℕ) (old new : T) (cell : ℕ → Cell) (i : ℕ)
-    (other : ℕ → Cell) (j n : ℕ) (outcome : Result X SourceFault) : Type 0 where
-  pub reads : Reads stated failures old new
-  pub fault : IfErr outcome (λ e. IsFaultIn stated failures old new cell i (i + n) e
-      ⊎ IsFaultIn stated failures old new other j (j + n) e)
-  pub told : TellsFailure failures old new outcome
-  pub succeeds : EachCell cell i (i + n) (IsReadable (stated old)) → EachCell other j (j + n) (IsReadable (stated old))
-      → IsOk outcome
+-- what a call does that may read n of these cells from i on and n of those from j on
+abbrev pub ReadsTwoSpans : {X : Type 0} → Reading → Reading → (ℕ → Cell) → ℕ → (ℕ → Cell) → ℕ → ℕ → Result X SourceFault
+    → Type 0
+ReadsTwoSpans before after cell i other j n outcome =
+    Reads before after (λ s p. InCells cell i (i + n) s p ⊎ InCells other j (j + n) s p) (fault_in outcome)

@@ -40,8 +40,8 @@ pub fn ncmp<S: NodeSpace, T: Sources>(
     requires first { IsRope (S.table space.now) x }
     requires second { IsRope (S.table space.now) y }
     ensures order { IfOk result
-        (OrdersParts (S.table space.now) (T.stated sources.old) x i y j n) }
-    ensures reads { ReadsTwoSpans T.stated T.failures sources.old sources.new
+        (OrdersParts (S.table space.now) (T.reading sources.old).stated x i y j n) }
+    ensures reads { ReadsTwoSpans (T.reading sources.old) (T.reading sources.new)
         (rope_cell (S.table space.now) x) i
         (rope_cell (S.table space.now) y) j n result }
 {
@@ -84,10 +84,10 @@ pub fn cmp<S: NodeSpace, T: Sources>(
     requires first { IsRope (S.table space.now) x }
     requires second { IsRope (S.table space.now) y }
     ensures order { IfOk result (λ found.
-        OfTexts (S.table space.now) (T.stated sources.old) x y (λ t u. found ≡ order t u)) }
-    ensures parts { IfOk result (OrdersParts (S.table space.now) (T.stated sources.old)
+        OfTexts (S.table space.now) (T.reading sources.old).stated x y (λ t u. found ≡ order t u)) }
+    ensures parts { IfOk result (OrdersParts (S.table space.now) (T.reading sources.old).stated
         x 0 y 0 (longer (S.table space.now) x y)) }
-    ensures reads { ReadsTwoSpans T.stated T.failures sources.old sources.new
+    ensures reads { ReadsTwoSpans (T.reading sources.old) (T.reading sources.new)
         (rope_cell (S.table space.now) x) 0 (rope_cell (S.table space.now) y) 0
         (longer (S.table space.now) x y) result }
 {

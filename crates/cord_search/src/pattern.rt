@@ -1,15 +1,13 @@
 //! The first place of a pattern.
 
-ghost use Rattle.std.specs.Prelude.{◌↔◌, ◌<◌, ◌≤◌, ℕ, [], length, IfOk, IfErr, IsErrOf, IsOk};
+ghost use Rattle.std.specs.Prelude.{◌↔◌, ◌<◌, ◌≤◌, ℕ, [], length, IfOk, IsErrOf};
 ghost use Rattle.rope_node.specs.Denotes.{IsRope, rope_cells, rope_len, text};
-ghost use Rattle.lazy_file.specs.SourceTexts.{Reads};
-ghost use Rattle.lazy_file.specs.ReadFaults.{TellsAs};
-ghost use Rattle.lazy_file.specs.declared.faults.SourceFault.TheVariants.{Device};
-ghost use Rattle.cord_position.specs.Fetched.{EachCell, IsReadable, ReadsSpan, rope_cell};
+ghost use Rattle.lazy_file.specs.Readings.{fault_by, Reads};
+ghost use Rattle.cord_position.specs.Fetched.{InCells, ReadsSpan, rope_cell};
 ghost use Rattle.cord_search.specs.Places.{IsFirst, IsFromOn};
 ghost use Rattle.cord_search.specs.declared.pattern.TheConstants.{PATTERN_LIMIT};
 ghost use Rattle.cord_search.specs.Stated.{FindsFirst};
-ghost use Rattle.cord_search.specs.Faults.{IsFindFault};
+ghost use Rattle.cord_search.specs.Faults.{find_source_fault};
 
 use crate::fault::FindFault;
 use crate::runs::{WINDOW, next_window};
@@ -51,8 +49,8 @@ fn find_some<S: NodeSpace, T: Sources>(
     requires few { length pattern.now ≤ PATTERN_LIMIT }
     ensures inside { IfOk result (IsFromOn pattern.now start (rope_len (S.table space.now) x)) }
     ensures found { IfOk result
-        (FindsFirst (S.table space.now) (T.stated sources.old) x pattern.now start) }
-    ensures reads { ReadsSpan T.stated T.failures sources.old sources.new
+        (FindsFirst (S.table space.now) (T.reading sources.old).stated x pattern.now start) }
+    ensures reads { ReadsSpan (T.reading sources.old) (T.reading sources.new)
         (rope_cell (S.table space.now) x) start (rope_len (S.table space.now) x) result }
 {
     let len = rope_len(space, x);
@@ -93,14 +91,10 @@ pub fn find<S: NodeSpace, T: Sources>(
         ↔ (PATTERN_LIMIT < length pattern.now) }
     ensures inside { IfOk result (IsFromOn pattern.now start (rope_len (S.table space.now) x)) }
     ensures found { IfOk result
-        (FindsFirst (S.table space.now) (T.stated sources.old) x pattern.now start) }
-    ensures reads { Reads T.stated T.failures sources.old sources.new }
-    ensures fault { IfErr result (IsFindFault T.stated T.failures sources.old sources.new
-        (rope_cell (S.table space.now) x) start (rope_len (S.table space.now) x)) }
-    ensures told { TellsAs T.failures sources.old sources.new (FindFault.Source Device) result }
-    ensures succeeds { length pattern.now ≤ PATTERN_LIMIT
-        → EachCell (rope_cell (S.table space.now) x) start (rope_len (S.table space.now) x)
-        (IsReadable (T.stated sources.old)) → IsOk result }
+        (FindsFirst (S.table space.now) (T.reading sources.old).stated x pattern.now start) }
+    ensures reads { Reads (T.reading sources.old) (T.reading sources.new)
+        (InCells (rope_cell (S.table space.now) x) start (rope_len (S.table space.now) x))
+        (fault_by find_source_fault result) }
 {
     if pattern.len() > PATTERN_LIMIT {
         return Err(FindFault::PatternTooLong);

@@ -24,13 +24,13 @@ fn fill_run<S: NodeSpace, T: Sources>(
     buffer: &mut [u8],
 ) -> Result<usize, SourceFault>
     ensures length { length buffer.new ≡ length buffer.old }
-    ensures bytes { IfOk result (λ n. IsPieceHere S.table (T.stated sources.old)
+    ensures bytes { IfOk result (λ n. IsPieceHere S.table (T.reading sources.old).stated
         pos.now (take n buffer.new)) }
     ensures most { IfOk result (λ n. n ≤ length buffer.old) }
     ensures inside { IfOk result (λ n. pos.now.index + n ≤ text_len S.table pos.now) }
     ensures some { IfOk result (λ n. pos.now.index < text_len S.table pos.now
         → 1 ≤ length buffer.old → 1 ≤ n) }
-    ensures reads { ReadsSpan T.stated T.failures sources.old sources.new
+    ensures reads { ReadsSpan (T.reading sources.old) (T.reading sources.new)
         (cell_of S.table pos.now) pos.now.index (pos.now.index + length buffer.old) result }
 {
     let _left = pos.run_left();
@@ -46,13 +46,13 @@ pub fn next_run<'r, S: NodeSpace, T: Sources>(
 ) -> Result<&'r [u8], SourceFault>
     requires room { 1 ≤ length buffer.old }
     ensures bytes { IfOk result
-        (λ run. IsPieceHere S.table (T.stated sources.old) pos.now run.now) }
+        (λ run. IsPieceHere S.table (T.reading sources.old).stated pos.now run.now) }
     ensures most { IfOk result (λ run. length run.now ≤ most) }
     ensures inside { IfOk result
         (λ run. pos.now.index + length run.now ≤ text_len S.table pos.now) }
     ensures some { IfOk result (λ run. pos.now.index < text_len S.table pos.now
         → 1 ≤ most → 1 ≤ length run.now) }
-    ensures reads { ReadsSpan T.stated T.failures sources.old sources.new
+    ensures reads { ReadsSpan (T.reading sources.old) (T.reading sources.new)
         (cell_of S.table pos.now) pos.now.index (pos.now.index + most) result }
 {
     let run = pos.run_bytes();
@@ -79,8 +79,8 @@ fn gather<S: NodeSpace, T: Sources>(
     requires inside { start + length buffer.old ≤ len_at (S.table space.now) node.0 }
     ensures length { length buffer.new ≡ length buffer.old }
     ensures bytes { OnOk result
-        (IsPiece (S.table space.now) (T.stated sources.old) (Some node) start buffer.new) }
-    ensures reads { ReadsSpan T.stated T.failures sources.old sources.new
+        (IsPiece (S.table space.now) (T.reading sources.old).stated (Some node) start buffer.new) }
+    ensures reads { ReadsSpan (T.reading sources.old) (T.reading sources.new)
         (cell_at (S.table space.now) node.0) start (start + length buffer.old) result }
 {
     match space.node(node) {
@@ -119,10 +119,10 @@ pub fn next_window<'r, S: NodeSpace, T: Sources>(
     requires need { (1 ≤ need) × (need ≤ most) × (need ≤ length buffer.old) }
     requires inside { pos.now.index + most ≤ rope_len (S.table space.now) x }
     ensures bytes { IfOk result
-        (λ window. IsPieceHere S.table (T.stated sources.old) pos.now window.now) }
+        (λ window. IsPieceHere S.table (T.reading sources.old).stated pos.now window.now) }
     ensures enough { IfOk result (λ window. need ≤ length window.now) }
     ensures most { IfOk result (λ window. length window.now ≤ most) }
-    ensures reads { ReadsSpan T.stated T.failures sources.old sources.new
+    ensures reads { ReadsSpan (T.reading sources.old) (T.reading sources.new)
         (cell_of S.table pos.now) pos.now.index (pos.now.index + most) result }
 {
     let run = pos.run_bytes();

@@ -30,8 +30,8 @@ pub fn chr<S: NodeSpace, T: Sources>(
     requires { IsRope (S.table space.now) x }
     ensures inside { IfOk result (IsFromOn (c ∷ []) i (rope_len (S.table space.now) x)) }
     ensures found { IfOk result
-        (FindsFirst (S.table space.now) (T.stated sources.old) x (c ∷ []) i) }
-    ensures reads { ReadsSpan T.stated T.failures sources.old sources.new
+        (FindsFirst (S.table space.now) (T.reading sources.old).stated x (c ∷ []) i) }
+    ensures reads { ReadsSpan (T.reading sources.old) (T.reading sources.new)
         (rope_cell (S.table space.now) x) i (rope_len (S.table space.now) x) result }
 {
     let len = rope_len(space, x);
@@ -66,8 +66,8 @@ pub fn rchr<S: NodeSpace, T: Sources>(
     requires { IsRope (S.table space.now) x }
     ensures inside { IfOk result (IsUpTo (c ∷ []) i (rope_len (S.table space.now) x)) }
     ensures found { IfOk result
-        (FindsLast (S.table space.now) (T.stated sources.old) x (c ∷ []) i) }
-    ensures reads { ReadsSpan T.stated T.failures sources.old sources.new
+        (FindsLast (S.table space.now) (T.reading sources.old).stated x (c ∷ []) i) }
+    ensures reads { ReadsSpan (T.reading sources.old) (T.reading sources.new)
         (rope_cell (S.table space.now) x) 0 (i + 1) result }
 {
     let mut end = rope_len(space, x).min(i.saturating_add(1));

@@ -24,9 +24,9 @@ pub fn byte_at<S: NodeSpace, T: Sources>(
 ) -> Result<Option<u8>, SourceFault>
     requires rope { IsRope (S.table space.now) rope }
     requires here { StandsAtPlace S.table pos.now space.now rope place }
-    ensures byte { IfOk result (IsFetched (S.table space.now) (T.stated sources.old) rope place) }
+    ensures byte { IfOk result (IsFetched (S.table space.now) (T.reading sources.old).stated rope place) }
     ensures inside { IfOk result (λ found. IsSome found ↔ place < rope_len (S.table space.now) rope) }
-    ensures reads { ReadsSpan T.stated T.failures sources.old sources.new
+    ensures reads { ReadsSpan (T.reading sources.old) (T.reading sources.new)
         (rope_cell (S.table space.now) rope) place (place + 1) result }
 {
     let _len = rope_len(space, rope);

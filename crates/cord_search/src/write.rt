@@ -1,16 +1,13 @@
 //! A text written to its end.
 
-ghost use Rattle.std.specs.Prelude.{◌≡◌, ◌+◌, None, OnOk, OnErr, IfErr, IsOk};
+ghost use Rattle.std.specs.Prelude.{◌≡◌, ◌+◌, None, OnOk, OnErr, IsOk};
 ghost use Rattle.std.specs.Io.KnownBytes.{Appends};
 ghost use Rattle.rope_node.specs.Denotes.{IsRope, rope_len};
-ghost use Rattle.lazy_file.specs.SourceTexts.{Reads};
-ghost use Rattle.lazy_file.specs.ReadFaults.{TellsAs};
-ghost use Rattle.lazy_file.specs.declared.faults.SourceFault.TheVariants.{Device};
-ghost use Rattle.cord_position.specs.Fetched.{EachCell, IsReadable, rope_cell};
+ghost use Rattle.lazy_file.specs.Readings.{fault_by, Reads};
+ghost use Rattle.cord_position.specs.Fetched.{InCells, rope_cell};
 ghost use Rattle.byte_output.specs.Prefix.{AppendsPrefix};
 ghost use Rattle.cord_search.specs.Stated.{OfText};
-ghost use Rattle.cord_search.specs.Faults.{IsPutFault};
-ghost use Rattle.cord_search.specs.declared.fault.PutFault.TheVariants.{Write};
+ghost use Rattle.cord_search.specs.Faults.{put_source_fault};
 
 use crate::fault::PutFault;
 use crate::runs::{PIECE, WINDOW, next_window};
@@ -34,17 +31,14 @@ pub fn put<S: NodeSpace, T: Sources, W: io::Write>(
     writer: &mut W,
 ) -> Result<(), PutFault>
     requires { IsRope (S.table space.now) x }
-    ensures ok { OnOk result (OfText (S.table space.now) (T.stated sources.old) x
+    ensures ok { OnOk result (OfText (S.table space.now) (T.reading sources.old).stated x
         (Appends (W.contents writer.old) (W.contents writer.new))) }
-    ensures err { OnErr result (OfText (S.table space.now) (T.stated sources.old) x
+    ensures err { OnErr result (OfText (S.table space.now) (T.reading sources.old).stated x
         (AppendsPrefix (W.contents writer.old) (W.contents writer.new))) }
     ensures nothing { x ≡ None → IsOk result }
-    ensures reads { Reads T.stated T.failures sources.old sources.new }
-    ensures fault { IfErr result (IsPutFault T.stated T.failures sources.old sources.new
-        (rope_cell (S.table space.now) x) 0 (rope_len (S.table space.now) x)) }
-    ensures told { TellsAs T.failures sources.old sources.new (PutFault.Source Device) result }
-    ensures succeeds { EachCell (rope_cell (S.table space.now) x) 0 (rope_len (S.table space.now) x)
-        (IsReadable (T.stated sources.old)) → IfErr result (λ e. e ≡ Write) }
+    ensures reads { Reads (T.reading sources.old) (T.reading sources.new)
+        (InCells (rope_cell (S.table space.now) x) 0 (rope_len (S.table space.now) x))
+        (fault_by put_source_fault result) }
 {
     let len = rope_len(space, x);
     let mut pos = Pos::set(alloc, space, x, 0);

@@ -1,25 +1,31 @@
 -- What the faults of calls come to.
-use Rattle.std.proofs.Common.{◌≡◌, ◌⊎◌, ℕ, Option, List, [], ◌∷◌, Err, ap, inl, inr, refl}
-use Rattle.std.specs.Prelude.{◌≢◌, All}
+use Rattle.std.proofs.Common.{◌≡◌, ◌⊎◌, ℕ, Option, Some, None, List, [], ◌∷◌, Result, Err, ap, inl, inr, refl}
+use Rattle.std.specs.Prelude.{IsErrOf}
 use Rattle.lazy_file.specs.SourceTexts.{Stated, stated_in_memory}
+use Rattle.lazy_file.specs.Readings.{IsFaultAmong, Reading, Reads}
+use Rattle.lazy_file.proofs.LaterReads.{reads_weaker}
 use Rattle.lazy_file.specs.declared.faults.SourceFault.{SourceFault}
 use Rattle.lazy_file.specs.declared.faults.SourceFault.TheVariants as Source
 use Rattle.session_checker.specs.declared.fault.CheckFault.{CheckFault}
 use Rattle.session_checker.specs.declared.fault.CheckFault.TheVariants as Check
-use Rattle.session_checker.specs.Accepted.{IsFirstFault}
+use Rattle.session_checker.specs.Accepted.{BytesAsk}
+use Rattle.session_checker.specs.Limits.{IsFirstFaultWithin}
+use Rattle.session_checker.specs.RevisionRules.{source_fault}
 use Rattle.node_table.specs.declared.fault.NodeFault.TheVariants as Node
 use Rattle.rebalance.specs.declared.fault.BalanceFault.{BalanceFault}
 use Rattle.rebalance.specs.declared.fault.BalanceFault.TheVariants as Balance
 use Rattle.byte_output.specs.Prefix.{AppendsPrefix}
-use Rattle.cord_position.specs.Fetched.{IsReadable}
+use Rattle.cord_search.specs.Faults.{put_source_fault}
 use Rattle.cord_search.specs.declared.fault.PutFault.{PutFault}
 use Rattle.cord_search.specs.declared.fault.PutFault.TheVariants as Put
 use Rattle.image_reader.specs.Value.{ImageValue}
-use Rattle.cord_tools.specs.Answers.{AnswersCheck, AnswersShow, AreRead, ReadsRevision, StopsAtSource, revision_cells}
+use Rattle.cord_tools.specs.Answers.{AnswersCheck, AnswersShow, AreRead, CheckAsks, EndsUnwritten, ReadsRevision, ShowAsks, SpellsFaithful, revision_cells}
 use Rattle.cord_tools.specs.Faults.{IsJoinFault, IsStop, check_fault, put_fault, read_fault, rope_fault}
-use Rattle.cord_tools.specs.Unread.{IsUnread}
+use Rattle.cord_tools.specs.Files.{AnswersCompare, AnswersFind}
+use Rattle.cord_tools.specs.Unread.{AmongCells, ReadsAt, ReadsCells, StopsAt}
 use Rattle.cord_tools.specs.declared.fault.ToolFault.{ToolFault}
-use Rattle.cord_tools.specs.declared.fault.ToolFault.TheVariants.{Memory, Read, Write, Rope}
+use Rattle.cord_tools.specs.declared.fault.ToolFault.TheVariants as Tool
+use Rattle.cord_tools.specs.declared.fault.ToolFault.TheVariants.{Memory, PatternTooLong, Read, Refused, Write, Rope}
 use Rattle.cord_tools.proofs.Bytes.{Keeps-same}
 
 pub put_stops : (e : PutFault) → IsStop (put_fault e)
@@ -77,41 +83,103 @@ rope_reads_none (Balance.Node Node.TooManySources) is = absurd cc
 rope_reads_none (Balance.Node Node.Memory) is = absurd cc
 
 -- what is told where a source's fault stops the check
-source_stops : {T : Type 0} (stated : T → Stated) (failures : T → ℕ) (old new : T) (remaining contents : Option (List ℕ)) (bytes : List ℕ) (f : SourceFault)
-    → AreRead remaining bytes → IsFirstFault stated failures old new bytes (Check.Source f) → AnswersCheck stated failures old new remaining contents contents (Err (read_fault f))
-source_stops stated failures old new remaining contents bytes Source.Device read first = (Keeps-same contents, inr (bytes, read, record { fault = Source.Device; first = first; told_as = refl }))
-source_stops stated failures old new remaining contents bytes Source.Short read first = (Keeps-same contents, inr (bytes, read, record { fault = Source.Short; first = first; told_as = refl }))
-source_stops stated failures old new remaining contents bytes Source.BadSource read first = (Keeps-same contents, inr (bytes, read, record { fault = Source.BadSource; first = first; told_as = refl }))
-source_stops stated failures old new remaining contents bytes Source.Memory read first = Keeps-same contents
+source_stops : {T : Type 0} (at_most : Option ℕ) (reading : T → Reading) (old new : T) (remaining contents : Option (List ℕ)) (f : SourceFault)
+    → IsFaultAmong (reading old) (reading new) (CheckAsks remaining (reading old).stated) f → AnswersCheck at_most reading old new remaining contents contents (Err (read_fault f))
+source_stops at_most reading old new remaining contents Source.Device read = (Keeps-same contents, inr (record { fault = Source.Device; read = read; told_as = refl }))
+source_stops at_most reading old new remaining contents Source.Short read = (Keeps-same contents, inr (record { fault = Source.Short; read = read; told_as = refl }))
+source_stops at_most reading old new remaining contents Source.BadSource read = (Keeps-same contents, inr (record { fault = Source.BadSource; read = read; told_as = refl }))
+source_stops at_most reading old new remaining contents Source.Memory read = Keeps-same contents
+
+-- what the bytes ask for, of the image that is read
+asks_of : (old new : Reading) (remaining : Option (List ℕ)) (bytes : List ℕ) (f : SourceFault) → AreRead remaining bytes → IsFaultAmong old new (BytesAsk old.stated bytes) f → IsFaultAmong old new (CheckAsks remaining old.stated) f
+asks_of old new remaining bytes f read h = record { s = h.s; p = h.p; asked = (bytes, read, h.asked); at = h.at }
 
 -- what is told where the check has no answer
-pub check_stopped : {T : Type 0} (stated : T → Stated) (failures : T → ℕ) (old new : T) (remaining contents : Option (List ℕ)) (bytes : List ℕ) (e : ToolFault)
-    → AreRead remaining bytes → (e ≡ Memory) ⊎ StopsAtSource stated failures old new bytes e → AnswersCheck stated failures old new remaining contents contents (Err e)
-check_stopped stated failures old new remaining contents bytes e read (inl wanted) = rw wanted (Keeps-same contents)
-check_stopped stated failures old new remaining contents bytes e read (inr stop) = rw stop.told_as (source_stops stated failures old new remaining contents bytes stop.fault read stop.first)
+pub check_stopped : {T : Type 0} (at_most : Option ℕ) (reading : T → Reading) (old new : T) (remaining contents : Option (List ℕ)) (bytes : List ℕ) (e : ToolFault)
+    → AreRead remaining bytes → (e ≡ Memory) ⊎ StopsAt (reading old) (reading new) (BytesAsk (reading old).stated bytes) e → AnswersCheck at_most reading old new remaining contents contents (Err e)
+check_stopped at_most reading old new remaining contents bytes e read (inl wanted) = rw wanted (Keeps-same contents)
+check_stopped at_most reading old new remaining contents bytes e read (inr stop) = rw stop.told_as (source_stops at_most reading old new remaining contents stop.fault (asks_of (reading old) (reading new) remaining bytes stop.fault read stop.read))
 
-source_stops_show : {T : Type 0} (stated : T → Stated) (failures : T → ℕ) (old new : T) (remaining : Option (List ℕ)) (k : ℕ) (contents : Option (List ℕ)) (bytes : List ℕ) (f : SourceFault)
-    → AreRead remaining bytes → IsFirstFault stated failures old new bytes (Check.Source f) → AnswersShow stated failures old new remaining k contents contents (Err (read_fault f))
-source_stops_show stated failures old new remaining k contents bytes Source.Device read first = inl (Keeps-same contents, inr (bytes, read, record { fault = Source.Device; first = first; told_as = refl }))
-source_stops_show stated failures old new remaining k contents bytes Source.Short read first = inl (Keeps-same contents, inr (bytes, read, record { fault = Source.Short; first = first; told_as = refl }))
-source_stops_show stated failures old new remaining k contents bytes Source.BadSource read first = inl (Keeps-same contents, inr (bytes, read, record { fault = Source.BadSource; first = first; told_as = refl }))
-source_stops_show stated failures old new remaining k contents bytes Source.Memory read first = inl (Keeps-same contents, inr (bytes, read, record { fault = Source.Memory; first = first; told_as = refl }))
+source_ends : {T : Type 0} (at_most : Option ℕ) (reading : T → Reading) (old new : T) (remaining contents : Option (List ℕ)) (f : SourceFault)
+    → IsFaultAmong (reading old) (reading new) (CheckAsks remaining (reading old).stated) f → EndsUnwritten at_most reading old new remaining contents contents (read_fault f)
+source_ends at_most reading old new remaining contents Source.Device read = (Keeps-same contents, inr (record { fault = Source.Device; read = read; told_as = refl }))
+source_ends at_most reading old new remaining contents Source.Short read = (Keeps-same contents, inr (record { fault = Source.Short; read = read; told_as = refl }))
+source_ends at_most reading old new remaining contents Source.BadSource read = (Keeps-same contents, inr (record { fault = Source.BadSource; read = read; told_as = refl }))
+source_ends at_most reading old new remaining contents Source.Memory read = (Keeps-same contents, inr (record { fault = Source.Memory; read = read; told_as = refl }))
 
 -- what is told where the image is refused
-pub check_refused : {T : Type 0} (stated : T → Stated) (failures : T → ℕ) (old new : T) (remaining : Option (List ℕ)) (k : ℕ) (contents : Option (List ℕ)) (bytes : List ℕ) (f : CheckFault)
-    → AreRead remaining bytes → IsFirstFault stated failures old new bytes f → AnswersShow stated failures old new remaining k contents contents (Err (check_fault f))
-check_refused stated failures old new remaining k contents bytes (Check.Source f) read first = source_stops_show stated failures old new remaining k contents bytes f read first
-check_refused stated failures old new remaining k contents bytes (Check.Read f) read first = (Keeps-same contents, (bytes, read, record { first = first; told = refl }))
-check_refused stated failures old new remaining k contents bytes Check.SourceCount read first = (Keeps-same contents, (bytes, read, record { first = first; told = refl }))
-check_refused stated failures old new remaining k contents bytes (Check.SourceLength s) read first = (Keeps-same contents, (bytes, read, record { first = first; told = refl }))
-check_refused stated failures old new remaining k contents bytes (Check.Reference id) read first = (Keeps-same contents, (bytes, read, record { first = first; told = refl }))
-check_refused stated failures old new remaining k contents bytes (Check.Length id) read first = (Keeps-same contents, (bytes, read, record { first = first; told = refl }))
-check_refused stated failures old new remaining k contents bytes (Check.Depth id) read first = (Keeps-same contents, (bytes, read, record { first = first; told = refl }))
-check_refused stated failures old new remaining k contents bytes (Check.Span id) read first = (Keeps-same contents, (bytes, read, record { first = first; told = refl }))
-check_refused stated failures old new remaining k contents bytes (Check.Command x) read first = (Keeps-same contents, (bytes, read, record { first = first; told = refl }))
-check_refused stated failures old new remaining k contents bytes (Check.Root x) read first = (Keeps-same contents, (bytes, read, record { first = first; told = refl }))
-check_refused stated failures old new remaining k contents bytes (Check.Mark x) read first = (Keeps-same contents, (bytes, read, record { first = first; told = refl }))
-check_refused stated failures old new remaining k contents bytes (Check.Rows x j) read first = (Keeps-same contents, (bytes, read, record { first = first; told = refl }))
+pub check_refused : {T : Type 0} (at_most : Option ℕ) (reading : T → Reading) (old new : T) (remaining contents : Option (List ℕ)) (bytes : List ℕ) (f : CheckFault)
+    → AreRead remaining bytes → (source_fault f ≡ None → IsFirstFaultWithin at_most (reading old).stated bytes f) → Reads (reading old) (reading new) (BytesAsk (reading old).stated bytes) (source_fault f)
+    → EndsUnwritten at_most reading old new remaining contents contents (check_fault f)
+check_refused at_most reading old new remaining contents bytes (Check.Source f) read first reads = source_ends at_most reading old new remaining contents f (asks_of (reading old) (reading new) remaining bytes f read reads)
+check_refused at_most reading old new remaining contents bytes other read first reads = (Keeps-same contents, (bytes, read, record { first = first refl; told = refl }))
+
+-- so it ends where a text is to be shown
+pub shows_none : {T : Type 0} (at_most : Option ℕ) (reading : T → Reading) (old new : T) (remaining before after : Option (List ℕ)) (k : ℕ) (e : ToolFault)
+    → EndsUnwritten at_most reading old new remaining before after e → AnswersShow at_most reading old new remaining k before after (Err e)
+shows_none at_most reading old new remaining before after k Read ends = inl ends
+shows_none at_most reading old new remaining before after k Memory ends = inl ends
+shows_none at_most reading old new remaining before after k Tool.NoRevision ends = absurd ends
+shows_none at_most reading old new remaining before after k Write ends = absurd ends
+shows_none at_most reading old new remaining before after k other ends = ends
+
+-- a fault that is told as a refusal is no source's
+pub no_source : (f : CheckFault) → check_fault f ≡ Refused f → source_fault f ≡ None
+no_source (Check.Source Source.Device) is = absurd cc
+no_source (Check.Source Source.Short) is = absurd cc
+no_source (Check.Source Source.BadSource) is = absurd cc
+no_source (Check.Source Source.Memory) is = absurd cc
+no_source (Check.Read f) is = refl
+no_source Check.SourceCount is = refl
+no_source (Check.SourceLength s) is = refl
+no_source (Check.Reference id) is = refl
+no_source (Check.Length id) is = refl
+no_source (Check.Depth id) is = refl
+no_source (Check.Span id) is = refl
+no_source (Check.Command x) is = refl
+no_source (Check.Root x) is = refl
+no_source (Check.Mark x) is = refl
+no_source (Check.Rows x j) is = refl
+no_source (Check.Looks n) is = refl
+
+check_told : {X : Type 0} (f : CheckFault) (g : SourceFault) → source_fault f ≡ Some g → IsErrOf {T = X} (Err (check_fault f)) (read_fault g)
+check_told (Check.Source f) g is = let same : f ≡ g = cc in ap (λ (x : SourceFault). Err (read_fault x)) same
+check_told (Check.Read f) g is = absurd cc
+check_told Check.SourceCount g is = absurd cc
+check_told (Check.SourceLength s) g is = absurd cc
+check_told (Check.Reference id) g is = absurd cc
+check_told (Check.Length id) g is = absurd cc
+check_told (Check.Depth id) g is = absurd cc
+check_told (Check.Span id) g is = absurd cc
+check_told (Check.Command x) g is = absurd cc
+check_told (Check.Root x) g is = absurd cc
+check_told (Check.Mark x) g is = absurd cc
+check_told (Check.Rows x j) g is = absurd cc
+check_told (Check.Looks n) g is = absurd cc
+
+-- what a check that fails reads of its image
+pub image_reads : {X : Type 0} (old new : Reading) (remaining : Option (List ℕ)) (bytes : List ℕ) (f : CheckFault) → AreRead remaining bytes → Reads old new (BytesAsk old.stated bytes) (source_fault f) → ReadsAt {X = X} old new (CheckAsks remaining old.stated) (Err (check_fault f))
+image_reads old new remaining bytes f read h = record {
+  fault = source_fault f;
+  reads = reads_weaker old new (BytesAsk old.stated bytes) (CheckAsks remaining old.stated) (source_fault f) (λ s p asks. (bytes, read, asks)) h;
+  told = check_told f;
+}
+
+-- and for a revision to be shown
+pub check_reads : {X : Type 0} (old new : Reading) (remaining : Option (List ℕ)) (k : ℕ) (bytes : List ℕ) (f : CheckFault) → AreRead remaining bytes → Reads old new (BytesAsk old.stated bytes) (source_fault f) → ReadsAt {X = X} old new (ShowAsks remaining old.stated k) (Err (check_fault f))
+check_reads old new remaining k bytes f read h = record {
+  fault = source_fault f;
+  reads = reads_weaker old new (BytesAsk old.stated bytes) (ShowAsks remaining old.stated k) (source_fault f) (λ s p asks. inl (bytes, read, asks)) h;
+  told = check_told f;
+}
+
+-- and what its text asks for
+pub text_reads : {X : Type 0} (old new : Reading) (remaining : Option (List ℕ)) (k : ℕ) (bytes : List ℕ) (v : ImageValue) (outcome : Result X ToolFault) → AreRead remaining bytes → SpellsFaithful bytes old.stated v → ReadsCells old new (revision_cells v k) outcome → ReadsAt old new (ShowAsks remaining old.stated k) outcome
+text_reads old new remaining k bytes v outcome read spelled h = record {
+  fault = h.at.fault;
+  reads = reads_weaker old new (AmongCells (revision_cells v k)) (ShowAsks remaining old.stated k) h.at.fault (λ s p asked. inr (v, bytes, read, spelled, asked)) h.at.reads;
+  told = h.at.told;
+}
 
 -- no texts are the only ones that state as much
 pub no_texts : (texts : List (List ℕ)) → stated_in_memory texts ≡ stated_in_memory [] → texts ≡ []
@@ -119,12 +187,21 @@ no_texts [] is = refl
 no_texts (text ∷ texts) is = let sizes = ap (λ (st : Stated). st.sizes) is in absurd cc
 
 -- what is told where the text of a revision was not written to its end
-pub show_stopped : {T : Type 0} (stated : T → Stated) (failures : T → ℕ) (old new : T) (remaining : Option (List ℕ)) (k : ℕ) (before after : Option (List ℕ)) (v : ImageValue) (e : PutFault)
-    → ReadsRevision remaining (stated old) k v (AppendsPrefix before after)
-    → (put_fault e ≡ Read → IsUnread stated failures old new (revision_cells v k)) → (e ≢ Put.Write → ¬ All (IsReadable (stated old)) (revision_cells v k))
-    → AnswersShow stated failures old new remaining k before after (Err (put_fault e))
-show_stopped stated failures old new remaining k before after v Put.Write h unread unheld = (v, h)
-show_stopped stated failures old new remaining k before after v (Put.Source Source.Device) h unread unheld = inr (v, h, inr (unread refl))
-show_stopped stated failures old new remaining k before after v (Put.Source Source.Short) h unread unheld = inr (v, h, inr (unread refl))
-show_stopped stated failures old new remaining k before after v (Put.Source Source.BadSource) h unread unheld = inr (v, h, inr (unread refl))
-show_stopped stated failures old new remaining k before after v (Put.Source Source.Memory) h unread unheld = inr (v, h, unheld (λ is. absurd cc))
+pub show_stopped : {T : Type 0} (at_most : Option ℕ) (reading : T → Reading) (old new : T) (remaining : Option (List ℕ)) (k : ℕ) (before after : Option (List ℕ)) (v : ImageValue) (e : PutFault)
+    → ReadsRevision at_most remaining (reading old).stated k v (AppendsPrefix before after) → Reads (reading old) (reading new) (AmongCells (revision_cells v k)) (put_source_fault e)
+    → AnswersShow at_most reading old new remaining k before after (Err (put_fault e))
+show_stopped at_most reading old new remaining k before after v Put.Write h reads = (v, h)
+show_stopped at_most reading old new remaining k before after v (Put.Source Source.Device) h reads = inr (v, h, record { fault = Source.Device; read = reads; told_as = refl })
+show_stopped at_most reading old new remaining k before after v (Put.Source Source.Short) h reads = inr (v, h, record { fault = Source.Short; read = reads; told_as = refl })
+show_stopped at_most reading old new remaining k before after v (Put.Source Source.BadSource) h reads = inr (v, h, record { fault = Source.BadSource; read = reads; told_as = refl })
+show_stopped at_most reading old new remaining k before after v (Put.Source Source.Memory) h reads = inr (v, h, record { fault = Source.Memory; read = reads; told_as = refl })
+
+-- what is told where files were not compared, or a pattern not sought to its end
+pub compare_stopped : (st : Stated) (contents : Option (List ℕ)) (e : ToolFault) → (e ≡ Read) ⊎ (e ≡ Memory) → AnswersCompare st contents contents (Err e)
+compare_stopped st contents e (inl is) = rw is (Keeps-same contents)
+compare_stopped st contents e (inr is) = rw is (Keeps-same contents)
+
+pub find_stopped : (st : Stated) (start : ℕ) (pattern : List ℕ) (contents : Option (List ℕ)) (e : ToolFault) → (e ≡ PatternTooLong) ⊎ ((e ≡ Read) ⊎ (e ≡ Memory)) → AnswersFind st start pattern contents contents (Err e)
+find_stopped st start pattern contents e (inl is) = rw is (Keeps-same contents)
+find_stopped st start pattern contents e (inr (inl is)) = rw is (Keeps-same contents)
+find_stopped st start pattern contents e (inr (inr is)) = rw is (Keeps-same contents)

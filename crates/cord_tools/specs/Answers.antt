@@ -1,31 +1,30 @@
 -- What the tools answer.
-use Rattle.std.specs.Prelude.{◌≡◌, ◌≢◌, ◌⊎◌, ℕ, List, [], ◌++◌, ◌<◌, ◌≤◌, length, take, Option, Result, Ok, Err, All, IfSome, codes}
+use Rattle.std.specs.Prelude.{◌≡◌, ◌≢◌, ◌⊎◌, ℕ, List, [], ◌++◌, ◌<◌, ◌≤◌, length, take, Option, None, Result, Ok, Err, IfSome, codes}
 use Rattle.std.specs.Fmt.{decimal}
-use Rattle.std.specs.Io.KnownBytes.{Appends, Consumes, Keeps}
+use Rattle.std.specs.Io.KnownBytes.{Appends, Keeps}
 use Rattle.byte_output.specs.Prefix.{AppendsPrefix}
-use Rattle.lazy_file.specs.SourceTexts.{Agrees, Reads, Stated, stated_in_memory}
-use Rattle.lazy_file.specs.ReadFaults.{TellsAs}
-use Rattle.lazy_file.specs.declared.faults.SourceFault.{SourceFault}
+use Rattle.lazy_file.specs.SourceTexts.{Agrees, Stated, stated_in_memory}
+use Rattle.lazy_file.specs.Readings.{Reading}
 use Rattle.lazy_file.specs.Faults.{add_fault_code}
 use Rattle.lazy_file.specs.declared.faults.AddFault.{AddFault}
 use Rattle.lazy_file.specs.declared.faults.AddFault.TheVariants as Add
 use Rattle.rope_node.specs.Denotes.{Cell, rope_cells}
-use Rattle.cord_position.specs.Fetched.{AreStated, IsReadable}
+use Rattle.cord_position.specs.Fetched.{AreStated}
 use Rattle.image_reader.specs.Accepted.{HasSources, revision_at}
+use Rattle.image_reader.specs.Reading.{judged_len}
 use Rattle.image_reader.specs.Value.{ImageValue, IsImage, image_table}
 use Rattle.image_reader.specs.Spelling.{spelling}
 use Rattle.session_checker.specs.declared.fault.CheckFault.{CheckFault}
-use Rattle.session_checker.specs.declared.fault.CheckFault.TheVariants as Check
-use Rattle.session_checker.specs.Accepted.{IsAccepted, IsFirstFault}
+use Rattle.session_checker.specs.Accepted.{BytesAsk, IsAccepted}
+use Rattle.session_checker.specs.Limits.{IsFirstFaultWithin, IsWithin}
 use Rattle.session_checker.specs.Faithful.{IsFaithful, revision_text}
 use Rattle.session_checker.specs.Codes.{fault_code}
-use Rattle.cord_tools.specs.Faults.{check_fault, read_fault}
-use Rattle.cord_tools.specs.Unread.{IsUnread}
+use Rattle.cord_tools.specs.Faults.{check_fault}
+use Rattle.cord_tools.specs.Unread.{AmongCells, ReadsAt, StopsAt}
 use Rattle.cord_tools.specs.declared.fault.ToolFault.{ToolFault}
 use Rattle.cord_tools.specs.declared.fault.ToolFault.TheVariants.{Memory, Read, Write, Refused, NoRevision}
 use Rattle.cord_tools.specs.declared.status.Status.{Status}
 use Rattle.cord_tools.specs.declared.status.Status.TheVariants.{Success, Failure}
-use Rattle.cord_tools.specs.declared.input.TheConstants.{IMAGE_LIMIT}
 
 abbrev pub accepted_line : ImageValue → List ℕ
 accepted_line v =
@@ -39,9 +38,10 @@ refused_line fault = codes "refused " ++ fault_code fault ++ codes "\n"
 abbrev pub AreReadUpTo : ℕ → Option (List ℕ) → List ℕ → Type 0
 AreReadUpTo limit remaining bytes = IfSome remaining (λ xs. bytes ≡ take limit xs)
 
--- the same, of an image
+-- The bytes of an image are those that the reader had, up to one more than their header states; where the header has a
+-- fault by itself, they are the header.
 abbrev pub AreRead : Option (List ℕ) → List ℕ → Type 0
-AreRead = AreReadUpTo IMAGE_LIMIT
+AreRead remaining bytes = IfSome remaining (λ xs. bytes ≡ take (judged_len xs) xs)
 
 -- the line that names the refusal of a source
 abbrev pub refused_source_line : AddFault → List ℕ
@@ -55,57 +55,52 @@ pub record SpellsFaithful (bytes : List ℕ) (st : Stated) (v : ImageValue) : Ty
   pub sources : HasSources v st.sizes
   pub faithful : IsFaithful v st
 
--- the first fault of the bytes, which is no source's
-pub record IsRefusal {T : Type 0} (stated : T → Stated) (failures : T → ℕ) (old new : T) (bytes : List ℕ)
-    (fault : CheckFault) : Type 0 where
-  pub first : IsFirstFault stated failures old new bytes fault
+-- the first fault of the bytes under a limit of looks, which is no source's
+pub record IsRefusal (at_most : Option ℕ) (st : Stated) (bytes : List ℕ) (fault : CheckFault) : Type 0 where
+  pub first : IsFirstFaultWithin at_most st bytes fault
   pub told : check_fault fault ≡ Refused fault
 
--- a source's fault is the first of the bytes, and it is told so
-pub record StopsAtSource {T : Type 0} (stated : T → Stated) (failures : T → ℕ) (old new : T) (bytes : List ℕ)
-    (told : ToolFault) : Type 0 where
-  pub fault : SourceFault
-  pub first : IsFirstFault stated failures old new bytes (Check.Source fault)
-  pub told_as : told ≡ read_fault fault
-
 -- the line and the status that answer for these bytes
-abbrev pub AnswersWith : {T : Type 0} → (T → Stated) → (T → ℕ) → T → T → List ℕ → List ℕ → Status → Type 0
-AnswersWith stated failures old new bytes line Success =
-    (v : ImageValue) × SpellsFaithful bytes (stated old) v × (line ≡ accepted_line v)
-AnswersWith stated failures old new bytes line Failure =
-    (f : CheckFault) × IsRefusal stated failures old new bytes f × (line ≡ refused_line f)
+abbrev pub AnswersWith : Option ℕ → Stated → List ℕ → List ℕ → Status → Type 0
+AnswersWith at_most st bytes line Success =
+    (v : ImageValue) × SpellsFaithful bytes st v × IsWithin at_most v × (line ≡ accepted_line v)
+AnswersWith at_most st bytes line Failure =
+    (f : CheckFault) × IsRefusal at_most st bytes f × (line ≡ refused_line f)
 
--- the image was read, and its check stopped at a source
-abbrev pub StopsCheck : {T : Type 0} → (T → Stated) → (T → ℕ) → T → T → Option (List ℕ) → ToolFault → Type 0
-StopsCheck stated failures old new remaining told =
-    (bytes : List ℕ) × AreRead remaining bytes × StopsAtSource stated failures old new bytes told
+-- a place that the image asks for that is read
+abbrev pub CheckAsks : Option (List ℕ) → Stated → ℕ → ℕ → Type 0
+CheckAsks remaining st s p = (bytes : List ℕ) × AreRead remaining bytes × BytesAsk st bytes s p
 
 -- The line that answers for the bytes read was written; where the writer failed, a prefix of it; where the tool was
 -- stopped before, nothing. It tells a failed read only where the reader failed and no source was read, or where a
 -- source stopped the check.
-abbrev pub AnswersCheck : {T : Type 0} → (T → Stated) → (T → ℕ) → T → T → Option (List ℕ) → Option (List ℕ)
+abbrev pub AnswersCheck : {T : Type 0} → Option ℕ → (T → Reading) → T → T → Option (List ℕ) → Option (List ℕ)
     → Option (List ℕ) → Result Status ToolFault → Type 0
-AnswersCheck stated failures old new remaining before after (Ok status) =
+AnswersCheck at_most reading old new remaining before after (Ok status) =
     (bytes : List ℕ) × (line : List ℕ) × AreRead remaining bytes
-    × AnswersWith stated failures old new bytes line status × Appends before after line
-AnswersCheck stated failures old new remaining before after (Err Write) =
+    × AnswersWith at_most (reading old).stated bytes line status × Appends before after line
+AnswersCheck at_most reading old new remaining before after (Err Write) =
     (bytes : List ℕ) × (line : List ℕ) × (status : Status) × AreRead remaining bytes
-    × AnswersWith stated failures old new bytes line status × AppendsPrefix before after line
-AnswersCheck stated failures old new remaining before after (Err Read) =
-    Keeps before after × ((new ≡ old) ⊎ StopsCheck stated failures old new remaining Read)
-AnswersCheck stated failures old new remaining before after (Err Memory) = Keeps before after
-AnswersCheck stated failures old new remaining before after (Err other) = ⊥
+    × AnswersWith at_most (reading old).stated bytes line status × AppendsPrefix before after line
+AnswersCheck at_most reading old new remaining before after (Err Read) =
+    Keeps before after
+    × ((new ≡ old) ⊎ StopsAt (reading old) (reading new) (CheckAsks remaining (reading old).stated) Read)
+AnswersCheck at_most reading old new remaining before after (Err Memory) = Keeps before after
+AnswersCheck at_most reading old new remaining before after (Err other) = ⊥
 
-pub record ChecksImage {T : Type 0} (stated : T → Stated) (failures : T → ℕ) (old new : T)
+pub record ChecksImage {T : Type 0} (at_most : Option ℕ) (reading : T → Reading) (old new : T)
     (remaining before after : Option (List ℕ)) (outcome : Result Status ToolFault) : Type 0 where
-  pub answer : AnswersCheck stated failures old new remaining before after outcome
-  pub reads : Reads stated failures old new
-  pub told : TellsAs failures old new Read outcome
+  pub answer : AnswersCheck at_most reading old new remaining before after outcome
+  pub reads : ReadsAt (reading old) (reading new) (CheckAsks remaining (reading old).stated) outcome
 
--- the same with no sources
+-- what is known of texts in memory, of which no read fails
+abbrev pub reading_in_memory : List (List ℕ) → Reading
+reading_in_memory texts = record { stated = stated_in_memory texts; failures = λ s. 0 }
+
+-- the same with no sources and no limit
 abbrev pub ChecksInput : Option (List ℕ) → Option (List ℕ) → Option (List ℕ) → Result Status ToolFault → Type 0
 ChecksInput remaining before after outcome =
-    AnswersCheck stated_in_memory (λ (texts : List (List ℕ)). 0) [] [] remaining before after outcome
+    AnswersCheck None reading_in_memory [] [] remaining before after outcome
 
 -- The line that refuses a source was written, and the status tells a refusal; where the writer failed, a prefix of that
 -- line. Want of memory is no refusal, and then nothing was written.
@@ -117,6 +112,20 @@ RefusesCheck refusal before after (Err Write) =
 RefusesCheck refusal before after (Err Memory) = Keeps before after
 RefusesCheck refusal before after (Err other) = ⊥
 
+-- A tool ended before it had an accepted image, and wrote nothing: the image is refused; or the reader failed, or
+-- memory was wanted, and no source was read; or a source stopped the check.
+abbrev pub EndsUnwritten : {T : Type 0} → Option ℕ → (T → Reading) → T → T → Option (List ℕ) → Option (List ℕ)
+    → Option (List ℕ) → ToolFault → Type 0
+EndsUnwritten at_most reading old new remaining before after (Refused f) =
+    Keeps before after × ((bytes : List ℕ) × AreRead remaining bytes × IsRefusal at_most (reading old).stated bytes f)
+EndsUnwritten at_most reading old new remaining before after Read =
+    Keeps before after
+    × ((new ≡ old) ⊎ StopsAt (reading old) (reading new) (CheckAsks remaining (reading old).stated) Read)
+EndsUnwritten at_most reading old new remaining before after Memory =
+    Keeps before after
+    × ((new ≡ old) ⊎ StopsAt (reading old) (reading new) (CheckAsks remaining (reading old).stated) Memory)
+EndsUnwritten at_most reading old new remaining before after other = ⊥
+
 -- the cells of revision k
 abbrev pub revision_cells : ImageValue → ℕ → List Cell
 revision_cells v k = rope_cells (image_table v) (revision_at v k).root
@@ -127,45 +136,48 @@ abbrev pub OfRevision : ImageValue → Stated → ℕ → (List ℕ → Type 0) 
 OfRevision v st k P =
     (source : ℕ → ℕ → ℕ) → Agrees st source → AreStated st (revision_cells v k) → P (revision_text v source k)
 
--- the bytes read spell a faithful image with these sources, and P holds of the text of its revision k
-pub record ReadsRevision (remaining : Option (List ℕ)) (st : Stated) (k : ℕ) (v : ImageValue) (P : List ℕ → Type 0)
-    : Type 0 where
+-- the bytes read spell a faithful image with these sources, within the limit, and P holds of the text of its revision k
+pub record ReadsRevision (at_most : Option ℕ) (remaining : Option (List ℕ)) (st : Stated) (k : ℕ) (v : ImageValue)
+    (P : List ℕ → Type 0) : Type 0 where
   pub bytes : List ℕ
   pub read : AreRead remaining bytes
   pub spelled : SpellsFaithful bytes st v
+  pub within : IsWithin at_most v
   pub there : k < length v.revisions
   pub text : OfRevision v st k P
 
--- The text of the revision was written; where it ended before, a prefix of it, or nothing. Once the image is accepted, and
--- where each of its cells is readable, it can end for the writer or for the image's reader alone.
-abbrev pub AnswersShow : {T : Type 0} → (T → Stated) → (T → ℕ) → T → T → Option (List ℕ) → ℕ → Option (List ℕ)
+-- The text of the revision was written; where it ended before, a prefix of it, or nothing. Nothing is written before
+-- the image is accepted. From then on it can end for the writer, or where a read of one of its cells failed, and for
+-- nothing else.
+abbrev pub AnswersShow : {T : Type 0} → Option ℕ → (T → Reading) → T → T → Option (List ℕ) → ℕ → Option (List ℕ)
     → Option (List ℕ) → Result (Unit {0}) ToolFault → Type 0
-AnswersShow stated failures old new remaining k before after (Ok u) =
-    (v : ImageValue) × ReadsRevision remaining (stated old) k v (Appends before after)
-AnswersShow stated failures old new remaining k before after (Err Write) =
-    (v : ImageValue) × ReadsRevision remaining (stated old) k v (AppendsPrefix before after)
-AnswersShow stated failures old new remaining k before after (Err Read) =
-    (Keeps before after × ((new ≡ old) ⊎ StopsCheck stated failures old new remaining Read))
-    ⊎ ((v : ImageValue) × ReadsRevision remaining (stated old) k v (AppendsPrefix before after)
-    × ((new ≡ old) ⊎ IsUnread stated failures old new (revision_cells v k)))
-AnswersShow stated failures old new remaining k before after (Err Memory) =
-    (Keeps before after × ((new ≡ old) ⊎ StopsCheck stated failures old new remaining Memory))
-    ⊎ ((v : ImageValue) × ReadsRevision remaining (stated old) k v (AppendsPrefix before after)
-    × ¬ All (IsReadable (stated old)) (revision_cells v k))
-AnswersShow stated failures old new remaining k before after (Err (Refused f)) =
-    Keeps before after × ((bytes : List ℕ) × AreRead remaining bytes × IsRefusal stated failures old new bytes f)
-AnswersShow stated failures old new remaining k before after (Err NoRevision) =
+AnswersShow at_most reading old new remaining k before after (Ok u) =
+    (v : ImageValue) × ReadsRevision at_most remaining (reading old).stated k v (Appends before after)
+AnswersShow at_most reading old new remaining k before after (Err Write) =
+    (v : ImageValue) × ReadsRevision at_most remaining (reading old).stated k v (AppendsPrefix before after)
+AnswersShow at_most reading old new remaining k before after (Err Read) =
+    EndsUnwritten at_most reading old new remaining before after Read
+    ⊎ ((v : ImageValue) × ReadsRevision at_most remaining (reading old).stated k v (AppendsPrefix before after)
+    × StopsAt (reading old) (reading new) (AmongCells (revision_cells v k)) Read)
+AnswersShow at_most reading old new remaining k before after (Err Memory) =
+    EndsUnwritten at_most reading old new remaining before after Memory
+    ⊎ ((v : ImageValue) × ReadsRevision at_most remaining (reading old).stated k v (AppendsPrefix before after)
+    × StopsAt (reading old) (reading new) (AmongCells (revision_cells v k)) Memory)
+AnswersShow at_most reading old new remaining k before after (Err NoRevision) =
     Keeps before after × ((v : ImageValue) × (bytes : List ℕ) × AreRead remaining bytes
-    × SpellsFaithful bytes (stated old) v × (length v.revisions ≤ k))
-AnswersShow stated failures old new remaining k before after (Err other) = ⊥
+    × SpellsFaithful bytes (reading old).stated v × IsWithin at_most v × (length v.revisions ≤ k))
+AnswersShow at_most reading old new remaining k before after (Err other) =
+    EndsUnwritten at_most reading old new remaining before after other
 
-pub record ShowsRevision {T : Type 0} (stated : T → Stated) (failures : T → ℕ) (old new : T)
+-- a place that showing revision k asks for: the check of the image does, or a cell of the revision is that place
+abbrev pub ShowAsks : Option (List ℕ) → Stated → ℕ → ℕ → ℕ → Type 0
+ShowAsks remaining st k s p =
+    CheckAsks remaining st s p
+    ⊎ ((v : ImageValue) × (bytes : List ℕ) × AreRead remaining bytes × SpellsFaithful bytes st v
+    × AmongCells (revision_cells v k) s p)
+
+pub record ShowsRevision {T : Type 0} (at_most : Option ℕ) (reading : T → Reading) (old new : T)
     (remaining : Option (List ℕ)) (k : ℕ)
     (before after : Option (List ℕ)) (outcome : Result (Unit {0}) ToolFault) : Type 0 where
-  pub reads : Reads stated failures old new
-  pub answer : AnswersShow stated failures old new remaining k before after outcome
-  pub told : TellsAs failures old new Read outcome
-
--- the bytes behind these are read
-abbrev pub ReadsBehind : List ℕ → Option (List ℕ) → (Option (List ℕ) → Type 0) → Type 0
-ReadsBehind bytes left P = (remaining : Option (List ℕ)) → Consumes remaining left bytes → P remaining
+  pub reads : ReadsAt (reading old) (reading new) (ShowAsks remaining (reading old).stated k) outcome
+  pub answer : AnswersShow at_most reading old new remaining k before after outcome

@@ -2,7 +2,7 @@
 use Rattle.std.specs.Prelude.{◌≡◌, ◌↔◌, ℕ, List, Option, Result, Ok, Err, OnOk}
 use Rattle.std.specs.Io.KnownBytes.{Keeps}
 use Rattle.byte_output.specs.declared.writing.WriteFault.{WriteFault}
-use Rattle.lazy_file.specs.SourceTexts.{Stated}
+use Rattle.lazy_file.specs.Readings.{Reading}
 use Rattle.image_reader.specs.Spelling.{spelling}
 use Rattle.image_reader.specs.Value.{IsImage}
 use Rattle.screen_editor.specs.declared.fault.EditorFault.{EditorFault}
@@ -10,7 +10,7 @@ use Rattle.screen_editor.specs.declared.fault.EditorFault.TheVariants.{TooLong}
 use Rattle.screen_editor.specs.declared.fault.End.{End}
 use Rattle.screen_editor.specs.declared.fault.End.TheVariants.{Save, Leave}
 use Rattle.screen_editor.specs.declared.fault.RunFault.{RunFault}
-use Rattle.screen_editor.specs.Editing.{Editing, EditorValue}
+use Rattle.screen_editor.specs.Editing.{Editing, EditorValue, seen}
 use Rattle.screen_editor.specs.Refusals.{IsNewFault, IsTooLong}
 use Rattle.screen_editor.specs.Revising.{IsMade}
 use Rattle.screen_editor.specs.Runs.{IsRun}
@@ -47,15 +47,16 @@ Concludes sizes (Err fault) last before now result = (result ≡ Err (run_fault 
 -- Over these sources there is no editor, which is told as a text too long exactly where source 0 is; or source 0 is
 -- not, and there is one whose run takes these keys and shows its states; behind the key Save the image of its last
 -- state is written.
-pub data EditsFile {T : Type 0} (stated : T → Stated) (failures : T → ℕ) (sources : T)
+pub data EditsFile {T : Type 0} (reading : T → Reading) (sources : T)
     (keys_before keys_left shown_before shown_now before now : Option (List ℕ))
     (result : Result Status ToolFault) : Type 0 where
-  not_made : (fault : EditorFault) → IsNewFault (stated sources) fault → (fault ≡ TooLong) ↔ IsTooLong (stated sources)
-      → result ≡ Err (editor_fault fault)
+  not_made : (fault : EditorFault) → IsNewFault (reading sources).stated fault
+      → (fault ≡ TooLong) ↔ IsTooLong (reading sources).stated → result ≡ Err (editor_fault fault)
       → Keeps keys_before keys_left → Keeps shown_before shown_now → Keeps before now
-      → EditsFile stated failures sources keys_before keys_left shown_before shown_now before now result
+      → EditsFile reading sources keys_before keys_left shown_before shown_now before now result
   ran : (first last : EditorValue T) (end : Result End RunFault)
-      → first.sources ≡ sources → ¬ IsTooLong (stated sources) → IsMade (stated sources).sizes first.editing
-      → IsRun stated failures keys_before keys_left shown_before shown_now first end last
-      → Concludes (stated sources).sizes end last.editing before now result
-      → EditsFile stated failures sources keys_before keys_left shown_before shown_now before now result
+      → first.sources ≡ sources → ¬ IsTooLong (reading sources).stated
+      → IsMade (reading sources).stated.sizes first.editing
+      → IsRun keys_before keys_left shown_before shown_now (seen reading first) end (seen reading last)
+      → Concludes (reading sources).stated.sizes end last.editing before now result
+      → EditsFile reading sources keys_before keys_left shown_before shown_now before now result

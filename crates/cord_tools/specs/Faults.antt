@@ -51,6 +51,7 @@ check_fault (Check.Command k) = Tool.Refused (Check.Command k)
 check_fault (Check.Root k) = Tool.Refused (Check.Root k)
 check_fault (Check.Mark k) = Tool.Refused (Check.Mark k)
 check_fault (Check.Rows k j) = Tool.Refused (Check.Rows k j)
+check_fault (Check.Looks bound) = Tool.Refused (Check.Looks bound)
 
 abbrev pub put_fault : PutFault → ToolFault
 put_fault (Put.Source fault) = read_fault fault
@@ -80,6 +81,8 @@ edit_fault Edit.TooManyRevisions = Tool.Edit Edit.TooManyRevisions
 edit_fault Edit.TooManyRows = Tool.Edit Edit.TooManyRows
 edit_fault (Edit.Node fault) = Tool.Edit (Edit.Node fault)
 edit_fault Edit.TooManyPieces = Tool.Edit Edit.TooManyPieces
+edit_fault Edit.SpliceCount = Tool.Edit Edit.SpliceCount
+edit_fault Edit.TooManySplices = Tool.Edit Edit.TooManySplices
 edit_fault Edit.Memory = Memory
 
 abbrev pub editor_fault : EditorFault → ToolFault

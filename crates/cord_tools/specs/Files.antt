@@ -8,6 +8,7 @@ use Rattle.std.specs.declared.cmp.Ordering.TheVariants.{Less, Equal, Greater}
 use Rattle.rope_node.specs.declared.limits.TheConstants.{TEXT_LIMIT}
 use Rattle.byte_output.specs.Prefix.{AppendsPrefix}
 use Rattle.lazy_file.specs.SourceTexts.{Agrees, Stated, text_at}
+use Rattle.lazy_file.specs.Readings.{Reading}
 use Rattle.rope_node.specs.Denotes.{Cell, Place}
 use Rattle.node_table.specs.declared.fault.NodeFault.TheVariants.{TooLong}
 use Rattle.rebalance.specs.declared.fault.BalanceFault.{BalanceFault}
@@ -61,27 +62,27 @@ OfAllFiles st P = (source : ℕ → ℕ → ℕ) → Agrees st source → ((s : 
 
 -- At most count bytes of source 0 from start on were written, and nothing else; where it ended before, a prefix of
 -- them.
-pub record CutsFile {T : Type 0} (stated : T → Stated) (failures : T → ℕ) (old new : T) (start count : ℕ)
+pub record CutsFile (old new : Reading) (start count : ℕ)
     (before after : Option (List ℕ)) (outcome : Result (Unit {0}) ToolFault) : Type 0 where
-  pub reads : ReadsCells stated failures old new (take count (drop start (file_cells (stated old).sizes 0))) outcome
-  pub ok : OnOk outcome (OfFile (stated old) 0 (λ t. Appends before after (take count (drop start t))))
-  pub err : OnErr outcome (OfFile (stated old) 0 (λ t. AppendsPrefix before after (take count (drop start t))))
+  pub reads : ReadsCells old new (take count (drop start (file_cells old.stated.sizes 0))) outcome
+  pub ok : OnOk outcome (OfFile old.stated 0 (λ t. Appends before after (take count (drop start t))))
+  pub err : OnErr outcome (OfFile old.stated 0 (λ t. AppendsPrefix before after (take count (drop start t))))
   pub fault : IfErr outcome IsStop
 
 -- ---- files, one behind the other
 
 -- The bytes of all the sources were written, and nothing else; where it ended before, a prefix of them. They are
 -- refused as too long alone, and then nothing was written.
-pub record JoinsFiles {T : Type 0} (stated : T → Stated) (failures : T → ℕ) (old new : T)
+pub record JoinsFiles (old new : Reading)
     (before after : Option (List ℕ)) (outcome : Result (Unit {0}) ToolFault) : Type 0 where
-  pub reads : ReadsCells stated failures old new (all_cells (stated old).sizes) outcome
-  pub ok : OnOk outcome (OfAllFiles (stated old) (Appends before after))
-  pub err : OnErr outcome (OfAllFiles (stated old) (AppendsPrefix before after))
+  pub reads : ReadsCells old new (all_cells old.stated.sizes) outcome
+  pub ok : OnOk outcome (OfAllFiles old.stated (Appends before after))
+  pub err : OnErr outcome (OfAllFiles old.stated (AppendsPrefix before after))
   pub fault : IfErr outcome IsJoinFault
   pub refused : (fault : BalanceFault) → IsErrOf outcome (Rope fault) → Keeps before after
-  pub too_long : IsErrOf outcome (Rope (Node TooLong)) → TEXT_LIMIT ≤ sum (stated old).sizes
-  pub short : IsOk outcome ⊎ (IsErrOf outcome Write ⊎ IsErrOf outcome Read) → sum (stated old).sizes < TEXT_LIMIT
-  pub long : TEXT_LIMIT ≤ sum (stated old).sizes → Keeps before after
+  pub too_long : IsErrOf outcome (Rope (Node TooLong)) → TEXT_LIMIT ≤ sum old.stated.sizes
+  pub short : IsOk outcome ⊎ (IsErrOf outcome Write ⊎ IsErrOf outcome Read) → sum old.stated.sizes < TEXT_LIMIT
+  pub long : TEXT_LIMIT ≤ sum old.stated.sizes → Keeps before after
 
 -- ---- the first place of a pattern
 
@@ -104,11 +105,11 @@ AnswersFind st start pattern before after (Err PatternTooLong) = Keeps before af
 AnswersFind st start pattern before after (Err other) = ⊥
 
 -- The search reads source 0 from start on, and refuses long patterns alone.
-pub record FindsPattern {T : Type 0} (stated : T → Stated) (failures : T → ℕ) (old new : T) (start : ℕ)
+pub record FindsPattern (old new : Reading) (start : ℕ)
     (pattern : List ℕ)
     (before after : Option (List ℕ)) (outcome : Result Status ToolFault) : Type 0 where
-  pub reads : ReadsCells stated failures old new (drop start (file_cells (stated old).sizes 0)) outcome
-  pub answer : AnswersFind (stated old) start pattern before after outcome
+  pub reads : ReadsCells old new (drop start (file_cells old.stated.sizes 0)) outcome
+  pub answer : AnswersFind old.stated start pattern before after outcome
   pub too_long : IsErrOf outcome PatternTooLong ↔ (PATTERN_LIMIT < length pattern)
 
 -- ---- the order of two files
@@ -141,8 +142,8 @@ AnswersCompare st before after (Err Memory) = Keeps before after
 AnswersCompare st before after (Err other) = ⊥
 
 -- The comparison reads sources 0 and 1.
-pub record ComparesFiles {T : Type 0} (stated : T → Stated) (failures : T → ℕ) (old new : T)
+pub record ComparesFiles (old new : Reading)
     (before after : Option (List ℕ)) (outcome : Result Status ToolFault) : Type 0 where
-  pub reads : ReadsCells stated failures old new
-      (file_cells (stated old).sizes 0 ++ file_cells (stated old).sizes 1) outcome
-  pub answer : AnswersCompare (stated old) before after outcome
+  pub reads : ReadsCells old new
+      (file_cells old.stated.sizes 0 ++ file_cells old.stated.sizes 1) outcome
+  pub answer : AnswersCompare old.stated before after outcome

@@ -1,8 +1,9 @@
 pub mod Answers
-pub mod Copied
 pub mod Editing
 pub mod Faults
 pub mod Files
+pub mod Input
+pub mod Migrated
 pub mod Outcomes
 pub mod Sources
 pub mod Spans

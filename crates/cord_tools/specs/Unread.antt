@@ -1,29 +1,31 @@
--- What a tool does to the sources that it reads, and when it tells that it cannot read them.
-use Rattle.std.specs.Prelude.{◌≡◌, ℕ, List, Result, All, Any, IsErrOf}
-use Rattle.rope_node.specs.Denotes.{Cell}
-use Rattle.lazy_file.specs.SourceTexts.{Reads, Stated}
-use Rattle.lazy_file.specs.ReadFaults.{TellsAs}
+-- What a tool does to the sources that it reads, and what it tells of a read that failed.
+use Rattle.std.specs.Prelude.{◌≡◌, ℕ, List, Option, Some, Result, Err, Any, IsErrOf, IsSome}
+use Rattle.rope_node.specs.Denotes.{Cell, Place}
+use Rattle.lazy_file.specs.Readings.{IsFaultAmong, Reading, Reads}
 use Rattle.lazy_file.specs.declared.faults.SourceFault.{SourceFault}
-use Rattle.cord_position.specs.Fetched.{IsPlaceFault, IsReadable}
 use Rattle.cord_tools.specs.Faults.{read_fault}
 use Rattle.cord_tools.specs.declared.fault.ToolFault.{ToolFault}
 use Rattle.cord_tools.specs.declared.fault.ToolFault.TheVariants.{Read}
 
--- the cell is a source's, and a read of its place failed, and not for want of memory
-pub record CouldNotRead {T : Type 0} (stated : T → Stated) (failures : T → ℕ) (old new : T) (cell : Cell) : Type 0 where
+-- the places of sources among these cells
+abbrev pub AmongCells : List Cell → ℕ → ℕ → Type 0
+AmongCells cells s p = Any (λ (cell : Cell). cell ≡ Place s p) cells
+
+-- a read that asked for one of these places failed, and it is told so
+pub record StopsAt (before after : Reading) (Asked : ℕ → ℕ → Type 0) (told : ToolFault) : Type 0 where
   pub fault : SourceFault
-  pub told : read_fault fault ≡ Read
-  pub place : IsPlaceFault stated failures old new cell fault
+  pub read : IsFaultAmong before after Asked fault
+  pub told_as : told ≡ read_fault fault
 
--- one of these cells could not be read, and not each of them was readable
-pub record IsUnread {T : Type 0} (stated : T → Stated) (failures : T → ℕ) (old new : T) (cells : List Cell)
+-- What a tool does that asks the sources for no other places: all is as before, or one read failed, and that is told.
+pub record ReadsAt {X : Type 0} (before after : Reading) (Asked : ℕ → ℕ → Type 0) (outcome : Result X ToolFault)
     : Type 0 where
-  pub some : Any (CouldNotRead stated failures old new) cells
-  pub not_all : ¬ All (IsReadable (stated old)) cells
+  pub fault : Option SourceFault
+  pub reads : Reads before after Asked fault
+  pub told : (f : SourceFault) → fault ≡ Some f → outcome ≡ Err (read_fault f)
 
--- a tool that may read these cells, and that tells a failed read of them, and nothing else, as one
-pub record ReadsCells {T X : Type 0} (stated : T → Stated) (failures : T → ℕ) (old new : T) (cells : List Cell)
-    (outcome : Result X ToolFault) : Type 0 where
-  pub reads : Reads stated failures old new
-  pub unread : IsErrOf outcome Read → IsUnread stated failures old new cells
-  pub told : TellsAs failures old new Read outcome
+-- the same of a tool that may read these cells, and nothing else
+pub record ReadsCells {X : Type 0} (before after : Reading) (cells : List Cell) (outcome : Result X ToolFault)
+    : Type 0 where
+  pub at : ReadsAt before after (AmongCells cells) outcome
+  pub unread : IsErrOf outcome Read → IsSome at.fault

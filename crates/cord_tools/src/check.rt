@@ -1,10 +1,10 @@
 //! The check of an image with its sources.
 
 ghost use Rattle.std.specs.Prelude.{◌≡◌, ◌⊎◌, IfErr, IfOk, string_bytes};
-ghost use Rattle.lazy_file.specs.SourceTexts.{Reads};
-ghost use Rattle.lazy_file.specs.ReadFaults.{TellsAs};
+ghost use Rattle.session_checker.specs.Accepted.{BytesAsk};
 ghost use Rattle.cord_tools.specs.Answers.{accepted_line, refused_line, refused_source_line};
-ghost use Rattle.cord_tools.specs.Answers.{AnswersWith, ChecksImage, ChecksInput, RefusesCheck, StopsAtSource};
+ghost use Rattle.cord_tools.specs.Answers.{AnswersWith, ChecksImage, ChecksInput, RefusesCheck};
+ghost use Rattle.cord_tools.specs.Unread.{ReadsAt, StopsAt};
 
 use crate::fault::ToolFault;
 use crate::input::read_image;
@@ -12,7 +12,7 @@ use crate::status::Status;
 use byte_output::write_bytes;
 use lazy_file::{AddFault, MemSources, Sources};
 use rope_node::NodeSpace;
-use session_checker::{CheckFault, Checked, check};
+use session_checker::{CheckFault, Checked, check_at_most};
 use std::alloc::{AllocError, Global};
 use std::io;
 
@@ -44,15 +44,17 @@ fn answer_with<S: Sources>(
     alloc: Global,
     bytes: &[u8],
     sources: &mut S,
+    at_most: Option<u64>,
 ) -> Result<(String, Status), ToolFault>
-    ensures ok { IfOk result (λ x. AnswersWith S.stated S.failures
-        sources.old sources.new bytes.now (string_bytes x.0) x.1) }
+    ensures ok { IfOk result
+        (λ x. AnswersWith at_most (S.reading sources.old).stated bytes.now (string_bytes x.0) x.1) }
     ensures fault { IfErr result (λ e. (e ≡ ToolFault.Memory)
-        ⊎ StopsAtSource S.stated S.failures sources.old sources.new bytes.now e) }
-    ensures reads { Reads S.stated S.failures sources.old sources.new }
-    ensures told { TellsAs S.failures sources.old sources.new ToolFault.Read result }
+        ⊎ StopsAt (S.reading sources.old) (S.reading sources.new)
+        (BytesAsk (S.reading sources.old).stated bytes.now) e) }
+    ensures reads { ReadsAt (S.reading sources.old) (S.reading sources.new)
+        (BytesAsk (S.reading sources.old).stated bytes.now) result }
 {
-    match check(bytes, sources) {
+    match check_at_most(bytes, sources, at_most) {
         Ok(image) => Ok((accepted_line(alloc, &image)?, Status::Success)),
         Err(CheckFault::Source(fault)) => Err(ToolFault::from(fault)),
         Err(fault) => Ok((refused_line(alloc, fault)?, Status::Failure)),
@@ -61,6 +63,7 @@ fn answer_with<S: Sources>(
 
 /// Checks the image that the reader gives, with these sources, and writes one line: `accepted R revisions N nodes K rows`
 /// or `refused CODE`. It reads sources only where rows compare their bytes. Room for `expected` bytes of the image is taken first.
+/// Where the check may take more than `at_most` looks at nodes, the line is `refused looks N`, with that number.
 ///
 /// # Errors
 ///
@@ -71,18 +74,19 @@ pub fn run_check<R: io::Read + Drop, S: Sources, W: io::Write>(
     reader: R,
     expected: u64,
     sources: &mut S,
+    at_most: Option<u64>,
     writer: &mut W,
 ) -> Result<Status, ToolFault>
-    ensures { ChecksImage S.stated S.failures sources.old sources.new (R.remaining reader)
+    ensures { ChecksImage at_most S.reading sources.old sources.new (R.remaining reader)
         (W.contents writer.old) (W.contents writer.new) result }
 {
     let bytes = read_image(alloc, reader, expected)?;
-    let (line, status) = answer_with(alloc, &bytes, sources)?;
+    let (line, status) = answer_with(alloc, &bytes, sources, at_most)?;
     write_bytes(writer, line.as_bytes())?;
     Ok(status)
 }
 
-/// The check of standard input, with no sources, as `run_check` does it.
+/// The check of standard input, with no sources and no limit, as `run_check` does it.
 ///
 /// # Errors
 ///
@@ -94,7 +98,7 @@ pub fn run_stdin<R: io::Read + Drop, W: io::Write>(
 ) -> Result<Status, ToolFault>
     ensures { ChecksInput (R.remaining reader) (W.contents writer.old) (W.contents writer.new) result }
 {
-    run_check(alloc, reader, 0, &mut MemSources::new(alloc), writer)
+    run_check(alloc, reader, 0, &mut MemSources::new(alloc), None, writer)
 }
 
 /// Answers a check whose sources are refused, before the image's bytes are looked at: it writes the line `refused CODE`, and answers

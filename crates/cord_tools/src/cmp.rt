@@ -38,11 +38,12 @@ fn equality_status(order: Ordering) -> Status
 
 /// The order of the first two sources. The fault is `Read` or `Memory`.
 fn order_of<T: Sources>(alloc: Global, sources: &mut T) -> Result<Ordering, ToolFault>
-    requires { 2 ≤ length (T.stated sources.old).sizes }
-    ensures order { IfOk result (IsOrderOfFiles (T.stated sources.old)) }
+    requires { 2 ≤ length (T.reading sources.old).stated.sizes }
+    ensures order { IfOk result (IsOrderOfFiles (T.reading sources.old).stated) }
     ensures fault { IfErr result (λ e. (e ≡ Read) ⊎ (e ≡ Memory)) }
-    ensures reads { ReadsCells T.stated T.failures sources.old sources.new
-        (file_cells (T.stated sources.old).sizes 0 ++ file_cells (T.stated sources.old).sizes 1) result }
+    ensures reads { ReadsCells (T.reading sources.old) (T.reading sources.new)
+        (file_cells (T.reading sources.old).stated.sizes 0 ++ file_cells (T.reading sources.old).stated.sizes 1)
+        result }
 {
     let mut store = store_of(alloc, sources)?;
     let first = part(&mut store, 0, 0, u64::MAX)?;
@@ -61,8 +62,8 @@ pub fn run_cmp<T: Sources, W: io::Write>(
     sources: &mut T,
     writer: &mut W,
 ) -> Result<Status, ToolFault>
-    requires { 2 ≤ length (T.stated sources.old).sizes }
-    ensures { ComparesFiles T.stated T.failures sources.old sources.new
+    requires { 2 ≤ length (T.reading sources.old).stated.sizes }
+    ensures { ComparesFiles (T.reading sources.old) (T.reading sources.new)
         (W.contents writer.old) (W.contents writer.new) result }
 {
     let order = order_of(alloc, sources)?;

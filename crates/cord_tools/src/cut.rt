@@ -23,8 +23,8 @@ pub fn run_cut<T: Sources, W: io::Write>(
     count: u64,
     writer: &mut W,
 ) -> Result<(), ToolFault>
-    requires { 1 ≤ length (T.stated sources.old).sizes }
-    ensures { CutsFile T.stated T.failures sources.old sources.new start count
+    requires { 1 ≤ length (T.reading sources.old).stated.sizes }
+    ensures { CutsFile (T.reading sources.old) (T.reading sources.new) start count
         (W.contents writer.old) (W.contents writer.new) result }
 {
     let mut store = store_of(alloc, sources)?;

@@ -15,7 +15,7 @@ fn save<S: Sources + Drop, I: io::Write>(
     editor: &Editor<S>,
     image: &mut I,
 ) -> Result<Status, ToolFault>
-    ensures { SavesImage (S.stated editor.now.sources).sizes editor.now.editing
+    ensures { SavesImage (S.reading editor.now.sources).stated.sizes editor.now.editing
         (I.contents image.old) (I.contents image.new) result }
 {
     write(editor.session(), image)?;
@@ -28,7 +28,7 @@ fn conclude<S: Sources + Drop, I: io::Write>(
     end: Result<End, RunFault>,
     image: &mut I,
 ) -> Result<Status, ToolFault>
-    ensures { Concludes (S.stated editor.now.sources).sizes end editor.now.editing
+    ensures { Concludes (S.reading editor.now.sources).stated.sizes end editor.now.editing
         (I.contents image.old) (I.contents image.new) result }
 {
     match end? {
@@ -53,7 +53,7 @@ pub fn run_edit<S: Sources + Drop, K: io::Read, W: io::Write, I: io::Write>(
     screen: &mut W,
     image: &mut I,
 ) -> Result<Status, ToolFault>
-    ensures { EditsFile S.stated S.failures sources (K.remaining keys.old) (K.remaining keys.new)
+    ensures { EditsFile S.reading sources (K.remaining keys.old) (K.remaining keys.new)
         (W.contents screen.old) (W.contents screen.new) (I.contents image.old) (I.contents image.new) result }
 {
     let mut editor = Editor::new(alloc, sources)?;

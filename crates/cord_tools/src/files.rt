@@ -24,8 +24,8 @@ fn only_memory(_fault: NodeFault) -> AllocError
 
 /// A store whose sources are these, in their order.
 pub fn store_of<T: Sources>(alloc: Global, sources: &T) -> Result<Store<Coded>, AllocError>
-    ensures ok { IfOk result (λ store. store ≡ store_with (T.stated sources.now).sizes) }
-    ensures limits { OnOk result (AreSizes (T.stated sources.now).sizes) }
+    ensures ok { IfOk result (λ store. store ≡ store_with (T.reading sources.now).stated.sizes) }
+    ensures limits { OnOk result (AreSizes (T.reading sources.now).stated.sizes) }
 {
     let mut store = Store::new(alloc);
     for s in 0..sources.count() {

@@ -30,13 +30,13 @@ fn first_place<T: Sources>(
     start: u64,
     pattern: &[u8],
 ) -> Result<Option<u64>, ToolFault>
-    requires { 1 ≤ length (T.stated sources.old).sizes }
+    requires { 1 ≤ length (T.reading sources.old).stated.sizes }
     ensures found { IfOk result
-        (λ found. OfFile (T.stated sources.old) 0 (λ t. IsFirst pattern.now t start found)) }
+        (λ found. OfFile (T.reading sources.old).stated 0 (λ t. IsFirst pattern.now t start found)) }
     ensures too_long { IsErrOf result PatternTooLong ↔ (PATTERN_LIMIT < length pattern.now) }
     ensures fault { IfErr result (λ e. (e ≡ PatternTooLong) ⊎ ((e ≡ Read) ⊎ (e ≡ Memory))) }
-    ensures reads { ReadsCells T.stated T.failures sources.old sources.new
-        (drop start (file_cells (T.stated sources.old).sizes 0)) result }
+    ensures reads { ReadsCells (T.reading sources.old) (T.reading sources.new)
+        (drop start (file_cells (T.reading sources.old).stated.sizes 0)) result }
 {
     if pattern.len() > PATTERN_LIMIT {
         return Err(ToolFault::PatternTooLong);
@@ -60,8 +60,8 @@ pub fn run_find<T: Sources, W: io::Write>(
     pattern: &[u8],
     writer: &mut W,
 ) -> Result<Status, ToolFault>
-    requires { 1 ≤ length (T.stated sources.old).sizes }
-    ensures { FindsPattern T.stated T.failures sources.old sources.new start pattern.now
+    requires { 1 ≤ length (T.reading sources.old).stated.sizes }
+    ensures { FindsPattern (T.reading sources.old) (T.reading sources.new) start pattern.now
         (W.contents writer.old) (W.contents writer.new) result }
 {
     match first_place(alloc, sources, start, pattern)? {

@@ -93,7 +93,7 @@ pub fn run_join<T: Sources, W: io::Write>(
     sources: &mut T,
     writer: &mut W,
 ) -> Result<(), ToolFault>
-    ensures { JoinsFiles T.stated T.failures sources.old sources.new
+    ensures { JoinsFiles (T.reading sources.old) (T.reading sources.new)
         (W.contents writer.old) (W.contents writer.new) result }
 {
     let mut store = store_of(alloc, sources)?;

@@ -3,7 +3,6 @@
 
 mod check;
 mod cmp;
-mod copying;
 mod cut;
 mod edit;
 mod fault;
@@ -11,9 +10,9 @@ mod files;
 mod find;
 mod input;
 mod join;
+mod migrate;
 mod outcome;
 mod show;
-mod sized;
 mod sources;
 mod status;
 
@@ -24,8 +23,8 @@ pub use edit::run_edit;
 pub use fault::ToolFault;
 pub use find::run_find;
 pub use join::run_join;
+pub use migrate::run_migrate;
 pub use outcome::{Outcome, exit_status};
 pub use show::run_show;
-pub use sized::SizedRead;
 pub use sources::{read_source, sources_of};
 pub use status::Status;

@@ -1,6 +1,6 @@
 -- The program's command line, and what an action holds of it.
 use Rattle.std.specs.Prelude.{◌≡◌, ◌⊎◌, ◌∷◌, ⊤, ℕ, true, List, [], Option, Some, None, Ok, String}
-use Rattle.std.specs.Prelude.{codes, map, string_bytes, unwrap_or}
+use Rattle.std.specs.Prelude.{IfSome, codes, map, string_bytes, unwrap_or}
 use Rattle.std.specs.Option.{option_map}
 use Rattle.std.specs.Str.Parse.{ParsesUnsigned}
 use Rattle.std.specs.declared.num.ParseIntError.{ParseIntError}
@@ -10,7 +10,7 @@ use Rattle.clap.specs.Kinds.{or_else}
 use Rattle.clap.specs.declared.builder.action.ArgAction.TheVariants.{Append}
 use Rattle.clap.specs.declared.error.kind.ErrorKind.TheVariants.{ValueValidation}
 use Rattle.cord_words.specs.declared.action.Action.{Action}
-use Rattle.cord_words.specs.declared.action.Action.TheVariants.{CheckInput, Check, Show, Cut, Join, Find, Cmp, Edit}
+use Rattle.cord_words.specs.declared.action.Action.TheVariants.{CheckInput, Check, Show, Cut, Join, Find, Cmp, Edit, Migrate}
 
 -- ---- the words that the program takes
 
@@ -37,14 +37,19 @@ file_rule = required_rule (codes "FILE")
 abbrev pub files_rule : Rule
 files_rule = record file_rule { action = Some Append }
 
--- `check IMAGE [SOURCE]...`
-abbrev pub check_app : App
-check_app = with_rule (with_rule (new_app (codes "check")) image_rule) sources_rule
+-- the option `--at-most LOOKS`
+abbrev pub limit_rule : Rule
+limit_rule = record (new_rule (codes "LOOKS")) { long = Some (codes "at-most") }
 
--- `show IMAGE REV [SOURCE]...`
-abbrev pub show_app : App
-show_app = with_rule (with_rule (with_rule (new_app (codes "show")) image_rule) revision_rule)
+-- `check [--at-most LOOKS] IMAGE [SOURCE]...`
+abbrev pub check_app : App
+check_app = with_rule (with_rule (with_rule (new_app (codes "check")) limit_rule) image_rule)
     sources_rule
+
+-- `show [--at-most LOOKS] IMAGE REV [SOURCE]...`
+abbrev pub show_app : App
+show_app = with_rule (with_rule (with_rule (with_rule (new_app (codes "show")) limit_rule)
+    image_rule) revision_rule) sources_rule
 
 -- `cut START COUNT FILE`
 abbrev pub cut_app : App
@@ -73,10 +78,15 @@ optional_file_rule = new_rule (codes "FILE")
 abbrev pub edit_app : App
 edit_app = with_rule (with_rule (new_app (codes "edit")) image_rule) optional_file_rule
 
+-- `migrate [--at-most LOOKS] IMAGE [SOURCE]...`
+abbrev pub migrate_app : App
+migrate_app = with_rule (with_rule (with_rule (new_app (codes "migrate")) limit_rule) image_rule)
+    sources_rule
+
 unfoldable pub cordkit_app : App
 cordkit_app = with_subcommand (with_subcommand (with_subcommand (with_subcommand (with_subcommand
-    (with_subcommand (with_subcommand (new_app (codes "cordkit")) check_app.top) show_app.top)
-    cut_app.top) join_app.top) find_app.top) cmp_app.top) edit_app.top
+    (with_subcommand (with_subcommand (with_subcommand (new_app (codes "cordkit")) check_app.top) show_app.top)
+    cut_app.top) join_app.top) find_app.top) cmp_app.top) edit_app.top) migrate_app.top
 
 -- ---- what was given
 
@@ -99,6 +109,12 @@ ReadsAs t n = ParsesUnsigned {E = ParseIntError} 64 10 t (Ok n)
 abbrev pub IsNumber : Text → Type 0
 IsNumber t = (n : ℕ) × ReadsAs t n
 
+-- the same of a text that may be left out
+abbrev pub MayReadAs : Option Text → Option ℕ → Type 0
+MayReadAs None n = n ≡ None
+MayReadAs (Some t) None = ⊥
+MayReadAs (Some t) (Some n) = ReadsAs t n
+
 -- this subcommand was given, with such arguments
 abbrev pub Gives : Option (Text × List Row) → Text → (List Row → Type 0) → Type 0
 Gives given name P = (rows : List Row) × (given ≡ Some (name, rows)) × P rows
@@ -106,11 +122,13 @@ Gives given name P = (rows : List Row) × (given ≡ Some (name, rows)) × P row
 -- the action is the subcommand that was given, with the texts and the numbers of its arguments
 abbrev pub Holds : Option (Text × List Row) → Action → Type 0
 Holds given CheckInput = given ≡ None
-Holds given (Check image sources) = Gives given (codes "check") (λ rows.
-    (image.now ≡ text_of rows (codes "IMAGE"))
+Holds given (Check at_most image sources) = Gives given (codes "check") (λ rows.
+    MayReadAs (first_of (codes "LOOKS") rows) at_most
+    × (image.now ≡ text_of rows (codes "IMAGE"))
     × (map (λ s. s.now) sources.items ≡ texts_of rows (codes "SOURCE")))
-Holds given (Show image revision sources) = Gives given (codes "show") (λ rows.
-    (image.now ≡ text_of rows (codes "IMAGE")) × ReadsAs (text_of rows (codes "REV")) revision
+Holds given (Show at_most image revision sources) = Gives given (codes "show") (λ rows.
+    MayReadAs (first_of (codes "LOOKS") rows) at_most
+    × (image.now ≡ text_of rows (codes "IMAGE")) × ReadsAs (text_of rows (codes "REV")) revision
     × (map (λ s. s.now) sources.items ≡ texts_of rows (codes "SOURCE")))
 Holds given (Cut start count file) = Gives given (codes "cut") (λ rows.
     ReadsAs (text_of rows (codes "START")) start × ReadsAs (text_of rows (codes "COUNT")) count
@@ -125,6 +143,10 @@ Holds given (Cmp first second) = Gives given (codes "cmp") (λ rows.
 Holds given (Edit image file) = Gives given (codes "edit") (λ rows.
     (image.now ≡ text_of rows (codes "IMAGE"))
     × (option_map (λ f. f.now) file ≡ first_of (codes "FILE") rows))
+Holds given (Migrate at_most image sources) = Gives given (codes "migrate") (λ rows.
+    MayReadAs (first_of (codes "LOOKS") rows) at_most
+    × (image.now ≡ text_of rows (codes "IMAGE"))
+    × (map (λ s. s.now) sources.items ≡ texts_of rows (codes "SOURCE")))
 
 abbrev pub IsOneOf : List Text → Text → Type 0
 IsOneOf [] n = ⊥
@@ -132,7 +154,7 @@ IsOneOf (x ∷ xs) n = (n ≡ x) ⊎ IsOneOf xs n
 
 abbrev pub subcommand_names : List Text
 subcommand_names = codes "check" ∷ codes "show" ∷ codes "cut" ∷ codes "join" ∷ codes "find"
-    ∷ codes "cmp" ∷ codes "edit" ∷ []
+    ∷ codes "cmp" ∷ codes "edit" ∷ codes "migrate" ∷ []
 
 -- the subcommand that was given, if any, is one of the program's own, and not `help`
 abbrev pub IsKnown : Option (Text × List Row) → Type 0
@@ -145,10 +167,13 @@ WhereGiven given name P = (rows : List Row) → given ≡ Some (name, rows) → 
 
 -- each word that stands for a number is one
 pub record NumbersRead (given : Option (Text × List Row)) : Type 0 where
-  pub show : WhereGiven given (codes "show") (λ rows. IsNumber (text_of rows (codes "REV")))
+  pub check : WhereGiven given (codes "check") (λ rows. IfSome (first_of (codes "LOOKS") rows) IsNumber)
+  pub show : WhereGiven given (codes "show") (λ rows.
+      IfSome (first_of (codes "LOOKS") rows) IsNumber × IsNumber (text_of rows (codes "REV")))
   pub cut : WhereGiven given (codes "cut") (λ rows.
       IsNumber (text_of rows (codes "START")) × IsNumber (text_of rows (codes "COUNT")))
   pub find : WhereGiven given (codes "find") (λ rows. IsNumber (text_of rows (codes "START")))
+  pub migrate : WhereGiven given (codes "migrate") (λ rows. IfSome (first_of (codes "LOOKS") rows) IsNumber)
 
 -- the kinds of a refusal: that of clap's first fault, or that of a number that does not read
 abbrev pub refusal_kinds : List Text → Kinds

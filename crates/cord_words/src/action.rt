@@ -6,13 +6,23 @@ pub enum Action<'a> {
     /// Check the image on standard input.
     CheckInput,
     /// Check the image of a file. The sources are the files that its session was made from, in
-    /// their order.
+    /// their order. The check may take no more looks at nodes than `at_most`, if that is given.
     Check {
+        at_most: Option<u64>,
         image: &'a str,
         sources: Vec<&'a str>,
     },
-    /// Write the text of a revision of the image of a file, whose session has these sources.
+    /// Write the image of a file anew in version 2. Its session has these sources. So many looks may its
+    /// check take.
+    Migrate {
+        at_most: Option<u64>,
+        image: &'a str,
+        sources: Vec<&'a str>,
+    },
+    /// Write the text of a revision of the image of a file, whose session has these sources. So many
+    /// looks may its check take.
     Show {
+        at_most: Option<u64>,
         image: &'a str,
         revision: u64,
         sources: Vec<&'a str>,

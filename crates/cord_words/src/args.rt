@@ -3,7 +3,7 @@
 ghost use Rattle.std.specs.Prelude.{◌≡◌, IfOk, false};
 ghost use Rattle.clap.specs.Words.{App, Rule, app_of, new_app, rule_of, with_rule};
 ghost use Rattle.clap.specs.declared.builder.command.Command.TheViews.{out-Command as fields_of};
-ghost use Rattle.cord_words.specs.Words.{file_rule, image_rule, optional_file_rule};
+ghost use Rattle.cord_words.specs.Words.{file_rule, image_rule, limit_rule, optional_file_rule};
 ghost use Rattle.cord_words.specs.Words.{required_rule, sources_rule, start_rule};
 
 use clap::{Arg, ArgAction, Command};
@@ -45,6 +45,16 @@ pub fn image<'a>(alloc: Global) -> Arg<'a>
     ensures local { result.global ≡ false }
 {
     required(alloc, "IMAGE", "The file of the saved session")
+}
+
+/// `--at-most LOOKS`
+pub fn limit<'a>(alloc: Global) -> Arg<'a>
+    ensures rule { rule_of result ≡ limit_rule }
+    ensures local { result.global ≡ false }
+{
+    Arg::new(alloc, "LOOKS")
+        .help("The most looks at nodes that the check may take")
+        .long("at-most")
 }
 
 /// `[SOURCE]...`

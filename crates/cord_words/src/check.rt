@@ -1,11 +1,14 @@
-//! `check IMAGE [SOURCE]...`
+//! `check [--at-most LOOKS] IMAGE [SOURCE]...`
 
-ghost use Rattle.std.specs.Prelude.{◌≡◌, IfOk, Some, codes, false};
+ghost use Rattle.std.specs.Prelude.{◌≡◌, ◌∷◌, [], IfErr, IfOk, Some, codes, false};
 ghost use Rattle.clap.specs.Words.{app_of, found_of, rows_of};
 ghost use Rattle.clap.specs.declared.builder.command.Command.TheViews.{out-Command as fields_of};
-ghost use Rattle.cord_words.specs.Words.{Holds, check_app};
+ghost use Rattle.clap.specs.declared.error.kind.ErrorKind.TheVariants.{ValueValidation};
+ghost use Rattle.cord_words.specs.Refusals.{FailsAs};
+ghost use Rattle.cord_words.specs.Words.{Holds, NumbersRead, check_app};
 
 use crate::action::Action;
+use crate::fault::WordsFault;
 use crate::{args, given};
 use clap::{ArgMatches, Command};
 use std::alloc::{AllocError, Global};
@@ -17,15 +20,24 @@ pub fn command<'a>(alloc: Global) -> Result<Command<'a>, AllocError>
 {
     let about = "Say whether a saved session is accepted, or by which fault it is refused";
     let command = args::command(alloc, "check", about);
-    let command = args::with(Ok(command), args::image(alloc));
+    let command = args::with(Ok(command), args::limit(alloc));
+    let command = args::with(command, args::image(alloc));
     args::with(command, args::sources(alloc))
 }
 
-/// The action of what was given.
-pub fn action<'a>(alloc: Global, given: &ArgMatches<'a>) -> Result<Action<'a>, AllocError>
-    ensures { IfOk result (Holds (Some (codes "check", rows_of (found_of given.now)))) }
+/// The action of what was given. Where a number does not read, the fault is one of `command`.
+pub fn action<'a>(
+    alloc: Global,
+    command: &mut Command<'a>,
+    given: &ArgMatches<'a>,
+) -> Result<Action<'a>, WordsFault>
+    ensures holds { IfOk result (Holds (Some (codes "check", rows_of (found_of given.now)))) }
+    ensures only_memory { IfErr result (λ f.
+        NumbersRead (Some (codes "check", rows_of (found_of given.now))) → f ≡ WordsFault.Memory) }
+    ensures kind { IfErr result (FailsAs (ValueValidation ∷ [])) }
 {
     Ok(Action::Check {
+        at_most: given::optional_number(alloc, command, given, "LOOKS")?,
         image: given::text(given, "IMAGE"),
         sources: given::texts(alloc, given, "SOURCE")?,
     })

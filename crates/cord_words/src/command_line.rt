@@ -11,7 +11,7 @@ ghost use Rattle.cord_words.specs.Refusals.{FailsAs};
 
 use crate::action::Action;
 use crate::fault::WordsFault;
-use crate::{args, check, cmp, cut, edit, find, join, show};
+use crate::{args, check, cmp, cut, edit, find, join, migrate, show};
 use clap::{ArgMatches, Command};
 use std::alloc::{AllocError, Global};
 
@@ -67,13 +67,14 @@ fn action_of<'a>(
 {
     match matches.subcommand() {
         None => Ok(Action::CheckInput),
-        Some(("check", given)) => Ok(check::action(alloc, given)?),
+        Some(("check", given)) => check::action(alloc, command, given),
         Some(("show", given)) => show::action(alloc, command, given),
         Some(("cut", given)) => cut::action(alloc, command, given),
         Some(("join", given)) => Ok(join::action(alloc, given)?),
         Some(("find", given)) => find::action(alloc, command, given),
         Some(("cmp", given)) => Ok(cmp::action(given)),
         Some(("edit", given)) => Ok(edit::action(given)),
+        Some(("migrate", given)) => migrate::action(alloc, command, given),
         Some(_) => unreachable!(),
     }
 }
@@ -114,5 +115,6 @@ fn cordkit<'a>(alloc: Global) -> Result<Command<'a>, AllocError>
     let command = add_subcommand(command, join::command(alloc));
     let command = add_subcommand(command, find::command(alloc));
     let command = add_subcommand(command, cmp::command(alloc));
-    add_subcommand(command, edit::command(alloc))
+    let command = add_subcommand(command, edit::command(alloc));
+    add_subcommand(command, migrate::command(alloc))
 }

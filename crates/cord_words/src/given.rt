@@ -1,10 +1,10 @@
 //! The arguments of a subcommand, as they were given.
 
-ghost use Rattle.std.specs.Prelude.{◌≡◌, ◌∷◌, [], IfOk, IfErr, map};
+ghost use Rattle.std.specs.Prelude.{◌≡◌, ◌∷◌, [], IfOk, IfErr, IfSome, map};
 ghost use Rattle.std.specs.Option.{option_map};
 ghost use Rattle.clap.specs.Words.{first_of, found_of, rows_of};
 ghost use Rattle.clap.specs.declared.error.kind.ErrorKind.TheVariants.{ValueValidation};
-ghost use Rattle.cord_words.specs.Words.{IsNumber, ReadsAs, text_of, texts_of};
+ghost use Rattle.cord_words.specs.Words.{IsNumber, MayReadAs, ReadsAs, text_of, texts_of};
 ghost use Rattle.cord_words.specs.Refusals.{FailsAs};
 
 use crate::fault::WordsFault;
@@ -38,6 +38,22 @@ pub fn texts<'a>(
     Vec::from_slice(alloc, given.get_strs(id).unwrap_or(&[]))
 }
 
+/// The number that the text of an argument is. Where it is none of 64 bits, the fault is one of `command`.
+fn parsed(alloc: Global, command: &mut Command<'_>, id: &str, text: &str) -> Result<u64, WordsFault>
+    ensures reads { IfOk result (ReadsAs text.now) }
+    ensures only_memory { IfErr result (λ f. IsNumber text.now → f ≡ WordsFault.Memory) }
+    ensures kind { IfErr result (FailsAs (ValueValidation ∷ [])) }
+{
+    match text.parse::<u64>() {
+        Ok(number) => Ok(number),
+        Err(error) => {
+            let message = format!(in alloc; "invalid value '{text}' for '<{id}>': {error}")?;
+            let error = command.error(ErrorKind::ValueValidation, message.as_str())?;
+            Err(WordsFault::Usage(error))
+        }
+    }
+}
+
 /// The number of an argument. Where its text is none of 64 bits, the fault is one of `command`.
 pub fn number(
     alloc: Global,
@@ -50,13 +66,23 @@ pub fn number(
         IsNumber (text_of (rows_of (found_of given.now)) id.now) → f ≡ WordsFault.Memory) }
     ensures kind { IfErr result (FailsAs (ValueValidation ∷ [])) }
 {
-    let text = text(given, id);
-    match text.parse::<u64>() {
-        Ok(number) => Ok(number),
-        Err(error) => {
-            let message = format!(in alloc; "invalid value '{text}' for '<{id}>': {error}")?;
-            let error = command.error(ErrorKind::ValueValidation, message.as_str())?;
-            Err(WordsFault::Usage(error))
-        }
+    parsed(alloc, command, id, text(given, id))
+}
+
+/// The number of an argument, if it has one. Where its text is none of 64 bits, the fault is one of `command`.
+pub fn optional_number(
+    alloc: Global,
+    command: &mut Command<'_>,
+    given: &ArgMatches<'_>,
+    id: &str,
+) -> Result<Option<u64>, WordsFault>
+    ensures reads { IfOk result (MayReadAs (first_of id.now (rows_of (found_of given.now)))) }
+    ensures only_memory { IfErr result (λ f.
+        IfSome (first_of id.now (rows_of (found_of given.now))) IsNumber → f ≡ WordsFault.Memory) }
+    ensures kind { IfErr result (FailsAs (ValueValidation ∷ [])) }
+{
+    match optional_text(given, id) {
+        None => Ok(None),
+        Some(text) => Ok(Some(parsed(alloc, command, id, text)?)),
     }
 }

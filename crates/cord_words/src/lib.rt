@@ -12,6 +12,7 @@ mod fault;
 mod find;
 mod given;
 mod join;
+mod migrate;
 mod show;
 
 pub use action::Action;

@@ -1,4 +1,4 @@
-//! `show IMAGE REV [SOURCE]...`
+//! `show [--at-most LOOKS] IMAGE REV [SOURCE]...`
 
 ghost use Rattle.std.specs.Prelude.{◌≡◌, ◌∷◌, [], IfErr, IfOk, Some, codes, false};
 ghost use Rattle.clap.specs.Words.{app_of, found_of, rows_of};
@@ -24,7 +24,8 @@ pub fn command<'a>(alloc: Global) -> Result<Command<'a>, AllocError>
         "Write the text of one revision of a saved session",
     );
     let revision = args::required(alloc, "REV", "The number of the revision, counted from 0");
-    let command = args::with(Ok(command), args::image(alloc));
+    let command = args::with(Ok(command), args::limit(alloc));
+    let command = args::with(command, args::image(alloc));
     args::with(args::with(command, revision), args::sources(alloc))
 }
 
@@ -40,6 +41,7 @@ pub fn action<'a>(
     ensures kind { IfErr result (FailsAs (ValueValidation ∷ [])) }
 {
     Ok(Action::Show {
+        at_most: given::optional_number(alloc, command, given, "LOOKS")?,
         image: given::text(given, "IMAGE"),
         revision: given::number(alloc, command, given, "REV")?,
         sources: given::texts(alloc, given, "SOURCE")?,

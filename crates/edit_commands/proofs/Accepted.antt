@@ -1,38 +1,40 @@
--- What a command that is not refused gives.
-use Rattle.std.proofs.Common.{◌≡◌, ℕ, ◌+◌, ◌-◌, ◌<◌, ◌≤◌, Bool, true, false, List, [], ◌∷◌, ◌++◌, length, map, take, drop, Option, Some, None, Result, Ok, Err, refl, sym, ap, ◌∙◌, arith}
-use Rattle.std.specs.Prelude.{IfOk, slice_get, get_or, replicate, nat_le, nat_lt, ◌||◌, ◌==◌}
-use Rattle.std.specs.Option.{option_map}
-use Rattle.std.specs.List.{range_with_len}
-use Rattle.std.proofs.lemmas.Bool.{le-leb, ltb-false, leb-false}
-use Rattle.std.proofs.lemmas.List.{length-append, length-map, length-take, length-drop, length-replicate}
-use Rattle.std.proofs.lemmas.List.FromFn.{length-range_with_len, get_or-range_with_len}
-use Rattle.std.proofs.lemmas.Option.{slice_get-get_or, slice_get-map}
+-- A command that is not refused is in range, and its terms joined are what it gives.
+use Rattle.std.proofs.Common.{◌≡◌, ℕ, ◌+◌, ◌-◌, ◌<◌, ◌≤◌, Bool, true, false, List, [], ◌∷◌, ◌++◌, length, map, take, drop, Option, Some, None, refl, sym, ap, subst, ◌∙◌, arith, append-nil}
+use Rattle.std.specs.Prelude.{IsTrue, get_or, replicate, nat_le, nat_lt, ◌||◌, ◌==◌}
+use Rattle.std.specs.List.{list_any, AllByRecursion, range_with_len}
+use Rattle.std.proofs.lemmas.Bool.{ltb-false, leb-false}
+use Rattle.std.proofs.lemmas.List.{length-append, length-map, length-take, length-replicate, take_all}
+use Rattle.std.proofs.lemmas.List.FromFn.{length-range_with_len}
 use Rattle.function_leaf.specs.declared.coded.Coded.{Coded}
 use Rattle.function_leaf.specs.Coded.{coded_byte}
+use Rattle.leaf_buffer.specs.declared.block.TheConstants.{BLOCK_SIZE}
 use Rattle.rope_node.specs.declared.limits.TheConstants.{TEXT_LIMIT}
 use Rattle.rope_node.specs.declared.node.NodeId.{NodeId}
-use Rattle.rope_node.specs.Table.{Table}
+use Rattle.rope_node.specs.Table.{Table, IsSound, HasTrueRecords}
 use Rattle.rope_node.specs.Denotes.{Cell, Byte, Place, rope_cells, rope_len, IsRope}
-use Rattle.rope_node.proofs.Parts.{span-map}
+use Rattle.rope_node.proofs.Ropes.{rope_length, rope_short, rope_cells_kept}
 use Rattle.node_table.specs.declared.fault.NodeFault.TheVariants as NodeFault
 use Rattle.node_table.specs.Held.{Held, table_of}
-use Rattle.rebalance.specs.declared.fault.BalanceFault.{BalanceFault}
 use Rattle.rebalance.specs.AnyForms.{StandsAt}
 use Rattle.rebalance.proofs.AnyCalls.{IsRight}
-use Rattle.span_certificate.specs.Commands.{span, replaced, spliced, result_of}
-use Rattle.span_certificate.specs.Parts.{root_at, givens_of, AreRopes}
-use Rattle.span_certificate.proofs.Joined.{text_at, span_is, bounded_is}
-use Rattle.edit_commands.specs.declared.building.Built.{Built}
+use Rattle.span_certificate.specs.declared.part.Part.{Part}
+use Rattle.span_certificate.specs.Commands.{can_splice, result_of}
+use Rattle.span_certificate.specs.Parts.{root_at, len_of, part_cells, parts_cells, pieces, givens_of, AreRopes, IsInRange}
+use Rattle.span_certificate.specs.Parts as Parts
+use Rattle.span_certificate.proofs.Joined.{terms_joined}
+use Rattle.span_certificate.proofs.Kept.{all_cells_kept, are_ropes_kept, rope_len_kept}
+use Rattle.edit_commands.specs.declared.command.Change.{Change}
 use Rattle.edit_commands.specs.declared.command.Command.{Command}
-use Rattle.edit_commands.specs.declared.command.Command.TheVariants.{New, Open, Insert, Delete, Replace, Paste, Join, Cut, Fill, Back, Balance}
+use Rattle.edit_commands.specs.declared.command.Command.TheVariants.{New, Open, Insert, Delete, Replace, Paste, Join, Cut, Fill, Back, Balance, Many}
 use Rattle.edit_commands.specs.declared.fault.EditFault.{EditFault}
-use Rattle.edit_commands.specs.declared.fault.EditFault.TheVariants.{NoRevision, NoSource, Range, EmptyText, TooManyRevisions, Node}
+use Rattle.edit_commands.specs.declared.fault.EditFault.TheVariants.{NoRevision, NoSource, Range, EmptyText, TooManyRevisions, Node, SpliceCount, TooManySplices}
 use Rattle.edit_commands.specs.declared.revision.Revision.{Revision}
-use Rattle.edit_commands.specs.Building.{Builds, BuildsCommand, IsRootFor, StandNew, edit_with, root_alone}
-use Rattle.edit_commands.specs.Refusals.{bytes_of, names_no_revision, names_no_source, is_out_of_range, is_empty_text, is_full, is_too_long, result_len, first_of, refusal_of}
+use Rattle.edit_commands.specs.Building.{GoesOn, StandEach, command_with, placed_changes}
+use Rattle.edit_commands.specs.Refusals.{TakesAll, bytes_of, changes_of, changes_nothing, ends_of, names_no_revision, is_wrong_count, names_no_source, are_misplaced, is_out_of_range, is_empty_text, is_empty, is_full, is_full_of_splices, is_long_text, is_too_long, result_len, first_of, refusal_of}
 use Rattle.edit_commands.specs.Session.{SessionValue, length_at, roots_of}
-use Rattle.edit_commands.proofs.BuiltTexts.{stand_inside}
-use Rattle.rope_node.proofs.Ropes.{rope_length}
+use Rattle.edit_commands.specs.Terms.{changed_terms, handed, next_place, terms_of, terms_cells, AreTerms, FillsBytes, IsCommandInRange}
+use Rattle.edit_commands.proofs.BuildSteps.{stand_inside}
+use Rattle.edit_commands.proofs.HandedChanges.{are_fine, can_follow, can_splice_changes, changed_are, changed_length, changed_pieces, follow_next, not_wrong, placed_sums}
 
 -- ---- the tests, none of which holds
 
@@ -46,25 +48,50 @@ none_of false f rest none = (refl, none)
 
 pub record Passes (v : SessionValue) (command : Command) : Type 0 where
   pub named : names_no_revision v command ≡ false
+  pub count : is_wrong_count command ≡ false
   pub sourced : names_no_source v command ≡ false
-  pub inside : is_out_of_range v command ≡ false
+  pub inside : list_any (λ (e : ℕ × ℕ). nat_lt (length_at v e.0) e.1) (ends_of command) ≡ false
+  pub placed : are_misplaced v command ≡ false
   pub some : is_empty_text (bytes_of command) ≡ false
-  pub short : is_too_long v command ≡ false
+  pub something : list_any changes_nothing (changes_of command) ≡ false
+  pub room : is_full v ≡ false
+  pub splices : is_full_of_splices v command ≡ false
+  pub short : (nat_le TEXT_LIMIT (result_len v command) || is_long_text (bytes_of command)) ≡ false
+  pub each_short : list_any (λ (c : Change). nat_lt BLOCK_SIZE c.n) (changes_of command) ≡ false
 
 pub passes : (v : SessionValue) (command : Command) → refusal_of v command ≡ None → Passes v command
 passes v command none =
     let long : List (Bool × EditFault) = (is_too_long v command, Node NodeFault.TooLong) ∷ [] in
-    let full : List (Bool × EditFault) = (is_full v, TooManyRevisions) ∷ long in
-    let empty : List (Bool × EditFault) = (is_empty_text (bytes_of command), EmptyText) ∷ full in
+    let many : List (Bool × EditFault) = (is_full_of_splices v command, TooManySplices) ∷ long in
+    let full : List (Bool × EditFault) = (is_full v, TooManyRevisions) ∷ many in
+    let empty : List (Bool × EditFault) = (is_empty command, EmptyText) ∷ full in
     let past : List (Bool × EditFault) = (is_out_of_range v command, Range) ∷ empty in
     let no_source : List (Bool × EditFault) = (names_no_source v command, NoSource) ∷ past in
-    let first = none_of (names_no_revision v command) NoRevision no_source none in
-    let second = none_of (names_no_source v command) NoSource past first.1 in
-    let third = none_of (is_out_of_range v command) Range empty second.1 in
-    let fourth = none_of (is_empty_text (bytes_of command)) EmptyText full third.1 in
-    let fifth = none_of (is_full v) TooManyRevisions long fourth.1 in
-    let last = none_of (is_too_long v command) (Node NodeFault.TooLong) [] fifth.1 in
-    record { named = first.0; sourced = second.0; inside = third.0; some = fourth.0; short = last.0 }
+    let count : List (Bool × EditFault) = (is_wrong_count command, SpliceCount) ∷ no_source in
+    let first = none_of (names_no_revision v command) NoRevision count none in
+    let second = none_of (is_wrong_count command) SpliceCount no_source first.1 in
+    let third = none_of (names_no_source v command) NoSource past second.1 in
+    let fourth = none_of (is_out_of_range v command) Range empty third.1 in
+    let fifth = none_of (is_empty command) EmptyText full fourth.1 in
+    let sixth = none_of (is_full v) TooManyRevisions many fifth.1 in
+    let seventh = none_of (is_full_of_splices v command) TooManySplices long sixth.1 in
+    let last = none_of (is_too_long v command) (Node NodeFault.TooLong) [] seventh.1 in
+    let range = or_false (list_any (λ (e : ℕ × ℕ). nat_lt (length_at v e.0) e.1) (ends_of command)) (are_misplaced v command) fourth.0 in
+    let text = or_false (is_empty_text (bytes_of command)) (list_any changes_nothing (changes_of command)) fifth.0 in
+    let short = or_false (nat_le TEXT_LIMIT (result_len v command) || is_long_text (bytes_of command)) (list_any (λ (c : Change). nat_lt BLOCK_SIZE c.n) (changes_of command)) last.0 in
+    record {
+      named = first.0;
+      count = second.0;
+      sourced = third.0;
+      inside = range.0;
+      placed = range.1;
+      some = text.0;
+      something = text.1;
+      room = sixth.0;
+      splices = seventh.0;
+      short = short.0;
+      each_short = short.1;
+    }
 
 -- a number that a list of one or two is tested for
 below : (n r : ℕ) (rest : Bool) → (nat_le n r || rest) ≡ false → (r < n) × (rest ≡ false)
@@ -77,186 +104,269 @@ some_bytes : (bytes : List ℕ) → (length bytes == 0) ≡ false → 1 ≤ leng
 some_bytes [] none = absurd cc
 some_bytes (b ∷ bs) none = omega arith
 
--- ---- results
+-- ---- in range
 
--- what a command gives of the roots
-abbrev pub wanted_of : Table → List (Option NodeId) → Command → List Cell
-wanted_of t roots New = []
-wanted_of t roots (Open s) = map (Place s) (range_with_len 0 (get_or t.sources s 0))
-wanted_of t roots (Insert r p bytes) = replaced (rope_cells t (root_at roots r)) p 0 (map Byte bytes.now)
-wanted_of t roots (Delete r p n) = replaced (rope_cells t (root_at roots r)) p n []
-wanted_of t roots (Replace r p m bytes) = replaced (rope_cells t (root_at roots r)) p m (map Byte bytes.now)
-wanted_of t roots (Paste r p q i n) = replaced (rope_cells t (root_at roots r)) p 0 (take n (drop i (rope_cells t (root_at roots q))))
-wanted_of t roots (Join r q) = rope_cells t (root_at roots r) ++ rope_cells t (root_at roots q)
-wanted_of t roots (Cut r i n) = take n (drop i (rope_cells t (root_at roots r)))
-wanted_of t roots (Fill r p c n) = replaced (rope_cells t (root_at roots r)) p 0 (replicate n (Byte c))
-wanted_of t roots (Back r) = rope_cells t (root_at roots r)
-wanted_of t roots (Balance r) = rope_cells t (root_at roots r)
+each_few : (changes : List Change) → list_any (λ (c : Change). nat_lt BLOCK_SIZE c.n) changes ≡ false → AllByRecursion (λ (c : Change). c.n ≤ BLOCK_SIZE) changes
+each_few [] none = tt
+each_few (c ∷ changes) none =
+    let each = or_false (nat_lt BLOCK_SIZE c.n) (list_any (λ (d : Change). nat_lt BLOCK_SIZE d.n) changes) none in
+    (ltb-false BLOCK_SIZE c.n each.0, each_few changes each.1)
 
--- a fill is of bytes
-abbrev pub FillsBytes : Command → Type 0
-FillsBytes (Fill r p c n) = c ≤ 255
-FillsBytes _ = Unit {0}
-
-spliced_is : (cells : List Cell) (p m : ℕ) (x : List Cell) → p + m ≤ length cells → (length cells - m) + length x < TEXT_LIMIT → spliced cells p m x ≡ Some (replaced cells p m x)
-spliced_is cells p m x fits short =
-    rw (le-leb (p + m) (length cells) fits)
-    (bounded_is (replaced cells p m x)
-    (omega (arith, fits, short, length-append (take p cells ++ x) (drop (p + m) cells), length-append (take p cells) x, length-take p cells, length-drop (p + m) cells)))
-
-pool_given : (pool : List ℕ) (place : ℕ) (bytes : List ℕ) → 1 ≤ length bytes → StandsAt pool place bytes → span (map Byte pool) place (length bytes) ≡ Some (map Byte bytes)
-pool_given pool place bytes some stands =
-    let many : (place + length bytes) - place ≡ length bytes = omega arith in
-    let inside = stand_inside pool place bytes some stands in
-    let put : take (length bytes) (drop place pool) ≡ bytes = ap (λ (n : ℕ). take n (drop place pool)) (sym many) ∙ stands in
-    span_is (map Byte pool) place (length bytes) (omega (arith, inside, length-map pool Byte)) ∙ ap Some (span-map Byte (length bytes) place pool ∙ ap (map Byte) put)
-
--- what is known of a session's command
-pub record IsAccepted (old : Held Coded) (revisions : List Revision) (command : Command) : Type 0 where
-  pub right : IsRight Coded coded_byte old
-  pub ropes : AreRopes (table_of coded_byte old) (roots_of revisions)
-  pub accepted : refusal_of (record { held = old; revisions = revisions }) command ≡ None
-  pub bytes : FillsBytes command
-
--- the text of a revision, and its length
-record IsText (old : Held Coded) (revisions : List Revision) (r : ℕ) : Type 0 where
-  text : slice_get (map (rope_cells (table_of coded_byte old)) (roots_of revisions)) r ≡ Some (rope_cells (table_of coded_byte old) (root_at (roots_of revisions) r))
-  len : length (rope_cells (table_of coded_byte old) (root_at (roots_of revisions) r)) ≡ length_at (record { held = old; revisions = revisions }) r
-
-is_text : (old : Held Coded) (revisions : List Revision) (r : ℕ) → IsRight Coded coded_byte old → AreRopes (table_of coded_byte old) (roots_of revisions) → r < length revisions → IsText old revisions r
-is_text old revisions r k ropes lt =
-    let t = table_of coded_byte old in
-    let there : r < length (roots_of revisions) = omega (arith, lt, length-map revisions (λ (v : Revision). v.root)) in
-    record { text = text_at t (roots_of revisions) r there; len = rope_length t k.sound k.true_records (root_at (roots_of revisions) r) (ropes r there) }
-
-pub gives : (old new : Held Coded) (revisions : List Revision) (place : ℕ) (command : Command) → IsAccepted old revisions command → new.sources ≡ old.sources → StandNew old.pool.bytes new.pool.bytes place (bytes_of command)
-    → result_of (givens_of (table_of coded_byte new)) (map (rope_cells (table_of coded_byte old)) (roots_of revisions)) (edit_with place command) ≡ Some (wanted_of (table_of coded_byte old) (roots_of revisions) command)
-gives old new revisions place New is same stand = refl
-gives old new revisions place (Open s) is same stand =
-    let ok = passes (record { held = old; revisions = revisions }) (Open s) is.accepted in
-    let there : s < length old.sources = leb-false (length old.sources) s ok.sourced in
-    ap (λ (ns : List ℕ). slice_get (map (λ k. map (Place k) (range_with_len 0 (get_or ns k 0))) (range_with_len 0 (length ns))) s) same
-    ∙ slice_get-map (λ k. map (Place k) (range_with_len 0 (get_or old.sources k 0))) (range_with_len 0 (length old.sources)) s
-    ∙ ap (option_map (λ k. map (Place k) (range_with_len 0 (get_or old.sources k 0)))) (slice_get-get_or (range_with_len 0 (length old.sources)) s 0 (rw length-range_with_len there) ∙ ap Some (get_or-range_with_len 0 (length old.sources) s 0 there ∙ omega arith))
-gives old new revisions place (Insert r p bytes) is same stand =
+pub in_range : (old : Held Coded) (revisions : List Revision) (command : Command) → refusal_of (record { held = old; revisions = revisions }) command ≡ None → TakesAll command → IsCommandInRange (table_of coded_byte old) (roots_of revisions) command
+in_range old revisions New accepted takes = tt
+in_range old revisions (Open s) accepted takes =
+    let ok = passes (record { held = old; revisions = revisions }) (Open s) accepted in
+    leb-false (length old.sources) s ok.sourced
+in_range old revisions (Insert r p bytes) accepted takes =
     let v : SessionValue = record { held = old; revisions = revisions } in
-    let ok = passes v (Insert r p bytes) is.accepted in
-    let at = is_text old revisions r is.right is.ropes (below (length revisions) r false ok.named).0 in
+    let ok = passes v (Insert r p bytes) accepted in
+    let named = (below (length revisions) r false ok.named).0 in
     let inside = (reached (length_at v r) p false ok.inside).0 in
-    let some = some_bytes bytes.now ok.some in
-    let short = leb-false TEXT_LIMIT (result_len v (Insert r p bytes)) (or_false _ _ ok.short).0 in
-    rw (at.text, pool_given new.pool.bytes place bytes.now some stand.1, le-leb 1 (length bytes.now) some)
-    (spliced_is (rope_cells (table_of coded_byte old) (root_at (roots_of revisions) r)) p 0 (map Byte bytes.now) (omega (arith, inside, at.len)) (omega (arith, short, at.len, length-map bytes.now Byte)))
-gives old new revisions place (Delete r p n) is same stand =
+    let long = or_false _ _ ok.short in
+    let short = leb-false TEXT_LIMIT (result_len v (Insert r p bytes)) long.0 in
+    (omega (arith, named, length-map revisions (λ (w : Revision). w.root)), inside, some_bytes bytes.now ok.some, ltb-false BLOCK_SIZE (length bytes.now) long.1, short)
+in_range old revisions (Delete r p n) accepted takes =
     let v : SessionValue = record { held = old; revisions = revisions } in
-    let ok = passes v (Delete r p n) is.accepted in
-    let at = is_text old revisions r is.right is.ropes (below (length revisions) r false ok.named).0 in
-    let inside = (reached (length_at v r) (p + n) false ok.inside).0 in
-    let short = leb-false TEXT_LIMIT (result_len v (Delete r p n)) (or_false _ _ ok.short).0 in
-    rw at.text
-    (spliced_is (rope_cells (table_of coded_byte old) (root_at (roots_of revisions) r)) p n [] (omega (arith, inside, at.len)) (omega (arith, short, at.len)))
-gives old new revisions place (Replace r p m bytes) is same stand =
+    let ok = passes v (Delete r p n) accepted in
+    let named = (below (length revisions) r false ok.named).0 in
+    (omega (arith, named, length-map revisions (λ (w : Revision). w.root)), (reached (length_at v r) (p + n) false ok.inside).0)
+in_range old revisions (Replace r p m bytes) accepted takes =
     let v : SessionValue = record { held = old; revisions = revisions } in
-    let ok = passes v (Replace r p m bytes) is.accepted in
-    let at = is_text old revisions r is.right is.ropes (below (length revisions) r false ok.named).0 in
+    let ok = passes v (Replace r p m bytes) accepted in
+    let named = (below (length revisions) r false ok.named).0 in
     let inside = (reached (length_at v r) (p + m) false ok.inside).0 in
-    let some = some_bytes bytes.now ok.some in
-    let short = leb-false TEXT_LIMIT (result_len v (Replace r p m bytes)) (or_false _ _ ok.short).0 in
-    rw (at.text, pool_given new.pool.bytes place bytes.now some stand.1, le-leb 1 (length bytes.now) some)
-    (spliced_is (rope_cells (table_of coded_byte old) (root_at (roots_of revisions) r)) p m (map Byte bytes.now) (omega (arith, inside, at.len)) (omega (arith, short, at.len, length-map bytes.now Byte)))
-gives old new revisions place (Paste r p q i n) is same stand =
+    let long = or_false _ _ ok.short in
+    let short = leb-false TEXT_LIMIT (result_len v (Replace r p m bytes)) long.0 in
+    (omega (arith, named, length-map revisions (λ (w : Revision). w.root)), inside, some_bytes bytes.now ok.some, ltb-false BLOCK_SIZE (length bytes.now) long.1, omega (arith, short, inside))
+in_range old revisions (Paste r p q i n) accepted takes =
     let v : SessionValue = record { held = old; revisions = revisions } in
-    let ok = passes v (Paste r p q i n) is.accepted in
+    let ok = passes v (Paste r p q i n) accepted in
     let first = below (length revisions) r _ ok.named in
-    let at = is_text old revisions r is.right is.ropes first.0 in
-    let at' = is_text old revisions q is.right is.ropes (below (length revisions) q false first.1).0 in
+    let other = (below (length revisions) q false first.1).0 in
     let ends = reached (length_at v r) p _ ok.inside in
-    let inside' = (reached (length_at v q) (i + n) false ends.1).0 in
     let short = leb-false TEXT_LIMIT (result_len v (Paste r p q i n)) (or_false _ _ ok.short).0 in
-    let cells = rope_cells (table_of coded_byte old) (root_at (roots_of revisions) q) in
-    rw (at.text, at'.text, span_is cells i n (omega (arith, inside', at'.len)))
-    (spliced_is (rope_cells (table_of coded_byte old) (root_at (roots_of revisions) r)) p 0 (take n (drop i cells)) (omega (arith, ends.0, at.len)) (omega (arith, short, at.len, length-take n (drop i cells))))
-gives old new revisions place (Join r q) is same stand =
+    let count = length-map revisions (λ (w : Revision). w.root) in
+    (omega (arith, first.0, count), ends.0, omega (arith, other, count), (reached (length_at v q) (i + n) false ends.1).0, short)
+in_range old revisions (Join r q) accepted takes =
     let v : SessionValue = record { held = old; revisions = revisions } in
-    let ok = passes v (Join r q) is.accepted in
+    let ok = passes v (Join r q) accepted in
     let first = below (length revisions) r _ ok.named in
-    let at = is_text old revisions r is.right is.ropes first.0 in
-    let at' = is_text old revisions q is.right is.ropes (below (length revisions) q false first.1).0 in
-    let short = leb-false TEXT_LIMIT (result_len v (Join r q)) (or_false _ _ ok.short).0 in
-    let left = rope_cells (table_of coded_byte old) (root_at (roots_of revisions) r) in
-    let right = rope_cells (table_of coded_byte old) (root_at (roots_of revisions) q) in
-    rw (at.text, at'.text) (bounded_is (left ++ right) (omega (arith, short, at.len, at'.len, length-append left right)))
-gives old new revisions place (Cut r i n) is same stand =
+    let other = (below (length revisions) q false first.1).0 in
+    let count = length-map revisions (λ (w : Revision). w.root) in
+    (omega (arith, first.0, count), omega (arith, other, count), leb-false TEXT_LIMIT (result_len v (Join r q)) (or_false _ _ ok.short).0)
+in_range old revisions (Cut r i n) accepted takes =
     let v : SessionValue = record { held = old; revisions = revisions } in
-    let ok = passes v (Cut r i n) is.accepted in
-    let at = is_text old revisions r is.right is.ropes (below (length revisions) r false ok.named).0 in
-    let inside = (reached (length_at v r) (i + n) false ok.inside).0 in
-    rw at.text (span_is (rope_cells (table_of coded_byte old) (root_at (roots_of revisions) r)) i n (omega (arith, inside, at.len)))
-gives old new revisions place (Fill r p c n) is same stand =
+    let ok = passes v (Cut r i n) accepted in
+    let named = (below (length revisions) r false ok.named).0 in
+    (omega (arith, named, length-map revisions (λ (w : Revision). w.root)), (reached (length_at v r) (i + n) false ok.inside).0)
+in_range old revisions (Fill r p c n) accepted takes =
     let v : SessionValue = record { held = old; revisions = revisions } in
-    let ok = passes v (Fill r p c n) is.accepted in
-    let at = is_text old revisions r is.right is.ropes (below (length revisions) r false ok.named).0 in
+    let ok = passes v (Fill r p c n) accepted in
+    let named = (below (length revisions) r false ok.named).0 in
     let inside = (reached (length_at v r) p false ok.inside).0 in
-    let short = leb-false TEXT_LIMIT (result_len v (Fill r p c n)) (or_false _ _ ok.short).0 in
-    rw (at.text, le-leb c 255 is.bytes)
-    (spliced_is (rope_cells (table_of coded_byte old) (root_at (roots_of revisions) r)) p 0 (replicate n (Byte c)) (omega (arith, inside, at.len)) (omega (arith, short, at.len, length-replicate n (Byte c))))
-gives old new revisions place (Back r) is same stand =
-    let ok = passes (record { held = old; revisions = revisions }) (Back r) is.accepted in
-    (is_text old revisions r is.right is.ropes (below (length revisions) r false ok.named).0).text
-gives old new revisions place (Balance r) is same stand =
-    let ok = passes (record { held = old; revisions = revisions }) (Balance r) is.accepted in
-    (is_text old revisions r is.right is.ropes (below (length revisions) r false ok.named).0).text
-
--- ---- the command built
-
-pub command_built : (old new : Held Coded) (revisions : List Revision) (command : Command) (result : Result Built BalanceFault) → IsAccepted old revisions command → Builds old (wanted_of (table_of coded_byte old) (roots_of revisions) command) (root_alone result) new
-    → IfOk result (λ built. StandNew old.pool.bytes new.pool.bytes built.place (bytes_of command)) → IfOk result (λ built. IsRootFor (table_of coded_byte new) (roots_of revisions) command built.root) → BuildsCommand old revisions command result new
-command_built old new revisions command (Ok built) is step stand root = record {
-  wanted = wanted_of (table_of coded_byte old) (roots_of revisions) command;
-  builds = step;
-  place = stand;
-  gives = gives old new revisions built.place command is step.goes_on.sources stand;
-  root = root;
-}
-command_built old new revisions command (Err fault) is step stand root = record {
-  wanted = wanted_of (table_of coded_byte old) (roots_of revisions) command;
-  builds = step;
-  place = tt;
-  gives = tt;
-  root = tt;
-}
-
-pub command_refused : {old new : Held Coded} {cells : List Cell} (revisions : List Revision) (command : Command) (fault : BalanceFault) → Builds old cells (Err fault) new → BuildsCommand old revisions command (Err fault) new
-command_refused {cells = cells} revisions command fault step = record { wanted = cells; builds = step; place = tt; gives = tt; root = tt }
-
--- where nothing more is said of a root
-pub any_root : (result : Result Built BalanceFault) → IfOk result (λ built. Unit {0})
-any_root (Ok built) = tt
-any_root (Err fault) = tt
-
--- ---- what single commands ask for
-
-pub source_there : (old : Held Coded) (revisions : List Revision) (s : ℕ) → refusal_of (record { held = old; revisions = revisions }) (Open s) ≡ None → s < length old.sources
-source_there old revisions s accepted = leb-false (length old.sources) s (passes (record { held = old; revisions = revisions }) (Open s) accepted).sourced
-
-pub both_short : (old : Held Coded) (revisions : List Revision) (r q : ℕ) → refusal_of (record { held = old; revisions = revisions }) (Join r q) ≡ None
-    → rope_len (table_of coded_byte old) (root_at (roots_of revisions) r) + rope_len (table_of coded_byte old) (root_at (roots_of revisions) q) < TEXT_LIMIT
-both_short old revisions r q accepted =
+    (omega (arith, named, length-map revisions (λ (w : Revision). w.root)), inside, leb-false TEXT_LIMIT (result_len v (Fill r p c n)) (or_false _ _ ok.short).0)
+in_range old revisions (Back r) accepted takes =
+    let ok = passes (record { held = old; revisions = revisions }) (Back r) accepted in
+    omega (arith, (below (length revisions) r false ok.named).0, length-map revisions (λ (w : Revision). w.root))
+in_range old revisions (Balance r) accepted takes =
+    let ok = passes (record { held = old; revisions = revisions }) (Balance r) accepted in
+    omega (arith, (below (length revisions) r false ok.named).0, length-map revisions (λ (w : Revision). w.root))
+in_range old revisions (Many r changes bytes) accepted takes =
     let v : SessionValue = record { held = old; revisions = revisions } in
-    leb-false TEXT_LIMIT (result_len v (Join r q)) (or_false _ _ (passes v (Join r q) accepted).short).0
+    let ok = passes v (Many r changes bytes) accepted in
+    let named = (below (length revisions) r false ok.named).0 in
+    let count = not_wrong (length changes.now) ok.count in
+    let fine = are_fine (length_at v r) changes.now ok.placed in
+    let short = leb-false TEXT_LIMIT (result_len v (Many r changes bytes)) (or_false _ _ ok.short).0 in (
+      omega (arith, named, length-map revisions (λ (w : Revision). w.root)),
+      record {
+        some = count.0;
+        few = count.1;
+        inside = fine.inside;
+        apart = fine.apart;
+        something = ok.something;
+        takes = takes;
+        each = each_few changes.now ok.each_short;
+        short = omega (arith, short, fine.sum);
+      },
+    )
 
--- the root of a revision that a command names first
-pub first_there : (old : Held Coded) (revisions : List Revision) (r : ℕ) (rest : Bool) → AreRopes (table_of coded_byte old) (roots_of revisions) → (nat_le (length revisions) r || rest) ≡ false → IsRope (table_of coded_byte old) (root_at (roots_of revisions) r)
-first_there old revisions r rest ropes named = ropes r (omega (arith, (below (length revisions) r rest named).0, length-map revisions (λ (v : Revision). v.root)))
+-- ---- its terms
 
-pub join_there : (old : Held Coded) (revisions : List Revision) (r q : ℕ) → AreRopes (table_of coded_byte old) (roots_of revisions) → refusal_of (record { held = old; revisions = revisions }) (Join r q) ≡ None
-    → IsRope (table_of coded_byte old) (root_at (roots_of revisions) r) × IsRope (table_of coded_byte old) (root_at (roots_of revisions) q)
-join_there old revisions r q ropes accepted =
-    let named = (passes (record { held = old; revisions = revisions }) (Join r q) accepted).named in
-    (first_there old revisions r _ ropes named, first_there old revisions q false ropes (below (length revisions) r _ named).1)
+-- one, two and three terms, joined
+abbrev one : List Cell → List Cell
+one a = a ++ []
 
-pub cut_there : (old : Held Coded) (revisions : List Revision) (r i n : ℕ) → AreRopes (table_of coded_byte old) (roots_of revisions) → refusal_of (record { held = old; revisions = revisions }) (Cut r i n) ≡ None → IsRope (table_of coded_byte old) (root_at (roots_of revisions) r)
-cut_there old revisions r i n ropes accepted = first_there old revisions r false ropes (passes (record { held = old; revisions = revisions }) (Cut r i n) accepted).named
+abbrev two : List Cell → List Cell → List Cell
+two a b = a ++ one b
 
-pub back_there : (old : Held Coded) (revisions : List Revision) (r : ℕ) → AreRopes (table_of coded_byte old) (roots_of revisions) → refusal_of (record { held = old; revisions = revisions }) (Back r) ≡ None → IsRope (table_of coded_byte old) (root_at (roots_of revisions) r)
-back_there old revisions r ropes accepted = first_there old revisions r false ropes (passes (record { held = old; revisions = revisions }) (Back r) accepted).named
+abbrev three : List Cell → List Cell → List Cell → List Cell
+three a b c = a ++ two b c
+
+one_len : (a : List Cell) → length (one a) ≡ length a
+one_len a = ap length (append-nil a)
+
+two_len : (a b : List Cell) → length (two a b) ≡ length a + length b
+two_len a b = omega (arith, length-append a (one b), one_len b)
+
+three_len : (a b c : List Cell) → length (three a b c) ≡ length a + length b + length c
+three_len a b c = omega (arith, length-append a (two b c), two_len b c)
+
+two_same : {a a' b b' : List Cell} → a ≡ a' → b ≡ b' → two a b ≡ two a' b'
+two_same {a} {a'} {b} x y = ap (λ cs. two cs b) x ∙ ap (λ cs. two a' cs) y
+
+three_same : {a a' b b' c c' : List Cell} → a ≡ a' → b ≡ b' → c ≡ c' → three a b c ≡ three a' b' c'
+three_same {a} {a'} {b} {b'} {c} x y z = ap (λ cs. three cs b c) x ∙ ap (λ cs. a' ++ cs) (two_same y z)
+
+module _ (t : Table) (s : IsSound t) (h : HasTrueRecords t) (roots : List (Option NodeId)) (ropes : AreRopes t roots) where
+  pub terms_are : (command : Command) → IsCommandInRange t roots command → AreTerms t (terms_of t roots command)
+  terms_are New is = tt
+  terms_are (Open k) is = (is, tt)
+  terms_are (Insert r p bytes) is = (ropes r is.0, (is.3, (ropes r is.0, tt)))
+  terms_are (Delete r p n) is = (ropes r is.0, (ropes r is.0, tt))
+  terms_are (Replace r p m bytes) is = (ropes r is.0, (is.3, (ropes r is.0, tt)))
+  terms_are (Paste r p q i n) is = (ropes r is.0, (ropes q is.2, (ropes r is.0, tt)))
+  terms_are (Join r q) is = (ropes r is.0, (ropes q is.1, tt))
+  terms_are (Cut r i n) is = (ropes r is.0, tt)
+  terms_are (Fill r p c n) is = (ropes r is.0, (tt, (ropes r is.0, tt)))
+  terms_are (Back r) is = (ropes r is, tt)
+  terms_are (Balance r) is = (ropes r is, tt)
+  terms_are (Many r changes bytes) is = (ropes r is.0, changed_are t (root_at roots r) (len_of t roots r) changes.now bytes.now (ropes r is.0) is.1.each)
+
+  span_len : (rope : Option NodeId) (i n : ℕ) → length (take n (drop i (rope_cells t rope))) ≤ n
+  span_len rope i n = omega (arith, length-take n (drop i (rope_cells t rope)))
+
+  around_short : (r p q k : ℕ) (middle : List Cell) → r < length roots → length middle ≤ k → p ≤ q → q ≤ len_of t roots r → (len_of t roots r - (q - p)) + k < TEXT_LIMIT
+      → length (three (take p (drop 0 (rope_cells t (root_at roots r)))) middle (take (len_of t roots r - q) (drop q (rope_cells t (root_at roots r))))) < TEXT_LIMIT
+  around_short r p q k middle lt few le inside short =
+      let rope = root_at roots r in
+      omega (arith, few, le, inside, short, span_len rope 0 p, span_len rope q (len_of t roots r - q), three_len (take p (drop 0 (rope_cells t rope))) middle (take (len_of t roots r - q) (drop q (rope_cells t rope))))
+
+  pub terms_short : (command : Command) → IsCommandInRange t roots command → length (terms_cells t (terms_of t roots command)) < TEXT_LIMIT
+  terms_short New is = omega arith
+  terms_short (Open k) is = omega (arith, s.sources k, one_len (map (Place k) (range_with_len 0 (get_or t.sources k 0))), length-map (range_with_len 0 (get_or t.sources k 0)) (Place k), length-range_with_len 0 (get_or t.sources k 0))
+  terms_short (Insert r p bytes) is = around_short r p p (length bytes.now) (map Byte bytes.now) is.0 (omega (arith, length-map bytes.now Byte)) (omega arith) is.1 (omega (arith, is.4))
+  terms_short (Delete r p n) is =
+      let rope = root_at roots r in
+      omega (arith, is.1, rope_short t s rope (ropes r is.0), span_len rope 0 p, span_len rope (p + n) (len_of t roots r - (p + n)), two_len (take p (drop 0 (rope_cells t rope))) (take (len_of t roots r - (p + n)) (drop (p + n) (rope_cells t rope))))
+  terms_short (Replace r p m bytes) is = around_short r p (p + m) (length bytes.now) (map Byte bytes.now) is.0 (omega (arith, length-map bytes.now Byte)) (omega arith) is.1 (omega (arith, is.1, is.4))
+  terms_short (Paste r p q i n) is = around_short r p p n (take n (drop i (rope_cells t (root_at roots q)))) is.0 (span_len (root_at roots q) i n) (omega arith) is.1 (omega (arith, is.4))
+  terms_short (Join r q) is =
+      omega (arith, is.2, rope_length t s h (root_at roots r) (ropes r is.0), rope_length t s h (root_at roots q) (ropes q is.1), two_len (rope_cells t (root_at roots r)) (rope_cells t (root_at roots q)))
+  terms_short (Cut r i n) is = omega (arith, is.1, rope_short t s (root_at roots r) (ropes r is.0), span_len (root_at roots r) i n, one_len (take n (drop i (rope_cells t (root_at roots r)))))
+  terms_short (Fill r p c n) is = around_short r p p n (replicate n (Byte c)) is.0 (omega (arith, length-replicate n (Byte c))) (omega arith) is.1 (omega (arith, is.2))
+  terms_short (Back r) is = omega (arith, rope_short t s (root_at roots r) (ropes r is), rope_length t s h (root_at roots r) (ropes r is), one_len (rope_cells t (root_at roots r)))
+  terms_short (Balance r) is = omega (arith, rope_short t s (root_at roots r) (ropes r is), rope_length t s h (root_at roots r) (ropes r is), one_len (rope_cells t (root_at roots r)))
+  terms_short (Many r changes bytes) is =
+      let rope = root_at roots r in
+      let len = len_of t roots r in
+      let whole = rope_length t s h rope (ropes r is.0) in
+      let follow = can_follow len changes.now bytes.now is.1 in
+      let first = follow_next len 0 changes.now follow in
+      let others = changed_length t rope len 0 changes.now bytes.now whole follow (omega (arith, is.1.takes)) in
+      omega (
+        arith,
+        others,
+        is.1.short,
+        is.1.takes,
+        first.1,
+        span_len rope 0 (next_place len changes.now),
+        length-append (take (next_place len changes.now) (drop 0 (rope_cells t rope))) (terms_cells t (changed_terms rope len changes.now bytes.now)),
+      )
+
+-- ---- the recorded command, over a table that went on
+
+module _ (old new : Held Coded) (k : IsRight Coded coded_byte old) (k' : IsRight Coded coded_byte new) (x : GoesOn old new) (roots : List (Option NodeId)) (ropes : AreRopes (table_of coded_byte old) roots) (places : List ℕ) where
+  len_same : (r : ℕ) → r < length roots → len_of (table_of coded_byte new) roots r ≡ len_of (table_of coded_byte old) roots r
+  len_same r lt = rope_len_kept (table_of coded_byte old) (table_of coded_byte new) k.sound k.true_records x.kept (root_at roots r) (ropes r lt)
+
+  -- bytes handed in alone stand at the first place
+  one_stands : (bytes : List ℕ) → 1 ≤ length bytes → StandEach old.pool.bytes new.pool.bytes (bytes ∷ []) places → StandsAt new.pool.bytes (get_or places 0 0) bytes
+  one_stands bytes some stand = one_at places stand
+    where
+      one_at : (ps : List ℕ) → StandEach old.pool.bytes new.pool.bytes (bytes ∷ []) ps → StandsAt new.pool.bytes (get_or ps 0 0) bytes
+      one_at [] stand = absurd stand
+      one_at (a ∷ ps) stand = (stand.0.some some).1
+
+  one_inside : (bytes : List ℕ) → 1 ≤ length bytes → StandEach old.pool.bytes new.pool.bytes (bytes ∷ []) places → get_or places 0 0 + length bytes ≤ length new.pool.bytes
+  one_inside bytes some stand = stand_inside new.pool.bytes (get_or places 0 0) bytes some (one_stands bytes some stand)
+
+  pub edit_in_range : (command : Command) → IsCommandInRange (table_of coded_byte old) roots command → FillsBytes command → StandEach old.pool.bytes new.pool.bytes (handed (terms_of (table_of coded_byte old) roots command)) places → IsInRange (table_of coded_byte new) roots (command_with places command)
+  edit_in_range New is fills stand = tt
+  edit_in_range (Open s) is fills stand = omega (arith, is, ap length x.sources)
+  edit_in_range (Insert r p bytes) is fills stand =
+      (is.0, omega (arith, is.1, len_same r is.0), is.2, one_inside bytes.now is.2 stand, omega (arith, is.4, len_same r is.0))
+  edit_in_range (Delete r p n) is fills stand = (is.0, omega (arith, is.1, len_same r is.0))
+  edit_in_range (Replace r p m bytes) is fills stand =
+      (is.0, omega (arith, is.1, len_same r is.0), is.2, one_inside bytes.now is.2 stand, omega (arith, is.4, len_same r is.0))
+  edit_in_range (Paste r p q i n) is fills stand =
+      (is.0, omega (arith, is.1, len_same r is.0), is.2, omega (arith, is.3, len_same q is.2), omega (arith, is.4, len_same r is.0))
+  edit_in_range (Join r q) is fills stand = (is.0, is.1, omega (arith, is.2, len_same r is.0, len_same q is.1))
+  edit_in_range (Cut r i n) is fills stand = (is.0, omega (arith, is.1, len_same r is.0))
+  edit_in_range (Fill r p c n) is fills stand = (is.0, omega (arith, is.1, len_same r is.0), fills, omega (arith, is.2, len_same r is.0))
+  edit_in_range (Back r) is fills stand = is
+  edit_in_range (Balance r) is fills stand = is
+  edit_in_range (Many r changes bytes) is fills stand =
+      let len = len_of (table_of coded_byte old) roots r in
+      let can = can_splice_changes old.pool.bytes new.pool.bytes (root_at roots r) len len changes.now bytes.now places stand is.1 in
+      let sums = placed_sums old.pool.bytes new.pool.bytes (root_at roots r) len changes.now bytes.now places stand in (
+        is.0,
+        subst (λ (n : ℕ). IsTrue (can_splice (length new.pool.bytes) n (placed_changes changes.now places))) (sym (len_same r is.0)) can,
+        omega (arith, is.1.short, is.1.takes, sums.0, sums.1, len_same r is.0),
+      )
+
+  -- its parts are the terms
+  old_part : (rope : Option NodeId) (i n : ℕ) → IsRope (table_of coded_byte old) rope → take n (drop i (rope_cells (table_of coded_byte old) rope)) ≡ take n (drop i (rope_cells (table_of coded_byte new) rope))
+  old_part rope i n there = ap (λ cs. take n (drop i cs)) (sym (rope_cells_kept (table_of coded_byte old) (table_of coded_byte new) k.sound x.kept rope there))
+
+  rest_part : (r p : ℕ) → r < length roots
+      → take (len_of (table_of coded_byte old) roots r - p) (drop p (rope_cells (table_of coded_byte old) (root_at roots r))) ≡ part_cells (table_of coded_byte new) (Parts.rest (table_of coded_byte new) (root_at roots r) p)
+  rest_part r p lt =
+      old_part (root_at roots r) p (len_of (table_of coded_byte old) roots r - p) (ropes r lt)
+      ∙ ap (λ (n : ℕ). take (n - p) (drop p (rope_cells (table_of coded_byte new) (root_at roots r)))) (sym (len_same r lt))
+
+  whole_part : (r : ℕ) → r < length roots → rope_cells (table_of coded_byte old) (root_at roots r) ≡ part_cells (table_of coded_byte new) (Parts.whole (table_of coded_byte new) (root_at roots r))
+  whole_part r lt =
+      let rope = root_at roots r in
+      let len = rope_length (table_of coded_byte old) k.sound k.true_records rope (ropes r lt) in
+      sym (take_all (rope_len (table_of coded_byte new) rope) (rope_cells (table_of coded_byte old) rope) (omega (arith, len, len_same r lt)))
+      ∙ old_part rope 0 (rope_len (table_of coded_byte new) rope) (ropes r lt)
+
+  pool_part : (bytes : List ℕ) (place : ℕ) → StandsAt new.pool.bytes place bytes → map Byte bytes ≡ part_cells (table_of coded_byte new) (Part.Pool place (length bytes))
+  pool_part bytes place stands =
+      let many : (place + length bytes) - place ≡ length bytes = omega arith in
+      ap (map Byte) (sym stands ∙ ap (λ (n : ℕ). take n (drop place new.pool.bytes)) many)
+
+  terms_are_parts : (command : Command) → IsCommandInRange (table_of coded_byte old) roots command → StandEach old.pool.bytes new.pool.bytes (handed (terms_of (table_of coded_byte old) roots command)) places
+      → terms_cells (table_of coded_byte old) (terms_of (table_of coded_byte old) roots command) ≡ parts_cells (table_of coded_byte new) (Parts.terms_of (table_of coded_byte new) roots (command_with places command))
+  terms_are_parts New is stand = refl
+  terms_are_parts (Open s) is stand = ap (λ (ns : List ℕ). one (map (Place s) (range_with_len 0 (get_or ns s 0)))) (sym x.sources)
+  terms_are_parts (Insert r p bytes) is stand = three_same (old_part (root_at roots r) 0 p (ropes r is.0)) (pool_part bytes.now (get_or places 0 0) (one_stands bytes.now is.2 stand)) (rest_part r p is.0)
+  terms_are_parts (Delete r p n) is stand = two_same (old_part (root_at roots r) 0 p (ropes r is.0)) (rest_part r (p + n) is.0)
+  terms_are_parts (Replace r p m bytes) is stand = three_same (old_part (root_at roots r) 0 p (ropes r is.0)) (pool_part bytes.now (get_or places 0 0) (one_stands bytes.now is.2 stand)) (rest_part r (p + m) is.0)
+  terms_are_parts (Paste r p q i n) is stand = three_same (old_part (root_at roots r) 0 p (ropes r is.0)) (old_part (root_at roots q) i n (ropes q is.2)) (rest_part r p is.0)
+  terms_are_parts (Join r q) is stand = two_same (whole_part r is.0) (whole_part q is.1)
+  terms_are_parts (Cut r i n) is stand = ap one (old_part (root_at roots r) i n (ropes r is.0))
+  terms_are_parts (Fill r p c n) is stand = three_same (old_part (root_at roots r) 0 p (ropes r is.0)) refl (rest_part r p is.0)
+  terms_are_parts (Back r) is stand = ap one (whole_part r is)
+  terms_are_parts (Balance r) is stand = ap one (whole_part r is)
+  terms_are_parts (Many r changes bytes) is stand =
+      let t = table_of coded_byte old in
+      let u = table_of coded_byte new in
+      let rope = root_at roots r in
+      let len = len_of t roots r in
+      let same = rope_cells_kept t u k.sound x.kept rope (ropes r is.0) in
+      let zero_less : next_place len changes.now ≡ next_place len changes.now - 0 = omega arith in
+      ap (λ (n : ℕ). take n (drop 0 (rope_cells t rope)) ++ terms_cells t (changed_terms rope len changes.now bytes.now)) zero_less
+      ∙ changed_pieces t u old.pool.bytes rope len 0 changes.now bytes.now places same stand (omega (arith, is.1.takes))
+      ∙ ap (λ (n : ℕ). parts_cells u (pieces rope n 0 (placed_changes changes.now places))) (sym (len_same r is.0))
+
+  -- the terms joined are what the recorded command gives of the earlier texts
+  pub terms_give : (command : Command) → IsCommandInRange (table_of coded_byte old) roots command → FillsBytes command → StandEach old.pool.bytes new.pool.bytes (handed (terms_of (table_of coded_byte old) roots command)) places
+      → result_of (givens_of (table_of coded_byte new)) (map (rope_cells (table_of coded_byte old)) roots) (command_with places command) ≡ Some (terms_cells (table_of coded_byte old) (terms_of (table_of coded_byte old) roots command))
+  terms_give command is fills stand =
+      let t = table_of coded_byte old in
+      let u = table_of coded_byte new in
+      ap (λ texts. result_of (givens_of u) texts (command_with places command)) (sym (all_cells_kept t u k.sound k.true_records x.kept roots ropes))
+      ∙ terms_joined u k'.sound k'.true_records roots (command_with places command) (are_ropes_kept t u k.sound k.true_records x.kept roots ropes) (edit_in_range command is fills stand)
+      ∙ ap Some (sym (terms_are_parts command is stand))

@@ -5,13 +5,11 @@ use Rattle.function_leaf.specs.Coded.{coded_byte}
 use Rattle.rope_node.specs.declared.node.NodeId.{NodeId}
 use Rattle.rope_node.specs.Denotes.{Cell, rope_cells, rope_len, IsRope}
 use Rattle.rope_node.proofs.Ropes.{extends_itself, extends_through, rope_cells_kept, rope_kept, rope_length}
-use Rattle.node_table.specs.declared.fault.NodeFault.TheVariants.{TooLong, TooDeep, TableFull, PoolFull, BadSpan, TooManySources, Memory}
 use Rattle.node_table.specs.Held.{Held, table_of}
 use Rattle.rebalance.specs.declared.fault.BalanceFault.{BalanceFault}
-use Rattle.rebalance.specs.declared.fault.BalanceFault.TheVariants.{TooManyPieces, Node}
 use Rattle.rebalance.proofs.AnyCalls.{IsRight}
 use Rattle.rebalance.proofs.StepLaws.{functions_itself, functions_through}
-use Rattle.edit_commands.specs.Building.{GoesOn, WasMet, IsMetFault, Builds}
+use Rattle.edit_commands.specs.Building.{GoesOn, Builds}
 
 pub goes_on_itself : (h : Held Coded) → GoesOn h h
 goes_on_itself h = record { kept = extends_itself (table_of coded_byte h); functions = functions_itself h; sources = refl }
@@ -23,24 +21,10 @@ goes_on_through {a} {b} {c} x y = record {
   sources = y.sources ∙ x.sources;
 }
 
-was_met_later : {a b c : Held Coded} (fault : BalanceFault) → GoesOn a b → WasMet b fault c → WasMet a fault c
-was_met_later fault x met = record { before = met.before; grown = goes_on_through x met.grown; call = met.call }
-
--- what is met on a table that went on is met from the start
-pub met_later : {a b : Held Coded} (c : Held Coded) (fault : BalanceFault) → GoesOn a b → IsMetFault b fault c → IsMetFault a fault c
-met_later c TooManyPieces x met = was_met_later TooManyPieces x met
-met_later c (Node TooLong) x met = absurd met
-met_later c (Node TooDeep) x met = absurd met
-met_later c (Node TableFull) x met = was_met_later (Node TableFull) x met
-met_later c (Node PoolFull) x met = was_met_later (Node PoolFull) x met
-met_later c (Node BadSpan) x met = absurd met
-met_later c (Node TooManySources) x met = absurd met
-met_later c (Node Memory) x met = tt
-
 -- a step behind what was done before it, its text said otherwise
 pub builds_later : {a b c : Held Coded} {cells wanted : List Cell} (result : Result (Option NodeId) BalanceFault) → GoesOn a b → Builds b cells result c → cells ≡ wanted → Builds a wanted result c
-builds_later {c = c} (Ok rope) x step same = record { is_rope = step.is_rope; text = step.text ∙ same; goes_on = goes_on_through x step.goes_on; fault = tt }
-builds_later {c = c} (Err fault) x step same = record { is_rope = tt; text = tt; goes_on = goes_on_through x step.goes_on; fault = met_later c fault x step.fault }
+builds_later (Ok rope) x step same = record { is_rope = step.is_rope; text = step.text ∙ same; goes_on = goes_on_through x step.goes_on; fault = tt }
+builds_later (Err fault) x step same = record { is_rope = tt; text = tt; goes_on = goes_on_through x step.goes_on; fault = step.fault }
 
 -- a refused step builds nothing, whatever was wanted
 pub refused_for : {a b : Held Coded} {cells : List Cell} (wanted : List Cell) (fault : BalanceFault) → Builds a cells (Err fault) b → Builds a wanted (Err fault) b

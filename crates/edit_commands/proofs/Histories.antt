@@ -12,8 +12,7 @@ use Rattle.rope_node.specs.declared.node.NodeId.{NodeId}
 use Rattle.rope_node.specs.Table.{Table, IsSound, HasTrueRecords}
 use Rattle.rope_node.specs.Denotes.{Cell, Byte, Place, cell_byte, rope_cells, rope_len}
 use Rattle.node_table.specs.Held.{Held, table_of, coded_at}
-use Rattle.span_certificate.specs.declared.edit.Edit.{Edit}
-use Rattle.span_certificate.specs.Commands.{Givens, result_of, IsHistory}
+use Rattle.span_certificate.specs.Commands.{FullEdit, Givens, result_of, IsHistory}
 use Rattle.span_certificate.specs.Leads.{AreAnswered}
 use Rattle.span_certificate.specs.Parts.{AreRopes, givens_of}
 use Rattle.span_certificate.proofs.Joined.{parts_joined}
@@ -21,7 +20,7 @@ use Rattle.span_certificate.proofs.MappedResults.{mapped_givens, history_mapped}
 use Rattle.span_certificate.proofs.PartsInRange.{parts_in_range}
 use Rattle.span_certificate.proofs.Sameness.{covered_cells}
 use Rattle.edit_commands.specs.declared.revision.Revision.{Revision}
-use Rattle.edit_commands.specs.Session.{SessionValue, edits_of, roots_of, cells_of, texts_of, text_givens, parts_behind, IsRevision, AreRevisions, HoldsHistory}
+use Rattle.edit_commands.specs.Session.{SessionValue, command_of, commands_of, roots_of, cells_of, texts_of, text_givens, parts_behind, IsRevision, AreRevisions, HoldsHistory}
 use Rattle.edit_commands.proofs.RevisionLists.{there_is, are_ropes, ropes_before}
 use Rattle.rope_node.proofs.Ropes.{rope_length}
 use Rattle.rope_node.proofs.Parts.{map_alike}
@@ -44,32 +43,32 @@ givens_mapped t source =
 module _ (h : Held Coded) (s : IsSound (table_of coded_byte h)) (true_records : HasTrueRecords (table_of coded_byte h)) where
   -- a revision's command gives the cells of its root
   revision_gives : (before : List Revision) (r : Revision) → AreRopes (table_of coded_byte h) (roots_of before) → IsRevision h before r
-      → result_of (givens_of (table_of coded_byte h)) (map (rope_cells (table_of coded_byte h)) (roots_of before)) r.edit ≡ Some (rope_cells (table_of coded_byte h) r.root)
+      → result_of (givens_of (table_of coded_byte h)) (map (rope_cells (table_of coded_byte h)) (roots_of before)) (command_of r) ≡ Some (rope_cells (table_of coded_byte h) r.root)
   revision_gives before r ropes is =
       let t = table_of coded_byte h in
-      let are = parts_in_range t (roots_of before) r.edit ropes is.range in
-      parts_joined t s true_records (roots_of before) r.edit ropes is.range
+      let are = parts_in_range t (roots_of before) (command_of r) ropes is.range in
+      parts_joined t s true_records (roots_of before) (command_of r) ropes is.range
       ∙ ap Some (covered_cells t s true_records (coded_at h) (answered h) (λ k p. 0) (parts_behind t before r) r.root r.rows.items are is.root (is.rows (λ k p. 0)) is.no_source)
 
   cells_before : (revisions : List Revision) (k : ℕ) → take k (map (rope_cells (table_of coded_byte h)) (roots_of revisions)) ≡ map (rope_cells (table_of coded_byte h)) (roots_of (take k revisions))
   cells_before revisions k =
       take-map (rope_cells (table_of coded_byte h)) k (roots_of revisions) ∙ ap (map (rope_cells (table_of coded_byte h))) (take-map (λ (r : Revision). r.root) k revisions)
 
-  cells_history : (revisions : List Revision) → AreRevisions h revisions → IsHistory (givens_of (table_of coded_byte h)) (edits_of revisions) (map (rope_cells (table_of coded_byte h)) (roots_of revisions))
+  cells_history : (revisions : List Revision) → AreRevisions h revisions → IsHistory (givens_of (table_of coded_byte h)) (commands_of revisions) (map (rope_cells (table_of coded_byte h)) (roots_of revisions))
   cells_history revisions are = record {
-    whole = length-map (roots_of revisions) (rope_cells (table_of coded_byte h)) ∙ length-map revisions (λ (r : Revision). r.root) ∙ sym (length-map revisions (λ (r : Revision). r.edit));
+    whole = length-map (roots_of revisions) (rope_cells (table_of coded_byte h)) ∙ length-map revisions (λ (r : Revision). r.root) ∙ sym (length-map revisions command_of);
     each = λ k command e.
         let t = table_of coded_byte h in
-        let edit : Revision → Edit = λ (r : Revision). r.edit in
+        let edit : Revision → FullEdit = command_of in
         let root : Revision → Option NodeId = λ (r : Revision). r.root in
-        let found = there_is revisions k (omega (arith, slice_get_within (edits_of revisions) k command e, length-map revisions edit)) in
+        let found = there_is revisions k (omega (arith, slice_get_within (commands_of revisions) k command e, length-map revisions edit)) in
         let r : Revision = found.0 in
-        let stands : Some r.edit ≡ Some command = sym (slice_get-map edit revisions k ∙ ap (option_map edit) found.1) ∙ e in
-        let same : r.edit ≡ command = cc in
+        let stands : Some (command_of r) ≡ Some command = sym (slice_get-map edit revisions k ∙ ap (option_map edit) found.1) ∙ e in
+        let same : command_of r ≡ command = cc in
         slice_get-map (rope_cells t) (roots_of revisions) k
         ∙ ap (option_map (rope_cells t)) (slice_get-map root revisions k ∙ ap (option_map root) found.1)
         ∙ sym (revision_gives (take k revisions) r (ropes_before h revisions k are) (are k r found.1))
-        ∙ ap (λ (texts : List (List Cell)). result_of (givens_of t) texts r.edit) (sym (cells_before revisions k))
+        ∙ ap (λ (texts : List (List Cell)). result_of (givens_of t) texts (command_of r)) (sym (cells_before revisions k))
         ∙ ap (result_of (givens_of t) (take k (map (rope_cells t) (roots_of revisions)))) same;
   }
 
@@ -85,7 +84,7 @@ module _ (h : Held Coded) (s : IsSound (table_of coded_byte h)) (true_records : 
       record {
         cells = cells;
         texts = λ source.
-            subst (λ (g : Givens ℕ). IsHistory g (edits_of revisions) (texts_of source v)) (sym (givens_mapped (table_of coded_byte h) source))
-            (history_mapped (cell_byte source) (givens_of (table_of coded_byte h)) (edits_of revisions) (cells_of v) cells);
+            subst (λ (g : Givens ℕ). IsHistory g (commands_of revisions) (texts_of source v)) (sym (givens_mapped (table_of coded_byte h) source))
+            (history_mapped (cell_byte source) (givens_of (table_of coded_byte h)) (commands_of revisions) (cells_of v) cells);
         lengths = lengths_are (roots_of revisions) (are_ropes h revisions are);
       }

@@ -18,7 +18,7 @@ use Rattle.span_certificate.specs.Covers.{CoversAlways, MeetsNoSource}
 use Rattle.span_certificate.proofs.Kept.{AgreeBelow, parts_kept, in_range_kept, all_cells_kept, covers_kept, no_source_kept}
 use Rattle.span_certificate.proofs.PartsInRange.{parts_in_range}
 use Rattle.edit_commands.specs.declared.revision.Revision.{Revision}
-use Rattle.edit_commands.specs.Session.{roots_of, IsRevision, AreRevisions}
+use Rattle.edit_commands.specs.Session.{command_of, roots_of, IsRevision, AreRevisions}
 use Rattle.edit_commands.proofs.RevisionLists.{are_ropes, ropes_before}
 
 -- a store with sound nodes and true records, a function slot for each node, that went on
@@ -42,16 +42,17 @@ module _ (old new : Held Coded) (on : WentOn old new) where
   revision_kept before r ropes is =
       let t = table_of coded_byte old in
       let u = table_of coded_byte new in
-      let same = parts_kept t u on.sound on.true_records on.kept (roots_of before) r.edit ropes is.range in
-      let are = parts_in_range t (roots_of before) r.edit ropes is.range in
+      let same = parts_kept t u on.sound on.true_records on.kept (roots_of before) (command_of r) ropes is.range in
+      let are = parts_in_range t (roots_of before) (command_of r) ropes is.range in
       record {
-        range = in_range_kept t u on.sound on.true_records on.kept (roots_of before) r.edit ropes is.range;
+        range = in_range_kept t u on.sound on.true_records on.kept (roots_of before) (command_of r) ropes is.range;
+        names = is.names;
         root = rope_kept t u on.kept r.root is.root;
         mark = mark_kept r.mark r.root is.root is.mark;
         rows = subst (λ (parts : List Part). CoversAlways u (coded_at new) parts r.root r.rows.items) (sym same)
-            (λ source. covers_kept t u on.sound on.true_records on.kept (coded_at old) (coded_at new) agree source (parts_of t (roots_of before) r.edit) r.root r.rows.items are is.root (is.rows source));
+            (λ source. covers_kept t u on.sound on.true_records on.kept (coded_at old) (coded_at new) agree source (parts_of t (roots_of before) (command_of r)) r.root r.rows.items are is.root (is.rows source));
         no_source = subst (λ (parts : List Part). MeetsNoSource u parts r.root r.rows.items) (sym same)
-            (no_source_kept t u on.sound on.true_records on.kept (parts_of t (roots_of before) r.edit) r.root r.rows.items are is.root is.no_source);
+            (no_source_kept t u on.sound on.true_records on.kept (parts_of t (roots_of before) (command_of r)) r.root r.rows.items are is.root is.no_source);
       }
 
   pub revisions_kept : (revisions : List Revision) → AreRevisions old revisions → AreRevisions new revisions

@@ -1,9 +1,13 @@
 pub mod RevisionLists
 pub mod KeptRevisions
 pub mod Histories
-pub mod MadeRevisions
-pub mod SessionCalls
 pub mod GoingOn
 pub mod BuildSteps
-pub mod BuiltTexts
+pub mod Chains
+pub mod Joining
+pub mod HandedChanges
 pub mod Accepted
+pub mod BuiltCommands
+pub mod MadeRevisions
+pub mod SessionCalls
+pub mod RevisionSplices

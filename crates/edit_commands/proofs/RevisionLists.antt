@@ -12,7 +12,7 @@ use Rattle.rope_node.specs.Denotes.{IsRope}
 use Rattle.node_table.specs.Held.{Held, table_of}
 use Rattle.span_certificate.specs.Parts.{root_at, AreRopes}
 use Rattle.edit_commands.specs.declared.revision.Revision.{Revision}
-use Rattle.edit_commands.specs.Session.{roots_of, rows_held, IsRevision, AreRevisions}
+use Rattle.edit_commands.specs.Session.{roots_of, rows_held, splices_held, IsRevision, AreRevisions}
 use Rattle.rope_node.proofs.Parts.{slice_get-take}
 
 -- ---- lists
@@ -71,3 +71,6 @@ one_more h revisions made are is k r e =
 
 pub rows_more : (revisions : List Revision) (made : Revision) → rows_held (revisions ++ made ∷ []) ≡ rows_held revisions + length made.rows.items
 rows_more revisions made = sum_by-append (λ (r : Revision). length r.rows.items) revisions (made ∷ []) ∙ omega arith
+
+pub splices_more : (revisions : List Revision) (made : Revision) → splices_held (revisions ++ made ∷ []) ≡ splices_held revisions + length made.splices.items
+splices_more revisions made = sum_by-append (λ (r : Revision). length r.splices.items) revisions (made ∷ []) ∙ omega arith

@@ -1,70 +1,102 @@
 -- What a command does to a session: what it makes, why it is refused on the way, and what a refusal keeps.
-use Rattle.std.specs.Prelude.{◌≡◌, ℕ, ◌+◌, ◌<◌, ◌≤◌, List, [], ◌∷◌, ◌++◌, length, map, Option, Some, None, Result, Err, IfOk, IfErr, OnErr}
+use Rattle.std.specs.Prelude.{◌≡◌, ℕ, ◌+◌, ◌<◌, ◌≤◌, List, [], ◌∷◌, ◌++◌, length, map, Option, Some, None, Result, Ok, Err, IfOk, IfErr, IsErrOf, OnErr}
+use Rattle.std.specs.Global.{Vec}
 use Rattle.function_leaf.specs.declared.coded.Coded.{Coded}
 use Rattle.function_leaf.specs.Coded.{coded_byte}
 use Rattle.rope_node.specs.declared.node.NodeId.{NodeId}
 use Rattle.rope_node.specs.Denotes.{rope_cells, rope_len}
 use Rattle.node_table.specs.declared.fault.NodeFault.{NodeFault}
-use Rattle.node_table.specs.declared.fault.NodeFault.TheVariants.{TableFull, PoolFull}
+use Rattle.node_table.specs.declared.fault.NodeFault.TheVariants.{TableFull, PoolFull, Memory}
 use Rattle.node_table.specs.Held.{Held, table_of, coded_at}
 use Rattle.node_table.specs.Puts.{AddsSource}
-use Rattle.rebalance.specs.declared.fault.BalanceFault.TheVariants as BalanceFault
+use Rattle.rebalance.specs.declared.fault.BalanceFault.{BalanceFault}
 use Rattle.span_certificate.specs.declared.row.Row.{Row}
 use Rattle.span_certificate.specs.Commands.{result_of}
-use Rattle.span_certificate.specs.Covers.{AreMade, rows_len}
+use Rattle.span_certificate.specs.Covers.{AreMade, CoversAlways, IsCutShort, MeetsNoSource, rows_len}
+use Rattle.span_certificate.specs.declared.making.MakeFault.{MakeFault}
+use Rattle.span_certificate.specs.declared.making.MakeFault.TheVariants.{TooManyRows}
+use Rattle.span_certificate.specs.declared.part.Part.{Part}
+use Rattle.rope_node.specs.Table.{Table}
 use Rattle.span_certificate.specs.declared.making.TheConstants.{ROWS_LIMIT}
 use Rattle.span_certificate.specs.Parts.{givens_of, parts_of}
 use Rattle.edit_commands.specs.declared.command.Command.{Command}
 use Rattle.edit_commands.specs.declared.fault.EditFault.{EditFault}
-use Rattle.edit_commands.specs.declared.fault.EditFault.TheVariants as EditFault
 use Rattle.edit_commands.specs.declared.revision.Revision.{Revision}
-use Rattle.edit_commands.specs.Building.{GoesOn, IsRootFor, StandNew, WasMet, edit_with}
+use Rattle.span_certificate.specs.declared.edit.TheConstants.{SPLICES_LIMIT}
+use Rattle.edit_commands.specs.Building.{ChainsTerms, GoesOn, IsRootFor, command_with, edit_with, splices_with}
 use Rattle.edit_commands.specs.Codes.{told}
-use Rattle.edit_commands.specs.Refusals.{bytes_of, refusal_of}
-use Rattle.edit_commands.specs.Session.{SessionValue, IsRevision, AreRevisions, roots_of, rows_held, cells_of}
+use Rattle.edit_commands.specs.Refusals.{refusal_of}
+use Rattle.edit_commands.specs.Session.{SessionValue, IsRevision, AreRevisions, command_of, roots_of, rows_held, splices_held, cells_of}
 
 -- the store goes on where it ended, and the earlier revisions have the cells that they had
 pub record Keeps (old new : SessionValue) : Type 0 where
   pub goes_on : GoesOn old.held new.held
   pub cells : cells_of (record { held = new.held; revisions = old.revisions }) ≡ cells_of old
 
+-- rows that show, whatever the sources hold, that these parts have the root's text; or why there are none
+pub record MakesRows (coded : ℕ → Coded) (t : Table) (parts : List Part) (root : Option NodeId)
+    (result : Result (Vec Row) MakeFault) : Type 0 where
+  pub covers : IfOk result (λ rows. CoversAlways t coded parts root rows.items)
+  pub no_source : IfOk result (λ rows. MeetsNoSource t parts root rows.items)
+  pub few : IfOk result (λ rows. length rows.items ≤ ROWS_LIMIT)
+  pub too_many : IsErrOf result TooManyRows → IsCutShort t coded parts root
+
 -- ---- refused on the way
+
+-- the first of the command's terms that was refused was refused so
+abbrev pub TermRefused : Held Coded → List Revision → Command → BalanceFault → Held Coded → Type 0
+TermRefused old revisions command fault new =
+    (places : List ℕ) × ChainsTerms old revisions command places (Err fault) new
 
 -- The root that the command gives stands. The rows for its first bytes are more than there is room for behind those of
 -- the earlier revisions; or they are as many, and text is left.
 pub record RowsPass (old : Held Coded) (revisions : List Revision) (command : Command) (new : Held Coded) : Type 0 where
-  pub place : ℕ
   pub root : Option NodeId
-  pub bytes : StandNew old.pool.bytes new.pool.bytes place (bytes_of command)
+  pub places : List ℕ
+  pub terms : ChainsTerms old revisions command places (Ok root) new
   pub result : result_of (givens_of (table_of coded_byte new))
-      (map (rope_cells (table_of coded_byte old)) (roots_of revisions)) (edit_with place command)
+      (map (rope_cells (table_of coded_byte old)) (roots_of revisions)) (command_with places command)
       ≡ Some (rope_cells (table_of coded_byte new) root)
   pub rows : List Row
   pub made : AreMade (table_of coded_byte new) (coded_at new)
-      (parts_of (table_of coded_byte new) (roots_of revisions) (edit_with place command)) root rows
+      (parts_of (table_of coded_byte new) (roots_of revisions) (command_with places command)) root rows
   pub full : ROWS_LIMIT ≤ rows_held revisions + length rows
   pub left : ROWS_LIMIT ≡ rows_held revisions + length rows → rows_len rows < rope_len (table_of coded_byte new) root
 
--- what is met on the way: a full table or pool, too many pieces or rows, want of memory
+-- memory was refused for the places of the bytes handed in, before the first of the command's terms; to one of them; or
+-- to what comes behind the root that they give
+pub data WantsMemory (old : Held Coded) (revisions : List Revision) (command : Command) (new : Held Coded)
+    : Type 0 where
+  before : new ≡ old → WantsMemory old revisions command new
+  within : TermRefused old revisions command (BalanceFault.Node Memory) new → WantsMemory old revisions command new
+  behind : (root : Option NodeId) (places : List ℕ) → ChainsTerms old revisions command places (Ok root) new
+      → WantsMemory old revisions command new
+
+-- what is met on the way: a full table or pool or too many pieces, where the first of the command's terms that is
+-- refused is refused so; too many rows; want of memory
 abbrev pub IsLaterFault : Held Coded → List Revision → Command → EditFault → Held Coded → Type 0
-IsLaterFault old revisions command (EditFault.Node TableFull) new = WasMet old (BalanceFault.Node TableFull) new
-IsLaterFault old revisions command (EditFault.Node PoolFull) new = WasMet old (BalanceFault.Node PoolFull) new
-IsLaterFault old revisions command EditFault.TooManyPieces new = WasMet old BalanceFault.TooManyPieces new
+IsLaterFault old revisions command (EditFault.Node TableFull) new =
+    TermRefused old revisions command (BalanceFault.Node TableFull) new
+IsLaterFault old revisions command (EditFault.Node PoolFull) new =
+    TermRefused old revisions command (BalanceFault.Node PoolFull) new
+IsLaterFault old revisions command EditFault.TooManyPieces new =
+    TermRefused old revisions command BalanceFault.TooManyPieces new
 IsLaterFault old revisions command EditFault.TooManyRows new = RowsPass old revisions command new
-IsLaterFault old revisions command EditFault.Memory new = Unit {0}
+IsLaterFault old revisions command EditFault.Memory new = WantsMemory old revisions command new
 IsLaterFault old revisions command _ new = ⊥
 
 -- ---- the revision that a command makes
 
--- its command is recorded, with the place at which its bytes were put into the pool, and its cells are what the command
--- gives
+-- its root is what its terms give; its command is recorded, with the places at which its bytes were put into the pool,
+-- and its cells are what the command gives
 pub record IsMadeBy (old : Held Coded) (revisions : List Revision) (command : Command) (made : Revision)
     (new : Held Coded) : Type 0 where
-  pub place : ℕ
-  pub edit : made.edit ≡ edit_with place command
-  pub bytes : StandNew old.pool.bytes new.pool.bytes place (bytes_of command)
+  pub places : List ℕ
+  pub terms : ChainsTerms old revisions command places (Ok made.root) new
+  pub edit : made.edit ≡ edit_with places (splices_held revisions) command
+  pub splices : made.splices.items ≡ splices_with places command
   pub result : result_of (givens_of (table_of coded_byte new))
-      (map (rope_cells (table_of coded_byte old)) (roots_of revisions)) made.edit
+      (map (rope_cells (table_of coded_byte old)) (roots_of revisions)) (command_of made)
       ≡ Some (rope_cells (table_of coded_byte new) made.root)
   pub root : IsRootFor (table_of coded_byte new) (roots_of revisions) command made.root
 
@@ -75,6 +107,7 @@ pub record Revises (old : Held Coded) (revisions : List Revision) (command : Com
   pub earlier : AreRevisions new revisions
   pub is : IfOk result (λ made. IsRevision new revisions made × IsMadeBy old revisions command made new)
   pub few : IfOk result (λ made. rows_held revisions + length made.rows.items ≤ ROWS_LIMIT)
+  pub few_splices : IfOk result (λ made. splices_held revisions + length made.splices.items ≤ SPLICES_LIMIT)
   pub fault : IfErr result (λ fault. IsLaterFault old revisions command fault new)
 
 -- one revision more; the earlier ones have the cells that they had, and its own are what its command gives of those

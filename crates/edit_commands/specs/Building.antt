@@ -1,28 +1,27 @@
--- How a root is built from earlier ones: step by step, each a call of the store or of the calls for any ropes.
-use Rattle.std.specs.Prelude.{◌≡◌, ℕ, ◌≤◌, List, ◌++◌, length, map, drop, Option, Some, None, Result, Ok, Err, IfOk, IfErr}
+-- What a chain of terms builds, and the root that a command gives.
+use Rattle.std.specs.Prelude.{◌≡◌, ℕ, ◌≤◌, List, [], ◌∷◌, length, map, get_or, Option, Some, None, Result, IfOk, IfErr}
 use Rattle.function_leaf.specs.declared.coded.Coded.{Coded}
 use Rattle.function_leaf.specs.Coded.{coded_byte}
 use Rattle.rope_node.specs.declared.node.NodeId.{NodeId}
 use Rattle.rope_node.specs.Table.{Table}
-use Rattle.rope_node.specs.Denotes.{Cell, Byte, rope_cells, IsRope}
+use Rattle.rope_node.specs.Denotes.{Cell, rope_cells, IsRope}
 use Rattle.rope_node.specs.Extends.{Extends}
-use Rattle.node_table.specs.declared.fault.NodeFault.{NodeFault}
 use Rattle.node_table.specs.declared.fault.NodeFault.TheVariants.{TableFull, PoolFull, Memory}
 use Rattle.node_table.specs.Held.{Held, table_of, KeepsFunctions}
-use Rattle.rope_store.specs.Calls.{MakesFunction, MakesSource}
 use Rattle.rebalance.specs.declared.fault.BalanceFault.{BalanceFault}
 use Rattle.rebalance.specs.declared.fault.BalanceFault.TheVariants.{TooManyPieces, Node}
-use Rattle.rebalance.specs.AnyForms.{lifted, CatsAny, PartsAny, AppendsAny, StandsAt}
-use Rattle.rebalance.specs.Balancing.{IsNearlyBalanced, Rebalances}
+use Rattle.rebalance.specs.AnyForms.{StandsAt}
+use Rattle.rebalance.specs.Balancing.{IsNearlyBalanced}
 use Rattle.span_certificate.specs.declared.edit.Edit.{Edit}
-use Rattle.span_certificate.specs.Commands.{replaced, result_of}
+use Rattle.span_certificate.specs.declared.edit.Splice.{Splice}
+use Rattle.span_certificate.specs.Commands.{FullEdit, result_of, with_splices}
 use Rattle.span_certificate.specs.Parts.{givens_of, root_at}
-use Rattle.edit_commands.specs.declared.building.Built.{Built}
+use Rattle.edit_commands.specs.declared.command.Change.{Change}
 use Rattle.edit_commands.specs.declared.command.Command.{Command}
-use Rattle.edit_commands.specs.declared.command.Command.TheVariants.{New, Open, Insert, Delete, Replace, Paste, Join, Cut, Fill, Back, Balance}
+use Rattle.edit_commands.specs.declared.command.Command.TheVariants.{New, Open, Insert, Delete, Replace, Paste, Join, Cut, Fill, Back, Balance, Many}
 use Rattle.edit_commands.specs.declared.revision.Revision.{Revision}
-use Rattle.edit_commands.specs.Refusals.{bytes_of}
 use Rattle.edit_commands.specs.Session.{roots_of}
+use Rattle.edit_commands.specs.Terms.{Chain, handed, terms_of, terms_cells}
 
 -- what was there is kept, and the sources are the same
 pub record GoesOn (old new : Held Coded) : Type 0 where
@@ -30,31 +29,13 @@ pub record GoesOn (old new : Held Coded) : Type 0 where
   pub functions : KeepsFunctions old new
   pub sources : new.sources ≡ old.sources
 
--- one of the calls by which roots are built
-pub data IsCall (before : Held Coded) (result : Result (Option NodeId) BalanceFault) (after : Held Coded) : Type 0 where
-  of_source : (s n : ℕ) (plain : Result (Option NodeId) NodeFault) → MakesSource coded_byte before s 0 n plain after
-      → result ≡ lifted plain → IsCall before result after
-  of_function : (f : Coded) (n : ℕ) (plain : Result (Option NodeId) NodeFault)
-      → MakesFunction coded_byte before f n plain after → result ≡ lifted plain → IsCall before result after
-  of_part : (x : Option NodeId) (i n : ℕ) → PartsAny coded_byte before x i n result after → IsCall before result after
-  with_bytes : (x : Option NodeId) (put : List ℕ) → AppendsAny coded_byte before x put result after
-      → IsCall before result after
-  of_both : (l r : Option NodeId) → CatsAny coded_byte before l r result after → IsCall before result after
-  of_balance : (x : Option NodeId) → Rebalances coded_byte before x result after → IsCall before result after
-
--- such a call, on a table that went on from this one, was refused so, and was the last
-pub record WasMet (old : Held Coded) (fault : BalanceFault) (new : Held Coded) : Type 0 where
-  pub before : Held Coded
-  pub grown : GoesOn old before
-  pub call : IsCall before (Err fault) new
-
 -- only a full table or pool, too many pieces and want of memory are met on the way
-abbrev pub IsMetFault : Held Coded → BalanceFault → Held Coded → Type 0
-IsMetFault old TooManyPieces new = WasMet old TooManyPieces new
-IsMetFault old (Node TableFull) new = WasMet old (Node TableFull) new
-IsMetFault old (Node PoolFull) new = WasMet old (Node PoolFull) new
-IsMetFault old (Node Memory) new = Unit {0}
-IsMetFault old _ new = ⊥
+abbrev pub IsMetFault : BalanceFault → Type 0
+IsMetFault TooManyPieces = Unit {0}
+IsMetFault (Node TableFull) = Unit {0}
+IsMetFault (Node PoolFull) = Unit {0}
+IsMetFault (Node Memory) = Unit {0}
+IsMetFault _ = ⊥
 
 -- a rope of these cells is built, or a limit was met
 pub record Builds (old : Held Coded) (wanted : List Cell) (result : Result (Option NodeId) BalanceFault)
@@ -62,51 +43,51 @@ pub record Builds (old : Held Coded) (wanted : List Cell) (result : Result (Opti
   pub is_rope : IfOk result (λ r. IsRope (table_of coded_byte new) r)
   pub text : IfOk result (λ r. rope_cells (table_of coded_byte new) r ≡ wanted)
   pub goes_on : GoesOn old new
-  pub fault : IfErr result (λ fault. IsMetFault old fault new)
+  pub fault : IfErr result IsMetFault
 
--- a text, and then the bytes of a rope from p on
-abbrev pub Closes : Held Coded → Option NodeId → Option NodeId → ℕ → Result (Option NodeId) BalanceFault → Held Coded
-    → Type 0
-Closes old front rope p result new =
-    let t = table_of coded_byte old in
-    Builds old (rope_cells t front ++ drop p (rope_cells t rope)) result new
+-- ---- bytes handed in
 
--- a rope with these cells in place of its m from p on
-abbrev pub Splices : Held Coded → Option NodeId → ℕ → ℕ → List Cell → Result (Option NodeId) BalanceFault → Held Coded
-    → Type 0
-Splices old rope p m x result new = Builds old (replaced (rope_cells (table_of coded_byte old) rope) p m x) result new
+-- the place that bytes got in a pool: none have place 0, and others stand there, at no place of the older pool
+pub record IsPut (old pool : List ℕ) (bytes : List ℕ) (a : ℕ) : Type 0 where
+  pub none : length bytes ≡ 0 → a ≡ 0
+  pub some : 1 ≤ length bytes → (length old ≤ a) × StandsAt pool a bytes
 
--- ---- with bytes handed in
+-- so the places that each of several got
+abbrev pub StandEach : List ℕ → List ℕ → List (List ℕ) → List ℕ → Type 0
+StandEach old pool [] [] = Unit {0}
+StandEach old pool (bytes ∷ others) (a ∷ places) = IsPut old pool bytes a × StandEach old pool others places
+StandEach old pool _ _ = ⊥
 
--- the root alone
-abbrev pub root_alone : Result Built BalanceFault → Result (Option NodeId) BalanceFault
-root_alone (Ok built) = Ok built.root
-root_alone (Err fault) = Err fault
+-- the command as it is recorded, where these are the places of the bytes that it hands in, its splices behind so many
+-- others
+abbrev pub edit_with : List ℕ → ℕ → Command → Edit
+edit_with places first New = Edit.New
+edit_with places first (Open s) = Edit.Open s
+edit_with places first (Insert r p bytes) = Edit.Insert r p (get_or places 0 0) (length bytes.now)
+edit_with places first (Delete r p n) = Edit.Delete r p n
+edit_with places first (Replace r p m bytes) = Edit.Replace r p m (get_or places 0 0) (length bytes.now)
+edit_with places first (Paste r p q i n) = Edit.Paste r p q i n
+edit_with places first (Join r q) = Edit.Join r q
+edit_with places first (Cut r i n) = Edit.Cut r i n
+edit_with places first (Fill r p c n) = Edit.Fill r p c n
+edit_with places first (Back r) = Edit.Back r
+edit_with places first (Balance r) = Edit.Balance r
+edit_with places first (Many r changes bytes) = Edit.Many r first (length changes.now)
 
--- the bytes handed in, if there are any, stand in the pool from a on, which is no place of the older pool
-abbrev pub StandNew : List ℕ → List ℕ → ℕ → Option (List ℕ) → Type 0
-StandNew old pool a None = Unit {0}
-StandNew old pool a (Some bytes) = (length old ≤ a) × StandsAt pool a bytes
+-- each change with the place of its bytes
+abbrev pub placed_changes : List Change → List ℕ → List Splice
+placed_changes (c ∷ changes) (a ∷ places) =
+    record { p = c.p; m = c.m; a = a; n = c.n } ∷ placed_changes changes places
+placed_changes _ _ = []
 
--- a rope with these bytes, put into the pool, in place of its m from p on
-pub record ReplacesBytes (old : Held Coded) (rope : Option NodeId) (p m : ℕ) (bytes : List ℕ)
-    (result : Result Built BalanceFault) (new : Held Coded) : Type 0 where
-  pub splices : Splices old rope p m (map Byte bytes) (root_alone result) new
-  pub place : IfOk result (λ built. StandNew old.pool.bytes new.pool.bytes built.place (Some bytes))
+-- the splices of a command; one that hands in no changes has none
+abbrev pub splices_with : List ℕ → Command → List Splice
+splices_with places (Many r changes bytes) = placed_changes changes.now places
+splices_with places _ = []
 
--- the command as it is recorded, its bytes standing in the pool from a on
-abbrev pub edit_with : ℕ → Command → Edit
-edit_with a New = Edit.New
-edit_with a (Open s) = Edit.Open s
-edit_with a (Insert r p bytes) = Edit.Insert r p a (length bytes.now)
-edit_with a (Delete r p n) = Edit.Delete r p n
-edit_with a (Replace r p m bytes) = Edit.Replace r p m a (length bytes.now)
-edit_with a (Paste r p q i n) = Edit.Paste r p q i n
-edit_with a (Join r q) = Edit.Join r q
-edit_with a (Cut r i n) = Edit.Cut r i n
-edit_with a (Fill r p c n) = Edit.Fill r p c n
-edit_with a (Back r) = Edit.Back r
-edit_with a (Balance r) = Edit.Balance r
+-- what the recorded command says
+abbrev pub command_with : List ℕ → Command → FullEdit
+command_with places command = with_splices (splices_with places command) (edit_with places 0 command)
 
 -- what a command says of its root beside the text: Back gives the very root of the revision, Balance one whose length
 -- is at least the Fibonacci number at its depth and one
@@ -115,12 +96,28 @@ IsRootFor t roots (Back r) root = root ≡ root_at roots r
 IsRootFor t roots (Balance r) root = IsNearlyBalanced t root
 IsRootFor t roots _ root = Unit {0}
 
--- a root is built whose cells are what the recorded command gives of those of the earlier roots
+-- ---- commands
+
+-- The terms of a command were put one behind the other, and this is the answer; where it is a root, the bytes that the
+-- terms hand in stand new at these places.
+pub record ChainsTerms (old : Held Coded) (revisions : List Revision) (command : Command) (places : List ℕ)
+    (result : Result (Option NodeId) BalanceFault) (new : Held Coded) : Type 0 where
+  pub chain : Chain (terms_of (table_of coded_byte old) (roots_of revisions) command) old None places result new
+  pub stand : IfOk result (λ _. StandEach old.pool.bytes new.pool.bytes
+      (handed (terms_of (table_of coded_byte old) (roots_of revisions) command)) places)
+
+-- The command's terms are put one behind the other. A root that this gives has the terms' cells, which are what the
+-- recorded command gives of those of the earlier roots.
 pub record BuildsCommand (old : Held Coded) (revisions : List Revision) (command : Command)
-    (result : Result Built BalanceFault) (new : Held Coded) : Type 0 where
-  pub wanted : List Cell
-  pub builds : Builds old wanted (root_alone result) new
-  pub place : IfOk result (λ built. StandNew old.pool.bytes new.pool.bytes built.place (bytes_of command))
-  pub gives : IfOk result (λ built. result_of (givens_of (table_of coded_byte new))
-      (map (rope_cells (table_of coded_byte old)) (roots_of revisions)) (edit_with built.place command) ≡ Some wanted)
-  pub root : IfOk result (λ built. IsRootFor (table_of coded_byte new) (roots_of revisions) command built.root)
+    (result : Result (Option NodeId) BalanceFault) (places : List ℕ) (new : Held Coded) : Type 0 where
+  pub placed : List ℕ
+  pub terms : ChainsTerms old revisions command placed result new
+  pub written : IfOk result (λ _. placed ≡ places)
+  pub builds : Builds old
+      (terms_cells (table_of coded_byte old) (terms_of (table_of coded_byte old) (roots_of revisions) command))
+      result new
+  pub gives : IfOk result (λ root. result_of (givens_of (table_of coded_byte new))
+      (map (rope_cells (table_of coded_byte old)) (roots_of revisions)) (command_with places command)
+      ≡ Some (terms_cells (table_of coded_byte old)
+      (terms_of (table_of coded_byte old) (roots_of revisions) command)))
+  pub root : IfOk result (λ root. IsRootFor (table_of coded_byte new) (roots_of revisions) command root)

@@ -2,13 +2,10 @@
 use Rattle.std.specs.Prelude.{ℕ, List, ◌++◌, codes, Result, Ok, Err}
 use Rattle.node_table.specs.Codes.{fault_code as node_code}
 use Rattle.node_table.specs.declared.fault.NodeFault.{NodeFault}
-use Rattle.node_table.specs.declared.fault.NodeFault.TheVariants as NodeFault
 use Rattle.rebalance.specs.declared.fault.BalanceFault.{BalanceFault}
-use Rattle.rebalance.specs.declared.fault.BalanceFault.TheVariants as BalanceFault
 use Rattle.span_certificate.specs.declared.making.MakeFault.{MakeFault}
-use Rattle.span_certificate.specs.declared.making.MakeFault.TheVariants as MakeFault
 use Rattle.edit_commands.specs.declared.fault.EditFault.{EditFault}
-use Rattle.edit_commands.specs.declared.fault.EditFault.TheVariants.{NoRevision, NoSource, Range, EmptyText, TooManyRevisions, TooManyRows, Node, TooManyPieces, Memory}
+use Rattle.edit_commands.specs.declared.fault.EditFault.TheVariants.{NoRevision, NoSource, Range, EmptyText, TooManyRevisions, TooManyRows, Node, TooManyPieces, SpliceCount, TooManySplices, Memory}
 
 -- want of memory is told as such
 abbrev pub node_fault : NodeFault → EditFault
@@ -37,4 +34,6 @@ fault_code TooManyRevisions = codes "E5"
 fault_code TooManyRows = codes "E6"
 fault_code (Node fault) = codes "E7(" ++ node_code fault ++ codes ")"
 fault_code TooManyPieces = codes "E8"
+fault_code SpliceCount = codes "E9"
+fault_code TooManySplices = codes "E10"
 fault_code Memory = codes "Memory"

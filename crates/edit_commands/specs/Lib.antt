@@ -1,5 +1,6 @@
 pub mod Codes
 pub mod Session
 pub mod Refusals
+pub mod Terms
 pub mod Building
 pub mod Applying

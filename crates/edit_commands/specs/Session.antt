@@ -1,5 +1,5 @@
 -- What a session holds, and what every session keeps to.
-use Rattle.std.specs.Prelude.{◌≡◌, ◌↔◌, ℕ, ◌≤◌, Bool, IsTrue, List, length, map, take, get_or, slice_get, Option, Some, None}
+use Rattle.std.specs.Prelude.{◌≡◌, ◌↔◌, ℕ, ◌≤◌, Bool, IsTrue, List, [], length, map, take, get_or, slice_get, Option, Some, None}
 use Rattle.std.specs.Option.{option_map}
 use Rattle.std.specs.List.{range_with_len, sum_by}
 use Rattle.function_leaf.specs.declared.coded.Coded.{Coded}
@@ -10,13 +10,16 @@ use Rattle.rope_node.specs.Balance.{IsBalancedRope}
 use Rattle.rope_node.specs.Denotes.{Cell, rope_cells, rope_len, IsRope, text}
 use Rattle.node_table.specs.Held.{Held, table_of, coded_at}
 use Rattle.span_certificate.specs.declared.edit.Edit.{Edit}
+use Rattle.span_certificate.specs.declared.edit.Edit.TheVariants.{Many}
+use Rattle.span_certificate.specs.declared.edit.Splice.{Splice}
 use Rattle.span_certificate.specs.declared.part.Part.{Part}
 use Rattle.span_certificate.specs.declared.row.Row.{Row}
-use Rattle.span_certificate.specs.Commands.{Givens, IsHistory}
+use Rattle.span_certificate.specs.Commands.{FullEdit, Givens, IsHistory, with_splices}
 use Rattle.span_certificate.specs.Covers.{CoversAlways, MeetsNoSource}
 use Rattle.span_certificate.specs.declared.making.TheConstants.{ROWS_LIMIT}
 use Rattle.span_certificate.specs.Parts.{givens_of, parts_of, IsInRange}
 use Rattle.edit_commands.specs.declared.revision.Revision.{Revision}
+use Rattle.span_certificate.specs.declared.edit.TheConstants.{SPLICES_LIMIT}
 use Rattle.span_certificate.specs.declared.edit.TheConstants.{MOST_REVISIONS}
 
 -- the store, and the revisions
@@ -27,8 +30,12 @@ pub record SessionValue : Type 0 where
 abbrev pub session_table : SessionValue → Table
 session_table v = table_of coded_byte v.held
 
-abbrev pub edits_of : List Revision → List Edit
-edits_of revisions = map (λ (r : Revision). r.edit) revisions
+-- what a revision's command says
+abbrev pub command_of : Revision → FullEdit
+command_of r = with_splices r.splices.items r.edit
+
+abbrev pub commands_of : List Revision → List FullEdit
+commands_of revisions = map command_of revisions
 
 abbrev pub roots_of : List Revision → List (Option NodeId)
 roots_of revisions = map (λ (r : Revision). r.root) revisions
@@ -36,6 +43,10 @@ roots_of revisions = map (λ (r : Revision). r.root) revisions
 -- how many rows all of them have
 abbrev pub rows_held : List Revision → ℕ
 rows_held revisions = sum_by (λ (r : Revision). length r.rows.items) revisions
+
+-- and how many splices
+abbrev pub splices_held : List Revision → ℕ
+splices_held revisions = sum_by (λ (r : Revision). length r.splices.items) revisions
 
 -- the cells of each revision's root, its text over the sources' bytes, and its length
 abbrev pub cells_of : SessionValue → List (List Cell)
@@ -57,12 +68,19 @@ text_givens source t = record {
 
 -- the parts of a revision's command, where these are the revisions before it
 abbrev pub parts_behind : Table → List Revision → Revision → List Part
-parts_behind t before r = parts_of t (roots_of before) r.edit
+parts_behind t before r = parts_of t (roots_of before) (command_of r)
 
--- Behind these revisions: its command is in range; its root is a rope, and marked exactly where it is balanced; its
--- rows cover the command's parts and the root whatever the sources hold, and none that compares bytes is over a source.
+-- a recorded command names these splices, which stand behind so many others
+abbrev pub NamesThese : ℕ → List Splice → Edit → Type 0
+NamesThese earlier splices (Many r first count) = (first ≡ earlier) × (count ≡ length splices)
+NamesThese earlier splices _ = splices ≡ []
+
+-- Behind these revisions: its command is in range, and names its splices; its root is a rope, and marked exactly where
+-- it is balanced; its rows cover the command's parts and the root whatever the sources hold, and none that compares
+-- bytes is over a source.
 pub record IsRevision (h : Held Coded) (before : List Revision) (r : Revision) : Type 0 where
-  pub range : IsInRange (table_of coded_byte h) (roots_of before) r.edit
+  pub range : IsInRange (table_of coded_byte h) (roots_of before) (command_of r)
+  pub names : NamesThese (splices_held before) r.splices.items r.edit
   pub root : IsRope (table_of coded_byte h) r.root
   pub mark : IsTrue r.mark ↔ IsBalancedRope (table_of coded_byte h) r.root
   pub rows : CoversAlways (table_of coded_byte h) (coded_at h)
@@ -74,17 +92,18 @@ pub record IsRevision (h : Held Coded) (before : List Revision) (r : Revision) :
 abbrev pub AreRevisions : Held Coded → List Revision → Type 0
 AreRevisions h revisions = (k : ℕ) (r : Revision) → slice_get revisions k ≡ Some r → IsRevision h (take k revisions) r
 
--- every session's revisions are, and there are not too many, nor too many rows
+-- every session's revisions are, and there are not too many, nor too many rows or splices
 pub record IsSession (v : SessionValue) : Type 0 where
   pub each : AreRevisions v.held v.revisions
   pub few : length v.revisions ≤ MOST_REVISIONS
   pub few_rows : rows_held v.revisions ≤ ROWS_LIMIT
+  pub few_splices : splices_held v.revisions ≤ SPLICES_LIMIT
 
 -- The cells of the roots are the history of the commands, and so are the texts, whatever the sources hold; a revision's
 -- length is its text's.
 pub record HoldsHistory (v : SessionValue) : Type 0 where
-  pub cells : IsHistory (givens_of (session_table v)) (edits_of v.revisions) (cells_of v)
-  pub texts : (source : ℕ → ℕ → ℕ) → IsHistory (text_givens source (session_table v)) (edits_of v.revisions)
+  pub cells : IsHistory (givens_of (session_table v)) (commands_of v.revisions) (cells_of v)
+  pub texts : (source : ℕ → ℕ → ℕ) → IsHistory (text_givens source (session_table v)) (commands_of v.revisions)
       (texts_of source v)
   pub lengths : map length (cells_of v) ≡ map (rope_len (session_table v)) (roots_of v.revisions)
 
@@ -99,3 +118,6 @@ edit_of v k = option_map (λ (r : Revision). r.edit) (slice_get v.revisions k)
 
 abbrev pub rows_of : SessionValue → ℕ → Option (List Row)
 rows_of v k = option_map (λ (r : Revision). r.rows.items) (slice_get v.revisions k)
+
+abbrev pub splices_of : SessionValue → ℕ → Option (List Splice)
+splices_of v k = option_map (λ (r : Revision). r.splices.items) (slice_get v.revisions k)

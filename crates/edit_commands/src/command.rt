@@ -1,5 +1,13 @@
 //! Commands as they are handed in.
 
+/// The next `n` of the bytes handed in, to stand in place of the `m` bytes of a text from place `p` on.
+#[derive(Clone, Copy, Debug, PartialEq, Eq)]
+pub struct Change {
+    pub p: u64,
+    pub m: u64,
+    pub n: u64,
+}
+
 /// A command on a session. A revision is named by its number; places and lengths are in bytes.
 #[derive(Clone, Copy, Debug, PartialEq, Eq)]
 pub enum Command<'a> {
@@ -61,5 +69,12 @@ pub enum Command<'a> {
     /// The text of revision `r`, its rope balanced.
     Balance {
         r: u32,
+    },
+    /// The text of revision `r` with all of these changes, whose places are those of that text. They take these
+    /// bytes, one behind the other, and leave none.
+    Many {
+        r: u32,
+        changes: &'a [Change],
+        bytes: &'a [u8],
     },
 }

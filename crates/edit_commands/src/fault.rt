@@ -13,9 +13,9 @@ pub enum EditFault {
     NoRevision,
     /// `E2`: the session has no such source.
     NoSource,
-    /// `E3`: a place or a span is not inside its text.
+    /// `E3`: a place or a span is not inside its text, or changes are out of order.
     Range,
-    /// `E4`: no bytes were handed in.
+    /// `E4`: no bytes were handed in, or a change changes nothing.
     EmptyText,
     /// `E5`: there are 1,048,576 revisions already.
     TooManyRevisions,
@@ -25,6 +25,10 @@ pub enum EditFault {
     Node(NodeFault),
     /// `E8`: the text of a rope goes through more than 1,048,576 pieces.
     TooManyPieces,
+    /// `E9`: there is no change, or there are more than 4,096.
+    SpliceCount,
+    /// `E10`: the session's splices would be more than 16,777,216.
+    TooManySplices,
     /// Memory was refused.
     Memory,
 }
@@ -71,8 +75,8 @@ impl From<MakeFault> for EditFault {
     }
 }
 
-/// The code that a program prints: `E1` to `E6`, `E7` with the store's refusal as in `E7(N1)`, `E8`, or
-/// `Memory`.
+/// The code that a program prints: `E1` to `E6`, `E7` with the store's refusal as in `E7(N1)`, `E8` to
+/// `E10`, or `Memory`.
 impl fmt::Display for EditFault {
     ghost use Rattle.std.specs.Prelude.{Some};
     ghost use Rattle.edit_commands.specs.Codes.{fault_code};
@@ -89,6 +93,8 @@ impl fmt::Display for EditFault {
             EditFault::TooManyRows => f.write_str("E6"),
             EditFault::Node(fault) => write!(f, "E7({fault})"),
             EditFault::TooManyPieces => f.write_str("E8"),
+            EditFault::SpliceCount => f.write_str("E9"),
+            EditFault::TooManySplices => f.write_str("E10"),
             EditFault::Memory => f.write_str("Memory"),
         }
     }

@@ -8,7 +8,8 @@ mod refusing;
 mod revising;
 mod revision;
 mod session;
+mod term;
 
-pub use command::Command;
+pub use command::{Change, Command};
 pub use fault::EditFault;
 pub use session::Session;

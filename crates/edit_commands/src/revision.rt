@@ -1,12 +1,13 @@
 //! What a session keeps of a revision.
 
 use rope_node::Rope;
-use span_certificate::{Edit, Roots, Row};
+use span_certificate::{Edit, Roots, Row, Splice};
 
-/// A revision: its command, its root, whether the root is balanced, and its rows.
+/// A revision: its command, the splices that the command names, its root, whether the root is balanced, and its rows.
 #[derive(Drop)]
 pub struct Revision {
     pub edit: Edit,
+    pub splices: Vec<Splice>,
     pub root: Rope,
     pub mark: bool,
     pub rows: Vec<Row>,

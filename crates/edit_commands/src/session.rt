@@ -4,7 +4,8 @@ ghost use Rattle.std.specs.Prelude.{◌≡◌, [], length};
 ghost use Rattle.std.specs.Option.{option_map};
 ghost use Rattle.node_table.specs.Held.{held_of};
 ghost use Rattle.edit_commands.specs.Session.{SessionValue, IsSession, HoldsHistory};
-ghost use Rattle.edit_commands.specs.Session.{root_of, mark_of, edit_of, rows_of};
+ghost use Rattle.edit_commands.specs.Session.{root_of, mark_of, edit_of, rows_of, splices_of};
+ghost use Rattle.edit_commands.specs.Refusals.{TakesAll};
 ghost use Rattle.edit_commands.specs.Applying.{AppliesOrNot, AddsSourceOrNot};
 
 use crate::command::Command;
@@ -15,7 +16,7 @@ use crate::revision::Revision;
 use function_leaf::Coded;
 use rope_node::{NodeSpace, Rope};
 use rope_store::Store;
-use span_certificate::{Edit, ROWS_LIMIT, Roots, Row};
+use span_certificate::{Edit, ROWS_LIMIT, Roots, Row, Splice};
 use std::alloc::Global;
 use std::marker::Model;
 
@@ -26,20 +27,22 @@ pub struct Session {
     alloc: Global,
     store: Store<Coded>,
     revisions: Vec<Revision>,
-    /// How many rows they have together.
+    /// How many rows they have together, and how many splices.
     row_count: usize,
+    splice_count: usize,
 }
 
 impl Model for Session {
     ghost use Rattle.std.specs.Prelude.{◌≡◌};
-    ghost use Rattle.edit_commands.specs.Session.{SessionValue, IsSession, rows_held};
+    ghost use Rattle.edit_commands.specs.Session.{SessionValue, IsSession, rows_held, splices_held};
 
     ghost Value = { SessionValue };
 
     ghost view = { λ a. record { held = a.store; revisions = a.revisions.items } };
 
     ghost invariant = { λ a. IsSession (record { held = a.store; revisions = a.revisions.items })
-        × (a.row_count ≡ rows_held a.revisions.items) };
+        × (a.row_count ≡ rows_held a.revisions.items)
+        × (a.splice_count ≡ splices_held a.revisions.items) };
 }
 
 impl Session {
@@ -54,6 +57,7 @@ impl Session {
             store: Store::new(alloc),
             revisions: Vec::new(alloc),
             row_count: 0,
+            splice_count: 0,
         }
     }
 
@@ -75,23 +79,33 @@ impl Session {
     ///
     /// # Errors
     ///
-    /// Before anything changes, the first that there is of `NoRevision`, `NoSource`, `Range`, `EmptyText`,
-    /// `TooManyRevisions`, and `Node` with `TooLong` where the text would have 2^40 bytes or more or more than
-    /// 65,536 were handed in. Else what is met on the way: `Node` with `TableFull` or `PoolFull`, `TooManyPieces`,
+    /// Before anything changes, the first that there is of `NoRevision`, `SpliceCount`, `NoSource`, `Range`, `EmptyText`,
+    /// `TooManyRevisions`, `TooManySplices`, and `Node` with `TooLong` where the text would have 2^40 bytes or more or more than
+    /// 65,536 were handed in at once, for `Many` by one change. Else what is met on the way: `Node` with `TableFull` or `PoolFull`, `TooManyPieces`,
     /// `TooManyRows`, `Memory`. Every earlier revision is then as before.
     pub fn apply(&mut self, command: Command<'_>) -> Result<u32, EditFault>
+        requires { TakesAll command }
         ensures { AppliesOrNot self.old command.entry result self.new }
     {
-        if let Some(fault) = refusal(&self.store, &self.revisions, &command) {
+        if let Some(fault) = refusal(&self.store, &self.revisions, self.splice_count, &command) {
             return Err(fault);
         }
         let room = ROWS_LIMIT - self.row_count;
-        let revision = revise(self.alloc, &mut self.store, &self.revisions, room, &command)?;
-        let (number, rows) = (self.revisions.len() as u32, revision.rows.len());
+        let revision = revise(
+            self.alloc,
+            &mut self.store,
+            &self.revisions,
+            self.splice_count,
+            room,
+            &command,
+        )?;
+        let number = self.revisions.len() as u32;
+        let (rows, splices) = (revision.rows.len(), revision.splices.len());
         self.revisions
             .push(revision)
             .map_err(|_| EditFault::Memory)?;
         self.row_count += rows;
+        self.splice_count += splices;
         Ok(number)
     }
 
@@ -132,6 +146,14 @@ impl Session {
         ensures { option_map (λ rows. rows.now) result ≡ rows_of self.now k }
     {
         Some(&self.revisions.get(k as usize)?.rows)
+    }
+
+    /// The splices that the command of revision `k` names, where there is such a revision: none for another command
+    /// than `Many`.
+    pub fn splices(&self, k: u32) -> Option<&[Splice]>
+        ensures { option_map (λ splices. splices.now) result ≡ splices_of self.now k }
+    {
+        Some(&self.revisions.get(k as usize)?.splices)
     }
 
     /// The store that the roots stand in.

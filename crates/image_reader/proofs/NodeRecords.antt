@@ -13,7 +13,7 @@ use Rattle.image_reader.specs.Reading.{kind_in, view_of, function_of, image_node
 use Rattle.image_reader.proofs.Faults.{else_none, fault_if_none, zero_first, are_zero}
 use Rattle.image_reader.proofs.Fields.{AreWide, FitFields, wide8, wide32, wide64, number_in_small, numbers_from, spelled_whole, numbers_whole, length-spelled}
 use Rattle.image_reader.proofs.FunctionRecords.{function_len, function_again, function_back}
-use Rattle.image_reader.proofs.Records.{IsRecord}
+use Rattle.image_reader.proofs.RecordLaws.{IsRecord}
 
 span_wide : AreWide span_layout
 span_wide = (wide8, (wide8, (wide8, (wide8, (wide32, (wide64, (wide64, (wide64, tt))))))))

@@ -8,7 +8,7 @@ use Rattle.image_reader.specs.Layout.{IsBytes, records}
 use Rattle.image_reader.specs.Reading.{first_fault}
 use Rattle.image_reader.proofs.Faults.{else_none}
 use Rattle.image_reader.proofs.Fields.{IsBytes-drop, IsBytes-take}
-use Rattle.image_reader.proofs.Records.{IsRecord}
+use Rattle.image_reader.proofs.RecordLaws.{IsRecord}
 
 pub section_back : {X : Type 0} (of : List ℕ → X) (spell : X → List ℕ) (fault : List ℕ → Option ReadFault) (Fits : X → Type 0) (size : ℕ) → IsRecord of spell fault Fits size → (n : ℕ) (bytes : List ℕ) → size * n ≤ length bytes → IsBytes bytes → first_fault fault (records size n bytes) ≡ None
     → AllByRecursion Fits (map of (records size n bytes)) × (bytes ≡ flat_map spell (map of (records size n bytes)) ++ drop (size * n) bytes)

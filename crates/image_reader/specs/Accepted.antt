@@ -1,16 +1,17 @@
 -- What an image needs to be accepted: rules of its sources, its nodes and its revisions, each by what is recorded.
-use Rattle.std.specs.Prelude.{◌≡◌, ◌≢◌, All, ℕ, ◌<◌, true, false, List, length, map, take, drop, get_or, Option, None}
+use Rattle.std.specs.Prelude.{◌≡◌, ℕ, ◌<◌, true, false, List, length, map, take, drop, get_or, Option, None}
 use Rattle.std.specs.List.{sum_by}
 use Rattle.rope_node.specs.declared.node.NodeId.{NodeId}
 use Rattle.rope_node.specs.Table.{Table, node_at, IsSoundNode, IsTrueNode}
-use Rattle.rope_node.specs.Denotes.{rope_len, IsRope}
+use Rattle.rope_node.specs.Denotes.{Cell, rope_len, IsRope}
 use Rattle.rope_node.specs.Balance.{IsBalancedRope}
+use Rattle.span_certificate.specs.Commands.{FullEdit, full_edit}
 use Rattle.span_certificate.specs.declared.edit.Edit.TheVariants.{New}
 use Rattle.span_certificate.specs.declared.part.Part.{Part}
 use Rattle.span_certificate.specs.declared.row.Row.{Row}
-use Rattle.span_certificate.specs.declared.row.RowKind.TheVariants.{Bytes}
+use Rattle.span_certificate.specs.Fields.{splices_of}
 use Rattle.span_certificate.specs.Parts.{parts_of, parts_len, IsInRange}
-use Rattle.span_certificate.specs.Covers.{Covers}
+use Rattle.span_certificate.specs.Covers.{CoversBy, SameOver}
 use Rattle.image_reader.specs.declared.revision.Revision.{Revision}
 use Rattle.image_reader.specs.Value.{ImageValue, image_table, coded_at}
 
@@ -40,9 +41,17 @@ revision_at v k = get_or v.revisions k no_revision
 abbrev pub roots_before : ImageValue → ℕ → List (Option NodeId)
 roots_before v k = map (λ (r : Revision). r.root) (take k v.revisions)
 
+-- what the command of revision k says
+abbrev pub command_at : ImageValue → ℕ → FullEdit
+command_at v k = full_edit v.splices (revision_at v k).edit
+
 -- the parts of revision k's command
 abbrev pub parts_at : ImageValue → ℕ → List Part
-parts_at v k = parts_of (image_table v) (roots_before v k) (revision_at v k).edit
+parts_at v k = parts_of (image_table v) (roots_before v k) (command_at v k)
+
+-- how many splices the revisions before k have
+abbrev pub splices_before : ImageValue → ℕ → ℕ
+splices_before v k = sum_by (λ (r : Revision). splices_of r.edit) (take k v.revisions)
 
 -- how many rows the revisions before k have, and the rows of revision k
 abbrev pub rows_before : ImageValue → ℕ → ℕ
@@ -61,34 +70,30 @@ HasGoodMark t r = r.mark ≡ true → IsBalancedRope t r.root
 
 -- the command is in range, the root is as long as the command's parts, and a mark stands on a balanced root
 pub record KeepsRules (v : ImageValue) (k : ℕ) : Type 0 where
-  pub command : IsInRange (image_table v) (roots_before v k) (revision_at v k).edit
+  pub command : IsInRange (image_table v) (roots_before v k) (command_at v k)
   pub root : HasGoodRoot (image_table v) (revision_at v k).root (parts_len (parts_at v k))
   pub mark : HasGoodMark (image_table v) (revision_at v k)
 
--- its rows cover the command's parts and the root, over these bytes of the sources
-abbrev pub HasGoodRows : ImageValue → (ℕ → ℕ → ℕ) → ℕ → Type 0
-HasGoodRows v source k = Covers (image_table v) (coded_at v) source (parts_at v k) (revision_at v k).root (rows_at v k)
+-- its rows cover the command's parts and the root, where bytes are the same as Same says of their cells
+abbrev pub HasGoodRows : ImageValue → (List Cell → List Cell → Type 0) → ℕ → Type 0
+HasGoodRows v Same k = CoversBy (image_table v) (coded_at v) Same (parts_at v k) (revision_at v k).root (rows_at v k)
 
 -- a revision that breaks no rule
-pub record IsGoodRevision (v : ImageValue) (source : ℕ → ℕ → ℕ) (k : ℕ) : Type 0 where
+pub record IsGoodRevision (v : ImageValue) (Same : List Cell → List Cell → Type 0) (k : ℕ) : Type 0 where
   pub rules : KeepsRules v k
-  pub rows : HasGoodRows v source k
+  pub rows : HasGoodRows v Same k
 
-abbrev pub AreGoodRevisions : ImageValue → (ℕ → ℕ → ℕ) → Type 0
-AreGoodRevisions v source = (k : ℕ) → k < length v.revisions → IsGoodRevision v source k
+abbrev pub AreGoodRevisions : ImageValue → (List Cell → List Cell → Type 0) → Type 0
+AreGoodRevisions v Same = (k : ℕ) → k < length v.revisions → IsGoodRevision v Same k
 
 -- ---- images
 
--- with sources of these lengths and bytes
-pub record IsAcceptedWith (v : ImageValue) (sizes : List ℕ) (source : ℕ → ℕ → ℕ) : Type 0 where
+-- with sources of these lengths
+pub record IsAcceptedWith (v : ImageValue) (sizes : List ℕ) (Same : List Cell → List Cell → Type 0) : Type 0 where
   pub sources : HasSources v sizes
   pub nodes : AreGoodNodes (image_table v)
-  pub revisions : AreGoodRevisions v source
+  pub revisions : AreGoodRevisions v Same
 
 -- with sources of these lengths, whatever bytes they hold
 abbrev pub IsAlwaysAccepted : ImageValue → List ℕ → Type 0
-IsAlwaysAccepted v sizes = (source : ℕ → ℕ → ℕ) → IsAcceptedWith v sizes source
-
--- none of its rows is one of bytes
-abbrev pub ComparesNoBytes : List Row → Type 0
-ComparesNoBytes rows = All (λ (r : Row). r.kind ≢ Bytes) rows
+IsAlwaysAccepted v sizes = (source : ℕ → ℕ → ℕ) → IsAcceptedWith v sizes (SameOver source)

@@ -1,6 +1,7 @@
 pub mod Layout
+pub mod Versions
 pub mod Value
 pub mod Spelling
 pub mod Reading
 pub mod Accepted
-pub mod Outlines
+pub mod Looks

@@ -1,5 +1,5 @@
 -- What bytes say when they are read by fixed places, and which fault they have first.
-use Rattle.std.specs.Prelude.{◌≡◌, ℕ, ◌+◌, ◌*◌, ◌≤◌, Bool, false, not, ◌||◌, ◌&&◌, ◌==◌, nat_lt, List, [], ◌∷◌, length, map, take, drop, Option, Some, None, if◌then◌else◌, codes}
+use Rattle.std.specs.Prelude.{◌≡◌, ℕ, ◌+◌, ◌*◌, ◌≤◌, Bool, false, not, ◌||◌, ◌&&◌, ◌==◌, nat_lt, List, [], ◌∷◌, ◌++◌, length, map, take, drop, Option, Some, None, if◌then◌else◌, codes}
 use Rattle.std.specs.List.{sum_by}
 use Rattle.std.specs.Int.{w8, w16, w32, w64}
 use Rattle.rope_node.specs.declared.node.NodeId.{NodeId}
@@ -9,6 +9,7 @@ use Rattle.function_leaf.specs.declared.coded.Coded.{Coded}
 use Rattle.function_leaf.specs.declared.coded.Coded.TheVariants.{Fill, Ramp, Cycle}
 use Rattle.function_leaf.specs.declared.pattern.TheConstants.{PATTERN_LIMIT}
 use Rattle.span_certificate.specs.declared.edit.Edit.{Edit}
+use Rattle.span_certificate.specs.declared.edit.Splice.{Splice}
 use Rattle.span_certificate.specs.declared.row.Row.{Row}
 use Rattle.span_certificate.specs.declared.row.RowKind.{RowKind}
 use Rattle.span_certificate.specs.declared.row.RowKind.TheVariants.{Shared, Leaf, Bytes}
@@ -18,12 +19,15 @@ use Rattle.image_reader.specs.declared.fault.ReadFault.{ReadFault}
 use Rattle.image_reader.specs.declared.fault.ReadFault.TheVariants.{Truncated, Trailing, Magic, Version, Count, NonZeroPad, Kind}
 use Rattle.image_reader.specs.declared.header.Header.{Header}
 use Rattle.image_reader.specs.declared.revision.Revision.{Revision}
+use Rattle.image_reader.specs.declared.version.FormatVersion.{FormatVersion}
 use Rattle.image_reader.specs.Layout.{number_in, records}
-use Rattle.span_certificate.specs.declared.codes.TheConstants.{BALANCE, NEW}
-use Rattle.span_certificate.specs.declared.edit.TheConstants.{MOST_REVISIONS}
-use Rattle.image_reader.specs.declared.header.TheConstants.{MAGIC, MOST_POOL, VERSION}
+use Rattle.image_reader.specs.Versions.{version_by, last_code, is_two}
+use Rattle.span_certificate.specs.declared.codes.TheConstants.{MANY, NEW}
+use Rattle.span_certificate.specs.declared.edit.TheConstants.{MOST_REVISIONS, SPLICES_LIMIT}
+use Rattle.image_reader.specs.declared.header.TheConstants.{MAGIC, MOST_POOL}
+use Rattle.image_reader.specs.declared.version.TheConstants.{VERSION_ONE, VERSION_TWO}
 use Rattle.image_reader.specs.declared.codes.TheConstants.{BYTES_ROW, CONCATENATION, CYCLE, FILL, FUNCTION, LEAF_ROW, LITERAL, RAMP, SHARED_ROW, SOURCE_SPAN, SUBSTRING}
-use Rattle.image_reader.specs.declared.layout.TheConstants.{HEADER_SIZE, NODE_SIZE, REVISION_SIZE, ROW_SIZE, SOURCE_SIZE}
+use Rattle.image_reader.specs.declared.layout.TheConstants.{HEADER_SIZE, NODE_SIZE, REVISION_SIZE, ROW_SIZE, SOURCE_SIZE, SPLICE_SIZE}
 use Rattle.span_certificate.specs.declared.making.TheConstants.{ROWS_LIMIT}
 use Rattle.image_reader.specs.declared.decode.TheConstants.{NIL_ROOT}
 use Rattle.rope_node.specs.declared.limits.TheConstants.{MOST_NODES, MOST_SOURCES, TEXT_LIMIT}
@@ -88,18 +92,46 @@ numbers_in bytes = record {
   n = number_in w64 40 bytes;
 }
 
-abbrev pub edit_of : List ℕ → Edit
-edit_of bytes = edit_by (command_code_in bytes) (field_of (numbers_in bytes))
+-- the command of a revision, where the revisions before it have so many splices
+abbrev pub edit_of : ℕ → List ℕ → Edit
+edit_of first bytes = edit_by first (command_code_in bytes) (field_of (numbers_in bytes))
 
 abbrev pub root_of : ℕ → Option NodeId
 root_of n = if n == NIL_ROOT then None else Some (id_of n)
 
-unfoldable pub revision_of : List ℕ → Revision
-revision_of bytes = record {
-  edit = edit_of bytes;
-  mark = number_in w8 1 bytes == 1;
-  root = root_of (number_in w32 4 bytes);
-  rows = number_in w32 48 bytes;
+abbrev pub root_in : List ℕ → Option NodeId
+root_in bytes = root_of (number_in w32 4 bytes)
+
+abbrev pub is_marked : List ℕ → Bool
+is_marked bytes = number_in w8 1 bytes == 1
+
+-- how many rows it has
+abbrev pub rows_in : List ℕ → ℕ
+rows_in bytes = number_in w32 48 bytes
+
+-- how many splices it has
+abbrev pub splices_in : List ℕ → ℕ
+splices_in bytes = if command_code_in bytes == MANY then number_in w32 12 bytes else 0
+
+unfoldable pub revision_of : ℕ → List ℕ → Revision
+revision_of first bytes = record {
+  edit = edit_of first bytes;
+  mark = is_marked bytes;
+  root = root_in bytes;
+  rows = rows_in bytes;
+}
+
+-- the revisions of some records, each of which knows how many splices those before it have
+unfoldable pub revisions_of : ℕ → List (List ℕ) → List Revision
+revisions_of first [] = []
+revisions_of first (x ∷ xs) = revision_of first x ∷ revisions_of (first + splices_in x) xs
+
+unfoldable pub splice_of : List ℕ → Splice
+splice_of bytes = record {
+  p = number_in w64 0 bytes;
+  m = number_in w64 8 bytes;
+  a = number_in w64 16 bytes;
+  n = number_in w64 24 bytes;
 }
 
 -- what a row is
@@ -116,6 +148,9 @@ row_of bytes = record { len = number_in w64 8 bytes; kind = row_kind_of bytes }
 
 -- ---- the numbers of the header
 
+abbrev pub version_in : List ℕ → FormatVersion
+version_in bytes = version_by (number_in w32 8 bytes)
+
 abbrev pub source_count : List ℕ → ℕ
 source_count bytes = number_in w32 12 bytes
 
@@ -128,30 +163,33 @@ revision_count bytes = number_in w32 20 bytes
 abbrev pub row_count : List ℕ → ℕ
 row_count bytes = number_in w32 24 bytes
 
+abbrev pub splice_count : List ℕ → ℕ
+splice_count bytes = number_in w32 28 bytes
+
 abbrev pub pool_len : List ℕ → ℕ
 pool_len bytes = number_in w64 32 bytes
-
--- where the pool begins
-unfoldable pub pool_place : List ℕ → ℕ
-pool_place bytes =
-    HEADER_SIZE + SOURCE_SIZE * source_count bytes + NODE_SIZE * node_count bytes + REVISION_SIZE * revision_count bytes
-    + ROW_SIZE * row_count bytes
 
 -- the whole length that the header states
 unfoldable pub stated_len : List ℕ → ℕ
 stated_len bytes =
     HEADER_SIZE + SOURCE_SIZE * source_count bytes + NODE_SIZE * node_count bytes + REVISION_SIZE * revision_count bytes
-    + ROW_SIZE * row_count bytes + pool_len bytes
+    + SPLICE_SIZE * splice_count bytes + ROW_SIZE * row_count bytes + pool_len bytes
 
--- a header holds the numbers of these bytes, which are as many as it states
+-- the same length by the numbers of a header
+abbrev pub whole_len : Header → ℕ
+whole_len h =
+    HEADER_SIZE + SOURCE_SIZE * h.sources + NODE_SIZE * h.nodes + REVISION_SIZE * h.revisions + SPLICE_SIZE * h.splices
+    + ROW_SIZE * h.rows + h.pool
+
+-- a header holds the numbers of these bytes
 pub record HasHeader (bytes : List ℕ) (h : Header) : Type 0 where
+  pub version : h.version ≡ version_in bytes
   pub sources : h.sources ≡ source_count bytes
   pub nodes : h.nodes ≡ node_count bytes
   pub revisions : h.revisions ≡ revision_count bytes
+  pub splices : h.splices ≡ splice_count bytes
   pub rows : h.rows ≡ row_count bytes
   pub pool : h.pool ≡ pool_len bytes
-  pub whole : length bytes ≡ HEADER_SIZE + SOURCE_SIZE * h.sources + NODE_SIZE * h.nodes + REVISION_SIZE * h.revisions
-      + ROW_SIZE * h.rows + h.pool
 
 -- ---- where each section begins, and what is from there on
 
@@ -164,35 +202,44 @@ from_nodes bytes = drop (SOURCE_SIZE * source_count bytes) (from_sources bytes)
 abbrev pub from_revisions : List ℕ → List ℕ
 from_revisions bytes = drop (NODE_SIZE * node_count bytes) (from_nodes bytes)
 
+abbrev pub from_splices : List ℕ → List ℕ
+from_splices bytes = drop (REVISION_SIZE * revision_count bytes) (from_revisions bytes)
+
 abbrev pub from_rows : List ℕ → List ℕ
-from_rows bytes = drop (REVISION_SIZE * revision_count bytes) (from_revisions bytes)
+from_rows bytes = drop (SPLICE_SIZE * splice_count bytes) (from_splices bytes)
 
 abbrev pub from_pool : List ℕ → List ℕ
 from_pool bytes = drop (ROW_SIZE * row_count bytes) (from_rows bytes)
 
 -- the bytes from each section on are enough for its records
-pub record HasRoom (s : ℕ) (sources : List ℕ) (n : ℕ) (nodes : List ℕ) (k : ℕ) (revisions : List ℕ) (j : ℕ)
-    (rows : List ℕ) : Type 0 where
+pub record HasRoom (s : ℕ) (sources : List ℕ) (n : ℕ) (nodes : List ℕ) (k : ℕ) (revisions : List ℕ) (i : ℕ)
+    (splices : List ℕ) (j : ℕ) (rows : List ℕ) : Type 0 where
   pub for_sources : SOURCE_SIZE * s ≤ length sources
   pub for_nodes : NODE_SIZE * n ≤ length nodes
   pub for_revisions : REVISION_SIZE * k ≤ length revisions
+  pub for_splices : SPLICE_SIZE * i ≤ length splices
   pub for_rows : ROW_SIZE * j ≤ length rows
 
 -- what sections say, each given with its number of records and with the bytes from it on
-unfoldable pub sections_value : ℕ → List ℕ → ℕ → List ℕ → ℕ → List ℕ → ℕ → List ℕ → List ℕ → ImageValue
-sections_value source_count sources node_count nodes revision_count revisions row_count rows pool = record {
-  sources = map source_of (records SOURCE_SIZE source_count sources);
-  nodes = map image_node (records NODE_SIZE node_count nodes);
-  revisions = map revision_of (records REVISION_SIZE revision_count revisions);
-  rows = map row_of (records ROW_SIZE row_count rows);
-  pool = pool;
-}
+unfoldable pub sections_value : FormatVersion → ℕ → List ℕ → ℕ → List ℕ → ℕ → List ℕ → ℕ → List ℕ → ℕ → List ℕ → List ℕ
+    → ImageValue
+sections_value version source_count sources node_count nodes revision_count revisions splice_count splices row_count
+    rows pool = record {
+      version = version;
+      sources = map source_of (records SOURCE_SIZE source_count sources);
+      nodes = map image_node (records NODE_SIZE node_count nodes);
+      revisions = revisions_of 0 (records REVISION_SIZE revision_count revisions);
+      splices = map splice_of (records SPLICE_SIZE splice_count splices);
+      rows = map row_of (records ROW_SIZE row_count rows);
+      pool = pool;
+    }
 
 -- what bytes say
 abbrev pub image_of : List ℕ → ImageValue
 image_of bytes =
-    sections_value (source_count bytes) (from_sources bytes) (node_count bytes) (from_nodes bytes)
-    (revision_count bytes) (from_revisions bytes) (row_count bytes) (from_rows bytes) (from_pool bytes)
+    sections_value (version_in bytes) (source_count bytes) (from_sources bytes) (node_count bytes) (from_nodes bytes)
+    (revision_count bytes) (from_revisions bytes) (splice_count bytes) (from_splices bytes) (row_count bytes)
+    (from_rows bytes) (from_pool bytes)
 
 -- ---- faults
 
@@ -220,15 +267,29 @@ is_over_limit bytes =
     nat_lt MOST_SOURCES (source_count bytes)
     || (nat_lt MOST_NODES (node_count bytes)
     || (nat_lt MOST_REVISIONS (revision_count bytes)
-    || (nat_lt ROWS_LIMIT (row_count bytes) || nat_lt MOST_POOL (pool_len bytes))))
+    || (nat_lt ROWS_LIMIT (row_count bytes)
+    || ((is_two (version_in bytes) && nat_lt SPLICES_LIMIT (splice_count bytes))
+    || nat_lt MOST_POOL (pool_len bytes)))))
+
+abbrev pub is_unknown_version : List ℕ → Bool
+is_unknown_version bytes = not (number_in w32 8 bytes == VERSION_ONE) && not (number_in w32 8 bytes == VERSION_TWO)
+
+-- version 1 has zero where version 2 has the number of its splices
+abbrev pub has_header_pad : List ℕ → Bool
+has_header_pad bytes = not (is_two (version_in bytes)) && not (splice_count bytes == 0)
+
+-- the fault that a header has by itself, whatever stands behind it
+unfoldable pub front_fault : List ℕ → Option ReadFault
+front_fault bytes =
+    fault_if (not (number_in w64 0 bytes == MAGIC)) Magic
+    else fault_if (is_unknown_version bytes) Version
+    else fault_if (is_over_limit bytes) Count
+    else fault_if (has_header_pad bytes) NonZeroPad
 
 unfoldable pub header_fault : List ℕ → Option ReadFault
 header_fault bytes =
     fault_if (nat_lt (length bytes) HEADER_SIZE) Truncated
-    else fault_if (not (number_in w64 0 bytes == MAGIC)) Magic
-    else fault_if (not (number_in w32 8 bytes == VERSION)) Version
-    else fault_if (is_over_limit bytes) Count
-    else fault_if (not (number_in w32 28 bytes == 0)) NonZeroPad
+    else front_fault bytes
     else fault_if (nat_lt (length bytes) (stated_len bytes)) Truncated
     else fault_if (nat_lt (stated_len bytes) (length bytes)) Trailing
 
@@ -276,15 +337,16 @@ node_record_fault bytes =
 -- the fields that no revision uses, and those that a command does not use
 abbrev pub unused_in_revision : List ℕ → List ℕ
 unused_in_revision bytes =
-    number_in w16 2 bytes ∷ number_in w32 52 bytes ∷ unused (edit_of bytes) (field_of (numbers_in bytes))
+    number_in w16 2 bytes ∷ number_in w32 52 bytes ∷ unused (edit_of 0 bytes) (field_of (numbers_in bytes))
 
-abbrev pub is_unknown_revision : List ℕ → Bool
-is_unknown_revision bytes =
-    nat_lt (command_code_in bytes) NEW || (nat_lt BALANCE (command_code_in bytes) || nat_lt 1 (number_in w8 1 bytes))
+-- where `last` is the highest code of a command
+abbrev pub is_unknown_revision : ℕ → List ℕ → Bool
+is_unknown_revision last bytes =
+    nat_lt (command_code_in bytes) NEW || (nat_lt last (command_code_in bytes) || nat_lt 1 (number_in w8 1 bytes))
 
-unfoldable pub revision_record_fault : List ℕ → Option ReadFault
-revision_record_fault bytes =
-    fault_if (is_unknown_revision bytes) Kind
+unfoldable pub revision_record_fault : ℕ → List ℕ → Option ReadFault
+revision_record_fault last bytes =
+    fault_if (is_unknown_revision last bytes) Kind
     else fault_if (any_nonzero (unused_in_revision bytes)) NonZeroPad
 
 -- the fields that no row uses, and those that a row without a node does not use
@@ -300,24 +362,46 @@ row_record_fault bytes =
 
 -- the rows that revisions have in all
 unfoldable pub counted_rows : ℕ → List ℕ → ℕ
-counted_rows count revisions =
-    sum_by (λ (r : Revision). r.rows) (map revision_of (records REVISION_SIZE count revisions))
+counted_rows count revisions = sum_by rows_in (records REVISION_SIZE count revisions)
+
+-- and the splices
+unfoldable pub counted_splices : ℕ → List ℕ → ℕ
+counted_splices count revisions = sum_by splices_in (records REVISION_SIZE count revisions)
 
 -- the first fault of sections, each given with its number of records and with the bytes from it on
-unfoldable pub sections_fault : ℕ → List ℕ → ℕ → List ℕ → ℕ → List ℕ → ℕ → List ℕ → Option ReadFault
-sections_fault source_count sources node_count nodes revision_count revisions row_count rows =
+unfoldable pub sections_fault : FormatVersion → ℕ → List ℕ → ℕ → List ℕ → ℕ → List ℕ → ℕ → ℕ → List ℕ → Option ReadFault
+sections_fault version source_count sources node_count nodes revision_count revisions splice_count row_count rows =
     first_fault source_record_fault (records SOURCE_SIZE source_count sources)
     else first_fault node_record_fault (records NODE_SIZE node_count nodes)
-    else first_fault revision_record_fault (records REVISION_SIZE revision_count revisions)
+    else first_fault (revision_record_fault (last_code version)) (records REVISION_SIZE revision_count revisions)
     else fault_if (not (counted_rows revision_count revisions == row_count)) Count
+    else fault_if (not (counted_splices revision_count revisions == splice_count)) Count
     else first_fault row_record_fault (records ROW_SIZE row_count rows)
 
 -- the first fault of bytes that are no image
 unfoldable pub fault_of : List ℕ → Option ReadFault
 fault_of bytes =
     header_fault bytes
-    else sections_fault (source_count bytes) (from_sources bytes) (node_count bytes) (from_nodes bytes)
-    (revision_count bytes) (from_revisions bytes) (row_count bytes) (from_rows bytes)
+    else sections_fault (version_in bytes) (source_count bytes) (from_sources bytes) (node_count bytes)
+    (from_nodes bytes) (revision_count bytes) (from_revisions bytes) (splice_count bytes) (row_count bytes)
+    (from_rows bytes)
+
+-- ---- how many bytes tell the first fault
+
+abbrev pub judged_by : Option ReadFault → ℕ → ℕ
+judged_by None stated = stated + 1
+judged_by (Some fault) stated = HEADER_SIZE
+
+-- how many bytes are judged: those of the header, where that has a fault by itself, else one more than it states
+unfoldable pub judged_len : List ℕ → ℕ
+judged_len bytes = judged_by (front_fault bytes) (stated_len bytes)
+
+-- A header's own fault is the first fault of all bytes that begin with it. So many of these have the first fault of
+-- them all, whatever stands behind the header; and where there is none, they are all.
+pub record JudgesAll (n : ℕ) (header : List ℕ) : Type 0 where
+  pub own : (f : ReadFault) → front_fault header ≡ Some f → (rest : List ℕ) → fault_of (header ++ rest) ≡ Some f
+  pub fault : (rest : List ℕ) → fault_of (take n (header ++ rest)) ≡ fault_of (header ++ rest)
+  pub whole : (rest : List ℕ) → fault_of (header ++ rest) ≡ None → take n (header ++ rest) ≡ header ++ rest
 
 -- the code that the program prints
 abbrev pub fault_code : ReadFault → List ℕ

@@ -18,16 +18,20 @@ use Rattle.image_reader.specs.declared.revision.Revision.{Revision}
 use Rattle.image_reader.specs.Layout.{spelled}
 use Rattle.image_reader.specs.declared.codes.TheConstants.{BYTES_ROW, CONCATENATION, CYCLE, FILL, FUNCTION, LEAF_ROW, LITERAL, RAMP, SHARED_ROW, SOURCE_SPAN, SUBSTRING}
 use Rattle.image_reader.specs.declared.decode.TheConstants.{NIL_ROOT}
-use Rattle.image_reader.specs.declared.header.TheConstants.{MAGIC, VERSION}
+use Rattle.span_certificate.specs.declared.edit.Splice.{Splice}
+use Rattle.image_reader.specs.declared.header.TheConstants.{MAGIC}
+use Rattle.image_reader.specs.Versions.{version_number}
 use Rattle.image_reader.specs.Value.{ImageNode, ImageValue}
 
--- the magic number, the version, the numbers of sources, nodes, revisions and rows, zero, the pool's length
+-- the magic number, the version, the numbers of sources, nodes, revisions, rows and splices, the pool's length;
+-- version 1 has no splices, and 0 for their number
 abbrev pub header_layout : List Width
 header_layout = w64 ∷ w32 ∷ w32 ∷ w32 ∷ w32 ∷ w32 ∷ w32 ∷ w64 ∷ []
 
 abbrev pub header_numbers : ImageValue → List ℕ
 header_numbers v =
-    MAGIC ∷ VERSION ∷ length v.sources ∷ length v.nodes ∷ length v.revisions ∷ length v.rows ∷ 0 ∷ length v.pool ∷ []
+    MAGIC ∷ version_number v.version ∷ length v.sources ∷ length v.nodes ∷ length v.revisions ∷ length v.rows
+    ∷ length v.splices ∷ length v.pool ∷ []
 
 -- its length
 abbrev pub source_layout : List Width
@@ -133,6 +137,13 @@ revision_spelling r =
     spelled revision_layout (revision_numbers (recorded r.edit).code (numbers_of r.edit) (mark_number r.mark)
     (root_number r.root) r.rows)
 
+-- p, m, a, n
+abbrev pub splice_layout : List Width
+splice_layout = w64 ∷ w64 ∷ w64 ∷ w64 ∷ []
+
+unfoldable pub splice_spelling : Splice → List ℕ
+splice_spelling x = spelled splice_layout (x.p ∷ x.m ∷ x.a ∷ x.n ∷ [])
+
 -- tag, zeros, node, length, offset
 abbrev pub row_layout : List Width
 row_layout = w8 ∷ w8 ∷ w16 ∷ w32 ∷ w64 ∷ w64 ∷ []
@@ -145,11 +156,21 @@ row_numbers len Bytes = BYTES_ROW ∷ 0 ∷ 0 ∷ 0 ∷ len ∷ 0 ∷ []
 unfoldable pub row_spelling : Row → List ℕ
 row_spelling r = spelled row_layout (row_numbers r.len r.kind)
 
+-- the records of each section behind those of the sections before it
+abbrev pub records_spelling : ImageValue → List ℕ
+records_spelling v =
+    flat_map source_spelling v.sources
+    ++ (flat_map node_spelling v.nodes
+    ++ (flat_map revision_spelling v.revisions
+    ++ (flat_map splice_spelling v.splices
+    ++ flat_map row_spelling v.rows)))
+
 unfoldable pub spelling : ImageValue → List ℕ
 spelling v =
     spelled header_layout (header_numbers v)
     ++ (flat_map source_spelling v.sources
     ++ (flat_map node_spelling v.nodes
     ++ (flat_map revision_spelling v.revisions
+    ++ (flat_map splice_spelling v.splices
     ++ (flat_map row_spelling v.rows
-    ++ v.pool))))
+    ++ v.pool)))))

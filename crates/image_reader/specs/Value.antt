@@ -1,5 +1,5 @@
 -- What an image says, without how it is spelled.
-use Rattle.std.specs.Prelude.{◌≡◌, ℕ, ◌^◌, ◌<◌, ◌≤◌, List, length, map, get_or, Option, Some, None}
+use Rattle.std.specs.Prelude.{◌≡◌, ℕ, ◌+◌, ◌^◌, ◌<◌, ◌≤◌, List, [], ◌∷◌, length, map, get_or, Option, Some, None}
 use Rattle.std.specs.List.{sum_by, AllByRecursion}
 use Rattle.function_leaf.specs.declared.coded.Coded.{Coded}
 use Rattle.function_leaf.specs.declared.coded.Coded.TheVariants.{Fill, Ramp, Cycle}
@@ -13,10 +13,14 @@ use Rattle.rope_node.specs.Table.{Node, Table, no_node}
 use Rattle.span_certificate.specs.declared.row.Row.{Row}
 use Rattle.span_certificate.specs.declared.row.RowKind.{RowKind}
 use Rattle.span_certificate.specs.declared.row.RowKind.TheVariants.{Shared, Leaf, Bytes}
-use Rattle.span_certificate.specs.Fields.{FitsRecord}
+use Rattle.span_certificate.specs.declared.edit.Splice.{Splice}
+use Rattle.span_certificate.specs.Fields.{recorded, splices_of, FitsRecord, IsPlacedAt}
 use Rattle.image_reader.specs.declared.revision.Revision.{Revision}
+use Rattle.image_reader.specs.declared.version.FormatVersion.{FormatVersion}
+use Rattle.image_reader.specs.declared.version.FormatVersion.TheVariants.{Two}
 use Rattle.image_reader.specs.Layout.{IsBytes}
-use Rattle.span_certificate.specs.declared.edit.TheConstants.{MOST_REVISIONS}
+use Rattle.image_reader.specs.Versions.{last_code}
+use Rattle.span_certificate.specs.declared.edit.TheConstants.{MOST_REVISIONS, SPLICES_LIMIT}
 use Rattle.image_reader.specs.declared.header.TheConstants.{MOST_POOL}
 use Rattle.span_certificate.specs.declared.making.TheConstants.{ROWS_LIMIT}
 use Rattle.image_reader.specs.declared.decode.TheConstants.{NIL_ROOT}
@@ -27,11 +31,13 @@ pub record ImageNode : Type 0 where
   pub node : Node
   pub function : Option Coded
 
--- the sources' lengths, the nodes, the revisions, all their rows in order, and the pool
+-- the version, the sources' lengths, the nodes, the revisions, all their splices and rows in order, and the pool
 pub record ImageValue : Type 0 where
+  pub version : FormatVersion
   pub sources : List ℕ
   pub nodes : List ImageNode
   pub revisions : List Revision
+  pub splices : List Splice
   pub rows : List Row
   pub pool : List ℕ
 
@@ -84,10 +90,23 @@ abbrev pub FitsRoot : Option NodeId → Type 0
 FitsRoot None = Unit {0}
 FitsRoot (Some id) = id.0 < NIL_ROOT
 
-pub record FitsRevision (r : Revision) : Type 0 where
+-- its command is one of the version
+pub record FitsRevision (version : FormatVersion) (r : Revision) : Type 0 where
+  pub known : (recorded r.edit).code ≤ last_code version
   pub edit : FitsRecord r.edit
   pub root : FitsRoot r.root
   pub rows : r.rows < 2 ^ 32
+
+-- the splices of each command begin behind those of the commands before it
+abbrev pub ArePlaced : ℕ → List Revision → Type 0
+ArePlaced first [] = Unit {0}
+ArePlaced first (r ∷ rs) = IsPlacedAt first r.edit × ArePlaced (first + splices_of r.edit) rs
+
+pub record FitsSplice (x : Splice) : Type 0 where
+  pub p : x.p < 2 ^ 64
+  pub m : x.m < 2 ^ 64
+  pub a : x.a < 2 ^ 64
+  pub n : x.n < 2 ^ 64
 
 abbrev pub FitsKind : RowKind → Type 0
 FitsKind (Shared k o) = (k.0 < 2 ^ 32) × (o < 2 ^ 64)
@@ -105,22 +124,28 @@ FitsSource n = n < TEXT_LIMIT
 pub record IsImage (v : ImageValue) : Type 0 where
   pub sources : AllByRecursion FitsSource v.sources
   pub nodes : AllByRecursion FitsNode v.nodes
-  pub revisions : AllByRecursion FitsRevision v.revisions
+  pub revisions : AllByRecursion (FitsRevision v.version) v.revisions
+  pub placed : ArePlaced 0 v.revisions
+  pub splices : AllByRecursion FitsSplice v.splices
   pub rows : AllByRecursion FitsRow v.rows
   pub pool : IsBytes v.pool
   pub few_sources : length v.sources ≤ MOST_SOURCES
   pub few_nodes : length v.nodes ≤ MOST_NODES
   pub few_revisions : length v.revisions ≤ MOST_REVISIONS
+  pub few_splices : length v.splices ≤ SPLICES_LIMIT
   pub few_rows : length v.rows ≤ ROWS_LIMIT
   pub small_pool : length v.pool ≤ MOST_POOL
   pub rows_counted : sum_by (λ (r : Revision). r.rows) v.revisions ≡ length v.rows
+  pub splices_counted : sum_by (λ (r : Revision). splices_of r.edit) v.revisions ≡ length v.splices
 
--- the image with these bytes for its pool
-abbrev pub with_pool : ImageValue → List ℕ → ImageValue
-with_pool v pool = record {
+-- the same image in version 2
+abbrev pub in_version_two : ImageValue → ImageValue
+in_version_two v = record {
+  version = Two;
   sources = v.sources;
   nodes = v.nodes;
   revisions = v.revisions;
+  splices = v.splices;
   rows = v.rows;
-  pool = pool;
+  pool = v.pool;
 }

@@ -9,7 +9,7 @@ ghost use Rattle.image_reader.specs.Spelling.{field_of};
 use crate::number::{u32_in, u64_in};
 use span_certificate::Edit;
 use span_certificate::codes::{
-    BACK, BALANCE, CUT, DELETE, FILL, INSERT, JOIN, OPEN, PASTE, REPLACE,
+    BACK, BALANCE, CUT, DELETE, FILL, INSERT, JOIN, MANY, OPEN, PASTE, REPLACE,
 };
 
 /// The numbers of a revision's record that are its command's.
@@ -38,9 +38,10 @@ pub fn numbers_in(bytes: &[u8]) -> Numbers
     }
 }
 
-/// The command of a code, over these numbers. A code that stands for none is read as that of an empty text.
-pub fn edit_by(code: u8, numbers: Numbers) -> Edit
-    ensures { result ≡ edit_by code (field_of numbers) }
+/// The command of a code, over these numbers, where the commands before it have `first` splices. A code that stands for none is
+/// read as that of an empty text.
+pub fn edit_by(first: u32, code: u8, numbers: Numbers) -> Edit
+    ensures { result ≡ edit_by first code (field_of numbers) }
 {
     let Numbers { r, q, p, m, a, n } = numbers;
     match code {
@@ -54,6 +55,7 @@ pub fn edit_by(code: u8, numbers: Numbers) -> Edit
         FILL => Edit::Fill { r, p, c: a, n },
         BACK => Edit::Back { r },
         BALANCE => Edit::Balance { r },
+        MANY => Edit::Many { r, first, count: q },
         _ => Edit::New,
     }
 }
@@ -70,7 +72,7 @@ pub fn has_unused_number(edit: Edit, numbers: Numbers) -> bool
         Edit::Delete { .. } => q != 0 || m != 0 || a != 0,
         Edit::Replace { .. } => q != 0,
         Edit::Paste { .. } => m != 0,
-        Edit::Join { .. } => p != 0 || m != 0 || a != 0 || n != 0,
+        Edit::Join { .. } | Edit::Many { .. } => p != 0 || m != 0 || a != 0 || n != 0,
         Edit::Cut { .. } => q != 0 || p != 0 || m != 0,
         Edit::Back { .. } | Edit::Balance { .. } => q != 0 || p != 0 || m != 0 || a != 0 || n != 0,
     }

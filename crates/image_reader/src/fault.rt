@@ -14,9 +14,9 @@ pub enum ReadFault {
     Trailing,
     /// `I3`: they do not begin with `CORDSESS`.
     Magic,
-    /// `I4`: a version other than 1.
+    /// `I4`: a version other than 1 and 2.
     Version,
-    /// `I5`: a number is over its limit, or the rows are not as many as the revisions count.
+    /// `I5`: a number is over its limit, or the rows or splices are not as many as the revisions count.
     Count,
     /// `I6`: a field that is not used is not zero.
     NonZeroPad,

@@ -1,68 +1,76 @@
 //! An image, over its bytes.
 
-ghost use Rattle.std.specs.Prelude.{◌≡◌, ◌<◌, ◌≤◌, ◌↔◌, length, take, drop, replicate, IfOk, Ok, slice_get, Some, IfSome, IsSome, IsTrue};
+ghost use Rattle.std.specs.Prelude.{◌≡◌, ◌↔◌, ◌<◌, length, IfOk, IsTrue, Ok, slice_get, Some};
 ghost use Rattle.std.specs.Result.{result_err};
 ghost use Rattle.rope_node.specs.declared.limits.TheConstants.{TEXT_LIMIT};
 ghost use Rattle.rope_node.specs.declared.node.NodeView.TheVariants.{Fun};
-ghost use Rattle.rope_node.specs.Table.{view_at, len_at, depth_at, HasSpanInside, IsLiteral, literal_from};
-ghost use Rattle.image_reader.specs.Value.{ImageValue, IsImage, function_at, image_table, with_pool};
-ghost use Rattle.image_reader.specs.Accepted.{ComparesNoBytes, revision_at};
-ghost use Rattle.image_reader.specs.Spelling.{spelling};
+ghost use Rattle.rope_node.specs.Table.{view_at, len_at, depth_at};
+ghost use Rattle.image_reader.specs.Value.{ImageValue, IsImage, function_at, image_table};
+ghost use Rattle.image_reader.specs.Accepted.{revision_at, splices_before};
+ghost use Rattle.image_reader.specs.Spelling.{spelling, records_spelling};
 ghost use Rattle.image_reader.specs.Reading.{fault_of, image_of};
-ghost use Rattle.image_reader.specs.Outlines.{HasShortLiterals};
-ghost use Rattle.image_reader.specs.declared.header.TheConstants.{MOST_POOL};
 
-use crate::blank::{pool_rest, pool_span};
-use crate::decode::{revision_in, row_in, source_in};
+use crate::decode::{mark_in, revision_in, root_in, row_in, source_in, splice_in};
 use crate::fault::ReadFault;
-use crate::header::{MOST_POOL, read_header};
-use crate::layout::{HEADER_SIZE, NODE_SIZE, REVISION_SIZE, ROW_SIZE, SOURCE_SIZE};
+use crate::header::read_header;
+use crate::layout::{HEADER_SIZE, NODE_SIZE, REVISION_SIZE, ROW_SIZE, SOURCE_SIZE, SPLICE_SIZE};
 use crate::node::{depth_in, function_in, len_in, view_in};
-use crate::number::{bytes_from, cell_at};
-use crate::outline::{compares_no_bytes, has_short_literals};
+use crate::number::{bytes_before, bytes_from, cell_at};
 use crate::revision::Revision;
 use crate::section::check_sections;
+use crate::version::FormatVersion;
 use function_leaf::Coded;
-use rope_node::{NodeId, NodeView};
-use span_certificate::Row;
+use rope_node::{NodeId, NodeView, Rope};
+use span_certificate::{Row, Splice};
 use std::marker::Model;
 
 /// A session image. It borrows the bytes that it was read from, and reads its fields from them as they are asked for.
-/// Its pool is bytes that were read, or else `blank` zeros, which take no memory.
 #[derive(Drop)]
 pub struct Image<'a> {
+    version: FormatVersion,
     source_count: u32,
     node_count: u32,
     revision_count: u32,
+    splice_count: u32,
     row_count: u32,
+    /// The records of all sections.
+    recorded: &'a [u8],
     sources: &'a [u8],
     nodes: &'a [u8],
     revisions: &'a [u8],
+    splices: &'a [u8],
     rows: &'a [u8],
     pool: &'a [u8],
-    blank: u64,
 }
 
 impl<'a> Model for Image<'a> {
-    ghost use Rattle.std.specs.Prelude.{◌≡◌, ◌*◌, ◌++◌, length, replicate, None};
+    ghost use Rattle.std.specs.Prelude.{◌≡◌, None};
     ghost use Rattle.image_reader.specs.Value.{ImageValue, IsImage};
     ghost use Rattle.image_reader.specs.Layout.{records};
     ghost use Rattle.image_reader.specs.declared.layout.TheConstants.{NODE_SIZE};
+    ghost use Rattle.image_reader.specs.Spelling.{records_spelling};
     ghost use Rattle.image_reader.specs.Reading.{sections_value, HasRoom, first_fault, node_record_fault};
-    ghost use Rattle.image_reader.specs.Outlines.{KeepsBlank};
 
     ghost Value = { ImageValue };
 
-    ghost view = { λ a. sections_value a.source_count a.sources.now a.node_count a.nodes.now
-        a.revision_count a.revisions.now a.row_count a.rows.now (a.pool.now ++ replicate a.blank 0) };
+    ghost view = { λ a. sections_value a.version a.source_count a.sources.now a.node_count a.nodes.now
+        a.revision_count a.revisions.now a.splice_count a.splices.now a.row_count a.rows.now a.pool.now };
 
     ghost invariant = { λ a. HasRoom a.source_count a.sources.now a.node_count a.nodes.now
-        a.revision_count a.revisions.now a.row_count a.rows.now
-        × IsImage (sections_value a.source_count a.sources.now a.node_count a.nodes.now
-        a.revision_count a.revisions.now a.row_count a.rows.now (a.pool.now ++ replicate a.blank 0))
+        a.revision_count a.revisions.now a.splice_count a.splices.now a.row_count a.rows.now
+        × IsImage (sections_value a.version a.source_count a.sources.now a.node_count a.nodes.now
+        a.revision_count a.revisions.now a.splice_count a.splices.now a.row_count a.rows.now a.pool.now)
         × (first_fault node_record_fault (records NODE_SIZE a.node_count a.nodes.now) ≡ None)
-        × KeepsBlank a.blank a.pool.now (sections_value a.source_count a.sources.now a.node_count a.nodes.now
-        a.revision_count a.revisions.now a.row_count a.rows.now (a.pool.now ++ replicate a.blank 0)) };
+        × (a.recorded.now ≡ records_spelling (sections_value a.version a.source_count a.sources.now
+        a.node_count a.nodes.now a.revision_count a.revisions.now a.splice_count a.splices.now a.row_count a.rows.now
+        a.pool.now)) };
+}
+
+/// Whether a node is a function.
+fn is_function(view: NodeView) -> bool
+    ensures { IsTrue result ↔ (view ≡ Fun) }
+{
+    matches!(view, NodeView::Fun)
 }
 
 impl<'a> Image<'a> {
@@ -76,20 +84,24 @@ impl<'a> Image<'a> {
         let sources = bytes_from(bytes, HEADER_SIZE);
         let nodes = bytes_from(sources, SOURCE_SIZE * header.sources as usize);
         let revisions = bytes_from(nodes, NODE_SIZE * header.nodes as usize);
-        let rows = bytes_from(revisions, REVISION_SIZE * header.revisions as usize);
+        let splices = bytes_from(revisions, REVISION_SIZE * header.revisions as usize);
+        let rows = bytes_from(splices, SPLICE_SIZE * header.splices as usize);
         let pool = bytes_from(rows, ROW_SIZE * header.rows as usize);
         check_sections(&header, sources, nodes, revisions, rows)?;
         Ok(Image {
+            version: header.version,
             source_count: header.sources,
             node_count: header.nodes,
             revision_count: header.revisions,
+            splice_count: header.splices,
             row_count: header.rows,
+            recorded: bytes_before(sources, pool.len()),
             sources,
             nodes,
             revisions,
+            splices,
             rows,
             pool,
-            blank: 0,
         })
     }
 
@@ -114,41 +126,27 @@ impl<'a> Image<'a> {
         ensures { result ≡ self.now }
     {
         Image {
+            version: self.version,
             source_count: self.source_count,
             node_count: self.node_count,
             revision_count: self.revision_count,
+            splice_count: self.splice_count,
             row_count: self.row_count,
+            recorded: self.recorded,
             sources: self.sources,
             nodes: self.nodes,
             revisions: self.revisions,
+            splices: self.splices,
             rows: self.rows,
             pool: self.pool,
-            blank: self.blank,
         }
     }
 
-    /// The same image with a pool of `n` zeros, which takes no memory.
-    ///
-    /// `None` where `n` is over `MOST_POOL`, or where the recorded length of a literal is over 65,536.
-    pub fn with_blank_pool(&self, n: u64) -> Option<Image<'a>>
-        ensures value { IfSome result (λ v. v ≡ with_pool self.now (replicate n 0)) }
-        ensures there { IsSome result ↔ ((n ≤ MOST_POOL) × HasShortLiterals self.now) }
+    /// The version of the format that it is spelled in.
+    pub fn version(&self) -> FormatVersion
+        ensures { result ≡ self.now.version }
     {
-        if n > MOST_POOL || !has_short_literals(self) {
-            return None;
-        }
-        Some(Image {
-            source_count: self.source_count,
-            node_count: self.node_count,
-            revision_count: self.revision_count,
-            row_count: self.row_count,
-            sources: self.sources,
-            nodes: self.nodes,
-            revisions: self.revisions,
-            rows: self.rows,
-            pool: &self.pool[..0],
-            blank: n,
-        })
+        self.version
     }
 
     /// How many sources the image has.
@@ -173,6 +171,13 @@ impl<'a> Image<'a> {
         self.revision_count
     }
 
+    /// How many splices it has.
+    pub fn splice_count(&self) -> u32
+        ensures { result ≡ length self.now.splices }
+    {
+        self.splice_count
+    }
+
     /// How many certificate rows it has.
     pub fn row_count(&self) -> u32
         ensures { result ≡ length self.now.rows }
@@ -180,42 +185,11 @@ impl<'a> Image<'a> {
         self.row_count
     }
 
-    /// Whether none of its rows is one of bytes.
-    pub fn compares_no_bytes(&self) -> bool
-        ensures { IsTrue result ↔ ComparesNoBytes self.now.rows }
+    /// The pool.
+    pub fn pool(&self) -> &'a [u8]
+        ensures { result.now ≡ self.now.pool }
     {
-        compares_no_bytes(self)
-    }
-
-    /// The length of the pool, in bytes.
-    pub fn pool_len(&self) -> u64
-        ensures { result ≡ length self.now.pool }
-    {
-        self.pool.len() as u64 + self.blank
-    }
-
-    /// Bytes of the pool from place `a` on: one or more of them.
-    pub fn pool_from(&self, a: u64) -> &[u8]
-        requires { a < length self.now.pool }
-        ensures some { 1 ≤ length result.now }
-        ensures bytes { result.now ≡ take (length result.now) (drop a self.now.pool) }
-    {
-        pool_rest(self.pool, self.blank, a)
-    }
-
-    /// A literal's bytes from its byte `off` on.
-    pub fn literal(&self, id: NodeId, off: u64) -> &[u8]
-        requires there { id.0 < length (image_table self.now).nodes }
-        requires literal { IsLiteral (view_at (image_table self.now) id.0) }
-        requires inside { off ≤ len_at (image_table self.now) id.0 }
-        requires span { HasSpanInside (image_table self.now) (len_at (image_table self.now) id.0)
-            (view_at (image_table self.now) id.0) }
-        ensures { result.now ≡ literal_from (image_table self.now) id.0 off }
-    {
-        match self.node(id) {
-            NodeView::Lit { a } => pool_span(self.pool, self.blank, a + off, a + self.len(id)),
-            _ => unreachable!(),
-        }
+        self.pool
     }
 
     /// The length of source `s`, in bytes.
@@ -260,13 +234,51 @@ impl<'a> Image<'a> {
         function_in(cell_at(self.nodes, NODE_SIZE, id.0 as usize))
     }
 
-    /// Revision `k`.
-    pub fn revision(&self, k: u32) -> Revision
-        requires { k < length self.now.revisions }
+    /// The function that node `id` holds, where it is one.
+    pub fn function(&self, id: NodeId) -> Option<Coded>
+        requires { id.0 < length (image_table self.now).nodes }
+        ensures { result ≡ function_at self.now id.0 }
+    {
+        let _nodes = self.node_count();
+        if is_function(self.node(id)) {
+            Some(self.coded(id))
+        } else {
+            None
+        }
+    }
+
+    /// Revision `k`, where the revisions before it have `first` splices.
+    pub fn revision(&self, k: u32, first: u32) -> Revision
+        requires there { k < length self.now.revisions }
+        requires first { first ≡ splices_before self.now k }
         ensures value { slice_get self.now.revisions k ≡ Some result }
         ensures at { result ≡ revision_at self.now k }
     {
-        revision_in(cell_at(self.revisions, REVISION_SIZE, k as usize))
+        revision_in(first, cell_at(self.revisions, REVISION_SIZE, k as usize))
+    }
+
+    /// The root of revision `k`.
+    pub fn root(&self, k: u32) -> Rope
+        requires { k < length self.now.revisions }
+        ensures { result ≡ (revision_at self.now k).root }
+    {
+        root_in(cell_at(self.revisions, REVISION_SIZE, k as usize))
+    }
+
+    /// Whether revision `k` is marked as balanced.
+    pub fn mark(&self, k: u32) -> bool
+        requires { k < length self.now.revisions }
+        ensures { result ≡ (revision_at self.now k).mark }
+    {
+        mark_in(cell_at(self.revisions, REVISION_SIZE, k as usize))
+    }
+
+    /// Splice `j` of all splices.
+    pub fn splice(&self, j: u32) -> Splice
+        requires { j < length self.now.splices }
+        ensures { slice_get self.now.splices j ≡ Some result }
+    {
+        splice_in(cell_at(self.splices, SPLICE_SIZE, j as usize))
     }
 
     /// Row `j` of all rows.
@@ -275,5 +287,12 @@ impl<'a> Image<'a> {
         ensures { slice_get self.now.rows j ≡ Some result }
     {
         row_in(cell_at(self.rows, ROW_SIZE, j))
+    }
+
+    /// The records of all sections one behind the other, as they are spelled.
+    pub fn records(&self) -> &[u8]
+        ensures { result.now ≡ records_spelling self.now }
+    {
+        self.recorded
     }
 }

@@ -12,5 +12,8 @@ pub const NODE_SIZE: usize = 32;
 /// The bytes of a revision's record.
 pub const REVISION_SIZE: usize = 56;
 
+/// The bytes of a splice's record.
+pub const SPLICE_SIZE: usize = 32;
+
 /// The bytes of a certificate row's record.
 pub const ROW_SIZE: usize = 24;

@@ -1,7 +1,7 @@
 //! Session images, read in place: the bytes are borrowed, and no memory is taken.
 #![tactic(auto)]
 
-mod blank;
+mod bound;
 pub mod codes;
 mod command;
 mod decode;
@@ -11,20 +11,24 @@ mod image;
 mod layout;
 mod node;
 mod number;
-mod outline;
+mod records;
 mod revision;
+mod revisions;
 mod roots;
 mod rows;
 mod section;
+mod version;
 
-pub use blank::BLANK_LIMIT;
+pub use bound::looks_bound;
 pub use command::Numbers;
 pub use decode::NIL_ROOT;
 pub use fault::ReadFault;
-pub use header::{LONGEST_IMAGE, MAGIC, MOST_POOL, VERSION};
+pub use header::{LONGEST_IMAGE, MAGIC, MOST_POOL, judged_len};
 pub use image::Image;
-pub use layout::{HEADER_SIZE, NODE_SIZE, REVISION_SIZE, ROW_SIZE, SOURCE_SIZE};
-pub use outline::{pool_place, set_pool_aside};
+pub use layout::{HEADER_SIZE, NODE_SIZE, REVISION_SIZE, ROW_SIZE, SOURCE_SIZE, SPLICE_SIZE};
+pub use records::{NodeRecord, Records};
 pub use revision::Revision;
+pub use revisions::Revisions;
 pub use roots::EarlierRoots;
 pub use rows::RevisionRows;
+pub use version::{FormatVersion, VERSION_ONE, VERSION_TWO};

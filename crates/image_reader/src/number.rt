@@ -1,6 +1,6 @@
 //! Big-endian numbers at fixed places.
 
-ghost use Rattle.std.specs.Prelude.{◌≡◌, ◌+◌, ◌*◌, ◌≤◌, length, take, drop};
+ghost use Rattle.std.specs.Prelude.{◌≡◌, ◌+◌, ◌-◌, ◌*◌, ◌≤◌, length, take, drop};
 ghost use Rattle.std.specs.Int.{w8, w16, w32, w64};
 ghost use Rattle.image_reader.specs.Layout.{number_in};
 
@@ -11,6 +11,14 @@ pub fn bytes_from(bytes: &[u8], at: usize) -> &[u8]
     ensures len { length result.now + at ≡ length bytes.now }
 {
     &bytes[at..]
+}
+
+/// What stands in front of the last `behind` bytes.
+pub fn bytes_before(bytes: &[u8], behind: usize) -> &[u8]
+    requires { behind ≤ length bytes.now }
+    ensures { result.now ≡ take (length bytes.now - behind) bytes.now }
+{
+    &bytes[..bytes.len() - behind]
 }
 
 #[tactic(auto, unfolding(crate::specs::Layout::number_in))]

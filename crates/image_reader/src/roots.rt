@@ -10,8 +10,8 @@ use span_certificate::Roots;
 /// The roots of an image's revisions before revision `k`.
 #[derive(Drop)]
 pub struct EarlierRoots<'i, 'a> {
-    pub image: &'i Image<'a>,
-    pub k: u32,
+    pub(crate) image: &'i Image<'a>,
+    pub(crate) k: u32,
     ghost inside: { k ≤ length image.now.revisions },
 }
 
@@ -23,6 +23,6 @@ impl Roots for EarlierRoots<'_, '_> {
     }
 
     fn root(&self, r: u32) -> Rope {
-        self.image.revision(r).root
+        self.image.root(r)
     }
 }

@@ -8,9 +8,9 @@ use span_certificate::{Row, Rows};
 /// The `count` rows of an image from row `from` on.
 #[derive(Drop)]
 pub struct RevisionRows<'i, 'a> {
-    pub image: &'i Image<'a>,
-    pub from: u32,
-    pub count: u32,
+    pub(crate) image: &'i Image<'a>,
+    pub(crate) from: u32,
+    pub(crate) count: u32,
     ghost inside: { from + count ≤ length image.now.rows },
 }
 

@@ -4,22 +4,25 @@ ghost use Rattle.std.specs.Prelude.{◌≡◌, ◌*◌, ◌≤◌, ◌<◌, ℕ,
 ghost use Rattle.std.specs.Result.{result_err};
 ghost use Rattle.image_reader.specs.declared.fault.ReadFault.{ReadFault};
 ghost use Rattle.image_reader.specs.declared.layout.TheConstants.{NODE_SIZE, REVISION_SIZE, ROW_SIZE, SOURCE_SIZE};
+ghost use Rattle.image_reader.specs.Versions.{last_code};
+ghost use Rattle.span_certificate.specs.declared.codes.TheConstants.{BALANCE, MANY};
 ghost use Rattle.image_reader.specs.Layout.{records};
 ghost use Rattle.image_reader.specs.Reading.{source_record_fault, node_record_fault, revision_record_fault, row_record_fault, first_fault, any_nonzero, unused_in_revision, unused_in_row, sections_fault};
 
 use crate::codes::{BYTES_ROW, SHARED_ROW};
 use crate::command::{edit_by, has_unused_number, numbers_in};
-use crate::decode::counted_rows;
+use crate::decode::{counted_rows, counted_splices};
 use crate::fault::ReadFault;
 use crate::header::Header;
 use crate::layout::{NODE_SIZE, REVISION_SIZE, ROW_SIZE, SOURCE_SIZE};
 use crate::node::{has_unused_node_field, is_unknown_node};
 use crate::number::{u8_in, u16_in, u32_in, u64_in};
+use crate::version::FormatVersion;
 use rope_node::TEXT_LIMIT;
-use span_certificate::codes::{BALANCE, NEW};
+use span_certificate::codes::{BALANCE, MANY, NEW};
 
 /// A kind of record.
-pub trait Records {
+pub trait RecordKind {
     const SIZE: usize;
 
     ghost SIZE: { ℕ };
@@ -33,7 +36,7 @@ pub trait Records {
 }
 
 /// Refuses a section of `count` records where one of them has a fault: the first one's.
-pub fn check_each<R: Records>(count: u32, bytes: &[u8]) -> Result<(), ReadFault>
+pub fn check_each<R: RecordKind>(count: u32, bytes: &[u8]) -> Result<(), ReadFault>
     requires { R.SIZE * count ≤ length bytes.now }
     ensures { result_err result ≡ first_fault R.fault (records R.SIZE count bytes.now) }
 {
@@ -59,13 +62,16 @@ pub fn check_sections(
     requires nodes { NODE_SIZE * header.now.nodes ≤ length nodes.now }
     requires revisions { REVISION_SIZE * header.now.revisions ≤ length revisions.now }
     requires rows { ROW_SIZE * header.now.rows ≤ length rows.now }
-    ensures { result_err result ≡ sections_fault header.now.sources sources.now header.now.nodes nodes.now
-        header.now.revisions revisions.now header.now.rows rows.now }
+    ensures { result_err result ≡ sections_fault header.now.version header.now.sources sources.now
+        header.now.nodes nodes.now header.now.revisions revisions.now header.now.splices header.now.rows rows.now }
 {
     check_each::<SourceRecords>(header.sources, sources)?;
     check_each::<NodeRecords>(header.nodes, nodes)?;
-    check_each::<RevisionRecords>(header.revisions, revisions)?;
+    check_revisions(header.version, header.revisions, revisions)?;
     if counted_rows(header.revisions, revisions) != header.rows as u64 {
+        return Err(ReadFault::Count);
+    }
+    if counted_splices(header.revisions, revisions) != header.splices as u64 {
         return Err(ReadFault::Count);
     }
     check_each::<RowRecords>(header.rows, rows)
@@ -74,7 +80,7 @@ pub fn check_sections(
 /// The records of sources.
 pub struct SourceRecords;
 
-impl Records for SourceRecords {
+impl RecordKind for SourceRecords {
     const SIZE: usize = SOURCE_SIZE;
 
     ghost SIZE = { SOURCE_SIZE };
@@ -93,7 +99,7 @@ impl Records for SourceRecords {
 /// The records of nodes.
 pub struct NodeRecords;
 
-impl Records for NodeRecords {
+impl RecordKind for NodeRecords {
     const SIZE: usize = NODE_SIZE;
 
     ghost SIZE = { NODE_SIZE };
@@ -112,27 +118,62 @@ impl Records for NodeRecords {
     }
 }
 
-/// The records of revisions.
+/// Refuses the revisions of a version where one of them has a fault: the first one's.
+fn check_revisions(version: FormatVersion, count: u32, bytes: &[u8]) -> Result<(), ReadFault>
+    requires { REVISION_SIZE * count ≤ length bytes.now }
+    ensures { result_err result ≡ first_fault (revision_record_fault (last_code version))
+        (records REVISION_SIZE count bytes.now) }
+{
+    match version {
+        FormatVersion::One => check_each::<RevisionRecords>(count, bytes),
+        FormatVersion::Two => check_each::<SplicedRevisionRecords>(count, bytes),
+    }
+}
+
+/// The records of revisions in version 1.
 pub struct RevisionRecords;
 
-impl Records for RevisionRecords {
+impl RecordKind for RevisionRecords {
     const SIZE: usize = REVISION_SIZE;
 
     ghost SIZE = { REVISION_SIZE };
 
-    ghost fault = { revision_record_fault };
+    ghost fault = { revision_record_fault BALANCE };
 
-    #[tactic(auto, unfolding(crate::specs::Reading::revision_record_fault))]
     fn check(bytes: &[u8]) -> Result<(), ReadFault> {
-        let code = u8_in(bytes, 0);
-        if code < NEW || code > BALANCE || u8_in(bytes, 1) > 1 {
-            return Err(ReadFault::Kind);
-        }
-        if has_unused_revision_field(bytes) {
-            return Err(ReadFault::NonZeroPad);
-        }
-        Ok(())
+        check_revision(BALANCE, bytes)
     }
+}
+
+/// The records of revisions in version 2.
+pub struct SplicedRevisionRecords;
+
+impl RecordKind for SplicedRevisionRecords {
+    const SIZE: usize = REVISION_SIZE;
+
+    ghost SIZE = { REVISION_SIZE };
+
+    ghost fault = { revision_record_fault MANY };
+
+    fn check(bytes: &[u8]) -> Result<(), ReadFault> {
+        check_revision(MANY, bytes)
+    }
+}
+
+/// Refuses a revision that has a fault, where `last` is the highest code of a command.
+#[tactic(auto, unfolding(crate::specs::Reading::revision_record_fault))]
+fn check_revision(last: u8, bytes: &[u8]) -> Result<(), ReadFault>
+    requires { length bytes.now ≡ REVISION_SIZE }
+    ensures { result_err result ≡ revision_record_fault last bytes.now }
+{
+    let code = u8_in(bytes, 0);
+    if code < NEW || code > last || u8_in(bytes, 1) > 1 {
+        return Err(ReadFault::Kind);
+    }
+    if has_unused_revision_field(bytes) {
+        return Err(ReadFault::NonZeroPad);
+    }
+    Ok(())
 }
 
 /// Whether a field that this command does not use, or no revision, is not zero.
@@ -141,14 +182,14 @@ fn has_unused_revision_field(bytes: &[u8]) -> bool
     ensures { result ≡ any_nonzero (unused_in_revision bytes.now) }
 {
     let numbers = numbers_in(bytes);
-    let edit = edit_by(u8_in(bytes, 0), numbers);
+    let edit = edit_by(0, u8_in(bytes, 0), numbers);
     u16_in(bytes, 2) != 0 || u32_in(bytes, 52) != 0 || has_unused_number(edit, numbers)
 }
 
 /// The records of certificate rows.
 pub struct RowRecords;
 
-impl Records for RowRecords {
+impl RecordKind for RowRecords {
     const SIZE: usize = ROW_SIZE;
 
     ghost SIZE = { ROW_SIZE };

@@ -1,12 +1,12 @@
 -- What holds of the devices that are sources, and of the blocks kept of them, holds with one more device.
-use Rattle.std.proofs.Common.{◌≡◌, ℕ, ◌<◌, ◌≤◌, Bool, true, false, cond, List, [], ◌∷◌, ◌++◌, get_or, length, map, arith, ap, drop, sym, ◌∙◌, take, rules, length-append}
+use Rattle.std.proofs.Common.{◌≡◌, ℕ, ◌<◌, ◌≤◌, Bool, true, false, cond, List, [], ◌∷◌, ◌++◌, get_or, length, map, arith, ap, drop, refl, sym, ◌∙◌, take, rules, length-append}
 use Rattle.std.specs.Prelude.{All}
 use Rattle.std.proofs.lemmas.List.{get_or_append_left, get_or-map, length-map, map-append}
 use Rattle.std.proofs.lemmas.List.Elements.{All-append, All-get_or}
 use Rattle.std.proofs.Math.Seq.{take-append_seam}
 use Rattle.lazy_file.specs.SourceTexts.{AreSizes}
 use Rattle.lazy_file.specs.declared.sources.TheConstants.{COUNT_LIMIT, SOURCE_LIMIT}
-use Rattle.lazy_file.specs.DeviceTexts.{DeviceText, no_device, stated_by}
+use Rattle.lazy_file.specs.DeviceTexts.{DeviceReading, DeviceText, no_device, stated_by, texts_of}
 use Rattle.lazy_file.specs.KeptBlocks.{AreKept, IsBlockOf, Kept}
 
 -- no source is longer than a source may be
@@ -23,6 +23,7 @@ block_of_more : (ds : List DeviceText) (d : DeviceText) (key : ℕ × ℕ) (bloc
 block_of_more ds d key block is = record {
   there = omega (arith, is.there, length-append ds (d ∷ []));
   bytes = rw (get_or_append_left ds (d ∷ []) no_device key.0 is.there) is.bytes;
+  whole = rw (get_or_append_left ds (d ∷ []) no_device key.0 is.there) is.whole;
 }
 
 sizes_of_more : (ds : List DeviceText) (d : DeviceText) → AreSizes (stated_by ds).sizes → length ds < COUNT_LIMIT → d.size ≤ SOURCE_LIMIT → AreSizes (stated_by (ds ++ d ∷ [])).sizes
@@ -35,13 +36,15 @@ sizes_of_more ds d sizes room size =
     })
 
 -- the devices after one was added or not
-pub sound_after : {A D : Type 0} (stated : D → DeviceText) (added : Bool) (old new : List D) (d : D) (kept : Kept A) → AreSound (map stated old) kept
-    → length old < COUNT_LIMIT → (stated d).size ≤ SOURCE_LIMIT → new ≡ cond added (old ++ d ∷ []) old → AreSound (map stated new) kept
-sound_after stated false old new d kept sound room size is = rw is sound
-sound_after stated true old new d kept sound room size is =
-    let ds = map stated old in
-    let more : AreSound (ds ++ stated d ∷ []) kept = (sizes_of_more ds (stated d) sound.0 (rw length-map room) size, λ key block there. block_of_more ds (stated d) key block.items (sound.1 key block there)) in
-    rw (is, map-append stated old (d ∷ [])) more
+pub sound_after : {A D : Type 0} (reading : D → DeviceReading) (added : Bool) (old new : List D) (d : D) (kept : Kept A) → AreSound (texts_of (map reading old)) kept
+    → length old < COUNT_LIMIT → (reading d).stated.size ≤ SOURCE_LIMIT → new ≡ cond added (old ++ d ∷ []) old → AreSound (texts_of (map reading new)) kept
+sound_after reading false old new d kept sound room size is = rw is sound
+sound_after reading true old new d kept sound room size is =
+    let ds = texts_of (map reading old) in
+    let text = (reading d).stated in
+    let more : AreSound (ds ++ text ∷ []) kept = (sizes_of_more ds text sound.0 (rw (length-map, length-map) room) size, λ key block there. block_of_more ds text key block.items (sound.1 key block there)) in
+    let all : texts_of (map reading (old ++ d ∷ [])) ≡ ds ++ text ∷ [] = rw (map-append reading old (d ∷ []), map-append (λ (r : DeviceReading). r.stated) (map reading old) (reading d ∷ [])) refl in
+    rw (is, all) more
 
 -- a vector's items, whose slice was written: all that was written
 pub refilled : {D : Type 0} (n : ℕ) (items written : List D) → n ≡ length items → length written ≡ length items → take n (written ++ drop (length written) items) ≡ written

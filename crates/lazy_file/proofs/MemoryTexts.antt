@@ -5,7 +5,7 @@ use Rattle.std.specs.List.{slice_index}
 use Rattle.std.proofs.Math.ListN as list
 use Rattle.std.proofs.lemmas.List.{get_or-map, length-map}
 use Rattle.std.proofs.lemmas.List.Elements.{All-get_or}
-use Rattle.lazy_file.proofs.ReadOutcomes.{no_fault, refused_span}
+use Rattle.lazy_file.proofs.ReadOutcomes.{refused_span}
 use Rattle.lazy_file.specs.SourceTexts.{Agrees, AreSizes, stated_in_memory, text_at}
 use Rattle.lazy_file.specs.declared.sources.TheConstants.{SOURCE_LIMIT}
 
@@ -31,4 +31,4 @@ agrees_in_memory (x ∷ xs) zero p t stated inside = let same : x ≡ t = cc in 
 agrees_in_memory (x ∷ xs) (suc s) p t stated inside = agrees_in_memory xs s p t stated inside
 
 -- what a read of texts in memory rests on
-pub ruleset memory_reads = (stated_text, no_fault, refused_span)
+pub ruleset memory_reads = (stated_text, refused_span)

@@ -1,6 +1,7 @@
-use Rattle.std.specs.Prelude.{◌≡◌, ◌≢◌, ◌↔◌, ◌<◌, ◌≤◌, ℕ, false, ◌+◌, List, Option, None, Result, drop, get_or, length, map, slice_get, take, option_map, IfOk, IfSome, IsErr, IsErrOf, OnOk}
-use Rattle.std.specs.List.{sum_by}
+use Rattle.std.specs.Prelude.{◌≡◌, ◌≢◌, ◌↔◌, ◌<◌, ◌≤◌, ℕ, false, ◌+◌, ◌-◌, ◌/◌, List, Option, None, Result, drop, get_or, length, map, slice_get, take, option_map, IfOk, IfSome, IsErr, IsErrOf, OnOk}
 use Rattle.lazy_file.specs.SourceTexts.{Stated}
+use Rattle.lazy_file.specs.Readings.{Reading}
+use Rattle.lazy_file.specs.declared.kept_blocks.TheConstants.{BLOCK_SIZE}
 use Rattle.lazy_file.specs.declared.sources.TheConstants.{SOURCE_LIMIT}
 use Rattle.lazy_file.specs.declared.faults.SourceFault.{SourceFault}
 use Rattle.lazy_file.specs.declared.faults.SourceFault.TheVariants.{Device, Short, BadSource}
@@ -22,16 +23,23 @@ unstated size = record { size = size; text = None }
 abbrev pub AreBytesAt : Option (List ℕ) → ℕ → List ℕ → Type 0
 AreBytesAt text off bytes = IfSome text (λ t. bytes ≡ take (length bytes) (drop off t))
 
+-- what contracts know of a device at one time: what it states, how many reads of it have failed, and how many were
+-- asked for at most
+pub record DeviceReading : Type 0 where
+  pub stated : DeviceText
+  pub failures : ℕ
+  pub calls : ℕ
+
 -- what a device may answer to one read of it from off on, where its buffer was old and is new
-pub record ReadsAt {D E : Type 0} (stated : D → DeviceText) (failures : D → ℕ) (before after : D) (off : ℕ)
-    (old new : List ℕ)
-    (outcome : Result ℕ E) : Type 0 where
-  pub same : stated after ≡ stated before
-  pub later : failures before ≤ failures after
-  pub failed : IsErr outcome ↔ failures before < failures after
+pub record ReadsAt {E : Type 0} (before after : DeviceReading) (off : ℕ) (old new : List ℕ) (outcome : Result ℕ E)
+    : Type 0 where
+  pub same : after.stated ≡ before.stated
+  pub later : before.failures ≤ after.failures
+  pub failed : IsErr outcome ↔ before.failures < after.failures
+  pub calls : after.calls ≤ before.calls + 1
   pub count : IfOk outcome (λ n. n ≤ length old)
-  pub bytes : IfOk outcome (λ n. AreBytesAt (stated before).text off (take n new))
-  pub end : IfOk outcome (λ n. n ≡ 0 → 0 < length old → IfSome (stated before).text (λ t. length t ≤ off))
+  pub bytes : IfOk outcome (λ n. AreBytesAt before.stated.text off (take n new))
+  pub end : IfOk outcome (λ n. n ≡ 0 → 0 < length old → IfSome before.stated.text (λ t. length t ≤ off))
 
 -- the text of a source that is a device: as many bytes as its size
 abbrev pub source_text : DeviceText → Option (List ℕ)
@@ -41,15 +49,30 @@ source_text d = option_map (take d.size) d.text
 abbrev pub stated_by : List DeviceText → Stated
 stated_by ds = record { sizes = map (λ d. d.size) ds; texts = map source_text ds; never_fails = false }
 
+-- a device that is not there, which nobody reads
+abbrev pub no_reading : DeviceReading
+no_reading = record { stated = no_device; failures = 0; calls = 0 }
+
+abbrev pub texts_of : List DeviceReading → List DeviceText
+texts_of ds = map (λ d. d.stated) ds
+
+-- how many reads of source s have failed
+abbrev pub failures_of : List DeviceReading → ℕ → ℕ
+failures_of ds s = (get_or ds s no_reading).failures
+
+-- what is known of sources that are devices
+abbrev pub reading_by : List DeviceReading → Reading
+reading_by ds = record { stated = stated_by (texts_of ds); failures = failures_of ds }
+
 -- the outcome of reading a device from off on until the buffer was full
-pub record FillsFrom {D X : Type 0} (stated : D → DeviceText) (failures : D → ℕ) (before after : D) (off : ℕ)
-    (buffer : List ℕ)
+pub record FillsFrom {X : Type 0} (before after : DeviceReading) (off : ℕ) (buffer : List ℕ)
     (outcome : Result X SourceFault) : Type 0 where
-  pub same : stated after ≡ stated before
-  pub later : failures before ≤ failures after
-  pub bytes : OnOk outcome (AreBytesAt (stated before).text off buffer)
-  pub device : IsErrOf outcome Device ↔ failures before < failures after
-  pub short : IsErrOf outcome Short → IfSome (stated before).text (λ t. length t < off + length buffer)
+  pub same : after.stated ≡ before.stated
+  pub later : before.failures ≤ after.failures
+  pub calls : after.calls ≤ before.calls + length buffer
+  pub bytes : OnOk outcome (AreBytesAt before.stated.text off buffer)
+  pub device : IsErrOf outcome Device ↔ before.failures < after.failures
+  pub short : IsErrOf outcome Short → IfSome before.stated.text (λ t. length t < off + length buffer)
   pub inside : IsErrOf outcome BadSource → ⊥
 
 -- source s is there, and n bytes from off on lie inside its size, which is no larger than a source may have
@@ -66,14 +89,23 @@ AreBytesOf ds s off bytes = AreBytesAt (source_text (get_or ds s no_device)) off
 abbrev pub KeepsOthers : {D : Type 0} → List D → List D → ℕ → Type 0
 KeepsOthers old new s = (k : ℕ) → k ≢ s → slice_get new k ≡ slice_get old k
 
--- what reading source s leaves of the devices, and when each fault of it comes
-pub record ReadsSource {D X : Type 0} (stated : D → DeviceText) (failures : D → ℕ) (old new : List D) (s : ℕ)
+-- how many calls of the device of source s there were at most
+abbrev pub calls_of : List DeviceReading → ℕ → ℕ
+calls_of ds s = (get_or ds s no_reading).calls
+
+-- how many blocks n bytes from off on lie in
+abbrev pub blocks_in : ℕ → ℕ → ℕ
+blocks_in off n = (off + n + (BLOCK_SIZE - 1)) / BLOCK_SIZE - off / BLOCK_SIZE
+
+-- what reading source s by at most so many calls of its device leaves of the devices, and when each fault of it comes
+pub record ReadsSource {D X : Type 0} (reading : D → DeviceReading) (before after : List D) (s most : ℕ)
     (outcome : Result X SourceFault) : Type 0 where
-  pub same : map stated new ≡ map stated old
-  pub others : KeepsOthers old new s
-  pub later : sum_by failures old ≤ sum_by failures new
-  pub device : IsErrOf outcome Device ↔ sum_by failures old < sum_by failures new
+  pub same : texts_of (map reading after) ≡ texts_of (map reading before)
+  pub others : KeepsOthers before after s
+  pub later : failures_of (map reading before) s ≤ failures_of (map reading after) s
+  pub calls : calls_of (map reading after) s ≤ calls_of (map reading before) s + most
+  pub device : IsErrOf outcome Device ↔ failures_of (map reading before) s < failures_of (map reading after) s
   pub short : IsErrOf outcome Short
-      → IfSome (source_text (get_or (map stated old) s no_device))
-      (λ t. length t < (get_or (map stated old) s no_device).size)
+      → IfSome (source_text (get_or (texts_of (map reading before)) s no_device))
+      (λ t. length t < (get_or (texts_of (map reading before)) s no_device).size)
   pub inside : IsErrOf outcome BadSource → ⊥

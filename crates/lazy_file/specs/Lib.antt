@@ -1,5 +1,5 @@
 pub mod DeviceTexts
 pub mod Faults
 pub mod KeptBlocks
-pub mod ReadFaults
+pub mod Readings
 pub mod SourceTexts

@@ -29,13 +29,3 @@ text_at st s = slice_index_or st.texts s None
 -- one reading of what the sources state: each text, continued by any bytes
 abbrev pub Agrees : Stated → (ℕ → ℕ → ℕ) → Type 0
 Agrees st source = (s p : ℕ) (t : List ℕ) → text_at st s ≡ Some t → p < length t → source s p ≡ slice_index t p
-
--- what a read may change: the sources state the same, and no fewer reads have failed
-pub record Reads {T : Type 0} (stated : T → Stated) (failures : T → ℕ) (old new : T) : Type 0 where
-  pub same : stated new ≡ stated old
-  pub later : failures old ≤ failures new
-
--- what reads leave of which none failed
-pub record ReadsUnfailed {T : Type 0} (stated : T → Stated) (failures : T → ℕ) (old new : T) : Type 0 where
-  pub same : stated new ≡ stated old
-  pub unfailed : failures new ≡ failures old

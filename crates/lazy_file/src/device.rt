@@ -1,6 +1,6 @@
 //! What a source's bytes are read from.
-ghost use Rattle.std.specs.Prelude.{◌≡◌, ℕ};
-ghost use Rattle.lazy_file.specs.DeviceTexts.{DeviceText, ReadsAt};
+ghost use Rattle.std.specs.Prelude.{◌≡◌};
+ghost use Rattle.lazy_file.specs.DeviceTexts.{DeviceReading, ReadsAt};
 
 use std::error::Error;
 use std::fmt;
@@ -21,16 +21,17 @@ impl fmt::Display for DeviceError {
 
 impl Error for DeviceError {}
 
-/// What holds the bytes of one source. It has a size, and may state its text; how many reads of it have failed is known to contracts
-/// alone.
+/// What holds the bytes of one source. It has a size, and may state its text; how many reads of it have failed, and how many were
+/// asked for, is known to contracts alone.
 pub trait Device: Drop {
-    ghost stated: { Self → DeviceText };
+    /// What all devices of a kind count their reads in, if they do.
+    type Book: Drop;
 
-    ghost failures: { Self → ℕ };
+    ghost reading: { Self → DeviceReading };
 
     /// Its size in bytes.
     fn size(&self) -> u64
-        ensures { result ≡ (stated self.now).size };
+        ensures { result ≡ (reading self.now).stated.size };
 
     /// Reads bytes from place `off` on into the front of `buffer`, and answers how many: 0 only for an empty buffer or at the text's
     /// end. Neither the size nor the text changes.
@@ -38,6 +39,11 @@ pub trait Device: Drop {
     /// # Errors
     ///
     /// `DeviceError`, where one more read has failed. The buffer may hold any bytes then.
-    fn read_at(&mut self, off: u64, buffer: &mut [u8]) -> Result<usize, DeviceError>
-        ensures { ReadsAt stated failures self.old self.new off buffer.old buffer.new result };
+    fn read_at(
+        &mut self,
+        book: &mut Self::Book,
+        off: u64,
+        buffer: &mut [u8],
+    ) -> Result<usize, DeviceError>
+        ensures { ReadsAt (reading self.old) (reading self.new) off buffer.old buffer.new result };
 }

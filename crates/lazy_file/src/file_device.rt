@@ -1,18 +1,23 @@
 //! A file as a device.
-ghost use Rattle.std.specs.Prelude.{◌≡◌, ◌≤◌, IfOk, length};
+ghost use Rattle.std.specs.Prelude.{◌≡◌, ◌<◌, ◌≤◌, IfOk, length};
 ghost use Rattle.lazy_file.specs.DeviceTexts.{unstated};
 
 use crate::device::{Device, DeviceError};
 use std::fs::File;
 use std::io::ErrorKind;
 use std::os::unix::fs::FileExt;
+use std::sync::ledger::{Book, Ledger, Share};
 
-/// An open file of so many bytes. It states no text, since others may change it.
-#[derive(Debug, Drop)]
-pub struct FileDevice {
+/// An open file of so many bytes. It states no text, since others may change it. Its reads, and those that failed, are counted in
+/// numbers that take no bytes, so no count has a greatest value.
+#[derive(Drop)]
+pub struct FileDevice<L: Ledger> {
     file: File,
     size: u64,
-    failed: u64,
+    failed: Share<L>,
+    called: Share<L>,
+    ghost counts_failed: { 0 < failed.parts },
+    ghost counts_called: { 0 < called.parts },
 }
 
 /// One read of a file, made again where it was interrupted.
@@ -29,37 +34,42 @@ fn read_on(file: &File, off: u64, buffer: &mut [u8]) -> Result<usize, DeviceErro
     Err(DeviceError)
 }
 
-impl FileDevice {
-    /// The first `size` bytes of an open file.
-    pub fn new(file: File, size: u64) -> FileDevice
-        ensures { ⟦<FileDevice as Device>⟧.stated result ≡ unstated size }
+impl<L: Ledger> FileDevice<L> {
+    /// The first `size` bytes of an open file, whose failed reads and calls are counted by these shares of a book.
+    pub fn new(file: File, size: u64, failed: Share<L>, called: Share<L>) -> FileDevice<L>
+        requires failed { 0 < failed.parts }
+        requires called { 0 < called.parts }
+        ensures { (⟦<FileDevice<L> as Device>⟧.reading result).stated ≡ unstated size }
     {
         FileDevice {
             file,
             size,
-            failed: 0,
+            failed,
+            called,
         }
     }
 }
 
-impl Device for FileDevice {
-    ghost stated = { λ d. unstated d.size };
+impl<L: Ledger> Device for FileDevice<L> {
+    type Book = Book<L>;
 
-    ghost failures = { λ d. d.failed };
+    ghost reading = { λ d. record { stated = unstated d.size; failures = d.failed.amount; calls = d.called.amount } };
 
     fn size(&self) -> u64 {
         self.size
     }
 
-    // After 2^64 - 1 failed reads, a failed one is told as the file's end.
-    fn read_at(&mut self, off: u64, buffer: &mut [u8]) -> Result<usize, DeviceError> {
-        match (read_on(&self.file, off, buffer), self.failed.checked_add(1)) {
-            (Ok(count), _) => Ok(count),
-            (Err(error), Some(failed)) => {
-                self.failed = failed;
-                Err(error)
-            }
-            (Err(_), None) => Ok(0),
+    fn read_at(
+        &mut self,
+        book: &mut Book<L>,
+        off: u64,
+        buffer: &mut [u8],
+    ) -> Result<usize, DeviceError> {
+        book.add(&mut self.called, 1);
+        let outcome = read_on(&self.file, off, buffer);
+        if outcome.is_err() {
+            book.add(&mut self.failed, 1);
         }
+        outcome
     }
 }

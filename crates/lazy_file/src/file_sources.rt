@@ -1,10 +1,11 @@
 //! Sources that are devices, such as files.
-ghost use Rattle.std.specs.Prelude.{◌≡◌, ◌↔◌, ◌<◌, ◌++◌, ◌∷◌, [], IfErr, IfOk, IfSome, IsErrAnd, OnErr, OnOk, drop, length, map, take};
-ghost use Rattle.std.specs.List.{sum_by};
+ghost use Rattle.std.specs.Prelude.{◌≡◌, ◌↔◌, ◌<◌, ◌≤◌, ◌+◌, ◌*◌, ◌++◌, ◌∷◌, [], false, IfErr, IfOk, IfSome, IsErrAnd, IsErrOf, OnErr, OnOk, Contains, drop, length, map, max, take};
 ghost use Rattle.lazy_file.specs.declared.sources.TheConstants.{COUNT_LIMIT, SOURCE_LIMIT};
-ghost use Rattle.lazy_file.specs.SourceTexts.{Reads, text_at};
-ghost use Rattle.lazy_file.specs.ReadFaults.{IsFaultOf, TellsFailure};
-ghost use Rattle.lazy_file.specs.DeviceTexts.{KeepsOthers, stated_by};
+ghost use Rattle.lazy_file.specs.SourceTexts.{holds_span, text_at};
+ghost use Rattle.lazy_file.specs.Readings.{fault_in, InSpan, Reads};
+ghost use Rattle.lazy_file.specs.DeviceTexts.{blocks_in, calls_of, KeepsOthers, reading_by};
+ghost use Rattle.lazy_file.specs.declared.kept_blocks.TheConstants.{BLOCK_SIZE};
+ghost use Rattle.lazy_file.specs.KeptBlocks.{AreKeptFor, last_block};
 
 use crate::device::Device;
 use crate::device_blocks::{read_source, source_size};
@@ -21,35 +22,42 @@ use std::num::NonZeroUsize;
 pub struct FileSources<D: Device> {
     devices: Vec<D>,
     kept: LruCache<(u8, u64), Vec<u8>>,
+    book: D::Book,
     alloc: Global,
 }
 
 impl<D: Device> Model for FileSources<D> {
-    ghost use Rattle.std.specs.Prelude.{List, map};
+    ghost use Rattle.std.specs.Prelude.{map};
+    ghost use Rattle.std.specs.Map.{keys_of};
     ghost use Rattle.lazy_file.specs.SourceTexts.{AreSizes};
-    ghost use Rattle.lazy_file.specs.DeviceTexts.{stated_by};
-    ghost use Rattle.lazy_file.specs.KeptBlocks.{AreKept};
+    ghost use Rattle.lazy_file.specs.DeviceTexts.{reading_by, texts_of};
+    ghost use Rattle.lazy_file.specs.KeptBlocks.{AreKept, Files};
 
-    ghost Value = { List D };
+    ghost Value = { Files D };
 
-    ghost view = { λ a. a.devices.items };
+    ghost view = { λ a. record { devices = a.devices.items; kept = keys_of a.kept.entries } };
 
-    ghost invariant = { λ a. AreSizes (stated_by (map D.stated a.devices.items)).sizes
-        × AreKept (map D.stated a.devices.items) a.kept.entries };
+    ghost invariant = { λ a. AreSizes (reading_by (map D.reading a.devices.items)).stated.sizes
+        × AreKept (texts_of (map D.reading a.devices.items)) a.kept.entries };
 }
 
 impl<D: Device> FileSources<D> {
-    /// No sources, and room for so many blocks that are kept.
+    /// No sources, room for so many blocks that are kept, and what the devices count their reads in.
     ///
     /// # Errors
     ///
     /// `AllocError`, where there was no memory for that.
-    pub fn new(alloc: Global, blocks: NonZeroUsize) -> Result<FileSources<D>, AllocError>
-        ensures { IfOk result (λ sources. sources ≡ []) }
+    pub fn new(
+        alloc: Global,
+        blocks: NonZeroUsize,
+        book: D::Book,
+    ) -> Result<FileSources<D>, AllocError>
+        ensures { IfOk result (λ sources. sources ≡ record { devices = []; kept = [] }) }
     {
         Ok(FileSources {
             devices: Vec::new(alloc),
             kept: LruCache::new(alloc, blocks)?,
+            book,
             alloc,
         })
     }
@@ -61,12 +69,13 @@ impl<D: Device> FileSources<D> {
     /// `TooManySources` where there are 255, `SourceTooLong` for more than 2^40 - 1 bytes, `Memory`. The device
     /// is handed back, and the sources are as before.
     pub fn add(&mut self, device: D) -> Result<u8, Refused<D>>
-        ensures place { IfOk result (λ s. s ≡ length self.old) }
-        ensures ok { OnOk result (self.new ≡ self.old ++ device ∷ []) }
+        ensures place { IfOk result (λ s. s ≡ length self.old.devices) }
+        ensures ok { OnOk result
+            (self.new ≡ record self.old { devices = self.old.devices ++ device ∷ [] }) }
         ensures too_many { IsErrAnd result (λ refused. refused.fault ≡ AddFault.TooManySources)
-            ↔ (length self.old ≡ COUNT_LIMIT) }
+            ↔ (length self.old.devices ≡ COUNT_LIMIT) }
         ensures too_long { IsErrAnd result (λ refused. refused.fault ≡ AddFault.SourceTooLong)
-            ↔ ((length self.old < COUNT_LIMIT) × (SOURCE_LIMIT < (D.stated device).size)) }
+            ↔ ((length self.old.devices < COUNT_LIMIT) × (SOURCE_LIMIT < (D.reading device).stated.size)) }
         ensures back { IfErr result (λ refused. refused.device ≡ device) }
         ensures err { OnErr result (self.new ≡ self.old) }
     {
@@ -94,9 +103,7 @@ impl<D: Device> FileSources<D> {
 }
 
 impl<D: Device> Sources for FileSources<D> {
-    ghost stated = { λ ds. stated_by (map D.stated ds) };
-
-    ghost failures = { sum_by D.failures };
+    ghost reading = { λ files. reading_by (map D.reading files.devices) };
 
     fn count(&self) -> u8 {
         self.devices.len() as u8
@@ -106,20 +113,30 @@ impl<D: Device> Sources for FileSources<D> {
         source_size(&self.devices, s)
     }
 
-    /// As of any sources; and every device but that of source `s` is left as it was.
+    /// As of any sources; every device but that of source `s` is left as it was, and that one is read by at most 4,096 calls for
+    /// each block that the bytes lie in. A short read keeps the block of its last byte, and reads no device where the blocks of all its
+    /// bytes are kept.
     fn read(&mut self, s: u8, off: u64, buffer: &mut [u8]) -> Result<(), SourceFault>
-        ensures reads { Reads (λ ds. stated_by (map D.stated ds)) (sum_by D.failures)
-            self.old self.new }
-        ensures bytes { OnOk result (IfSome (text_at (stated_by (map D.stated self.old)) s)
+        ensures reads { Reads (reading_by (map D.reading self.old.devices))
+            (reading_by (map D.reading self.new.devices)) (InSpan s off (max 1 (length buffer.old))) (fault_in result) }
+        ensures bytes { OnOk result (IfSome (text_at (reading_by (map D.reading self.old.devices)).stated s)
             (λ t. buffer.new ≡ take (length buffer.old) (drop off t))) }
-        ensures fault { IsFaultOf (λ ds. stated_by (map D.stated ds)) (sum_by D.failures)
-            self.old self.new s off (length buffer.old) result }
-        ensures told { TellsFailure (sum_by D.failures) self.old self.new result }
-        ensures others { KeepsOthers self.old self.new s }
+        ensures bad_source { IsErrOf result SourceFault.BadSource
+            ↔ (holds_span (reading_by (map D.reading self.old.devices)).stated s off (length buffer.old)
+            ≡ false) }
+        ensures keeps { OnOk result (1 ≤ length buffer.old → length buffer.old < BLOCK_SIZE
+            → Contains self.new.kept (last_block s off (length buffer.old))) }
+        ensures unread { length buffer.old < BLOCK_SIZE
+            → AreKeptFor self.old.kept s off (length buffer.old)
+            → self.new.devices ≡ self.old.devices }
+        ensures others { KeepsOthers self.old.devices self.new.devices s }
+        ensures calls { calls_of (map D.reading self.new.devices) s
+            ≤ calls_of (map D.reading self.old.devices) s + BLOCK_SIZE * blocks_in off (length buffer.old) }
     {
         read_source(
             self.alloc,
             &mut self.devices,
+            &mut self.book,
             &mut self.kept,
             s,
             off,

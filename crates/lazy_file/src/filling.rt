@@ -12,15 +12,16 @@ use crate::faults::SourceFault;
 /// `Device` where a read failed, `Short` where the device ended before.
 pub(crate) fn fill<D: Device>(
     device: &mut D,
+    book: &mut D::Book,
     off: u64,
     buffer: &mut [u8],
 ) -> Result<(), SourceFault>
     requires { off + length buffer.old < 2 ^ 64 }
-    ensures { FillsFrom D.stated D.failures device.old device.new off buffer.new result }
+    ensures { FillsFrom (D.reading device.old) (D.reading device.new) off buffer.new result }
 {
     let mut done = 0;
     while done < buffer.len() {
-        match device.read_at(off + done as u64, &mut buffer[done..]) {
+        match device.read_at(book, off + done as u64, &mut buffer[done..]) {
             Ok(0) => return Err(SourceFault::Short),
             Ok(count) => done += count,
             Err(_) => return Err(SourceFault::Device),

@@ -1,6 +1,6 @@
 //! Blocks of sources that are kept in memory, the last ones that were read.
-ghost use Rattle.std.specs.Prelude.{◌≡◌, IsTrue, drop, length, take};
-ghost use Rattle.lazy_file.specs.KeptBlocks.{CopiesKept, KeepsOne};
+ghost use Rattle.std.specs.Prelude.{◌≡◌, ◌≤◌, ◌+◌, IsTrue, OnOk, drop, length, take};
+ghost use Rattle.lazy_file.specs.KeptBlocks.{CopiesKept, IsKept, KeepsOne};
 
 use lru::LruCache;
 use std::alloc::AllocError;
@@ -10,7 +10,8 @@ pub const BLOCK_SIZE: usize = 4096;
 
 /// Copies the bytes of a block from its place `from` on into the whole of `part`, and answers whether it has so many.
 fn copy_part(block: &[u8], from: usize, part: &mut [u8]) -> bool
-    ensures { IsTrue result → part.new ≡ take (length part.new) (drop from block.now) }
+    ensures copied { IsTrue result → part.new ≡ take (length part.new) (drop from block.now) }
+    ensures inside { from + length part.old ≤ length block.now → IsTrue result }
 {
     let Some(end) = from.checked_add(part.len()) else {
         return false;
@@ -44,7 +45,8 @@ pub(crate) fn keep(
     key: (u8, u64),
     block: Vec<u8>,
 ) -> Result<(), AllocError>
-    ensures { KeepsOne kept.old.entries kept.new.entries key block }
+    ensures one { KeepsOne kept.old.entries kept.new.entries key block }
+    ensures kept { OnOk result (IsKept kept.new.entries key) }
 {
     kept.put(key, block)?;
     Ok(())

@@ -84,9 +84,7 @@ impl<'a> MemSources<'a> {
 }
 
 impl<'a> Sources for MemSources<'a> {
-    ghost stated = { stated_in_memory };
-
-    ghost failures = { λ _. 0 };
+    ghost reading = { λ xs. record { stated = stated_in_memory xs; failures = λ _. 0 } };
 
     fn count(&self) -> u8 {
         self.slices.len() as u8

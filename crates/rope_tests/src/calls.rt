@@ -3,14 +3,17 @@
 
 mod agreement;
 mod balance;
+mod faults;
 mod files;
 mod functions;
 mod patterns;
+mod places;
 mod pools;
 mod positions;
 mod repeats;
 mod ropes;
 mod searches;
+mod stores;
 mod tables;
 mod walks;
 

@@ -8,17 +8,19 @@ use Rattle.std.proofs.lemmas.Bool.{cases_lt}
 use Rattle.std.proofs.lemmas.Option.{same_Some}
 use Rattle.lazy_file.specs.SourceTexts.{Stated}
 use Rattle.span_certificate.specs.declared.edit.Edit.{Edit}
-use Rattle.span_certificate.specs.Commands.{result_of}
+use Rattle.span_certificate.specs.declared.edit.Splice.{Splice}
+use Rattle.span_certificate.specs.Commands.{FullEdit, result_of, with_splices}
 use Rattle.edit_commands.specs.declared.revision.Revision.{Revision}
 use Rattle.edit_commands.specs.Applying.{Applies}
-use Rattle.edit_commands.specs.Building.{edit_with}
-use Rattle.edit_commands.specs.Session.{HoldsHistory, SessionValue, edits_of, session_table, text_givens, texts_of}
+use Rattle.edit_commands.specs.Building.{splices_with}
+use Rattle.edit_commands.specs.Session.{HoldsHistory, SessionValue, command_of, commands_of, splices_held, session_table, text_givens, texts_of}
 use Rattle.screen_editor.specs.declared.workspace.TheConstants.{LONGEST_TEXT}
 use Rattle.screen_editor.specs.Editing.{Editing, state_of}
 use Rattle.screen_editor.specs.Opening.{IsFirst}
+use Rattle.screen_editor.specs.Recorded.{IsPlain, edit_at, edits_of}
 use Rattle.screen_editor.specs.Refusals.{IsTooLong, first_command}
 use Rattle.screen_editor.specs.Revising.{IsMade, first_text}
-use Rattle.screen_editor.proofs.NewTexts.{text_len}
+use Rattle.screen_editor.proofs.NewTexts.{plain_edit, plain_says, text_len}
 
 alone : (ts : List (List ℕ)) (t : List ℕ) → length ts ≡ 1 → slice_get ts 0 ≡ Some t → ts ≡ t ∷ []
 alone [] t e h = absurd cc
@@ -26,14 +28,18 @@ alone (x ∷ []) t e h = ap (λ (y : List ℕ). y ∷ []) (same_Some x t h)
 alone (x ∷ y ∷ ts) t e h = absurd (omega (arith, e))
 
 -- what the first command gives
-given_first : (source : ℕ → ℕ → ℕ) (v : SessionValue) (sizes : List ℕ) (a : ℕ) → v.held.sources ≡ sizes → result_of (text_givens source (session_table v)) [] (edit_with a (first_command sizes)) ≡ Some (first_text source sizes)
+given_first : (source : ℕ → ℕ → ℕ) (v : SessionValue) (sizes : List ℕ) (a : ℕ) → v.held.sources ≡ sizes → result_of (text_givens source (session_table v)) [] (with_splices [] (edit_at a (first_command sizes))) ≡ Some (first_text source sizes)
 given_first source v [] a e = refl
 given_first source v (n ∷ sizes) a e = ap (λ (s : List ℕ). slice_get (map (λ (k : ℕ). map (source k) (range_with_len 0 (get_or s k 0))) (range_with_len 0 (length s))) 0) e
 
 -- it is recorded alike wherever the pool ends
-first_anywhere : (sizes : List ℕ) (a : ℕ) → edit_with a (first_command sizes) ≡ edit_with 0 (first_command sizes)
+first_anywhere : (sizes : List ℕ) (a : ℕ) → edit_at a (first_command sizes) ≡ edit_at 0 (first_command sizes)
 first_anywhere [] a = refl
 first_anywhere (n ∷ sizes) a = refl
+
+first_plain : (sizes : List ℕ) → IsPlain (first_command sizes)
+first_plain [] = tt
+first_plain (n ∷ sizes) = tt
 
 first_len : (source : ℕ → ℕ → ℕ) (sizes : List ℕ) → length (first_text source sizes) ≡ get_or sizes 0 0
 first_len source [] = refl
@@ -44,17 +50,21 @@ first_made sizes old new k applies is_sources none history short =
     let h = subst (λ (s : List ℕ). Applies old (first_command s) k new) is_sources applies in
     let sources : new.held.sources ≡ sizes = h.keeps.goes_on.sources ∙ is_sources in
     let revisions : new.revisions ≡ h.made ∷ [] = h.revisions ∙ ap (λ (rs : List Revision). rs ++ h.made ∷ []) none in
-    let command : slice_get (edits_of new.revisions) 0 ≡ Some (edit_with h.is.place (first_command sizes)) = ap (λ (rs : List Revision). slice_get (edits_of rs) 0) revisions ∙ ap (λ (x : Edit). Some x) h.is.edit in
-    let text = texts_are sizes new (edit_with h.is.place (first_command sizes)) history command (ap (λ (rs : List Revision). length (edits_of rs)) revisions) (λ source. given_first source new sizes h.is.place sources) in
+    let place = get_or h.is.places 0 0 in
+    let says : command_of h.made ≡ with_splices [] (edit_at place (first_command sizes)) =
+    ap (λ (ss : List Splice). with_splices ss h.made.edit) h.is.splices ∙ ap (with_splices (splices_with h.is.places (first_command sizes))) h.is.edit ∙ plain_says h.is.places (splices_held old.revisions) (first_command sizes) (first_plain sizes) in
+    let command : slice_get (commands_of new.revisions) 0 ≡ Some (with_splices [] (edit_at place (first_command sizes))) = ap (λ (rs : List Revision). slice_get (commands_of rs) 0) revisions ∙ ap (λ (x : FullEdit). Some x) says in
+    let edit = h.is.edit ∙ plain_edit h.is.places (splices_held old.revisions) (first_command sizes) (first_plain sizes) in
+    let text = texts_are sizes new (with_splices [] (edit_at place (first_command sizes))) history command (ap (λ (rs : List Revision). length (commands_of rs)) revisions) (λ source. given_first source new sizes place sources) in
     record {
       sources = sources;
       one = ap length revisions;
-      command = ap edits_of revisions ∙ ap (λ (x : Edit). x ∷ []) (h.is.edit ∙ first_anywhere sizes h.is.place);
+      command = ap edits_of revisions ∙ ap (λ (x : Edit). x ∷ []) (edit ∙ first_anywhere sizes place);
       text = text;
       short = rw (sym (text_len new history (λ s p. 0) 0), ap (λ (ts : List (List ℕ)). length (get_or ts 0 [])) (text (λ s p. 0)), first_len (λ s p. 0) sizes) short;
     }
   where
-    texts_are : (sizes : List ℕ) (new : SessionValue) (edit : Edit) → HoldsHistory new → slice_get (edits_of new.revisions) 0 ≡ Some edit → length (edits_of new.revisions) ≡ 1
+    texts_are : (sizes : List ℕ) (new : SessionValue) (edit : FullEdit) → HoldsHistory new → slice_get (commands_of new.revisions) 0 ≡ Some edit → length (commands_of new.revisions) ≡ 1
         → ((source : ℕ → ℕ → ℕ) → result_of (text_givens source (session_table new)) [] edit ≡ Some (first_text source sizes)) → (source : ℕ → ℕ → ℕ) → texts_of source new ≡ first_text source sizes ∷ []
     texts_are sizes new edit history command one given source =
         alone (texts_of source new) (first_text source sizes) ((history.texts source).whole ∙ one) ((history.texts source).each 0 edit command ∙ given source)

@@ -11,7 +11,6 @@ use Rattle.edit_commands.specs.declared.command.Command.{Command}
 use Rattle.edit_commands.specs.declared.fault.EditFault.{EditFault}
 use Rattle.edit_commands.specs.declared.fault.EditFault.TheVariants as Edit
 use Rattle.edit_commands.specs.Applying.{Applies}
-use Rattle.edit_commands.specs.Building.{edit_with}
 use Rattle.edit_commands.specs.Refusals.{result_len}
 use Rattle.edit_commands.specs.Session.{SessionValue, HoldsHistory, texts_of}
 use Rattle.screen_editor.specs.declared.cut_span.CutSpan.{CutSpan}
@@ -21,11 +20,12 @@ use Rattle.screen_editor.specs.declared.key.Key.{Key}
 use Rattle.screen_editor.specs.declared.workspace.TheConstants.{LONGEST_TEXT}
 use Rattle.screen_editor.specs.Editing.{Editing, IsEditing, current_len, key_code, last_of, state_of}
 use Rattle.screen_editor.specs.Machine.{done, edit_of, revised}
+use Rattle.screen_editor.specs.Recorded.{edit_at}
 use Rattle.screen_editor.specs.Refusals.{GrowsTooLong, IsPlainFault, MakesRevision}
 use Rattle.screen_editor.specs.Revising.{AppliesCommand, Does, KeepsAll}
 use Rattle.screen_editor.specs.State.{EditorState, current}
 use Rattle.screen_editor.specs.Taking.{IsInOrder, IsReviseFault, RevisesOrNot, CarriesOut}
-use Rattle.screen_editor.proofs.NewTexts.{count_texts, given_len, text_given, text_len, texts_more}
+use Rattle.screen_editor.proofs.NewTexts.{count_texts, given_len, plain_of, text_given, text_len, texts_more}
 
 pub no_source : ℕ → ℕ → ℕ
 no_source s p = 0
@@ -125,7 +125,7 @@ long_kept key e prior q t does long = too_long_kept key e
 
 -- the command by which the key does its work on this session, with the revision's prior, the place and the cut spans that it leaves
 pub record IsPlan (key : Key) (e : Editing) (command : Command) (prior : Option ℕ) (q : ℕ) (cuts : List CutSpan) : Type 0 where
-  pub edit : (a : ℕ) (source : ℕ → ℕ → ℕ) → edit_of a key (state_of source e) ≡ Some (edit_with a command)
+  pub edit : (a : ℕ) (source : ℕ → ℕ → ℕ) → edit_of a key (state_of source e) ≡ Some (edit_at a command)
   pub does : (source : ℕ → ℕ → ℕ) → done key (state_of source e) ≡ record (revised (state_of source e) (text_given (texts_of source e.session) command) prior q) { cuts = cuts }
   pub order : IsInOrder e.session command
   pub short : result_len e.session command ≤ LONGEST_TEXT
@@ -147,7 +147,7 @@ pub plan_taken : (key : Key) (old : Editing) (command : Command) (prior : Option
     → RevisesOrNot command prior q old (Ok tt) mid → new ≡ record mid { cuts = cuts } → CarriesOut key old (Ok tt) new
 plan_taken key old command prior q cuts mid new h p r is = record {
   done = does;
-  command = AppliesCommand.one command p.edit
+  command = AppliesCommand.one command (plain_of old.session command p.order) p.edit
       (subst (λ (v : SessionValue). Applies old.session command (length old.session.revisions) v)
       (sym (ap (λ (n : Editing). n.session) is)) r.revises.applies);
   kept = tt;
@@ -163,7 +163,7 @@ plan_taken key old command prior q cuts mid new h p r is = record {
         ∙ ap (λ (ts : List (List ℕ)). record { texts = ts; priors = old.priors ++ prior ∷ []; place = q; mark = None; cuts = cuts; message = option_map key_code old.message }) (texts_more old.session command mid.session p.order r.revises.applies source)
         ∙ sym (p.does source)
 
-plan_fault : (key : Key) (old : Editing) (command : Command) (f : KeyFault) (new : Editing) → ((a : ℕ) (source : ℕ → ℕ → ℕ) → edit_of a key (state_of source old) ≡ Some (edit_with a command)) → MakesRevision key old
+plan_fault : (key : Key) (old : Editing) (command : Command) (f : KeyFault) (new : Editing) → ((a : ℕ) (source : ℕ → ℕ → ℕ) → edit_of a key (state_of source old) ≡ Some (edit_at a command)) → MakesRevision key old
     → IsReviseFault command old f new → IsPlainFault key old f new
 plan_fault key old command Fault.TooLong new edit one h = absurd h
 plan_fault key old command (Fault.Source f) new edit one h = absurd h
@@ -171,6 +171,8 @@ plan_fault key old command (Fault.Edit Edit.NoRevision) new edit one h = absurd 
 plan_fault key old command (Fault.Edit Edit.NoSource) new edit one h = absurd h
 plan_fault key old command (Fault.Edit Edit.Range) new edit one h = absurd h
 plan_fault key old command (Fault.Edit Edit.EmptyText) new edit one h = absurd h
+plan_fault key old command (Fault.Edit Edit.SpliceCount) new edit one h = absurd h
+plan_fault key old command (Fault.Edit Edit.TooManySplices) new edit one h = absurd h
 plan_fault key old command (Fault.Edit Edit.TooManyRevisions) new edit one h = (one, h)
 plan_fault key old command (Fault.Edit Edit.TooManyRows) new edit one h = (one, record { command = command; place = 0; edit = edit 0; met = h })
 plan_fault key old command (Fault.Edit (Edit.Node n)) new edit one h = (one, record { command = command; place = 0; edit = edit 0; met = h })

@@ -22,3 +22,4 @@ pub mod Showing
 pub mod Status
 pub mod WindowLaws
 pub mod PlainKeys
+pub mod LaterReadings

@@ -1,16 +1,18 @@
 -- Keys that look for line breaks.
-use Rattle.std.proofs.Common.{◌≡◌, ℕ, ◌-◌, ◌<◌, List, [], get_or, Result, Ok, Err, Option, Some, None, true, false, refl, sym, ap, subst, ◌∙◌}
-use Rattle.std.specs.Prelude.{IsTrue, IfErr, OnOk, IsErrOf, IsOk}
+use Rattle.std.proofs.Common.{◌≡◌, ℕ, ◌-◌, List, [], get_or, Result, Ok, Err, Option, Some, None, true, false, refl, sym, ap, subst, ◌∙◌}
+use Rattle.std.specs.Prelude.{IsTrue, IfErr, OnOk, IsErrOf}
 use Rattle.std.proofs.Math.ListN.{get_or-map}
 use Rattle.std.proofs.lemmas.Option.{same_Some}
 use Rattle.rope_node.specs.declared.node.NodeId.{NodeId}
 use Rattle.function_leaf.specs.declared.coded.Coded.{Coded}
 use Rattle.function_leaf.specs.Coded.{coded_byte}
 use Rattle.node_table.specs.Held.{Held, table_of}
-use Rattle.rope_node.specs.Denotes.{Cell, rope_cells, rope_len, text}
-use Rattle.lazy_file.specs.SourceTexts.{Agrees, Reads, Stated}
+use Rattle.rope_node.specs.Denotes.{rope_cells, rope_len, text}
+use Rattle.lazy_file.specs.SourceTexts.{Agrees, Stated}
+use Rattle.lazy_file.specs.Readings.{Reading, Reads, fault_by}
+use Rattle.lazy_file.proofs.LaterReads.{reads_weaker}
 use Rattle.lazy_file.specs.declared.faults.SourceFault.{SourceFault}
-use Rattle.cord_position.specs.Fetched.{IsStated, ReadsSpan, rope_cell}
+use Rattle.cord_position.specs.Fetched.{InCells, IsStated, ReadsSpan, rope_cell}
 use Rattle.edit_commands.specs.Applying.{Keeps}
 use Rattle.edit_commands.specs.Session.{HoldsHistory, SessionValue, cells_of, roots_of, session_table, texts_of}
 use Rattle.edit_commands.proofs.GoingOn.{goes_on_itself}
@@ -22,26 +24,21 @@ use Rattle.screen_editor.specs.Editing.{Editing, EachCurrent, IsEditing, current
 use Rattle.screen_editor.specs.Keys.{looks_for_lines}
 use Rattle.screen_editor.specs.LineKeys.{DoesStated, IsLinePlace, Takes, line_place}
 use Rattle.screen_editor.specs.Machine.{done, edit_of, moved}
-use Rattle.screen_editor.specs.Refusals.{IsKeyFault, IsPlainFault}
+use Rattle.screen_editor.specs.Refusals.{IsPlainFault, KeyAsks, key_source_fault}
 use Rattle.screen_editor.specs.Revising.{AppliesCommand}
 use Rattle.screen_editor.specs.State.{EditorState, current}
 use Rattle.screen_editor.specs.Taking.{CarriesOut}
 use Rattle.screen_editor.proofs.KeyPlans.{makes_none, no_source, stays_short}
 use Rattle.screen_editor.proofs.NewTexts.{count_texts}
 
--- a read that failed, whatever it was to answer
-pub failed_alike : {T X Y : Type 0} (stated : T → Stated) (failures : T → ℕ) (old new : T) (cell : ℕ → Cell) (i j : ℕ) (f : SourceFault) → ReadsSpan {X = X} stated failures old new cell i j (Err f) → ReadsSpan {X = Y} stated failures old new cell i j (Err f)
-failed_alike stated failures old new cell i j f h = record { reads = h.reads; fault = h.fault; told = h.told; succeeds = λ each. h.succeeds each }
-
 -- the current text's cells, by the store and the root that the workspace hands out
-pub failed_in_current : {T X Y : Type 0} (stated : T → Stated) (failures : T → ℕ) (before now : T) (e : Editing) (session : SessionValue) (held : Held Coded) (root : Option NodeId) (f : SourceFault) → session ≡ e.session → held ≡ session.held → root ≡ current_root e
-    → ReadsSpan {X = X} stated failures before now (rope_cell (table_of coded_byte held) root) 0 (rope_len (table_of coded_byte held) root) (Err f)
-    → ReadsSpan {X = Y} stated failures before now (current_cell e) 0 (current_len e) (Err f)
-failed_in_current {T} {X} {Y} stated failures before now e session held root f is_session is_held is_root h =
+pub failed_in_current : (before now : Reading) (e : Editing) (session : SessionValue) (held : Held Coded) (root : Option NodeId) (f : SourceFault) → session ≡ e.session → held ≡ session.held → root ≡ current_root e
+    → ReadsSpan {X = Unit {0}} before now (rope_cell (table_of coded_byte held) root) 0 (rope_len (table_of coded_byte held) root) (Err f)
+    → ReadsSpan {X = Unit {0}} before now (current_cell e) 0 (current_len e) (Err f)
+failed_in_current before now e session held root f is_session is_held is_root h =
     let same : held ≡ e.session.held = is_held ∙ ap (λ (v : SessionValue). v.held) is_session in
-    failed_alike {X = X} {Y = Y} stated failures before now (current_cell e) 0 (current_len e) f
-    (subst (λ (r : Option NodeId). ReadsSpan {X = X} stated failures before now (rope_cell (table_of coded_byte e.session.held) r) 0 (rope_len (table_of coded_byte e.session.held) r) (Err f)) is_root
-    (subst (λ (x : Held Coded). ReadsSpan {X = X} stated failures before now (rope_cell (table_of coded_byte x) root) 0 (rope_len (table_of coded_byte x) root) (Err f)) same h))
+    subst (λ (r : Option NodeId). ReadsSpan {X = Unit {0}} before now (rope_cell (table_of coded_byte e.session.held) r) 0 (rope_len (table_of coded_byte e.session.held) r) (Err f)) is_root
+    (subst (λ (x : Held Coded). ReadsSpan {X = Unit {0}} before now (rope_cell (table_of coded_byte x) root) 0 (rope_len (table_of coded_byte x) root) (Err f)) same h)
 
 -- ---- the current text
 
@@ -121,9 +118,6 @@ taken_is_taken f e = absurd cc
 other_fault : (f : SourceFault) → IsErrOf {T = Unit {0}} (Err (Fault.Source f)) Fault.TooLong → ⊥
 other_fault f e = absurd cc
 
-failed_is_failed : (f : SourceFault) → IsOk {T = Option ℕ} (Err f) → ⊥
-failed_is_failed f e = let same : false ≡ true = e in absurd cc
-
 keeps_itself : (v : SessionValue) → Keeps v v
 keeps_itself v = record { goes_on = goes_on_itself v.held; cells = refl }
 
@@ -131,57 +125,52 @@ moved_state : (source : ℕ → ℕ → ℕ) (st : Stated) (key : Key) (old : Ed
 moved_state source st key old p h agrees stated =
     sym (moves_there key (state_of source old) p (subst (λ (t : List ℕ). line_place key t old.place ≡ Some p) (sym (current_text source old)) (h.is source agrees stated)))
 
-pub moved_takes : {T : Type 0} (stated : T → Stated) (failures : T → ℕ) (key : Key) (before now : T) (old new : Editing) (p : ℕ) → IsEditing old → HoldsHistory old.session
-    → IsLinePlace (stated before) key old p → new ≡ record old { place = p } → Reads stated failures before now → ¬ (failures before < failures now) → Takes stated failures key before old (Ok tt) now new
-moved_takes {T} stated failures key before now old new p is history h e reads none =
-    subst (λ (x : Editing). Takes stated failures key before old (Ok tt) now x) (sym e) (record {
-      done = λ source agrees told. moved_state source (stated before) key old p h agrees (told h.looks);
+pub moved_takes : (key : Key) (before now : Reading) (old new : Editing) (p : ℕ) → IsEditing old → HoldsHistory old.session
+    → IsLinePlace before.stated key old p → new ≡ record old { place = p } → now ≡ before → Takes key before old (Ok tt) now new
+moved_takes key before now old new p is history h e same =
+    subst (λ (x : Editing). Takes key before old (Ok tt) now x) (sym e) (record {
+      done = λ source agrees told. moved_state source before.stated key old p h agrees (told h.looks);
       command = AppliesCommand.none (λ a source. no_edit key a (state_of source old) h.looks) refl;
       moves = λ _. refl;
       kept = tt;
       too_long = ((λ told. absurd (taken_is_taken Fault.TooLong told)), (λ grows. absurd (stays_short key old is history (same_texts key (state_of no_source old) h.looks) grows)));
       too_many = λ makes _ _. absurd (makes_none key old (same_texts key (state_of no_source old) h.looks) makes);
       fault = tt;
-      told = none;
-      reads = reads;
-      succeeds = λ _ f told. taken_is_taken (Fault.Source f) told;
+      reads = same;
       sources = refl;
     })
 
-pub failed_takes : {T : Type 0} (stated : T → Stated) (failures : T → ℕ) (key : Key) (before now : T) (old : Editing) (f : SourceFault) → IsEditing old → HoldsHistory old.session
-    → IsTrue (looks_for_lines key) → ReadsSpan {X = Option ℕ} stated failures before now (current_cell old) 0 (current_len old) (Err f) → Takes stated failures key before old (Err (Fault.Source f)) now old
-failed_takes stated failures key before now old f is history looks h = record {
+some_fault : (f : SourceFault) → key_source_fault (Fault.Source f) ≡ None → ⊥
+some_fault f e = absurd cc
+
+pub failed_takes : (key : Key) (before now : Reading) (old : Editing) (f : SourceFault) → IsEditing old → HoldsHistory old.session
+    → IsTrue (looks_for_lines key) → ReadsSpan {X = Unit {0}} before now (current_cell old) 0 (current_len old) (Err f) → Takes key before old (Err (Fault.Source f)) now old
+failed_takes key before now old f is history looks h = record {
   done = tt;
   command = tt;
   moves = tt;
   kept = record { keeps = keeps_itself old.session; revisions = refl; rest = refl };
   too_long = ((λ told. absurd (other_fault f told)), (λ grows. absurd (stays_short key old is history (same_texts key (state_of no_source old) looks) grows)));
   too_many = λ makes _ _. absurd (makes_none key old (same_texts key (state_of no_source old) looks) makes);
-  fault = (looks, h.fault);
-  told = λ more. ap Fault.Source (h.told more);
-  reads = h.reads;
-  succeeds = λ each _ _. failed_is_failed f (h.succeeds each);
+  fault = λ none. absurd (some_fault f none);
+  reads = reads_weaker before now (InCells (current_cell old) 0 (current_len old)) (KeyAsks key old) (Some f) (λ s p asked. (looks, asked)) h;
   sources = refl;
 }
 
 -- ---- and any other key
 
-as_any_fault : {T : Type 0} (stated : T → Stated) (failures : T → ℕ) (before now : T) (key : Key) (old : Editing) (f : KeyFault) (new : Editing) → IsPlainFault key old f new → IsKeyFault stated failures before now key old f new
-as_any_fault stated failures before now key old Fault.TooLong new h = h
-as_any_fault stated failures before now key old (Fault.Edit f) new h = h
-as_any_fault stated failures before now key old (Fault.Source f) new h = absurd h
+any_fault : (key : Key) (old new : Editing) (result : Result (Unit {0}) KeyFault) → IfErr result (λ f. IsPlainFault key old f new) → IfErr result (λ f. key_source_fault f ≡ None → IsPlainFault key old f new)
+any_fault key old new (Ok u) h = tt
+any_fault key old new (Err f) h = λ none. h
 
-any_fault : {T : Type 0} (stated : T → Stated) (failures : T → ℕ) (before now : T) (key : Key) (old new : Editing) (result : Result (Unit {0}) KeyFault) → IfErr result (λ f. IsPlainFault key old f new) → IfErr result (λ f. IsKeyFault stated failures before now key old f new)
-any_fault stated failures before now key old new (Ok u) h = tt
-any_fault stated failures before now key old new (Err f) h = as_any_fault stated failures before now key old f new h
+no_source_fault : (key : Key) (old : Editing) (f : KeyFault) (new : Editing) → IsPlainFault key old f new → key_source_fault f ≡ None
+no_source_fault key old Fault.TooLong new h = refl
+no_source_fault key old (Fault.Edit f) new h = refl
+no_source_fault key old (Fault.Source f) new h = absurd h
 
-not_a_source : (key : Key) (old new : Editing) (result : Result (Unit {0}) KeyFault) (f : SourceFault) → IfErr result (λ k. IsPlainFault key old k new) → ¬ IsErrOf result (Fault.Source f)
-not_a_source key old new (Ok u) f h told = taken_is_taken (Fault.Source f) told
-not_a_source key old new (Err k) f h e = subst (λ (r : Result (Unit {0}) KeyFault). IsPlainFault key old (fault_of r) new) e h
-  where
-    fault_of : Result (Unit {0}) KeyFault → KeyFault
-    fault_of (Ok u) = k
-    fault_of (Err x) = x
+plain_reads : (before now : Reading) (key : Key) (old new : Editing) (result : Result (Unit {0}) KeyFault) → IfErr result (λ f. IsPlainFault key old f new) → now ≡ before → Reads before now (KeyAsks key old) (fault_by key_source_fault result)
+plain_reads before now key old new (Ok u) h same = same
+plain_reads before now key old new (Err f) h same = rw (no_source_fault key old f new h) same
 
 on_ok : {E : Type 0} (P Q : Type 0) (result : Result (Unit {0}) E) → (P → Q) → OnOk result P → OnOk result Q
 on_ok P Q (Ok u) f h = f h
@@ -194,18 +183,16 @@ on_any : {E : Type 0} (Q : Type 0) (result : Result (Unit {0}) E) → Q → OnOk
 on_any Q (Ok u) q = q
 on_any Q (Err e) q = tt
 
-pub plain_takes : {T : Type 0} (stated : T → Stated) (failures : T → ℕ) (key : Key) (before now : T) (old new : Editing) (result : Result (Unit {0}) KeyFault) → looks_for_lines key ≡ false
-    → CarriesOut key old result new → Reads stated failures before now → ¬ (failures before < failures now) → Takes stated failures key before old result now new
-plain_takes {T} stated failures key before now old new result looks h reads none = record {
-  done = on_ok _ (DoesStated (stated before) key old new) result (λ does source agrees told. does source) h.done;
+pub plain_takes : (key : Key) (before now : Reading) (old new : Editing) (result : Result (Unit {0}) KeyFault) → looks_for_lines key ≡ false
+    → CarriesOut key old result new → now ≡ before → Takes key before old result now new
+plain_takes key before now old new result looks h same = record {
+  done = on_ok _ (DoesStated before.stated key old new) result (λ does source agrees told. does source) h.done;
   command = h.command;
   moves = on_any (IsTrue (looks_for_lines key) → new ≡ record old { place = new.place }) result (λ moves. absurd (not_by_lines key looks moves));
   kept = h.kept;
   too_long = h.too_long;
   too_many = h.too_many;
-  fault = any_fault stated failures before now key old new result h.fault;
-  told = λ more. absurd (none more);
-  reads = reads;
-  succeeds = λ each f. not_a_source key old new result f h.fault;
+  fault = any_fault key old new result h.fault;
+  reads = plain_reads before now key old new result h.fault same;
   sources = h.sources;
 }

@@ -7,17 +7,22 @@ use Rattle.std.proofs.Math.ListN.{get_or-map}
 use Rattle.std.proofs.lemmas.Simd.{map-map}
 use Rattle.std.proofs.lemmas.Option.{same_Some, get_or_from_slice_get}
 use Rattle.rope_node.specs.declared.node.NodeId.{NodeId}
+use Rattle.rope_node.specs.Table.{Table}
 use Rattle.rope_node.specs.Denotes.{Cell, Byte, cell_byte, rope_cells, rope_len, text}
-use Rattle.span_certificate.specs.Commands.{Givens, ◌>>=◌, span, bounded, replaced, spliced, result_of}
+use Rattle.span_certificate.specs.declared.edit.Edit.{Edit}
+use Rattle.span_certificate.specs.declared.edit.Splice.{Splice}
+use Rattle.span_certificate.specs.Commands.{FullEdit, with_splices, Givens, ◌>>=◌, span, bounded, replaced, spliced, result_of}
 use Rattle.span_certificate.specs.Parts.{givens_of}
 use Rattle.span_certificate.proofs.MappedResults.{mapped_givens, result_mapped}
 use Rattle.edit_commands.specs.declared.command.Command.{Command}
-use Rattle.edit_commands.specs.declared.command.Command.TheVariants.{New, Open, Insert, Delete, Replace, Paste, Join, Cut, Fill, Back, Balance}
+use Rattle.edit_commands.specs.declared.command.Command.TheVariants.{New, Open, Insert, Delete, Replace, Paste, Join, Cut, Fill, Back, Balance, Many}
 use Rattle.edit_commands.specs.declared.revision.Revision.{Revision}
 use Rattle.edit_commands.specs.Applying.{Applies}
-use Rattle.edit_commands.specs.Building.{StandNew, edit_with}
-use Rattle.edit_commands.specs.Refusals.{bytes_of, result_len}
-use Rattle.edit_commands.specs.Session.{SessionValue, HoldsHistory, cells_of, edits_of, length_at, roots_of, session_table, texts_of}
+use Rattle.edit_commands.specs.Building.{StandEach, edit_with, splices_with}
+use Rattle.edit_commands.specs.Refusals.{result_len}
+use Rattle.edit_commands.specs.Terms.{handed, terms_of}
+use Rattle.edit_commands.specs.Session.{SessionValue, HoldsHistory, splices_held, cells_of, command_of, length_at, roots_of, session_table, texts_of}
+use Rattle.screen_editor.specs.Recorded.{IsPlain, edit_at, edits_of}
 use Rattle.screen_editor.specs.Taking.{IsInOrder}
 
 -- ---- a step that may give nothing
@@ -52,7 +57,7 @@ abbrev StandIn : List ℕ → ℕ → Command → Type 0
 StandIn pool a (Insert r p bytes) = take (length bytes.now) (drop a pool) ≡ bytes.now
 StandIn pool a _ = Unit {0}
 
-given : (g : Givens ℕ) (v : SessionValue) (texts : List (List ℕ)) (a : ℕ) (command : Command) (t : List ℕ) → IsInOrder v command → StandIn g.pool a command → result_of g texts (edit_with a command) ≡ Some t → t ≡ text_given texts command
+given : (g : Givens ℕ) (v : SessionValue) (texts : List (List ℕ)) (a : ℕ) (command : Command) (t : List ℕ) → IsInOrder v command → StandIn g.pool a command → result_of g texts (with_splices [] (edit_at a command)) ≡ Some t → t ≡ text_given texts command
 given g v texts a New t h s e = absurd h
 given g v texts a (Open n) t h s e = absurd h
 given g v texts a (Insert r p bytes) t h s e =
@@ -78,6 +83,7 @@ given g v texts a (Cut r i n) t h s e = absurd h
 given g v texts a (Fill r p c n) t h s e = absurd h
 given g v texts a (Back r) t h s e = sym (get_or_from_slice_get texts r t [] e)
 given g v texts a (Balance r) t h s e = sym (get_or_from_slice_get texts r t [] e)
+given g v texts a (Many r changes bytes) t h s e = absurd h
 
 -- ---- lengths
 
@@ -118,23 +124,34 @@ given_len v h source (Cut r i n) o = absurd o
 given_len v h source (Fill r p c n) o = absurd o
 given_len v h source (Back r) o = text_len v h source r
 given_len v h source (Balance r) o = text_len v h source r
+given_len v h source (Many r changes bytes) o = absurd o
 
 -- ---- the revision that a command makes
 
-bytes_stand : (old pool : List ℕ) (a : ℕ) (command : Command) → StandNew old pool a (bytes_of command) → StandIn pool a command
-bytes_stand old pool a New s = tt
-bytes_stand old pool a (Open n) s = tt
-bytes_stand old pool a (Insert r p bytes) s =
+-- a command in order hands in no changes, and is recorded with the first place alone
+pub plain_of : (v : SessionValue) (command : Command) → IsInOrder v command → IsPlain command
+plain_of v (Many r changes bytes) o = absurd o
+plain_of v New o = tt
+plain_of v _ o = tt
+
+pub plain_edit : (places : List ℕ) (first : ℕ) (command : Command) → IsPlain command → edit_with places first command ≡ edit_at (get_or places 0 0) command
+plain_edit places first (Many r changes bytes) plain = absurd plain
+plain_edit places first New plain = refl
+plain_edit places first _ plain = refl
+
+pub plain_says : (places : List ℕ) (first : ℕ) (command : Command) → IsPlain command → with_splices (splices_with places command) (edit_with places first command) ≡ with_splices [] (edit_at (get_or places 0 0) command)
+plain_says places first (Many r changes bytes) plain = absurd plain
+plain_says places first New plain = refl
+plain_says places first _ plain = refl
+
+bytes_stand : (old pool : List ℕ) (v : SessionValue) (t : Table) (roots : List (Option NodeId)) (places : List ℕ) (command : Command) → IsInOrder v command → StandEach old pool (handed (terms_of t roots command)) places → StandIn pool (get_or places 0 0) command
+bytes_stand old pool v t roots [] (Insert r p bytes) o s = absurd s
+bytes_stand old pool v t roots (a ∷ places) (Insert r p bytes) o s =
+    let stands = (s.0.some (omega (arith, o.2))).1 in
     let many : (a + length bytes.now) - a ≡ length bytes.now = omega arith in
-    ap (λ (n : ℕ). take n (drop a pool)) (sym many) ∙ s.1
-bytes_stand old pool a (Delete r p n) s = tt
-bytes_stand old pool a (Replace r p m bytes) s = tt
-bytes_stand old pool a (Paste r p q i n) s = tt
-bytes_stand old pool a (Join r q) s = tt
-bytes_stand old pool a (Cut r i n) s = tt
-bytes_stand old pool a (Fill r p c n) s = tt
-bytes_stand old pool a (Back r) s = tt
-bytes_stand old pool a (Balance r) s = tt
+    ap (λ (n : ℕ). take n (drop a pool)) (sym many) ∙ stands
+bytes_stand old pool v t roots places New o s = tt
+bytes_stand old pool v t roots places _ o s = tt
 
 pool_mapped : (source : ℕ → ℕ → ℕ) (pool : List ℕ) → map (cell_byte source) (map Byte pool) ≡ pool
 pool_mapped source pool = map-map (cell_byte source) Byte pool ∙ map-id pool
@@ -144,10 +161,14 @@ made_text : (old : SessionValue) (command : Command) (new : SessionValue) → Is
     → text source (rope_cells (session_table new) a.made.root) ≡ text_given (texts_of source old) command
 made_text old command new o a source =
     let cells = rope_cells (session_table new) a.made.root in
-    let edit : result_of (givens_of (session_table new)) (cells_of old) (edit_with a.is.place command) ≡ Some cells = subst (λ e. result_of (givens_of (session_table new)) (cells_of old) e ≡ Some cells) a.is.edit a.is.result in
-    let mapped = result_mapped (cell_byte source) (givens_of (session_table new)) (cells_of old) (edit_with a.is.place command) ∙ ap (option_map (text source)) edit in
-    given (mapped_givens (cell_byte source) (givens_of (session_table new))) old (texts_of source old) a.is.place command (text source cells) o
-    (subst (λ (pool : List ℕ). StandIn pool a.is.place command) (sym (pool_mapped source new.held.pool.bytes)) (bytes_stand old.held.pool.bytes new.held.pool.bytes a.is.place command a.is.bytes))
+    let place = get_or a.is.places 0 0 in
+    let says : command_of a.made ≡ with_splices [] (edit_at place command) =
+    ap (λ (ss : List Splice). with_splices ss a.made.edit) a.is.splices ∙ ap (with_splices (splices_with a.is.places command)) a.is.edit ∙ plain_says a.is.places (splices_held old.revisions) command (plain_of old command o) in
+    let edit : result_of (givens_of (session_table new)) (cells_of old) (with_splices [] (edit_at place command)) ≡ Some cells = subst (λ (e : FullEdit). result_of (givens_of (session_table new)) (cells_of old) e ≡ Some cells) says a.is.result in
+    let mapped = result_mapped (cell_byte source) (givens_of (session_table new)) (cells_of old) (with_splices [] (edit_at place command)) ∙ ap (option_map (text source)) edit in
+    let stand = bytes_stand old.held.pool.bytes new.held.pool.bytes old (session_table old) (roots_of old.revisions) a.is.places command o a.is.terms.stand in
+    given (mapped_givens (cell_byte source) (givens_of (session_table new))) old (texts_of source old) place command (text source cells) o
+    (subst (λ (pool : List ℕ). StandIn pool place command) (sym (pool_mapped source new.held.pool.bytes)) stand)
     mapped
 
 -- the texts then
@@ -164,6 +185,6 @@ texts_more old command new o a source =
     ∙ ap (λ (t : List ℕ). texts_of source old ++ t ∷ []) (made_text old command new o a source)
 
 -- the commands then
-pub edits_more : (old : SessionValue) (command : Command) (new : SessionValue) → (a : Applies old command (length old.revisions) new) → edits_of new.revisions ≡ edits_of old.revisions ++ edit_with a.is.place command ∷ []
-edits_more old command new a =
-    ap edits_of a.revisions ∙ map-append (λ (r : Revision). r.edit) old.revisions (a.made ∷ []) ∙ ap (λ e. edits_of old.revisions ++ e ∷ []) a.is.edit
+pub edits_more : (old : SessionValue) (command : Command) (new : SessionValue) → IsPlain command → (a : Applies old command (length old.revisions) new) → edits_of new.revisions ≡ edits_of old.revisions ++ edit_at (get_or a.is.places 0 0) command ∷ []
+edits_more old command new plain a =
+    ap edits_of a.revisions ∙ map-append (λ (r : Revision). r.edit) old.revisions (a.made ∷ []) ∙ ap (λ (e : Edit). edits_of old.revisions ++ e ∷ []) (a.is.edit ∙ plain_edit a.is.places (splices_held old.revisions) command plain)

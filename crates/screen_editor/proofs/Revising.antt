@@ -1,6 +1,6 @@
 -- A session that is edited, with one revision more or with a command refused, still keeps to its rules.
 use Rattle.std.proofs.Common.{◌≡◌, ℕ, zero, suc, ◌+◌, ◌-◌, ◌<◌, ◌≤◌, List, [], ◌∷◌, ◌++◌, length, get_or, map, Option, Some, None, Bool, false, Result, Ok, Err, refl, sym, ap, subst, arith, ◌∙◌, inl, inr, IfSome}
-use Rattle.std.specs.Prelude.{slice_get, ◌||◌, ◌==◌, if◌then◌else◌}
+use Rattle.std.specs.Prelude.{IsErrOf, slice_get, ◌||◌, ◌==◌, if◌then◌else◌, nat_lt}
 use Rattle.std.proofs.lemmas.Bool.{cases_lt, cases_Bool, le-leb, lt-leb, le-ltb, leb-true, or_from}
 use Rattle.std.proofs.lemmas.List.{length-append, get_or_append_left}
 use Rattle.std.proofs.Math.Seq.{get_or-append_seam}
@@ -10,19 +10,19 @@ use Rattle.circular_buffer.proofs.Places.{slice_get-append_left, slice_get-appen
 use Rattle.leaf_buffer.specs.declared.block.TheConstants.{BLOCK_SIZE}
 use Rattle.rope_node.specs.declared.limits.TheConstants.{TEXT_LIMIT}
 use Rattle.edit_commands.specs.declared.command.Command.{Command}
-use Rattle.edit_commands.specs.declared.command.Command.TheVariants.{New, Open, Insert, Delete, Replace, Paste, Join, Cut, Fill, Back, Balance}
+use Rattle.edit_commands.specs.declared.command.Command.TheVariants.{New, Open, Insert, Delete, Replace, Paste, Join, Cut, Fill, Back, Balance, Many}
 use Rattle.edit_commands.specs.declared.fault.EditFault.{EditFault}
 use Rattle.edit_commands.specs.declared.fault.EditFault.TheVariants as Edit
 use Rattle.edit_commands.specs.declared.revision.Revision.{Revision}
-use Rattle.span_certificate.specs.declared.edit.TheConstants.{MOST_REVISIONS}
+use Rattle.span_certificate.specs.declared.edit.TheConstants.{MOST_REVISIONS, SPLICES_LIMIT}
 use Rattle.edit_commands.specs.Applying.{Applies, AppliesOrNot, IsLaterFault, Keeps}
-use Rattle.edit_commands.specs.Refusals.{bytes_of, is_empty_text, is_full, is_out_of_range, is_too_long, names_no_revision, names_no_source, refusal_of, result_len}
-use Rattle.edit_commands.specs.Session.{SessionValue, HoldsHistory, IsSession, length_at, texts_of}
+use Rattle.edit_commands.specs.Refusals.{is_empty, is_full, is_full_of_splices, is_out_of_range, is_too_long, is_wrong_count, names_no_revision, names_no_source, refusal_of, result_len}
+use Rattle.edit_commands.specs.Session.{SessionValue, HoldsHistory, IsSession, length_at, splices_held, texts_of}
 use Rattle.screen_editor.specs.declared.cut_span.CutSpan.{CutSpan}
 use Rattle.screen_editor.specs.declared.fault.KeyFault.TheVariants as Fault
 use Rattle.screen_editor.specs.declared.workspace.TheConstants.{LONGEST_TEXT}
 use Rattle.screen_editor.specs.Editing.{Editing, IsCutSpan, IsEditing}
-use Rattle.screen_editor.specs.Taking.{IsInOrder, IsReviseFault}
+use Rattle.screen_editor.specs.Taking.{IsInOrder, IsReviseFault, RevisesOrNot}
 use Rattle.screen_editor.proofs.NewTexts.{count_texts, given_len, text_given, text_len, texts_more}
 
 no_source : ℕ → ℕ → ℕ
@@ -121,9 +121,11 @@ refused_kept old session e h keeps same s k =
 -- a command in order has no reason of its own to be refused
 record HasNoReason (v : SessionValue) (command : Command) : Type 0 where
   named : names_no_revision v command ≡ false
+  count : is_wrong_count command ≡ false
   sourced : names_no_source v command ≡ false
   inside : is_out_of_range v command ≡ false
-  some : is_empty_text (bytes_of command) ≡ false
+  some : is_empty command ≡ false
+  splices : is_full_of_splices v command ≡ false
   short : is_too_long v command ≡ false
 
 one_test : (b : Bool) → b ≡ false → (b || false) ≡ false
@@ -132,57 +134,73 @@ one_test b e = or_from b false e refl
 two_tests : (a b : Bool) → a ≡ false → b ≡ false → (a || (b || false)) ≡ false
 two_tests a b e f = or_from a (b || false) e (one_test b f)
 
-no_reason : (v : SessionValue) (command : Command) → IsInOrder v command → result_len v command ≤ LONGEST_TEXT → HasNoReason v command
-no_reason v New o short = absurd o
-no_reason v (Open s) o short = absurd o
-no_reason v (Insert r p bytes) o short = record {
+room_left : (v : SessionValue) → splices_held v.revisions ≤ SPLICES_LIMIT → nat_lt SPLICES_LIMIT (splices_held v.revisions + 0) ≡ false
+room_left v few = le-ltb SPLICES_LIMIT (splices_held v.revisions + 0) (omega (arith, few))
+
+no_reason : (v : SessionValue) (command : Command) → splices_held v.revisions ≤ SPLICES_LIMIT → IsInOrder v command → result_len v command ≤ LONGEST_TEXT → HasNoReason v command
+no_reason v New few o short = absurd o
+no_reason v (Open s) few o short = absurd o
+no_reason v (Insert r p bytes) few o short = record {
   named = one_test _ (lt-leb (length v.revisions) r o.0);
+  count = refl;
   sourced = refl;
-  inside = one_test _ (le-ltb (length_at v r) p o.1);
-  some = ap (λ n. n == 0) o.2;
-  short = or_from _ _ (lt-leb TEXT_LIMIT (length_at v r + length bytes.now) (omega (arith, short))) (le-ltb BLOCK_SIZE (length bytes.now) (omega (arith, o.2)));
+  inside = one_test _ (one_test _ (le-ltb (length_at v r) p o.1));
+  some = one_test _ (ap (λ n. n == 0) o.2);
+  splices = room_left v few;
+  short = one_test _ (or_from _ _ (lt-leb TEXT_LIMIT (length_at v r + length bytes.now) (omega (arith, short))) (le-ltb BLOCK_SIZE (length bytes.now) (omega (arith, o.2))));
 }
-no_reason v (Delete r p n) o short = record {
+no_reason v (Delete r p n) few o short = record {
   named = one_test _ (lt-leb (length v.revisions) r o.0);
+  count = refl;
   sourced = refl;
-  inside = one_test _ (le-ltb (length_at v r) (p + n) o.1);
+  inside = one_test _ (one_test _ (le-ltb (length_at v r) (p + n) o.1));
   some = refl;
-  short = one_test _ (lt-leb TEXT_LIMIT (length_at v r - n) (omega (arith, short)));
+  splices = room_left v few;
+  short = one_test _ (one_test _ (lt-leb TEXT_LIMIT (length_at v r - n) (omega (arith, short))));
 }
-no_reason v (Replace r p m bytes) o short = absurd o
-no_reason v (Paste r p q i n) o short = record {
+no_reason v (Replace r p m bytes) few o short = absurd o
+no_reason v (Paste r p q i n) few o short = record {
   named = two_tests _ _ (lt-leb (length v.revisions) r o.0) (lt-leb (length v.revisions) q o.2);
+  count = refl;
   sourced = refl;
-  inside = two_tests _ _ (le-ltb (length_at v r) p o.1) (le-ltb (length_at v q) (i + n) o.3);
+  inside = one_test _ (two_tests _ _ (le-ltb (length_at v r) p o.1) (le-ltb (length_at v q) (i + n) o.3));
   some = refl;
-  short = one_test _ (lt-leb TEXT_LIMIT (length_at v r + n) (omega (arith, short)));
+  splices = room_left v few;
+  short = one_test _ (one_test _ (lt-leb TEXT_LIMIT (length_at v r + n) (omega (arith, short))));
 }
-no_reason v (Join r q) o short = absurd o
-no_reason v (Cut r i n) o short = absurd o
-no_reason v (Fill r p c n) o short = absurd o
-no_reason v (Back r) o short = record {
+no_reason v (Join r q) few o short = absurd o
+no_reason v (Cut r i n) few o short = absurd o
+no_reason v (Fill r p c n) few o short = absurd o
+no_reason v (Back r) few o short = record {
   named = one_test _ (lt-leb (length v.revisions) r o);
+  count = refl;
   sourced = refl;
-  inside = one_test _ (le-ltb (length_at v r) 0 (omega arith));
+  inside = one_test _ (one_test _ (le-ltb (length_at v r) 0 (omega arith)));
   some = refl;
-  short = one_test _ (lt-leb TEXT_LIMIT (length_at v r) (omega (arith, short)));
+  splices = room_left v few;
+  short = one_test _ (one_test _ (lt-leb TEXT_LIMIT (length_at v r) (omega (arith, short))));
 }
-no_reason v (Balance r) o short = record {
+no_reason v (Balance r) few o short = record {
   named = one_test _ (lt-leb (length v.revisions) r o);
+  count = refl;
   sourced = refl;
-  inside = one_test _ (le-ltb (length_at v r) 0 (omega arith));
+  inside = one_test _ (one_test _ (le-ltb (length_at v r) 0 (omega arith)));
   some = refl;
-  short = one_test _ (lt-leb TEXT_LIMIT (length_at v r) (omega (arith, short)));
+  splices = room_left v few;
+  short = one_test _ (one_test _ (lt-leb TEXT_LIMIT (length_at v r) (omega (arith, short))));
 }
+no_reason v (Many r changes bytes) few o short = absurd o
 
 refusal_without : (v : SessionValue) (command : Command) → HasNoReason v command → refusal_of v command ≡ (if is_full v then Some Edit.TooManyRevisions else None)
-refusal_without v command h = rw (h.named, h.sourced, h.inside, h.some, h.short) refl
+refusal_without v command h = rw (h.named, h.count, h.sourced, h.inside, h.some, h.splices, h.short) refl
 
 is_later : (old : Editing) (command : Command) (f : EditFault) (new : Editing) → IsLaterFault old.session.held old.session.revisions command f new.session.held → IsReviseFault command old (Fault.Edit f) new
 is_later old command Edit.NoRevision new h = h
 is_later old command Edit.NoSource new h = h
 is_later old command Edit.Range new h = h
 is_later old command Edit.EmptyText new h = h
+is_later old command Edit.SpliceCount new h = h
+is_later old command Edit.TooManySplices new h = h
 is_later old command Edit.TooManyRevisions new h = absurd h
 is_later old command Edit.TooManyRows new h = h
 is_later old command (Edit.Node n) new h = h
@@ -190,9 +208,9 @@ is_later old command Edit.TooManyPieces new h = h
 is_later old command Edit.Memory new h = tt
 
 -- a command in order is refused at once only where there are too many revisions
-pub fault_in_order : (old : Editing) (command : Command) (f : EditFault) (new : Editing) → IsInOrder old.session command → result_len old.session command ≤ LONGEST_TEXT
+pub fault_in_order : (old : Editing) (command : Command) (f : EditFault) (new : Editing) → IsSession old.session → IsInOrder old.session command → result_len old.session command ≤ LONGEST_TEXT
     → AppliesOrNot old.session command (Err f) new.session → IsReviseFault command old (Fault.Edit f) new
-fault_in_order old command f new o short a = elim (cases_Bool (is_full old.session)) [
+fault_in_order old command f new is o short a = elim (cases_Bool (is_full old.session)) [
   | inl full ↦
       let refusal : refusal_of old.session command ≡ Some Edit.TooManyRevisions = refused ∙ ap (λ (b : Bool). if b then Some Edit.TooManyRevisions else None) full in
       let same : f ≡ Edit.TooManyRevisions = same_fault f Edit.TooManyRevisions (a.refused Edit.TooManyRevisions refusal).0 in
@@ -203,17 +221,29 @@ fault_in_order old command f new o short a = elim (cases_Bool (is_full old.sessi
 ]
   where
     refused : refusal_of old.session command ≡ (if is_full old.session then Some Edit.TooManyRevisions else None)
-    refused = refusal_without old.session command (no_reason old.session command o short)
+    refused = refusal_without old.session command (no_reason old.session command is.few_splices o short)
 
     same_fault : (f g : EditFault) → Path (Result ℕ EditFault) (Err f) (Err g) → f ≡ g
     same_fault f g e = cc
 
-pub full_in_order : (old : Editing) (command : Command) (result : Result ℕ EditFault) (session : SessionValue) → IsInOrder old.session command → result_len old.session command ≤ LONGEST_TEXT
+pub full_in_order : (old : Editing) (command : Command) (result : Result ℕ EditFault) (session : SessionValue) → IsSession old.session → IsInOrder old.session command → result_len old.session command ≤ LONGEST_TEXT
     → AppliesOrNot old.session command result session → MOST_REVISIONS ≤ length old.session.revisions → result ≡ Err Edit.TooManyRevisions
-full_in_order old command result session o short a full =
-    let refused = refusal_without old.session command (no_reason old.session command o short) in
+full_in_order old command result session is o short a full =
+    let refused = refusal_without old.session command (no_reason old.session command is.few_splices o short) in
     let refusal : refusal_of old.session command ≡ Some Edit.TooManyRevisions = refused ∙ ap (λ (b : Bool). if b then Some Edit.TooManyRevisions else None) (le-leb MOST_REVISIONS (length old.session.revisions) full) in
     (a.refused Edit.TooManyRevisions refusal).0
+
+pub refused_in_order : (old : Editing) (command : Command) (prior : Option ℕ) (q : ℕ) (f : EditFault) (session : SessionValue) → IsSession old.session → IsInOrder old.session command → result_len old.session command ≤ LONGEST_TEXT
+    → AppliesOrNot old.session command (Err f) session → RevisesOrNot command prior q old (Err (Fault.Edit f)) (record old { session = session })
+refused_in_order old command prior q f session is o short a = record {
+  revises = tt;
+  kept = record { keeps = a.kept.0; revisions = a.kept.1; rest = refl };
+  too_many = λ full. inl (told f (full_in_order old command (Err f) session is o short a full));
+  fault = fault_in_order old command f (record old { session = session }) is o short a;
+}
+  where
+    told : (g : EditFault) → Path (Result ℕ EditFault) (Err g) (Err Edit.TooManyRevisions) → IsErrOf {T = Unit {0}} (Err (Fault.Edit g)) (Fault.Edit Edit.TooManyRevisions)
+    told g e = let same : g ≡ Edit.TooManyRevisions = cc in ap (λ (x : EditFault). Err (Fault.Edit x)) same
 
 -- ---- by the session's answer
 

@@ -2,7 +2,7 @@
 use Rattle.std.proofs.Common.{◌≡◌, ℕ, List, map, Result, Ok, Err, Option, Some, None, true, false, ◌⊎◌, inl, inr, refl, sym, ap, subst, ◌∙◌}
 use Rattle.std.specs.Prelude.{IsTrue, IsErrOf}
 use Rattle.rope_node.specs.Denotes.{text}
-use Rattle.lazy_file.specs.SourceTexts.{Stated}
+use Rattle.lazy_file.specs.Readings.{Reading}
 use Rattle.edit_commands.specs.declared.fault.EditFault.{EditFault}
 use Rattle.edit_commands.specs.declared.fault.EditFault.TheVariants as Edit
 use Rattle.edit_commands.specs.declared.revision.Revision.{Revision}
@@ -16,7 +16,7 @@ use Rattle.screen_editor.specs.Editing.{Editing, key_code, state_of}
 use Rattle.screen_editor.specs.Keys.{answer_to, looks_for_lines}
 use Rattle.screen_editor.specs.LineKeys.{Takes}
 use Rattle.screen_editor.specs.Machine.{done, message_after, step}
-use Rattle.screen_editor.specs.Refusals.{IsEditFault, IsKeyFault, WasRefused}
+use Rattle.screen_editor.specs.Refusals.{IsEditFault, IsPlainFault, WasRefused}
 use Rattle.screen_editor.specs.Revising.{IsRefusedBy, IsStep, KeepsAll, TakesKey}
 use Rattle.screen_editor.specs.State.{EditorState}
 
@@ -94,14 +94,16 @@ edit_fault_alike key old Edit.NoRevision new m h = met_alike key old Edit.NoRevi
 edit_fault_alike key old Edit.NoSource new m h = met_alike key old Edit.NoSource new m h
 edit_fault_alike key old Edit.Range new m h = met_alike key old Edit.Range new m h
 edit_fault_alike key old Edit.EmptyText new m h = met_alike key old Edit.EmptyText new m h
+edit_fault_alike key old Edit.SpliceCount new m h = met_alike key old Edit.SpliceCount new m h
+edit_fault_alike key old Edit.TooManySplices new m h = met_alike key old Edit.TooManySplices new m h
 edit_fault_alike key old Edit.TooManyRows new m h = met_alike key old Edit.TooManyRows new m h
 edit_fault_alike key old (Edit.Node f) new m h = met_alike key old (Edit.Node f) new m h
 edit_fault_alike key old Edit.TooManyPieces new m h = met_alike key old Edit.TooManyPieces new m h
 
-fault_alike : {T : Type 0} (stated : T → Stated) (failures : T → ℕ) (before now : T) (key : Key) (old : Editing) (f : KeyFault) (new : Editing) (m : Option KeyFault) → IsKeyFault stated failures before now key old f new → IsKeyFault stated failures before now key old f (record new { message = m })
-fault_alike stated failures before now key old Fault.TooLong new m h = h
-fault_alike stated failures before now key old (Fault.Edit f) new m h = (h.0, edit_fault_alike key old f new m h.1)
-fault_alike stated failures before now key old (Fault.Source f) new m h = h
+fault_alike : (key : Key) (old : Editing) (f : KeyFault) (new : Editing) (m : Option KeyFault) → IsPlainFault key old f new → IsPlainFault key old f (record new { message = m })
+fault_alike key old Fault.TooLong new m h = h
+fault_alike key old (Fault.Edit f) new m h = (h.0, edit_fault_alike key old f new m h.1)
+fault_alike key old (Fault.Source f) new m h = h
 
 kept_texts : (old new : Editing) → KeepsAll old new → (source : ℕ → ℕ → ℕ) → texts_of source new.session ≡ texts_of source old.session
 kept_texts old new h source = ap (map (text source)) (ap (λ (rs : List Revision). cells_of (record { held = new.session.held; revisions = rs })) h.revisions ∙ h.keeps.cells)
@@ -118,10 +120,10 @@ is_refused f old new h = record {
   rest = ap (λ (e : Editing). record e { message = Some f }) h.rest;
 }
 
-pub refused_told : {T : Type 0} (stated : T → Stated) (failures : T → ℕ) (key : Key) (before now : T) (old new told : Editing) (f : KeyFault) → Takes stated failures key before old (Err f) now new → told ≡ record new { message = Some f }
-    → TakesKey stated failures key (record { sources = before; editing = old }) (Err f) (record { sources = now; editing = told })
-refused_told {T} stated failures key before now old new told f h e =
-    subst (λ (x : Editing). TakesKey stated failures key (record { sources = before; editing = old }) (Err f) (record { sources = now; editing = x })) (sym e) (record {
+pub refused_told : (key : Key) (before now : Reading) (old new told : Editing) (f : KeyFault) → Takes key before old (Err f) now new → told ≡ record new { message = Some f }
+    → TakesKey key (record { sources = before; editing = old }) (Err f) (record { sources = now; editing = told })
+refused_told key before now old new told f h e =
+    subst (λ (x : Editing). TakesKey key (record { sources = before; editing = old }) (Err f) (record { sources = now; editing = x })) (sym e) (record {
       step = tt;
       answer = tt;
       refused = is_refused f old new h.kept;
@@ -130,17 +132,15 @@ refused_told {T} stated failures key before now old new told f h e =
         | inl is ↦ inl (same_fault f (Fault.Edit Edit.TooManyRevisions) is)
         | inr is ↦ inr (same_fault f (Fault.Edit Edit.Memory) is)
       ];
-      fault = fault_alike stated failures before now key old f new (Some f) h.fault;
-      told = h.told;
+      fault = λ none. fault_alike key old f new (Some f) (h.fault none);
       reads = h.reads;
-      succeeds = λ each k is. h.succeeds each k (same_fault f (Fault.Source k) is);
     })
 
 -- ---- a key that was taken
 
-taken_key : {T : Type 0} (stated : T → Stated) (failures : T → ℕ) (key : Key) (before now : T) (old new told : Editing) (answer : Step) → Takes stated failures key before old (Ok tt) now new
-    → answer_to key ≡ answer → IsStep (stated before) key old told → TakesKey stated failures key (record { sources = before; editing = old }) (Ok answer) (record { sources = now; editing = told })
-taken_key {T} stated failures key before now old new told answer h is step = record {
+taken_key : (key : Key) (before now : Reading) (old new told : Editing) (answer : Step) → Takes key before old (Ok tt) now new
+    → answer_to key ≡ answer → IsStep before.stated key old told → TakesKey key (record { sources = before; editing = old }) (Ok answer) (record { sources = now; editing = told })
+taken_key key before now old new told answer h is step = record {
   step = step;
   answer = sym is;
   refused = tt;
@@ -150,17 +150,15 @@ taken_key {T} stated failures key before now old new told answer h is step = rec
     | inr no_such ↦ absurd (no_fault tt (Fault.Edit Edit.Memory) no_such)
   ];
   fault = tt;
-  told = h.told;
   reads = h.reads;
-  succeeds = λ each k no_such. no_fault answer (Fault.Source k) no_such;
 }
 
 -- one that clears the message
-pub going_told : {T : Type 0} (stated : T → Stated) (failures : T → ℕ) (key : Key) (before now : T) (old new told : Editing) → Takes stated failures key before old (Ok tt) now new
-    → answer_to key ≡ Step.Going → told ≡ record new { message = None } → TakesKey stated failures key (record { sources = before; editing = old }) (Ok Step.Going) (record { sources = now; editing = told })
-going_told {T} stated failures key before now old new told h is e =
-    taken_key stated failures key before now old new told Step.Going h is
-    (subst (λ (x : Editing). IsStep (stated before) key old x) (sym e) (record {
+pub going_told : (key : Key) (before now : Reading) (old new told : Editing) → Takes key before old (Ok tt) now new
+    → answer_to key ≡ Step.Going → told ≡ record new { message = None } → TakesKey key (record { sources = before; editing = old }) (Ok Step.Going) (record { sources = now; editing = told })
+going_told key before now old new told h is e =
+    taken_key key before now old new told Step.Going h is
+    (subst (λ (x : Editing). IsStep before.stated key old x) (sym e) (record {
       state = λ source agrees whole. ap (λ (s : EditorState). record s { message = None }) (h.done source agrees whole) ∙ ap (λ (m : Option (List ℕ)). record (done key (state_of source old)) { message = m }) (sym (cleared key (state_of source old).message is));
       command = h.command;
       moves = λ by_lines. ap (λ (x : Editing). record x { message = None }) (h.moves by_lines);
@@ -175,10 +173,10 @@ looks_for_none : (key : Key) → (key ≡ Save) ⊎ (key ≡ Leave) → IsTrue (
 looks_for_none key (inl e) h = let same : false ≡ true = ap looks_for_lines (sym e) ∙ h in absurd cc
 looks_for_none key (inr e) h = let same : false ≡ true = ap looks_for_lines (sym e) ∙ h in absurd cc
 
-pub ending_told : {T : Type 0} (stated : T → Stated) (failures : T → ℕ) (key : Key) (before now : T) (old new : Editing) (answer : Step) → Takes stated failures key before old (Ok tt) now new
-    → answer_to key ≡ answer → (key ≡ Save) ⊎ (key ≡ Leave) → TakesKey stated failures key (record { sources = before; editing = old }) (Ok answer) (record { sources = now; editing = new })
-ending_told {T} stated failures key before now old new answer h is ends =
-    taken_key stated failures key before now old new new answer h is (record {
+pub ending_told : (key : Key) (before now : Reading) (old new : Editing) (answer : Step) → Takes key before old (Ok tt) now new
+    → answer_to key ≡ answer → (key ≡ Save) ⊎ (key ≡ Leave) → TakesKey key (record { sources = before; editing = old }) (Ok answer) (record { sources = now; editing = new })
+ending_told key before now old new answer h is ends =
+    taken_key key before now old new new answer h is (record {
       state = λ source agrees whole. h.done source agrees whole ∙ does_nothing key (state_of source old) ends;
       command = h.command;
       moves = λ by_lines. absurd (looks_for_none key ends by_lines);

@@ -4,7 +4,7 @@ use Rattle.std.specs.Option.{option_map}
 use Rattle.rope_node.specs.declared.node.NodeId.{NodeId}
 use Rattle.rope_node.specs.Denotes.{Cell}
 use Rattle.lazy_file.specs.Faults.{source_fault_code}
-use Rattle.lazy_file.specs.SourceTexts.{Stated}
+use Rattle.lazy_file.specs.Readings.{Reading}
 use Rattle.cord_position.specs.Fetched.{EachCell, rope_cell}
 use Rattle.edit_commands.specs.declared.fault.EditFault.{EditFault}
 use Rattle.edit_commands.specs.declared.fault.EditFault.TheVariants as Edit
@@ -26,6 +26,8 @@ edit_code Edit.TooManyRevisions = codes "E5"
 edit_code Edit.TooManyRows = codes "E6"
 edit_code (Edit.Node f) = codes "E7"
 edit_code Edit.TooManyPieces = codes "E8"
+edit_code Edit.SpliceCount = codes "E9"
+edit_code Edit.TooManySplices = codes "E10"
 edit_code Edit.Memory = codes "Memory"
 
 abbrev pub key_code : KeyFault → List ℕ
@@ -47,6 +49,13 @@ pub record Editing : Type 0 where
 pub record EditorValue (R : Type 0) : Type 0 where
   pub sources : R
   pub editing : Editing
+
+abbrev pub over : {R : Type 0} → R → Editing → EditorValue R
+over sources e = record { sources = sources; editing = e }
+
+-- over what is known of its sources
+abbrev pub seen : {R : Type 0} → (R → Reading) → EditorValue R → EditorValue Reading
+seen reading x = over (reading x.sources) x.editing
 
 -- the machine's state, where source gives each source's bytes
 abbrev pub state_of : (ℕ → ℕ → ℕ) → Editing → EditorState
@@ -99,6 +108,6 @@ pub record IsEditing (e : Editing) : Type 0 where
   pub cuts : All (IsCutSpan e.session) e.cuts
 
 -- its session's sources are those that it reads
-pub record IsEditor {R : Type 0} (stated : R → Stated) (v : EditorValue R) : Type 0 where
+pub record IsEditor (v : EditorValue Reading) : Type 0 where
   pub editing : IsEditing v.editing
-  pub sizes : v.editing.session.held.sources ≡ (stated v.sources).sizes
+  pub sizes : v.editing.session.held.sources ≡ v.sources.stated.sizes

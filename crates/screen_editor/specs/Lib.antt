@@ -1,3 +1,4 @@
+pub mod Recorded
 pub mod Keys
 pub mod Lines
 pub mod State

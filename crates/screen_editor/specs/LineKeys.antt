@@ -1,10 +1,8 @@
 -- The keys that look for line breaks, and what taking any key does but for the message.
 use Rattle.std.specs.Prelude.{◌≡◌, ◌↔◌, ◌⊎◌, ℕ, ◌≤◌, false, IsTrue, List, length, Option, Some, None, Result, IfErr, OnOk, OnErr, IsErrOf}
-use Rattle.lazy_file.specs.SourceTexts.{Agrees, Reads, Stated}
-use Rattle.lazy_file.specs.ReadFaults.{TellsAs}
-use Rattle.lazy_file.specs.declared.faults.SourceFault.{SourceFault}
-use Rattle.lazy_file.specs.declared.faults.SourceFault.TheVariants.{Device}
-use Rattle.cord_position.specs.Fetched.{IsReadable, IsStated}
+use Rattle.lazy_file.specs.SourceTexts.{Agrees, Stated}
+use Rattle.lazy_file.specs.Readings.{Reading, Reads, fault_by}
+use Rattle.cord_position.specs.Fetched.{IsStated}
 use Rattle.cord_search.specs.Stated.{OfText}
 use Rattle.edit_commands.specs.declared.fault.EditFault.TheVariants as Edit
 use Rattle.span_certificate.specs.declared.edit.TheConstants.{MOST_REVISIONS}
@@ -16,7 +14,7 @@ use Rattle.screen_editor.specs.Editing.{Editing, EachCurrent, current_len, curre
 use Rattle.screen_editor.specs.Keys.{looks_for_lines}
 use Rattle.screen_editor.specs.Lines.{line_start, line_end, place_up, place_down}
 use Rattle.screen_editor.specs.Machine.{done}
-use Rattle.screen_editor.specs.Refusals.{GrowsTooLong, IsKeyFault, MakesRevision}
+use Rattle.screen_editor.specs.Refusals.{GrowsTooLong, IsPlainFault, KeyAsks, MakesRevision, key_source_fault}
 use Rattle.screen_editor.specs.Revising.{AppliesCommand, KeepsAll}
 
 -- where a key leads that looks for line breaks
@@ -44,17 +42,15 @@ DoesStated st key old new =
     → state_of source new ≡ done key (state_of source old)
 
 -- what a key does to all but the message
-pub record Takes {T : Type 0} (stated : T → Stated) (failures : T → ℕ) (key : Key) (before : T) (old : Editing)
-    (result : Result (Unit {0}) KeyFault) (now : T) (new : Editing) : Type 0 where
-  pub done : OnOk result (DoesStated (stated before) key old new)
+pub record Takes (key : Key) (before : Reading) (old : Editing) (result : Result (Unit {0}) KeyFault) (now : Reading)
+    (new : Editing) : Type 0 where
+  pub done : OnOk result (DoesStated before.stated key old new)
   pub command : OnOk result (AppliesCommand key old new.session)
   pub moves : OnOk result (IsTrue (looks_for_lines key) → new ≡ record old { place = new.place })
   pub kept : OnErr result (KeepsAll old new)
   pub too_long : IsErrOf result Fault.TooLong ↔ GrowsTooLong key old
   pub too_many : MakesRevision key old → ¬ IsErrOf result Fault.TooLong → MOST_REVISIONS ≤ length old.session.revisions
       → IsErrOf result (Fault.Edit Edit.TooManyRevisions) ⊎ IsErrOf result (Fault.Edit Edit.Memory)
-  pub fault : IfErr result (λ f. IsKeyFault stated failures before now key old f new)
-  pub told : TellsAs failures before now (Fault.Source Device) result
-  pub reads : Reads stated failures before now
-  pub succeeds : EachCurrent old (IsReadable (stated before)) → (f : SourceFault) → ¬ IsErrOf result (Fault.Source f)
+  pub fault : IfErr result (λ f. key_source_fault f ≡ None → IsPlainFault key old f new)
+  pub reads : Reads before now (KeyAsks key old) (fault_by key_source_fault result)
   pub sources : new.session.held.sources ≡ old.session.held.sources

@@ -1,17 +1,14 @@
 -- What one key does, where it is taken and where it is refused.
 use Rattle.std.specs.Prelude.{◌≡◌, ◌↔◌, ◌⊎◌, ℕ, ◌≤◌, IsTrue, List, [], ◌∷◌, ◌++◌, length, map, Option, Some, None, Result, IfOk, IfErr, OnOk, IsErrOf}
 use Rattle.std.specs.List.{range_with_len}
-use Rattle.lazy_file.specs.SourceTexts.{Agrees, Reads, Stated}
-use Rattle.lazy_file.specs.ReadFaults.{TellsAs}
-use Rattle.lazy_file.specs.declared.faults.SourceFault.{SourceFault}
-use Rattle.lazy_file.specs.declared.faults.SourceFault.TheVariants.{Device}
-use Rattle.cord_position.specs.Fetched.{IsReadable, IsStated}
+use Rattle.lazy_file.specs.SourceTexts.{Agrees, Stated}
+use Rattle.lazy_file.specs.Readings.{Reading, Reads, fault_by}
+use Rattle.cord_position.specs.Fetched.{IsStated}
 use Rattle.edit_commands.specs.declared.command.Command.{Command}
 use Rattle.edit_commands.specs.declared.fault.EditFault.TheVariants as Edit
 use Rattle.span_certificate.specs.declared.edit.TheConstants.{MOST_REVISIONS}
 use Rattle.edit_commands.specs.Applying.{Applies, Keeps}
-use Rattle.edit_commands.specs.Building.{edit_with}
-use Rattle.edit_commands.specs.Session.{SessionValue, edits_of}
+use Rattle.edit_commands.specs.Session.{SessionValue}
 use Rattle.screen_editor.specs.declared.fault.KeyFault.{KeyFault}
 use Rattle.screen_editor.specs.declared.fault.KeyFault.TheVariants as Fault
 use Rattle.screen_editor.specs.declared.key.Key.{Key}
@@ -19,7 +16,8 @@ use Rattle.screen_editor.specs.declared.key.Step.{Step}
 use Rattle.screen_editor.specs.Editing.{Editing, EditorValue, EachCurrent, key_code, state_of}
 use Rattle.screen_editor.specs.Keys.{answer_to, looks_for_lines}
 use Rattle.screen_editor.specs.Machine.{done, edit_of, refused, step}
-use Rattle.screen_editor.specs.Refusals.{GrowsTooLong, IsKeyFault, MakesRevision, first_command}
+use Rattle.screen_editor.specs.Recorded.{IsPlain, edit_at, edits_of}
+use Rattle.screen_editor.specs.Refusals.{GrowsTooLong, IsPlainFault, KeyAsks, MakesRevision, first_command, key_source_fault}
 use Rattle.screen_editor.specs.State.{start_of}
 
 -- what a key does but for the message, whatever bytes the sources have
@@ -31,8 +29,8 @@ Does key old new = (source : ℕ → ℕ → ℕ) → state_of source new ≡ do
 pub data AppliesCommand (key : Key) (old : Editing) (new : SessionValue) : Type 0 where
   none : ((place : ℕ) (source : ℕ → ℕ → ℕ) → edit_of place key (state_of source old) ≡ None)
       → new ≡ old.session → AppliesCommand key old new
-  one : (command : Command)
-      → ((place : ℕ) (source : ℕ → ℕ → ℕ) → edit_of place key (state_of source old) ≡ Some (edit_with place command))
+  one : (command : Command) → IsPlain command
+      → ((place : ℕ) (source : ℕ → ℕ → ℕ) → edit_of place key (state_of source old) ≡ Some (edit_at place command))
       → Applies old.session command (length old.session.revisions) new → AppliesCommand key old new
 
 -- The new state is the machine's, whatever bytes the sources have that agree with what they state: of a key that
@@ -53,22 +51,19 @@ pub record IsRefusedBy (fault : KeyFault) (old new : Editing) : Type 0 where
   pub rest : new ≡ record old { session = new.session; message = Some fault }
 
 -- A key is taken, as the machine says, or refused. It is too long exactly where its text would be; else, where there
--- are too many revisions, that or want of memory is told; a source's fault is told only where a read of it failed, and
--- of no text that can be read. Where one more read has failed, it is the device's fault that is told.
-pub record TakesKey {T : Type 0} (stated : T → Stated) (failures : T → ℕ) (key : Key) (old : EditorValue T)
-    (result : Result Step KeyFault) (new : EditorValue T) : Type 0 where
-  pub step : OnOk result (IsStep (stated old.sources) key old.editing new.editing)
+-- are too many revisions, that or want of memory is told; a source's fault is that of the one read that failed, of a
+-- cell of the current text.
+pub record TakesKey (key : Key) (old : EditorValue Reading) (result : Result Step KeyFault) (new : EditorValue Reading)
+    : Type 0 where
+  pub step : OnOk result (IsStep old.sources.stated key old.editing new.editing)
   pub answer : IfOk result (λ a. a ≡ answer_to key)
   pub refused : IfErr result (λ f. IsRefusedBy f old.editing new.editing)
   pub too_long : IsErrOf result Fault.TooLong ↔ GrowsTooLong key old.editing
   pub too_many : MakesRevision key old.editing → ¬ IsErrOf result Fault.TooLong
       → MOST_REVISIONS ≤ length old.editing.session.revisions
       → IsErrOf result (Fault.Edit Edit.TooManyRevisions) ⊎ IsErrOf result (Fault.Edit Edit.Memory)
-  pub fault : IfErr result (λ f. IsKeyFault stated failures old.sources new.sources key old.editing f new.editing)
-  pub told : TellsAs failures old.sources new.sources (Fault.Source Device) result
-  pub reads : Reads stated failures old.sources new.sources
-  pub succeeds : EachCurrent old.editing (IsReadable (stated old.sources)) → (f : SourceFault)
-      → ¬ IsErrOf result (Fault.Source f)
+  pub fault : IfErr result (λ f. key_source_fault f ≡ None → IsPlainFault key old.editing f new.editing)
+  pub reads : Reads old.sources new.sources (KeyAsks key old.editing) (fault_by key_source_fault result)
 
 -- ---- a revision more
 
@@ -94,4 +89,4 @@ first_text source (n ∷ sizes) = map (source 0) (range_with_len 0 n)
 -- where there is no source.
 pub record IsMade (sizes : List ℕ) (e : Editing) : Type 0 where
   pub state : (source : ℕ → ℕ → ℕ) → state_of source e ≡ start_of (first_text source sizes)
-  pub command : edits_of e.session.revisions ≡ edit_with 0 (first_command sizes) ∷ []
+  pub command : edits_of e.session.revisions ≡ edit_at 0 (first_command sizes) ∷ []

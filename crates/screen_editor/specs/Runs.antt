@@ -1,28 +1,25 @@
 -- What a run takes, shows and answers.
-use Rattle.std.specs.Prelude.{◌≡◌, ◌⊎◌, ℕ, ◌<◌, ◌≤◌, List, [], ◌∷◌, ◌++◌, length, take, slice_get, All, Option, Some, Result, Ok, Err, IfOk, IfErr, IsErrOf}
+use Rattle.std.specs.Prelude.{◌≡◌, ◌⊎◌, ℕ, ◌<◌, ◌≤◌, List, [], ◌∷◌, ◌++◌, length, take, slice_get, All, Option, Some, Result, Ok, Err, IfOk}
 use Rattle.std.specs.Global.{Vec}
 use Rattle.std.specs.List.{flat_map}
 use Rattle.std.specs.Io.KnownBytes.{Appends, Consumes, IsAtEnd}
-use Rattle.lazy_file.specs.SourceTexts.{Agrees, Reads, ReadsUnfailed, Stated}
-use Rattle.lazy_file.specs.ReadFaults.{TellsAs}
-use Rattle.lazy_file.specs.declared.faults.SourceFault.{SourceFault}
-use Rattle.lazy_file.specs.declared.faults.SourceFault.TheVariants.{Device}
-use Rattle.cord_position.specs.Fetched.{IsReadable, IsStated}
+use Rattle.lazy_file.specs.SourceTexts.{Agrees, Stated}
+use Rattle.lazy_file.specs.Readings.{Reading}
+use Rattle.cord_position.specs.Fetched.{IsStated}
 use Rattle.screen_editor.specs.declared.fault.End.{End}
 use Rattle.screen_editor.specs.declared.fault.End.TheVariants.{Save, Leave}
 use Rattle.screen_editor.specs.declared.fault.FrameFault.{FrameFault}
-use Rattle.screen_editor.specs.declared.fault.FrameFault.TheVariants as Frames
 use Rattle.screen_editor.specs.declared.fault.KeyFault.{KeyFault}
 use Rattle.screen_editor.specs.declared.key.Step.{Step}
 use Rattle.screen_editor.specs.declared.running.TheConstants.{MOST_KEYS}
 use Rattle.screen_editor.specs.declared.fault.RunFault.{RunFault}
 use Rattle.screen_editor.specs.declared.fault.RunFault.TheVariants.{Read, Write, Frame, TooManyKeys}
-use Rattle.screen_editor.specs.Editing.{Editing, EditorValue, EachCurrent, state_of}
+use Rattle.screen_editor.specs.Editing.{Editing, EditorValue, EachCurrent, current_cell, current_len, over, state_of}
 use Rattle.screen_editor.specs.Keys.{answer_to, key_of}
 use Rattle.screen_editor.specs.Revising.{TakesKey}
 use Rattle.byte_output.specs.Prefix.{AppendsPrefix}
 use Rattle.screen_editor.specs.Frame.{frame_of}
-use Rattle.screen_editor.specs.Refusals.{IsFrameFault}
+use Rattle.screen_editor.specs.Refusals.{ReadsToShow}
 
 -- the bytes that show it, whatever bytes the sources have that agree with what they state, where each cell of the text
 -- is stated
@@ -30,37 +27,30 @@ abbrev pub IsFrame : Stated → Editing → List ℕ → Type 0
 IsFrame st e bytes =
     (source : ℕ → ℕ → ℕ) → Agrees st source → EachCurrent e (IsStated st) → bytes ≡ frame_of (state_of source e)
 
--- a frame is made, or a source's read failed, or memory was refused; where one more read has failed, the device's
--- fault is told; nothing but the sources changes
-pub record MakesFrame {T : Type 0} (stated : T → Stated) (failures : T → ℕ) (old : EditorValue T)
-    (result : Result (Vec ℕ) FrameFault) (new : EditorValue T) : Type 0 where
-  pub bytes : IfOk result (λ v. IsFrame (stated old.sources) old.editing v.items)
-  pub fault : IfErr result (IsFrameFault stated failures old.sources new.sources old.editing)
-  pub told : TellsAs failures old.sources new.sources (Frames.Source Device) result
-  pub succeeds : EachCurrent old.editing (IsReadable (stated old.sources)) → (f : SourceFault)
-      → ¬ IsErrOf result (Frames.Source f)
-  pub reads : Reads stated failures old.sources new.sources
+-- a frame is made, or memory was refused, or the one read failed that is told; nothing but the sources changes
+pub record MakesFrame (old : EditorValue Reading) (result : Result (Vec ℕ) FrameFault) (new : EditorValue Reading)
+    : Type 0 where
+  pub bytes : IfOk result (λ v. IsFrame old.sources.stated old.editing v.items)
+  pub reads : ReadsToShow old.sources new.sources (current_cell old.editing) (current_len old.editing) result
   pub kept : new.editing ≡ old.editing
 
--- a state over these sources
-abbrev pub over : {T : Type 0} → T → Editing → EditorValue T
-over sources e = record { sources = sources; editing = e }
+-- what is known of the same sources later: they state the same, and of each as many reads have failed, or more
+pub record IsLater (before after : Reading) : Type 0 where
+  pub same : after.stated ≡ before.stated
+  pub later : (s : ℕ) → before.failures s ≤ after.failures s
 
--- a byte's key is taken, or refused for a reason; from the first sources to its own no read failed
-pub record Passes {T : Type 0} (stated : T → Stated) (failures : T → ℕ) (first now : T) (b : ℕ) (old new : Editing)
-    : Type 0 where
-  pub before : T
-  pub unfailed : ReadsUnfailed stated failures first before
+-- a byte's key is taken, or refused for a reason, over these first sources and then those
+pub record Passes (first now : Reading) (b : ℕ) (old new : Editing) : Type 0 where
   pub result : Result Step KeyFault
-  pub takes : TakesKey stated failures (key_of b) (over before old) result (over now new)
+  pub takes : TakesKey (key_of b) (over first old) result (over now new)
 
 -- each state follows from the one before it, from the first sources to the last ones
-abbrev pub Follow : {T : Type 0} → (T → Stated) → (T → ℕ) → T → T → Editing → List ℕ → List Editing → Type 0
-Follow stated failures first last old [] [] = last ≡ first
-Follow stated failures first last old [] (e ∷ es) = ⊥
-Follow stated failures first last old (b ∷ bs) [] = ⊥
-Follow {T} stated failures first last old (b ∷ bs) (e ∷ es) =
-    (now : T) × Passes stated failures first now b old e × Follow stated failures now last e bs es
+abbrev pub Follow : Reading → Reading → Editing → List ℕ → List Editing → Type 0
+Follow first last old [] [] = last ≡ first
+Follow first last old [] (e ∷ es) = ⊥
+Follow first last old (b ∷ bs) [] = ⊥
+Follow first last old (b ∷ bs) (e ∷ es) =
+    (now : Reading) × Passes first now b old e × Follow now last e bs es
 
 -- the frames of these states, one behind the other
 abbrev pub frames_of : (ℕ → ℕ → ℕ) → List Editing → List ℕ
@@ -110,21 +100,20 @@ Answers st left before now keys states (Err TooManyKeys) =
     GoesOn keys × (length keys ≡ MOST_KEYS) × Shows st before now (take (length keys) states)
 
 -- behind the last key, over these sources: there is no frame, for this reason; or no read fails
-abbrev pub EndsOver : {T : Type 0} → (T → Stated) → (T → ℕ) → T → Result End RunFault → EditorValue T → Type 0
-EndsOver stated failures sources (Err (Frame f)) new = MakesFrame stated failures (over sources new.editing) (Err f) new
-EndsOver stated failures sources _ new = ReadsUnfailed stated failures sources new.sources
+abbrev pub EndsOver : Reading → Result End RunFault → EditorValue Reading → Type 0
+EndsOver sources (Err (Frame f)) new = MakesFrame (over sources new.editing) (Err f) new
+EndsOver sources _ new = new.sources ≡ sources
 
 -- A run takes keys, of which each makes the next state from the first one, old, to the last one, new; the sources are
 -- those behind the last key. Where a read failed, it was one of a key, or of the last frame, and that was told.
-pub record IsRun {T : Type 0} (stated : T → Stated) (failures : T → ℕ)
-    (keys_before keys_left before now : Option (List ℕ))
-    (old : EditorValue T) (result : Result End RunFault) (new : EditorValue T) : Type 0 where
+pub record IsRun (keys_before keys_left before now : Option (List ℕ))
+    (old : EditorValue Reading) (result : Result End RunFault) (new : EditorValue Reading) : Type 0 where
   pub keys : List ℕ
   pub behind : List Editing
-  pub sources : T
+  pub sources : Reading
   pub taken : Consumes keys_before keys_left keys
   pub few : length keys ≤ MOST_KEYS
-  pub follow : Follow stated failures old.sources sources old.editing keys behind
+  pub follow : Follow old.sources sources old.editing keys behind
   pub last : slice_get (old.editing ∷ behind) (length keys) ≡ Some new.editing
-  pub answers : Answers (stated old.sources) keys_left before now keys (old.editing ∷ behind) result
-  pub ends : EndsOver stated failures sources result new
+  pub answers : Answers old.sources.stated keys_left before now keys (old.editing ∷ behind) result
+  pub ends : EndsOver sources result new

@@ -1,7 +1,7 @@
 -- What one turn of a run does: a frame is shown, and a key is taken.
 use Rattle.std.specs.Prelude.{◌≡◌, ◌⊎◌, ℕ, List, [], ◌∷◌, Option, Some, None, Result, Ok, Err}
 use Rattle.std.specs.Io.KnownBytes.{Consumes, IsAtEnd}
-use Rattle.lazy_file.specs.SourceTexts.{ReadsUnfailed, Stated}
+use Rattle.lazy_file.specs.Readings.{Reading}
 use Rattle.screen_editor.specs.declared.fault.End.{End}
 use Rattle.screen_editor.specs.declared.fault.End.TheVariants.{Save, Leave}
 use Rattle.screen_editor.specs.declared.fault.RunFault.{RunFault}
@@ -12,14 +12,13 @@ use Rattle.screen_editor.specs.Keys.{answer_to, key_of}
 use Rattle.screen_editor.specs.Runs.{MakesFrame, Passes, Shows, ShowsPrefix}
 
 -- what the screen took where a state was not shown, and why there was no frame
-abbrev pub NotShown : {T : Type 0} → (T → Stated) → (T → ℕ) → Option (List ℕ) → Option (List ℕ)
-    → EditorValue T → EditorValue T → RunFault → Type 0
-NotShown stated failures before now old new Write =
-    ShowsPrefix (stated old.sources) before now (old.editing ∷ [])
-    × ReadsUnfailed stated failures old.sources new.sources
-NotShown stated failures before now old new (Frame f) =
-    Shows (stated old.sources) before now [] × MakesFrame stated failures old (Err f) new
-NotShown stated failures before now old new _ = ⊥
+abbrev pub NotShown : Option (List ℕ) → Option (List ℕ) → EditorValue Reading → EditorValue Reading → RunFault → Type 0
+NotShown before now old new Write =
+    ShowsPrefix old.sources.stated before now (old.editing ∷ [])
+    × (new.sources ≡ old.sources)
+NotShown before now old new (Frame f) =
+    Shows old.sources.stated before now [] × MakesFrame old (Err f) new
+NotShown before now old new _ = ⊥
 
 -- the next key, or none at the end
 abbrev pub IsNextKey : Option (List ℕ) → Option (List ℕ) → Option ℕ → Type 0
@@ -27,32 +26,31 @@ IsNextKey before left (Some b) = Consumes before left (b ∷ [])
 IsNextKey before left None = Consumes before left [] × IsAtEnd left
 
 -- the state is shown, and a key of this answer is taken or refused
-pub record TakesOne {T : Type 0} (stated : T → Stated) (failures : T → ℕ)
-    (keys_before keys_left before now : Option (List ℕ)) (answer : Step) (old new : EditorValue T) : Type 0 where
+pub record TakesOne (keys_before keys_left before now : Option (List ℕ)) (answer : Step) (old new : EditorValue Reading)
+    : Type 0 where
   pub byte : ℕ
   pub key : Consumes keys_before keys_left (byte ∷ [])
   pub answers : answer_to (key_of byte) ≡ answer
-  pub passes : Passes stated failures old.sources new.sources byte old.editing new.editing
-  pub shown : Shows (stated old.sources) before now (old.editing ∷ [])
+  pub passes : Passes old.sources new.sources byte old.editing new.editing
+  pub shown : Shows old.sources.stated before now (old.editing ∷ [])
 
 -- no key is taken
 pub record TakesNone (keys_before keys_left : Option (List ℕ)) (old new : Editing) : Type 0 where
   pub keys : Consumes keys_before keys_left []
   pub same : new ≡ old
 
-abbrev pub IsTurn : {T : Type 0} → (T → Stated) → (T → ℕ)
-    → Option (List ℕ) → Option (List ℕ) → Option (List ℕ) → Option (List ℕ)
-    → EditorValue T → Result (Option End) RunFault → EditorValue T → Type 0
-IsTurn stated failures keys left before now old (Ok None) new =
-    TakesOne stated failures keys left before now Step.Going old new
-IsTurn stated failures keys left before now old (Ok (Some Save)) new =
-    TakesOne stated failures keys left before now Step.Save old new
-IsTurn stated failures keys left before now old (Ok (Some Leave)) new =
-    TakesOne stated failures keys left before now Step.Leave old new
+abbrev pub IsTurn : Option (List ℕ) → Option (List ℕ) → Option (List ℕ) → Option (List ℕ)
+    → EditorValue Reading → Result (Option End) RunFault → EditorValue Reading → Type 0
+IsTurn keys left before now old (Ok None) new =
+    TakesOne keys left before now Step.Going old new
+IsTurn keys left before now old (Ok (Some Save)) new =
+    TakesOne keys left before now Step.Save old new
+IsTurn keys left before now old (Ok (Some Leave)) new =
+    TakesOne keys left before now Step.Leave old new
     ⊎ (TakesNone keys left old.editing new.editing × IsAtEnd left
-    × Shows (stated old.sources) before now (old.editing ∷ []) × ReadsUnfailed stated failures old.sources new.sources)
-IsTurn stated failures keys left before now old (Err Read) new =
-    TakesNone keys left old.editing new.editing × Shows (stated old.sources) before now (old.editing ∷ [])
-    × ReadsUnfailed stated failures old.sources new.sources
-IsTurn stated failures keys left before now old (Err fault) new =
-    TakesNone keys left old.editing new.editing × NotShown stated failures before now old new fault
+    × Shows old.sources.stated before now (old.editing ∷ []) × (new.sources ≡ old.sources))
+IsTurn keys left before now old (Err Read) new =
+    TakesNone keys left old.editing new.editing × Shows old.sources.stated before now (old.editing ∷ [])
+    × (new.sources ≡ old.sources)
+IsTurn keys left before now old (Err fault) new =
+    TakesNone keys left old.editing new.editing × NotShown before now old new fault

@@ -2,7 +2,7 @@
 
 ghost use Rattle.std.specs.Prelude.{◌≡◌, ◌↔◌, IfOk, IfErr, IsErrOf, IsTrue, OnErr};
 ghost use Rattle.cord_position.specs.Fetched.{ReadsSpan};
-ghost use Rattle.screen_editor.specs.Editing.{IsEditor, current_cell, current_len};
+ghost use Rattle.screen_editor.specs.Editing.{IsEditor, current_cell, current_len, over, seen};
 ghost use Rattle.screen_editor.specs.Keys.{key_of, looks_for_lines};
 ghost use Rattle.screen_editor.specs.LineKeys.{FindsLinePlace, Takes};
 ghost use Rattle.screen_editor.specs.Revising.{IsMade, TakesKey};
@@ -36,7 +36,7 @@ impl<R: Sources + Drop> Model for Editor<R> {
 
     ghost view = { λ a. record { sources = a.sources; editing = a.workspace } };
 
-    ghost invariant = { λ a. a.workspace.session.held.sources ≡ (R.stated a.sources).sizes };
+    ghost invariant = { λ a. a.workspace.session.held.sources ≡ (R.reading a.sources).stated.sizes };
 }
 
 /// Where a key leads that looks for line breaks.
@@ -46,9 +46,9 @@ fn line_place<R: Sources>(
     workspace: &Workspace,
     key: Key,
 ) -> Result<Option<u64>, SourceFault>
-    ensures place { IfOk result (FindsLinePlace (R.stated sources.old) key workspace.now) }
+    ensures place { IfOk result (FindsLinePlace (R.reading sources.old).stated key workspace.now) }
     ensures looks { OnErr result (IsTrue (looks_for_lines key)) }
-    ensures reads { ReadsSpan R.stated R.failures sources.old sources.new
+    ensures reads { ReadsSpan (R.reading sources.old) (R.reading sources.new)
         (current_cell workspace.now) 0 (current_len workspace.now) result }
 {
     let space = workspace.session().space();
@@ -69,7 +69,7 @@ fn take<R: Sources>(
     workspace: &mut Workspace,
     key: Key,
 ) -> Result<(), KeyFault>
-    ensures { Takes R.stated R.failures key sources.old workspace.old result sources.new workspace.new }
+    ensures { Takes key (R.reading sources.old) workspace.old result (R.reading sources.new) workspace.new }
 {
     // The workspace keeps its rules, as its last revision says.
     let _last = workspace.last();
@@ -90,9 +90,8 @@ fn take_key<R: Sources>(
     workspace: &mut Workspace,
     key: Key,
 ) -> Result<Step, KeyFault>
-    ensures takes { TakesKey R.stated R.failures key
-        (record { sources = sources.old; editing = workspace.old }) result
-        (record { sources = sources.new; editing = workspace.new }) }
+    ensures takes { TakesKey key (over (R.reading sources.old) workspace.old) result
+        (over (R.reading sources.new) workspace.new) }
     ensures sizes { workspace.new.session.held.sources ≡ workspace.old.session.held.sources }
 {
     if let Err(fault) = take(alloc, sources, workspace, key) {
@@ -115,9 +114,8 @@ fn frame_of<R: Sources>(
     sources: &mut R,
     workspace: &Workspace,
 ) -> Result<Vec<u8>, FrameFault>
-    ensures makes { MakesFrame R.stated R.failures
-        (record { sources = sources.old; editing = workspace.now }) result
-        (record { sources = sources.new; editing = workspace.now }) }
+    ensures makes { MakesFrame (over (R.reading sources.old) workspace.now) result
+        (over (R.reading sources.new) workspace.now) }
 {
     let (root, place) = (workspace.root(), workspace.place());
     let (last, message) = (workspace.last(), workspace.message());
@@ -137,13 +135,14 @@ impl<R: Sources + Drop> Editor<R> {
     ///
     /// # Errors
     ///
-    /// `TooLong` where source 0 has more than 2,147,483,647 bytes. `Edit` and `Memory`, where the session or memory
-    /// refused.
+    /// `TooLong` where source 0 has more than 2,147,483,647 bytes. `Memory`, and `Edit` with `Memory`, where memory was
+    /// refused. `Edit` with `TooManyRows` where the first revision would have more than 16,777,216 rows, which only a
+    /// source 0 of more bytes than that can meet.
     pub fn new(alloc: Global, sources: R) -> Result<Editor<R>, EditorFault>
         ensures sources { IfOk result (λ e. e.sources ≡ sources) }
-        ensures made { IfOk result (λ e. IsMade (R.stated sources).sizes e.editing) }
-        ensures too_long { IsErrOf result EditorFault.TooLong ↔ IsTooLong (R.stated sources) }
-        ensures fault { IfErr result (IsNewFault (R.stated sources)) }
+        ensures made { IfOk result (λ e. IsMade (R.reading sources).stated.sizes e.editing) }
+        ensures too_long { IsErrOf result EditorFault.TooLong ↔ IsTooLong (R.reading sources).stated }
+        ensures fault { IfErr result (IsNewFault (R.reading sources).stated) }
     {
         let session = first_session(alloc, &sources)?;
         let workspace = Workspace::new(alloc, session)?;
@@ -161,7 +160,7 @@ impl<R: Sources + Drop> Editor<R> {
     /// `TooLong` where the text would have more than 2,147,483,647 bytes, `Edit` where the session or memory refused,
     /// `Source` where a line break was looked for and a read failed.
     pub fn key(&mut self, byte: u8) -> Result<Step, KeyFault>
-        ensures takes { TakesKey R.stated R.failures (key_of byte) self.old result self.new }
+        ensures takes { TakesKey (key_of byte) (seen R.reading self.old) result (seen R.reading self.new) }
     {
         take_key(
             self.alloc,
@@ -177,7 +176,7 @@ impl<R: Sources + Drop> Editor<R> {
     ///
     /// `Source`, where a byte or a line break could not be read. `Memory`, where memory was refused.
     pub fn frame(&mut self) -> Result<Vec<u8>, FrameFault>
-        ensures makes { MakesFrame R.stated R.failures self.old result self.new }
+        ensures makes { MakesFrame (seen R.reading self.old) result (seen R.reading self.new) }
     {
         frame_of(self.alloc, &mut self.sources, &self.workspace)
     }
@@ -185,7 +184,7 @@ impl<R: Sources + Drop> Editor<R> {
     /// The session, with every revision.
     pub fn session(&self) -> &Session
         ensures session { result.now ≡ self.now.editing.session }
-        ensures kept { IsEditor R.stated self.now }
+        ensures kept { IsEditor (seen R.reading self.now) }
     {
         self.workspace.session()
     }

@@ -14,7 +14,7 @@ use std::alloc::{AllocError, AllocFailed};
 pub enum EditorFault {
     /// `K1`: source 0 has more than 2,147,483,647 bytes.
     TooLong,
-    /// The session took no source, or no first revision.
+    /// The session was refused memory, or its first revision would have too many rows.
     Edit(EditFault),
     /// Memory was refused.
     Memory,
@@ -63,6 +63,8 @@ fn edit_code(fault: EditFault) -> &'static str
         EditFault::TooManyRows => "E6",
         EditFault::Node(_) => "E7",
         EditFault::TooManyPieces => "E8",
+        EditFault::SpliceCount => "E9",
+        EditFault::TooManySplices => "E10",
         EditFault::Memory => "Memory",
     }
 }
@@ -79,7 +81,7 @@ fn source_code(fault: SourceFault) -> &'static str
 }
 
 impl KeyFault {
-    /// The code that a message names: `K1`, `E1` to `E8`, `S1` to `S3`, or `Memory`.
+    /// The code that a message names: `K1`, `E1` to `E10`, `S1` to `S3`, or `Memory`.
     pub fn code(&self) -> &'static str
         ensures { result.now ≡ key_code self.now }
     {

@@ -64,9 +64,9 @@ pub fn frame_about<S: NodeSpace, T: Sources>(
 ) -> Result<Vec<u8>, FrameFault>
     requires rope { IsRope (S.table space.now) rope }
     requires place { place ≤ rope_len (S.table space.now) rope }
-    ensures bytes { IfOk result (λ v. OfText (S.table space.now) (T.stated sources.old) rope
+    ensures bytes { IfOk result (λ v. OfText (S.table space.now) (T.reading sources.old).stated rope
         (λ t. v.items ≡ screen_of t place revision (option_map key_code message))) }
-    ensures reads { ReadsToShow T.stated T.failures sources.old sources.new
+    ensures reads { ReadsToShow (T.reading sources.old) (T.reading sources.new)
         (rope_cell (S.table space.now) rope) (rope_len (S.table space.now) rope) result }
 {
     let window = window_about(alloc, space, sources, rope, place)?;

@@ -29,8 +29,8 @@ pub fn line_start<S: NodeSpace, T: Sources>(
     requires place { place ≤ rope_len (S.table space.now) rope }
     ensures inside { IfOk result (λ p. p ≤ place) }
     ensures is { IfOk result (λ p.
-        OfText (S.table space.now) (T.stated sources.old) rope (λ t. p ≡ line_start t place)) }
-    ensures reads { ReadsSpan T.stated T.failures sources.old sources.new
+        OfText (S.table space.now) (T.reading sources.old).stated rope (λ t. p ≡ line_start t place)) }
+    ensures reads { ReadsSpan (T.reading sources.old) (T.reading sources.new)
         (rope_cell (S.table space.now) rope) 0 (rope_len (S.table space.now) rope) result }
 {
     prove!(place <= rope_len(space, rope));
@@ -60,8 +60,8 @@ pub fn line_end<S: NodeSpace, T: Sources>(
     ensures from { IfOk result (λ p. place ≤ p) }
     ensures inside { IfOk result (λ p. p ≤ rope_len (S.table space.now) rope) }
     ensures is { IfOk result (λ p.
-        OfText (S.table space.now) (T.stated sources.old) rope (λ t. p ≡ line_end t place)) }
-    ensures reads { ReadsSpan T.stated T.failures sources.old sources.new
+        OfText (S.table space.now) (T.reading sources.old).stated rope (λ t. p ≡ line_end t place)) }
+    ensures reads { ReadsSpan (T.reading sources.old) (T.reading sources.new)
         (rope_cell (S.table space.now) rope) 0 (rope_len (S.table space.now) rope) result }
 {
     let found = chr(alloc, space, sources, rope, place, LINE_BREAK)?;
@@ -84,8 +84,8 @@ pub fn place_up<S: NodeSpace, T: Sources>(
     requires place { place ≤ rope_len (S.table space.now) rope }
     ensures inside { IfOk result (λ p. p ≤ rope_len (S.table space.now) rope) }
     ensures is { IfOk result (λ p.
-        OfText (S.table space.now) (T.stated sources.old) rope (λ t. p ≡ place_up t place)) }
-    ensures reads { ReadsSpan T.stated T.failures sources.old sources.new
+        OfText (S.table space.now) (T.reading sources.old).stated rope (λ t. p ≡ place_up t place)) }
+    ensures reads { ReadsSpan (T.reading sources.old) (T.reading sources.new)
         (rope_cell (S.table space.now) rope) 0 (rope_len (S.table space.now) rope) result }
 {
     let start = line_start(alloc, space, sources, rope, place)?;
@@ -112,8 +112,8 @@ pub fn place_down<S: NodeSpace, T: Sources>(
     requires place { place ≤ rope_len (S.table space.now) rope }
     ensures inside { IfOk result (λ p. p ≤ rope_len (S.table space.now) rope) }
     ensures is { IfOk result (λ p.
-        OfText (S.table space.now) (T.stated sources.old) rope (λ t. p ≡ place_down t place)) }
-    ensures reads { ReadsSpan T.stated T.failures sources.old sources.new
+        OfText (S.table space.now) (T.reading sources.old).stated rope (λ t. p ≡ place_down t place)) }
+    ensures reads { ReadsSpan (T.reading sources.old) (T.reading sources.new)
         (rope_cell (S.table space.now) rope) 0 (rope_len (S.table space.now) rope) result }
 {
     let end = line_end(alloc, space, sources, rope, place)?;

@@ -2,7 +2,7 @@
 
 ghost use Rattle.std.specs.Prelude.{◌≡◌, ◌↔◌, IsTrue, IfErr, IfOk, OnOk, IsErrOf, [], length, nat_lt};
 ghost use Rattle.edit_commands.specs.Applying.{AppliesOrNot};
-ghost use Rattle.screen_editor.specs.Opening.{IsFirst};
+ghost use Rattle.screen_editor.specs.Opening.{HoldsOnly, IsFirst};
 ghost use Rattle.screen_editor.specs.Refusals.{IsNewFault, IsTooLong, first_command};
 
 use crate::fault::EditorFault;
@@ -13,17 +13,15 @@ use std::alloc::Global;
 
 /// Whether source 0 has too many bytes.
 fn is_too_long<R: Sources>(sources: &R) -> bool
-    ensures { IsTrue result ↔ IsTooLong (R.stated sources.now) }
+    ensures { IsTrue result ↔ IsTooLong (R.reading sources.now).stated }
 {
     sources.count() > 0 && sources.len(0) > LONGEST_TEXT
 }
 
 /// Adds every source, by its size.
 fn add_sources<R: Sources>(session: &mut Session, sources: &R) -> Result<(), EditFault>
-    requires none { session.old.held.sources ≡ [] }
-    requires empty { session.old.revisions ≡ [] }
-    ensures added { OnOk result (session.new.held.sources ≡ (R.stated sources.now).sizes) }
-    ensures empty { session.new.revisions ≡ [] }
+    requires none { HoldsOnly [] session.old }
+    ensures added { OnOk result (HoldsOnly (R.reading sources.now).stated.sizes session.new) }
     ensures fault { IfErr result (λ f. f ≡ EditFault.Memory) }
 {
     for s in 0..sources.count() {
@@ -45,9 +43,9 @@ fn open_first(session: &mut Session, is_there: bool) -> Result<u32, EditFault>
 
 /// A session of the sources, whose one revision is the text of source 0, or an empty one where there is no source.
 pub(crate) fn first_session<R: Sources>(alloc: Global, sources: &R) -> Result<Session, EditorFault>
-    ensures first { IfOk result (IsFirst (R.stated sources.now).sizes) }
-    ensures too_long { IsErrOf result EditorFault.TooLong ↔ IsTooLong (R.stated sources.now) }
-    ensures fault { IfErr result (IsNewFault (R.stated sources.now)) }
+    ensures first { IfOk result (IsFirst (R.reading sources.now).stated.sizes) }
+    ensures too_long { IsErrOf result EditorFault.TooLong ↔ IsTooLong (R.reading sources.now).stated }
+    ensures fault { IfErr result (IsNewFault (R.reading sources.now).stated) }
 {
     if is_too_long(sources) {
         return Err(EditorFault::TooLong);

@@ -45,9 +45,9 @@ fn push_glyphs<S: NodeSpace, T: Sources>(
     requires rope { IsRope (S.table space.now) rope }
     requires start { start ≤ end }
     requires end { end ≤ rope_len (S.table space.now) rope }
-    ensures bytes { OnOk result (OfText (S.table space.now) (T.stated sources.old) rope
+    ensures bytes { OnOk result (OfText (S.table space.now) (T.reading sources.old).stated rope
         (λ t. out.new.items ≡ out.old.items ++ map glyph (take (end - start) (drop start t)))) }
-    ensures reads { ReadsToShow T.stated T.failures sources.old sources.new
+    ensures reads { ReadsToShow (T.reading sources.old) (T.reading sources.new)
         (rope_cell (S.table space.now) rope) (rope_len (S.table space.now) rope) result }
 {
     let mut pos = Pos::set(alloc, space, rope, start);
@@ -73,9 +73,9 @@ fn push_line<S: NodeSpace, T: Sources>(
     requires rope { IsRope (S.table space.now) rope }
     requires start { start ≤ rope_len (S.table space.now) rope }
     ensures inside { IfOk result (λ next. IfSome next (λ s. s ≤ rope_len (S.table space.now) rope)) }
-    ensures line { IfOk result (λ next. OfText (S.table space.now) (T.stated sources.old) rope
+    ensures line { IfOk result (λ next. OfText (S.table space.now) (T.reading sources.old).stated rope
         (λ t. PushesLine t (Some start) left next out.old.items out.new.items)) }
-    ensures reads { ReadsToShow T.stated T.failures sources.old sources.new
+    ensures reads { ReadsToShow (T.reading sources.old) (T.reading sources.new)
         (rope_cell (S.table space.now) rope) (rope_len (S.table space.now) rope) result }
 {
     let end = line_end(alloc, space, sources, rope, start)?;
@@ -111,9 +111,9 @@ fn push_line_at<S: NodeSpace, T: Sources>(
     requires rope { IsRope (S.table space.now) rope }
     requires start { IfSome start (λ s. s ≤ rope_len (S.table space.now) rope) }
     ensures inside { IfOk result (λ next. IfSome next (λ s. s ≤ rope_len (S.table space.now) rope)) }
-    ensures line { IfOk result (λ next. OfText (S.table space.now) (T.stated sources.old) rope
+    ensures line { IfOk result (λ next. OfText (S.table space.now) (T.reading sources.old).stated rope
         (λ t. PushesLine t start left next out.old.items out.new.items)) }
-    ensures reads { ReadsToShow T.stated T.failures sources.old sources.new
+    ensures reads { ReadsToShow (T.reading sources.old) (T.reading sources.new)
         (rope_cell (S.table space.now) rope) (rope_len (S.table space.now) rope) result }
 {
     match start {
@@ -138,9 +138,9 @@ pub fn push_rows<S: NodeSpace, T: Sources>(
 ) -> Result<(), FrameFault>
     requires rope { IsRope (S.table space.now) rope }
     requires top { top ≤ rope_len (S.table space.now) rope }
-    ensures rows { OnOk result (OfText (S.table space.now) (T.stated sources.old) rope
+    ensures rows { OnOk result (OfText (S.table space.now) (T.reading sources.old).stated rope
         (λ t. out.new.items ≡ out.old.items ++ rows_in (lines_from t (Some top)) left)) }
-    ensures reads { ReadsToShow T.stated T.failures sources.old sources.new
+    ensures reads { ReadsToShow (T.reading sources.old) (T.reading sources.new)
         (rope_cell (S.table space.now) rope) (rope_len (S.table space.now) rope) result }
 {
     let mut next = Some(top);

@@ -2,9 +2,9 @@
 
 ghost use Rattle.std.specs.Prelude.{◌≡◌, [], ◌∷◌, IfOk, IfErr, OnOk, OnErr};
 ghost use Rattle.std.specs.Io.KnownBytes.{Consumes};
-ghost use Rattle.lazy_file.specs.SourceTexts.{Reads, ReadsUnfailed};
 ghost use Rattle.screen_editor.specs.declared.fault.RunFault.TheVariants.{Read};
-ghost use Rattle.screen_editor.specs.Runs.{IsRun, Shows};
+ghost use Rattle.screen_editor.specs.Editing.{seen};
+ghost use Rattle.screen_editor.specs.Runs.{IsLater, IsRun, Shows};
 ghost use Rattle.screen_editor.specs.Turns.{IsNextKey, IsTurn, NotShown};
 
 use crate::editor::Editor;
@@ -43,13 +43,13 @@ impl<R: Sources + Drop> Editor<R> {
     /// Writes what the screen shows.
     #[tactic(auto, using(crate::proofs::ManyTurns::shows_none))]
     fn show<W: io::Write>(&mut self, screen: &mut W) -> Result<(), RunFault>
-        ensures shown { OnOk result (Shows (R.stated self.old.sources)
+        ensures shown { OnOk result (Shows (R.reading self.old.sources).stated
             (W.contents screen.old) (W.contents screen.new) (self.old.editing ∷ [])) }
-        ensures not_shown { IfErr result (NotShown R.stated R.failures
-            (W.contents screen.old) (W.contents screen.new) self.old self.new) }
-        ensures unfailed { OnOk result (ReadsUnfailed R.stated R.failures self.old.sources self.new.sources) }
+        ensures not_shown { IfErr result (NotShown (W.contents screen.old) (W.contents screen.new)
+            (seen R.reading self.old) (seen R.reading self.new)) }
+        ensures unfailed { OnOk result (R.reading self.new.sources ≡ R.reading self.old.sources) }
         ensures kept { self.new.editing ≡ self.old.editing }
-        ensures reads { Reads R.stated R.failures self.old.sources self.new.sources }
+        ensures later { IsLater (R.reading self.old.sources) (R.reading self.new.sources) }
     {
         let frame = self.frame()?;
         write_bytes(screen, &frame)?;
@@ -57,15 +57,15 @@ impl<R: Sources + Drop> Editor<R> {
     }
 
     /// Shows the state and takes a key.
-    #[tactic(auto, using(lazy_file::proofs::LaterReads::reads_then))]
+    #[tactic(auto, using(crate::proofs::LaterReadings::later_then))]
     fn turn<K: io::Read, W: io::Write>(
         &mut self,
         keys: &mut K,
         screen: &mut W,
     ) -> Result<Option<End>, RunFault>
-        ensures turn { IsTurn R.stated R.failures (K.remaining keys.old) (K.remaining keys.new)
-            (W.contents screen.old) (W.contents screen.new) self.old result self.new }
-        ensures reads { Reads R.stated R.failures self.old.sources self.new.sources }
+        ensures turn { IsTurn (K.remaining keys.old) (K.remaining keys.new)
+            (W.contents screen.old) (W.contents screen.new) (seen R.reading self.old) result (seen R.reading self.new) }
+        ensures later { IsLater (R.reading self.old.sources) (R.reading self.new.sources) }
     {
         self.show(screen)?;
         let Some(byte) = next_key(keys)? else {
@@ -86,15 +86,15 @@ impl<R: Sources + Drop> Editor<R> {
     ///
     /// `Read`, `Write` and `Frame`, where that fails. `TooManyKeys`, once 16,777,216 keys were taken and none of them
     /// ended the run.
-    #[tactic(auto, using(lazy_file::proofs::LaterReads::reads_then))]
+    #[tactic(auto, using(crate::proofs::LaterReadings::later_then))]
     pub fn run<K: io::Read, W: io::Write>(
         &mut self,
         keys: &mut K,
         screen: &mut W,
     ) -> Result<End, RunFault>
-        ensures run { IsRun R.stated R.failures (K.remaining keys.old) (K.remaining keys.new)
-            (W.contents screen.old) (W.contents screen.new) self.old result self.new }
-        ensures reads { Reads R.stated R.failures self.old.sources self.new.sources }
+        ensures run { IsRun (K.remaining keys.old) (K.remaining keys.new)
+            (W.contents screen.old) (W.contents screen.new) (seen R.reading self.old) result (seen R.reading self.new) }
+        ensures later { IsLater (R.reading self.old.sources) (R.reading self.new.sources) }
     {
         for _ in 0..MOST_KEYS {
             if let Some(end) = self.turn(keys, screen)? {

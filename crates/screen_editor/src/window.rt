@@ -39,9 +39,9 @@ fn go_back<S: NodeSpace, T: Sources>(
     ensures inside { IfOk result (λ x. x.0 ≤ start) }
     ensures few { IfOk result (λ x. x.1 ≤ LINES_ABOVE) }
     ensures all { IfOk result (λ x. x.1 < LINES_ABOVE → x.0 ≡ 0) }
-    ensures back { IfOk result (λ x. OfText (S.table space.now) (T.stated sources.old) rope
+    ensures back { IfOk result (λ x. OfText (S.table space.now) (T.reading sources.old).stated rope
         (λ t. IsAbove t start x.0 x.1)) }
-    ensures reads { ReadsSpan T.stated T.failures sources.old sources.new
+    ensures reads { ReadsSpan (T.reading sources.old) (T.reading sources.new)
         (rope_cell (S.table space.now) rope) 0 (rope_len (S.table space.now) rope) result }
 {
     prove!(start <= rope_len(space, rope));
@@ -71,9 +71,9 @@ pub fn window_about<S: NodeSpace, T: Sources>(
     ensures top { IfOk result (λ w. w.top ≤ rope_len (S.table space.now) rope) }
     ensures row { IfOk result (λ w. w.row ≤ LINES_ABOVE) }
     ensures column { IfOk result (λ w. w.column ≤ place) }
-    ensures is { IfOk result (λ w. OfText (S.table space.now) (T.stated sources.old) rope
+    ensures is { IfOk result (λ w. OfText (S.table space.now) (T.reading sources.old).stated rope
         (λ t. IsWindow t place w.top w.row w.column)) }
-    ensures reads { ReadsSpan T.stated T.failures sources.old sources.new
+    ensures reads { ReadsSpan (T.reading sources.old) (T.reading sources.new)
         (rope_cell (S.table space.now) rope) 0 (rope_len (S.table space.now) rope) result }
 {
     prove!(place <= rope_len(space, rope));

@@ -1,19 +1,21 @@
 -- What keeps the rules is not refused: over texts in memory, where there is one first fault and so one answer, and where no read is needed.
-use Rattle.std.proofs.Common.{◌≡◌, ℕ, ◌+◌, ◌<◌, leb, ltb, List, length, get_or, Some, None, refl, sym, ap, subst, ◌∙◌, arith, inl, inr}
-use Rattle.std.specs.Prelude.{slice_index, ◌⊎◌, Result, Ok, Err, IsOk, IfOk, IfErr}
+use Rattle.std.proofs.Common.{◌≡◌, ℕ, ◌+◌, ◌<◌, leb, ltb, List, length, get_or, Some, None, refl, sym, ap, subst, ◌∙◌, inl, inr}
+use Rattle.std.specs.Prelude.{slice_index, ◌⊎◌, Result, Ok, Err, IsOk, IfOk, IfErr, Option}
 use Rattle.std.proofs.lemmas.Bool.{and_parts, ltb-true, cases_order}
 use Rattle.rope_node.specs.Table.{Table, Node}
 use Rattle.rope_node.specs.Denotes.{Cell, Byte, Place}
-use Rattle.lazy_file.specs.SourceTexts.{Stated, stated_in_memory}
-use Rattle.lazy_file.proofs.MemoryTexts.{stated_text}
-use Rattle.std.proofs.lemmas.List.{length-map}
+use Rattle.lazy_file.specs.SourceTexts.{Stated}
+use Rattle.lazy_file.proofs.LaterReads.{reads_succeed}
+use Rattle.lazy_file.specs.Readings.{Reading, Reads}
+use Rattle.lazy_file.specs.declared.faults.SourceFault.{SourceFault}
+use Rattle.span_certificate.specs.Covers.{IsByte}
 use Rattle.cord_position.specs.Fetched.{IsReadable, IsStated}
-use Rattle.span_certificate.proofs.MadeRows.{no_source_readable, no_source_stated, own_rows_readable, agreeing}
+use Rattle.span_certificate.proofs.MadeRows.{always_stated, no_source_stated, own_rows_readable, stated_may}
 use Rattle.image_reader.specs.declared.fault.ReadFault.{ReadFault}
 use Rattle.image_reader.specs.Value.{ImageValue, IsImage, image_table, coded_at}
 use Rattle.image_reader.specs.Spelling.{spelling}
 use Rattle.image_reader.specs.Reading.{fault_of, image_of}
-use Rattle.image_reader.specs.Accepted.{HasSources, IsAlwaysAccepted, IsGoodNode, revision_at, parts_at, rows_at, HasGoodMark, KeepsRules}
+use Rattle.image_reader.specs.Accepted.{HasSources, AreGoodNodes, IsAlwaysAccepted, IsGoodNode, revision_at, parts_at, rows_at, HasGoodMark, KeepsRules}
 use Rattle.image_reader.proofs.WholeImages.{whole_again}
 use Rattle.session_checker.specs.declared.fault.CheckFault.{CheckFault}
 use Rattle.session_checker.specs.declared.fault.CheckFault.TheVariants as faults
@@ -21,12 +23,13 @@ use Rattle.session_checker.specs.declared.node_rules.NodeRule.{NodeRule}
 use Rattle.session_checker.specs.declared.node_rules.NodeRule.TheVariants.{Reference, Length, Depth, Span}
 use Rattle.session_checker.specs.SourceRules.{IsFirstSourceFault, count, other_length}
 use Rattle.session_checker.specs.NodeRules.{Breaks, BreaksFirst, fault_at, IsFirstNodeFault}
-use Rattle.session_checker.specs.RevisionRules.{HasStatedRows, HasStatedBefore, HasReadableRows, HasRowsOverNoSource, IsGoodOver, AreGoodOver, IsCommandInRange, HasRootOfParts, IsFirstBadRow, BreaksRule, BreaksRows, IsFirstRevisionFault}
-use Rattle.session_checker.specs.Accepted.{StatesAll, HasGoodTables, IsFirstTableFault, IsAccepted, IsFirstFault, IsExact, NeedsNoRead, Accepts}
+use Rattle.session_checker.specs.RevisionRules.{HasRowsOverNoSource, IsGoodOver, AreGoodOver, IsCommandInRange, HasRootOfParts, IsFirstBadRow, BreaksRule, BreaksRows, IsFirstRevisionFault, source_fault, source_fault_in}
+use Rattle.session_checker.specs.Accepted.{BytesAsk, StatesAll, HasGoodTables, IsFirstTableFault, IsAccepted, IsFirstFault, IsExact, NeedsNoRead, Accepts}
 use Rattle.session_checker.specs.Faithful.{EachRevision}
-use Rattle.session_checker.proofs.SoundTables.{sound_table}
-use Rattle.session_checker.proofs.FaithfulImages.{ready}
-use Rattle.span_certificate.proofs.Verdicts.{not_both, one_first}
+use Rattle.session_checker.proofs.SoundTables.{sound_table, true_table}
+use Rattle.session_checker.proofs.FaithfulImages.{HasReadableRows, HasStatedRows, ready}
+use Rattle.span_certificate.proofs.Verdicts.{MayFit, not_both, one_first}
+use Rattle.span_certificate.specs.Verdicts.{CanBeSame, SameStated}
 
 -- two places before which all is good, and which are not
 one_place : (Good : ℕ → Type 0) (a b : ℕ) → ((c : ℕ) → c < a → Good c) → ¬ Good a → ((c : ℕ) → c < b → Good c) → ¬ Good b → a ≡ b
@@ -39,7 +42,7 @@ one_place Good a b before_a bad_a before_b bad_b =
 
 -- ---- sources
 
-no_source_fault : (v : ImageValue) (sizes : List ℕ) (f : CheckFault) → HasSources v sizes → IsFirstSourceFault v sizes f → ⊥
+pub no_source_fault : (v : ImageValue) (sizes : List ℕ) (f : CheckFault) → HasSources v sizes → IsFirstSourceFault v sizes f → ⊥
 no_source_fault v sizes f has (count other e) = other (ap length has)
 no_source_fault v sizes f has (other_length s same first e) = first.other (ap (λ (xs : List ℕ). get_or xs s 0) has)
 
@@ -105,8 +108,13 @@ stated_cell st all (Place s p) readable =
 stated_rows : (v : ImageValue) (st : Stated) → StatesAll st → (k : ℕ) → HasReadableRows v st k → HasStatedRows v st k
 stated_rows v st all k readable j lt i d inside = stated_cell st all _ (readable j lt i d inside)
 
-stated_before : (v : ImageValue) (st : Stated) (k n : ℕ) → HasStatedRows v st k → HasStatedBefore v st k n
-stated_before v st k n stated i below lt = stated i lt
+-- what fits as far as the sources state it may fit by what they state
+abbrev MayFitAll : ImageValue → Stated → ℕ → Type 0
+MayFitAll v st k = (n : ℕ) → MayFit (image_table v) (coded_at v) (SameStated st) (CanBeSame st) (parts_at v k) (revision_at v k).root (rows_at v k) n
+
+may_fit : (v : ImageValue) (st : Stated) → IsImage v → AreGoodNodes (image_table v) → (k : ℕ) → ((c : ℕ) → c < k → IsGoodOver v st c) → KeepsRules v k → HasStatedRows v st k → MayFitAll v st k
+may_fit v st is nodes k earlier rules stated =
+    stated_may (image_table v) (sound_table v is nodes) (true_table v nodes) (coded_at v) st (parts_at v k) (revision_at v k).root (rows_at v k) (ready v k (λ c lt. (earlier c lt).rules) rules).parts stated
 
 -- an image over texts in memory, whose tables are good
 pub record IsOver (v : ImageValue) (st : Stated) : Type 0 where
@@ -124,7 +132,7 @@ data Broken (v : ImageValue) (st : Stated) (k : ℕ) (f : CheckFault) : Type 0 w
   command : f ≡ faults.Command k → ¬ IsCommandInRange v k → Broken v st k f
   root : f ≡ faults.Root k → IsCommandInRange v k → ¬ HasRootOfParts v k → Broken v st k f
   mark : f ≡ faults.Mark k → IsCommandInRange v k → HasRootOfParts v k → ¬ HasGoodMark (image_table v) (revision_at v k) → Broken v st k f
-  row : (j : ℕ) → f ≡ faults.Rows k j → KeepsRules v k → IsFirstBadRow v st k j → HasStatedRows v st k → Broken v st k f
+  row : (j : ℕ) → f ≡ faults.Rows k j → KeepsRules v k → IsFirstBadRow v st k j → MayFitAll v st k → Broken v st k f
 
 broken_rule : (v : ImageValue) (st : Stated) (k : ℕ) (f : CheckFault) → BreaksRule v k f → Broken v st k f
 broken_rule v st k (faults.Read e) h = absurd h
@@ -139,37 +147,38 @@ broken_rule v st k (faults.Root x) h = root (ap faults.Root h.0) h.1 h.2
 broken_rule v st k (faults.Mark x) h = mark (ap faults.Mark h.0) h.1 h.2 h.3
 broken_rule v st k (faults.Rows x j) h = absurd h
 broken_rule v st k (faults.Source e) h = absurd h
+broken_rule v st k (faults.Looks n) h = absurd h
 
-broken_rows : {T : Type 0} (stated : T → Stated) (failures : T → ℕ) (old new : T) (v : ImageValue) (k : ℕ) (f : CheckFault) → HasStatedRows v (stated old) k → HasReadableRows v (stated old) k → KeepsRules v k → BreaksRows stated failures old new v k f → Broken v (stated old) k f
-broken_rows stated failures old new v k (faults.Read e) are readable rules h = absurd h
-broken_rows stated failures old new v k faults.SourceCount are readable rules h = absurd h
-broken_rows stated failures old new v k (faults.SourceLength s) are readable rules h = absurd h
-broken_rows stated failures old new v k (faults.Reference id) are readable rules h = absurd h
-broken_rows stated failures old new v k (faults.Length id) are readable rules h = absurd h
-broken_rows stated failures old new v k (faults.Depth id) are readable rules h = absurd h
-broken_rows stated failures old new v k (faults.Span id) are readable rules h = absurd h
-broken_rows stated failures old new v k (faults.Command x) are readable rules h = absurd h
-broken_rows stated failures old new v k (faults.Root x) are readable rules h = absurd h
-broken_rows stated failures old new v k (faults.Mark x) are readable rules h = absurd h
-broken_rows stated failures old new v k (faults.Rows x j) are readable rules h = row j (ap (λ (r : ℕ). faults.Rows r j) h.0) rules h.1 are
-broken_rows stated failures old new v k (faults.Source e) are readable rules h = absurd (h.unreadable readable)
+broken_rows : (st : Stated) (v : ImageValue) (k : ℕ) (f : CheckFault) → MayFitAll v st k → KeepsRules v k → BreaksRows st v k f → Broken v st k f
+broken_rows st v k (faults.Read e) are rules h = absurd h
+broken_rows st v k faults.SourceCount are rules h = absurd h
+broken_rows st v k (faults.SourceLength s) are rules h = absurd h
+broken_rows st v k (faults.Reference id) are rules h = absurd h
+broken_rows st v k (faults.Length id) are rules h = absurd h
+broken_rows st v k (faults.Depth id) are rules h = absurd h
+broken_rows st v k (faults.Span id) are rules h = absurd h
+broken_rows st v k (faults.Command x) are rules h = absurd h
+broken_rows st v k (faults.Root x) are rules h = absurd h
+broken_rows st v k (faults.Mark x) are rules h = absurd h
+broken_rows st v k (faults.Rows x j) are rules h = row j (ap (λ (r : ℕ). faults.Rows r j) h.0) rules h.1 are
+broken_rows st v k (faults.Source e) are rules h = absurd h
+broken_rows st v k (faults.Looks n) are rules h = absurd h
 
-broken_at : {T : Type 0} (stated : T → Stated) (failures : T → ℕ) (old new : T) (v : ImageValue) (f : CheckFault) → IsOver v (stated old) → (first : IsFirstRevisionFault stated failures old new v f) → Broken v (stated old) first.k f
-broken_at stated failures old new v f is first =
+broken_at : (st : Stated) (v : ImageValue) (f : CheckFault) → IsOver v st → (first : IsFirstRevisionFault st v f) → Broken v st first.k f
+broken_at st v f is first =
     elim first.breaks [
-      | inl rule ↦ broken_rule v (stated old) first.k f rule
+      | inl rule ↦ broken_rule v st first.k f rule
       | inr rows ↦
-          let readable = readable_rows v (stated old) is first.k first.earlier rows.0 in
-          broken_rows stated failures old new v first.k f (stated_rows v (stated old) is.all first.k readable) readable rows.0 rows.1
+          let readable = readable_rows v st is first.k first.earlier rows.0 in
+          broken_rows st v first.k f (may_fit v st is.image is.tables.1 first.k first.earlier rows.0 (stated_rows v st is.all first.k readable)) rows.0 rows.1
     ]
 
 not_good : (v : ImageValue) (st : Stated) (k : ℕ) (f : CheckFault) → Broken v st k f → IsGoodOver v st k → ⊥
 not_good v st k f (command e bad) g = bad g.rules.command
 not_good v st k f (root e in_range bad) g = bad g.rules.root
 not_good v st k f (mark e in_range is_root bad) g = bad g.rules.mark
-not_good v st k f (row j e rules bad stated) g =
-    let some = agreeing st in
-    not_both (image_table v) (coded_at v) some.0 (parts_at v k) (revision_at v k).root (rows_at v k) j (g.rows some.0 some.1 stated) (bad some.0 some.1 (stated_before v st k (j + 1) stated))
+not_good v st k f (row j e rules bad may) g =
+    not_both (image_table v) (coded_at v) (SameStated st) (CanBeSame st) (parts_at v k) (revision_at v k).root (rows_at v k) j (may (j + 1)) g.rows bad
 
 one_broken : (v : ImageValue) (st : Stated) (k : ℕ) (f g : CheckFault) → Broken v st k f → Broken v st k g → f ≡ g
 one_broken v st k f g (command e bad) (command d also) = e ∙ sym d
@@ -187,28 +196,26 @@ one_broken v st k f g (mark e in_range is_root bad) (row j d rules also stated) 
 one_broken v st k f g (row i e rules bad stated) (command d also) = absurd (also rules.command)
 one_broken v st k f g (row i e rules bad stated) (root d in_range also) = absurd (also rules.root)
 one_broken v st k f g (row i e rules bad stated) (mark d in_range is_root also) = absurd (also rules.mark)
-one_broken v st k f g (row i e rules bad stated) (row j d too also again) =
-    let some = agreeing st in
-    e ∙ ap (faults.Rows k) (one_first (image_table v) (coded_at v) some.0 (parts_at v k) (revision_at v k).root (rows_at v k) i j (bad some.0 some.1 (stated_before v st k (i + 1) stated)) (also some.0 some.1 (stated_before v st k (j + 1) stated))) ∙ sym d
+one_broken v st k f g (row i e rules bad may) (row j d too also again) =
+    e ∙ ap (faults.Rows k) (one_first (image_table v) (coded_at v) (SameStated st) (CanBeSame st) (parts_at v k) (revision_at v k).root (rows_at v k) i j (may (i + 1)) (may (j + 1)) bad also) ∙ sym d
 
 -- no revision of an image that keeps the rules has a fault
-pub no_revision_fault : {T : Type 0} (stated : T → Stated) (failures : T → ℕ) (old new : T) (v : ImageValue) (f : CheckFault) → IsOver v (stated old) → AreGoodOver v (stated old) → IsFirstRevisionFault stated failures old new v f → ⊥
-no_revision_fault stated failures old new v f is good first = not_good v (stated old) first.k f (broken_at stated failures old new v f is first) (good first.k first.there)
+pub no_revision_fault : (st : Stated) (v : ImageValue) (f : CheckFault) → IsOver v st → AreGoodOver v st → IsFirstRevisionFault st v f → ⊥
+no_revision_fault st v f is good first = not_good v st first.k f (broken_at st v f is first) (good first.k first.there)
 
-one_revision_fault : {T : Type 0} (stated : T → Stated) (failures : T → ℕ) (old new : T) (v : ImageValue) (f g : CheckFault) → IsOver v (stated old) → IsFirstRevisionFault stated failures old new v f → IsFirstRevisionFault stated failures old new v g → f ≡ g
-one_revision_fault stated failures old new v f g is a b =
-    let st = stated old in
-    let broken = broken_at stated failures old new v f is a in
-    let other = broken_at stated failures old new v g is b in
+one_revision_fault : (st : Stated) (v : ImageValue) (f g : CheckFault) → IsOver v st → IsFirstRevisionFault st v f → IsFirstRevisionFault st v g → f ≡ g
+one_revision_fault st v f g is a b =
+    let broken = broken_at st v f is a in
+    let other = broken_at st v g is b in
     let place = one_place (IsGoodOver v st) a.k b.k a.earlier (not_good v st a.k f broken) b.earlier (not_good v st b.k g other) in
     one_broken v st a.k f g broken (subst (λ (c : ℕ). Broken v st c g) (sym place) other)
 
 -- ---- images
 
-same_image : (v w : ImageValue) → IsImage v → IsImage w → spelling v ≡ spelling w → v ≡ w
+pub same_image : (v w : ImageValue) → IsImage v → IsImage w → spelling v ≡ spelling w → v ≡ w
 same_image v w is also e = sym (whole_again v is).1 ∙ ap image_of e ∙ (whole_again w also).1
 
-no_read_fault : (bytes : List ℕ) (v : ImageValue) (e : ReadFault) → IsImage v → bytes ≡ spelling v → fault_of bytes ≡ Some e → ⊥
+pub no_read_fault : (bytes : List ℕ) (v : ImageValue) (e : ReadFault) → IsImage v → bytes ≡ spelling v → fault_of bytes ≡ Some e → ⊥
 no_read_fault bytes v e is spelled fault =
     let none : Some e ≡ None = sym fault ∙ ap fault_of spelled ∙ (whole_again v is).0 in
     absurd cc
@@ -216,32 +223,29 @@ no_read_fault bytes v e is spelled fault =
 -- ---- images that need no read
 
 -- rows over no source are stated, and can be read
-broken_unread : {T : Type 0} (stated : T → Stated) (failures : T → ℕ) (old new : T) (v : ImageValue) (f : CheckFault) → EachRevision v (HasRowsOverNoSource v) → (first : IsFirstRevisionFault stated failures old new v f) → Broken v (stated old) first.k f
-broken_unread stated failures old new v f none first =
-    let st = stated old in
+broken_unread : (st : Stated) (v : ImageValue) (f : CheckFault) → IsImage v → AreGoodNodes (image_table v) → EachRevision v (HasRowsOverNoSource v) → (first : IsFirstRevisionFault st v f) → Broken v st first.k f
+broken_unread st v f is nodes none first =
     let rows = rows_at v first.k in
     let root = (revision_at v first.k).root in
     let here = none first.k first.there in
     elim first.breaks [
       | inl rule ↦ broken_rule v st first.k f rule
       | inr broken ↦
-          broken_rows stated failures old new v first.k f (no_source_stated (image_table v) st (parts_at v first.k) root rows here)
-          (no_source_readable (image_table v) st (parts_at v first.k) root rows here) broken.0 broken.1
+          broken_rows st v first.k f (may_fit v st is nodes first.k first.earlier broken.0 (no_source_stated (image_table v) st (parts_at v first.k) root rows here)) broken.0 broken.1
     ]
 
 -- what keeps the rules whatever the sources hold keeps them over what they state
-pub always_good : (v : ImageValue) (sizes : List ℕ) (st : Stated) → IsAlwaysAccepted v sizes → AreGoodOver v st
+always_good : (v : ImageValue) (sizes : List ℕ) (st : Stated) → IsAlwaysAccepted v sizes → AreGoodOver v st
 always_good v sizes st always k lt = record {
   rules = ((always (λ s p. 0)).revisions k lt).rules;
-  rows = λ source agrees stated. ((always source).revisions k lt).rows;
+  rows = always_stated (image_table v) (coded_at v) st (parts_at v k) (revision_at v k).root (rows_at v k) (λ source. ((always source).revisions k lt).rows);
 }
 
 -- such an image has no fault over any sources of its lengths
-no_fault_unread : {T : Type 0} (stated : T → Stated) (failures : T → ℕ) (old new : T) (bytes : List ℕ) (f : CheckFault) → NeedsNoRead bytes (stated old).sizes → IsFirstFault stated failures old new bytes f → ⊥
-no_fault_unread stated failures old new bytes f a (inl read) = no_read_fault bytes a.v read.0 a.image a.spelled read.1
-no_fault_unread stated failures old new bytes f a (inr refused) =
+no_fault_unread : (st : Stated) (bytes : List ℕ) (f : CheckFault) → NeedsNoRead bytes st.sizes → IsFirstFault st bytes f → ⊥
+no_fault_unread st bytes f a (inl read) = no_read_fault bytes a.v read.0 a.image a.spelled read.1
+no_fault_unread st bytes f a (inr refused) =
     let same = same_image a.v refused.v a.image refused.image (sym a.spelled ∙ refused.spelled) in
-    let st = stated old in
     let always = subst (λ (w : ImageValue). IsAlwaysAccepted w st.sizes) same a.accepted in
     let none = subst (λ (w : ImageValue). EachRevision w (HasRowsOverNoSource w)) same a.no_source in
     let some = always (λ s p. 0) in
@@ -249,65 +253,101 @@ no_fault_unread stated failures old new bytes f a (inr refused) =
       | inl table ↦ no_table_fault refused.v st.sizes f (some.sources, some.nodes) table
       | inr revision ↦
           let first = revision.1 in
-          not_good refused.v st first.k f (broken_unread stated failures old new refused.v f none first) (always_good refused.v st.sizes st always first.k first.there)
+          not_good refused.v st first.k f (broken_unread st refused.v f refused.image some.nodes none first) (always_good refused.v st.sizes st always first.k first.there)
     ]
 
+-- no place of a source is asked for
+none_asked : (st : Stated) (bytes : List ℕ) → NeedsNoRead bytes st.sizes → (s p : ℕ) → BytesAsk st bytes s p → ⊥
+none_asked st bytes n s p asked =
+    let a = asked.asks in
+    let rows = a.asks.1 in
+    let same = same_image n.v asked.v n.image asked.image (sym n.spelled ∙ asked.spelled) in
+    let none = subst (λ (w : ImageValue). EachRevision w (HasRowsOverNoSource w)) same n.no_source in
+    let (place, from, until, is) = rows.compared in
+    subst IsByte is (none a.k a.there rows.j rows.inside place (Byte 0) until)
+
+-- an answer that asks for no place is no fault of a source
+unread_fault : (before after : Reading) (Asked : ℕ → ℕ → Type 0) (fault : Option SourceFault) → Reads before after Asked fault → ((s p : ℕ) → Asked s p → ⊥) → fault ≡ None
+unread_fault before after Asked None reads none = refl
+unread_fault before after Asked (Some e) reads none = absurd (none reads.s reads.p reads.asked)
+
 -- an answer that spells the bytes where it accepts, and is right where it refuses, is that image
-pub accepts_unread : {T : Type 0} (stated : T → Stated) (failures : T → ℕ) (old new : T) (bytes : List ℕ) (r : Result ImageValue CheckFault)
-    → IfOk r (λ v. IsImage v × (bytes ≡ spelling v)) → IfErr r (IsFirstFault stated failures old new bytes) → (n : NeedsNoRead bytes (stated old).sizes) → Accepts r n.v
-accepts_unread stated failures old new bytes (Ok v) image refused n = record { ok = ap Ok (same_image v n.v image.0 n.image (sym image.1 ∙ n.spelled)) }
-accepts_unread stated failures old new bytes (Err f) image refused n = absurd (no_fault_unread stated failures old new bytes f n refused)
+pub accepts_unread : (before after : Reading) (bytes : List ℕ) (r : Result ImageValue CheckFault)
+    → IfOk r (λ v. IsImage v × (bytes ≡ spelling v)) → IfErr r (λ f. source_fault f ≡ None → IsFirstFault before.stated bytes f) → Reads before after (BytesAsk before.stated bytes) (source_fault_in r)
+    → (n : NeedsNoRead bytes before.stated.sizes) → Accepts r n.v
+accepts_unread before after bytes (Ok v) image refused reads n = record { ok = ap Ok (same_image v n.v image.0 n.image (sym image.1 ∙ n.spelled)) }
+accepts_unread before after bytes (Err f) image refused reads n =
+    absurd (no_fault_unread before.stated bytes f n (refused (unread_fault before after (BytesAsk before.stated bytes) (source_fault f) reads (none_asked before.stated bytes n))))
 
 -- ---- answers over texts in memory
 
 -- what is accepted has no fault
-no_fault : {T : Type 0} (stated : T → Stated) (failures : T → ℕ) (old new : T) (bytes : List ℕ) (f : CheckFault) → StatesAll (stated old) → IsAccepted bytes (stated old) → IsFirstFault stated failures old new bytes f → ⊥
-no_fault stated failures old new bytes f all a (inl read) = no_read_fault bytes a.v read.0 a.image a.spelled read.1
-no_fault stated failures old new bytes f all a (inr refused) =
+no_fault : (st : Stated) (bytes : List ℕ) (f : CheckFault) → StatesAll st → IsAccepted bytes st → IsFirstFault st bytes f → ⊥
+no_fault st bytes f all a (inl read) = no_read_fault bytes a.v read.0 a.image a.spelled read.1
+no_fault st bytes f all a (inr refused) =
     let same = same_image a.v refused.v a.image refused.image (sym a.spelled ∙ refused.spelled) in
-    let st = stated old in
     let tables = subst (λ (w : ImageValue). HasGoodTables w st.sizes) same a.tables in
     let good = subst (λ (w : ImageValue). AreGoodOver w st) same a.revisions in
     elim refused.fault [
       | inl table ↦ no_table_fault refused.v st.sizes f tables table
-      | inr revision ↦ no_revision_fault stated failures old new refused.v f (record { image = refused.image; all = all; tables = tables }) good revision.1
+      | inr revision ↦ no_revision_fault st refused.v f (record { image = refused.image; all = all; tables = tables }) good revision.1
     ]
 
-one_refusal : {T : Type 0} (stated : T → Stated) (failures : T → ℕ) (old new : T) (v : ImageValue) (f g : CheckFault) → IsImage v → StatesAll (stated old)
-    → IsFirstTableFault v (stated old).sizes f ⊎ (HasGoodTables v (stated old).sizes × IsFirstRevisionFault stated failures old new v f)
-    → IsFirstTableFault v (stated old).sizes g ⊎ (HasGoodTables v (stated old).sizes × IsFirstRevisionFault stated failures old new v g) → f ≡ g
-one_refusal stated failures old new v f g is all (inl a) (inl b) = one_table_fault v (stated old).sizes f g a b
-one_refusal stated failures old new v f g is all (inl a) (inr b) = absurd (no_table_fault v (stated old).sizes f b.0 a)
-one_refusal stated failures old new v f g is all (inr a) (inl b) = absurd (no_table_fault v (stated old).sizes g a.0 b)
-one_refusal stated failures old new v f g is all (inr a) (inr b) = one_revision_fault stated failures old new v f g (record { image = is; all = all; tables = a.0 }) a.1 b.1
+one_refusal : (st : Stated) (v : ImageValue) (f g : CheckFault) → IsImage v → StatesAll st
+    → IsFirstTableFault v st.sizes f ⊎ (HasGoodTables v st.sizes × IsFirstRevisionFault st v f)
+    → IsFirstTableFault v st.sizes g ⊎ (HasGoodTables v st.sizes × IsFirstRevisionFault st v g) → f ≡ g
+one_refusal st v f g is all (inl a) (inl b) = one_table_fault v st.sizes f g a b
+one_refusal st v f g is all (inl a) (inr b) = absurd (no_table_fault v st.sizes f b.0 a)
+one_refusal st v f g is all (inr a) (inl b) = absurd (no_table_fault v st.sizes g a.0 b)
+one_refusal st v f g is all (inr a) (inr b) = one_revision_fault st v f g (record { image = is; all = all; tables = a.0 }) a.1 b.1
 
-one_fault : {T : Type 0} (stated : T → Stated) (failures : T → ℕ) (old new : T) (bytes : List ℕ) (f g : CheckFault) → StatesAll (stated old) → IsFirstFault stated failures old new bytes f → IsFirstFault stated failures old new bytes g → f ≡ g
-one_fault stated failures old new bytes f g all (inl a) (inl b) =
+one_fault : (st : Stated) (bytes : List ℕ) (f g : CheckFault) → StatesAll st → IsFirstFault st bytes f → IsFirstFault st bytes g → f ≡ g
+one_fault st bytes f g all (inl a) (inl b) =
     let same : Some a.0 ≡ Some b.0 = sym a.1 ∙ b.1 in
     let fault : a.0 ≡ b.0 = cc in
     a.2 ∙ ap faults.Read fault ∙ sym b.2
-one_fault stated failures old new bytes f g all (inl a) (inr b) = absurd (no_read_fault bytes b.v a.0 b.image b.spelled a.1)
-one_fault stated failures old new bytes f g all (inr a) (inl b) = absurd (no_read_fault bytes a.v b.0 a.image a.spelled b.1)
-one_fault stated failures old new bytes f g all (inr a) (inr b) =
+one_fault st bytes f g all (inl a) (inr b) = absurd (no_read_fault bytes b.v a.0 b.image b.spelled a.1)
+one_fault st bytes f g all (inr a) (inl b) = absurd (no_read_fault bytes a.v b.0 a.image a.spelled b.1)
+one_fault st bytes f g all (inr a) (inr b) =
     let same = same_image b.v a.v b.image a.image (sym b.spelled ∙ a.spelled) in
-    one_refusal stated failures old new a.v f g a.image all a.fault
-    (subst (λ (w : ImageValue). IsFirstTableFault w (stated old).sizes g ⊎ (HasGoodTables w (stated old).sizes × IsFirstRevisionFault stated failures old new w g)) same b.fault)
+    one_refusal st a.v f g a.image all a.fault
+    (subst (λ (w : ImageValue). IsFirstTableFault w st.sizes g ⊎ (HasGoodTables w st.sizes × IsFirstRevisionFault st w g)) same b.fault)
+
+-- each place that is asked for can be read, and so there is no fault of a source
+asked_readable : (st : Stated) (bytes : List ℕ) → StatesAll st → (s p : ℕ) → BytesAsk st bytes s p → IsReadable st (Place s p)
+asked_readable st bytes all s p asked =
+    let a = asked.asks in
+    let rows = a.asks.1 in
+    let readable = readable_rows asked.v st (record { image = asked.image; all = all; tables = asked.tables }) a.k a.earlier a.asks.0 in
+    let (place, from, until, is) = rows.compared in
+    subst (IsReadable st) is (readable rows.j rows.inside place (Byte 0) until)
+
+readable_fault : (before after : Reading) (bytes : List ℕ) (fault : Option SourceFault) → Reads before after (BytesAsk before.stated bytes) fault → StatesAll before.stated → fault ≡ None
+readable_fault before after bytes fault reads all =
+    reads_succeed before after (BytesAsk before.stated bytes) fault reads all.never_fails (λ s p asked. (asked_readable before.stated bytes all s p asked).1)
 
 -- an answer that is right where it accepts and where it refuses is the only right one
-pub exact : {T : Type 0} (stated : T → Stated) (failures : T → ℕ) (old new : T) (bytes : List ℕ) (r : Result ImageValue CheckFault)
-    → (IsOk r → IsAccepted bytes (stated old)) → IfErr r (IsFirstFault stated failures old new bytes) → IsExact stated failures old new bytes r
-exact stated failures old new bytes (Ok v) accepted refused all = record {
+pub exact : (before after : Reading) (bytes : List ℕ) (r : Result ImageValue CheckFault)
+    → (IsOk r → IsAccepted bytes before.stated) → IfErr r (λ f. source_fault f ≡ None → IsFirstFault before.stated bytes f) → Reads before after (BytesAsk before.stated bytes) (source_fault_in r) → IsExact before.stated bytes r
+exact before after bytes (Ok v) accepted refused reads all = record {
   accepts = λ a. refl;
-  refuses = λ f first. absurd (no_fault stated failures old new bytes f all (accepted refl) first);
+  refuses = λ f first. absurd (no_fault before.stated bytes f all (accepted refl) first);
 }
-exact stated failures old new bytes (Err g) accepted refused all = record {
-  accepts = λ a. absurd (no_fault stated failures old new bytes g all a refused);
-  refuses = λ f first. ap Err (one_fault stated failures old new bytes g f all refused first);
-}
+exact before after bytes (Err g) accepted refused reads all =
+    let is = refused (readable_fault before after bytes (source_fault g) reads all) in
+    record {
+      accepts = λ a. absurd (no_fault before.stated bytes g all a is);
+      refuses = λ f first. ap Err (one_fault before.stated bytes g f all is first);
+    }
 
--- texts in memory are all stated, and no read of them fails
-pub memory_states_all : (xs : List (List ℕ)) → StatesAll (stated_in_memory xs)
-memory_states_all xs = record {
-  never_fails = refl;
-  texts = λ s lt. rw (stated_text xs s (omega (arith, length-map xs (λ (x : List ℕ). length x)))) refl;
-}
+-- the first fault of sources and nodes is no fault of a source
+pub table_fault : (v : ImageValue) (sizes : List ℕ) (f : CheckFault) → IsFirstTableFault v sizes f → source_fault f ≡ None
+table_fault v sizes f (inl (count other e)) = ap source_fault e
+table_fault v sizes f (inl (other_length s same first e)) = ap source_fault e
+table_fault v sizes f (inr node) = ap source_fault node.1.is ∙ of_rule node.1.rule node.1.id
+  where
+    of_rule : (rule : NodeRule) (id : ℕ) → source_fault (fault_at rule id) ≡ None
+    of_rule Reference id = refl
+    of_rule Length id = refl
+    of_rule Depth id = refl
+    of_rule Span id = refl

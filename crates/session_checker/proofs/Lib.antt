@@ -1,10 +1,12 @@
 pub mod SoundTables
 pub mod EarlierRevisions
+pub mod RevisionLooks
 pub mod RevisionFaults
 pub mod FaithfulImages
 pub mod ExactAnswers
 pub mod RevisionTexts
 pub mod SameSources
-pub mod TablePools
-pub mod OtherPools
-pub mod PoolTexts
+pub mod Restated
+pub mod SpliceSteps
+pub mod Limits
+pub mod ResultLengths

@@ -10,7 +10,7 @@ use Rattle.session_checker.specs.declared.fault.CheckFault.{CheckFault}
 use Rattle.session_checker.specs.declared.fault.CheckFault.TheVariants.{Read}
 use Rattle.session_checker.specs.SourceRules.{IsFirstSourceFault}
 use Rattle.session_checker.specs.NodeRules.{IsFirstNodeFault}
-use Rattle.session_checker.specs.RevisionRules.{HasRowsOverNoSource, AreGoodOver, IsFirstRevisionFault}
+use Rattle.session_checker.specs.RevisionRules.{HasRowsOverNoSource, AreGoodOver, ImageAsks, IsFirstRevisionFault}
 use Rattle.session_checker.specs.Faithful.{EachRevision}
 
 -- every source states its text, and no read of what is there fails, as over texts in memory
@@ -48,25 +48,30 @@ pub record Accepts (r : Result ImageValue CheckFault) (v : ImageValue) : Type 0 
   pub ok : r ≡ Ok v
 
 -- the bytes spell an image in which this fault is the first
-pub record IsRefused {T : Type 0} (stated : T → Stated) (failures : T → ℕ) (old new : T) (bytes : List ℕ)
-    (f : CheckFault) : Type 0 where
+pub record IsRefused (st : Stated) (bytes : List ℕ) (f : CheckFault) : Type 0 where
   pub v : ImageValue
   pub image : IsImage v
   pub spelled : bytes ≡ spelling v
-  pub fault : IsFirstTableFault v (stated old).sizes f
-      ⊎ (HasGoodTables v (stated old).sizes × IsFirstRevisionFault stated failures old new v f)
+  pub fault : IsFirstTableFault v st.sizes f ⊎ (HasGoodTables v st.sizes × IsFirstRevisionFault st v f)
 
 -- the first fault of bytes that are not accepted
-abbrev pub IsFirstFault : {T : Type 0} → (T → Stated) → (T → ℕ) → T → T → List ℕ → CheckFault → Type 0
-IsFirstFault stated failures old new bytes f =
-    ((e : ReadFault) × (fault_of bytes ≡ Some e) × (f ≡ Read e)) ⊎ IsRefused stated failures old new bytes f
+abbrev pub IsFirstFault : Stated → List ℕ → CheckFault → Type 0
+IsFirstFault st bytes f =
+    ((e : ReadFault) × (fault_of bytes ≡ Some e) × (f ≡ Read e)) ⊎ IsRefused st bytes f
+
+-- a place of a source that the bytes ask for: some row of bytes compares it, and all before that row is as it has to be
+pub record BytesAsk (st : Stated) (bytes : List ℕ) (s p : ℕ) : Type 0 where
+  pub v : ImageValue
+  pub image : IsImage v
+  pub spelled : bytes ≡ spelling v
+  pub tables : HasGoodTables v st.sizes
+  pub asks : ImageAsks st v s p
 
 -- what keeps the rules is accepted, and all else is refused by its first fault
-pub record AnswersExactly {T : Type 0} (stated : T → Stated) (failures : T → ℕ) (old new : T) (bytes : List ℕ)
-    (r : Result ImageValue CheckFault) : Type 0 where
-  pub accepts : IsAccepted bytes (stated old) → IsOk r
-  pub refuses : (f : CheckFault) → IsFirstFault stated failures old new bytes f → r ≡ Err f
+pub record AnswersExactly (st : Stated) (bytes : List ℕ) (r : Result ImageValue CheckFault) : Type 0 where
+  pub accepts : IsAccepted bytes st → IsOk r
+  pub refuses : (f : CheckFault) → IsFirstFault st bytes f → r ≡ Err f
 
 -- so over sources that all state their texts
-abbrev pub IsExact : {T : Type 0} → (T → Stated) → (T → ℕ) → T → T → List ℕ → Result ImageValue CheckFault → Type 0
-IsExact stated failures old new bytes r = StatesAll (stated old) → AnswersExactly stated failures old new bytes r
+abbrev pub IsExact : Stated → List ℕ → Result ImageValue CheckFault → Type 0
+IsExact st bytes r = StatesAll st → AnswersExactly st bytes r

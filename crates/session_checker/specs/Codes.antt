@@ -3,7 +3,7 @@ use Rattle.std.specs.Prelude.{ℕ, List, ◌++◌, codes}
 use Rattle.std.specs.Fmt.{decimal}
 use Rattle.image_reader.specs.Reading.{fault_code as read_code}
 use Rattle.session_checker.specs.declared.fault.CheckFault.{CheckFault}
-use Rattle.session_checker.specs.declared.fault.CheckFault.TheVariants.{Read, SourceCount, SourceLength, Reference, Length, Depth, Span, Command, Root, Mark, Rows, Source}
+use Rattle.session_checker.specs.declared.fault.CheckFault.TheVariants.{Read, SourceCount, SourceLength, Reference, Length, Depth, Span, Command, Root, Mark, Rows, Source, Looks}
 use Rattle.lazy_file.specs.Faults.{source_fault_code}
 
 abbrev pub fault_code : CheckFault → List ℕ
@@ -19,3 +19,4 @@ fault_code (Root revision) = codes "C9(" ++ decimal revision ++ codes ")"
 fault_code (Mark revision) = codes "C10(" ++ decimal revision ++ codes ")"
 fault_code (Rows revision row) = codes "C11(" ++ decimal revision ++ codes "," ++ decimal row ++ codes ")"
 fault_code (Source fault) = codes "C12(" ++ source_fault_code fault ++ codes ")"
+fault_code (Looks bound) = codes "looks " ++ decimal bound

@@ -5,15 +5,16 @@ use Rattle.rope_node.specs.declared.node.NodeId.{NodeId}
 use Rattle.rope_node.specs.Table.{len_at, IsSound, HasTrueRecords}
 use Rattle.rope_node.specs.Denotes.{Cell, cells, rope_cells, IsRope, text}
 use Rattle.rope_node.specs.Path.{rope_visits}
-use Rattle.span_certificate.specs.declared.edit.Edit.{Edit}
-use Rattle.span_certificate.specs.Commands.{Givens, result_of}
+use Rattle.span_certificate.specs.Commands.{FullEdit, full_edit, Givens, result_of}
 use Rattle.span_certificate.specs.Parts.{givens_of}
 use Rattle.lazy_file.specs.SourceTexts.{Agrees, Stated}
 use Rattle.cord_position.specs.Fetched.{IsStated, rope_cell}
 use Rattle.image_reader.specs.declared.revision.Revision.{Revision}
 use Rattle.image_reader.specs.Value.{ImageValue, image_table}
 use Rattle.image_reader.specs.Accepted.{revision_at, HasGoodMark}
-use Rattle.session_checker.specs.RevisionRules.{HasStatedRows, HasRowsOverNoSource}
+use Rattle.span_certificate.specs.Covers.{SameOver}
+use Rattle.span_certificate.specs.Verdicts.{SameStated}
+use Rattle.session_checker.specs.RevisionRules.{HasSameBytes, HasRowsOverNoSource}
 
 -- the text of source s, over the sources' bytes
 abbrev pub source_text : ImageValue → (ℕ → ℕ → ℕ) → ℕ → List ℕ
@@ -27,8 +28,8 @@ givens v source = record {
   byte = λ b. b;
 }
 
-abbrev pub commands : ImageValue → List Edit
-commands v = map (λ (r : Revision). r.edit) v.revisions
+abbrev pub commands : ImageValue → List FullEdit
+commands v = map (λ (r : Revision). full_edit v.splices r.edit) v.revisions
 
 -- the cells of each revision's root, and its text over the sources' bytes
 abbrev pub texts_cells : ImageValue → List (List Cell)
@@ -41,10 +42,7 @@ texts v source = map (λ (r : Revision). text source (rope_cells (image_table v)
 abbrev pub revision_text : ImageValue → (ℕ → ℕ → ℕ) → ℕ → List ℕ
 revision_text v source k = get_or (texts v source) k []
 
--- what is recorded of revision k, which is there and whose root is nil or a node; its root; its mark
-abbrev pub IsRevisionOf : ImageValue → ℕ → Revision → Type 0
-IsRevisionOf v k r = (k < length v.revisions) × (r ≡ revision_at v k) × IsRope (image_table v) r.root
-
+-- the root of revision k, which is there, and which is nil or a node; its mark
 abbrev pub IsRootOf : ImageValue → ℕ → Option NodeId → Type 0
 IsRootOf v k root = (k < length v.revisions) × (root ≡ (revision_at v k).root) × IsRope (image_table v) root
 
@@ -82,15 +80,19 @@ abbrev pub EachRevision : ImageValue → (ℕ → Type 0) → Type 0
 EachRevision v P = (k : ℕ) → k < length v.revisions → P k
 
 -- command k gives text k, of the texts before it
-pub record GivesText {C : Type 0} (g : Givens C) (commands : List Edit) (texts : List (List C)) (k : ℕ) : Type 0 where
-  pub gives : (e : Edit) → slice_get commands k ≡ Some e → slice_get texts k ≡ result_of g (take k texts) e
+pub record GivesText {C : Type 0} (g : Givens C) (commands : List FullEdit) (texts : List (List C)) (k : ℕ)
+    : Type 0 where
+  pub gives : (e : FullEdit) → slice_get commands k ≡ Some e → slice_get texts k ≡ result_of g (take k texts) e
 
 pub record IsFaithful (v : ImageValue) (st : Stated) : Type 0 where
   pub true_records : HasTrueRecordsOf v
-  -- Each revision's text is what its command gives of the texts before it, over any bytes that agree with what the
-  -- sources state, where they state what this revision's rows of bytes are over.
-  pub each_text : (source : ℕ → ℕ → ℕ) → Agrees st source
-      → EachRevision v (λ k. HasStatedRows v st k → GivesText (givens v source) (commands v) (texts v source) k)
+  -- Each revision's text is what its command gives of the texts before it, over any bytes of the sources over which
+  -- each of its rows of bytes has the same bytes on both sides.
+  pub each_text : (source : ℕ → ℕ → ℕ)
+      → EachRevision v (λ k. HasSameBytes v (SameOver source) k
+      → GivesText (givens v source) (commands v) (texts v source) k)
+  -- Each row of bytes has, over every reading of what the sources state, where they state all that it is over.
+  pub same_bytes : EachRevision v (HasSameBytes v (SameStated st))
   -- the same cell for cell, and so whatever bytes the sources hold, where none of its rows of bytes is over a source
   pub each_cells : EachRevision v (λ k. HasRowsOverNoSource v k
       → GivesText (givens_of (image_table v)) (commands v) (texts_cells v) k)

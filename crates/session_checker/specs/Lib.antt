@@ -4,4 +4,4 @@ pub mod NodeRules
 pub mod RevisionRules
 pub mod Accepted
 pub mod Faithful
-pub mod Outlines
+pub mod Limits

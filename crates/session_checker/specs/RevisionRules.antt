@@ -1,50 +1,39 @@
 -- Which rule a revision breaks first, in the order of the rules, and when a source's fault keeps its rows from being
 -- compared.
-use Rattle.std.specs.Prelude.{◌≡◌, ◌⊎◌, ℕ, ◌+◌, ◌<◌, length}
-use Rattle.lazy_file.specs.SourceTexts.{Agrees, Stated}
+use Rattle.std.specs.Prelude.{◌≡◌, ◌⊎◌, ℕ, ◌<◌, List, length, Option, Some, None, Result}
+use Rattle.rope_node.specs.Denotes.{Cell}
+use Rattle.lazy_file.specs.SourceTexts.{Stated}
+use Rattle.lazy_file.specs.Readings.{fault_by}
 use Rattle.lazy_file.specs.declared.faults.SourceFault.{SourceFault}
 use Rattle.span_certificate.specs.Parts.{parts_len, IsInRange}
-use Rattle.span_certificate.specs.Covers.{IsFirstBad, MeetsNoSource}
-use Rattle.span_certificate.specs.Verdicts.{AreStatedRows, AreStatedBefore, AreReadableRows, IsVerdictFault}
+use Rattle.span_certificate.specs.Covers.{HaveSameBytes, IsFirstBadBy, MeetsNoSource}
+use Rattle.span_certificate.specs.Verdicts.{CanBeSame, IsAskedFor, SameStated}
 use Rattle.image_reader.specs.Value.{ImageValue, image_table, coded_at}
-use Rattle.image_reader.specs.Accepted.{revision_at, roots_before, parts_at, rows_at, HasGoodRoot, HasGoodMark, KeepsRules, HasGoodRows}
+use Rattle.image_reader.specs.Accepted.{revision_at, command_at, roots_before, parts_at, rows_at, AreGoodRevisions, HasGoodRoot, HasGoodMark, IsGoodRevision, KeepsRules}
 use Rattle.session_checker.specs.declared.fault.CheckFault.{CheckFault}
 use Rattle.session_checker.specs.declared.fault.CheckFault.TheVariants.{Command, Root, Mark, Rows, Source}
 
 -- ---- rows of bytes, and what sources state
 
--- each row of bytes of revision k is over cells that the sources state
-abbrev pub HasStatedRows : ImageValue → Stated → ℕ → Type 0
-HasStatedRows v st k = AreStatedRows (image_table v) st (parts_at v k) (revision_at v k).root (rows_at v k)
-
--- or over cells that no read of fails
-abbrev pub HasReadableRows : ImageValue → Stated → ℕ → Type 0
-HasReadableRows v st k = AreReadableRows (image_table v) st (parts_at v k) (revision_at v k).root (rows_at v k)
-
--- or over bytes alone, and no source
+-- each row of bytes of revision k is over bytes alone, and no source
 abbrev pub HasRowsOverNoSource : ImageValue → ℕ → Type 0
 HasRowsOverNoSource v k = MeetsNoSource (image_table v) (parts_at v k) (revision_at v k).root (rows_at v k)
 
--- each of its first n rows, if it is one of bytes, is over stated cells
-abbrev pub HasStatedBefore : ImageValue → Stated → ℕ → ℕ → Type 0
-HasStatedBefore v st k n = AreStatedBefore (image_table v) st (parts_at v k) (revision_at v k).root (rows_at v k) n
+-- each row of bytes has cells in the command's parts and in the root that are the same as Same says
+abbrev pub HasSameBytes : ImageValue → (List Cell → List Cell → Type 0) → ℕ → Type 0
+HasSameBytes v Same k = HaveSameBytes Same (image_table v) (parts_at v k) (revision_at v k).root (rows_at v k)
 
--- its rows cover over any bytes that agree with what the sources state
-abbrev pub CoversStated : ImageValue → Stated → ℕ → Type 0
-CoversStated v st k = (source : ℕ → ℕ → ℕ) → Agrees st source → HasStatedRows v st k → HasGoodRows v source k
-
--- a revision that breaks no rule over what the sources state
-pub record IsGoodOver (v : ImageValue) (st : Stated) (k : ℕ) : Type 0 where
-  pub rules : KeepsRules v k
-  pub rows : CoversStated v st k
+-- a revision that breaks no rule, its rows of bytes as far as the sources state what they are over
+abbrev pub IsGoodOver : ImageValue → Stated → ℕ → Type 0
+IsGoodOver v st k = IsGoodRevision v (SameStated st) k
 
 abbrev pub AreGoodOver : ImageValue → Stated → Type 0
-AreGoodOver v st = (k : ℕ) → k < length v.revisions → IsGoodOver v st k
+AreGoodOver v st = AreGoodRevisions v (SameStated st)
 
 -- ---- faults
 
 abbrev pub IsCommandInRange : ImageValue → ℕ → Type 0
-IsCommandInRange v k = IsInRange (image_table v) (roots_before v k) (revision_at v k).edit
+IsCommandInRange v k = IsInRange (image_table v) (roots_before v k) (command_at v k)
 
 abbrev pub HasRootOfParts : ImageValue → ℕ → Type 0
 HasRootOfParts v k = HasGoodRoot (image_table v) (revision_at v k).root (parts_len (parts_at v k))
@@ -57,34 +46,50 @@ BreaksRule v k (Mark x) =
     (x ≡ k) × IsCommandInRange v k × HasRootOfParts v k × ¬ HasGoodMark (image_table v) (revision_at v k)
 BreaksRule v k other = ⊥
 
--- j is the first row of revision k that does not fit, over any bytes that agree with what the sources state, where
--- they state what the rows of bytes up to it are over
+-- j is the first row of revision k that does not fit, as far as the sources state it; so far, the rows before it fit
 abbrev pub IsFirstBadRow : ImageValue → Stated → ℕ → ℕ → Type 0
 IsFirstBadRow v st k j =
-    (source : ℕ → ℕ → ℕ) → Agrees st source → HasStatedBefore v st k (j + 1)
-    → IsFirstBad (image_table v) (coded_at v) source (parts_at v k) (revision_at v k).root (rows_at v k) j
-
--- a read for a row of bytes of revision k failed so, and the rows before it fit
-pub record IsUnread {T : Type 0} (stated : T → Stated) (failures : T → ℕ) (old new : T) (v : ImageValue) (k : ℕ)
-    (fault : SourceFault) : Type 0 where
-  pub failed : IsVerdictFault stated failures old new (image_table v) (coded_at v) (parts_at v k) (revision_at v k).root
-      (rows_at v k) fault
-  pub unreadable : ¬ HasReadableRows v (stated old) k
+    IsFirstBadBy (image_table v) (coded_at v) (SameStated st) (CanBeSame st) (parts_at v k) (revision_at v k).root
+    (rows_at v k) j
 
 -- what is wrong with the rows of revision k
-abbrev pub BreaksRows : {T : Type 0} → (T → Stated) → (T → ℕ) → T → T → ImageValue → ℕ → CheckFault → Type 0
-BreaksRows stated failures old new v k (Rows x j) = (x ≡ k) × IsFirstBadRow v (stated old) k j
-BreaksRows stated failures old new v k (Source fault) = IsUnread stated failures old new v k fault
-BreaksRows stated failures old new v k other = ⊥
+abbrev pub BreaksRows : Stated → ImageValue → ℕ → CheckFault → Type 0
+BreaksRows st v k (Rows x j) = (x ≡ k) × IsFirstBadRow v st k j
+BreaksRows st v k other = ⊥
 
--- the first rule that revision k breaks, or the fault of its rows
-abbrev pub BreaksAt : {T : Type 0} → (T → Stated) → (T → ℕ) → T → T → ImageValue → ℕ → CheckFault → Type 0
-BreaksAt stated failures old new v k f = BreaksRule v k f ⊎ (KeepsRules v k × BreaksRows stated failures old new v k f)
+-- the first rule that revision k breaks
+abbrev pub BreaksAt : Stated → ImageValue → ℕ → CheckFault → Type 0
+BreaksAt st v k f = BreaksRule v k f ⊎ (KeepsRules v k × BreaksRows st v k f)
 
 -- the first revision that breaks a rule, and the first rule that it breaks
-pub record IsFirstRevisionFault {T : Type 0} (stated : T → Stated) (failures : T → ℕ) (old new : T) (v : ImageValue)
-    (f : CheckFault) : Type 0 where
+pub record IsFirstRevisionFault (st : Stated) (v : ImageValue) (f : CheckFault) : Type 0 where
   pub k : ℕ
   pub there : k < length v.revisions
-  pub earlier : (c : ℕ) → c < k → IsGoodOver v (stated old) c
-  pub breaks : BreaksAt stated failures old new v k f
+  pub earlier : (c : ℕ) → c < k → IsGoodOver v st c
+  pub breaks : BreaksAt st v k f
+
+-- ---- faults of sources
+
+-- the source's fault that a fault is, if it is one
+abbrev pub source_fault : CheckFault → Option SourceFault
+source_fault (Source fault) = Some fault
+source_fault other = None
+
+abbrev pub source_fault_in : {X : Type 0} → Result X CheckFault → Option SourceFault
+source_fault_in outcome = fault_by source_fault outcome
+
+-- a place that the rows of revision k ask for: some row of bytes compares it, and those before it fit
+abbrev pub RowsAsk : Stated → ImageValue → ℕ → ℕ → ℕ → Type 0
+RowsAsk st v k s p =
+    IsAskedFor (image_table v) (coded_at v) st (parts_at v k) (revision_at v k).root (rows_at v k) s p
+
+-- the same, and revision k keeps its other rules
+abbrev pub RevisionAsks : Stated → ImageValue → ℕ → ℕ → ℕ → Type 0
+RevisionAsks st v k s p = KeepsRules v k × RowsAsk st v k s p
+
+-- the same of some revision, and all before it are good
+pub record ImageAsks (st : Stated) (v : ImageValue) (s p : ℕ) : Type 0 where
+  pub k : ℕ
+  pub there : k < length v.revisions
+  pub earlier : (c : ℕ) → c < k → IsGoodOver v st c
+  pub asks : RevisionAsks st v k s p

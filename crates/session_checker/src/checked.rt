@@ -6,21 +6,24 @@ ghost use Rattle.cord_position.specs.Fetched.{ReadsSpan};
 ghost use Rattle.image_reader.specs.Accepted.{HasSources, revision_at};
 ghost use Rattle.image_reader.specs.Value.{IsImage, image_table};
 ghost use Rattle.image_reader.specs.Spelling.{spelling};
-ghost use Rattle.lazy_file.specs.SourceTexts.{Reads};
-ghost use Rattle.lazy_file.specs.ReadFaults.{TellsAs};
-ghost use Rattle.lazy_file.specs.declared.faults.SourceFault.TheVariants.{Device};
-ghost use Rattle.session_checker.specs.Accepted.{IsAccepted, IsFirstFault, IsExact, NeedsNoRead, Accepts};
-ghost use Rattle.session_checker.specs.Faithful.{IsFaithful, HasTrueRecordsOf, IsRevisionOf, IsRootOf, IsMarkOf, IsFetchedOf, fetch_visits, fetched_cell};
+ghost use Rattle.span_certificate.specs.Looks.{BeginsCount};
+ghost use Rattle.lazy_file.specs.Readings.{Reads};
+ghost use Rattle.session_checker.specs.Accepted.{IsAccepted, IsFirstFault, IsExact, NeedsNoRead, Accepts, BytesAsk};
+ghost use Rattle.session_checker.specs.Limits.{ChecksWithin, TakesLooks};
+ghost use Rattle.session_checker.specs.RevisionRules.{source_fault, source_fault_in};
+ghost use Rattle.session_checker.specs.Faithful.{IsFaithful, HasTrueRecordsOf, IsRootOf, IsMarkOf, IsFetchedOf, fetch_visits, fetched_cell};
 
 use crate::fault::CheckFault;
-use crate::revision_rules::check_revisions;
-use crate::tables::{Tables, check_tables};
+use crate::revision_rules::revisions_counted;
+use crate::tables::{Tables, passed, tables_within};
 use cord_position::fetch_byte;
 use function_leaf::Coded;
-use image_reader::{Image, Revision};
+use image_reader::{Image, Revisions};
 use lazy_file::{SourceFault, Sources};
 use rope_node::{CodedSpace, NodeId, NodeSpace, NodeView, Rope};
-use std::marker::Model;
+use span_certificate::{Count, Looks};
+use std::marker::{Brand, Model};
+use std::sync::ledger::{Blank, Ledger};
 
 /// An image that was accepted: each revision's root denotes the text that its commands give.
 #[derive(Drop)]
@@ -39,7 +42,14 @@ impl<'a> Model for Checked<'a> {
     ghost invariant = { λ a. IsImage a.tables × HasTrueRecordsOf a.tables };
 }
 
-impl Checked<'_> {
+impl<'a> Checked<'a> {
+    /// The image.
+    pub fn image(&self) -> &Image<'a>
+        ensures { result.now ≡ self.now }
+    {
+        self.tables.image()
+    }
+
     /// How many revisions the image has.
     pub fn revisions(&self) -> u32
         ensures count { result ≡ length self.now.revisions }
@@ -55,24 +65,16 @@ impl Checked<'_> {
         self.tables.image().row_count()
     }
 
-    /// Revision `k` as it is recorded, where there is one.
-    fn revision(&self, k: u32) -> Option<Revision>
-        ensures there { IfSome result (IsRevisionOf self.now k) }
-        ensures not_there { result ≡ None ↔ length self.now.revisions ≤ k }
-    {
-        if k < self.tables.image().revision_count() {
-            Some(self.tables.revision(k))
-        } else {
-            None
-        }
-    }
-
     /// The root of revision `k`, where there is one.
     pub fn root(&self, k: u32) -> Option<Rope>
         ensures there { IfSome result (IsRootOf self.now k) }
         ensures not_there { result ≡ None ↔ length self.now.revisions ≤ k }
     {
-        Some(self.revision(k)?.root)
+        if k < self.tables.image().revision_count() {
+            Some(self.tables.image().root(k))
+        } else {
+            None
+        }
     }
 
     /// Whether revision `k` is marked as balanced, where there is one.
@@ -80,7 +82,11 @@ impl Checked<'_> {
         ensures there { IfSome result (IsMarkOf self.now k) }
         ensures not_there { result ≡ None ↔ length self.now.revisions ≤ k }
     {
-        Some(self.revision(k)?.mark)
+        if k < self.tables.image().revision_count() {
+            Some(self.tables.image().mark(k))
+        } else {
+            None
+        }
     }
 
     /// The byte at `i` of the text of revision `k`, and how many nodes were visited for it, from the root to the leaf. Past the
@@ -97,13 +103,13 @@ impl Checked<'_> {
         i: u64,
     ) -> Result<(Option<u8>, u32), SourceFault>
         ensures byte { IfOk result
-            (λ x. IsFetchedOf self.now (S.stated sources.old) k i x.0) }
+            (λ x. IsFetchedOf self.now (S.reading sources.old).stated k i x.0) }
         ensures inside { IfOk result
             (λ x. IsSome x.0 ↔ i < rope_len (image_table self.now) (revision_at self.now k).root) }
         ensures visits { IfOk result (λ x. x.1 ≡ fetch_visits self.now k i) }
         ensures few { IfOk result
             (λ x. x.1 ≤ rope_depth (image_table self.now) (revision_at self.now k).root + 1) }
-        ensures reads { ReadsSpan S.stated S.failures sources.old sources.new
+        ensures reads { ReadsSpan (S.reading sources.old) (S.reading sources.new)
             (fetched_cell self.now k) i (i + 1) result }
     {
         match self.root(k) {
@@ -176,6 +182,62 @@ impl CodedSpace for Checked<'_> {
     }
 }
 
+/// The same as `check_at_most`, with each look at a node counted. They are at most as many as `looks_bound` gives for the image, and as the
+/// limit, where there is one, and none where that is why the image is refused.
+///
+/// # Errors
+///
+/// As those of `check_at_most`.
+pub fn check_counted<'a, S: Sources, L: Ledger>(
+    bytes: &'a [u8],
+    sources: &mut S,
+    at_most: Option<u64>,
+    count: &mut Count<L>,
+) -> Result<Checked<'a>, CheckFault>
+    ensures answer { ChecksWithin at_most (S.reading sources.old) (S.reading sources.new) bytes.now result }
+    ensures looks { TakesLooks at_most (S.reading sources.old).stated.sizes bytes.now count.old count.new }
+{
+    let image = match Image::read(bytes) {
+        Ok(image) => image,
+        Err(fault) => return Err(CheckFault::Read(fault)),
+    };
+    tables_within(&image, sources, at_most, &mut *count)?;
+    let tables = passed(&image);
+    let mut looks = Looks::over(&tables, &mut *count);
+    revisions_counted(&mut looks, &Revisions::over(&image), sources)?;
+    Ok(Checked { tables })
+}
+
+/// The same as `check_at_most` with a count that begins here.
+fn check_with<'a, S: Sources, L: Ledger>(
+    bytes: &'a [u8],
+    sources: &mut S,
+    at_most: Option<u64>,
+    blank: Blank,
+) -> Result<Checked<'a>, CheckFault>
+    requires { BeginsCount L.name L.parts blank.name blank.parts }
+    ensures { ChecksWithin at_most (S.reading sources.old) (S.reading sources.new) bytes.now result }
+{
+    check_counted(bytes, sources, at_most, &mut Count::<L>::new(blank))
+}
+
+/// Accepts or refuses a session image with its sources, as `check` does, where its check may take no more looks at nodes than the limit,
+/// if there is one: `looks_bound` gives that number for each image, by its counts and its rows.
+///
+/// # Errors
+///
+/// `Looks`, with that number, where it is over the limit. It comes behind `C1` to `C3`, and before any node is looked at. Else as those
+/// of `check`.
+pub fn check_at_most<'a, S: Sources>(
+    bytes: &'a [u8],
+    sources: &mut S,
+    at_most: Option<u64>,
+) -> Result<Checked<'a>, CheckFault>
+    ensures { ChecksWithin at_most (S.reading sources.old) (S.reading sources.new) bytes.now result }
+{
+    check_with::<S, Brand>(bytes, sources, at_most, Blank::new(1))
+}
+
 /// Accepts or refuses a session image with its sources. It goes over the bytes section by section, reads of the sources what rows of
 /// bytes compare, and takes no memory of its own.
 ///
@@ -185,27 +247,22 @@ impl CodedSpace for Checked<'_> {
 /// bytes over a source failed, and all before that row is as accepted.
 pub fn check<'a, S: Sources>(bytes: &'a [u8], sources: &mut S) -> Result<Checked<'a>, CheckFault>
     // What is accepted is faithful, it is what the bytes spell, and the sources are its own.
-    ensures faithful { IfOk result (λ v. IsFaithful v (S.stated sources.old)) }
+    ensures faithful { IfOk result (λ v. IsFaithful v (S.reading sources.old).stated) }
     ensures image { IfOk result (λ v. IsImage v × (bytes.now ≡ spelling v)) }
-    ensures sources { IfOk result (λ v. HasSources v (S.stated sources.old).sizes) }
+    ensures sources { IfOk result (λ v. HasSources v (S.reading sources.old).stated.sizes) }
     // What is accepted keeps the rules over what the sources state.
-    ensures accepted { IsOk result → IsAccepted bytes.now (S.stated sources.old) }
-    // A refusal is the first fault.
-    ensures refused { IfErr result
-        (IsFirstFault S.stated S.failures sources.old sources.new bytes.now) }
+    ensures accepted { IsOk result → IsAccepted bytes.now (S.reading sources.old).stated }
+    // A refusal that is no fault of a source is the first fault.
+    ensures refused { IfErr result (λ f. source_fault f ≡ None
+        → IsFirstFault (S.reading sources.old).stated bytes.now f) }
+    // A fault of a source is that of the one read that failed, for a row of bytes before which all is accepted.
+    ensures reads { Reads (S.reading sources.old) (S.reading sources.new)
+        (BytesAsk (S.reading sources.old).stated bytes.now) (source_fault_in result) }
     // Over texts in memory all that keeps the rules is accepted, and all else refused by its first fault.
-    ensures exact { IsExact S.stated S.failures sources.old sources.new bytes.now result }
+    ensures exact { IsExact (S.reading sources.old).stated bytes.now result }
     // What keeps the rules and needs no read of the sources is accepted, even where every read would fail.
-    ensures always { (n : NeedsNoRead bytes.now (S.stated sources.old).sizes) → Accepts result n.v }
-    // Where a read failed, it is told as that.
-    ensures told { TellsAs S.failures sources.old sources.new (CheckFault.Source Device) result }
-    ensures reads { Reads S.stated S.failures sources.old sources.new }
+    ensures always { (n : NeedsNoRead bytes.now (S.reading sources.old).stated.sizes)
+        → Accepts result n.v }
 {
-    let image = match Image::read(bytes) {
-        Ok(image) => image,
-        Err(fault) => return Err(CheckFault::Read(fault)),
-    };
-    let tables = check_tables(&image, sources)?;
-    check_revisions(&tables, sources)?;
-    Ok(Checked { tables })
+    check_at_most(bytes, sources, None)
 }

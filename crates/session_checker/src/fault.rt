@@ -34,6 +34,8 @@ pub enum CheckFault {
     Rows(u32, usize),
     /// `C12(S)`: a source's fault, where a read for a row of bytes failed.
     Source(SourceFault),
+    /// `looks N`: the check may take so many looks at nodes, which is more than its limit.
+    Looks(u64),
 }
 
 impl fmt::Display for CheckFault {
@@ -53,6 +55,7 @@ impl fmt::Display for CheckFault {
             CheckFault::Mark(revision) => write!(f, "C10({revision})"),
             CheckFault::Rows(revision, row) => write!(f, "C11({revision},{row})"),
             CheckFault::Source(fault) => write!(f, "C12({fault})"),
+            CheckFault::Looks(bound) => write!(f, "looks {bound}"),
         }
     }
 }

@@ -5,12 +5,12 @@ mod checked;
 mod command_rules;
 mod fault;
 mod node_rules;
-mod outline;
 mod revision_rules;
 mod source_rules;
+mod splice_rules;
 mod tables;
 
-pub use checked::{Checked, check};
+pub use checked::{Checked, check, check_at_most, check_counted};
 pub use fault::CheckFault;
-pub use outline::{PoolSpan, text_in_pool};
-pub use tables::{Tables, check_tables};
+pub use revision_rules::revisions_counted;
+pub use tables::{Tables, check_tables, tables_counted};

@@ -1,152 +1,196 @@
 //! The rules that each revision has to keep, tested by its record, its root's and its rows.
 
-ghost use Rattle.std.specs.Prelude.{◌≡◌, ◌<◌, ◌↔◌, length, IsTrue, IsOk, IfOk, IfErr};
+ghost use Rattle.std.specs.Prelude.{◌≡◌, ◌+◌, ◌*◌, ◌<◌, ◌≤◌, ◌↔◌, None, length, IsTrue, IsOk, IfOk, IfErr};
 ghost use Rattle.rope_node.specs.Denotes.{IsRope};
-ghost use Rattle.lazy_file.specs.SourceTexts.{Reads};
-ghost use Rattle.lazy_file.specs.ReadFaults.{TellsAs};
-ghost use Rattle.lazy_file.specs.declared.faults.SourceFault.TheVariants.{Device};
-ghost use Rattle.span_certificate.specs.Parts.{AreParts, AreRopes, parts_len};
+ghost use Rattle.lazy_file.specs.Readings.{Reads};
+ghost use Rattle.span_certificate.specs.Parts.{AreParts, AreRopes, IsInRange, parts_len};
+ghost use Rattle.span_certificate.specs.Looks.{most_looks};
 ghost use Rattle.image_reader.specs.Value.{image_table};
-ghost use Rattle.image_reader.specs.Accepted.{revision_at, roots_before, parts_at, rows_before, HasGoodRoot, HasGoodMark, KeepsRules};
-ghost use Rattle.session_checker.specs.RevisionRules.{CoversStated, IsGoodOver, AreGoodOver, BreaksRule, BreaksRows, BreaksAt, IsFirstRevisionFault};
+ghost use Rattle.image_reader.specs.Accepted.{revision_at, command_at, roots_before, parts_at, rows_at, rows_before, HasGoodRoot, HasGoodMark, HasGoodRows, KeepsRules};
+ghost use Rattle.span_certificate.specs.Verdicts.{SameStated};
+ghost use Rattle.session_checker.specs.RevisionRules.{IsGoodOver, AreGoodOver, BreaksRule, BreaksRows, BreaksAt, ImageAsks, IsFirstRevisionFault, RevisionAsks, RowsAsk, source_fault, source_fault_in};
 
-use crate::command_rules::is_in_range;
+use crate::command_rules::{is_in_range, result_len};
 use crate::fault::CheckFault;
 use crate::tables::Tables;
-use image_reader::{EarlierRoots, Revision, RevisionRows};
+use image_reader::{Revision, Revisions};
 use lazy_file::Sources;
 use rebalance::is_balanced;
-use rope_node::{NodeSpace, Rope};
-use span_certificate::{Part, Parts, Verdict, verify};
+use rope_node::Rope;
+use span_certificate::{Looks, PartIter, Splices, Verdict, verify_counted};
+use std::sync::ledger::Ledger;
 
-/// Whether parts have so many bytes together.
-fn have_length(parts: &[Part], len: u64) -> bool
-    ensures { IsTrue result ↔ (len ≡ parts_len parts.now) }
-{
-    let mut left = len;
-    for part in parts {
-        if part.len() > left {
-            return false;
-        }
-        left -= part.len();
-    }
-    left == 0
-}
-
-fn has_good_root(tables: &Tables, root: Rope, parts: &[Part]) -> bool
-    ensures { IsTrue result ↔ HasGoodRoot (image_table tables.now) root (parts_len parts.now) }
+/// Whether a root is nil or one of the nodes, with a text of this length.
+fn has_good_root<L: Ledger>(looks: &Looks<'_, '_, Tables<'_>, L>, root: Rope, len: u64) -> bool
+    ensures { IsTrue result ↔ HasGoodRoot (image_table looks.now.space.now) root len }
 {
     match root {
-        None => have_length(parts, 0),
-        Some(node) => node.0 < tables.count() && have_length(parts, tables.len(node)),
+        None => len == 0,
+        Some(node) => node.0 < looks.node_count() && looks.len(node) == len,
     }
 }
 
-fn has_good_mark(tables: &Tables, revision: Revision) -> bool
-    requires { IsRope (image_table tables.now) revision.root }
-    ensures { IsTrue result ↔ HasGoodMark (image_table tables.now) revision }
+fn has_good_mark<L: Ledger>(looks: &Looks<'_, '_, Tables<'_>, L>, revision: Revision) -> bool
+    requires { IsRope (image_table looks.now.space.now) revision.root }
+    ensures { IsTrue result ↔ HasGoodMark (image_table looks.now.space.now) revision }
 {
     if !revision.mark {
         return true;
     }
     match revision.root {
         None => false,
-        Some(node) => is_balanced(tables.len(node), tables.depth(node)),
+        Some(node) => is_balanced(looks.len(node), looks.depth(node)),
     }
 }
 
-/// Tests the rules of revision `k` in their order, but for its rows. The answer is its command's parts.
-fn check_rules(tables: &Tables, k: u32) -> Result<Parts, CheckFault>
-    requires there { k < length tables.now.revisions }
-    requires earlier { AreRopes (image_table tables.now) (roots_before tables.now k) }
-    ensures ok { IfOk result (λ parts. KeepsRules tables.now k) }
-    ensures parts { IfOk result (λ parts. parts ≡ parts_at tables.now k) }
-    ensures are_parts { IfOk result (λ parts. AreParts (image_table tables.now) parts) }
-    ensures err { IfErr result (BreaksRule tables.now k) }
+/// The parts of the command of revision `k`, which is this one.
+fn command_parts<'p, 'i, 'a, L: Ledger>(
+    looks: &Looks<'_, '_, Tables<'_>, L>,
+    revisions: &'p Revisions<'i, 'a>,
+    k: u32,
+    revision: Revision,
+) -> PartIter<'p, Revisions<'i, 'a>>
+    requires same { looks.now.space.now ≡ revisions.now }
+    requires there { k < length revisions.now.revisions }
+    requires revision { revision ≡ revision_at revisions.now k }
+    requires earlier { AreRopes (image_table revisions.now)
+        (roots_before revisions.now k) }
+    requires in_range { IsInRange (image_table revisions.now)
+        (roots_before revisions.now k) (command_at revisions.now k) }
+    ensures exact { result ≡ parts_at revisions.now k }
+    ensures are_parts { AreParts (image_table revisions.now) result }
 {
-    let revision = tables.revision(k);
-    let roots = EarlierRoots {
-        image: tables.image(),
-        k,
-    };
-    if !is_in_range(tables, &roots, revision.edit) {
+    let _count = revisions.count();
+    let roots = revisions.earlier(k);
+    looks.parts(&roots, revisions, &revision.edit)
+}
+
+/// Tests the rules of revision `k`, which is this one, in their order, but for its rows.
+fn check_rules<L: Ledger>(
+    looks: &Looks<'_, '_, Tables<'_>, L>,
+    revisions: &Revisions,
+    k: u32,
+    revision: Revision,
+) -> Result<(), CheckFault>
+    requires same { looks.now.space.now ≡ revisions.now }
+    requires there { k < length revisions.now.revisions }
+    requires revision { revision ≡ revision_at revisions.now k }
+    requires earlier { AreRopes (image_table revisions.now)
+        (roots_before revisions.now k) }
+    ensures ok { IsOk result → KeepsRules revisions.now k }
+    ensures err { IfErr result (BreaksRule revisions.now k) }
+{
+    let _count = revisions.count();
+    let roots = revisions.earlier(k);
+    if !is_in_range(looks, &roots, revisions, revision.edit) {
         return Err(CheckFault::Command(k));
     }
-    let parts = Parts::of(tables, &roots, &revision.edit);
-    if !has_good_root(tables, revision.root, parts.as_slice()) {
+    let len = result_len(looks, &roots, revisions, revision.edit);
+    if !has_good_root(looks, revision.root, len) {
         return Err(CheckFault::Root(k));
     }
-    if !has_good_mark(tables, revision) {
+    if !has_good_mark(looks, revision) {
         return Err(CheckFault::Mark(k));
     }
-    Ok(parts)
+    Ok(())
 }
 
-/// Tests whether the rows of revision `k`, which begin at row `from`, cover its command's parts and its root.
-fn check_rows<S: Sources>(
-    tables: &Tables,
+/// Tests whether the rows of revision `k`, which is this one and whose rows begin at row `from`, cover its command's parts and its root.
+fn check_rows<S: Sources, P: Splices, L: Ledger>(
+    looks: &mut Looks<'_, '_, Tables<'_>, L>,
+    revisions: &Revisions,
     sources: &mut S,
-    parts: &[Part],
+    parts: PartIter<'_, P>,
     k: u32,
+    revision: Revision,
     from: u32,
 ) -> Result<(), CheckFault>
-    requires there { k < length tables.now.revisions }
-    requires root { IsRope (image_table tables.now) (revision_at tables.now k).root }
-    requires parts { parts.now ≡ parts_at tables.now k }
-    requires are_parts { AreParts (image_table tables.now) parts.now }
-    requires from { from ≡ rows_before tables.now k }
-    ensures ok { IsOk result → CoversStated tables.now (S.stated sources.old) k }
-    ensures err { IfErr result
-        (BreaksRows S.stated S.failures sources.old sources.new tables.now k) }
-    ensures told { TellsAs S.failures sources.old sources.new (CheckFault.Source Device) result }
-    ensures reads { Reads S.stated S.failures sources.old sources.new }
+    requires same { looks.old.space.now ≡ revisions.now }
+    requires there { k < length revisions.now.revisions }
+    requires revision { revision ≡ revision_at revisions.now k }
+    requires root { IsRope (image_table revisions.now) (revision_at revisions.now k).root }
+    requires parts { parts ≡ parts_at revisions.now k }
+    requires are_parts { AreParts (image_table revisions.now) parts }
+    requires from { from ≡ rows_before revisions.now k }
+    ensures ok { IsOk result → HasGoodRows revisions.now (SameStated (S.reading sources.old).stated) k }
+    ensures err { IfErr result (λ f. source_fault f ≡ None
+        → BreaksRows (S.reading sources.old).stated revisions.now k f) }
+    ensures reads { Reads (S.reading sources.old) (S.reading sources.new)
+        (RowsAsk (S.reading sources.old).stated revisions.now k) (source_fault_in result) }
+    ensures looks { looks.new.count.now
+        ≤ looks.old.count.now + most_looks (rows_at revisions.now k) }
+    ensures space { looks.new.space.now ≡ looks.old.space.now }
+    ensures same_reference { looks.new.count.ghost_name ≡ looks.old.count.ghost_name }
 {
-    let revision = tables.revision(k);
-    let rows = RevisionRows {
-        image: tables.image(),
-        from,
-        count: revision.rows,
-    };
-    match verify(tables, sources, parts, revision.root, &rows) {
+    let _count = revisions.count();
+    let rows = revisions.rows(from, revision.rows);
+    match verify_counted(looks, sources, parts, revision.root, &rows) {
         Ok(Verdict::Good) => Ok(()),
         Ok(Verdict::Bad(row)) => Err(CheckFault::Rows(k, row)),
         Err(fault) => Err(CheckFault::Source(fault)),
     }
 }
 
-/// Tests the rules of revision `k`, whose rows begin at row `from`, in their order.
-fn check_revision<S: Sources>(
-    tables: &Tables,
+/// Tests the rules of revision `k`, which is this one and whose rows begin at row `from`, in their order.
+fn check_revision<S: Sources, L: Ledger>(
+    looks: &mut Looks<'_, '_, Tables<'_>, L>,
+    revisions: &Revisions,
     sources: &mut S,
     k: u32,
+    revision: Revision,
     from: u32,
 ) -> Result<(), CheckFault>
-    requires there { k < length tables.now.revisions }
-    requires earlier { AreRopes (image_table tables.now) (roots_before tables.now k) }
-    requires from { from ≡ rows_before tables.now k }
-    ensures ok { IsOk result → IsGoodOver tables.now (S.stated sources.old) k }
-    ensures err { IfErr result
-        (BreaksAt S.stated S.failures sources.old sources.new tables.now k) }
-    ensures told { TellsAs S.failures sources.old sources.new (CheckFault.Source Device) result }
-    ensures reads { Reads S.stated S.failures sources.old sources.new }
+    requires same { looks.old.space.now ≡ revisions.now }
+    requires there { k < length revisions.now.revisions }
+    requires revision { revision ≡ revision_at revisions.now k }
+    requires earlier { AreRopes (image_table revisions.now)
+        (roots_before revisions.now k) }
+    requires from { from ≡ rows_before revisions.now k }
+    ensures ok { IsOk result → IsGoodOver revisions.now (S.reading sources.old).stated k }
+    ensures err { IfErr result (λ f. source_fault f ≡ None
+        → BreaksAt (S.reading sources.old).stated revisions.now k f) }
+    ensures reads { Reads (S.reading sources.old) (S.reading sources.new)
+        (RevisionAsks (S.reading sources.old).stated revisions.now k) (source_fault_in result) }
+    ensures looks { looks.new.count.now
+        ≤ looks.old.count.now + most_looks (rows_at revisions.now k) }
+    ensures space { looks.new.space.now ≡ looks.old.space.now }
+    ensures same_reference { looks.new.count.ghost_name ≡ looks.old.count.ghost_name }
 {
-    let parts = check_rules(tables, k)?;
-    check_rows(tables, sources, parts.as_slice(), k, from)
+    check_rules(looks, revisions, k, revision)?;
+    let parts = command_parts(looks, revisions, k, revision);
+    check_rows(looks, revisions, sources, parts, k, revision, from)
 }
 
-/// Tests revision by revision.
-pub fn check_revisions<S: Sources>(tables: &Tables, sources: &mut S) -> Result<(), CheckFault>
-    ensures ok { IsOk result → AreGoodOver tables.now (S.stated sources.old) }
-    ensures err { IfErr result
-        (IsFirstRevisionFault S.stated S.failures sources.old sources.new tables.now) }
-    ensures told { TellsAs S.failures sources.old sources.new (CheckFault.Source Device) result }
-    ensures reads { Reads S.stated S.failures sources.old sources.new }
+/// Tests revision by revision, by looks at the nodes of the image that the revisions are of. They are at most two
+/// for each revision, 132 for each row, and 132 for each byte of the rows that compare bytes, counted up to 4,096.
+///
+/// # Errors
+///
+/// The first fault of the revisions: `C8` to `C11`, or `C12`.
+pub fn revisions_counted<S: Sources, L: Ledger>(
+    looks: &mut Looks<'_, '_, Tables<'_>, L>,
+    revisions: &Revisions,
+    sources: &mut S,
+) -> Result<(), CheckFault>
+    requires same { looks.old.space.now ≡ revisions.now }
+    ensures ok { IsOk result → AreGoodOver revisions.now (S.reading sources.old).stated }
+    ensures err { IfErr result (λ f. source_fault f ≡ None
+        → IsFirstRevisionFault (S.reading sources.old).stated revisions.now f) }
+    ensures reads { Reads (S.reading sources.old) (S.reading sources.new)
+        (ImageAsks (S.reading sources.old).stated revisions.now) (source_fault_in result) }
+    ensures looks { looks.new.count.now ≤ looks.old.count.now
+        + 2 * length revisions.now.revisions + most_looks revisions.now.rows }
+    ensures space { looks.new.space.now ≡ looks.old.space.now }
+    ensures same_reference { looks.new.count.ghost_name ≡ looks.old.count.ghost_name }
 {
-    let count = tables.image().revision_count();
+    let count = revisions.count();
     let mut from = 0;
+    let mut first = 0;
     for k in 0..count {
-        check_revision(tables, sources, k, from)?;
-        from += tables.revision(k).rows;
+        let revision = revisions.revision(k, first);
+        check_revision(looks, revisions, sources, k, revision, from)?;
+        from += revision.rows;
+        first += revision.edit.splice_count();
     }
     Ok(())
 }

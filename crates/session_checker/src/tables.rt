@@ -1,20 +1,26 @@
 //! The node table of an image, once its nodes have passed.
 
-ghost use Rattle.std.specs.Prelude.{◌≡◌, ◌<◌, ◌↔◌, length, IfOk, IfErr, IsOk};
+ghost use Rattle.std.specs.Prelude.{◌≡◌, ◌+◌, ◌<◌, ◌≤◌, ◌↔◌, length, IfOk, IfErr, IsOk};
 ghost use Rattle.rope_node.specs.Table.{IsSound, HasTrueRecords};
+ghost use Rattle.span_certificate.specs.Looks.{BeginsCount};
 ghost use Rattle.image_reader.specs.Value.{IsImage, image_table};
-ghost use Rattle.image_reader.specs.Accepted.{AreGoodNodes, revision_at};
+ghost use Rattle.image_reader.specs.Looks.{looks_bound};
+ghost use Rattle.image_reader.specs.Accepted.{AreGoodNodes};
 ghost use Rattle.session_checker.specs.NodeRules.{IsFirstNodeFault, fault_at};
 ghost use Rattle.session_checker.specs.Accepted.{HasGoodTables, IsFirstTableFault};
+ghost use Rattle.session_checker.specs.Limits.{IsBeyond, IsFirstTableFaultWithin, IsWithin};
+ghost use Rattle.session_checker.specs.declared.fault.CheckFault.TheVariants.{Looks};
 
 use crate::fault::CheckFault;
 use crate::node_rules::{NodeRule, check_node};
 use crate::source_rules::check_sources;
 use function_leaf::{Coded, LeafFn};
-use image_reader::{Image, Revision};
+use image_reader::{Image, Records, looks_bound};
 use lazy_file::Sources;
 use rope_node::{CodedSpace, NodeId, NodeSpace, NodeView};
-use std::marker::Model;
+use span_certificate::Count;
+use std::marker::{Brand, Model};
+use std::sync::ledger::{Blank, Ledger};
 
 /// An image's nodes: a sound table with true records.
 #[derive(Drop)]
@@ -43,14 +49,6 @@ impl<'a> Tables<'a> {
     {
         &self.image
     }
-
-    /// Revision `k` as it is recorded.
-    pub fn revision(&self, k: u32) -> Revision
-        requires { k < length self.now.revisions }
-        ensures { result ≡ revision_at self.now k }
-    {
-        self.image.revision(k)
-    }
 }
 
 impl NodeSpace for Tables<'_> {
@@ -73,7 +71,13 @@ impl NodeSpace for Tables<'_> {
     }
 
     fn literal(&self, id: NodeId, off: u64) -> &[u8] {
-        self.image.literal(id, off)
+        match self.image.node(id) {
+            NodeView::Lit { a } => {
+                let len = self.image.len(id);
+                &self.image.pool()[(a + off) as usize..(a + len) as usize]
+            }
+            _ => unreachable!(),
+        }
     }
 
     fn fun_byte(&self, id: NodeId, i: u64) -> u8 {
@@ -93,11 +97,11 @@ impl NodeSpace for Tables<'_> {
     }
 
     fn pool_len(&self) -> u64 {
-        self.image.pool_len()
+        self.image.pool().len() as u64
     }
 
     fn pool(&self, a: u64) -> &[u8] {
-        self.image.pool_from(a)
+        &self.image.pool()[a as usize..]
     }
 }
 
@@ -126,17 +130,109 @@ fn fault_of(rule: NodeRule, id: u32) -> CheckFault
     }
 }
 
-/// Tests node by node.
-fn check_nodes(image: &Image) -> Result<(), CheckFault>
-    ensures ok { IsOk result ↔ AreGoodNodes (image_table image.now) }
-    ensures err { IfErr result (IsFirstNodeFault (image_table image.now)) }
+/// Tests node by node: one look each.
+fn check_nodes<L: Ledger>(records: &mut Records<'_, '_, '_, L>) -> Result<(), CheckFault>
+    ensures ok { IsOk result ↔ AreGoodNodes (image_table records.old.image.now) }
+    ensures err { IfErr result (IsFirstNodeFault (image_table records.old.image.now)) }
+    ensures looks { records.new.count.now
+        ≤ records.old.count.now + length (image_table records.old.image.now).nodes }
+    ensures image { records.new.image.now ≡ records.old.image.now }
+    ensures same_reference { records.new.count.ghost_name ≡ records.old.count.ghost_name }
 {
-    for id in 0..image.node_count() {
-        if let Err(rule) = check_node(image, NodeId(id)) {
+    for id in 0..records.node_count() {
+        if let Err(rule) = check_node(records, NodeId(id)) {
             return Err(fault_of(rule, id));
         }
     }
     Ok(())
+}
+
+/// Whether the sources are the image's and each node keeps the rules, by its record. It takes no memory,
+/// and at most one look for each node.
+///
+/// # Errors
+///
+/// The first fault of the sources, then of the nodes: `C2` to `C7`.
+pub fn tables_counted<S: Sources, L: Ledger>(
+    records: &mut Records<'_, '_, '_, L>,
+    sources: &S,
+) -> Result<(), CheckFault>
+    ensures ok { IsOk result
+        ↔ HasGoodTables records.old.image.now (S.reading sources.now).stated.sizes }
+    ensures err { IfErr result
+        (IsFirstTableFault records.old.image.now (S.reading sources.now).stated.sizes) }
+    ensures looks { records.new.count.now
+        ≤ records.old.count.now + length (image_table records.old.image.now).nodes }
+    ensures image { records.new.image.now ≡ records.old.image.now }
+    ensures same_reference { records.new.count.ghost_name ≡ records.old.count.ghost_name }
+{
+    check_sources(records, sources)?;
+    check_nodes(records)
+}
+
+/// Refuses an image whose check may take more looks than the limit, where there is one.
+fn check_bound(image: &Image, at_most: Option<u64>) -> Result<(), CheckFault>
+    ensures ok { IsOk result → IsWithin at_most image.now }
+    ensures err { IfErr result (λ f. IsBeyond at_most image.now × (f ≡ Looks (looks_bound image.now))) }
+{
+    let Some(most) = at_most else {
+        return Ok(());
+    };
+    let bound = looks_bound(image);
+    if most < bound {
+        return Err(CheckFault::Looks(bound));
+    }
+    Ok(())
+}
+
+/// The same as `tables_counted`, where an image with such sources is refused first if its check may take more looks than the limit.
+pub fn tables_within<S: Sources, L: Ledger>(
+    image: &Image,
+    sources: &S,
+    at_most: Option<u64>,
+    count: &mut Count<L>,
+) -> Result<(), CheckFault>
+    ensures ok { IsOk result
+        → HasGoodTables image.now (S.reading sources.now).stated.sizes × IsWithin at_most image.now }
+    ensures err { IfErr result
+        (IsFirstTableFaultWithin at_most image.now (S.reading sources.now).stated.sizes) }
+    ensures looks { count.new ≤ count.old + length (image_table image.now).nodes }
+    ensures none { IsBeyond at_most image.now → count.new ≡ count.old }
+{
+    let mut records = Records::over(image, count);
+    check_sources(&records, sources)?;
+    check_bound(image, at_most)?;
+    tables_counted(&mut records, sources)
+}
+
+/// The table of an image whose nodes have passed.
+pub fn passed<'a>(image: &Image<'a>) -> Tables<'a>
+    requires { AreGoodNodes (image_table image.now) }
+    ensures value { result ≡ image.now }
+    ensures image { IsImage image.now }
+{
+    let _nodes = image.node_count();
+    Tables {
+        image: image.same(),
+    }
+}
+
+/// The same as `check_tables` with a count that begins here.
+fn check_tables_with<'a, S: Sources, L: Ledger>(
+    image: &Image<'a>,
+    sources: &S,
+    blank: Blank,
+) -> Result<Tables<'a>, CheckFault>
+    requires { BeginsCount L.name L.parts blank.name blank.parts }
+    ensures ok { IsOk result ↔ HasGoodTables image.now (S.reading sources.now).stated.sizes }
+    ensures value { IfOk result (λ v. v ≡ image.now) }
+    ensures image { IfOk result IsImage }
+    ensures err { IfErr result (IsFirstTableFault image.now (S.reading sources.now).stated.sizes) }
+{
+    let mut count = Count::<L>::new(blank);
+    let mut records = Records::over(image, &mut count);
+    tables_counted(&mut records, sources)?;
+    Ok(passed(image))
 }
 
 /// The table of an image's nodes, where the sources are the image's and each node keeps the rules. It takes no memory.
@@ -148,14 +244,10 @@ pub fn check_tables<'a, S: Sources>(
     image: &Image<'a>,
     sources: &S,
 ) -> Result<Tables<'a>, CheckFault>
-    ensures ok { IsOk result ↔ HasGoodTables image.now (S.stated sources.now).sizes }
+    ensures ok { IsOk result ↔ HasGoodTables image.now (S.reading sources.now).stated.sizes }
     ensures value { IfOk result (λ v. v ≡ image.now) }
     ensures image { IfOk result IsImage }
-    ensures err { IfErr result (IsFirstTableFault image.now (S.stated sources.now).sizes) }
+    ensures err { IfErr result (IsFirstTableFault image.now (S.reading sources.now).stated.sizes) }
 {
-    check_sources(image, sources)?;
-    check_nodes(image)?;
-    Ok(Tables {
-        image: image.same(),
-    })
+    check_tables_with::<S, Brand>(image, sources, Blank::new(1))
 }

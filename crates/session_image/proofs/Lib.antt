@@ -2,6 +2,7 @@ pub mod Fields
 pub mod HeldNodes
 pub mod PoolBytes
 pub mod RowLists
+pub mod SpliceLists
 pub mod SameTables
 pub mod Sections
 pub mod SameSections

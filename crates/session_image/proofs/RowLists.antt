@@ -15,9 +15,8 @@ use Rattle.std.proofs.lemmas.Bool.{cases_lt}
 use Rattle.span_certificate.specs.declared.edit.Edit.{Edit}
 use Rattle.span_certificate.specs.declared.edit.Edit.TheVariants.{New}
 use Rattle.span_certificate.specs.Fields.{FitsRecord}
-use Rattle.edit_commands.specs.Session.{edits_of}
 use Rattle.image_reader.specs.declared.revision.Revision as Recorded
-use Rattle.session_image.specs.Written.{EditsFit, recorded_revision, rows_in, rows_or_none}
+use Rattle.session_image.specs.Written.{EditsFit, edits_of, recorded_revision, rows_in, rows_or_none}
 use Rattle.session_image.proofs.Sections.{take_next, split_at, flat_map-behind, all_behind}
 
 abbrev pub rows_kept : Revision → List Row

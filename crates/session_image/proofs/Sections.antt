@@ -128,6 +128,9 @@ succeeded old new bytes x all = record { ok = all; err = tt }
 pub of_slice : (old new : Option (List ℕ)) (xs ys : List ℕ) → xs ≡ ys → AppendsPrefix old new xs → AppendsPrefix old new ys
 of_slice old new xs ys e h = subst (λ (v : List ℕ). AppendsPrefix old new v) e h
 
+pub taken : (old new : Option (List ℕ)) (xs ys : List ℕ) → xs ≡ ys → Appends old new xs → Appends old new ys
+taken old new xs ys e h = subst (λ (v : List ℕ). Appends old new v) e h
+
 pub written : (old new : Option (List ℕ)) (xs ys : List ℕ) (result : Result (Unit {0}) WriteFault) → xs ≡ ys → OnOk result (Appends old new xs) → OnErr result (AppendsPrefix old new xs) → Writes old new ys result
 written old new xs ys (Ok x) e ok err = record { ok = subst (λ (v : List ℕ). Appends old new v) e ok; err = tt }
 written old new xs ys (Err x) e ok err = record { ok = tt; err = subst (λ (v : List ℕ). AppendsPrefix old new v) e err }

@@ -10,33 +10,35 @@ use Rattle.rope_node.specs.declared.node.NodeId.{NodeId}
 use Rattle.rope_node.specs.Table.{Table, IsSound, HasTrueRecords}
 use Rattle.node_table.specs.Held.{IsKept, coded_at as held_coded}
 use Rattle.span_certificate.specs.declared.row.Row.{Row}
+use Rattle.span_certificate.specs.Commands.{FullEdit, full_edit}
 use Rattle.span_certificate.specs.Covers.{Covers, MeetsNoSource}
 use Rattle.span_certificate.specs.Parts.{parts_of, parts_len, IsInRange}
 use Rattle.edit_commands.specs.declared.revision.Revision as Kept
-use Rattle.edit_commands.specs.Session.{SessionValue, session_table, roots_of, rows_held, IsRevision, AreRevisions}
+use Rattle.edit_commands.specs.Session.{SessionValue, command_of, session_table, roots_of, rows_held, IsRevision, AreRevisions}
 use Rattle.edit_commands.proofs.RevisionLists.{there_is}
+use Rattle.edit_commands.proofs.RevisionSplices.{says_over_all}
 use Rattle.image_reader.specs.declared.revision.Revision.{Revision}
 use Rattle.image_reader.specs.Value.{ImageValue, image_table, coded_at}
-use Rattle.image_reader.specs.Accepted.{AreGoodNodes, HasGoodMark, HasGoodRoot, revision_at, roots_before, rows_at, rows_before}
-use Rattle.session_image.specs.Written.{IsTrusted, image_of, recorded_revision, rows_in}
+use Rattle.image_reader.specs.Accepted.{AreGoodNodes, HasGoodMark, HasGoodRoot, command_at, revision_at, roots_before, rows_at, rows_before}
+use Rattle.session_image.specs.Written.{IsTrusted, image_of, recorded_revision, rows_in, splices_in}
 use Rattle.session_image.proofs.SameTables.{same_counts, same_function, same_revision, same_roots, same_takes}
 use Rattle.session_image.proofs.SameSections.{same_nodes, same_rows}
 
 -- a revision with these rows behind these roots keeps the rules, over these bytes of the sources
-record Keeps (t : Table) (coded : ℕ → Coded) (source : ℕ → ℕ → ℕ) (roots : List (Option NodeId)) (r : Revision) (rows : List Row) : Type 0 where
-  command : IsInRange t roots r.edit
-  root : HasGoodRoot t r.root (parts_len (parts_of t roots r.edit))
+record Keeps (t : Table) (coded : ℕ → Coded) (source : ℕ → ℕ → ℕ) (roots : List (Option NodeId)) (command : FullEdit) (r : Revision) (rows : List Row) : Type 0 where
+  range : IsInRange t roots command
+  root : HasGoodRoot t r.root (parts_len (parts_of t roots command))
   mark : HasGoodMark t r
-  rows_cover : Covers t coded source (parts_of t roots r.edit) r.root rows
-  no_source : MeetsNoSource t (parts_of t roots r.edit) r.root rows
+  rows_cover : Covers t coded source (parts_of t roots command) r.root rows
+  no_source : MeetsNoSource t (parts_of t roots command) r.root rows
 
 -- a session's revision does
 revision_keeps : (v : SessionValue) (source : ℕ → ℕ → ℕ) (before : List Kept.Revision) (r : Kept.Revision) → IsRevision v.held before r
-    → Keeps (session_table v) (held_coded v.held) source (roots_of before) (recorded_revision r) r.rows.items
+    → Keeps (session_table v) (held_coded v.held) source (roots_of before) (command_of r) (recorded_revision r) r.rows.items
 revision_keeps v source before r is =
     let covers = is.rows source in
     record {
-      command = is.range;
+      range = is.range;
       root = (is.root, sym covers.whole_root ∙ covers.whole_parts);
       mark = λ marked. is.mark.0 marked;
       rows_cover = covers;
@@ -63,7 +65,7 @@ module _ (v : SessionValue) (kept : IsKept coded_byte v.held) (are : AreRevision
       ∙ same_rows v.revisions k r at
 
   image_keeps : (source : ℕ → ℕ → ℕ) (k : ℕ) → k < length (image_of v).revisions
-      → Keeps (image_table (image_of v)) (coded_at (image_of v)) source (roots_before (image_of v) k) (revision_at (image_of v) k) (rows_at (image_of v) k)
+      → Keeps (image_table (image_of v)) (coded_at (image_of v)) source (roots_before (image_of v) k) (command_at (image_of v) k) (revision_at (image_of v) k) (rows_at (image_of v) k)
   image_keeps source k lt =
       let found = there_is v.revisions k (omega (arith, lt, length-map v.revisions recorded_revision)) in
       let r : Kept.Revision = found.0 in
@@ -72,11 +74,15 @@ module _ (v : SessionValue) (kept : IsKept coded_byte v.held) (are : AreRevision
       let roots = roots_before (image_of v) k in
       let rev = revision_at (image_of v) k in
       let first = revision_keeps v source (take k v.revisions) r (are k r found.1) in
-      let second = subst (λ (x : Table). Keeps x (held_coded v.held) source (roots_of (take k v.revisions)) (recorded_revision r) r.rows.items) (sym same_table) first in
-      let third = subst (λ (x : ℕ → Coded). Keeps t x source (roots_of (take k v.revisions)) (recorded_revision r) r.rows.items) (sym same_coded) second in
-      let fourth = subst (λ (x : List (Option NodeId)). Keeps t c source x (recorded_revision r) r.rows.items) (sym (same_roots v.revisions k)) third in
-      let fifth = subst (λ (x : Revision). Keeps t c source roots x r.rows.items) (sym (same_revision v.revisions k r found.1)) fourth in
-      subst (λ (x : List Row). Keeps t c source roots rev x) (sym (rows_are k r found.1)) fifth
+      let second = subst (λ (x : Table). Keeps x (held_coded v.held) source (roots_of (take k v.revisions)) (command_of r) (recorded_revision r) r.rows.items) (sym same_table) first in
+      let third = subst (λ (x : ℕ → Coded). Keeps t x source (roots_of (take k v.revisions)) (command_of r) (recorded_revision r) r.rows.items) (sym same_coded) second in
+      let fourth = subst (λ (x : List (Option NodeId)). Keeps t c source x (command_of r) (recorded_revision r) r.rows.items) (sym (same_roots v.revisions k)) third in
+      let says : command_at (image_of v) k ≡ command_of r =
+      ap (λ (x : Revision). full_edit (splices_in v.revisions) x.edit) (same_revision v.revisions k r found.1) ∙ says_over_all v.revisions k r found.1 (are k r found.1).names in
+      let command = command_at (image_of v) k in
+      let between = subst (λ (x : FullEdit). Keeps t c source roots x (recorded_revision r) r.rows.items) (sym says) fourth in
+      let fifth = subst (λ (x : Revision). Keeps t c source roots command x r.rows.items) (sym (same_revision v.revisions k r found.1)) between in
+      subst (λ (x : List Row). Keeps t c source roots command rev x) (sym (rows_are k r found.1)) fifth
 
   good_nodes : IsSound (session_table v) → HasTrueRecords (session_table v) → AreGoodNodes (image_table (image_of v))
   good_nodes s h = subst AreGoodNodes (sym same_table) (λ id lt. (s.nodes id lt, h.nodes id lt))
@@ -88,7 +94,7 @@ module _ (v : SessionValue) (kept : IsKept coded_byte v.held) (are : AreRevision
       nodes = good_nodes s h;
       revisions = λ k lt.
           let keeps = image_keeps source k lt in
-          record { rules = record { command = keeps.command; root = keeps.root; mark = keeps.mark }; rows = keeps.rows_cover };
+          record { rules = record { command = keeps.range; root = keeps.root; mark = keeps.mark }; rows = keeps.rows_cover };
     };
     no_source = λ k lt. (image_keeps (λ s p. 0) k (omega (arith, lt, length-map v.revisions recorded_revision))).no_source;
   }

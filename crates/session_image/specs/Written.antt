@@ -10,13 +10,16 @@ use Rattle.node_table.specs.Held.{Held}
 use Rattle.byte_output.specs.Prefix.{AppendsPrefix}
 use Rattle.byte_output.specs.declared.writing.WriteFault.{WriteFault}
 use Rattle.span_certificate.specs.declared.row.Row.{Row}
+use Rattle.span_certificate.specs.declared.edit.Edit.{Edit}
 use Rattle.span_certificate.specs.declared.edit.Edit.TheVariants.{New}
+use Rattle.span_certificate.specs.declared.edit.Splice.{Splice}
 use Rattle.span_certificate.specs.Fields.{FitsRecord}
 use Rattle.span_certificate.specs.Covers.{MeetsNoSource}
 use Rattle.edit_commands.specs.declared.revision.Revision as Kept
-use Rattle.edit_commands.specs.Session.{SessionValue, edits_of}
+use Rattle.edit_commands.specs.Session.{SessionValue}
 use Rattle.image_reader.specs.declared.revision.Revision.{Revision}
-use Rattle.image_reader.specs.Value.{ImageNode, ImageValue, FitsFunction, FitsRow, image_table}
+use Rattle.image_reader.specs.declared.version.FormatVersion.TheVariants.{Two}
+use Rattle.image_reader.specs.Value.{ImageNode, ImageValue, FitsFunction, FitsRow, FitsSplice, image_table}
 use Rattle.image_reader.specs.Layout.{IsBytes}
 use Rattle.image_reader.specs.Accepted.{IsAlwaysAccepted, revision_at, parts_at, rows_at}
 
@@ -30,15 +33,24 @@ nodes_of h =
 abbrev pub recorded_revision : Kept.Revision → Revision
 recorded_revision r = record { edit = r.edit; mark = r.mark; root = r.root; rows = length r.rows.items }
 
--- all rows, those of revision k behind those of the revisions before it
+-- the commands as they are recorded
+abbrev pub edits_of : List Kept.Revision → List Edit
+edits_of revisions = map (λ (r : Kept.Revision). r.edit) revisions
+
+-- all splices, those of revision k behind those of the revisions before it, and all rows
+abbrev pub splices_in : List Kept.Revision → List Splice
+splices_in revisions = flat_map (λ (r : Kept.Revision). r.splices.items) revisions
+
 abbrev pub rows_in : List Kept.Revision → List Row
 rows_in revisions = flat_map (λ (r : Kept.Revision). r.rows.items) revisions
 
 abbrev pub image_of : SessionValue → ImageValue
 image_of v = record {
+  version = Two;
   sources = v.held.sources;
   nodes = nodes_of v.held;
   revisions = map recorded_revision v.revisions;
+  splices = splices_in v.revisions;
   rows = rows_in v.revisions;
   pool = v.held.pool.bytes;
 }
@@ -60,10 +72,11 @@ HoldsFit h n = (id : ℕ) → id < n → FitsHeld (get_or h.nodes id no_node).vi
 abbrev pub EditsFit : List Kept.Revision → ℕ → Type 0
 EditsFit revisions n = (k : ℕ) → k < n → FitsRecord (get_or (edits_of revisions) k New)
 
--- the functions, the numbers of commands and rows, and the bytes of the pool fit
+-- the functions, the numbers of commands, splices and rows, and the bytes of the pool fit
 pub record SectionsFit (v : SessionValue) : Type 0 where
   pub functions : HoldsFit v.held (length v.held.nodes)
   pub edits : EditsFit v.revisions (length v.revisions)
+  pub splices : AllByRecursion FitsSplice (splices_in v.revisions)
   pub rows : AllByRecursion FitsRow (rows_in v.revisions)
   pub pool : IsBytes v.held.pool.bytes
 
@@ -71,6 +84,11 @@ pub record SectionsFit (v : SessionValue) : Type 0 where
 abbrev pub rows_or_none : Option (List Row) → List Row
 rows_or_none None = []
 rows_or_none (Some rows) = rows
+
+-- and its splices
+abbrev pub splices_or_none : Option (List Splice) → List Splice
+splices_or_none None = []
+splices_or_none (Some splices) = splices
 
 -- the bytes were written, or a prefix of them where the writer failed
 pub record Writes (old new : Option (List ℕ)) (bytes : List ℕ) (result : Result (Unit {0}) WriteFault) : Type 0 where

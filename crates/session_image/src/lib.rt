@@ -4,7 +4,14 @@
 mod nodes;
 mod record;
 mod records;
+mod restating;
 mod revisions;
 mod writing;
 
+pub use nodes::node_record;
+pub use record::Record;
+pub use records::{
+    Counts, header_record, revision_record, row_record, source_record, splice_record,
+};
+pub use restating::restate;
 pub use writing::write;

@@ -93,7 +93,7 @@ fn function_record(depth: u8, len: u64, function: Coded) -> Record
 
 /// The record of a node, with its function where it is one.
 #[tactic(auto, unfolding(image_reader::specs::Spelling::view_spelling))]
-pub(crate) fn node_record(view: NodeView, len: u64, depth: u8, function: Option<Coded>) -> Record
+pub fn node_record(view: NodeView, len: u64, depth: u8, function: Option<Coded>) -> Record
     ensures value { result ≡ view_spelling depth len view function }
     ensures fits { FitsHeld view function }
 {

@@ -9,9 +9,9 @@ use std::marker::Model;
 /// The bytes of the longest record, a revision's.
 pub const LONGEST: usize = REVISION_SIZE;
 
-/// A record's first fields.
+/// The bytes of a record, its fields one after the other.
 #[derive(Drop)]
-pub(crate) struct Record {
+pub struct Record {
     bytes: [u8; LONGEST],
     filled: usize,
 }
@@ -86,7 +86,7 @@ impl Record {
     }
 
     /// Its bytes.
-    pub(crate) fn as_slice(&self) -> &[u8]
+    pub fn as_slice(&self) -> &[u8]
         ensures { result.now ≡ self.now }
     {
         &self.bytes[..self.filled]

@@ -2,53 +2,56 @@
 
 ghost use Rattle.std.specs.Prelude.{◌≡◌, [], ◌∷◌};
 ghost use Rattle.image_reader.specs.Layout.{spelled};
-ghost use Rattle.image_reader.specs.declared.header.TheConstants.{MAGIC, VERSION};
-ghost use Rattle.image_reader.specs.Spelling.{header_layout, source_spelling, row_layout, row_spelling, revision_layout, revision_numbers, revision_spelling, numbers_of, mark_number, root_number};
-ghost use Rattle.image_reader.specs.Value.{FitsRow};
+ghost use Rattle.image_reader.specs.declared.header.TheConstants.{MAGIC};
+ghost use Rattle.image_reader.specs.Versions.{version_number};
+ghost use Rattle.image_reader.specs.Spelling.{header_layout, source_spelling, splice_spelling, row_layout, row_spelling, revision_layout, revision_numbers, revision_spelling, numbers_of, mark_number, root_number};
+ghost use Rattle.image_reader.specs.Value.{FitsRow, FitsSplice};
 ghost use Rattle.span_certificate.specs.Fields.{recorded, FitsRecord};
 
 use crate::record::Record;
 use image_reader::codes::{BYTES_ROW, LEAF_ROW, SHARED_ROW};
-use image_reader::{MAGIC, NIL_ROOT, Numbers, Revision, VERSION};
+use image_reader::{FormatVersion, MAGIC, NIL_ROOT, Numbers, Revision};
 use rope_node::Rope;
 use span_certificate::codes::{
-    BACK, BALANCE, CUT, DELETE, FILL, INSERT, JOIN, NEW, OPEN, PASTE, REPLACE,
+    BACK, BALANCE, CUT, DELETE, FILL, INSERT, JOIN, MANY, NEW, OPEN, PASTE, REPLACE,
 };
-use span_certificate::{Edit, Row, RowKind};
+use span_certificate::{Edit, Row, RowKind, Splice};
 
-/// How many of each an image has.
+/// The version of an image, and how many of each it has.
 #[derive(Clone, Copy, Debug, PartialEq, Eq)]
-pub(crate) struct Counts {
-    pub(crate) sources: u32,
-    pub(crate) nodes: u32,
-    pub(crate) revisions: u32,
-    pub(crate) rows: u32,
-    pub(crate) pool: u64,
+pub struct Counts {
+    pub version: FormatVersion,
+    pub sources: u32,
+    pub nodes: u32,
+    pub revisions: u32,
+    pub splices: u32,
+    pub rows: u32,
+    pub pool: u64,
 }
 
 /// The header.
-pub(crate) fn header_record(counts: Counts) -> Record
-    ensures { result ≡ spelled header_layout (MAGIC ∷ VERSION ∷ counts.sources ∷ counts.nodes
-        ∷ counts.revisions ∷ counts.rows ∷ 0 ∷ counts.pool ∷ []) }
+pub fn header_record(counts: Counts) -> Record
+    ensures { result ≡ spelled header_layout (MAGIC ∷ version_number counts.version ∷ counts.sources
+        ∷ counts.nodes ∷ counts.revisions ∷ counts.rows ∷ counts.splices ∷ counts.pool ∷ []) }
 {
     let mut record = Record::new();
     record.push_u64(MAGIC);
-    record.push_u32(VERSION);
+    record.push_u32(counts.version.number());
     record.push_u32(counts.sources);
     record.push_u32(counts.nodes);
     record.push_u32(counts.revisions);
     record.push_u32(counts.rows);
-    record.push_u32(0);
+    record.push_u32(counts.splices);
     record.push_u64(counts.pool);
     record
 }
 
-/// The record of a source of `len` bytes.
-pub(crate) fn source_record(len: u64) -> Record
-    ensures { result ≡ source_spelling len }
+/// The record of a source of `size` bytes.
+pub fn source_record(size: u64) -> Record
+    ensures { result ≡ source_spelling size }
 {
     let mut record = Record::new();
-    record.push_u64(len);
+    record.push_u64(size);
     record
 }
 
@@ -68,6 +71,7 @@ fn code_of(edit: Edit) -> u8
         Edit::Fill { .. } => FILL,
         Edit::Back { .. } => BACK,
         Edit::Balance { .. } => BALANCE,
+        Edit::Many { .. } => MANY,
     }
 }
 
@@ -115,6 +119,11 @@ fn numbers_of(edit: Edit) -> Numbers
             ..none
         },
         Edit::Back { r } | Edit::Balance { r } => Numbers { r, ..none },
+        Edit::Many { r, count, .. } => Numbers {
+            r,
+            q: count,
+            ..none
+        },
     }
 }
 
@@ -157,7 +166,7 @@ fn revision_fields(code: u8, numbers: Numbers, mark: u8, root: u32, rows: u32) -
 
 /// The record of a revision.
 #[tactic(auto, unfolding(image_reader::specs::Spelling::revision_spelling))]
-pub(crate) fn revision_record(revision: Revision) -> Record
+pub fn revision_record(revision: Revision) -> Record
     ensures value { result ≡ revision_spelling revision }
     ensures fits { FitsRecord revision.edit }
 {
@@ -165,6 +174,19 @@ pub(crate) fn revision_record(revision: Revision) -> Record
     let root = number_of_root(revision.root);
     let mark = number_of_mark(revision.mark);
     revision_fields(code_of(revision.edit), numbers, mark, root, revision.rows)
+}
+
+/// The record of a splice.
+pub fn splice_record(splice: Splice) -> Record
+    ensures value { result ≡ splice_spelling splice }
+    ensures fits { FitsSplice splice }
+{
+    let mut record = Record::new();
+    record.push_u64(splice.p);
+    record.push_u64(splice.m);
+    record.push_u64(splice.a);
+    record.push_u64(splice.n);
+    record
 }
 
 /// A row's fields, one after the other.
@@ -183,7 +205,7 @@ fn row_fields(tag: u8, node: u32, len: u64, start: u64) -> Record
 
 /// The record of a row.
 #[tactic(auto, unfolding(image_reader::specs::Spelling::row_spelling))]
-pub(crate) fn row_record(row: Row) -> Record
+pub fn row_record(row: Row) -> Record
     ensures value { result ≡ row_spelling row }
     ensures fits { FitsRow row }
 {

@@ -1,17 +1,17 @@
 //! The revisions of an image and their rows.
 
 ghost use Rattle.std.specs.Prelude.{◌≡◌, OnOk, length, map, slice_get};
-ghost use Rattle.edit_commands.specs.Session.{rows_of};
+ghost use Rattle.edit_commands.specs.Session.{rows_of, splices_of};
 ghost use Rattle.std.specs.List.{flat_map, AllByRecursion};
-ghost use Rattle.image_reader.specs.Spelling.{revision_spelling, row_spelling};
-ghost use Rattle.image_reader.specs.Value.{FitsRow};
-ghost use Rattle.session_image.specs.Written.{Writes, EditsFit, recorded_revision, rows_in, rows_or_none};
+ghost use Rattle.image_reader.specs.Spelling.{revision_spelling, row_spelling, splice_spelling};
+ghost use Rattle.image_reader.specs.Value.{FitsRow, FitsSplice};
+ghost use Rattle.session_image.specs.Written.{Writes, EditsFit, recorded_revision, rows_in, rows_or_none, splices_in, splices_or_none};
 
-use crate::records::{revision_record, row_record};
+use crate::records::{revision_record, row_record, splice_record};
 use byte_output::{WriteFault, write_bytes};
 use edit_commands::Session;
 use image_reader::Revision;
-use span_certificate::Row;
+use span_certificate::{Row, Splice};
 use std::io;
 
 /// The rows of a revision; none where there is no such revision.
@@ -62,6 +62,55 @@ pub(crate) fn write_revisions<W: io::Write>(
             let record = revision_record(revision);
             write_bytes(writer, record.as_slice())?;
         }
+    }
+    Ok(())
+}
+
+/// The splices of a revision; none where there is no such revision.
+fn splices_at(session: &Session, k: u32) -> &[Splice]
+    ensures { result.now ≡ splices_or_none (splices_of session.now k) }
+{
+    match session.splices(k) {
+        None => &[],
+        Some(splices) => splices,
+    }
+}
+
+/// How many splices the revisions have together.
+pub(crate) fn count_splices(session: &Session) -> u32
+    ensures { result ≡ length (splices_in session.now.revisions) }
+{
+    let mut count = 0;
+    for k in 0..session.count() {
+        count += splices_at(session, k).len() as u32;
+    }
+    count
+}
+
+/// Writes the splices of one revision.
+fn write_each_splice<W: io::Write>(splices: &[Splice], writer: &mut W) -> Result<(), WriteFault>
+    ensures bytes { Writes (W.contents writer.old) (W.contents writer.new)
+        (flat_map splice_spelling splices.now) result }
+    ensures fits { OnOk result (AllByRecursion FitsSplice splices.now) }
+{
+    for splice in splices {
+        let record = splice_record(*splice);
+        write_bytes(writer, record.as_slice())?;
+    }
+    Ok(())
+}
+
+/// Writes the splices of all revisions.
+pub(crate) fn write_splices<W: io::Write>(
+    session: &Session,
+    writer: &mut W,
+) -> Result<(), WriteFault>
+    ensures bytes { Writes (W.contents writer.old) (W.contents writer.new)
+        (flat_map splice_spelling (splices_in session.now.revisions)) result }
+    ensures fits { OnOk result (AllByRecursion FitsSplice (splices_in session.now.revisions)) }
+{
+    for k in 0..session.count() {
+        write_each_splice(splices_at(session, k), writer)?;
     }
     Ok(())
 }

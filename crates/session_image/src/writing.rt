@@ -12,10 +12,11 @@ ghost use Rattle.session_image.specs.Written.{Writes, HoldsFit, SectionsFit, IsT
 
 use crate::nodes::node_record;
 use crate::records::{Counts, header_record, source_record};
-use crate::revisions::{count_rows, write_revisions, write_rows};
+use crate::revisions::{count_rows, count_splices, write_revisions, write_rows, write_splices};
 use byte_output::{WriteFault, write_bytes};
 use edit_commands::Session;
 use function_leaf::Coded;
+use image_reader::FormatVersion;
 use rope_node::{CodedSpace, NodeId, NodeSpace, NodeView};
 use rope_store::Store;
 use std::io;
@@ -27,9 +28,11 @@ fn write_header<W: io::Write>(session: &Session, writer: &mut W) -> Result<(), W
 {
     let space = session.space();
     let counts = Counts {
+        version: FormatVersion::Two,
         sources: space.source_count(),
         nodes: space.count(),
         revisions: session.count(),
+        splices: count_splices(session),
         rows: count_rows(session),
         pool: space.pool_len(),
     };
@@ -114,11 +117,12 @@ fn write_sections<W: io::Write>(session: &Session, writer: &mut W) -> Result<(),
     write_sources(space, writer)?;
     write_nodes(space, writer)?;
     write_revisions(session, writer)?;
+    write_splices(session, writer)?;
     write_rows(session, writer)?;
     write_pool(space, writer)
 }
 
-/// Writes the image of a session: its header, then its sources, nodes, revisions, rows and the bytes of its pool. It takes no
+/// Writes the image of a session: its header, then its sources, nodes, revisions, splices, rows and the bytes of its pool. It takes no
 /// memory.
 ///
 /// # Errors

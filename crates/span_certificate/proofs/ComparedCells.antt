@@ -1,23 +1,21 @@
 -- Cells among others, and reads of them.
 use Rattle.std.proofs.Common.{◌≡◌, ℕ, ◌+◌, ◌-◌, ◌<◌, List, [], ◌∷◌, ◌++◌, map, length, take, drop, refl, sym, ap, subst, ◌∙◌, arith, inl, inr}
-use Rattle.std.specs.Prelude.{All, Result, Ok, Err}
+use Rattle.std.specs.Prelude.{All, Result}
 use Rattle.std.specs.List.{range_with_len}
 use Rattle.std.proofs.lemmas.Bool.{cases_lt}
 use Rattle.std.proofs.lemmas.List.{get_or_append_left, get_or-append-add, get_or-take, get_or-drop, get_or-map, length-append, length-take, length-drop}
 use Rattle.std.proofs.lemmas.List.Elements.{All-get_or, All-from_get_or, All-map, All-nil, All-append, All-head, All-tail}
 use Rattle.std.proofs.lemmas.List.FromFn.{length-map-range_with_len, get_or-range_with_len, length-range_with_len}
 use Rattle.rope_node.specs.Denotes.{Cell, Byte, Place}
-use Rattle.lazy_file.specs.SourceTexts.{ReadsUnfailed, Stated}
+use Rattle.lazy_file.specs.Readings.{fault_in, Reading}
 use Rattle.lazy_file.specs.declared.faults.SourceFault.{SourceFault}
-use Rattle.cord_position.specs.Fetched.{EachCell, IsReadable, ReadsSpan}
-use Rattle.cord_position.proofs.LeafParts.{moved}
-use Rattle.lazy_file.proofs.LaterReads.{reads_unfailed}
-use Rattle.cord_position.proofs.Spans.{failed_in}
+use Rattle.cord_position.specs.Fetched.{EachCell, InCells, ReadsSpan}
+use Rattle.lazy_file.proofs.LaterReads.{reads_then, reads_weaker}
 use Rattle.span_certificate.specs.declared.row.RowKind.{RowKind}
 use Rattle.span_certificate.specs.declared.row.RowKind.TheVariants.{Shared, Leaf, Bytes}
 use Rattle.span_certificate.specs.Covers.{IsByte, compared}
 use Rattle.span_certificate.specs.Steps.{AreBytes}
-use Rattle.span_certificate.specs.Runs.{listed_cell, ReadsCells}
+use Rattle.span_certificate.specs.Runs.{AmongCells, listed_cell, ReadsCells}
 
 -- each of these cells is one of the others
 abbrev pub AreAmong : List Cell → List Cell → Type 0
@@ -59,33 +57,23 @@ all_among P xs ys among all = All-from_get_or P xs (Byte 0) (λ k lt. let found 
 pub each_listed : (P : Cell → Type 0) (xs : List Cell) → All P xs → EachCell (listed_cell xs) 0 (length xs) P
 each_listed P xs all p above below = All-get_or P xs p (Byte 0) below all
 
--- where a call that reads cells among these failed
-pub failed_among : {T X Y : Type 0} (stated : T → Stated) (failures : T → ℕ) (old mid new : T) (xs ys : List Cell) (e : SourceFault)
-    → ReadsUnfailed stated failures old mid → ReadsCells {X = X} stated failures mid new xs (Err e) → AreAmong xs ys → ReadsCells {X = Y} stated failures old new ys (Err e)
-failed_among {X} {Y} stated failures old mid new xs ys e before h among =
-    let whole = failed_in {X = X} {Y = Y} stated failures old mid new (listed_cell xs) 0 (length xs) 0 (length xs) e before h (omega arith) (omega arith) in
-    record {
-      reads = whole.reads;
-      told = whole.told;
-      fault =
-          let found = among whole.fault.place whole.fault.until in
-          record { place = found.0; from = omega arith; until = found.1; read = rw found.2 whole.fault.read };
-      succeeds = λ readable. whole.succeeds (λ k above below. let found = among k below in subst (IsReadable (stated old)) found.2 (readable found.0 (omega arith) found.1));
-    }
-
--- reads that did not fail
-pub read_cells : {T X : Type 0} (stated : T → Stated) (failures : T → ℕ) (old new : T) (xs : List Cell) (x : X) → ReadsUnfailed stated failures old new → ReadsCells stated failures old new xs (Ok x)
-read_cells stated failures old new xs x reads = record { reads = reads_unfailed reads; fault = tt; told = λ more. absurd (omega (arith, more, reads.unfailed)); succeeds = λ readable. refl }
+-- what a call does that reads cells among these, behind calls that answered no fault
+pub cells_among : {X : Type 0} (old mid new : Reading) (xs ys : List Cell) (r : Result X SourceFault) → mid ≡ old → ReadsCells mid new xs r → AreAmong xs ys → ReadsCells old new ys r
+cells_among old mid new xs ys r before h among =
+    reads_then old mid new (AmongCells ys) (fault_in r) before
+    (reads_weaker mid new (AmongCells xs) (AmongCells ys) (fault_in r) (λ s p asked. let found = among asked.0 asked.2 in (found.0, omega arith, found.1, found.2 ∙ asked.3)) h)
 
 -- a read of a span of a source is one of its places
-pub read_places : {T X : Type 0} (stated : T → Stated) (failures : T → ℕ) (old new : T) (s p n : ℕ) (r : Result X SourceFault) → ReadsSpan stated failures old new (Place s) p (p + n) r
-    → ReadsCells stated failures old new (map (Place s) (range_with_len p n)) r
-read_places stated failures old new s p n r h =
-    let at : (k : ℕ) → 0 + k ≡ k = λ k. omega arith in
-    let whole = moved stated failures old new (listed_cell (map (Place s) (range_with_len p n))) (Place s) 0 p n r
-    (λ k lt. rw (at k) (get_or-map (Place s) (range_with_len p n) k 0 (Byte 0) (rw length-range_with_len lt) ∙ ap (Place s) (get_or-range_with_len p n k 0 lt)))
-    h in
-    rw length-map-range_with_len (rw (at n) at whole)
+pub read_places : {X : Type 0} (old new : Reading) (s p n : ℕ) (r : Result X SourceFault) → ReadsSpan old new (Place s) p (p + n) r → ReadsCells old new (map (Place s) (range_with_len p n)) r
+read_places old new s p n r h =
+    reads_weaker old new (InCells (Place s) p (p + n)) (AmongCells (map (Place s) (range_with_len p n))) (fault_in r)
+    (λ q o asked.
+    let (k, from, until, is) = asked in
+    let lt : k - p < n = omega (arith, from, until) in
+    let at : p + (k - p) ≡ k = omega (arith, from) in
+    let end : k - p < length (map (Place s) (range_with_len p n)) = rw length-map-range_with_len lt in
+    (k - p, omega arith, end, get_or-map (Place s) (range_with_len p n) (k - p) 0 (Byte 0) (rw length-range_with_len lt) ∙ ap (Place s) (get_or-range_with_len p n (k - p) 0 lt ∙ at) ∙ is))
+    h
 
 -- bytes, told of each cell
 pub each_byte : (cs : List Cell) → AreBytes cs → All IsByte cs
@@ -106,7 +94,3 @@ pub compared_all : (P : Cell → Type 0) (kind : RowKind) (xs ys : List Cell) �
 compared_all P kind xs ys is all =
     let whole : All P (xs ++ ys) = rw is at all in
     (all_among P xs (xs ++ ys) (among_first xs ys) whole, all_among P ys (xs ++ ys) (among_second xs ys) whole)
-
--- a row that compares nothing reads nothing
-pub none_read : {T X : Type 0} (stated : T → Stated) (failures : T → ℕ) (old : T) (kind : RowKind) (xs ys : List Cell) (x : X) → ReadsCells stated failures old old (compared kind xs ys) (Ok x)
-none_read stated failures old kind xs ys x = read_cells stated failures old old (compared kind xs ys) x (record { same = refl; unfailed = refl })

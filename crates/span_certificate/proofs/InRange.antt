@@ -9,12 +9,12 @@ use Rattle.std.proofs.lemmas.Option.{slice_get_past}
 use Rattle.rope_node.specs.declared.node.NodeId.{NodeId}
 use Rattle.rope_node.specs.Table.{Table, IsSound, HasTrueRecords}
 use Rattle.rope_node.specs.Denotes.{Cell, Byte, Place, rope_cells}
-use Rattle.span_certificate.specs.declared.edit.Edit.{Edit}
-use Rattle.span_certificate.specs.declared.edit.Edit.TheVariants as Command
-use Rattle.span_certificate.specs.Commands.{◌>>=◌, span, bounded, replaced, spliced, result_of}
+use Rattle.span_certificate.specs.Commands as Command
+use Rattle.span_certificate.specs.Commands.{FullEdit, ◌>>=◌, can_splice, span, bounded, replaced, replaced_each, spliced, result_of}
 use Rattle.span_certificate.specs.Parts.{root_at, AreRopes, IsInRange, givens_of}
 use Rattle.span_certificate.proofs.Joined.{text_at, terms_joined}
 use Rattle.rope_node.proofs.Ropes.{rope_length}
+use Rattle.span_certificate.proofs.SplicedTexts.{are_splices, length-replaced_each}
 
 -- what a result of a step tells of what the step began with
 if_some : {A : Type 0} (b : Bool) (o : Option A) → IsSome (if b then o else None) → (b ≡ true) × IsSome o
@@ -69,7 +69,7 @@ got_pool t a n f h =
     let inside : a + n ≤ length t.pool = rw length-map at pool.0 in
     (inside, omega (arith, length-take n (drop a (map Byte t.pool)), length-drop a (map Byte t.pool), pool.0), pool.1)
 
-ranged : (t : Table) → IsSound t → HasTrueRecords t → (roots : List (Option NodeId)) (edit : Edit) → AreRopes t roots → IsSome (result_of (givens_of t) (map (rope_cells t) roots) edit) → IsInRange t roots edit
+ranged : (t : Table) → IsSound t → HasTrueRecords t → (roots : List (Option NodeId)) (edit : FullEdit) → AreRopes t roots → IsSome (result_of (givens_of t) (map (rope_cells t) roots) edit) → IsInRange t roots edit
 ranged t s h roots Command.New ropes some = tt
 ranged t s h roots (Command.Open k) ropes some =
     let lt = there (map (λ i. map (Place i) (range_with_len 0 (get_or t.sources i 0))) (range_with_len 0 (length t.sources))) k some in
@@ -133,6 +133,17 @@ ranged t s h roots (Command.Fill r p c n) ropes some =
     (text.0, omega (arith, fits.0, len), leb-true c 255 test.0, omega (arith, fits.1, len, length-replicate n (Byte c)))
 ranged t s h roots (Command.Back r) ropes some = whole_text t roots r some
 ranged t s h roots (Command.Balance r) ropes some = whole_text t roots r some
+ranged t s h roots (Command.Many r splices) ropes some =
+    let cs = rope_cells t (root_at roots r) in
+    let pool = map Byte t.pool in
+    let text = got_text t roots r (λ u. if can_splice (length pool) (length u) splices then bounded (replaced_each pool u splices) else None) some in
+    let test = if_some (can_splice (length pool) (length cs) splices) (bounded (replaced_each pool cs splices)) text.1 in
+    let len = rope_length t s h (root_at roots r) (ropes r text.0) in
+    let fits = rw (length-map, len) at test.0 in
+    let are = are_splices (length pool) (length cs) splices test.0 in
+    let long = length-replaced_each pool cs (length cs) 0 splices refl are.follow are.pooled in
+    let short = bounded_some (replaced_each pool cs splices) test.1 in
+    (text.0, fits, omega (arith, long, short, len))
 
-pub in_range : (t : Table) → IsSound t → HasTrueRecords t → (roots : List (Option NodeId)) (edit : Edit) → AreRopes t roots → IsInRange t roots edit ↔ IsSome (result_of (givens_of t) (map (rope_cells t) roots) edit)
+pub in_range : (t : Table) → IsSound t → HasTrueRecords t → (roots : List (Option NodeId)) (edit : FullEdit) → AreRopes t roots → IsInRange t roots edit ↔ IsSome (result_of (givens_of t) (map (rope_cells t) roots) edit)
 in_range t s h roots edit ropes = (λ is. rw (terms_joined t s h roots edit ropes is) refl, ranged t s h roots edit ropes)

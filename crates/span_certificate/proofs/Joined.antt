@@ -12,13 +12,13 @@ use Rattle.rope_node.specs.declared.node.NodeId.{NodeId}
 use Rattle.rope_node.specs.Table.{Table, IsSound, HasTrueRecords}
 use Rattle.rope_node.specs.Denotes.{Cell, Byte, Place, rope_cells, rope_len, IsRope}
 use Rattle.rope_node.proofs.Parts.{span-map}
-use Rattle.span_certificate.specs.declared.edit.Edit.{Edit}
-use Rattle.span_certificate.specs.declared.edit.Edit.TheVariants as Command
+use Rattle.span_certificate.specs.Commands as Command
 use Rattle.span_certificate.specs.declared.part.Part.{Part}
 use Rattle.span_certificate.specs.declared.part.Part.TheVariants.{Old, Pool, Source, Fill}
-use Rattle.span_certificate.specs.Commands.{span, bounded, replaced, spliced, result_of}
+use Rattle.span_certificate.specs.Commands.{FullEdit, can_splice, span, bounded, replaced, replaced_each, spliced, result_of}
 use Rattle.span_certificate.specs.Parts.{part_len, part_cells, parts_cells, root_at, front, rest, whole, terms_of, parts_of, AreRopes, IsInRange, givens_of}
 use Rattle.rope_node.proofs.Ropes.{rope_length, rope_short}
+use Rattle.span_certificate.proofs.SplicedTexts.{ArePooled, are_splices, length-replaced_each, pieces_joined}
 
 empty_cells : (t : Table) (part : Part) → part_len part ≡ 0 → part_cells t part ≡ []
 empty_cells t (Old rope i n) e = rw e refl
@@ -96,7 +96,7 @@ pool_span t a n fits = span_is (map Byte t.pool) a n (omega (arith, length-map t
 pub pool_len : (t : Table) (a n : ℕ) → a + n ≤ length t.pool → length (map Byte (take n (drop a t.pool))) ≡ n
 pool_len t a n fits = omega (arith, length-map (take n (drop a t.pool)) Byte, length-take n (drop a t.pool), length-drop a t.pool)
 
-pub terms_joined : (t : Table) → IsSound t → HasTrueRecords t → (roots : List (Option NodeId)) (edit : Edit) → AreRopes t roots → IsInRange t roots edit → result_of (givens_of t) (map (rope_cells t) roots) edit ≡ Some (parts_cells t (terms_of t roots edit))
+pub terms_joined : (t : Table) → IsSound t → HasTrueRecords t → (roots : List (Option NodeId)) (edit : FullEdit) → AreRopes t roots → IsInRange t roots edit → result_of (givens_of t) (map (rope_cells t) roots) edit ≡ Some (parts_cells t (terms_of t roots edit))
 terms_joined t s h roots Command.New ropes is = refl
 terms_joined t s h roots (Command.Open r) ropes is =
     slice_get-map (λ k. map (Place k) (range_with_len 0 (get_or t.sources k 0))) (range_with_len 0 (length t.sources)) r
@@ -131,7 +131,17 @@ terms_joined t s h roots (Command.Fill r p c n) ropes is =
     (inserted_around t s h (root_at roots r) p (Fill c n) (replicate n (Byte c)) refl (ropes r is.0) is.1 (omega (arith, length-replicate n (Byte c), is.3)))
 terms_joined t s h roots (Command.Back r) ropes is = text_at t roots r is ∙ ap Some (sym (whole_cells t s h (root_at roots r) (ropes r is)) ∙ sym (append-nil (part_cells t (whole t (root_at roots r)))))
 terms_joined t s h roots (Command.Balance r) ropes is = text_at t roots r is ∙ ap Some (sym (whole_cells t s h (root_at roots r) (ropes r is)) ∙ sym (append-nil (part_cells t (whole t (root_at roots r)))))
+terms_joined t s h roots (Command.Many r splices) ropes is =
+    let rope = root_at roots r in
+    let cs = rope_cells t rope in
+    let pool = map Byte t.pool in
+    let len = rope_length t s h rope (ropes r is.0) in
+    let are = are_splices (length t.pool) (rope_len t rope) splices is.1 in
+    let pooled : ArePooled (length pool) splices = rw length-map are.pooled in
+    let long = length-replaced_each pool cs (rope_len t rope) 0 splices len are.follow pooled in
+    rw (text_at t roots r is.0, length-map t.pool Byte, len, is.1)
+    (bounded_is (replaced_each pool cs splices) (omega (arith, long, is.2)) ∙ ap Some (pieces_joined t s h rope (ropes r is.0) 0 splices are.follow))
 
 -- in range, the parts joined are the command's result over cells
-pub parts_joined : (t : Table) → IsSound t → HasTrueRecords t → (roots : List (Option NodeId)) (edit : Edit) → AreRopes t roots → IsInRange t roots edit → result_of (givens_of t) (map (rope_cells t) roots) edit ≡ Some (parts_cells t (parts_of t roots edit))
+pub parts_joined : (t : Table) → IsSound t → HasTrueRecords t → (roots : List (Option NodeId)) (edit : FullEdit) → AreRopes t roots → IsInRange t roots edit → result_of (givens_of t) (map (rope_cells t) roots) edit ≡ Some (parts_cells t (parts_of t roots edit))
 parts_joined t s h roots edit ropes is = terms_joined t s h roots edit ropes is ∙ ap Some (sym (filter_cells t (terms_of t roots edit)))

@@ -9,14 +9,15 @@ use Rattle.rope_node.specs.Extends.{Extends}
 use Rattle.rope_node.proofs.Extensions.{view_kept, len_kept}
 use Rattle.rope_node.proofs.Ropes.{rope_kept, rope_cells_kept}
 use Rattle.span_certificate.specs.declared.describe.Description.{Description}
-use Rattle.span_certificate.specs.declared.edit.Edit.{Edit}
-use Rattle.span_certificate.specs.declared.edit.Edit.TheVariants as Command
+use Rattle.span_certificate.specs.Commands as Command
+use Rattle.span_certificate.specs.Commands.{FullEdit}
 use Rattle.span_certificate.specs.declared.part.Part.{Part}
 use Rattle.span_certificate.specs.declared.part.Part.TheVariants.{Old, Pool, Source, Fill}
 use Rattle.span_certificate.specs.declared.row.Row.{Row}
 use Rattle.span_certificate.specs.declared.row.RowKind.{RowKind}
 use Rattle.span_certificate.specs.declared.row.RowKind.TheVariants.{Shared, Leaf, Bytes}
-use Rattle.span_certificate.specs.Parts.{part_len, part_cells, parts_cells, IsPart, AreParts, root_at, terms_of, parts_of, AreRopes, IsInRange, front, rest, whole}
+use Rattle.span_certificate.specs.Parts.{part_len, part_cells, parts_cells, IsPart, AreParts, root_at, terms_of, parts_of, AreRopes, IsInRange, front, rest, whole, pieces}
+use Rattle.span_certificate.proofs.SplicedTexts.{can_splice_kept}
 use Rattle.span_certificate.specs.Leads.{Leads, here, in_left, in_right, in_base, RopeLeads, PartLeads, RopeHasDescription, PartHasDescription}
 use Rattle.span_certificate.specs.Covers.{row_at, place_of, KindFits, Fits, Covers, MeetsNoSource}
 use Rattle.span_certificate.proofs.Covering.{holds_place}
@@ -85,7 +86,7 @@ module _ (old new : Table) (s : IsSound old) (h : HasTrueRecords old) (x : Exten
   whole_kept : (rope : Option NodeId) → IsRope old rope → whole new rope ≡ whole old rope
   whole_kept rope there = rw (rope_len_kept rope there) refl
 
-  terms_kept : (roots : List (Option NodeId)) (edit : Edit) → AreRopes old roots → IsInRange old roots edit → terms_of new roots edit ≡ terms_of old roots edit
+  terms_kept : (roots : List (Option NodeId)) (edit : FullEdit) → AreRopes old roots → IsInRange old roots edit → terms_of new roots edit ≡ terms_of old roots edit
   terms_kept roots Command.New ropes is = refl
   terms_kept roots (Command.Open r) ropes is = ap (λ (n : ℕ). Source r n ∷ []) (x.sources r is)
   terms_kept roots (Command.Insert r p a n) ropes is = ap (λ (part : Part). front (root_at roots r) p ∷ Pool a n ∷ part ∷ []) (rest_kept (root_at roots r) p (ropes r is.0))
@@ -99,9 +100,10 @@ module _ (old new : Table) (s : IsSound old) (h : HasTrueRecords old) (x : Exten
   terms_kept roots (Command.Fill r p c n) ropes is = ap (λ (part : Part). front (root_at roots r) p ∷ Fill c n ∷ part ∷ []) (rest_kept (root_at roots r) p (ropes r is.0))
   terms_kept roots (Command.Back r) ropes is = ap (λ (part : Part). part ∷ []) (whole_kept (root_at roots r) (ropes r is))
   terms_kept roots (Command.Balance r) ropes is = ap (λ (part : Part). part ∷ []) (whole_kept (root_at roots r) (ropes r is))
+  terms_kept roots (Command.Many r splices) ropes is = ap (λ (len : ℕ). pieces (root_at roots r) len 0 splices) (rope_len_kept (root_at roots r) (ropes r is.0))
 
   -- a command has the parts that it had
-  pub parts_kept : (roots : List (Option NodeId)) (edit : Edit) → AreRopes old roots → IsInRange old roots edit → parts_of new roots edit ≡ parts_of old roots edit
+  pub parts_kept : (roots : List (Option NodeId)) (edit : FullEdit) → AreRopes old roots → IsInRange old roots edit → parts_of new roots edit ≡ parts_of old roots edit
   parts_kept roots edit ropes is = ap (filter (λ part. nat_lt 0 (part_len part))) (terms_kept roots edit ropes is)
 
   pub are_ropes_kept : (roots : List (Option NodeId)) → AreRopes old roots → AreRopes new roots
@@ -114,7 +116,7 @@ module _ (old new : Table) (s : IsSound old) (h : HasTrueRecords old) (x : Exten
       rw (cells_of_rope_kept r first, all_cells_kept rs (λ k lt. ropes (suc k) (omega arith))) refl
 
   -- a command stays in range
-  pub in_range_kept : (roots : List (Option NodeId)) (edit : Edit) → AreRopes old roots → IsInRange old roots edit → IsInRange new roots edit
+  pub in_range_kept : (roots : List (Option NodeId)) (edit : FullEdit) → AreRopes old roots → IsInRange old roots edit → IsInRange new roots edit
   in_range_kept roots Command.New ropes is = tt
   in_range_kept roots (Command.Open r) ropes is = omega (arith, is, x.more_sources)
   in_range_kept roots (Command.Insert r p a n) ropes is =
@@ -135,6 +137,9 @@ module _ (old new : Table) (s : IsSound old) (h : HasTrueRecords old) (x : Exten
       (is.0, omega (arith, is.1, len), is.2, omega (arith, is.3, len))
   in_range_kept roots (Command.Back r) ropes is = is
   in_range_kept roots (Command.Balance r) ropes is = is
+  in_range_kept roots (Command.Many r splices) ropes is =
+      let len = rope_len_kept (root_at roots r) (ropes r is.0) in
+      (is.0, rw len (can_splice_kept (length old.pool) (length new.pool) (rope_len old (root_at roots r)) splices x.more_pool is.1), omega (arith, is.2, len))
 
   -- ---- rows
 

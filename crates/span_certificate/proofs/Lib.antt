@@ -1,6 +1,7 @@
 pub mod Descents
 pub mod Cells
 pub mod Describing
+pub mod Depths
 pub mod Ways
 pub mod Steps
 pub mod FirstLeaves
@@ -9,12 +10,18 @@ pub mod NextRows
 pub mod ComparedCells
 pub mod RunLaws
 pub mod Covering
+pub mod Cutting
+pub mod PartPlaces
 pub mod Made
 pub mod MappedResults
+pub mod RowLooks
 pub mod Verdicts
+pub mod NamedSplices
+pub mod SplicedTexts
 pub mod Joined
 pub mod InRange
 pub mod PartsInRange
 pub mod Sameness
 pub mod MadeRows
 pub mod Kept
+pub mod AsBefore

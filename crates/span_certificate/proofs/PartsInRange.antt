@@ -1,15 +1,15 @@
 -- A command in range has parts that lie inside what they are taken from.
-use Rattle.std.proofs.Common.{ℕ, ◌+◌, ◌≤◌, List, [], ◌∷◌, ltb, Option, arith, inl, inr}
+use Rattle.std.proofs.Common.{ℕ, ◌+◌, ◌≤◌, List, [], ◌∷◌, length, ltb, Option, arith, inl, inr}
 use Rattle.std.specs.Prelude.{filter, nat_lt}
 use Rattle.std.specs.List.{AllByRecursion}
 use Rattle.std.proofs.lemmas.Bool.{cases_Bool, ltb-true}
 use Rattle.rope_node.specs.declared.node.NodeId.{NodeId}
 use Rattle.rope_node.specs.Table.{Table}
 use Rattle.rope_node.specs.Denotes.{IsRope, rope_len}
-use Rattle.span_certificate.specs.declared.edit.Edit.{Edit}
-use Rattle.span_certificate.specs.declared.edit.Edit.TheVariants.{New, Open, Insert, Delete, Replace, Paste, Join, Cut, Fill, Back, Balance}
+use Rattle.span_certificate.specs.Commands.{FullEdit, New, Open, Insert, Delete, Replace, Paste, Join, Cut, Fill, Back, Balance, Many}
 use Rattle.span_certificate.specs.declared.part.Part.{Part}
 use Rattle.span_certificate.specs.Parts.{part_len, IsInside, AreParts, root_at, front, rest, whole, terms_of, parts_of, AreRopes, IsInRange}
+use Rattle.span_certificate.proofs.SplicedTexts.{are_splices, pieces_inside}
 
 front_inside : (t : Table) (rope : Option NodeId) (p : ℕ) → IsRope t rope → p ≤ rope_len t rope → IsInside t (front rope p)
 front_inside t rope p there le = (there, omega arith)
@@ -20,7 +20,7 @@ rest_inside t rope p there le = (there, omega arith)
 whole_inside : (t : Table) (rope : Option NodeId) → IsRope t rope → IsInside t (whole t rope)
 whole_inside t rope there = (there, omega arith)
 
-terms_inside : (t : Table) (roots : List (Option NodeId)) (edit : Edit) → AreRopes t roots → IsInRange t roots edit → AllByRecursion (IsInside t) (terms_of t roots edit)
+terms_inside : (t : Table) (roots : List (Option NodeId)) (edit : FullEdit) → AreRopes t roots → IsInRange t roots edit → AllByRecursion (IsInside t) (terms_of t roots edit)
 terms_inside t roots New ropes h = tt
 terms_inside t roots (Open s) ropes h = ((h, omega arith), tt)
 terms_inside t roots (Insert r p a n) ropes h =
@@ -42,6 +42,9 @@ terms_inside t roots (Fill r p c n) ropes h =
     (front_inside t (root_at roots r) p there h.1, (tt, (rest_inside t (root_at roots r) p there h.1, tt)))
 terms_inside t roots (Back r) ropes h = (whole_inside t (root_at roots r) (ropes r h), tt)
 terms_inside t roots (Balance r) ropes h = (whole_inside t (root_at roots r) (ropes r h), tt)
+terms_inside t roots (Many r splices) ropes h =
+    let are = are_splices (length t.pool) (rope_len t (root_at roots r)) splices h.1 in
+    pieces_inside t (root_at roots r) (ropes r h.0) 0 splices are.follow are.pooled
 
 nonempty_inside : (t : Table) (terms : List Part) → AllByRecursion (IsInside t) terms → AreParts t (filter (λ part. nat_lt 0 (part_len part)) terms)
 nonempty_inside t [] inside = tt
@@ -51,5 +54,5 @@ nonempty_inside t (x ∷ xs) inside =
       | inr none ↦ rw none (nonempty_inside t xs inside.1)
     ]
 
-pub parts_in_range : (t : Table) (roots : List (Option NodeId)) (edit : Edit) → AreRopes t roots → IsInRange t roots edit → AreParts t (parts_of t roots edit)
+pub parts_in_range : (t : Table) (roots : List (Option NodeId)) (edit : FullEdit) → AreRopes t roots → IsInRange t roots edit → AreParts t (parts_of t roots edit)
 parts_in_range t roots edit ropes h = nonempty_inside t (terms_of t roots edit) (terms_inside t roots edit ropes h)

@@ -1,6 +1,6 @@
 -- Runs of parts, and the bytes of descriptions.
 use Rattle.std.proofs.Common.{◌≡◌, ℕ, zero, suc, ◌+◌, ◌-◌, ◌^◌, ◌<◌, ◌≤◌, List, ◌∷◌, ◌++◌, length, map, take, drop, Some, refl, sym, ap, subst, ◌∙◌, arith, min}
-use Rattle.std.specs.Prelude.{replicate, ◌↔◌, Bool, true, false, IsTrue, Err}
+use Rattle.std.specs.Prelude.{replicate, ◌↔◌, Bool, true, false, IsTrue, Result}
 use Rattle.std.specs.List.{range_with_len}
 use Rattle.std.proofs.lemmas.List.{take-replicate, drop-replicate, drop-drop, map-append}
 use Rattle.std.proofs.Math.Seq.{take-add}
@@ -13,7 +13,8 @@ use Rattle.rope_node.specs.declared.node.NodeId.{NodeId}
 use Rattle.rope_node.specs.Table.{Table, IsSound, HasTrueRecords}
 use Rattle.rope_node.specs.Denotes.{Cell, Byte, Place, cells, cell_byte, text}
 use Rattle.rope_node.proofs.Parts.{span_within, span-map, span-range_with_len}
-use Rattle.lazy_file.specs.SourceTexts.{Agrees, ReadsUnfailed, Stated}
+use Rattle.lazy_file.specs.SourceTexts.{Agrees, Stated}
+use Rattle.lazy_file.specs.Readings.{Reading}
 use Rattle.cord_position.specs.Fetched.{AreStated, IsStated}
 use Rattle.lazy_file.specs.declared.faults.SourceFault.{SourceFault}
 use Rattle.span_certificate.specs.declared.bytes.Run.{Run}
@@ -28,7 +29,7 @@ use Rattle.span_certificate.specs.Parts.{part_len, part_cells, IsPart}
 use Rattle.span_certificate.specs.Leads.{described_cells, Describes}
 use Rattle.span_certificate.specs.Steps.{IsReached}
 use Rattle.span_certificate.specs.Runs.{IsRunOf, ReadsCells, TellsSame}
-use Rattle.span_certificate.proofs.ComparedCells.{AreAmong, among_first, among_second, among_span, among_through, among_both, all_among, failed_among}
+use Rattle.span_certificate.proofs.ComparedCells.{AreAmong, among_first, among_second, among_span, among_through, among_both, all_among, cells_among}
 use Rattle.span_certificate.proofs.Cells.{leads_cells}
 use Rattle.span_certificate.proofs.NextRows.{fewer_same}
 
@@ -108,15 +109,12 @@ tells_same st cells others bytes more answer e of_bytes of_more source agrees st
     let second = of_more source agrees (all_among (IsStated st) others (cells ++ others) (among_second cells others) stated) in
     (λ yes. sym first ∙ e.0 yes ∙ second, λ same. e.1 (first ∙ same ∙ sym second))
 
--- where the first of two reads failed, and where the second did
-pub first_failed : {T X Y : Type 0} (stated : T → Stated) (failures : T → ℕ) (old new : T) (cells others : List Cell) (e : SourceFault)
-    → ReadsCells {X = X} stated failures old new cells (Err e) → ReadsCells {X = Y} stated failures old new (cells ++ others) (Err e)
-first_failed stated failures old new cells others e h =
-    failed_among stated failures old old new cells (cells ++ others) e (record { same = refl; unfailed = refl }) h (among_first cells others)
+-- what a call that reads either side does
+pub first_read : {X : Type 0} (old new : Reading) (cells others : List Cell) (r : Result X SourceFault) → ReadsCells old new cells r → ReadsCells old new (cells ++ others) r
+first_read old new cells others r h = cells_among old old new cells (cells ++ others) r refl h (among_first cells others)
 
-pub second_failed : {T X Y : Type 0} (stated : T → Stated) (failures : T → ℕ) (old mid new : T) (cells others : List Cell) (e : SourceFault) → ReadsUnfailed stated failures old mid
-    → ReadsCells {X = X} stated failures mid new others (Err e) → ReadsCells {X = Y} stated failures old new (cells ++ others) (Err e)
-second_failed stated failures old mid new cells others e before h = failed_among stated failures old mid new others (cells ++ others) e before h (among_second cells others)
+pub second_read : {X : Type 0} (old mid new : Reading) (cells others : List Cell) (r : Result X SourceFault) → mid ≡ old → ReadsCells mid new others r → ReadsCells old new (cells ++ others) r
+second_read old mid new cells others r before h = cells_among old mid new others (cells ++ others) r before h (among_second cells others)
 
 -- the cells that a row compares, and those of one turn
 abbrev pub both_cells : Table → Part → ℕ → Part → ℕ → ℕ → List Cell
@@ -214,9 +212,8 @@ comparing_differs t st part off other place len done a b n turn tells source agr
       (tells source agrees (turn_stated t st part off other place len done a b n turn stated)).1 run,
 )
 
--- a turn whose read failed
-pub turn_failed : {T X Y : Type 0} (stated : T → Stated) (failures : T → ℕ) (old mid new : T) (t : Table) (part : Part) (off : ℕ) (other : Part) (place len done : ℕ) (a b : Run) (n : ℕ) (e : SourceFault)
-    → IsTurn t part off other place len done a b n → ReadsUnfailed stated failures old mid → ReadsCells {X = X} stated failures mid new (turn_cells t a b n) (Err e)
-    → ReadsCells {X = Y} stated failures old new (both_cells t part off other place len) (Err e)
-turn_failed stated failures old mid new t part off other place len done a b n e turn before h =
-    failed_among stated failures old mid new (turn_cells t a b n) (both_cells t part off other place len) e before h (turn_among t part off other place len done a b n turn)
+-- what a turn reads
+pub turn_read : {X : Type 0} (old mid new : Reading) (t : Table) (part : Part) (off : ℕ) (other : Part) (place len done : ℕ) (a b : Run) (n : ℕ) (r : Result X SourceFault)
+    → IsTurn t part off other place len done a b n → mid ≡ old → ReadsCells mid new (turn_cells t a b n) r → ReadsCells old new (both_cells t part off other place len) r
+turn_read old mid new t part off other place len done a b n r turn before h =
+    cells_among old mid new (turn_cells t a b n) (both_cells t part off other place len) r before h (turn_among t part off other place len done a b n turn)

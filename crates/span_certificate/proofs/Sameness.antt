@@ -1,5 +1,5 @@
 -- Rows that cover show that both sides have one text; and where no row of bytes is over a source, the same cells.
-use Rattle.std.proofs.Common.{◌≡◌, ℕ, zero, suc, ◌+◌, ◌<◌, ◌≤◌, List, map, length, take, drop, Option, Some, None, refl, sym, ap, ◌∙◌, arith, add-one}
+use Rattle.std.proofs.Common.{◌≡◌, ℕ, zero, suc, ◌+◌, ◌<◌, ◌≤◌, List, map, length, take, drop, Option, Some, None, refl, subst, sym, ap, ◌∙◌, arith, add-one}
 use Rattle.std.proofs.lemmas.List.{take_all, length-map, map-id}
 use Rattle.std.proofs.lemmas.Simd.{map-map}
 use Rattle.std.proofs.Math.Seq.{take-add}
@@ -16,7 +16,7 @@ use Rattle.span_certificate.specs.declared.row.RowKind.{RowKind}
 use Rattle.span_certificate.specs.declared.row.RowKind.TheVariants.{Shared, Leaf, Bytes}
 use Rattle.span_certificate.specs.Parts.{part_len, part_cells, parts_cells, IsPart, AreParts}
 use Rattle.span_certificate.specs.Leads.{RopeLeads, PartLeads, RopeHasDescription, PartHasDescription, described_cells, AreAnswered}
-use Rattle.span_certificate.specs.Covers.{row_at, rows_len, place_of, HaveOneDescription, IsByte, KindFits, Covers, MeetsNoSource}
+use Rattle.span_certificate.specs.Covers.{row_at, rows_len, place_of, HaveOneDescription, HaveSameBytes, IsByte, KindFitsBy, Covers, CoversBy, MeetsNoSource, SameOver}
 use Rattle.span_certificate.specs.Steps.{AreBytes}
 use Rattle.span_certificate.proofs.ComparedCells.{bytes_of_each, compared_all}
 use Rattle.span_certificate.proofs.Cells.{leads_cells, leads_inside}
@@ -62,23 +62,20 @@ pub one_description_cells : (t : Table) → IsSound t → HasTrueRecords t → (
 one_description_cells t s h coded answers n part off other place some is fits is_other fits_other (d, of_part, of_other) =
     part_described t s h coded answers n part off d some is fits of_part ∙ sym (part_described t s h coded answers n other place d some is_other fits_other of_other)
 
-kind_cells : (t : Table) → IsSound t → HasTrueRecords t → (coded : ℕ → Coded) → AreAnswered t coded → (source : ℕ → ℕ → ℕ) (n : ℕ) (part : Part) (off : ℕ) (root : Option NodeId) (place : ℕ) (kind : RowKind)
-    → 1 ≤ n → IsPart t part → off + n ≤ part_len part → IsRope t root → place + n ≤ rope_len t root → (kind ≡ Bytes → take n (drop off (part_cells t part)) ≡ take n (drop place (rope_cells t root)))
-    → KindFits t coded source n part off root place kind → take n (drop off (part_cells t part)) ≡ take n (drop place (rope_cells t root))
-kind_cells t s h coded answers source n part off root place (Shared k o) some is in_part there in_root bytes fits =
-    part_leads_cells t s h n k.0 o part off some is in_part fits.0 ∙ sym (rope_leads_cells t s h n k.0 o root place some there in_root fits.1)
-kind_cells t s h coded answers source n part off root place Leaf some is in_part there in_root bytes (d, of_part, of_root) =
-    part_described t s h coded answers n part off d some is in_part of_part ∙ sym (rope_described t s h coded answers n root place d some there in_root of_root)
-kind_cells t s h coded answers source n part off root place Bytes some is in_part there in_root bytes fits = bytes refl
+module _ (t : Table) (s : IsSound t) (h : HasTrueRecords t) (coded : ℕ → Coded) (answers : AreAnswered t coded) (Same : List Cell → List Cell → Type 0) (n : ℕ) (part : Part) (off : ℕ) (root : Option NodeId) (place : ℕ) (some : 1 ≤ n) (is : IsPart t part) (in_part : off + n ≤ part_len part) (there : IsRope t root) (in_root : place + n ≤ rope_len t root) where
+  kind_cells : (kind : RowKind) → (kind ≡ Bytes → take n (drop off (part_cells t part)) ≡ take n (drop place (rope_cells t root)))
+      → KindFitsBy t coded Same n part off root place kind → take n (drop off (part_cells t part)) ≡ take n (drop place (rope_cells t root))
+  kind_cells (Shared k o) bytes fits =
+      part_leads_cells t s h n k.0 o part off some is in_part fits.0 ∙ sym (rope_leads_cells t s h n k.0 o root place some there in_root fits.1)
+  kind_cells Leaf bytes (d, of_part, of_root) =
+      part_described t s h coded answers n part off d some is in_part of_part ∙ sym (rope_described t s h coded answers n root place d some there in_root of_root)
+  kind_cells Bytes bytes fits = bytes refl
 
-kind_text : (t : Table) → IsSound t → HasTrueRecords t → (coded : ℕ → Coded) → AreAnswered t coded → (source : ℕ → ℕ → ℕ) (n : ℕ) (part : Part) (off : ℕ) (root : Option NodeId) (place : ℕ) (kind : RowKind)
-    → 1 ≤ n → IsPart t part → off + n ≤ part_len part → IsRope t root → place + n ≤ rope_len t root → KindFits t coded source n part off root place kind
-    → text source (take n (drop off (part_cells t part))) ≡ text source (take n (drop place (rope_cells t root)))
-kind_text t s h coded answers source n part off root place (Shared k o) some is in_part there in_root fits =
-    ap (text source) (kind_cells t s h coded answers source n part off root place (Shared k o) some is in_part there in_root (λ e. absurd cc) fits)
-kind_text t s h coded answers source n part off root place Leaf some is in_part there in_root fits =
-    ap (text source) (kind_cells t s h coded answers source n part off root place Leaf some is in_part there in_root (λ e. absurd cc) fits)
-kind_text t s h coded answers source n part off root place Bytes some is in_part there in_root fits = fits.1
+  kind_text : (source : ℕ → ℕ → ℕ) (kind : RowKind) → (kind ≡ Bytes → text source (take n (drop off (part_cells t part))) ≡ text source (take n (drop place (rope_cells t root))))
+      → KindFitsBy t coded Same n part off root place kind → text source (take n (drop off (part_cells t part))) ≡ text source (take n (drop place (rope_cells t root)))
+  kind_text source (Shared k o) bytes fits = ap (text source) (kind_cells (Shared k o) (λ e. absurd cc) fits)
+  kind_text source Leaf bytes fits = ap (text source) (kind_cells Leaf (λ e. absurd cc) fits)
+  kind_text source Bytes bytes fits = bytes refl
 
 -- bytes of one text are one list of cells
 bytes_same : (source : ℕ → ℕ → ℕ) (xs ys : List Cell) → AreBytes xs → AreBytes ys → text source xs ≡ text source ys → xs ≡ ys
@@ -103,37 +100,59 @@ same_whole xs ys rows each a b =
     let whole = place_of_all rows in
     sym (take_all (place_of rows (length rows)) xs (omega (arith, a, whole))) ∙ same_before xs ys rows each (length rows) (omega arith) ∙ take_all (place_of rows (length rows)) ys (omega (arith, b, whole))
 
--- rows that cover over these bytes of the sources show that both sides have one text over them
-pub covered_text : (t : Table) → IsSound t → HasTrueRecords t → (coded : ℕ → Coded) → AreAnswered t coded → (source : ℕ → ℕ → ℕ) (parts : List Part) (root : Option NodeId) (rows : List Row) → AreParts t parts → IsRope t root → Covers t coded source parts root rows
-    → text source (parts_cells t parts) ≡ text source (rope_cells t root)
-covered_text t s h coded answers source parts root rows are there c =
+-- what rows of bytes that cover are over is the same
+pub covered_bytes : (t : Table) → IsSound t → HasTrueRecords t → (coded : ℕ → Coded) (Same : List Cell → List Cell → Type 0) (parts : List Part) (root : Option NodeId) (rows : List Row) → AreParts t parts → CoversBy t coded Same parts root rows
+    → HaveSameBytes Same t parts root rows
+covered_bytes t s h coded Same parts root rows are c j lt is =
+    let fits = c.fit j lt in
+    let held = holds_place t s h parts (place_of rows j) fits.part fits.off are fits.at_part in
+    let kind : KindFitsBy t coded Same (row_at rows j).len fits.part fits.off root (place_of rows j) Bytes = rw is at fits.kind in
+    subst (λ (cs : List Cell). Same cs (take (row_at rows j).len (drop (place_of rows j) (rope_cells t root)))) (sym (held.same (row_at rows j).len fits.inside_part)) kind.1
+
+-- Rows that cover show that both sides have one text over any bytes of the sources over which each row of bytes has the
+-- same bytes on both sides,
+pub covered_text : (t : Table) → IsSound t → HasTrueRecords t → (coded : ℕ → Coded) → AreAnswered t coded → (Same : List Cell → List Cell → Type 0) (source : ℕ → ℕ → ℕ) (parts : List Part) (root : Option NodeId) (rows : List Row) → AreParts t parts → IsRope t root
+    → CoversBy t coded Same parts root rows → HaveSameBytes (SameOver source) t parts root rows → text source (parts_cells t parts) ≡ text source (rope_cells t root)
+covered_text t s h coded answers Same source parts root rows are there c bytes =
     let len_p : length (text source (parts_cells t parts)) ≡ rows_len rows = length-map (parts_cells t parts) (cell_byte source) ∙ length-parts_cells t s h parts are ∙ sym c.whole_parts in
     let len_r : length (text source (rope_cells t root)) ≡ rows_len rows = length-map (rope_cells t root) (cell_byte source) ∙ rope_length t s h root there ∙ sym c.whole_root in
     same_whole (text source (parts_cells t parts)) (text source (rope_cells t root)) rows
     (λ i lt.
     let fits = c.fit i lt in
     let held = holds_place t s h parts (place_of rows i) fits.part fits.off are fits.at_part in
+    let same = held.same (row_at rows i).len fits.inside_part in
     span-map (cell_byte source) (row_at rows i).len (place_of rows i) (parts_cells t parts)
-    ∙ ap (text source) (held.same (row_at rows i).len fits.inside_part)
-    ∙ kind_text t s h coded answers source (row_at rows i).len fits.part fits.off root (place_of rows i) (row_at rows i).kind fits.not_empty held.is_part fits.inside_part there fits.inside_root fits.kind
+    ∙ ap (text source) same
+    ∙ kind_text t s h coded answers Same (row_at rows i).len fits.part fits.off root (place_of rows i) fits.not_empty held.is_part fits.inside_part there fits.inside_root source (row_at rows i).kind
+    (λ is. ap (text source) (sym same) ∙ bytes i lt is) fits.kind
     ∙ sym (span-map (cell_byte source) (row_at rows i).len (place_of rows i) (rope_cells t root)))
     len_p len_r
 
--- where besides no row of bytes is over a source, they have the same cells
-pub covered_cells : (t : Table) → IsSound t → HasTrueRecords t → (coded : ℕ → Coded) → AreAnswered t coded → (source : ℕ → ℕ → ℕ) (parts : List Part) (root : Option NodeId) (rows : List Row) → AreParts t parts → IsRope t root → Covers t coded source parts root rows
-    → MeetsNoSource t parts root rows → parts_cells t parts ≡ rope_cells t root
-covered_cells t s h coded answers source parts root rows are there c none =
+-- and that both have the same cells, where the cells of each row of bytes are
+pub covered_cells_by : (t : Table) → IsSound t → HasTrueRecords t → (coded : ℕ → Coded) → AreAnswered t coded → (Same : List Cell → List Cell → Type 0) (parts : List Part) (root : Option NodeId) (rows : List Row) → AreParts t parts → IsRope t root
+    → CoversBy t coded Same parts root rows → HaveSameBytes (λ cells others. cells ≡ others) t parts root rows → parts_cells t parts ≡ rope_cells t root
+covered_cells_by t s h coded answers Same parts root rows are there c bytes =
     same_whole (parts_cells t parts) (rope_cells t root) rows
     (λ i lt.
     let fits = c.fit i lt in
     let held = holds_place t s h parts (place_of rows i) fits.part fits.off are fits.at_part in
     let same = held.same (row_at rows i).len fits.inside_part in
-    let both = kind_text t s h coded answers source (row_at rows i).len fits.part fits.off root (place_of rows i) (row_at rows i).kind fits.not_empty held.is_part fits.inside_part there fits.inside_root fits.kind in
-    same ∙ kind_cells t s h coded answers source (row_at rows i).len fits.part fits.off root (place_of rows i) (row_at rows i).kind fits.not_empty held.is_part fits.inside_part there fits.inside_root
-    (λ is.
+    same
+    ∙ kind_cells t s h coded answers Same (row_at rows i).len fits.part fits.off root (place_of rows i) fits.not_empty held.is_part fits.inside_part there fits.inside_root (row_at rows i).kind
+    (λ is. sym same ∙ bytes i lt is) fits.kind)
+    (length-parts_cells t s h parts are ∙ sym c.whole_parts) (rope_length t s h root there ∙ sym c.whole_root)
+
+-- as they are where none is over a source, and they are the same over some bytes of the sources
+pub bytes_are_cells : (t : Table) (source : ℕ → ℕ → ℕ) (parts : List Part) (root : Option NodeId) (rows : List Row) → MeetsNoSource t parts root rows → HaveSameBytes (SameOver source) t parts root rows
+    → HaveSameBytes (λ cells others. cells ≡ others) t parts root rows
+bytes_are_cells t source parts root rows none bytes i lt is =
     let xs = take (row_at rows i).len (drop (place_of rows i) (parts_cells t parts)) in
     let ys = take (row_at rows i).len (drop (place_of rows i) (rope_cells t root)) in
-    let bytes = compared_all IsByte (row_at rows i).kind xs ys is (none i lt) in
-    sym same ∙ bytes_same source xs ys (bytes_of_each xs bytes.0) (bytes_of_each ys bytes.1) (ap (text source) same ∙ both))
-    fits.kind)
-    (length-parts_cells t s h parts are ∙ sym c.whole_parts) (rope_length t s h root there ∙ sym c.whole_root)
+    let both = compared_all IsByte (row_at rows i).kind xs ys is (none i lt) in
+    bytes_same source xs ys (bytes_of_each xs both.0) (bytes_of_each ys both.1) (bytes i lt is)
+
+pub covered_cells : (t : Table) → IsSound t → HasTrueRecords t → (coded : ℕ → Coded) → AreAnswered t coded → (source : ℕ → ℕ → ℕ) (parts : List Part) (root : Option NodeId) (rows : List Row) → AreParts t parts → IsRope t root → Covers t coded source parts root rows
+    → MeetsNoSource t parts root rows → parts_cells t parts ≡ rope_cells t root
+covered_cells t s h coded answers source parts root rows are there c none =
+    covered_cells_by t s h coded answers (SameOver source) parts root rows are there c
+    (bytes_are_cells t source parts root rows none (covered_bytes t s h coded (SameOver source) parts root rows are c))

@@ -6,6 +6,7 @@ use Rattle.rope_node.specs.Table.{Table, view_at, len_at, IsSound, HasTrueRecord
 use Rattle.span_certificate.specs.declared.walk.Span.{Span}
 use Rattle.span_certificate.specs.Leads.{Leads, here, in_left, in_right, in_base}
 use Rattle.span_certificate.specs.Steps.{IsSpan, IsReached, IsBelow}
+use Rattle.span_certificate.proofs.Depths.{depths_of_cat, depth_of_base}
 use Rattle.span_certificate.proofs.Descents.{children_of_cat, base_of_sub}
 
 -- what a span leads to, its first bytes lead to
@@ -45,6 +46,7 @@ below_left t s h x l r is e before =
     let c = children_of_cat t s h x.node.0 is.there l r e in
     record {
       lower = c.0;
+      shallower = (depths_of_cat t h x.node.0 is.there l r e).0;
       reached = record {
         few = omega arith;
         is_span = record { there = omega (arith, c.0, is.there); some = omega (arith, is.some); inside = omega arith };
@@ -58,6 +60,7 @@ below_right t s h x l r is e past =
     let c = children_of_cat t s h x.node.0 is.there l r e in
     record {
       lower = c.1;
+      shallower = (depths_of_cat t h x.node.0 is.there l r e).1;
       reached = record {
         few = omega arith;
         is_span = record { there = omega (arith, c.1, is.there); some = is.some; inside = omega (arith, c.2, is.inside) };
@@ -65,12 +68,13 @@ below_right t s h x l r is e past =
       };
     }
 
-pub below_base : (t : Table) → IsSound t → (x : Span) (b : NodeId) (i : ℕ) → IsSpan t x → view_at t x.node.0 ≡ Sub b i
+pub below_base : (t : Table) → IsSound t → HasTrueRecords t → (x : Span) (b : NodeId) (i : ℕ) → IsSpan t x → view_at t x.node.0 ≡ Sub b i
     → IsBelow t x (record { node = b; start = x.start + i; len = x.len })
-below_base t s x b i is e =
+below_base t s h x b i is e =
     let base = base_of_sub t s x.node.0 is.there b i e in
     record {
       lower = base.0;
+      shallower = depth_of_base t h x.node.0 is.there b i e;
       reached = record {
         few = omega arith;
         is_span = record { there = omega (arith, base.0, is.there); some = is.some; inside = omega (arith, base.1, is.inside) };

@@ -33,45 +33,63 @@ abbrev pub HaveOneDescription : Table → (ℕ → Coded) → ℕ → Part → �
 HaveOneDescription t coded n part off other place =
     (d : Description) × PartHasDescription t coded n part off d × PartHasDescription t coded n other place d
 
--- The n bytes of the part from off on and those of the root from place on are the same by what the kind of row says.
--- The sources' bytes are those that source gives.
-abbrev pub KindFits : Table → (ℕ → Coded) → (ℕ → ℕ → ℕ) → ℕ → Part → ℕ → Option NodeId → ℕ → RowKind → Type 0
-KindFits t coded source n part off root place (Shared k o) =
+-- whether cells stand for the same bytes as others, over these bytes of the sources
+abbrev pub SameOver : (ℕ → ℕ → ℕ) → List Cell → List Cell → Type 0
+SameOver source cells others = text source cells ≡ text source others
+
+-- The n bytes of the part from off on and those of the root from place on are the same by what the kind of row says;
+-- for a row of bytes, as Same says of their cells.
+abbrev pub KindFitsBy : Table → (ℕ → Coded) → (List Cell → List Cell → Type 0) → ℕ → Part → ℕ → Option NodeId → ℕ
+    → RowKind → Type 0
+KindFitsBy t coded Same n part off root place (Shared k o) =
     PartLeads t n k.0 o part off × RopeLeads t n k.0 o root place
-KindFits t coded source n part off root place Leaf =
+KindFitsBy t coded Same n part off root place Leaf =
     (d : Description) × PartHasDescription t coded n part off d × RopeHasDescription t coded n root place d
-KindFits t coded source n part off root place Bytes =
-    (n ≤ BYTES_LIMIT) × (text source (take n (drop off (part_cells t part)))
-    ≡ text source (take n (drop place (rope_cells t root))))
+KindFitsBy t coded Same n part off root place Bytes =
+    (n ≤ BYTES_LIMIT) × Same (take n (drop off (part_cells t part))) (take n (drop place (rope_cells t root)))
 
 -- a row that stands at place is not empty, lies inside one part and inside the root, and fits by its kind
-pub record Fits (t : Table) (coded : ℕ → Coded) (source : ℕ → ℕ → ℕ) (parts : List Part) (root : Option NodeId)
-    (place : ℕ) (row : Row) : Type 0 where
+pub record FitsBy (t : Table) (coded : ℕ → Coded) (Same : List Cell → List Cell → Type 0) (parts : List Part)
+    (root : Option NodeId) (place : ℕ) (row : Row) : Type 0 where
   pub part : Part
   pub off : ℕ
   pub at_part : part_at parts place ≡ Some (part, off)
   pub not_empty : 1 ≤ row.len
   pub inside_part : off + row.len ≤ part_len part
   pub inside_root : place + row.len ≤ rope_len t root
-  pub kind : KindFits t coded source row.len part off root place row.kind
+  pub kind : KindFitsBy t coded Same row.len part off root place row.kind
 
-pub record Covers (t : Table) (coded : ℕ → Coded) (source : ℕ → ℕ → ℕ) (parts : List Part) (root : Option NodeId)
-    (rows : List Row) : Type 0 where
-  pub fit : (j : ℕ) → j < length rows → Fits t coded source parts root (place_of rows j) (row_at rows j)
+pub record CoversBy (t : Table) (coded : ℕ → Coded) (Same : List Cell → List Cell → Type 0) (parts : List Part)
+    (root : Option NodeId) (rows : List Row) : Type 0 where
+  pub fit : (j : ℕ) → j < length rows → FitsBy t coded Same parts root (place_of rows j) (row_at rows j)
   pub whole_root : rows_len rows ≡ rope_len t root
   pub whole_parts : rows_len rows ≡ parts_len parts
+
+-- j is the first row that does not fit, or the number of rows where they leave something uncovered; the rows before j
+-- are the same as Same says, and row j cannot be as CanBeSame says
+pub record IsFirstBadBy (t : Table) (coded : ℕ → Coded) (Same CanBeSame : List Cell → List Cell → Type 0)
+    (parts : List Part) (root : Option NodeId) (rows : List Row) (j : ℕ) : Type 0 where
+  pub before : (i : ℕ) → i < j → FitsBy t coded Same parts root (place_of rows i) (row_at rows i)
+  pub at_most : j ≤ length rows
+  pub unfit : j < length rows → ¬ FitsBy t coded CanBeSame parts root (place_of rows j) (row_at rows j)
+  pub uncovered : j ≡ length rows → ¬ ((rows_len rows ≡ rope_len t root) × (rows_len rows ≡ parts_len parts))
+
+-- all of them over the bytes that source gives for the sources
+abbrev pub KindFits : Table → (ℕ → Coded) → (ℕ → ℕ → ℕ) → ℕ → Part → ℕ → Option NodeId → ℕ → RowKind → Type 0
+KindFits t coded source n part off root place kind = KindFitsBy t coded (SameOver source) n part off root place kind
+
+abbrev pub Fits : Table → (ℕ → Coded) → (ℕ → ℕ → ℕ) → List Part → Option NodeId → ℕ → Row → Type 0
+Fits t coded source parts root place row = FitsBy t coded (SameOver source) parts root place row
+
+abbrev pub Covers : Table → (ℕ → Coded) → (ℕ → ℕ → ℕ) → List Part → Option NodeId → List Row → Type 0
+Covers t coded source parts root rows = CoversBy t coded (SameOver source) parts root rows
+
+abbrev pub IsFirstBad : Table → (ℕ → Coded) → (ℕ → ℕ → ℕ) → List Part → Option NodeId → List Row → ℕ → Type 0
+IsFirstBad t coded source parts root rows j = IsFirstBadBy t coded (SameOver source) (SameOver source) parts root rows j
 
 -- whatever bytes the sources hold
 abbrev pub CoversAlways : Table → (ℕ → Coded) → List Part → Option NodeId → List Row → Type 0
 CoversAlways t coded parts root rows = (source : ℕ → ℕ → ℕ) → Covers t coded source parts root rows
-
--- j is the first row that does not fit, or the number of rows where they leave something uncovered
-pub record IsFirstBad (t : Table) (coded : ℕ → Coded) (source : ℕ → ℕ → ℕ) (parts : List Part) (root : Option NodeId)
-    (rows : List Row) (j : ℕ) : Type 0 where
-  pub before : (i : ℕ) → i < j → Fits t coded source parts root (place_of rows i) (row_at rows i)
-  pub at_most : j ≤ length rows
-  pub unfit : j < length rows → ¬ Fits t coded source parts root (place_of rows j) (row_at rows j)
-  pub uncovered : j ≡ length rows → ¬ ((rows_len rows ≡ rope_len t root) × (rows_len rows ≡ parts_len parts))
 
 -- the cells that a row compares: if it is one of bytes those of both sides, and else none
 abbrev pub compared : RowKind → List Cell → List Cell → List Cell
@@ -87,6 +105,13 @@ kind_compares t part off root place row =
 abbrev pub row_compares : Table → List Part → Option NodeId → ℕ → Row → List Cell
 row_compares t parts root place row =
     compared row.kind (take row.len (drop place (parts_cells t parts))) (take row.len (drop place (rope_cells t root)))
+
+-- each row of bytes has cells in the parts and in the root that are the same as Same says
+abbrev pub HaveSameBytes : (List Cell → List Cell → Type 0) → Table → List Part → Option NodeId → List Row → Type 0
+HaveSameBytes Same t parts root rows =
+    (j : ℕ) → j < length rows → (row_at rows j).kind ≡ Bytes
+    → Same (take (row_at rows j).len (drop (place_of rows j) (parts_cells t parts)))
+    (take (row_at rows j).len (drop (place_of rows j) (rope_cells t root)))
 
 -- each row compares only such cells
 abbrev pub ComparesOnly : (Cell → Type 0) → Table → List Part → Option NodeId → List Row → Type 0

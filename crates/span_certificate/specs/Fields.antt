@@ -1,9 +1,9 @@
 -- How a revision's record holds its command: a code, and the numbers that a command of this code uses.
-use Rattle.std.specs.Prelude.{ℕ, ◌^◌, ◌<◌, Bool, false, not, ◌||◌, ◌==◌, nat_lt, List, [], ◌∷◌, map, filter, get_or, if◌then◌else◌}
+use Rattle.std.specs.Prelude.{◌≡◌, ℕ, ◌^◌, ◌<◌, Bool, false, not, ◌||◌, ◌==◌, nat_lt, List, [], ◌∷◌, map, filter, get_or, if◌then◌else◌}
 use Rattle.std.specs.List.{AllByRecursion}
-use Rattle.span_certificate.specs.declared.codes.TheConstants.{BACK, BALANCE, CUT, DELETE, FILL, INSERT, JOIN, NEW, OPEN, PASTE, REPLACE}
+use Rattle.span_certificate.specs.declared.codes.TheConstants.{BACK, BALANCE, CUT, DELETE, FILL, INSERT, JOIN, MANY, NEW, OPEN, PASTE, REPLACE}
 use Rattle.span_certificate.specs.declared.edit.Edit.{Edit}
-use Rattle.span_certificate.specs.declared.edit.Edit.TheVariants.{New, Open, Insert, Delete, Replace, Paste, Join, Cut, Fill, Back, Balance}
+use Rattle.span_certificate.specs.declared.edit.Edit.TheVariants.{New, Open, Insert, Delete, Replace, Paste, Join, Cut, Fill, Back, Balance, Many}
 
 -- the fields of a revision's record for its command's numbers
 pub data Field : Type 0 where
@@ -48,10 +48,13 @@ recorded (Cut r i n) = record { code = CUT; uses = (R, r) ∷ (A, i) ∷ (N, n) 
 recorded (Fill r p c n) = record { code = FILL; uses = (R, r) ∷ (P, p) ∷ (A, c) ∷ (N, n) ∷ [] }
 recorded (Back r) = record { code = BACK; uses = (R, r) ∷ [] }
 recorded (Balance r) = record { code = BALANCE; uses = (R, r) ∷ [] }
+-- of its splices only their number
+recorded (Many r first count) = record { code = MANY; uses = (R, r) ∷ (Q, count) ∷ [] }
 
--- the command of each code, over what the fields hold; none has code 0
-abbrev pub edits : (Field → ℕ) → List Edit
-edits f =
+-- the command of each code, over what the fields hold, where the commands before it have so many splices; none has
+-- code 0
+abbrev pub edits : ℕ → (Field → ℕ) → List Edit
+edits first f =
     New
     ∷ New
     ∷ Open (f Q)
@@ -64,10 +67,21 @@ edits f =
     ∷ Fill (f R) (f P) (f A) (f N)
     ∷ Back (f R)
     ∷ Balance (f R)
+    ∷ Many (f R) first (f Q)
     ∷ []
 
-abbrev pub edit_by : ℕ → (Field → ℕ) → Edit
-edit_by code f = get_or (edits f) code New
+abbrev pub edit_by : ℕ → ℕ → (Field → ℕ) → Edit
+edit_by first code f = get_or (edits first f) code New
+
+-- how many splices a command has
+abbrev pub splices_of : Edit → ℕ
+splices_of (Many r first count) = count
+splices_of other = 0
+
+-- its splices begin behind those of the commands before it
+abbrev pub IsPlacedAt : ℕ → Edit → Type 0
+IsPlacedAt place (Many r first count) = first ≡ place
+IsPlacedAt place other = Unit {0}
 
 abbrev pub is_in_field : Field → Field × ℕ → Bool
 is_in_field f x = place_in_record x.0 == place_in_record f

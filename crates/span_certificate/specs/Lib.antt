@@ -1,9 +1,11 @@
 pub mod Commands
 pub mod Fields
 pub mod Parts
+pub mod Places
 pub mod Leads
 pub mod Covers
 pub mod Steps
 pub mod Descents
 pub mod Runs
 pub mod Verdicts
+pub mod Looks

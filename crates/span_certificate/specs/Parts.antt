@@ -1,13 +1,13 @@
 -- The parts of a command's text, and what they denote.
-use Rattle.std.specs.Prelude.{ℕ, ◌+◌, ◌-◌, ◌<◌, ◌≤◌, List, [], ◌∷◌, length, map, take, drop, replicate, get_or, filter, Option, Some, None, nat_lt, if◌then◌else◌}
+use Rattle.std.specs.Prelude.{ℕ, Bool, true, false, IsTrue, ◌+◌, ◌-◌, ◌^◌, ◌<◌, ◌≤◌, List, [], ◌∷◌, length, map, take, drop, replicate, get_or, filter, Option, Some, None, nat_lt, if◌then◌else◌}
 use Rattle.std.specs.List.{flat_map, sum_by, AllByRecursion, range_with_len}
 use Rattle.rope_node.specs.declared.limits.TheConstants.{TEXT_LIMIT}
 use Rattle.rope_node.specs.declared.node.NodeId.{NodeId}
 use Rattle.rope_node.specs.Table.{Table}
 use Rattle.rope_node.specs.Denotes.{Cell, Byte, Place, rope_cells, rope_len, IsRope}
-use Rattle.span_certificate.specs.Commands.{Givens}
-use Rattle.span_certificate.specs.declared.edit.Edit.{Edit}
-use Rattle.span_certificate.specs.declared.edit.Edit.TheVariants as Command
+use Rattle.span_certificate.specs.Commands as Command
+use Rattle.span_certificate.specs.Commands.{Givens, FullEdit, can_splice}
+use Rattle.span_certificate.specs.declared.edit.Splice.{Splice}
 use Rattle.span_certificate.specs.declared.part.Part.{Part}
 use Rattle.span_certificate.specs.declared.part.Part.TheVariants.{Old, Pool, Source, Fill}
 
@@ -63,8 +63,19 @@ rest t rope p = Old rope p (rope_len t rope - p)
 abbrev pub whole : Table → Option NodeId → Part
 whole t rope = Old rope 0 (rope_len t rope)
 
+-- a rope of length len from place k on, with what each splice names replaced: up to that, its bytes of the pool, and so
+-- on, and the rest
+abbrev pub pieces : Option NodeId → ℕ → ℕ → List Splice → List Part
+pieces rope len k [] = Old rope k (len - k) ∷ []
+pieces rope len k (s ∷ splices) = Old rope k (s.p - k) ∷ Pool s.a s.n ∷ pieces rope len (s.p + s.m) splices
+
+-- the splices stand one behind the other in a text of length len, from k on
+abbrev pub Follow : ℕ → ℕ → List Splice → Type 0
+Follow len k [] = k ≤ len
+Follow len k (s ∷ splices) = (k ≤ s.p) × Follow len (s.p + s.m) splices
+
 -- the terms of a command's text in their order
-abbrev pub terms_of : Table → List (Option NodeId) → Edit → List Part
+abbrev pub terms_of : Table → List (Option NodeId) → FullEdit → List Part
 terms_of t roots Command.New = []
 terms_of t roots (Command.Open s) = Source s (get_or t.sources s 0) ∷ []
 terms_of t roots (Command.Insert r p a n) = front (root_at roots r) p ∷ Pool a n ∷ rest t (root_at roots r) p ∷ []
@@ -78,12 +89,13 @@ terms_of t roots (Command.Cut r i n) = Old (root_at roots r) i n ∷ []
 terms_of t roots (Command.Fill r p c n) = front (root_at roots r) p ∷ Fill c n ∷ rest t (root_at roots r) p ∷ []
 terms_of t roots (Command.Back r) = whole t (root_at roots r) ∷ []
 terms_of t roots (Command.Balance r) = whole t (root_at roots r) ∷ []
+terms_of t roots (Command.Many r splices) = pieces (root_at roots r) (rope_len t (root_at roots r)) 0 splices
 
 abbrev pub nonempty : List Part → List Part
 nonempty parts = filter (λ part. nat_lt 0 (part_len part)) parts
 
 -- the parts of a command: its terms that are not empty
-abbrev pub parts_of : Table → List (Option NodeId) → Edit → List Part
+abbrev pub parts_of : Table → List (Option NodeId) → FullEdit → List Part
 parts_of t roots edit = nonempty (terms_of t roots edit)
 
 abbrev pub AreRopes : Table → List (Option NodeId) → Type 0
@@ -94,7 +106,7 @@ abbrev pub len_of : Table → List (Option NodeId) → ℕ → ℕ
 len_of t roots r = rope_len t (root_at roots r)
 
 -- a command is in range over the lengths of the earlier texts, the pool and the sources
-abbrev pub IsInRange : Table → List (Option NodeId) → Edit → Type 0
+abbrev pub IsInRange : Table → List (Option NodeId) → FullEdit → Type 0
 IsInRange t roots Command.New = Unit {0}
 IsInRange t roots (Command.Open s) = s < length t.sources
 IsInRange t roots (Command.Insert r p a n) =
@@ -114,6 +126,9 @@ IsInRange t roots (Command.Fill r p c n) =
     (r < length roots) × (p ≤ len_of t roots r) × (c ≤ 255) × (len_of t roots r + n < TEXT_LIMIT)
 IsInRange t roots (Command.Back r) = r < length roots
 IsInRange t roots (Command.Balance r) = r < length roots
+IsInRange t roots (Command.Many r splices) =
+    (r < length roots) × IsTrue (can_splice (length t.pool) (len_of t roots r) splices)
+    × (len_of t roots r + sum_by (λ s. s.n) splices < TEXT_LIMIT + sum_by (λ s. s.m) splices)
 
 -- what a command takes its cells from
 abbrev pub givens_of : Table → Givens Cell
@@ -122,3 +137,16 @@ givens_of t = record {
   sources = map (λ s. map (Place s) (range_with_len 0 (get_or t.sources s 0))) (range_with_len 0 (length t.sources));
   byte = Byte;
 }
+
+-- ---- parts one behind the other
+
+-- the pieces that are left, while the last one is to come
+abbrev pub pieces_left : Bool → Option NodeId → ℕ → ℕ → List Splice → List Part
+pieces_left true rope len k splices = pieces rope len k splices
+pieces_left false rope len k splices = []
+
+-- the splices that are left of all, from place next on, and how far the rope is cut
+pub record IsCutting (all : List Splice) (len k next left : ℕ) : Type 0 where
+  pub there : next + left ≤ length all
+  pub fit : next + left < 2 ^ 32
+  pub follow : Follow len k (take left (drop next all))

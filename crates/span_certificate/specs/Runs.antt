@@ -4,7 +4,8 @@ use Rattle.rope_node.specs.Table.{Table}
 use Rattle.rope_node.specs.Denotes.{Cell, Byte, text}
 use Rattle.lazy_file.specs.SourceTexts.{Agrees, Stated}
 use Rattle.lazy_file.specs.declared.faults.SourceFault.{SourceFault}
-use Rattle.cord_position.specs.Fetched.{AreStated, IsFaultIn, ReadsSpan}
+use Rattle.lazy_file.specs.Readings.{fault_in, Reading, Reads}
+use Rattle.cord_position.specs.Fetched.{AreStated, InCells}
 use Rattle.span_certificate.specs.declared.part.Part.{Part}
 use Rattle.span_certificate.specs.declared.bytes.Run.{Run}
 use Rattle.span_certificate.specs.Parts.{part_cells}
@@ -28,12 +29,10 @@ TellsSame st cells others answer =
 abbrev pub listed_cell : List Cell → ℕ → Cell
 listed_cell cells place = get_or cells place (Byte 0)
 
--- a read for one of these cells failed so
-abbrev pub IsFaultAmong : {T : Type 0} → (T → Stated) → (T → ℕ) → T → T → List Cell → SourceFault → Type 0
-IsFaultAmong stated failures old new cells fault =
-    IsFaultIn stated failures old new (listed_cell cells) 0 (length cells) fault
+-- the places of sources among these cells
+abbrev pub AmongCells : List Cell → ℕ → ℕ → Type 0
+AmongCells cells s p = InCells (listed_cell cells) 0 (length cells) s p
 
--- what a call that may read these cells does to the sources, and when it fails
-abbrev pub ReadsCells : {T X : Type 0} → (T → Stated) → (T → ℕ) → T → T → List Cell → Result X SourceFault → Type 0
-ReadsCells stated failures old new cells outcome =
-    ReadsSpan stated failures old new (listed_cell cells) 0 (length cells) outcome
+-- what a call does that may read these cells
+abbrev pub ReadsCells : {X : Type 0} → Reading → Reading → List Cell → Result X SourceFault → Type 0
+ReadsCells before after cells outcome = Reads before after (AmongCells cells) (fault_in outcome)

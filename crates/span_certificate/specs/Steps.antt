@@ -2,7 +2,7 @@
 use Rattle.std.specs.Prelude.{◌≡◌, ℕ, ◌+◌, ◌-◌, ◌<◌, ◌≤◌, min, nat_lt, if◌then◌else◌, List, length, map, take, drop, Option, Some, None}
 use Rattle.std.specs.List.{range_with_len}
 use Rattle.function_leaf.specs.declared.coded.Coded.{Coded}
-use Rattle.rope_node.specs.Table.{Table, len_at}
+use Rattle.rope_node.specs.Table.{Table, len_at, depth_at}
 use Rattle.rope_node.specs.Denotes.{Cell, Byte, Place, cells}
 use Rattle.rope_node.specs.declared.node.NodeId.{NodeId}
 use Rattle.rope_node.specs.declared.node.NodeView.{NodeView}
@@ -40,6 +40,7 @@ pub record IsReached (t : Table) (x z : Span) : Type 0 where
 -- the same by a step, or by more
 pub record IsBelow (t : Table) (x z : Span) : Type 0 where
   pub lower : z.node.0 < x.node.0
+  pub shallower : depth_at t z.node.0 < depth_at t x.node.0
   pub reached : IsReached t x z
 
 -- the first bytes of a span of a concatenation, as a span of the child that holds them: as many as lie in that child

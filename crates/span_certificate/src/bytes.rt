@@ -1,19 +1,21 @@
 //! Bytes of both sides, compared run by run.
 
-ghost use Rattle.std.specs.Prelude.{◌≡◌, ◌+◌, ◌<◌, ◌≤◌, ◌↔◌, ◌++◌, length, take, drop, IsTrue, IfOk, OnOk};
+ghost use Rattle.std.specs.Prelude.{◌≡◌, ◌+◌, ◌*◌, ◌<◌, ◌≤◌, ◌↔◌, ◌++◌, length, take, drop, IsTrue, IfOk, OnOk};
 ghost use Rattle.rope_node.specs.Table.{IsSound, HasTrueRecords};
 ghost use Rattle.cord_position.specs.Runs.{AreBytesOf};
 ghost use Rattle.span_certificate.specs.Parts.{part_len, part_cells, IsPart};
 ghost use Rattle.span_certificate.specs.Leads.{described_cells, HasRoom};
 ghost use Rattle.span_certificate.specs.Runs.{IsRunOf, ReadsCells, TellsSame};
+ghost use Rattle.span_certificate.specs.declared.looks.TheConstants.{LOOKS_LIMIT};
 
-use crate::describe::{Description, describe_leaf};
+use crate::describe::{Description, describe};
+use crate::looks::{Count, CountedSpace};
 use crate::part::Part;
 use crate::walk::{Span, leaf_of};
 use cord_position::fill_source;
 use function_leaf::{Coded, fill};
 use lazy_file::{SourceFault, Sources};
-use rope_node::{CodedSpace, NodeSpace};
+use std::sync::ledger::Ledger;
 
 /// The most bytes that are compared at once.
 const BUFFER: usize = 256;
@@ -26,13 +28,20 @@ pub struct Run {
 }
 
 /// The run that the next `left` bytes of a part begin with.
-fn run_of<S: CodedSpace>(space: &S, part: Part, off: u64, left: u64) -> Run
-    requires sound { IsSound (S.NodeSpace.table space.now) }
-    requires true_records { HasTrueRecords (S.NodeSpace.table space.now) }
-    requires part { IsPart (S.NodeSpace.table space.now) part }
+fn run_of<S: CountedSpace<L>, L: Ledger>(
+    space: &S,
+    part: Part,
+    off: u64,
+    left: u64,
+    count: &mut Count<L>,
+) -> Run
+    requires sound { IsSound (S.table space.now) }
+    requires true_records { HasTrueRecords (S.table space.now) }
+    requires part { IsPart (S.table space.now) part }
     requires some { 1 ≤ left }
     requires inside { off + left ≤ part_len part }
-    ensures { IsRunOf (S.NodeSpace.table space.now) part off left result }
+    ensures run { IsRunOf (S.table space.now) part off left result }
+    ensures few { count.new ≤ count.old + 66 }
 {
     match part {
         Part::Old { rope, i, n: _ } => match rope {
@@ -45,8 +54,9 @@ fn run_of<S: CodedSpace>(space: &S, part: Part, off: u64, left: u64) -> Run
                         start: i + off,
                         len: left,
                     },
+                    count,
                 );
-                match describe_leaf(space, z.span.node, z.view, z.span.start) {
+                match describe(space, z.span.node, z.view, z.span.start, count) {
                     None => unreachable!(),
                     Some(what) => Run {
                         what,
@@ -74,14 +84,14 @@ fn run_of<S: CodedSpace>(space: &S, part: Part, off: u64, left: u64) -> Run
 }
 
 /// The bytes of the pool from place `a` on.
-fn fill_pool<S: NodeSpace>(space: &S, a: u64, buffer: &mut [u8])
+fn fill_pool<S: CountedSpace<L>, L: Ledger>(space: &S, a: u64, buffer: &mut [u8])
     requires { a + length buffer.old ≤ length (S.table space.now).pool }
     ensures { buffer.new ≡ take (length buffer.old) (drop a (S.table space.now).pool) }
 {
-    let _limit = space.pool_len();
+    let _limit = space.pool_length();
     let mut done = 0;
     while done < buffer.len() {
-        let piece = space.pool(a + done as u64);
+        let piece = space.pool_from(a + done as u64);
         let n = piece.len().min(buffer.len() - done);
         buffer[done..done + n].copy_from_slice(&piece[..n]);
         done += n;
@@ -89,7 +99,7 @@ fn fill_pool<S: NodeSpace>(space: &S, a: u64, buffer: &mut [u8])
 }
 
 /// The bytes of a description.
-fn fill_described<S: NodeSpace, T: Sources>(
+fn fill_described<S: CountedSpace<L>, T: Sources, L: Ledger>(
     space: &S,
     sources: &mut T,
     what: Description,
@@ -98,14 +108,14 @@ fn fill_described<S: NodeSpace, T: Sources>(
     requires some { 1 ≤ length buffer.old }
     requires room { HasRoom (S.table space.now) (length buffer.old) what }
     ensures length { length buffer.new ≡ length buffer.old }
-    ensures bytes { OnOk result (AreBytesOf (T.stated sources.old)
+    ensures bytes { OnOk result (AreBytesOf (T.reading sources.old).stated
         (described_cells (S.table space.now) (length buffer.old) what) buffer.new) }
-    ensures reads { ReadsCells T.stated T.failures sources.old sources.new
+    ensures reads { ReadsCells (T.reading sources.old) (T.reading sources.new)
         (described_cells (S.table space.now) (length buffer.old) what) result }
 {
     match what {
         Description::Pooled { a } => {
-            fill_pool(space, a, buffer);
+            fill_pool::<S, L>(space, a, buffer);
             Ok(())
         }
         Description::Sourced { s, a } => fill_source(sources, s, a, buffer),
@@ -124,7 +134,7 @@ fn is_same(bytes: &[u8], others: &[u8]) -> bool
 }
 
 /// Whether bytes of two descriptions are the same, as many as both buffers take.
-fn same_described<S: NodeSpace, T: Sources>(
+fn same_described<S: CountedSpace<L>, T: Sources, L: Ledger>(
     space: &S,
     sources: &mut T,
     what: Description,
@@ -136,20 +146,20 @@ fn same_described<S: NodeSpace, T: Sources>(
     requires len { length others.old ≡ length bytes.old }
     requires room { HasRoom (S.table space.now) (length bytes.old) what }
     requires other_room { HasRoom (S.table space.now) (length bytes.old) other }
-    ensures same { IfOk result (TellsSame (T.stated sources.old)
+    ensures same { IfOk result (TellsSame (T.reading sources.old).stated
         (described_cells (S.table space.now) (length bytes.old) what)
         (described_cells (S.table space.now) (length bytes.old) other)) }
-    ensures reads { ReadsCells T.stated T.failures sources.old sources.new
+    ensures reads { ReadsCells (T.reading sources.old) (T.reading sources.new)
         (described_cells (S.table space.now) (length bytes.old) what
         ++ described_cells (S.table space.now) (length bytes.old) other) result }
 {
-    fill_described(space, sources, what, bytes)?;
-    fill_described(space, sources, other, others)?;
+    fill_described::<S, T, L>(space, sources, what, bytes)?;
+    fill_described::<S, T, L>(space, sources, other, others)?;
     Ok(is_same(bytes, others))
 }
 
 /// Whether `len` bytes of two parts are the same: in turns, one descent at each side.
-pub fn same_bytes<S: CodedSpace, T: Sources>(
+pub fn same_bytes<S: CountedSpace<L>, T: Sources, L: Ledger>(
     space: &S,
     sources: &mut T,
     part: Part,
@@ -157,28 +167,30 @@ pub fn same_bytes<S: CodedSpace, T: Sources>(
     other: Part,
     place: u64,
     len: u64,
+    count: &mut Count<L>,
 ) -> Result<bool, SourceFault>
-    requires sound { IsSound (S.NodeSpace.table space.now) }
-    requires true_records { HasTrueRecords (S.NodeSpace.table space.now) }
-    requires part { IsPart (S.NodeSpace.table space.now) part }
-    requires other { IsPart (S.NodeSpace.table space.now) other }
+    requires sound { IsSound (S.table space.now) }
+    requires true_records { HasTrueRecords (S.table space.now) }
+    requires part { IsPart (S.table space.now) part }
+    requires other { IsPart (S.table space.now) other }
     requires inside { off + len ≤ part_len part }
     requires other_inside { place + len ≤ part_len other }
-    ensures same { IfOk result (TellsSame (T.stated sources.old)
-        (take len (drop off (part_cells (S.NodeSpace.table space.now) part)))
-        (take len (drop place (part_cells (S.NodeSpace.table space.now) other)))) }
-    ensures reads { ReadsCells T.stated T.failures sources.old sources.new
-        (take len (drop off (part_cells (S.NodeSpace.table space.now) part))
-        ++ take len (drop place (part_cells (S.NodeSpace.table space.now) other))) result }
+    ensures same { IfOk result (TellsSame (T.reading sources.old).stated
+        (take len (drop off (part_cells (S.table space.now) part)))
+        (take len (drop place (part_cells (S.table space.now) other)))) }
+    ensures reads { ReadsCells (T.reading sources.old) (T.reading sources.new)
+        (take len (drop off (part_cells (S.table space.now) part))
+        ++ take len (drop place (part_cells (S.table space.now) other))) result }
+    ensures few { count.new ≤ count.old + LOOKS_LIMIT * len }
 {
     let mut bytes = [0; BUFFER];
     let mut others = [0; BUFFER];
     let mut done = 0;
     while done < len {
-        let a = run_of(space, part, off + done, len - done);
-        let b = run_of(space, other, place + done, len - done);
+        let a = run_of(space, part, off + done, len - done, count);
+        let b = run_of(space, other, place + done, len - done, count);
         let n = a.len.min(b.len).min(BUFFER as u64) as usize;
-        match same_described(
+        match same_described::<S, T, L>(
             space,
             sources,
             a.what,

@@ -32,3 +32,6 @@ pub const BACK: u8 = 10;
 
 /// `Balance`.
 pub const BALANCE: u8 = 11;
+
+/// `Many`.
+pub const MANY: u8 = 12;

@@ -1,22 +1,34 @@
 //! Rows tested against the parts of a command and its root.
 
-ghost use Rattle.std.specs.Prelude.{◌≡◌, ◌+◌, ◌<◌, ◌≤◌, ◌↔◌, Some, Ok, IsTrue, IfOk, IfErr};
+ghost use Rattle.std.specs.Prelude.{◌≡◌, ◌+◌, ◌*◌, ◌<◌, ◌≤◌, ◌↔◌, List, None, Ok, IsTrue, IfOk, IfErr};
+ghost use Rattle.std.specs.Option.{ForSome};
 ghost use Rattle.rope_node.specs.Table.{IsSound, HasTrueRecords};
 ghost use Rattle.rope_node.specs.Denotes.{rope_len, IsRope};
-ghost use Rattle.span_certificate.specs.Parts.{part_at, part_len, parts_len, IsPart, AreParts};
+ghost use Rattle.span_certificate.specs.declared.part.Part.{Part};
+ghost use Rattle.span_certificate.specs.Parts.{part_at, part_len, IsPart, AreParts};
+ghost use Rattle.span_certificate.specs.Places.{held, len_here};
 ghost use Rattle.span_certificate.specs.Covers.{HaveOneDescription, kind_compares, row_compares};
 ghost use Rattle.span_certificate.specs.Runs.{ReadsCells};
-ghost use Rattle.span_certificate.specs.Verdicts.{MayBeRead, ReadsRows, ShowsSame, TellsKind, TellsRow, TellsRows};
+ghost use Rattle.span_certificate.specs.Looks.{BeginsCount, row_bytes, most_looks};
+ghost use Rattle.span_certificate.specs.Verdicts.{IsAskedFor, MayBeRead, ShowsSame, TellsKind, TellsRow, TellsRows};
+ghost use Rattle.lazy_file.specs.Readings.{fault_in, Reads};
 ghost use Rattle.span_certificate.specs.declared.row.RowKind.TheVariants.{Bytes};
+ghost use Rattle.span_certificate.specs.declared.looks.TheConstants.{LOOKS_LIMIT};
 ghost use Rattle.span_certificate.specs.declared.walk.TheConstants.{BYTES_LIMIT};
 
 use crate::bytes::same_bytes;
-use crate::exact::{describe_part, part_leads};
-use crate::part::{Part, part_at};
+use crate::exact::{describe_span, part_leads};
+use crate::looks::{Count, CountedSpace, Looks};
+use crate::part::Part;
+use crate::part_iter::PartIter;
+use crate::place::PartPlace;
 use crate::row::{Row, RowKind, Rows};
+use crate::splices::Splices;
 use crate::walk::BYTES_LIMIT;
 use lazy_file::{SourceFault, Sources};
-use rope_node::{CodedSpace, NodeSpace, Rope, rope_len};
+use rope_node::{CodedSpace, Rope};
+use std::marker::Brand;
+use std::sync::ledger::{Blank, Ledger};
 
 /// What verifying found.
 #[derive(Clone, Copy, Debug, PartialEq, Eq)]
@@ -29,26 +41,28 @@ pub enum Verdict {
 }
 
 /// Whether two spans of parts have one description.
-fn same_leaf<S: CodedSpace>(
+fn same_leaf<S: CountedSpace<L>, L: Ledger>(
     space: &S,
     part: Part,
     off: u64,
     other: Part,
     place: u64,
     len: u64,
+    count: &mut Count<L>,
 ) -> bool
-    requires sound { IsSound (S.NodeSpace.table space.now) }
-    requires part { IsPart (S.NodeSpace.table space.now) part }
-    requires other { IsPart (S.NodeSpace.table space.now) other }
+    requires sound { IsSound (S.table space.now) }
+    requires part { IsPart (S.table space.now) part }
+    requires other { IsPart (S.table space.now) other }
     requires not_empty { 1 ≤ len }
     requires inside { off + len ≤ part_len part }
     requires other_inside { place + len ≤ part_len other }
-    ensures { IsTrue result ↔ HaveOneDescription
-        (S.NodeSpace.table space.now) (S.coded space.now) len part off other place }
+    ensures same { IsTrue result ↔ HaveOneDescription
+        (S.table space.now) (S.coded space.now) len part off other place }
+    ensures few { count.new ≤ count.old + LOOKS_LIMIT }
 {
     match (
-        describe_part(space, part, off, len),
-        describe_part(space, other, place, len),
+        describe_span(space, part, off, len, count),
+        describe_span(space, other, place, len, count),
     ) {
         (Some(d), Some(e)) => d.is_same(e),
         _ => false,
@@ -57,7 +71,7 @@ fn same_leaf<S: CodedSpace>(
 
 /// Whether a row of this kind fits: its `len` bytes are those of `part` from `off` on and those of
 /// `root` from `place` on.
-fn kind_fits<S: CodedSpace, T: Sources>(
+fn kind_fits<S: CountedSpace<L>, T: Sources, L: Ledger>(
     space: &S,
     sources: &mut T,
     part: Part,
@@ -65,91 +79,194 @@ fn kind_fits<S: CodedSpace, T: Sources>(
     root: Rope,
     place: u64,
     row: Row,
+    count: &mut Count<L>,
 ) -> Result<bool, SourceFault>
-    requires sound { IsSound (S.NodeSpace.table space.now) }
-    requires true_records { HasTrueRecords (S.NodeSpace.table space.now) }
-    requires part { IsPart (S.NodeSpace.table space.now) part }
+    requires sound { IsSound (S.table space.now) }
+    requires true_records { HasTrueRecords (S.table space.now) }
+    requires part { IsPart (S.table space.now) part }
     requires inside_part { off + row.len ≤ part_len part }
-    requires root { IsRope (S.NodeSpace.table space.now) root }
-    requires inside_root { place + row.len ≤ rope_len (S.NodeSpace.table space.now) root }
+    requires root { IsRope (S.table space.now) root }
+    requires inside_root { place + row.len ≤ rope_len (S.table space.now) root }
     requires not_empty { 1 ≤ row.len }
-    ensures fits { IfOk result (TellsKind (S.NodeSpace.table space.now) (S.coded space.now)
-        (T.stated sources.old) part off root place row) }
-    ensures reads { ReadsCells T.stated T.failures sources.old sources.new
-        (kind_compares (S.NodeSpace.table space.now) part off root place row) result }
+    ensures fits { IfOk result (TellsKind (S.table space.now) (S.coded space.now)
+        (T.reading sources.old).stated part off root place row) }
+    ensures reads { ReadsCells (T.reading sources.old) (T.reading sources.new)
+        (kind_compares (S.table space.now) part off root place row) result }
     ensures few { IfErr result (λ _. (row.kind ≡ Bytes) × (row.len ≤ BYTES_LIMIT)) }
+    ensures looks { count.new ≤ count.old + LOOKS_LIMIT + LOOKS_LIMIT * row_bytes row }
 {
     let other = Part::Old {
         rope: root,
         i: 0,
-        n: rope_len(space, root),
+        n: space.length(root),
     };
     match row.kind {
         RowKind::Shared(node, at) => Ok(
-            part_leads(space, part, off, row.len, node, at)
-                && part_leads(space, other, place, row.len, node, at),
+            part_leads(space, part, off, row.len, node, at, count)
+                && part_leads(space, other, place, row.len, node, at, count),
         ),
-        RowKind::Leaf => Ok(same_leaf(space, part, off, other, place, row.len)),
+        RowKind::Leaf => Ok(same_leaf(space, part, off, other, place, row.len, count)),
         RowKind::Bytes => {
             if row.len > BYTES_LIMIT {
                 return Ok(false);
             }
-            same_bytes(space, sources, part, off, other, place, row.len)
+            same_bytes(space, sources, part, off, other, place, row.len, count)
         }
     }
 }
 
-/// Whether a row that stands at `place` fits.
-fn row_fits<S: CodedSpace, T: Sources>(
+/// Whether a row fits that stands at `place`, where `part` holds it, or none does.
+fn row_fits<S: CountedSpace<L>, T: Sources, L: Ledger>(
     space: &S,
     sources: &mut T,
-    parts: &[Part],
+    part: Option<Part>,
+    off: u64,
     root: Rope,
     place: u64,
     row: Row,
+    count: &mut Count<L>,
 ) -> Result<bool, SourceFault>
-    requires sound { IsSound (S.NodeSpace.table space.now) }
-    requires true_records { HasTrueRecords (S.NodeSpace.table space.now) }
-    requires parts { AreParts (S.NodeSpace.table space.now) parts.now }
-    requires root { IsRope (S.NodeSpace.table space.now) root }
-    requires place { place ≤ rope_len (S.NodeSpace.table space.now) root }
-    ensures fits { IfOk result (TellsRow (S.NodeSpace.table space.now) (S.coded space.now)
-        (T.stated sources.old) parts.now root place row) }
+    requires sound { IsSound (S.table space.now) }
+    requires true_records { HasTrueRecords (S.table space.now) }
+    requires part { ForSome part (λ p. IsPart (S.table space.now) p × (off < part_len p)) }
+    requires root { IsRope (S.table space.now) root }
+    requires place { place ≤ rope_len (S.table space.now) root }
+    ensures fits { (parts : List Part) → AreParts (S.table space.now) parts
+        → part_at parts place ≡ held part off
+        → IfOk result (TellsRow (S.table space.now) (S.coded space.now)
+        (T.reading sources.old).stated parts root place row) }
     ensures inside { IfOk result (λ yes. IsTrue yes
-        → (place + row.len ≤ rope_len (S.NodeSpace.table space.now) root)
-        × (place + row.len ≤ parts_len parts.now)) }
-    ensures reads { ReadsCells T.stated T.failures sources.old sources.new
-        (row_compares (S.NodeSpace.table space.now) parts.now root place row) result }
-    ensures may_be_read { IfErr result (λ _.
-        MayBeRead (S.NodeSpace.table space.now) parts.now root place row) }
+        → (place + row.len ≤ rope_len (S.table space.now) root)
+        × (off + row.len ≤ len_here part)) }
+    ensures reads { (parts : List Part) → AreParts (S.table space.now) parts
+        → part_at parts place ≡ held part off
+        → ReadsCells (T.reading sources.old) (T.reading sources.new)
+        (row_compares (S.table space.now) parts root place row) result }
+    ensures may_be_read { (parts : List Part) → part_at parts place ≡ held part off
+        → IfErr result (λ _. MayBeRead (S.table space.now) parts root place row) }
+    ensures looks { count.new ≤ count.old + LOOKS_LIMIT + LOOKS_LIMIT * row_bytes row }
 {
-    match part_at(parts, place) {
+    match part {
         None => Ok(false),
-        Some((part, off)) => {
+        Some(part) => {
             let part_left = part.len() - off;
-            let root_left = rope_len(space, root) - place;
+            let root_left = space.length(root) - place;
             if row.len == 0 || row.len > part_left || row.len > root_left {
                 return Ok(false);
             }
-            kind_fits(space, sources, part, off, root, place, row)
+            kind_fits(space, sources, part, off, root, place, row, count)
         }
     }
 }
 
-/// Whether rows that end at `place` leave nothing uncovered.
-fn is_whole<S: NodeSpace>(space: &S, parts: &[Part], root: Rope, place: u64) -> bool
-    requires sound { IsSound (S.table space.now) }
-    requires true_records { HasTrueRecords (S.table space.now) }
-    requires parts { AreParts (S.table space.now) parts.now }
-    requires root { IsRope (S.table space.now) root }
-    requires inside { place ≤ parts_len parts.now }
-    ensures { IsTrue result
-        ↔ ((place ≡ rope_len (S.table space.now) root) × (place ≡ parts_len parts.now)) }
+/// Whether rows that end at `place` leave nothing uncovered, where `part` holds it, or none does.
+fn is_whole<S: CountedSpace<L>, L: Ledger>(
+    space: &S,
+    part: Option<Part>,
+    root: Rope,
+    place: u64,
+) -> bool
+    requires { IsRope (S.table space.now) root }
+    ensures { IsTrue result ↔ ((place ≡ rope_len (S.table space.now) root) × (part ≡ None)) }
 {
-    match part_at(parts, place) {
-        None => place == rope_len(space, root),
-        Some(_) => false,
+    part.is_none() && place == space.length(root)
+}
+
+/// The same, with each look counted.
+fn verify_rows<S: CountedSpace<L>, T: Sources, P: Splices, R: Rows, L: Ledger>(
+    space: &S,
+    sources: &mut T,
+    parts: PartIter<'_, P>,
+    root: Rope,
+    rows: &R,
+    count: &mut Count<L>,
+) -> Result<Verdict, SourceFault>
+    requires parts { AreParts (S.table space.now) parts }
+    requires root { IsRope (S.table space.now) root }
+    ensures exact { IfOk result (TellsRows (S.table space.now) (S.coded space.now)
+        (T.reading sources.old).stated parts.entry root (R.listed rows.now)) }
+    ensures shows { result ≡ Ok Verdict.Good → ShowsSame
+        (S.table space.now) parts.entry root (R.listed rows.now) }
+    ensures reads { Reads (T.reading sources.old) (T.reading sources.new)
+        (IsAskedFor (S.table space.now) (S.coded space.now)
+        (T.reading sources.old).stated parts.entry root (R.listed rows.now)) (fault_in result) }
+    ensures looks { count.new ≤ count.old + most_looks (R.listed rows.now) }
+{
+    // The space is sound, as each of its calls says.
+    let _nodes = space.node_count();
+    let mut at = PartPlace::start(parts);
+    let mut place = 0;
+    for j in 0..rows.count() {
+        let row = rows.row(j);
+        match row_fits(space, sources, at.part, at.off, root, place, row, count) {
+            Err(fault) => return Err(fault),
+            Ok(false) => return Ok(Verdict::Bad(j)),
+            Ok(true) => {
+                place += row.len;
+                at.skip(row.len);
+            }
+        }
     }
+    if is_whole::<S, L>(space, at.part, root, place) {
+        Ok(Verdict::Good)
+    } else {
+        Ok(Verdict::Bad(rows.count()))
+    }
+}
+
+/// Whether the rows cover the parts of a command and a root, as `verify` tells it, by looks at the space.
+/// They are at most `LOOKS_LIMIT` for each of the rows, and as many for each byte of those that compare bytes, counted up to
+/// `BYTES_LIMIT`.
+///
+/// # Errors
+///
+/// As those of `verify`.
+pub fn verify_counted<S: CountedSpace<L>, T: Sources, P: Splices, R: Rows, L: Ledger>(
+    looks: &mut Looks<'_, '_, S, L>,
+    sources: &mut T,
+    parts: PartIter<'_, P>,
+    root: Rope,
+    rows: &R,
+) -> Result<Verdict, SourceFault>
+    requires parts { AreParts (S.table looks.old.space.now) parts }
+    requires root { IsRope (S.table looks.old.space.now) root }
+    ensures exact { IfOk result (TellsRows (S.table looks.old.space.now)
+        (S.coded looks.old.space.now) (T.reading sources.old).stated parts.entry root (R.listed rows.now)) }
+    ensures shows { result ≡ Ok Verdict.Good → ShowsSame
+        (S.table looks.old.space.now) parts.entry root (R.listed rows.now) }
+    ensures reads { Reads (T.reading sources.old) (T.reading sources.new)
+        (IsAskedFor (S.table looks.old.space.now) (S.coded looks.old.space.now)
+        (T.reading sources.old).stated parts.entry root (R.listed rows.now)) (fault_in result) }
+    ensures looks { looks.new.count.now ≤ looks.old.count.now + most_looks (R.listed rows.now) }
+    ensures space { looks.new.space.now ≡ looks.old.space.now }
+    ensures same_reference { looks.new.count.ghost_name ≡ looks.old.count.ghost_name }
+{
+    verify_rows(looks.space, sources, parts, root, rows, &mut *looks.count)
+}
+
+/// The same over a space, with a count that begins here.
+fn verify_with<S: CodedSpace, T: Sources, P: Splices, R: Rows, L: Ledger>(
+    space: &S,
+    sources: &mut T,
+    parts: PartIter<'_, P>,
+    root: Rope,
+    rows: &R,
+    blank: Blank,
+) -> Result<Verdict, SourceFault>
+    requires parts { AreParts (S.NodeSpace.table space.now) parts }
+    requires root { IsRope (S.NodeSpace.table space.now) root }
+    requires blank { BeginsCount L.name L.parts blank.name blank.parts }
+    ensures exact { IfOk result (TellsRows (S.NodeSpace.table space.now) (S.coded space.now)
+        (T.reading sources.old).stated parts.entry root (R.listed rows.now)) }
+    ensures shows { result ≡ Ok Verdict.Good → ShowsSame
+        (S.NodeSpace.table space.now) parts.entry root (R.listed rows.now) }
+    ensures reads { Reads (T.reading sources.old) (T.reading sources.new)
+        (IsAskedFor (S.NodeSpace.table space.now) (S.coded space.now)
+        (T.reading sources.old).stated parts.entry root (R.listed rows.now)) (fault_in result) }
+{
+    let mut count = Count::<L>::new(blank);
+    let mut looks = Looks::over(space, &mut count);
+    verify_counted(&mut looks, sources, parts, root, rows)
 }
 
 /// Whether the rows cover the parts of a command and a root, each row at its place. It takes no memory
@@ -159,37 +276,22 @@ fn is_whole<S: NodeSpace>(space: &S, parts: &[Part], root: Rope, place: u64) -> 
 ///
 /// A source's fault, where a read for a row of bytes over that source failed and all rows before it
 /// fit. No source is read for a row that is empty, too long, or passes the end of its part or of the root.
-pub fn verify<S: CodedSpace, T: Sources, R: Rows>(
+pub fn verify<S: CodedSpace, T: Sources, P: Splices, R: Rows>(
     space: &S,
     sources: &mut T,
-    parts: &[Part],
+    parts: PartIter<'_, P>,
     root: Rope,
     rows: &R,
 ) -> Result<Verdict, SourceFault>
-    requires parts { AreParts (S.NodeSpace.table space.now) parts.now }
+    requires parts { AreParts (S.NodeSpace.table space.now) parts }
     requires root { IsRope (S.NodeSpace.table space.now) root }
     ensures exact { IfOk result (TellsRows (S.NodeSpace.table space.now) (S.coded space.now)
-        (T.stated sources.old) parts.now root (R.listed rows.now)) }
+        (T.reading sources.old).stated parts.entry root (R.listed rows.now)) }
     ensures shows { result ≡ Ok Verdict.Good → ShowsSame
-        (S.NodeSpace.table space.now) (T.stated sources.old) parts.now root (R.listed rows.now) }
-    ensures reads { ReadsRows T.stated T.failures sources.old sources.new
-        (S.NodeSpace.table space.now) (S.coded space.now)
-        parts.now root (R.listed rows.now) result }
+        (S.NodeSpace.table space.now) parts.entry root (R.listed rows.now) }
+    ensures reads { Reads (T.reading sources.old) (T.reading sources.new)
+        (IsAskedFor (S.NodeSpace.table space.now) (S.coded space.now)
+        (T.reading sources.old).stated parts.entry root (R.listed rows.now)) (fault_in result) }
 {
-    // The space is sound, as each of its calls says.
-    let _nodes = space.count();
-    let mut place = 0;
-    for j in 0..rows.count() {
-        let row = rows.row(j);
-        match row_fits(space, sources, parts, root, place, row) {
-            Err(fault) => return Err(fault),
-            Ok(false) => return Ok(Verdict::Bad(j)),
-            Ok(true) => place += row.len,
-        }
-    }
-    if is_whole(space, parts, root, place) {
-        Ok(Verdict::Good)
-    } else {
-        Ok(Verdict::Bad(rows.count()))
-    }
+    verify_with::<S, T, P, R, Brand>(space, sources, parts, root, rows, Blank::new(1))
 }

@@ -2,10 +2,14 @@
 
 ghost use Rattle.std.specs.Prelude.{◌≡◌, ◌+◌, ◌<◌, ◌≤◌, ◌↔◌, length, IfSome, IsTrue};
 ghost use Rattle.rope_node.specs.Table.{view_at, len_at, IsSound};
+ghost use Rattle.span_certificate.specs.Looks.{BeginsCount};
 ghost use Rattle.span_certificate.specs.Leads.{coded_description, leaf_description, Describes};
 
+use crate::looks::{Count, CountedSpace};
 use function_leaf::{Coded, LeafFn};
 use rope_node::{CodedSpace, NodeId, NodeView};
+use std::marker::Brand;
+use std::sync::ledger::{Blank, Ledger};
 
 /// Two leaf spans of one length and one description have the same bytes.
 #[derive(Clone, Copy, Debug, PartialEq, Eq)]
@@ -21,6 +25,7 @@ pub enum Description {
 
 impl Description {
     /// Whether the two are one description.
+    #[inline(always)]
     pub fn is_same(self, other: Description) -> bool
         ensures { IsTrue result ↔ (self ≡ other) }
     {
@@ -52,6 +57,50 @@ fn describe_function(f: Coded, start: u64) -> Description
     }
 }
 
+/// What the span of a leaf from `start` on is, where `view` is what the leaf is; of no leaf, nothing. It
+/// costs at most one look.
+pub fn describe<S: CountedSpace<L>, L: Ledger>(
+    space: &S,
+    leaf: NodeId,
+    view: NodeView,
+    start: u64,
+    count: &mut Count<L>,
+) -> Option<Description>
+    requires sound { IsSound (S.table space.now) }
+    requires there { leaf.0 < length (S.table space.now).nodes }
+    requires inside { start ≤ len_at (S.table space.now) leaf.0 }
+    requires view { view ≡ view_at (S.table space.now) leaf.0 }
+    ensures value { result ≡ leaf_description (S.coded space.now leaf.0) start view }
+    ensures describes { IfSome result (Describes (S.table space.now) leaf.0 start) }
+    ensures few { count.new ≤ count.old + 1 }
+{
+    match view {
+        NodeView::Lit { a } => Some(Description::Pooled { a: a + start }),
+        NodeView::Src { s, a } => Some(Description::Sourced { s, a: a + start }),
+        NodeView::Fun => Some(describe_function(space.look_coded(leaf, count), start)),
+        NodeView::Cat { .. } | NodeView::Sub { .. } => None,
+    }
+}
+
+/// The same with a count that begins here.
+fn describe_with<S: CodedSpace, L: Ledger>(
+    space: &S,
+    leaf: NodeId,
+    view: NodeView,
+    start: u64,
+    blank: Blank,
+) -> Option<Description>
+    requires sound { IsSound (S.NodeSpace.table space.now) }
+    requires there { leaf.0 < length (S.NodeSpace.table space.now).nodes }
+    requires inside { start ≤ len_at (S.NodeSpace.table space.now) leaf.0 }
+    requires view { view ≡ view_at (S.NodeSpace.table space.now) leaf.0 }
+    requires blank { BeginsCount L.name L.parts blank.name blank.parts }
+    ensures value { result ≡ leaf_description (S.coded space.now leaf.0) start view }
+    ensures describes { IfSome result (Describes (S.NodeSpace.table space.now) leaf.0 start) }
+{
+    describe(space, leaf, view, start, &mut Count::<L>::new(blank))
+}
+
 /// What the span of a leaf from `start` on is, where `view` is what the leaf is; of no leaf, nothing.
 pub fn describe_leaf<S: CodedSpace>(
     space: &S,
@@ -66,10 +115,5 @@ pub fn describe_leaf<S: CodedSpace>(
     ensures value { result ≡ leaf_description (S.coded space.now leaf.0) start view }
     ensures describes { IfSome result (Describes (S.NodeSpace.table space.now) leaf.0 start) }
 {
-    match view {
-        NodeView::Lit { a } => Some(Description::Pooled { a: a + start }),
-        NodeView::Src { s, a } => Some(Description::Sourced { s, a: a + start }),
-        NodeView::Fun => Some(describe_function(space.coded(leaf), start)),
-        NodeView::Cat { .. } | NodeView::Sub { .. } => None,
-    }
+    describe_with::<S, Brand>(space, leaf, view, start, Blank::new(1))
 }

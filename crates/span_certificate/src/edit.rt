@@ -3,6 +3,21 @@
 /// The most revisions of a session.
 pub const MOST_REVISIONS: u32 = 1 << 20;
 
+/// The most splices of a command.
+pub const MOST_SPLICES: u32 = 4096;
+
+/// The most splices of a session.
+pub const SPLICES_LIMIT: usize = 1 << 24;
+
+/// The `n` bytes of the pool from `a` on, to stand in place of the `m` bytes of a text from place `p` on.
+#[derive(Clone, Copy, Debug, PartialEq, Eq)]
+pub struct Splice {
+    pub p: u64,
+    pub m: u64,
+    pub a: u64,
+    pub n: u64,
+}
+
 /// A command that makes a revision. A revision is named by its number; places and lengths are in
 /// bytes.
 #[derive(Clone, Copy, Debug, PartialEq, Eq)]
@@ -69,4 +84,26 @@ pub enum Edit {
     Balance {
         r: u32,
     },
+    /// The text of revision `r`, with each of `count` splices, the first of which stands at place `first` in the
+    /// list of all splices, put in place of what it names. All their places are those of that text.
+    Many {
+        r: u32,
+        first: u32,
+        count: u32,
+    },
+}
+
+impl Edit {
+    ghost use Rattle.std.specs.Prelude.{◌≡◌};
+    ghost use Rattle.span_certificate.specs.Fields.{splices_of};
+
+    /// How many splices the command has.
+    pub fn splice_count(self) -> u32
+        ensures { result ≡ splices_of self }
+    {
+        match self {
+            Edit::Many { count, .. } => count,
+            _ => 0,
+        }
+    }
 }

@@ -4,20 +4,32 @@ ghost use Rattle.std.specs.Prelude.{◌≡◌, ◌↔◌, ◌+◌, ◌<◌, ◌�
 ghost use Rattle.rope_node.specs.Table.{len_at, IsSound};
 ghost use Rattle.span_certificate.specs.Parts.{part_len, IsPart};
 ghost use Rattle.span_certificate.specs.Leads.{Leads, PartLeads, HasDescription, PartHasDescription};
+ghost use Rattle.span_certificate.specs.Looks.{BeginsCount};
 ghost use Rattle.span_certificate.specs.Steps.{IsSpan};
 ghost use Rattle.span_certificate.specs.declared.describe.Description.{Description};
 
 use crate::descent::leaf_span;
-use crate::describe::{Description, describe_leaf};
+use crate::describe::{Description, describe};
+use crate::looks::{Count, CountedSpace};
 use crate::part::Part;
 use crate::walk::Span;
 use function_leaf::Coded;
-use rope_node::{CodedSpace, NodeId, NodeSpace, NodeView};
+use rope_node::{CodedSpace, NodeId, NodeView};
+use std::marker::Brand;
+use std::sync::ledger::{Blank, Ledger};
 
 /// Whether a span leads to the bytes of a node from a place on.
-fn leads_to<S: NodeSpace>(space: &S, x: Span, node: NodeId, at: u64) -> bool
-    requires { IsSpan (S.table space.now) x }
-    ensures { IsTrue result ↔ Leads (S.table space.now) x.len node.0 at x.node.0 x.start }
+fn leads_to<S: CountedSpace<L>, L: Ledger>(
+    space: &S,
+    x: Span,
+    node: NodeId,
+    at: u64,
+    count: &mut Count<L>,
+) -> bool
+    requires sound { IsSound (S.table space.now) }
+    requires span { IsSpan (S.table space.now) x }
+    ensures leads { IsTrue result ↔ Leads (S.table space.now) x.len node.0 at x.node.0 x.start }
+    ensures few { count.new ≤ count.old + 65 }
 {
     let mut here = x.node;
     let mut start = x.start;
@@ -25,9 +37,9 @@ fn leads_to<S: NodeSpace>(space: &S, x: Span, node: NodeId, at: u64) -> bool
         if here.0 == node.0 && start == at {
             return true;
         }
-        match space.node(here) {
+        match space.look(here, count) {
             NodeView::Cat { l, r } => {
-                let left = space.len(l);
+                let left = space.node_len(l);
                 if left <= start {
                     here = r;
                     start -= left;
@@ -47,19 +59,21 @@ fn leads_to<S: NodeSpace>(space: &S, x: Span, node: NodeId, at: u64) -> bool
 }
 
 /// Whether the `len` bytes of a part from `off` on lead to the place `at` of a node.
-pub fn part_leads<S: NodeSpace>(
+pub fn part_leads<S: CountedSpace<L>, L: Ledger>(
     space: &S,
     part: Part,
     off: u64,
     len: u64,
     node: NodeId,
     at: u64,
+    count: &mut Count<L>,
 ) -> bool
     requires sound { IsSound (S.table space.now) }
     requires part { IsPart (S.table space.now) part }
     requires some { 1 ≤ len }
     requires inside { off + len ≤ part_len part }
-    ensures { IsTrue result ↔ PartLeads (S.table space.now) len node.0 at part off }
+    ensures leads { IsTrue result ↔ PartLeads (S.table space.now) len node.0 at part off }
+    ensures few { count.new ≤ count.old + 65 }
 {
     match part {
         Part::Old { rope, i, n: _ } => match rope {
@@ -72,6 +86,7 @@ pub fn part_leads<S: NodeSpace>(
                 },
                 node,
                 at,
+                count,
             ),
             None => false,
         },
@@ -81,23 +96,76 @@ pub fn part_leads<S: NodeSpace>(
 
 /// The description of the leaf span that the `len` bytes of `node` from `place` on lead to, or nothing
 /// where they lead to none.
-fn describe_node<S: CodedSpace>(
+#[inline(always)]
+fn describe_node<S: CountedSpace<L>, L: Ledger>(
     space: &S,
     node: NodeId,
     place: u64,
     len: u64,
+    count: &mut Count<L>,
+) -> Option<Description>
+    requires sound { IsSound (S.table space.now) }
+    requires there { node.0 < length (S.table space.now).nodes }
+    requires not_empty { 1 ≤ len }
+    requires inside { place + len ≤ len_at (S.table space.now) node.0 }
+    ensures value { (d : Description) → (result ≡ Some d) ↔ HasDescription
+        (S.table space.now) (S.coded space.now) len node.0 place d }
+    ensures few { count.new ≤ count.old + 66 }
+{
+    match leaf_span(space, node, place, len, count) {
+        None => None,
+        Some(span) => describe(space, span.leaf, span.view, span.start, count),
+    }
+}
+
+/// What the leaf span is that the `len` bytes of a part from `off` on lead to, where they lie in one.
+#[inline(always)]
+pub fn describe_span<S: CountedSpace<L>, L: Ledger>(
+    space: &S,
+    part: Part,
+    off: u64,
+    len: u64,
+    count: &mut Count<L>,
+) -> Option<Description>
+    requires sound { IsSound (S.table space.now) }
+    requires part { IsPart (S.table space.now) part }
+    requires not_empty { 1 ≤ len }
+    requires inside { off + len ≤ part_len part }
+    ensures value { (d : Description) → (result ≡ Some d) ↔ PartHasDescription
+        (S.table space.now) (S.coded space.now) len part off d }
+    ensures few { count.new ≤ count.old + 66 }
+{
+    match part {
+        Part::Old { rope, i, n: _ } => match rope {
+            None => None,
+            Some(node) => describe_node(space, node, i + off, len, count),
+        },
+        Part::Pool { a, n: _ } => Some(Description::Pooled { a: a + off }),
+        Part::Source { s, n: _ } => Some(Description::Sourced { s, a: off }),
+        Part::Fill { c, n: _ } => Some(Description::Computed {
+            f: Coded::Fill(c),
+            i: 0,
+        }),
+    }
+}
+
+/// The same with a count that begins here.
+fn describe_part_with<S: CodedSpace, L: Ledger>(
+    space: &S,
+    part: Part,
+    off: u64,
+    len: u64,
+    blank: Blank,
 ) -> Option<Description>
     requires sound { IsSound (S.NodeSpace.table space.now) }
-    requires there { node.0 < length (S.NodeSpace.table space.now).nodes }
+    requires part { IsPart (S.NodeSpace.table space.now) part }
     requires not_empty { 1 ≤ len }
-    requires inside { place + len ≤ len_at (S.NodeSpace.table space.now) node.0 }
-    ensures { (d : Description) → (result ≡ Some d) ↔ HasDescription
-        (S.NodeSpace.table space.now) (S.coded space.now) len node.0 place d }
+    requires inside { off + len ≤ part_len part }
+    requires blank { BeginsCount L.name L.parts blank.name blank.parts }
+    ensures { (d : Description) → (result ≡ Some d) ↔ PartHasDescription
+        (S.NodeSpace.table space.now) (S.coded space.now) len part off d }
 {
-    match leaf_span(space, node, place, len) {
-        None => None,
-        Some(span) => describe_leaf(space, span.leaf, span.view, span.start),
-    }
+    describe_span(space, part, off, len, &mut Count::<L>::new(blank))
 }
 
 /// What the leaf span is that the `len` bytes of a part from `off` on lead to, where they lie in one.
@@ -114,16 +182,5 @@ pub fn describe_part<S: CodedSpace>(
     ensures { (d : Description) → (result ≡ Some d) ↔ PartHasDescription
         (S.NodeSpace.table space.now) (S.coded space.now) len part off d }
 {
-    match part {
-        Part::Old { rope, i, n: _ } => match rope {
-            None => None,
-            Some(node) => describe_node(space, node, i + off, len),
-        },
-        Part::Pool { a, n: _ } => Some(Description::Pooled { a: a + off }),
-        Part::Source { s, n: _ } => Some(Description::Sourced { s, a: off }),
-        Part::Fill { c, n: _ } => Some(Description::Computed {
-            f: Coded::Fill(c),
-            i: 0,
-        }),
-    }
+    describe_part_with::<S, Brand>(space, part, off, len, Blank::new(1))
 }

@@ -6,15 +6,22 @@ ghost use Rattle.rope_node.specs.Denotes.{cells, rope_cells, IsRope};
 ghost use Rattle.span_certificate.specs.Parts.{part_at, part_len, part_cells, parts_cells, IsPart, AreParts};
 ghost use Rattle.span_certificate.specs.Covers.{CoversAlways, MeetsNoSource, IsCutShort};
 ghost use Rattle.span_certificate.specs.declared.making.TheConstants.{ROWS_LIMIT};
+ghost use Rattle.span_certificate.specs.Looks.{BeginsCount};
 ghost use Rattle.span_certificate.specs.Steps.{IsNext};
 
 use crate::describe::Description;
-use crate::part::{Part, part_at};
+use crate::looks::{Count, CountedSpace};
+use crate::part::Part;
+use crate::part_iter::PartIter;
+use crate::place::PartPlace;
 use crate::row::Row;
+use crate::splices::Splices;
 use crate::walk::{Span, next_leaf, next_old};
 use function_leaf::Coded;
 use rope_node::{CodedSpace, NodeId, NodeSpace, Rope};
 use std::alloc::Global;
+use std::marker::Brand;
+use std::sync::ledger::{Blank, Ledger};
 
 /// The most rows of an image.
 pub const ROWS_LIMIT: usize = 1 << 24;
@@ -29,24 +36,25 @@ pub enum MakeFault {
 }
 
 /// A row for the first of the next `left` bytes, where they have the same cells on both sides.
-fn next_row<S: CodedSpace>(
+fn next_row<S: CountedSpace<L>, L: Ledger>(
     space: &S,
     part: Part,
     off: u64,
     root: NodeId,
     place: u64,
     left: u64,
+    count: &mut Count<L>,
 ) -> Row
-    requires sound { IsSound (S.NodeSpace.table space.now) }
-    requires true_records { HasTrueRecords (S.NodeSpace.table space.now) }
-    requires part { IsPart (S.NodeSpace.table space.now) part }
+    requires sound { IsSound (S.table space.now) }
+    requires true_records { HasTrueRecords (S.table space.now) }
+    requires part { IsPart (S.table space.now) part }
     requires some { 1 ≤ left }
     requires inside_part { off + left ≤ part_len part }
-    requires there { root.0 < length (S.NodeSpace.table space.now).nodes }
-    requires inside_root { place + left ≤ len_at (S.NodeSpace.table space.now) root.0 }
-    requires same { take left (drop off (part_cells (S.NodeSpace.table space.now) part))
-        ≡ take left (drop place (cells (S.NodeSpace.table space.now) root.0)) }
-    ensures { IsNext (S.NodeSpace.table space.now) (S.coded space.now)
+    requires there { root.0 < length (S.table space.now).nodes }
+    requires inside_root { place + left ≤ len_at (S.table space.now) root.0 }
+    requires same { take left (drop off (part_cells (S.table space.now) part))
+        ≡ take left (drop place (cells (S.table space.now) root.0)) }
+    ensures { IsNext (S.table space.now) (S.coded space.now)
         part off root place left result }
 {
     let y = Span {
@@ -62,12 +70,12 @@ fn next_row<S: CodedSpace>(
                     start: i + off,
                     len: left,
                 };
-                next_old(space, x, y)
+                next_old(space, x, y, count)
             }
             None => unreachable!(),
         },
-        Part::Pool { a, n: _ } => next_leaf(space, Description::Pooled { a: a + off }, y),
-        Part::Source { s, n: _ } => next_leaf(space, Description::Sourced { s, a: off }, y),
+        Part::Pool { a, n: _ } => next_leaf(space, Description::Pooled { a: a + off }, y, count),
+        Part::Source { s, n: _ } => next_leaf(space, Description::Sourced { s, a: off }, y, count),
         Part::Fill { c, n: _ } => next_leaf(
             space,
             Description::Computed {
@@ -75,44 +83,58 @@ fn next_row<S: CodedSpace>(
                 i: 0,
             },
             y,
+            count,
         ),
     }
 }
 
 /// The rows for a root that is not nil.
-fn make_for<S: CodedSpace>(
+fn make_for<S: CodedSpace, P: Splices, L: Ledger>(
     alloc: Global,
     space: &S,
-    parts: &[Part],
+    parts: PartIter<'_, P>,
     root: NodeId,
+    blank: Blank,
 ) -> Result<Vec<Row>, MakeFault>
     requires sound { IsSound (S.NodeSpace.table space.now) }
     requires true_records { HasTrueRecords (S.NodeSpace.table space.now) }
-    requires parts { AreParts (S.NodeSpace.table space.now) parts.now }
+    requires parts { AreParts (S.NodeSpace.table space.now) parts }
     requires root { root.0 < length (S.NodeSpace.table space.now).nodes }
-    requires same { parts_cells (S.NodeSpace.table space.now) parts.now
+    requires same { parts_cells (S.NodeSpace.table space.now) parts
         ≡ cells (S.NodeSpace.table space.now) root.0 }
+    requires blank { BeginsCount L.name L.parts blank.name blank.parts }
     ensures covers { IfOk result (λ rows. CoversAlways
-        (S.NodeSpace.table space.now) (S.coded space.now) parts.now (Some root) rows.items) }
+        (S.NodeSpace.table space.now) (S.coded space.now) parts.entry (Some root) rows.items) }
     ensures no_source { IfOk result (λ rows. MeetsNoSource
-        (S.NodeSpace.table space.now) parts.now (Some root) rows.items) }
+        (S.NodeSpace.table space.now) parts.entry (Some root) rows.items) }
     ensures few { IfOk result (λ rows. length rows.items ≤ ROWS_LIMIT) }
     ensures too_many { IsErrOf result MakeFault.TooManyRows → IsCutShort
-        (S.NodeSpace.table space.now) (S.coded space.now) parts.now (Some root) }
+        (S.NodeSpace.table space.now) (S.coded space.now) parts.entry (Some root) }
 {
     let mut rows = Vec::new(alloc);
+    let mut count = Count::<L>::new(blank);
+    let mut at = PartPlace::start(parts);
     let mut place = 0;
     let end = space.len(root);
     while place < end {
         if rows.len() >= ROWS_LIMIT {
             return Err(MakeFault::TooManyRows);
         }
-        match part_at(parts, place) {
+        match at.part {
             None => unreachable!(),
-            Some((part, off)) => {
-                let row = next_row(space, part, off, root, place, part.len() - off);
+            Some(part) => {
+                let row = next_row(
+                    space,
+                    part,
+                    at.off,
+                    root,
+                    place,
+                    part.len() - at.off,
+                    &mut count,
+                );
                 rows.push(row).map_err(|_| MakeFault::Memory)?;
                 place += row.len;
+                at.skip(row.len);
             }
         }
     }
@@ -125,28 +147,28 @@ fn make_for<S: CodedSpace>(
 /// # Errors
 ///
 /// `TooManyRows` where 16,777,216 rows do not reach the end, and `Memory`.
-pub fn make<S: CodedSpace>(
+pub fn make<S: CodedSpace, P: Splices>(
     alloc: Global,
     space: &S,
-    parts: &[Part],
+    parts: PartIter<'_, P>,
     root: Rope,
 ) -> Result<Vec<Row>, MakeFault>
-    requires parts { AreParts (S.NodeSpace.table space.now) parts.now }
+    requires parts { AreParts (S.NodeSpace.table space.now) parts }
     requires root { IsRope (S.NodeSpace.table space.now) root }
-    requires same { parts_cells (S.NodeSpace.table space.now) parts.now
+    requires same { parts_cells (S.NodeSpace.table space.now) parts
         ≡ rope_cells (S.NodeSpace.table space.now) root }
     ensures covers { IfOk result (λ rows. CoversAlways
-        (S.NodeSpace.table space.now) (S.coded space.now) parts.now root rows.items) }
+        (S.NodeSpace.table space.now) (S.coded space.now) parts.entry root rows.items) }
     ensures no_source { IfOk result (λ rows. MeetsNoSource
-        (S.NodeSpace.table space.now) parts.now root rows.items) }
+        (S.NodeSpace.table space.now) parts.entry root rows.items) }
     ensures few { IfOk result (λ rows. length rows.items ≤ ROWS_LIMIT) }
     ensures too_many { IsErrOf result MakeFault.TooManyRows → IsCutShort
-        (S.NodeSpace.table space.now) (S.coded space.now) parts.now root }
+        (S.NodeSpace.table space.now) (S.coded space.now) parts.entry root }
 {
     // The space is sound, as each of its calls says.
     let _nodes = space.count();
     match root {
         None => Ok(Vec::new(alloc)),
-        Some(node) => make_for(alloc, space, parts, node),
+        Some(node) => make_for::<S, P, Brand>(alloc, space, parts, node, Blank::new(1)),
     }
 }

@@ -1,15 +1,17 @@
 //! The longest row that fits at a place.
 
-ghost use Rattle.std.specs.Prelude.{◌≡◌, ℕ, min, None, IfSome};
+ghost use Rattle.std.specs.Prelude.{◌≡◌, ℕ, ◌+◌, ◌≤◌, min, None, IfSome};
 ghost use Rattle.rope_node.specs.Table.{view_at, IsLeaf, IsSound, HasTrueRecords};
 ghost use Rattle.span_certificate.specs.Descents.{IsLeafOf};
 ghost use Rattle.span_certificate.specs.Steps.{IsSpan, IsBelow, span_cells, child_span, CellsAs, IsRowOf, IsDescribedRow};
 ghost use Rattle.span_certificate.specs.declared.walk.TheConstants.{BYTES_LIMIT};
 ghost use Rattle.rope_node.specs.declared.node.NodeId.{NodeId};
 
-use crate::describe::{Description, describe_leaf};
+use crate::describe::{Description, describe};
+use crate::looks::{Count, CountedSpace};
 use crate::row::{Row, RowKind};
-use rope_node::{CodedSpace, NodeId, NodeSpace, NodeView};
+use rope_node::{NodeId, NodeView};
+use std::sync::ledger::Ledger;
 
 /// The most bytes of a row that compares bytes.
 pub const BYTES_LIMIT: u64 = 4096;
@@ -45,7 +47,7 @@ pub struct Reached {
 
 /// Where the first bytes of a span lie in a child or a base of its node, which is `view`: as many of
 /// them as lie in one. A leaf has none.
-pub fn down<S: NodeSpace>(space: &S, x: Span, view: NodeView) -> Option<Span>
+pub fn down<S: CountedSpace<L>, L: Ledger>(space: &S, x: Span, view: NodeView) -> Option<Span>
     requires sound { IsSound (S.table space.now) }
     requires true_records { HasTrueRecords (S.table space.now) }
     requires span { IsSpan (S.table space.now) x }
@@ -56,7 +58,7 @@ pub fn down<S: NodeSpace>(space: &S, x: Span, view: NodeView) -> Option<Span>
 {
     match view {
         NodeView::Cat { l, r } => {
-            let left = space.len(l);
+            let left = space.node_len(l);
             if left <= x.start {
                 Some(Span {
                     node: r,
@@ -81,14 +83,15 @@ pub fn down<S: NodeSpace>(space: &S, x: Span, view: NodeView) -> Option<Span>
 }
 
 /// The leaf span that a span begins with, as far as it goes.
-pub fn leaf_of<S: NodeSpace>(space: &S, x: Span) -> Reached
+pub fn leaf_of<S: CountedSpace<L>, L: Ledger>(space: &S, x: Span, count: &mut Count<L>) -> Reached
     requires { IsSpan (S.table space.now) x }
-    ensures { IsLeafOf (S.table space.now) x result }
+    ensures leaf { IsLeafOf (S.table space.now) x result }
+    ensures few { count.new ≤ count.old + 65 }
 {
     let mut at = x;
     'down: loop {
-        let view = space.node(at.node);
-        match down(space, at, view) {
+        let view = space.look(at.node, count);
+        match down::<S, L>(space, at, view) {
             None => return Reached { span: at, view },
             Some(below) => at = below,
         }
@@ -96,18 +99,23 @@ pub fn leaf_of<S: NodeSpace>(space: &S, x: Span) -> Reached
 }
 
 /// The row for two leaf spans of one length and the same cells.
-fn leaf_row<S: CodedSpace>(space: &S, x: Reached, y: Reached) -> Row
-    requires sound { IsSound (S.NodeSpace.table space.now) }
-    requires x { IsLeafOf (S.NodeSpace.table space.now) x.span x }
-    requires y { IsLeafOf (S.NodeSpace.table space.now) y.span y }
+fn leaf_row<S: CountedSpace<L>, L: Ledger>(
+    space: &S,
+    x: Reached,
+    y: Reached,
+    count: &mut Count<L>,
+) -> Row
+    requires sound { IsSound (S.table space.now) }
+    requires x { IsLeafOf (S.table space.now) x.span x }
+    requires y { IsLeafOf (S.table space.now) y.span y }
     requires len { y.span.len ≡ x.span.len }
-    requires same { span_cells (S.NodeSpace.table space.now) x.span
-        ≡ span_cells (S.NodeSpace.table space.now) y.span }
-    ensures { IsRowOf (S.NodeSpace.table space.now) (S.coded space.now) x.span y.span result }
+    requires same { span_cells (S.table space.now) x.span
+        ≡ span_cells (S.table space.now) y.span }
+    ensures { IsRowOf (S.table space.now) (S.coded space.now) x.span y.span result }
 {
     match (
-        describe_leaf(space, x.span.node, x.view, x.span.start),
-        describe_leaf(space, y.span.node, y.view, y.span.start),
+        describe(space, x.span.node, x.view, x.span.start, count),
+        describe(space, y.span.node, y.view, y.span.start, count),
     ) {
         (Some(d), Some(e)) => described_row(d, e, x.span.len),
         _ => unreachable!(),
@@ -135,15 +143,20 @@ fn described_row(d: Description, e: Description, len: u64) -> Row
 
 /// A row for the first bytes of two spans of the same cells: over the first node that both lead to at
 /// one place, or over two leaf spans.
-pub fn next_old<S: CodedSpace>(space: &S, x: Span, y: Span) -> Row
-    requires sound { IsSound (S.NodeSpace.table space.now) }
-    requires true_records { HasTrueRecords (S.NodeSpace.table space.now) }
-    requires x { IsSpan (S.NodeSpace.table space.now) x }
-    requires y { IsSpan (S.NodeSpace.table space.now) y }
+pub fn next_old<S: CountedSpace<L>, L: Ledger>(
+    space: &S,
+    x: Span,
+    y: Span,
+    count: &mut Count<L>,
+) -> Row
+    requires sound { IsSound (S.table space.now) }
+    requires true_records { HasTrueRecords (S.table space.now) }
+    requires x { IsSpan (S.table space.now) x }
+    requires y { IsSpan (S.table space.now) y }
     requires len { y.len ≡ x.len }
-    requires same { span_cells (S.NodeSpace.table space.now) x
-        ≡ span_cells (S.NodeSpace.table space.now) y }
-    ensures { IsRowOf (S.NodeSpace.table space.now) (S.coded space.now) x y result }
+    requires same { span_cells (S.table space.now) x
+        ≡ span_cells (S.table space.now) y }
+    ensures { IsRowOf (S.table space.now) (S.coded space.now) x y result }
 {
     let mut a = x;
     let mut b = y;
@@ -154,9 +167,9 @@ pub fn next_old<S: CodedSpace>(space: &S, x: Span, y: Span) -> Row
                 kind: RowKind::Shared(a.node, a.start),
             };
         }
-        let of_a = space.node(a.node);
-        let of_b = space.node(b.node);
-        match (down(space, a, of_a), down(space, b, of_b)) {
+        let of_a = space.look(a.node, count);
+        let of_b = space.look(b.node, count);
+        match (down::<S, L>(space, a, of_a), down::<S, L>(space, b, of_b)) {
             (None, None) => {
                 let first = Reached {
                     span: a,
@@ -166,7 +179,7 @@ pub fn next_old<S: CodedSpace>(space: &S, x: Span, y: Span) -> Row
                     span: b,
                     view: of_b,
                 };
-                return leaf_row(space, first, second);
+                return leaf_row(space, first, second, count);
             }
             (Some(z), None) => {
                 a = z;
@@ -190,15 +203,20 @@ pub fn next_old<S: CodedSpace>(space: &S, x: Span, y: Span) -> Row
 }
 
 /// A row for the first bytes of a leaf span of this description and of a span of the same cells.
-pub fn next_leaf<S: CodedSpace>(space: &S, d: Description, y: Span) -> Row
-    requires sound { IsSound (S.NodeSpace.table space.now) }
-    requires true_records { HasTrueRecords (S.NodeSpace.table space.now) }
-    requires y { IsSpan (S.NodeSpace.table space.now) y }
-    requires same { CellsAs y.len d (span_cells (S.NodeSpace.table space.now) y) }
-    ensures { IsDescribedRow (S.NodeSpace.table space.now) (S.coded space.now) d y result }
+pub fn next_leaf<S: CountedSpace<L>, L: Ledger>(
+    space: &S,
+    d: Description,
+    y: Span,
+    count: &mut Count<L>,
+) -> Row
+    requires sound { IsSound (S.table space.now) }
+    requires true_records { HasTrueRecords (S.table space.now) }
+    requires y { IsSpan (S.table space.now) y }
+    requires same { CellsAs y.len d (span_cells (S.table space.now) y) }
+    ensures { IsDescribedRow (S.table space.now) (S.coded space.now) d y result }
 {
-    let z = leaf_of(space, y);
-    match describe_leaf(space, z.span.node, z.view, z.span.start) {
+    let z = leaf_of(space, y, count);
+    match describe(space, z.span.node, z.view, z.span.start, count) {
         Some(e) => described_row(d, e, z.span.len),
         None => unreachable!(),
     }

@@ -1,9 +1,9 @@
 //! Texts of 30,000 bytes in leaves of many sizes, searched and compared beside plain loops.
 
 use super::patterns::plain_find;
-use super::searches::joined;
+use super::searches::{cmp_parts, cmp_texts, find_in, places_in, put_to};
+use super::stores::{add_source, joined, literal, source_leaf};
 use super::{assert_same, assert_same_at};
-use cord_search::{chr, cmp, find, ncmp, put, rchr};
 use function_leaf::Coded;
 use lazy_file::MemSources;
 use rope_node::Rope;
@@ -70,11 +70,11 @@ fn cut_up(
         };
         let (piece, after) = rest.split_at(n);
         let leaf = if mixed && turn % 2 == 1 {
-            store.from_source(0, place, n as u64)
+            source_leaf(rt, store, 0, place, n as u64)
         } else {
-            store.from_bytes(piece)
+            literal(rt, store, piece)
         };
-        rope = joined(rt, store, rope, leaf.expect(rt, "a leaf"));
+        rope = joined(rt, store, rope, leaf);
         place = place.saturating_add(n as u64);
         rest = after;
     }
@@ -89,20 +89,16 @@ fn look_for_patterns(
     bytes: &[u8],
     seed: &mut u64,
 ) {
-    assert!(rt; store.has(text));
     for len in [1, 2, 13, 20, 300, 4000, 4096] {
         let from = below(seed, 25_000);
         let start = below(seed, from.saturating_add(1));
         let rest = bytes.get(from as usize..).expect(rt, "a place");
         let pattern = rest.get(..len).expect(rt, "a pattern");
-        let found = find(rt.alloc(), store, sources, text, start, pattern);
-        assert_eq!(rt;
-            found,
-            Ok(plain_find(bytes, start, pattern)),
-            "{start} {len}"
-        );
+        let found = find_in(rt, store, sources, text, start, pattern);
+        let wanted = plain_find(bytes, start, pattern);
+        assert_same_at(rt, &found, &Ok(wanted), &(start, len));
     }
-    let none = find(rt.alloc(), store, sources, text, 0, b"zzzzz");
+    let none = find_in(rt, store, sources, text, 0, b"zzzzz");
     assert_same(rt, &none, &Ok(None));
 }
 
@@ -114,13 +110,11 @@ fn look_for_bytes(
     bytes: &[u8],
     seed: &mut u64,
 ) {
-    assert!(rt; store.has(text));
     for _ in 0..10 {
         let i = below(seed, 31_000);
-        let first = chr(rt.alloc(), store, sources, text, i, b'z');
-        assert_same_at(rt, &first, &Ok(plain_find(bytes, i, b"z")), &i);
-        let last = rchr(rt.alloc(), store, sources, text, i, b'z');
-        assert_same_at(rt, &last, &Ok(plain_last(bytes, i, b'z')), &i);
+        let places = places_in(rt, store, sources, text, i, b'z');
+        let wanted = (plain_find(bytes, i, b"z"), plain_last(bytes, i, b'z'));
+        assert_same_at(rt, &places, &Ok(wanted), &i);
     }
 }
 
@@ -135,48 +129,39 @@ fn compare(
     rt: &(impl AllocGlobal + Abort),
     store: &Store<Coded>,
     sources: &mut MemSources<'_>,
-    ropes: (Rope, Rope),
+    texts: [Rope; 2],
     bytes: &[u8],
     seed: &mut u64,
 ) {
-    let (text, other) = ropes;
-    assert!(rt; store.has(text) && store.has(other));
-    let order = cmp(rt.alloc(), store, sources, text, other);
+    let order = cmp_texts(rt, store, sources, texts);
     assert_same(rt, &order, &Ok(Ordering::Equal));
     for _ in 0..10 {
         let (i, j) = (below(seed, 31_000), below(seed, 31_000));
         let n = below(seed, 6000);
-        let order = ncmp(rt.alloc(), store, sources, text, i, other, j, n);
+        let order = cmp_parts(rt, store, sources, texts, (i, j), n);
         let wanted = part(rt, bytes, i, n).cmp(part(rt, bytes, j, n));
-        assert_eq!(rt; order, Ok(wanted), "{i} {j} {n}");
+        assert_same_at(rt, &order, &Ok(wanted), &(i, j, n));
     }
 }
 
 /// All calls over a text in leaves of at most `most` bytes.
 fn agree(rt: &(impl AllocGlobal + Abort), mixed: bool, most: u64) {
     let mut seed = most;
-    let bytes = letters(rt, &mut seed);
+    let letters = letters(rt, &mut seed);
+    let bytes = letters.as_slice();
     let mut store: Store<Coded> = Store::new(rt.alloc());
     let mut sources = MemSources::new(rt.alloc());
-    store.add_source(LENGTH).expect(rt, "a source");
-    sources.add(bytes.as_slice()).expect(rt, "a source");
-    let text = cut_up(rt, &mut store, bytes.as_slice(), mixed, most, &mut seed);
-    let other = cut_up(rt, &mut store, bytes.as_slice(), mixed, 1500, &mut seed);
-    assert!(rt; store.has(text));
+    let s = add_source(rt, &mut store, LENGTH);
+    assert_same(rt, &sources.add(bytes).map(u32::from), &Ok(s));
+    let text = cut_up(rt, &mut store, bytes, mixed, most, &mut seed);
+    let other = cut_up(rt, &mut store, bytes, mixed, 1500, &mut seed);
     let mut written: Vec<u8> = Vec::new(rt.alloc());
-    let outcome = put(rt.alloc(), &store, &mut sources, text, &mut written);
+    let outcome = put_to(rt, &store, &mut sources, text, &mut written);
     assert_same(rt, &outcome, &Ok(()));
-    assert!(rt; written.as_slice() == bytes.as_slice());
-    look_for_patterns(rt, &store, &mut sources, text, bytes.as_slice(), &mut seed);
-    look_for_bytes(rt, &store, &mut sources, text, bytes.as_slice(), &mut seed);
-    compare(
-        rt,
-        &store,
-        &mut sources,
-        (text, other),
-        bytes.as_slice(),
-        &mut seed,
-    );
+    assert!(rt; written.as_slice() == bytes);
+    look_for_patterns(rt, &store, &mut sources, text, bytes, &mut seed);
+    look_for_bytes(rt, &store, &mut sources, text, bytes, &mut seed);
+    compare(rt, &store, &mut sources, [text, other], bytes, &mut seed);
 }
 
 #[test]

@@ -1,17 +1,21 @@
 //! Sources that are devices.
 
-use super::assert_same;
+ghost use Rattle.std.specs.Prelude.{◌≡◌, ◌<◌};
+
+use super::{assert_same, assert_same_at};
 use lazy_file::{
     AddFault, BLOCK_SIZE, Device, DeviceError, FileDevice, FileSources, SourceFault, Sources,
 };
 use std::alloc::AllocGlobal;
 use std::fs::File;
+use std::marker::Brand;
 use std::num::NonZeroUsize;
 use std::process::Abort;
+use std::sync::ledger::{Blank, Ledger};
 
 /// A device in memory: a text that may end before its size, how many bytes a call gives, and at which call it fails.
-#[derive(Debug, Drop)]
-struct Slice<'a> {
+#[derive(Clone, Copy, Debug)]
+pub(super) struct Slice<'a> {
     text: &'a [u8],
     size: u64,
     most: usize,
@@ -22,7 +26,7 @@ struct Slice<'a> {
 
 impl<'a> Slice<'a> {
     /// A device that gives all at once and never fails.
-    fn new(text: &'a [u8]) -> Slice<'a> {
+    pub(super) fn new(text: &'a [u8]) -> Slice<'a> {
         Slice {
             text,
             size: text.len() as u64,
@@ -32,20 +36,33 @@ impl<'a> Slice<'a> {
             failed: 0,
         }
     }
+
+    /// The same device, which fails at this call.
+    pub(super) fn failing_at(self, call: u64) -> Slice<'a> {
+        Slice {
+            fails_at: call,
+            ..self
+        }
+    }
 }
 
 impl<'a> Device for Slice<'a> {
+    type Book = ();
+
     ghost use Rattle.lazy_file.specs.DeviceTexts.{unstated};
 
-    ghost stated = { λ d. unstated d.size };
-
-    ghost failures = { λ d. d.failed };
+    ghost reading = { λ d. record { stated = unstated d.size; failures = d.failed; calls = d.calls } };
 
     fn size(&self) -> u64 {
         self.size
     }
 
-    fn read_at(&mut self, off: u64, buffer: &mut [u8]) -> Result<usize, DeviceError> {
+    fn read_at(
+        &mut self,
+        _book: &mut (),
+        off: u64,
+        buffer: &mut [u8],
+    ) -> Result<usize, DeviceError> {
         self.calls = self.calls.saturating_add(1);
         if let Some(failed) = self.failed.checked_add(1) {
             if self.calls == self.fails_at {
@@ -60,154 +77,143 @@ impl<'a> Device for Slice<'a> {
     }
 }
 
-/// No sources, and room for one block.
-fn one_block<'a>(rt: &(impl AllocGlobal + Abort)) -> FileSources<Slice<'a>> {
-    FileSources::new(rt.alloc(), NonZeroUsize::MIN).expect(rt, "room for a block")
+/// These sources, and room for one block.
+pub(super) fn one_block<'a>(
+    rt: &(impl AllocGlobal + Abort),
+    devices: &[Slice<'a>],
+) -> FileSources<Slice<'a>> {
+    let mut sources = FileSources::new(rt.alloc(), NonZeroUsize::MIN, ()).expect(
+        rt,
+        "room for a block",
+    );
+    for device in devices {
+        assert!(rt; sources.add(*device).is_ok());
+    }
+    sources
+}
+
+/// Reads `n` bytes of source `s` from `off` on: what comes of it, with a dot for each byte that was not asked for.
+fn read(
+    rt: &impl Abort,
+    sources: &mut FileSources<Slice<'_>>,
+    s: u8,
+    off: u64,
+    n: usize,
+) -> Result<[u8; 5], SourceFault> {
+    let mut buffer = *b".....";
+    sources.read(s, off, buffer.get_mut(..n).expect(rt, "at most five bytes"))?;
+    Ok(buffer)
 }
 
 #[test]
 fn a_block_of_another_source_is_not_taken(rt: HostRuntime) {
-    let mut sources = one_block(&rt);
-    for text in [&b"aaaa"[..], b"bbbb"] {
-        let _ = sources.add(Slice::new(text)).expect(&rt, "a source");
-    }
-    for (s, text) in [(0, *b"aaaa"), (1, *b"bbbb"), (0, *b"aaaa")] {
-        let mut buffer = *b"....";
-        assert_same(&rt, &sources.read(s, 0, &mut buffer), &Ok(()));
-        assert_same(&rt, &buffer, &text);
+    let mut sources = one_block(&rt, &[Slice::new(b"aaaa"), Slice::new(b"bbbb")]);
+    for (s, text) in [(0, *b"aaaa."), (1, *b"bbbb."), (0, *b"aaaa.")] {
+        assert_same(&rt, &read(&rt, &mut sources, s, 0, 4), &Ok(text));
     }
 }
 
 #[test]
 fn a_failed_block_is_read_again(rt: HostRuntime) {
-    let mut sources = one_block(&rt);
-    let device = Slice {
-        fails_at: 2,
-        ..Slice::new(&[7; 8192])
-    };
-    assert_same(&rt, &sources.add(device).expect(&rt, "a source"), &0);
-    let mut byte = [0];
-    assert_same(&rt, &sources.read(0, 0, &mut byte), &Ok(()));
-    assert_same(&rt, &byte, &[7]);
-    assert_same(
-        &rt,
-        &sources.read(0, 4096, &mut byte),
-        &Err(SourceFault::Device),
-    );
-    assert_same(&rt, &sources.read(0, 4096, &mut byte), &Ok(()));
-    assert_same(&rt, &byte, &[7]);
+    let mut sources = one_block(&rt, &[Slice::new(&[b'x'; 8192]).failing_at(2)]);
+    for (off, wanted) in [
+        (0, Ok(*b"x....")),
+        (4096, Err(SourceFault::Device)),
+        (4096, Ok(*b"x....")),
+    ] {
+        assert_same_at(&rt, &read(&rt, &mut sources, 0, off, 1), &wanted, &off);
+    }
 }
 
+/// A device of two blocks that gives one byte a call, and fails at this one.
+fn byte_by_byte(fails_at: u64) -> Slice<'static> {
+    Slice {
+        most: 1,
+        ..Slice::new(&[b'x'; 8192]).failing_at(fails_at)
+    }
+}
+
+// A block is filled by as many calls as it has bytes, and then kept: the next call is that for another block.
 #[test]
-fn a_device_may_give_one_byte_a_call(rt: HostRuntime) {
-    for (fails_at, read) in [(4096, Err(SourceFault::Device)), (4097, Ok(()))] {
-        let mut sources = one_block(&rt);
-        let device = Slice {
-            most: 1,
-            fails_at,
-            ..Slice::new(&[7; 4096])
-        };
-        assert_same(&rt, &sources.add(device).expect(&rt, "a source"), &0);
+fn a_block_is_filled_one_byte_a_call(rt: HostRuntime) {
+    let mut early = one_block(&rt, &[byte_by_byte(4096)]);
+    let fault = Err(SourceFault::Device);
+    assert_same(&rt, &read(&rt, &mut early, 0, 0, 1), &fault);
+    let mut later = one_block(&rt, &[byte_by_byte(4097)]);
+    for (off, n, wanted) in [
+        (0, 1, Ok(*b"x....")),
+        (4091, 5, Ok(*b"xxxxx")),
+        (4096, 1, fault),
+    ] {
+        assert_same_at(&rt, &read(&rt, &mut later, 0, off, n), &wanted, &off);
+    }
+}
+
+// A read of as many bytes as a block has is not kept: the next one is another call.
+#[test]
+fn a_long_read_takes_one_byte_a_call(rt: HostRuntime) {
+    for (fails_at, outcome) in [(4096, Err(SourceFault::Device)), (4097, Ok(()))] {
+        let mut sources = one_block(&rt, &[byte_by_byte(fails_at)]);
         let mut buffer = [0; 4096];
-        assert_same(&rt, &sources.read(0, 0, &mut buffer), &read);
-        if read.is_ok() {
-            assert_same(&rt, &buffer.as_slice(), &[7; 4096].as_slice());
+        assert_same(&rt, &sources.read(0, 0, &mut buffer), &outcome);
+        if outcome.is_ok() {
+            assert!(rt; buffer == [b'x'; 4096]);
             assert_same(
                 &rt,
-                &sources.read(0, 0, &mut [0]),
+                &read(&rt, &mut sources, 0, 0, 1),
                 &Err(SourceFault::Device),
             );
         }
     }
 }
 
-#[test]
-fn a_device_that_is_too_long_is_handed_back(rt: HostRuntime) {
-    let mut sources = one_block(&rt);
+/// A device that is too long is refused so, and handed back.
+fn assert_refused(rt: &impl Abort, sources: &mut FileSources<Slice<'_>>, fault: AddFault) {
     let device = Slice {
         size: 1 << 40,
         ..Slice::new(b"abc")
     };
     match sources.add(device) {
-        Ok(_) => panic!(rt; "too long"),
+        Ok(_) => panic!(rt; "not refused"),
         Err(refused) => {
-            assert_same(&rt, &refused.fault, &AddFault::SourceTooLong);
-            assert_same(
-                &rt,
-                &(refused.device.size, refused.device.text),
-                &(1 << 40, &b"abc"[..]),
-            );
+            assert_same(rt, &refused.fault, &fault);
+            assert_same(rt, &refused.device.size, &(1 << 40));
+            assert_same(rt, &refused.device.text, &b"abc".as_slice());
         }
     }
-    assert_same(&rt, &sources.count(), &0);
 }
 
 #[test]
-fn the_last_source_is_the_255th(rt: HostRuntime) {
-    let mut sources = one_block(&rt);
+fn a_device_that_is_not_taken_is_handed_back(rt: HostRuntime) {
+    let mut sources = one_block(&rt, &[]);
+    assert_refused(&rt, &mut sources, AddFault::SourceTooLong);
     for s in 0..255 {
-        assert_same(
-            &rt,
-            &sources.add(Slice::new(b"a")).expect(&rt, "a source"),
-            &s,
-        );
+        let number = sources.add(Slice::new(b"a")).expect(&rt, "a source");
+        assert_same(&rt, &number, &s);
     }
-    let device = Slice {
-        size: 1 << 40,
-        ..Slice::new(b"abc")
-    };
-    match sources.add(device) {
-        Ok(_) => panic!(rt; "too many"),
-        Err(refused) => {
-            assert!(rt; refused.fault == AddFault::TooManySources);
-            assert_same(&rt, &refused.device.text, &b"abc".as_slice());
-        }
-    }
-    assert_same(&rt, &(sources.count(), sources.len(254)), &(255, 1));
+    assert_refused(&rt, &mut sources, AddFault::TooManySources);
+    assert!(rt; sources.count() == 255);
+    assert_same(&rt, &sources.len(254), &1);
 }
 
 #[test]
-fn a_span_outside_is_no_source(rt: HostRuntime) {
-    let mut sources = one_block(&rt);
-    assert_same(
-        &rt,
-        &sources.add(Slice::new(b"abcde")).expect(&rt, "a source"),
-        &0,
-    );
-    let mut buffer = *b"...";
-    assert_same(&rt, &sources.read(0, 1, &mut buffer), &Ok(()));
-    assert_same(&rt, &&buffer, &b"bcd");
-    assert_same(
-        &rt,
-        &sources.read(0, 4, &mut [0; 2]),
-        &Err(SourceFault::BadSource),
-    );
-    assert_same(
-        &rt,
-        &sources.read(1, 0, &mut [0]),
-        &Err(SourceFault::BadSource),
-    );
-    assert_same(
-        &rt,
-        &sources.read(0, u64::MAX, &mut [0]),
-        &Err(SourceFault::BadSource),
-    );
-    assert_same(&rt, &sources.read(0, 5, &mut []), &Ok(()));
-}
-
-#[test]
-fn a_device_that_ends_early_is_short(rt: HostRuntime) {
-    let mut sources = one_block(&rt);
-    let device = Slice {
+fn a_span_outside_and_a_text_cut_short_are_told(rt: HostRuntime) {
+    let short = Slice {
         size: 5,
         ..Slice::new(b"abc")
     };
-    assert_same(&rt, &sources.add(device).expect(&rt, "a source"), &0);
-    assert_same(
-        &rt,
-        &sources.read(0, 0, &mut [0; 5]),
-        &Err(SourceFault::Short),
-    );
+    let mut sources = one_block(&rt, &[Slice::new(b"abcde"), short]);
+    for (s, off, n, wanted) in [
+        (0, 1, 3, Ok(*b"bcd..")),
+        (0, 4, 2, Err(SourceFault::BadSource)),
+        (2, 0, 1, Err(SourceFault::BadSource)),
+        (0, u64::MAX, 1, Err(SourceFault::BadSource)),
+        (0, 5, 0, Ok(*b".....")),
+        (1, 0, 5, Err(SourceFault::Short)),
+    ] {
+        let found = read(&rt, &mut sources, s, off, n);
+        assert_same_at(&rt, &found, &wanted, &(s, off));
+    }
 }
 
 #[test]
@@ -216,12 +222,11 @@ fn long_and_short_reads_agree(rt: HostRuntime) {
     for (i, byte) in text.iter_mut().enumerate() {
         *byte = (i % 251) as u8;
     }
-    let mut sources = one_block(&rt);
     let device = Slice {
         most: 3000,
         ..Slice::new(&text)
     };
-    assert_same(&rt, &sources.add(device).expect(&rt, "a source"), &0);
+    let mut sources = one_block(&rt, &[device]);
     for n in [1, 7, 1000, BLOCK_SIZE - 1, BLOCK_SIZE, 5000, 10_000] {
         let mut read = [0; 10_000];
         let mut place = 0;
@@ -233,20 +238,34 @@ fn long_and_short_reads_agree(rt: HostRuntime) {
     }
 }
 
-#[test]
-fn a_file_is_a_device(rt: HostRuntime) {
-    let file = File::open(&rt, "/dev/zero").expect(&rt, "a file");
-    let mut sources = FileSources::new(rt.alloc(), NonZeroUsize::MIN).expect(
-        &rt,
-        "room for a block",
+/// Reads a file whose reads, and those that failed, are counted in the book of a blank.
+fn read_a_file<R: AllocGlobal + Abort, L: Ledger>(rt: &R, file: File, blank: Blank)
+    requires name { blank.name ≡ L.name }
+    requires parts { blank.parts ≡ L.parts }
+    requires some { 2 < blank.parts }
+{
+    let (book, all) = blank.open::<L>();
+    let mut parts = all;
+    let failed = parts.split_off(1, 0);
+    let called = parts.split_off(1, 0);
+    let mut sources = FileSources::new(rt.alloc(), NonZeroUsize::MIN, book).expect(rt, "a block");
+    assert!(rt;
+        sources
+            .add(FileDevice::new(file, 5, failed, called))
+            .is_ok()
     );
-    assert!(rt; sources.add(FileDevice::new(file, 5)).is_ok());
     let mut buffer = *b"abc";
-    assert_same(&rt, &sources.read(0, 2, &mut buffer), &Ok(()));
-    assert_same(&rt, &buffer, &[0; 3]);
+    assert_same(rt, &sources.read(0, 2, &mut buffer), &Ok(()));
+    assert_same(rt, &buffer, &[0; 3]);
     assert_same(
-        &rt,
+        rt,
         &sources.read(0, 3, &mut buffer),
         &Err(SourceFault::BadSource),
     );
+}
+
+#[test]
+fn a_file_is_a_device(rt: HostRuntime) {
+    let file = File::open(&rt, "/dev/zero").expect(&rt, "a file");
+    read_a_file::<HostRuntime, Brand>(&rt, file, Blank::new(3));
 }

@@ -1,8 +1,8 @@
 //! Patterns in texts of many leaves, beside a plain search.
 
-use super::assert_same;
-use super::searches::joined;
-use cord_search::find;
+use super::searches::find_in;
+use super::stores::{add_source, joined, source_leaf};
+use super::{assert_same, assert_same_at};
 use function_leaf::Coded;
 use lazy_file::MemSources;
 use rope_node::Rope;
@@ -24,10 +24,6 @@ pub(super) fn plain_find(text: &[u8], start: u64, pattern: &[u8]) -> Option<u64>
         return Some(text.len() as u64);
     }
     None
-}
-
-fn leaf(rt: &impl Abort, store: &mut Store<Coded>, s: u32, start: u64, len: u64) -> Rope {
-    store.from_source(s, start, len).expect(rt, "a leaf")
 }
 
 /// For each number below 256, the letters a and b that its bits spell, the lowest bit first.
@@ -67,7 +63,7 @@ fn cut_up(
     for k in 0..len {
         if rest % 2 == 1 || k + 1 == len {
             let place = start.saturating_add(first);
-            let part = leaf(rt, store, s, place, (k + 1).saturating_sub(first));
+            let part = source_leaf(rt, store, s, place, (k + 1).saturating_sub(first));
             rope = joined(rt, store, rope, part);
             first = k + 1;
         }
@@ -76,25 +72,39 @@ fn cut_up(
     rope
 }
 
+/// A pattern, and its first place in a text.
+#[derive(Drop)]
+struct Sought<'a> {
+    pattern: &'a [u8],
+    place: Option<u64>,
+}
+
+/// Every pattern of up to four letters, with its place in the text.
+fn patterns_in<'a>(rt: &(impl AllocGlobal + Abort), text: &[u8], all: &'a [u8]) -> Vec<Sought<'a>> {
+    let mut patterns = Vec::new(rt.alloc());
+    for (len, count) in [(0, 1), (1, 2), (2, 4), (3, 8), (4, 16)] {
+        for number in 0..count {
+            let pattern = word(rt, all, number, len);
+            let place = plain_find(text, 0, pattern);
+            patterns
+                .push(Sought { pattern, place })
+                .expect(rt, "memory");
+        }
+    }
+    patterns
+}
+
 fn look_for_each(
     rt: &(impl AllocGlobal + Abort),
     store: &Store<Coded>,
     sources: &mut MemSources<'_>,
     rope: Rope,
+    patterns: &[Sought<'_>],
     text: &[u8],
-    all: &[u8],
 ) {
-    assert!(rt; store.has(rope));
-    for (len, patterns) in [(0, 1), (1, 2), (2, 4), (3, 8), (4, 16)] {
-        for number in 0..patterns {
-            let pattern = word(rt, all, number, len);
-            let found = find(rt.alloc(), store, sources, rope, 0, pattern);
-            assert_eq!(rt;
-                found,
-                Ok(plain_find(text, 0, pattern)),
-                "{text:?} {pattern:?}"
-            );
-        }
+    for sought in patterns {
+        let found = find_in(rt, store, sources, rope, 0, sought.pattern);
+        assert_same_at(rt, &found, &Ok(sought.place), &(text, sought.pattern));
     }
 }
 
@@ -109,15 +119,16 @@ fn look_in_texts(
 ) {
     let mut store: Store<Coded> = Store::new(rt.alloc());
     let mut sources = MemSources::new(rt.alloc());
-    let s = u32::from(store.add_source(2048).expect(rt, "a source"));
+    let s = add_source(rt, &mut store, 2048);
     assert_same(rt, &sources.add(all).map(u32::from), &Ok(s));
     for k in 0..texts {
         let number = first.saturating_add(k);
         let text = word(rt, all, number, len);
+        let patterns = patterns_in(rt, text, all);
         for ends in 0..cuts {
             let place = number.saturating_mul(8);
             let rope = cut_up(rt, &mut store, s, place, len, ends);
-            look_for_each(rt, &store, &mut sources, rope, text, all);
+            look_for_each(rt, &store, &mut sources, rope, patterns.as_slice(), text);
         }
     }
 }
@@ -172,7 +183,8 @@ fn every_text_of_eight_letters_that_ends_with_bb(rt: HostRuntime) {
 fn byte_leaves(rt: &(impl AllocGlobal + Abort), store: &mut Store<Coded>, s: u32) -> Rope {
     let mut row = Vec::new(rt.alloc());
     for k in 0..8192 {
-        row.push(leaf(rt, store, s, k, 1)).expect(rt, "memory");
+        row.push(source_leaf(rt, store, s, k, 1))
+            .expect(rt, "memory");
     }
     for _ in 0..13 {
         let mut next = Vec::new(rt.alloc());
@@ -197,14 +209,12 @@ fn longest_pattern_over_a_leaf_for_each_byte(rt: HostRuntime) {
     }
     let mut store: Store<Coded> = Store::new(rt.alloc());
     let mut sources = MemSources::new(rt.alloc());
-    let s = u32::from(store.add_source(8192).expect(&rt, "a source"));
+    let s = add_source(&rt, &mut store, 8192);
     assert_same(&rt, &sources.add(text.as_slice()).map(u32::from), &Ok(s));
     let rope = byte_leaves(&rt, &mut store, s);
-    assert!(&rt; store.has(rope));
     for start in [0, 1, 2047, 4096] {
         let pattern = text.get(start..start + 4096).expect(&rt, "a pattern");
-        let found = find(rt.alloc(), &store, &mut sources, rope, 0, pattern);
-        assert_same(&rt, &found, &Ok(plain_find(text.as_slice(), 0, pattern)));
+        let found = find_in(&rt, &store, &mut sources, rope, 0, pattern);
         assert_same(&rt, &found, &Ok(Some(start as u64)));
     }
 }

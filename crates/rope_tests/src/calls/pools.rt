@@ -1,10 +1,18 @@
 use super::assert_same;
 use leaf_buffer::{LeafFault, Piece, Pool, Run};
-use std::test::Fail;
 
-// What it ensures is not needed to prove a test.
+// What a call ensures is not needed to prove a test, so each stands in a function of its own that ensures nothing.
+
 fn append(pool: &mut Pool, bytes: &[u8]) -> Result<Piece, LeafFault> {
     pool.append(bytes)
+}
+
+fn extend(pool: &mut Pool, last: Piece, bytes: &[u8]) -> Option<Piece> {
+    pool.extend_last(last, bytes)
+}
+
+fn get(pool: &Pool, span: Piece) -> Option<&[u8]> {
+    pool.get(span)
 }
 
 fn piece(start: u32, len: u32) -> Piece {
@@ -12,66 +20,47 @@ fn piece(start: u32, len: u32) -> Piece {
 }
 
 #[test]
-fn new_pool_is_empty(rt: HostRuntime) {
-    let pool = Pool::new(rt.alloc());
-    assert_same(&rt, &(pool.len(), pool.room()), &(0, 0));
-}
-
-#[test]
 fn last_piece_is_extended_within_its_room(rt: HostRuntime) {
     let mut pool = Pool::new(rt.alloc());
+    assert_same(&rt, &(pool.len(), pool.room()), &(0, 0));
     assert_same(&rt, &append(&mut pool, b"abc"), &Ok(piece(0, 3)));
     assert_same(&rt, &pool.room(), &65_533);
     assert!(&rt; pool.can_extend(piece(0, 3), 65_533));
     assert!(&rt; !pool.can_extend(piece(0, 3), 65_534));
-    assert_same(
-        &rt,
-        &pool.extend_last(piece(0, 3), b"de"),
-        &Some(piece(0, 5)),
-    );
+    let longer = extend(&mut pool, piece(0, 3), b"de");
+    assert_same(&rt, &longer, &Some(piece(0, 5)));
     assert_same(&rt, &pool.room(), &65_531);
-    assert!(&rt; pool.get(piece(0, 3)) == Some(b"abc".as_slice()));
-    assert_same(&rt, &pool.extend_last(piece(0, 3), b"x"), &None);
+    assert_same(&rt, &get(&pool, piece(0, 3)), &Some(b"abc".as_slice()));
+    assert_same(&rt, &extend(&mut pool, piece(0, 3), b"x"), &None);
 }
 
 #[test]
 fn piece_past_the_room_opens_a_block(rt: HostRuntime) {
-    let full = [b'x'; 65_536];
+    let full = [b'a'; 65_537];
     let mut pool = Pool::new(rt.alloc());
-    assert_same(&rt, &append(&mut pool, b"abcde"), &Ok(piece(0, 5)));
-    assert_same(&rt, &append(&mut pool, &full), &Ok(piece(5, 65_536)));
-    assert_same(&rt, &pool.room(), &0);
-    assert!(&rt; pool.get(piece(4, 2)).is_none());
-}
-
-#[test]
-fn pool_refuses_no_bytes_and_too_many(rt: HostRuntime) {
-    let long = [b'x'; 65_537];
-    let mut pool = Pool::new(rt.alloc());
-    assert_same(&rt, &append(&mut pool, b"abcde"), &Ok(piece(0, 5)));
-    assert_same(&rt, &append(&mut pool, b""), &Err(LeafFault::Empty));
-    assert_same(&rt, &append(&mut pool, &long), &Err(LeafFault::TooLong));
-    assert_same(&rt, &pool.len(), &5);
-}
-
-#[test]
-fn full_block_is_followed_by_another(rt: HostRuntime) {
-    let full = [b'a'; 65_536];
-    let mut pool = Pool::new(rt.alloc());
-    assert_same(&rt, &append(&mut pool, &full), &Ok(piece(0, 65_536)));
-    assert_same(&rt, &pool.room(), &0);
-    assert_same(&rt, &append(&mut pool, b"b"), &Ok(piece(65_536, 1)));
-    assert_same(&rt, &pool.room(), &65_535);
-    assert_same(
-        &rt,
-        &pool.extend_last(piece(65_536, 1), b"c"),
-        &Some(piece(65_536, 2)),
-    );
-    assert!(&rt; pool.get(piece(65_535, 2)).is_none());
-    assert_same(&rt, &pool.extend_last(piece(0, 65_536), b"x"), &None);
-    assert!(&rt; pool.get(piece(65_536, 2)) == Some(b"bc".as_slice()));
-    assert!(&rt; pool.len() == 65_538);
-    assert_same(&rt, &pool.rest_of_block(65_537), &b"c".as_slice());
+    for (bytes, outcome, room) in [
+        (b"abcde".as_slice(), Ok(piece(0, 5)), 65_531),
+        (b"", Err(LeafFault::Empty), 65_531),
+        (&full, Err(LeafFault::TooLong), 65_531),
+        (&full[1..], Ok(piece(5, 65_536)), 0),
+        (b"b", Ok(piece(65_541, 1)), 65_535),
+    ] {
+        let found = append(&mut pool, bytes);
+        assert_same(&rt, &(found, pool.room()), &(outcome, room));
+    }
+    assert_same(&rt, &extend(&mut pool, piece(5, 65_536), b"x"), &None);
+    let longer = extend(&mut pool, piece(65_541, 1), b"c");
+    assert_same(&rt, &longer, &Some(piece(65_541, 2)));
+    for (span, bytes) in [
+        (piece(3, 2), Some(b"de".as_slice())),
+        (piece(4, 2), None),
+        (piece(65_540, 2), None),
+        (piece(65_541, 2), Some(b"bc")),
+    ] {
+        assert_same(&rt, &get(&pool, span), &bytes);
+    }
+    assert!(rt; pool.len() == 65_543);
+    assert_same(&rt, &pool.rest_of_block(65_542), &b"c".as_slice());
 }
 
 #[test]
@@ -82,27 +71,22 @@ fn run_moves_over_text_and_back(rt: HostRuntime) {
     assert_same(&rt, &run.back(), &Some(0x63));
     assert_same(&rt, &run.passed(), &2);
     assert_same(&rt, &run.rest(), &b"c".as_slice());
+    let mut none = Run::over(b"");
+    assert_same(&rt, &none.peek(), &None);
+    assert_same(&rt, &none.next(), &None);
+    assert_same(&rt, &none.back(), &None);
+    assert_same(&rt, &none.skip(1), &0);
 }
 
 #[test]
-fn run_over_no_bytes_stays(rt: HostRuntime) {
-    let mut run = Run::over(b"");
-    assert_same(&rt, &run.peek(), &None);
-    assert_same(&rt, &run.next(), &None);
-    assert_same(&rt, &run.back(), &None);
-    assert_same(&rt, &run.skip(1), &0);
-}
-
-#[test]
-fn refusals_print_their_codes(rt: HostRuntime) -> Result<(), Fail> {
-    for (error, code) in [
+fn refusals_print_their_codes(rt: HostRuntime) {
+    for (fault, code) in [
         (LeafFault::Empty, "L1"),
         (LeafFault::TooLong, "L2"),
         (LeafFault::PoolFull, "L3"),
         (LeafFault::Memory, "Memory"),
     ] {
-        let text = format!(in rt.alloc(); "{error}")?;
-        assert_same(&rt, &text.as_str(), &code);
+        let printed = fault.to_string(rt.alloc()).expect(&rt, "memory");
+        assert_same(&rt, &printed.as_str(), &code);
     }
-    Ok(())
 }

@@ -1,8 +1,8 @@
 //! Searches of the longest texts: their leaves repeat, and no search goes through them byte by byte.
 
-use super::searches::joined;
-use super::{assert_same, assert_same_at};
-use cord_search::{chr, find, rchr};
+use super::assert_same_at;
+use super::searches::{find_in, places_in};
+use super::stores::{function, joined, literal};
 use function_leaf::Coded;
 use lazy_file::MemSources;
 use rope_node::Rope;
@@ -13,101 +13,80 @@ use std::process::Abort;
 /// The most bytes in a text.
 const LONGEST: u64 = (1 << 40) - 1;
 
-/// As many bytes of a function as a text may have.
-fn longest(rt: &impl Abort, store: &mut Store<Coded>, f: Coded) -> Rope {
-    store.from_fn(f, LONGEST).expect(rt, "a leaf")
+/// The longest text of a function.
+fn longest(rt: &(impl AllocGlobal + Abort), f: Coded) -> (Store<Coded>, Rope) {
+    let mut store: Store<Coded> = Store::new(rt.alloc());
+    let text = function(rt, &mut store, f, LONGEST);
+    (store, text)
 }
 
-/// The first place from `start` on of a pattern in the longest text of a function.
-fn place_in(rt: &(impl AllocGlobal + Abort), f: Coded, start: u64, pattern: &[u8]) -> Option<u64> {
-    let mut store: Store<Coded> = Store::new(rt.alloc());
-    let mut sources = MemSources::new(rt.alloc());
-    let text = longest(rt, &mut store, f);
-    assert!(rt; store.has(text));
-    find(rt.alloc(), &store, &mut sources, text, start, pattern).expect(rt, "a search")
-}
-
-/// The first and the last place of a byte in the longest text of a function.
-fn places_in(rt: &(impl AllocGlobal + Abort), f: Coded, byte: u8) -> (Option<u64>, Option<u64>) {
-    let mut store: Store<Coded> = Store::new(rt.alloc());
-    let mut sources = MemSources::new(rt.alloc());
-    let text = longest(rt, &mut store, f);
-    assert!(rt; store.has(text));
-    let first = chr(rt.alloc(), &store, &mut sources, text, 0, byte).expect(rt, "a search");
-    let last = rchr(rt.alloc(), &store, &mut sources, text, LONGEST, byte);
-    (first, last.expect(rt, "a search"))
+fn cycle(rt: &impl Abort) -> Coded {
+    Coded::cycle(b"abc").expect(rt, "a cycle")
 }
 
 #[test]
-fn patterns_of_the_longest_text(rt: HostRuntime) {
-    for (start, found) in [
-        (0, Some(0)),
-        (1_099_511_627_773, Some(1_099_511_627_773)),
-        (1_099_511_627_774, None),
-        (u64::MAX, None),
+fn patterns_of_leaves_that_repeat(rt: HostRuntime) {
+    let mut none = MemSources::new(rt.alloc());
+    for (f, start, pattern, found) in [
+        (Coded::fill(b'a'), 0, b"aa", Some(0)),
+        (
+            Coded::fill(b'a'),
+            1_099_511_627_773,
+            b"aa",
+            Some(1_099_511_627_773),
+        ),
+        (Coded::fill(b'a'), 1_099_511_627_774, b"aa", None),
+        (Coded::fill(b'a'), u64::MAX, b"aa", None),
+        (Coded::fill(b'a'), 0, b"ba", None),
+        (Coded::ramp(b'a'), 0, b"ba", None),
+        (cycle(&rt), 0, b"ba", None),
     ] {
-        assert_same_at(
-            &rt,
-            &place_in(&rt, Coded::fill(b'a'), start, b"aa"),
-            &found,
-            &start,
-        );
+        let (store, text) = longest(&rt, f);
+        let answer = find_in(&rt, &store, &mut none, text, start, pattern);
+        assert_same_at(&rt, &answer, &Ok(found), &(start, pattern));
     }
-}
-
-#[test]
-fn absent_patterns_of_leaves_that_repeat(rt: HostRuntime) {
-    assert_same(&rt, &place_in(&rt, Coded::fill(b'a'), 0, b"ba"), &None);
-    assert_same(&rt, &place_in(&rt, Coded::ramp(b'a'), 0, b"ba"), &None);
-    let cycle = Coded::cycle(b"abc").expect(&rt, "a cycle");
-    assert_same(&rt, &place_in(&rt, cycle, 0, b"ba"), &None);
-}
-
-#[test]
-fn absent_bytes_of_leaves_that_repeat(rt: HostRuntime) {
-    assert_same(&rt, &places_in(&rt, Coded::fill(b'a'), b'x'), &(None, None));
-    let cycle = Coded::cycle(b"abc").expect(&rt, "a cycle");
-    assert_same(&rt, &places_in(&rt, cycle, b'x'), &(None, None));
+    for (f, i) in [
+        (Coded::fill(b'a'), 0),
+        (cycle(&rt), 0),
+        (Coded::fill(b'a'), LONGEST),
+        (cycle(&rt), LONGEST),
+    ] {
+        let (store, text) = longest(&rt, f);
+        let places = places_in(&rt, &store, &mut none, text, i, b'x');
+        assert_same_at(&rt, &places, &Ok((None, None)), &i);
+    }
 }
 
 /// `xy`, then as many `a` as there can be, then `bc`.
 fn longest_between(rt: &impl Abort, store: &mut Store<Coded>) -> Rope {
-    let front = store.from_bytes(b"xy").expect(rt, "a leaf");
-    let most = store
-        .from_fn(Coded::fill(b'a'), LONGEST - 4)
-        .expect(rt, "a leaf");
-    let back = store.from_bytes(b"bc").expect(rt, "a leaf");
+    let front = literal(rt, store, b"xy");
+    let most = function(rt, store, Coded::fill(b'a'), LONGEST - 4);
+    let back = literal(rt, store, b"bc");
     let text = joined(rt, store, front, most);
     joined(rt, store, text, back)
 }
 
 #[test]
-fn patterns_at_the_joints_of_a_leaf_that_repeats(rt: HostRuntime) {
+fn joints_of_a_leaf_that_repeats(rt: HostRuntime) {
     let mut store: Store<Coded> = Store::new(rt.alloc());
-    let mut sources = MemSources::new(rt.alloc());
+    let mut none = MemSources::new(rt.alloc());
     let text = longest_between(&rt, &mut store);
-    assert!(rt; store.has(text));
     for (pattern, found) in [
-        (&b"ya"[..], Some(1)),
+        (b"ya".as_slice(), Some(1)),
         (b"yaa", Some(1)),
         (b"aabc", Some(LONGEST - 4)),
         (b"abc", Some(LONGEST - 3)),
         (b"bc", Some(LONGEST - 2)),
         (b"ac", None),
     ] {
-        let answer = find(rt.alloc(), &store, &mut sources, text, 0, pattern);
+        let answer = find_in(&rt, &store, &mut none, text, 0, pattern);
         assert_same_at(&rt, &answer, &Ok(found), &pattern);
     }
-}
-
-#[test]
-fn bytes_at_the_joints_of_a_leaf_that_repeats(rt: HostRuntime) {
-    let mut store: Store<Coded> = Store::new(rt.alloc());
-    let mut sources = MemSources::new(rt.alloc());
-    let text = longest_between(&rt, &mut store);
-    assert!(rt; store.has(text));
-    let first = chr(rt.alloc(), &store, &mut sources, text, 2, b'b');
-    assert_same(&rt, &first, &Ok(Some(LONGEST - 2)));
-    let last = rchr(rt.alloc(), &store, &mut sources, text, LONGEST - 3, b'y');
-    assert_same(&rt, &last, &Ok(Some(1)));
+    for (i, byte, first, last) in [
+        (2, b'b', Some(LONGEST - 2), None),
+        (LONGEST - 3, b'y', None, Some(1)),
+    ] {
+        let places = places_in(&rt, &store, &mut none, text, i, byte);
+        assert_same_at(&rt, &places, &Ok((first, last)), &i);
+    }
 }

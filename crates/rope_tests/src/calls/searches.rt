@@ -1,9 +1,10 @@
 //! Comparison, search and a write of texts over several leaves.
 
+use super::stores::{add_source, joined, literal, source_leaf};
 use super::{assert_same, assert_same_at};
 use cord_search::{FindFault, PutFault, chr, cmp, find, ncmp, put, rchr};
 use function_leaf::Coded;
-use lazy_file::MemSources;
+use lazy_file::{MemSources, SourceFault, Sources};
 use rope_node::Rope;
 use rope_store::Store;
 use std::alloc::AllocGlobal;
@@ -11,54 +12,126 @@ use std::cmp::Ordering;
 use std::io;
 use std::process::Abort;
 
-/// A text that is a source of its own, as one leaf.
-fn source_leaf<'a>(
+// What a call ensures is not needed to prove a test, so each stands in a function of its own that ensures nothing.
+
+pub(super) fn find_in<T: Sources>(
+    rt: &(impl AllocGlobal + Abort),
+    store: &Store<Coded>,
+    sources: &mut T,
+    text: Rope,
+    start: u64,
+    pattern: &[u8],
+) -> Result<Option<u64>, FindFault> {
+    assert!(rt; store.has(text));
+    find(rt.alloc(), store, sources, text, start, pattern)
+}
+
+/// The first place of a byte from `i` on, and the last one up to `i`.
+pub(super) fn places_in<T: Sources>(
+    rt: &(impl AllocGlobal + Abort),
+    store: &Store<Coded>,
+    sources: &mut T,
+    text: Rope,
+    i: u64,
+    byte: u8,
+) -> Result<(Option<u64>, Option<u64>), SourceFault> {
+    assert!(rt; store.has(text));
+    let first = chr(rt.alloc(), store, sources, text, i, byte)?;
+    let last = rchr(rt.alloc(), store, sources, text, i, byte)?;
+    Ok((first, last))
+}
+
+pub(super) fn cmp_texts<T: Sources>(
+    rt: &(impl AllocGlobal + Abort),
+    store: &Store<Coded>,
+    sources: &mut T,
+    texts: [Rope; 2],
+) -> Result<Ordering, SourceFault> {
+    let [x, y] = texts;
+    assert!(rt; store.has(x) && store.has(y));
+    cmp(rt.alloc(), store, sources, x, y)
+}
+
+/// At most `n` bytes from these places on.
+pub(super) fn cmp_parts<T: Sources>(
+    rt: &(impl AllocGlobal + Abort),
+    store: &Store<Coded>,
+    sources: &mut T,
+    texts: [Rope; 2],
+    places: (u64, u64),
+    n: u64,
+) -> Result<Ordering, SourceFault> {
+    let [x, y] = texts;
+    let (i, j) = places;
+    assert!(rt; store.has(x) && store.has(y));
+    ncmp(rt.alloc(), store, sources, x, i, y, j, n)
+}
+
+pub(super) fn put_to<T: Sources, W: io::Write>(
+    rt: &(impl AllocGlobal + Abort),
+    store: &Store<Coded>,
+    sources: &mut T,
+    text: Rope,
+    out: &mut W,
+) -> Result<(), PutFault> {
+    assert!(rt; store.has(text));
+    put(rt.alloc(), store, sources, text, out)
+}
+
+/// Texts that are each a source of its own, one behind the other.
+pub(super) fn leaves<'a>(
     rt: &impl Abort,
     store: &mut Store<Coded>,
     sources: &mut MemSources<'a>,
-    text: &'a [u8],
+    texts: &[&'a [u8]],
 ) -> Rope {
-    let s = u32::from(store.add_source(text.len() as u64).expect(rt, "a source"));
-    assert_same(rt, &sources.add(text).map(u32::from), &Ok(s));
-    store
-        .from_source(s, 0, text.len() as u64)
-        .expect(rt, "a leaf")
-}
-
-pub(super) fn joined(rt: &impl Abort, store: &mut Store<Coded>, l: Rope, r: Rope) -> Rope {
-    assert!(rt; store.has(l) && store.has(r));
-    store.cat(l, r).expect(rt, "a rope")
+    let mut rope = None;
+    for text in texts {
+        let s = add_source(rt, store, text.len() as u64);
+        assert_same(rt, &sources.add(text).map(u32::from), &Ok(s));
+        let leaf = source_leaf(rt, store, s, 0, text.len() as u64);
+        rope = joined(rt, store, rope, leaf);
+    }
+    rope
 }
 
 /// `abcde`, over three leaves.
-fn three_leaves<'a>(
-    rt: &impl Abort,
-    store: &mut Store<Coded>,
-    sources: &mut MemSources<'a>,
-) -> Rope {
-    let ab = source_leaf(rt, store, sources, b"ab");
-    let c = source_leaf(rt, store, sources, b"c");
-    let de = source_leaf(rt, store, sources, b"de");
-    let abc = joined(rt, store, ab, c);
-    joined(rt, store, abc, de)
+fn three_leaves(rt: &impl Abort, store: &mut Store<Coded>, sources: &mut MemSources<'_>) -> Rope {
+    leaves(rt, store, sources, &[b"ab", b"c", b"de"])
+}
+
+/// The first place of a pattern from `start` on, over leaves of these texts.
+fn place_in(
+    rt: &(impl AllocGlobal + Abort),
+    texts: &[&[u8]],
+    start: u64,
+    pattern: &[u8],
+) -> Option<u64> {
+    let mut store: Store<Coded> = Store::new(rt.alloc());
+    let mut sources = MemSources::new(rt.alloc());
+    let text = leaves(rt, &mut store, &mut sources, texts);
+    find_in(rt, &store, &mut sources, text, start, pattern).expect(rt, "a search")
 }
 
 #[test]
-fn patterns_stand_across_leaves(rt: HostRuntime) {
-    let mut store: Store<Coded> = Store::new(rt.alloc());
-    let mut sources = MemSources::new(rt.alloc());
-    let text = three_leaves(&rt, &mut store, &mut sources);
-    assert!(rt; store.has(text));
-    for (start, pattern, found) in [
-        (0, &b"bcd"[..], Some(1)),
-        (2, b"bcd", None),
-        (5, b"", Some(5)),
-        (6, b"", None),
-        (0, b"abcdef", None),
-        (u64::MAX, b"a", None),
+fn find_succeeds(rt: HostRuntime) {
+    let three: [&[u8]; 3] = [b"ab", b"c", b"de"];
+    let repeated: [&[u8]; 3] = [b"aab", b"aa", b"b"];
+    let bytes: [&[u8]; 6] = [b"a", b"b", b"c", b"a", b"b", b"d"];
+    for (texts, start, pattern, found) in [
+        (three.as_slice(), 0, b"bcd".as_slice(), Some(1)),
+        (&three, 2, b"bcd", None),
+        (&three, 5, b"", Some(5)),
+        (&three, 6, b"", None),
+        (&three, 0, b"abcdef", None),
+        (&three, u64::MAX, b"a", None),
+        (&repeated, 0, b"baab", Some(2)),
+        (&repeated, 1, b"aab", Some(3)),
+        (&repeated, 4, b"aab", None),
+        (&bytes, 0, b"abd", Some(3)),
     ] {
-        let answer = find(rt.alloc(), &store, &mut sources, text, start, pattern);
-        assert_same_at(&rt, &answer, &Ok(found), &start);
+        let place = place_in(&rt, texts, start, pattern);
+        assert_same_at(&rt, &place, &found, &(start, pattern));
     }
 }
 
@@ -67,10 +140,13 @@ fn patterns_have_a_limit(rt: HostRuntime) {
     let store: Store<Coded> = Store::new(rt.alloc());
     let mut sources = MemSources::new(rt.alloc());
     let pattern = [b'a'; 4097];
-    let answer = find(rt.alloc(), &store, &mut sources, None, 0, &pattern);
-    assert_same(&rt, &answer, &Err(FindFault::PatternTooLong));
-    let shorter = find(rt.alloc(), &store, &mut sources, None, 0, &pattern[1..]);
-    assert_same(&rt, &shorter, &Ok(None));
+    for (pattern, answer) in [
+        (pattern.as_slice(), Err(FindFault::PatternTooLong)),
+        (&pattern[1..], Ok(None)),
+    ] {
+        let found = find_in(&rt, &store, &mut sources, None, 0, pattern);
+        assert_same(&rt, &found, &answer);
+    }
 }
 
 /// The order of parts of two texts, or of the whole texts where no part is given.
@@ -81,40 +157,39 @@ fn order_of(
 ) -> Ordering {
     let mut store: Store<Coded> = Store::new(rt.alloc());
     let mut sources = MemSources::new(rt.alloc());
-    let x = store.from_bytes(texts[0]).expect(rt, "a rope");
-    let y = store.from_bytes(texts[1]).expect(rt, "a rope");
-    assert!(rt; store.has(x) && store.has(y));
+    let x = literal(rt, &mut store, texts[0]);
+    let y = literal(rt, &mut store, texts[1]);
     let order = match part {
-        Some((i, j, n)) => ncmp(rt.alloc(), &store, &mut sources, x, i, y, j, n),
-        None => cmp(rt.alloc(), &store, &mut sources, x, y),
+        Some((i, j, n)) => cmp_parts(rt, &store, &mut sources, [x, y], (i, j), n),
+        None => cmp_texts(rt, &store, &mut sources, [x, y]),
     };
     order.expect(rt, "an order")
 }
 
 #[test]
-fn parts_are_compared(rt: HostRuntime) {
-    for (part, want) in [
-        ((1, 1, 1), Ordering::Equal),
-        ((1, 1, 2), Ordering::Less),
-        ((0, 0, 3), Ordering::Less),
-        ((2, 1, 1), Ordering::Greater),
-        ((9, u64::MAX, u64::MAX), Ordering::Equal),
+fn texts_and_their_parts_are_compared(rt: HostRuntime) {
+    for (x, y, part, want) in [
+        (
+            b"abc".as_slice(),
+            b"xbd".as_slice(),
+            Some((1, 1, 1)),
+            Ordering::Equal,
+        ),
+        (b"abc", b"xbd", Some((1, 1, 2)), Ordering::Less),
+        (b"abc", b"xbd", Some((0, 0, 3)), Ordering::Less),
+        (b"abc", b"xbd", Some((2, 1, 1)), Ordering::Greater),
+        (
+            b"abc",
+            b"xbd",
+            Some((9, u64::MAX, u64::MAX)),
+            Ordering::Equal,
+        ),
+        (b"ab", b"abc", None, Ordering::Less),
+        (b"b", b"abc", None, Ordering::Greater),
+        (b"\x7f", b"\x80", None, Ordering::Less),
+        (b"", b"", None, Ordering::Equal),
     ] {
-        let order = order_of(&rt, [b"abc", b"xbd"], Some(part));
-        assert_same_at(&rt, &order, &want, &part);
-    }
-}
-
-#[test]
-fn texts_are_compared(rt: HostRuntime) {
-    for (x, y, want) in [
-        (&b"ab"[..], &b"abc"[..], Ordering::Less),
-        (b"b", b"abc", Ordering::Greater),
-        (b"\x7f", b"\x80", Ordering::Less),
-        (b"", b"", Ordering::Equal),
-    ] {
-        let order = order_of(&rt, [x, y], None);
-        assert_same_at(&rt, &order, &want, &x);
+        assert_same_at(&rt, &order_of(&rt, [x, y], part), &want, &(x, part));
     }
 }
 
@@ -122,33 +197,18 @@ fn texts_are_compared(rt: HostRuntime) {
 fn bytes_have_a_first_and_a_last_place(rt: HostRuntime) {
     let mut store: Store<Coded> = Store::new(rt.alloc());
     let mut sources = MemSources::new(rt.alloc());
-    let text = store.from_bytes(b"abab").expect(&rt, "a rope");
-    assert!(rt; store.has(text));
-    for (i, first, last) in [
-        (0, Some(0), Some(0)),
-        (1, Some(2), Some(0)),
-        (3, None, Some(2)),
-        (9, None, Some(2)),
-        (u64::MAX, None, Some(2)),
+    let text = literal(&rt, &mut store, b"abab");
+    for (i, byte, first, last) in [
+        (0, b'a', Some(0), Some(0)),
+        (1, b'a', Some(2), Some(0)),
+        (3, b'a', None, Some(2)),
+        (9, b'a', None, Some(2)),
+        (u64::MAX, b'a', None, Some(2)),
+        (9, b'c', None, None),
     ] {
-        assert_same_at(
-            &rt,
-            &chr(rt.alloc(), &store, &mut sources, text, i, b'a'),
-            &Ok(first),
-            &i,
-        );
-        assert_same_at(
-            &rt,
-            &rchr(rt.alloc(), &store, &mut sources, text, i, b'a'),
-            &Ok(last),
-            &i,
-        );
+        let places = places_in(&rt, &store, &mut sources, text, i, byte);
+        assert_same_at(&rt, &places, &Ok((first, last)), &i);
     }
-    assert_same(
-        &rt,
-        &rchr(rt.alloc(), &store, &mut sources, text, 9, b'c'),
-        &Ok(None),
-    );
 }
 
 /// Takes `room` bytes, one a write.
@@ -191,43 +251,21 @@ impl io::Write for Sink {
 }
 
 #[test]
-fn text_is_written(rt: HostRuntime) {
+fn text_is_written_up_to_where_no_more_is_taken(rt: HostRuntime) {
     let mut store: Store<Coded> = Store::new(rt.alloc());
     let mut sources = MemSources::new(rt.alloc());
     let text = three_leaves(&rt, &mut store, &mut sources);
-    assert!(rt; store.has(text));
-    let mut sink = Sink::with_room(8);
-    assert_same(
-        &rt,
-        &put(rt.alloc(), &store, &mut sources, text, &mut sink),
-        &Ok(()),
-    );
-    assert_same(&rt, &sink.taken(), &b"abcde".as_slice());
-}
-
-#[test]
-fn prefix_is_written_where_no_more_is_taken(rt: HostRuntime) {
-    let mut store: Store<Coded> = Store::new(rt.alloc());
-    let mut sources = MemSources::new(rt.alloc());
-    let text = three_leaves(&rt, &mut store, &mut sources);
-    assert!(rt; store.has(text));
-    let mut full = Sink::with_room(3);
-    let outcome = put(rt.alloc(), &store, &mut sources, text, &mut full);
-    assert_same(&rt, &outcome, &Err(PutFault::Write));
-    assert_same(&rt, &full.taken(), &b"abc".as_slice());
-}
-
-#[test]
-fn text_is_written_to_memory(rt: HostRuntime) {
-    let mut store: Store<Coded> = Store::new(rt.alloc());
-    let mut sources = MemSources::new(rt.alloc());
-    let text = three_leaves(&rt, &mut store, &mut sources);
-    assert!(rt; store.has(text));
+    for (room, outcome, taken) in [
+        (8, Ok(()), b"abcde".as_slice()),
+        (3, Err(PutFault::Write), b"abc"),
+    ] {
+        let mut sink = Sink::with_room(room);
+        let written = put_to(&rt, &store, &mut sources, text, &mut sink);
+        assert_same_at(&rt, &written, &outcome, &room);
+        assert_same_at(&rt, &sink.taken(), &taken, &room);
+    }
     let mut bytes: Vec<u8> = Vec::new(rt.alloc());
-    assert_same(
-        &rt,
-        &put(rt.alloc(), &store, &mut sources, text, &mut bytes),
-        &Ok(()),
-    );
+    let written = put_to(&rt, &store, &mut sources, text, &mut bytes);
+    assert_same(&rt, &written, &Ok(()));
     assert_same(&rt, &bytes.as_slice(), &b"abcde".as_slice());
 }

@@ -1,30 +1,14 @@
 //! Positions that walk through many leaves, beside a plain list of their bytes.
 
+use super::places::{fetch, fill, index, next, prev, run_bytes, run_left, set, skip, valid};
+use super::stores::{add_source, function, joined, literal, size_of, source_leaf, substr};
 use super::{assert_same, assert_same_at};
-use cord_position::Pos;
 use function_leaf::Coded;
 use lazy_file::MemSources;
 use rope_node::Rope;
 use rope_store::Store;
 use std::alloc::AllocGlobal;
 use std::process::Abort;
-
-// What a call of the store ensures is not needed to prove a test, so each stands in a function of its own that ensures nothing.
-
-fn cat(rt: &impl Abort, store: &mut Store<Coded>, l: Rope, r: Rope) -> Rope {
-    assert!(rt; store.has(l) && store.has(r));
-    store.cat(l, r).expect(rt, "a rope")
-}
-
-fn substr(rt: &impl Abort, store: &mut Store<Coded>, x: Rope, i: u64, n: u64) -> Rope {
-    assert!(rt; store.has(x));
-    store.substr(x, i, n).expect(rt, "a part")
-}
-
-fn depth(rt: &impl Abort, store: &Store<Coded>, x: Rope) -> u8 {
-    assert!(rt; store.has(x));
-    store.depth(x)
-}
 
 /// A rope, and the bytes that it should have.
 #[derive(Drop)]
@@ -39,18 +23,18 @@ fn four_leaves(
     store: &mut Store<Coded>,
     sources: &mut MemSources<'static>,
 ) -> Sample {
-    let source = u32::from(store.add_source(4).expect(rt, "a source"));
+    let source = add_source(rt, store, 4);
     assert_same(rt, &sources.add(b"xdey").map(u32::from), &Ok(source));
-    let abc = store.from_bytes(b"abc").expect(rt, "a literal");
-    let de = store.from_source(source, 1, 2).expect(rt, "a leaf");
-    let fgh = store.from_fn(Coded::ramp(b'f'), 3).expect(rt, "a function");
-    let i = store.from_bytes(b"i").expect(rt, "a literal");
-    let left = cat(rt, store, abc, de);
-    let right = cat(rt, store, fgh, i);
+    let abc = literal(rt, store, b"abc");
+    let de = source_leaf(rt, store, source, 1, 2);
+    let fgh = function(rt, store, Coded::ramp(b'f'), 3);
+    let i = literal(rt, store, b"i");
+    let left = joined(rt, store, abc, de);
+    let right = joined(rt, store, fgh, i);
     let mut bytes = Vec::new(rt.alloc());
     bytes.extend_from_slice(b"abcdefghi").expect(rt, "memory");
     Sample {
-        rope: cat(rt, store, left, right),
+        rope: joined(rt, store, left, right),
         bytes,
     }
 }
@@ -70,7 +54,7 @@ fn joined_and_cut(
     };
     let mut bytes = Vec::new(rt.alloc());
     bytes.extend_from_slice(inner).expect(rt, "memory");
-    let rope = cat(rt, store, left.rope, right.rope);
+    let rope = joined(rt, store, left.rope, right.rope);
     Sample {
         rope: substr(rt, store, rope, 1, inner.len() as u64),
         bytes,
@@ -84,20 +68,19 @@ fn walk(
     sources: &mut MemSources<'static>,
     sample: &Sample,
 ) {
-    assert!(rt; store.has(sample.rope));
-    let mut pos = Pos::set(rt.alloc(), store, sample.rope, 0);
+    let mut pos = set(rt, store, sample.rope, 0);
     for (i, byte) in sample.bytes.iter().enumerate() {
-        assert_same(rt, &pos.index(), &(i as u64));
-        assert_same_at(rt, &pos.fetch(sources), &Ok(Some(*byte)), &i);
-        assert!(rt; pos.next());
+        assert_same(rt, &index(&pos), &(i as u64));
+        assert_same_at(rt, &fetch(&pos, sources), &Ok(Some(*byte)), &i);
+        assert!(rt; next(&mut pos));
     }
-    assert_same(rt, &pos.fetch(sources), &Ok(None));
-    assert!(rt; !pos.next());
+    assert_same(rt, &fetch(&pos, sources), &Ok(None));
+    assert!(rt; !next(&mut pos));
     for byte in sample.bytes.iter().rev() {
-        assert!(rt; pos.prev());
-        assert_eq!(rt; pos.fetch(sources), Ok(Some(*byte)), "{}", pos.index());
+        assert!(rt; prev(&mut pos));
+        assert_same(rt, &fetch(&pos, sources), &Ok(Some(*byte)));
     }
-    assert!(rt; !pos.prev());
+    assert!(rt; !prev(&mut pos));
 }
 
 /// From run to run, each one's bytes at once, and how many runs there are.
@@ -107,24 +90,25 @@ fn count_runs(
     sources: &mut MemSources<'static>,
     sample: &Sample,
 ) -> usize {
-    assert!(rt; store.has(sample.rope));
-    let mut pos = Pos::set(rt.alloc(), store, sample.rope, 0);
+    let mut pos = set(rt, store, sample.rope, 0);
+    let mut rest = sample.bytes.as_slice();
     for count in 0..sample.bytes.len() {
-        if !pos.valid() {
+        if rest.is_empty() {
+            assert!(rt; !valid(&pos));
             return count;
         }
-        let rest = sample.bytes.get(pos.index() as usize..).unwrap_or(&[]);
         let mut buffer = [0; 8];
-        let filled = pos.fill(sources, &mut buffer).unwrap_or(0);
-        assert_same(rt, &(filled as u64), &pos.run_left());
+        let filled = fill(&pos, sources, &mut buffer).unwrap_or(0);
+        assert_same(rt, &(filled as u64), &run_left(&pos));
         assert_same(rt, &buffer.get(..filled), &rest.get(..filled));
-        let literal = pos.run_bytes();
+        let literal = run_bytes(&pos);
         if !literal.is_empty() {
             assert_same(rt, &Some(literal), &buffer.get(..filled));
         }
-        pos.skip(filled as u64);
+        skip(&mut pos, filled as u64);
+        rest = rest.get(filled..).unwrap_or(&[]);
     }
-    assert!(rt; !pos.valid());
+    assert!(rt; rest.is_empty() && !valid(&pos));
     sample.bytes.len()
 }
 
@@ -135,16 +119,19 @@ fn jump(
     sources: &mut MemSources<'static>,
     sample: &Sample,
 ) {
-    assert!(rt; store.has(sample.rope));
-    let mut pos = Pos::set(rt.alloc(), store, sample.rope, 0);
+    let mut pos = set(rt, store, sample.rope, 0);
+    let mut place: u64 = 0;
     for k in 0..1000 {
         let ahead = (k * 2_654_435_761) % 211;
-        pos.skip(ahead);
-        if !pos.valid() {
-            pos = Pos::set(rt.alloc(), store, sample.rope, ahead);
+        skip(&mut pos, ahead);
+        place = place.saturating_add(ahead);
+        if place >= sample.bytes.len() as u64 {
+            assert!(rt; !valid(&pos));
+            pos = set(rt, store, sample.rope, ahead);
+            place = ahead;
         }
-        let byte = sample.bytes.get(pos.index() as usize).copied();
-        assert_eq!(rt; pos.fetch(sources), Ok(byte), "{}", pos.index());
+        let byte = sample.bytes.get(place as usize).copied();
+        assert_same_at(rt, &fetch(&pos, sources), &Ok(byte), &place);
     }
 }
 
@@ -174,7 +161,8 @@ fn parts_of_parts_down_to_the_greatest_depth(rt: HostRuntime) {
             sample = joined_and_cut(&rt, &mut store, &leaves, &sample);
         }
     }
-    assert_same(&rt, &depth(&rt, &store, sample.rope), &64);
+    let (_, depth) = size_of(&rt, &store, sample.rope);
+    assert_same(&rt, &depth, &64);
     walk(&rt, &store, &mut sources, &sample);
     jump(&rt, &store, &mut sources, &sample);
     count_runs(&rt, &store, &mut sources, &sample);

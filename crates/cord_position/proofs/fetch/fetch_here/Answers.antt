@@ -5,20 +5,19 @@ use Rattle.rope_node.specs.Denotes.{cell_at}
 use Rattle.cord_position.specs.Fetched.{rope_cell}
 use Rattle.cord_position.proofs.HereLaws.{fetched_here, fetched_literal, fetched_none, here_cell}
 use Rattle.cord_position.proofs.LeafParts.{moved}
-use Rattle.cord_position.proofs.Outcomes.{same_fault}
 use Rattle.cord_position.proofs.fetch.fetch_here.Goals as goal
 
 pub returns-then-offset-bytes-clause-byte : goal.returns-then-offset-bytes-clause-byte
 returns-then-offset-bytes-clause-byte g c =
-    fetched_literal (g.S.NodeSpace.table c.args.space.now) (g.T.Sources.stated c.args.sources.now) c.args.rope c.args.place c.args.here c.args.bytes.now c.requires.here c.requires.bytes (omega (arith, c.if-offset-bytes.true))
+    fetched_literal (g.S.NodeSpace.table c.args.space.now) (g.T.Sources.reading c.args.sources.now).stated c.args.rope c.args.place c.args.here c.args.bytes.now c.requires.here c.requires.bytes (omega (arith, c.if-offset-bytes.true))
 
 pub returns-then-offset-here-clause-byte : goal.returns-then-offset-here-clause-byte
 returns-then-offset-here-clause-byte g c =
-    fetched_none (g.S.NodeSpace.table c.args.space.now) (g.T.Sources.stated c.args.sources.now) c.args.rope c.args.place c.args.here c.requires.here (omega (arith, c.if-offset-here.true))
+    fetched_none (g.S.NodeSpace.table c.args.space.now) (g.T.Sources.reading c.args.sources.now).stated c.args.rope c.args.place c.args.here c.requires.here (omega (arith, c.if-offset-here.true))
 
 pub returns-clause-byte : goal.returns-clause-byte
 returns-clause-byte g c =
-    fetched_here (g.S.NodeSpace.table c.args.space.now) (g.T.Sources.stated c.args.sources.now) c.args.rope c.args.place c.in_ok-byte.byte c.args.here c.requires.here (omega (arith, c.if-offset-here.false)) c.in_ok-byte.ensures.byte
+    fetched_here (g.S.NodeSpace.table c.args.space.now) (g.T.Sources.reading c.args.sources.now).stated c.args.rope c.args.place c.in_ok-byte.byte c.args.here c.requires.here (omega (arith, c.if-offset-here.false)) c.in_ok-byte.ensures.byte
 
 pub returns-in_err-byte-clause-reads : goal.returns-in_err-byte-clause-reads
 returns-in_err-byte-clause-reads g c =
@@ -30,4 +29,4 @@ returns-in_err-byte-clause-reads g c =
     let start = x.skipped + (i - x.first) in
     let same : (k : ℕ) → k < 1 → rope_cell t c.args.rope (i + k) ≡ cell_at t x.node.0 (start + k) =
     λ k lt. ap (rope_cell t c.args.rope) (omega (arith, lt)) ∙ here ∙ ap (cell_at t x.node.0) (omega (arith, lt)) in
-    rw (p.1, p.2) (same_fault _ _ _ _ _ _ _ _ (moved _ _ _ _ (rope_cell t c.args.rope) (cell_at t x.node.0) i start 1 (Err c.in_err-byte.field-0.0) same c.in_err-byte.ensures.reads))
+    rw (p.1, p.2) (moved {X = Unit {0}} _ _ (rope_cell t c.args.rope) (cell_at t x.node.0) i start 1 (Err c.in_err-byte.field-0.0) same c.in_err-byte.ensures.reads)

@@ -28,4 +28,4 @@ returns-in-Src-clause-reads g c =
     let t = g.S.NodeSpace.table c.args.space.now in
     let same : (k : ℕ) → k < 1 → cell_at t c.args.leaf.0 (c.args.start + k) ≡ Place c.in-Src.s (c.in-Src.a + c.args.start + k) =
     λ k lt. source_cell t c.node.ensures.sound c.args.leaf.0 (c.args.start + k) c.in-Src.s c.in-Src.a c.requires.there (omega (arith, lt, c.requires.inside)) (sym c.in-Src.ensures.view) ∙ ap (Place c.in-Src.s) (omega arith) in
-    moved _ _ _ _ (cell_at t c.args.leaf.0) (Place c.in-Src.s) c.args.start (c.in-Src.a + c.args.start) 1 c.source_byte.result same c.source_byte.ensures.reads
+    moved _ _ (cell_at t c.args.leaf.0) (Place c.in-Src.s) c.args.start (c.in-Src.a + c.args.start) 1 c.source_byte.result same c.source_byte.ensures.reads

@@ -1,6 +1,6 @@
-use Rattle.std.proofs.Common.{◌+◌, ◌-◌, ◌≤◌, ℕ}
+use Rattle.std.proofs.Common.{◌≡◌, ◌+◌, ◌-◌, ◌≤◌, ℕ}
 use Rattle.rope_node.specs.Denotes.{rope_cells, text}
-use Rattle.lazy_file.specs.SourceTexts.{Agrees, ReadsUnfailed}
+use Rattle.lazy_file.specs.SourceTexts.{Agrees}
 use Rattle.cord_position.specs.Fetched.{EachCell, IsStated, rope_cell}
 use Rattle.cord_search.specs.Reached.{StandsAtPlace}
 use Rattle.cord_search.proofs.Orders.{IsOrderOfRest}
@@ -10,9 +10,9 @@ use Rattle.cord_search.proofs.compare.ncmp.Given as goal
 abbrev pub invariant-loop-k : goal.invariant-loop-k
 invariant-loop-k g l =
     let t = g.S.NodeSpace.table l.space in
-    let st = g.T.Sources.stated l.initial.sources in
+    let st = (g.T.Sources.reading l.initial.sources).stated in
     record {
-      reads : ReadsUnfailed g.T.Sources.stated g.T.Sources.failures l.initial.sources l.sources;
+      reads : g.T.Sources.reading l.sources ≡ g.T.Sources.reading l.initial.sources;
       inside : l.k ≤ l.n;
       at_first : StandsAtPlace g.S.NodeSpace.table l.first l.space l.fn.x (l.fn.i + l.k);
       at_second : StandsAtPlace g.S.NodeSpace.table l.second l.space l.fn.y (l.fn.j + l.k);

@@ -9,10 +9,10 @@ pub returns-clause-bytes : goal.returns-clause-bytes
 returns-clause-bytes g c =
     let here = c.args.pos.now in
     let t = g.S.NodeSpace.table here.space in
-    filled_run t (g.T.Sources.stated c.args.sources.now) here.rope here.index (length c.args.buffer.now) (rope_span t here.rope here.index) c.fill.new.buffer c.fill.result c.run_left-left.ensures.run c.fill.ensures.count c.fill.ensures.bytes
+    filled_run t (g.T.Sources.reading c.args.sources.now).stated here.rope here.index (length c.args.buffer.now) (rope_span t here.rope here.index) c.fill.new.buffer c.fill.result c.run_left-left.ensures.run c.fill.ensures.count c.fill.ensures.bytes
 
 pub returns-clause-reads : goal.returns-clause-reads
 returns-clause-reads g c =
     let here = c.args.pos.now in
-    reads_more g.T.Sources.stated g.T.Sources.failures c.args.sources.now c.fill.new.sources (cell_of g.S.NodeSpace.table here) here.index (here.index + length c.args.buffer.now)
+    reads_more (g.T.Sources.reading c.args.sources.now) (g.T.Sources.reading c.fill.new.sources) (cell_of g.S.NodeSpace.table here) here.index (here.index + length c.args.buffer.now)
     (here.index + min (left_here g.S.NodeSpace.table here) (length c.args.buffer.now)) c.fill.result (omega arith) c.fill.ensures.reads

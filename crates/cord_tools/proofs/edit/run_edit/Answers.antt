@@ -17,4 +17,4 @@ returns g c =
     EditsFile.ran c.in_ok-editor.editor c.run-end.new.self c.run-end.result c.in_ok-editor.ensures.sources
     (λ long. (let refused = c.in_ok-editor.ensures.too_long.1 long in absurd cc)) c.in_ok-editor.ensures.made c.run-end.ensures.run
     (subst (λ (st : Stated). Concludes st.sizes c.run-end.result c.run-end.new.self.editing (g.I.Write.contents c.args.image.now) (g.I.Write.contents c.conclude.new.image) c.conclude.result)
-    (c.run-end.ensures.reads.same ∙ ap g.S.Sources.stated c.in_ok-editor.ensures.sources) c.conclude.ensures)
+    (c.run-end.ensures.later.same ∙ ap (λ s. (g.S.Sources.reading s).stated) c.in_ok-editor.ensures.sources) c.conclude.ensures)

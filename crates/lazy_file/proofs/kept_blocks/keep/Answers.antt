@@ -1,6 +1,13 @@
-use Rattle.std.proofs.Common.{ap}
-use Rattle.lazy_file.proofs.KeptLists.{one_kept}
+use Rattle.std.proofs.Common.{◌≡◌, ap, sym, subst}
+use Rattle.lru.specs.LruCache.{put_entries}
+use Rattle.lazy_file.specs.KeptBlocks.{IsKept}
+use Rattle.lazy_file.proofs.KeptLists.{key_eq, one_kept, put_kept}
 use Rattle.lazy_file.proofs.kept_blocks.keep.Goals as goal
 
-pub returns : goal.returns
-returns c = one_kept c.args.kept.now c.put.new.self.entries c.args.key c.args.block (ap (λ k. k.entries) c.in_ok-put.ensures.entries)
+pub returns-clause-one : goal.returns-clause-one
+returns-clause-one c = one_kept c.args.kept.now c.put.new.self.entries c.args.key c.args.block (ap (λ k. k.entries) c.in_ok-put.ensures.entries)
+
+pub returns-clause-kept : goal.returns-clause-kept
+returns-clause-kept c =
+    let put : c.put.new.self.entries ≡ put_entries key_eq c.args.kept.now c.args.key c.args.block = ap (λ k. k.entries) c.in_ok-put.ensures.entries in
+    subst (λ es. IsKept es c.args.key) (sym put) (put_kept c.args.kept.now c.args.key c.args.block)

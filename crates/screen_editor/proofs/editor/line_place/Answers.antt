@@ -1,4 +1,3 @@
-use Rattle.std.proofs.Common.{ℕ, Option}
 use Rattle.std.proofs.lemmas.Result.{err_from_is_err_and}
 use Rattle.screen_editor.proofs.LineTurns.{failed_in_current}
 use Rattle.screen_editor.proofs.editor.line_place.Goals as goal
@@ -6,23 +5,23 @@ use Rattle.screen_editor.proofs.editor.line_place.Goals as goal
 pub returns-in_err-line_start-in-LineStart-clause-reads : goal.returns-in_err-line_start-in-LineStart-clause-reads
 returns-in_err-line_start-in-LineStart-clause-reads g c =
     let p = err_from_is_err_and c.from_residual.result c.from_residual.ensures.1 in
-    rw (p.1, p.2) (failed_in_current {X = ℕ} {Y = Option ℕ} g.R.Sources.stated g.R.Sources.failures c.args.sources.now c.line_start.new.sources c.args.workspace.now c.session.result.now c.space-space.result.now c.root-root.result _
+    rw (p.1, p.2) (failed_in_current (g.R.Sources.reading c.args.sources.now) (g.R.Sources.reading c.line_start.new.sources) c.args.workspace.now c.session.result.now c.space-space.result.now c.root-root.result _
     c.session.ensures.value c.space-space.ensures.store c.root-root.ensures.value c.in_err-line_start-in-LineStart.ensures.reads)
 
 pub returns-in_err-line_end-in-LineEnd-clause-reads : goal.returns-in_err-line_end-in-LineEnd-clause-reads
 returns-in_err-line_end-in-LineEnd-clause-reads g c =
     let p = err_from_is_err_and c.from_residual-in_err-line_end-in-LineEnd.result c.from_residual-in_err-line_end-in-LineEnd.ensures.1 in
-    rw (p.1, p.2) (failed_in_current {X = ℕ} {Y = Option ℕ} g.R.Sources.stated g.R.Sources.failures c.args.sources.now c.line_end.new.sources c.args.workspace.now c.session.result.now c.space-space.result.now c.root-root.result _
+    rw (p.1, p.2) (failed_in_current (g.R.Sources.reading c.args.sources.now) (g.R.Sources.reading c.line_end.new.sources) c.args.workspace.now c.session.result.now c.space-space.result.now c.root-root.result _
     c.session.ensures.value c.space-space.ensures.store c.root-root.ensures.value c.in_err-line_end-in-LineEnd.ensures.reads)
 
 pub returns-in_err-place_up-in-Up-clause-reads : goal.returns-in_err-place_up-in-Up-clause-reads
 returns-in_err-place_up-in-Up-clause-reads g c =
     let p = err_from_is_err_and c.from_residual-in_err-place_up-in-Up.result c.from_residual-in_err-place_up-in-Up.ensures.1 in
-    rw (p.1, p.2) (failed_in_current {X = ℕ} {Y = Option ℕ} g.R.Sources.stated g.R.Sources.failures c.args.sources.now c.place_up.new.sources c.args.workspace.now c.session.result.now c.space-space.result.now c.root-root.result _
+    rw (p.1, p.2) (failed_in_current (g.R.Sources.reading c.args.sources.now) (g.R.Sources.reading c.place_up.new.sources) c.args.workspace.now c.session.result.now c.space-space.result.now c.root-root.result _
     c.session.ensures.value c.space-space.ensures.store c.root-root.ensures.value c.in_err-place_up-in-Up.ensures.reads)
 
 pub returns-in_err-place_down-in-Down-clause-reads : goal.returns-in_err-place_down-in-Down-clause-reads
 returns-in_err-place_down-in-Down-clause-reads g c =
     let p = err_from_is_err_and c.from_residual-in_err-place_down-in-Down.result c.from_residual-in_err-place_down-in-Down.ensures.1 in
-    rw (p.1, p.2) (failed_in_current {X = ℕ} {Y = Option ℕ} g.R.Sources.stated g.R.Sources.failures c.args.sources.now c.place_down.new.sources c.args.workspace.now c.session.result.now c.space-space.result.now c.root-root.result _
+    rw (p.1, p.2) (failed_in_current (g.R.Sources.reading c.args.sources.now) (g.R.Sources.reading c.place_down.new.sources) c.args.workspace.now c.session.result.now c.space-space.result.now c.root-root.result _
     c.session.ensures.value c.space-space.ensures.store c.root-root.ensures.value c.in_err-place_down-in-Down.ensures.reads)

@@ -1,4 +1,4 @@
-use Rattle.std.proofs.Common.{◌+◌, ◌-◌, refl, sym, ap, ◌∙◌, arith}
+use Rattle.std.proofs.Common.{◌+◌, ◌-◌, refl, sym, ap, ◌∙◌, arith, Err}
 use Rattle.std.proofs.lemmas.Result.{err_from_is_err_and}
 use Rattle.rope_node.specs.Denotes.{rope_len}
 use Rattle.cord_position.specs.Fetched.{rope_cell}
@@ -11,17 +11,17 @@ pub returns-in_err-found-clause-reads : goal.returns-in_err-found-clause-reads
 returns-in_err-found-clause-reads g c =
     let p = err_from_is_err_and c.from_residual.result c.from_residual.ensures.1 in
     let t = g.S.NodeSpace.table c.args.space.now in
-    rw (p.1, p.2) (failed_in g.T.Sources.stated g.T.Sources.failures c.args.sources.now c.args.sources.now c.rchr.new.sources (rope_cell t c.args.rope) 0 (rope_len t c.args.rope) 0 ((c.args.place - 1) + 1) _
-    (record { same = refl; unfailed = refl }) c.in_err-found.ensures.reads (omega arith) (omega (arith, c.requires.place, c.if-place-eq0.false)))
+    rw (p.1, p.2) (failed_in {X = Unit {0}} (g.T.Sources.reading c.args.sources.now) (g.T.Sources.reading c.args.sources.now) (g.T.Sources.reading c.rchr.new.sources) (rope_cell t c.args.rope) 0 (rope_len t c.args.rope) 0 ((c.args.place - 1) + 1) (Err c.in_err-found.field-0.0)
+    refl c.in_err-found.ensures.reads (omega arith) (omega (arith, c.requires.place, c.if-place-eq0.false)))
 
 pub returns-in-Some-clause-is : goal.returns-in-Some-clause-is
 returns-in-Some-clause-is g c source agrees stated =
     let t = g.S.NodeSpace.table c.args.space.now in
-    sym (ap line_start_from c.in-Some.is) ∙ start_found t (g.T.Sources.stated c.args.sources.now) c.args.rope c.args.place c.in_ok-found.field-0 (sym c.rope_len.ensures.cells ∙ c.rope_len.ensures.exact)
+    sym (ap line_start_from c.in-Some.is) ∙ start_found t (g.T.Sources.reading c.args.sources.now).stated c.args.rope c.args.place c.in_ok-found.field-0 (sym c.rope_len.ensures.cells ∙ c.rope_len.ensures.exact)
     (omega (arith, c.if-place-eq0.false)) c.requires.place c.in_ok-found.ensures.found source agrees stated
 
 pub returns-in-None-clause-is : goal.returns-in-None-clause-is
 returns-in-None-clause-is g c source agrees stated =
     let t = g.S.NodeSpace.table c.args.space.now in
-    sym (ap line_start_from c.in-None.is) ∙ start_found t (g.T.Sources.stated c.args.sources.now) c.args.rope c.args.place c.in_ok-found.field-0 (sym c.rope_len.ensures.cells ∙ c.rope_len.ensures.exact)
+    sym (ap line_start_from c.in-None.is) ∙ start_found t (g.T.Sources.reading c.args.sources.now).stated c.args.rope c.args.place c.in_ok-found.field-0 (sym c.rope_len.ensures.cells ∙ c.rope_len.ensures.exact)
     (omega (arith, c.if-place-eq0.false)) c.requires.place c.in_ok-found.ensures.found source agrees stated

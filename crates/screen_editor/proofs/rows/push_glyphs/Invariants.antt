@@ -1,5 +1,4 @@
 use Rattle.std.proofs.Common.{◌≡◌, ◌-◌, ◌++◌, take, drop, map}
-use Rattle.lazy_file.specs.SourceTexts.{ReadsUnfailed}
 use Rattle.cord_search.specs.Reached.{StandsAtPlace}
 use Rattle.cord_search.specs.Stated.{OfText}
 use Rattle.screen_editor.specs.Frame.{glyph}
@@ -8,8 +7,8 @@ use Rattle.screen_editor.proofs.rows.push_glyphs.Given as goal
 -- the sources are as they were, and no read of them has failed, and the position stands at the place
 abbrev pub invariant-loop-place : goal.invariant-loop-place
 invariant-loop-place g l = record {
-  reads : ReadsUnfailed g.T.Sources.stated g.T.Sources.failures l.initial.sources l.sources;
+  reads : g.T.Sources.reading l.sources ≡ g.T.Sources.reading l.initial.sources;
   at : StandsAtPlace g.S.NodeSpace.table l.pos l.space l.rope l.place;
-  told : OfText (g.S.NodeSpace.table l.space) (g.T.Sources.stated l.initial.sources) l.rope
+  told : OfText (g.S.NodeSpace.table l.space) (g.T.Sources.reading l.initial.sources).stated l.rope
       (λ t. l.out.items ≡ l.initial.out.items ++ map glyph (take (l.place - l.start) (drop l.start t)));
 }

@@ -1,7 +1,6 @@
-use Rattle.std.proofs.Common.{◌≤◌}
+use Rattle.std.proofs.Common.{◌≡◌, ◌≤◌}
 use Rattle.std.specs.Prelude.{IfSome}
 use Rattle.rope_node.specs.Denotes.{rope_len}
-use Rattle.lazy_file.specs.SourceTexts.{ReadsUnfailed}
 use Rattle.cord_search.specs.Stated.{OfText}
 use Rattle.screen_editor.proofs.RowWalk.{IsAtRow}
 use Rattle.screen_editor.proofs.rows.push_rows.Given as goal
@@ -9,8 +8,8 @@ use Rattle.screen_editor.proofs.rows.push_rows.Given as goal
 -- the sources are as they were, and no read of them has failed
 abbrev pub invariant-loop-row : goal.invariant-loop-row
 invariant-loop-row g l = record {
-  reads : ReadsUnfailed g.T.Sources.stated g.T.Sources.failures l.initial.sources l.sources;
+  reads : g.T.Sources.reading l.sources ≡ g.T.Sources.reading l.initial.sources;
   inside : IfSome l.next (λ s. s ≤ rope_len (g.S.NodeSpace.table l.space) l.rope);
-  told : OfText (g.S.NodeSpace.table l.space) (g.T.Sources.stated l.initial.sources) l.rope
+  told : OfText (g.S.NodeSpace.table l.space) (g.T.Sources.reading l.initial.sources).stated l.rope
       (λ t. IsAtRow t l.top l.left l.row l.next l.initial.out.items l.out.items);
 }

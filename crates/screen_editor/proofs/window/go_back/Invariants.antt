@@ -1,5 +1,4 @@
-use Rattle.std.proofs.Common.{◌-◌, ◌≤◌}
-use Rattle.lazy_file.specs.SourceTexts.{ReadsUnfailed}
+use Rattle.std.proofs.Common.{◌≡◌, ◌-◌, ◌≤◌}
 use Rattle.cord_search.specs.Stated.{OfText}
 use Rattle.screen_editor.specs.declared.window.TheConstants.{LINES_ABOVE}
 use Rattle.screen_editor.specs.Rows.{IsAbove}
@@ -8,10 +7,10 @@ use Rattle.screen_editor.proofs.window.go_back.Given as goal
 -- the sources are as they were, and no read of them has failed
 abbrev pub invariant-loop-row : goal.invariant-loop-row
 invariant-loop-row g l = record {
-  reads : ReadsUnfailed g.T.Sources.stated g.T.Sources.failures l.initial.sources l.sources;
+  reads : g.T.Sources.reading l.sources ≡ g.T.Sources.reading l.initial.sources;
   inside : l.top ≤ l.start;
   few : l.row ≤ LINES_ABOVE;
-  told : OfText (g.S.NodeSpace.table l.space) (g.T.Sources.stated l.initial.sources) l.rope (λ t. IsAbove t l.start l.top l.row);
+  told : OfText (g.S.NodeSpace.table l.space) (g.T.Sources.reading l.initial.sources).stated l.rope (λ t. IsAbove t l.start l.top l.row);
 }
 
 abbrev pub decreases-loop-row : goal.decreases-loop-row

@@ -1,23 +1,29 @@
 use Rattle.std.proofs.Common.{refl}
-use Rattle.span_certificate.specs.declared.cover.Verdict.TheVariants.{Bad}
-use Rattle.session_checker.proofs.RevisionFaults.{IsHanded, handed_tells, handed_unread}
+use Rattle.span_certificate.specs.declared.cover.Verdict.TheVariants.{Bad, Good}
+use Rattle.session_checker.proofs.EarlierRevisions.{rows_inside}
+use Rattle.session_checker.proofs.RevisionFaults.{IsHanded, handed_tells, handed_reads}
 use Rattle.session_checker.proofs.revision_rules.check_rows.Goals as goal
 
+pub rows-rows-requires : goal.rows-rows-requires
+rows-rows-requires g c = rw (c.requires.from, c.requires.revision) (rows_inside c.args.revisions.now c.count-count.ensures.image c.args.k c.requires.there)
+
 pub returns-in-Ok-Good-clause-ok : goal.returns-in-Ok-Good-clause-ok
-returns-in-Ok-Good-clause-ok g c = λ _ source agrees stated.
-    let v = c.args.tables.now in
-    let is : IsHanded v c.args.k c.args.parts.now c.revision-revision.result c.args.from c.image.result.now = record { parts_are = c.requires.parts; revision_is = c.revision-revision.ensures; from_is = c.requires.from; image_is = c.image.ensures.image } in
-    (handed_tells v (g.S.Sources.stated c.args.sources.now) c.args.k c.args.parts.now c.revision-revision.result c.args.from c.image.result.now _ is c.in-Ok-Good.ensures.exact source agrees (λ i before there. stated i there)).good.0 c.in-Ok-Good.field-0-is
+returns-in-Ok-Good-clause-ok g c = λ _.
+    let v = c.args.revisions.now in
+    let is : IsHanded v c.args.k c.args.parts c.args.revision c.args.from v = record { parts_are = c.requires.parts; revision_is = c.requires.revision; from_is = c.requires.from; image_is = refl } in
+    let exact = rw (c.in-Ok-Good.field-0-is, c.requires.same, c.rows-rows.ensures.image, c.rows-rows.ensures.from, c.rows-rows.ensures.count) at c.in-Ok-Good.ensures.exact in
+    handed_tells v (g.S.Sources.reading c.args.sources.now).stated c.args.k c.args.parts c.args.revision c.args.from v Good is exact
 
 pub returns-in-Ok-Bad-clause-err : goal.returns-in-Ok-Bad-clause-err
 returns-in-Ok-Bad-clause-err g c =
-    let v = c.args.tables.now in
-    let is : IsHanded v c.args.k c.args.parts.now c.revision-revision.result c.args.from c.image.result.now = record { parts_are = c.requires.parts; revision_is = c.revision-revision.ensures; from_is = c.requires.from; image_is = c.image.ensures.image } in
-    let tells = rw c.in-Ok-Bad.field-0-is at c.in-Ok-Bad.ensures.exact in
-    (refl, λ source agrees stated. ((handed_tells v (g.S.Sources.stated c.args.sources.now) c.args.k c.args.parts.now c.revision-revision.result c.args.from c.image.result.now (Bad c.in-Ok-Bad.row) is tells source agrees stated).bad c.in-Ok-Bad.row).0 refl)
+    let v = c.args.revisions.now in
+    let is : IsHanded v c.args.k c.args.parts c.args.revision c.args.from v = record { parts_are = c.requires.parts; revision_is = c.requires.revision; from_is = c.requires.from; image_is = refl } in
+    let tells = rw (c.in-Ok-Bad.field-0-is, c.requires.same, c.rows-rows.ensures.image, c.rows-rows.ensures.from, c.rows-rows.ensures.count) at c.in-Ok-Bad.ensures.exact in
+    λ _. (refl, handed_tells v (g.S.Sources.reading c.args.sources.now).stated c.args.k c.args.parts c.args.revision c.args.from v (Bad c.in-Ok-Bad.row) is tells)
 
-pub returns-in-Err-clause-err : goal.returns-in-Err-clause-err
-returns-in-Err-clause-err g c =
-    let v = c.args.tables.now in
-    let is : IsHanded v c.args.k c.args.parts.now c.revision-revision.result c.args.from c.image.result.now = record { parts_are = c.requires.parts; revision_is = c.revision-revision.ensures; from_is = c.requires.from; image_is = c.image.ensures.image } in
-    handed_unread g.S.Sources.stated g.S.Sources.failures c.args.sources.now c.verify.new.sources v c.args.k c.args.parts.now c.revision-revision.result c.args.from c.image.result.now c.in-Err.fault is c.in-Err.ensures.reads
+pub returns-in-Err-clause-reads : goal.returns-in-Err-clause-reads
+returns-in-Err-clause-reads g c =
+    let v = c.args.revisions.now in
+    let is : IsHanded v c.args.k c.args.parts c.args.revision c.args.from v = record { parts_are = c.requires.parts; revision_is = c.requires.revision; from_is = c.requires.from; image_is = refl } in
+    let reads = rw (c.requires.same, c.rows-rows.ensures.image, c.rows-rows.ensures.from, c.rows-rows.ensures.count) at c.in-Err.ensures.reads in
+    handed_reads (g.S.Sources.reading c.args.sources.now) (g.S.Sources.reading c.verify_counted.new.sources) v c.args.k c.args.parts c.args.revision c.args.from v c.in-Err.fault is reads

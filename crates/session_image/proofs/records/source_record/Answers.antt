@@ -5,4 +5,4 @@ use Rattle.session_image.proofs.records.source_record.Goals as goal
 
 pub returns : goal.returns
 unfolding source_spelling
-returns c = rw (c.push_u64.ensures.bytes, c.new-record.ensures) (put_is_spelled [] source_layout (c.args.len ∷ []))
+returns c = rw (c.push_u64.ensures.bytes, c.new-record.ensures) (put_is_spelled [] source_layout (c.args.size ∷ []))

@@ -3,45 +3,60 @@ use Rattle.rope_node.specs.Table.{len_at, IsLeaf}
 use Rattle.rope_node.proofs.Paths.{is_leaf_of}
 use Rattle.span_certificate.specs.Leads.{here}
 use Rattle.span_certificate.specs.Descents.{LeadsToSpan}
+use Rattle.span_certificate.proofs.Depths.{depths_of_cat, depth_of_base, counted_few}
 use Rattle.span_certificate.proofs.Descents.{goes_left, goes_right, goes_down, over_border, same_span, base_of_sub}
 use Rattle.span_certificate.proofs.descent.leaf_span.Goals as goal
 
 pub down-preserved-then-left-start : goal.down-preserved-then-left-start
-down-preserved-then-left-start g c =
-    rw c.len-left.ensures.value
-    (goes_right (g.S.NodeSpace.table c.args.space.now) c.node-view.ensures.sound c.node-view.ensures.true_records c.args.len c.args.node.0 c.args.place c.down.leaf.0 c.down.start c.in-Cat.l c.in-Cat.r
-    c.requires.not_empty (sym c.node-view.ensures.view ∙ c.in-Cat.is) (omega arith) c.down.invariant)
+down-preserved-then-left-start g c = record {
+  looks = omega (arith, c.look-view.ensures.count, c.down.invariant.looks, (depths_of_cat (g.S.CountedSpace.table c.args.space.now) c.look-view.ensures.true_records c.down.leaf.0 c.down.invariant.way.there c.in-Cat.l c.in-Cat.r (sym c.look-view.ensures.view ∙ c.in-Cat.is)).1);
+  way = rw c.node_len-left.ensures.value
+      (goes_right (g.S.CountedSpace.table c.args.space.now) c.look-view.ensures.sound c.look-view.ensures.true_records c.args.len c.args.node.0 c.args.place c.down.leaf.0 c.down.start c.in-Cat.l c.in-Cat.r
+      c.requires.not_empty (sym c.look-view.ensures.view ∙ c.in-Cat.is) (omega arith) c.down.invariant.way);
+}
 
 pub down-preserved-then-len-left : goal.down-preserved-then-len-left
-down-preserved-then-len-left g c =
-    goes_left (g.S.NodeSpace.table c.args.space.now) c.node-view.ensures.sound c.node-view.ensures.true_records c.args.len c.args.node.0 c.args.place c.down.leaf.0 c.down.start c.in-Cat.l c.in-Cat.r
-    c.requires.not_empty (sym c.node-view.ensures.view ∙ c.in-Cat.is) (omega arith) c.down.invariant
+down-preserved-then-len-left g c = record {
+  looks = omega (arith, c.look-view.ensures.count, c.down.invariant.looks, (depths_of_cat (g.S.CountedSpace.table c.args.space.now) c.look-view.ensures.true_records c.down.leaf.0 c.down.invariant.way.there c.in-Cat.l c.in-Cat.r (sym c.look-view.ensures.view ∙ c.in-Cat.is)).0);
+  way = goes_left (g.S.CountedSpace.table c.args.space.now) c.look-view.ensures.sound c.look-view.ensures.true_records c.args.len c.args.node.0 c.args.place c.down.leaf.0 c.down.start c.in-Cat.l c.in-Cat.r
+      c.requires.not_empty (sym c.look-view.ensures.view ∙ c.in-Cat.is) (omega arith) c.down.invariant.way;
+}
 
 pub down-preserved : goal.down-preserved
-down-preserved g c =
-    goes_down (g.S.NodeSpace.table c.args.space.now) c.node-view.ensures.sound c.args.len c.args.node.0 c.args.place c.down.leaf.0 c.down.start c.in-Sub.b c.in-Sub.i (sym c.node-view.ensures.view ∙ c.in-Sub.is) c.down.invariant
+down-preserved g c = record {
+  looks = omega (arith, c.look-view.ensures.count, c.down.invariant.looks, depth_of_base (g.S.CountedSpace.table c.args.space.now) c.look-view.ensures.true_records c.down.leaf.0 c.down.invariant.way.there c.in-Sub.b c.in-Sub.i (sym c.look-view.ensures.view ∙ c.in-Sub.is));
+  way = goes_down (g.S.CountedSpace.table c.args.space.now) c.look-view.ensures.sound c.args.len c.args.node.0 c.args.place c.down.leaf.0 c.down.start c.in-Sub.b c.in-Sub.i (sym c.look-view.ensures.view ∙ c.in-Sub.is) c.down.invariant.way;
+}
 
 pub overflow_add-start : goal.overflow_add-start
 overflow_add-start g c =
-    let t = g.S.NodeSpace.table c.args.space.now in
-    let base = base_of_sub t c.node-view.ensures.sound c.down.leaf.0 c.down.invariant.there c.in-Sub.b c.in-Sub.i (sym c.node-view.ensures.view ∙ c.in-Sub.is) in
-    let short : len_at t c.in-Sub.b.0 < 2 ^ 40 = (c.node-view.ensures.sound.nodes c.in-Sub.b.0 (omega (arith, base.0, c.down.invariant.there))).not_long in
-    omega (arith, base.1, short, c.down.invariant.inside)
+    let t = g.S.CountedSpace.table c.args.space.now in
+    let base = base_of_sub t c.look-view.ensures.sound c.down.leaf.0 c.down.invariant.way.there c.in-Sub.b c.in-Sub.i (sym c.look-view.ensures.view ∙ c.in-Sub.is) in
+    let short : len_at t c.in-Sub.b.0 < 2 ^ 40 = (c.look-view.ensures.sound.nodes c.in-Sub.b.0 (omega (arith, base.0, c.down.invariant.way.there))).not_long in
+    omega (arith, base.1, short, c.down.invariant.way.inside)
 
 pub returns-in-Lit-clause-leads : goal.returns-in-Lit-clause-leads
 returns-in-Lit-clause-leads g c =
-    let t = g.S.NodeSpace.table c.args.space.now in
-    let leaf = subst IsLeaf c.node-view.ensures.view (is_leaf_of c.node-view.result c.in-Lit.is) in
+    let t = g.S.CountedSpace.table c.args.space.now in
+    let leaf = subst IsLeaf c.look-view.ensures.view (is_leaf_of c.look-view.result c.in-Lit.is) in
     λ s. (
       λ e.
-          let found : record { leaf = c.down.leaf; start = c.down.start; view = c.node-view.result } ≡ s = cc in
+          let found : record { leaf = c.down.leaf; start = c.down.start; view = c.look-view.result } ≡ s = cc in
           subst (LeadsToSpan t c.args.len c.args.node.0 c.args.place) found
-          (record { leads = c.down.invariant.back c.down.leaf.0 c.down.start (here refl refl, leaf); view = c.node-view.ensures.view }),
-      λ lead. ap Some (same_span t c.args.len c.args.node.0 c.args.place c.down.leaf c.down.start c.node-view.result s leaf c.node-view.ensures.view c.down.invariant lead),
+          (record { leads = c.down.invariant.way.back c.down.leaf.0 c.down.start (here refl refl, leaf); view = c.look-view.ensures.view }),
+      λ lead. ap Some (same_span t c.args.len c.args.node.0 c.args.place c.down.leaf c.down.start c.look-view.result s leaf c.look-view.ensures.view c.down.invariant.way lead),
     )
 
 pub returns-else-len-left-clause-leads : goal.returns-else-len-left-clause-leads
 returns-else-len-left-clause-leads g c = λ s. (
   λ e. absurd cc,
-  λ lead. absurd (over_border (g.S.NodeSpace.table c.args.space.now) c.args.len c.args.node.0 c.args.place c.down.leaf.0 c.down.start s.leaf.0 s.start c.in-Cat.l c.in-Cat.r (sym c.node-view.ensures.view ∙ c.in-Cat.is) (omega arith) (omega arith) c.down.invariant lead.leads),
+  λ lead. absurd (over_border (g.S.CountedSpace.table c.args.space.now) c.args.len c.args.node.0 c.args.place c.down.leaf.0 c.down.start s.leaf.0 s.start c.in-Cat.l c.in-Cat.r (sym c.look-view.ensures.view ∙ c.in-Cat.is) (omega arith) (omega arith) c.down.invariant.way lead.leads),
 )
+
+pub returns-else-len-left-clause-few : goal.returns-else-len-left-clause-few
+returns-else-len-left-clause-few g c =
+    omega (arith, c.look-view.ensures.count, counted_few (g.S.CountedSpace.table c.args.space.now) c.look-view.ensures.sound c.args.node.0 c.args.count.now c.down.leaf.0 c.down.count c.requires.there c.down.invariant.looks)
+
+pub returns-in-Lit-clause-few : goal.returns-in-Lit-clause-few
+returns-in-Lit-clause-few g c =
+    omega (arith, c.look-view.ensures.count, counted_few (g.S.CountedSpace.table c.args.space.now) c.look-view.ensures.sound c.args.node.0 c.args.count.now c.down.leaf.0 c.down.count c.requires.there c.down.invariant.looks)

@@ -4,7 +4,7 @@ use Rattle.span_certificate.proofs.walk.leaf_row.Goals as goal
 
 pub returns : goal.returns
 returns g c =
-    row_at_leaves (g.S.NodeSpace.table c.args.space.now) c.requires.sound (g.S.CodedSpace.coded c.args.space.now) c.args.x.span c.args.y.span c.in-Some-Some.d c.in-Some-Some.e
+    row_at_leaves (g.S.CountedSpace.table c.args.space.now) c.requires.sound (g.S.CountedSpace.coded c.args.space.now) c.args.x.span c.args.y.span c.in-Some-Some.d c.in-Some-Some.e
     (record {
       is_x = c.requires.x.reached.is_span;
       is_y = c.requires.y.reached.is_span;

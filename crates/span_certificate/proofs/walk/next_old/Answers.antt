@@ -4,49 +4,49 @@ use Rattle.span_certificate.proofs.Walks.{are_reached_none, first_below, second_
 use Rattle.span_certificate.proofs.walk.next_old.Goals as goal
 
 pub down-init : goal.down-init
-down-init g c = are_reached_none (g.S.NodeSpace.table c.args.space.now) c.args.x c.args.y c.requires.x c.requires.y c.requires.len
+down-init g c = are_reached_none (g.S.CountedSpace.table c.args.space.now) c.args.x c.args.y c.requires.x c.requires.y c.requires.len
 
 pub leaf_row-requires-clause-same : goal.leaf_row-requires-clause-same
 leaf_row-requires-clause-same g c =
-    reached_same (g.S.NodeSpace.table c.args.space.now) c.requires.sound c.requires.true_records c.args.x c.args.y c.down.a c.down.b c.requires.x c.requires.y c.down.invariant c.requires.same
+    reached_same (g.S.CountedSpace.table c.args.space.now) c.requires.sound c.requires.true_records c.args.x c.args.y c.down.a c.down.b c.requires.x c.requires.y c.down.invariant c.requires.same
 
 pub returns-in-None-None : goal.returns-in-None-None
 returns-in-None-None g c =
-    row_through (g.S.NodeSpace.table c.args.space.now) c.requires.sound c.requires.true_records (g.S.CodedSpace.coded c.args.space.now) c.args.x c.args.y c.down.a c.down.b c.leaf_row.result
+    row_through (g.S.CountedSpace.table c.args.space.now) c.requires.sound c.requires.true_records (g.S.CountedSpace.coded c.args.space.now) c.args.x c.args.y c.down.a c.down.b c.leaf_row.result
     c.requires.y c.down.invariant c.leaf_row.ensures
 
 pub down-preserved-in-None-Some : goal.down-preserved-in-None-Some
 down-preserved-in-None-Some g c =
-    rw c.shortened-a.ensures (second_below (g.S.NodeSpace.table c.args.space.now) c.args.x c.args.y c.down.a c.down.b c.in-None-Some.z c.down.invariant c.in-None-Some.ensures.below)
+    rw c.shortened-a.ensures (second_below (g.S.CountedSpace.table c.args.space.now) c.args.x c.args.y c.down.a c.down.b c.in-None-Some.z c.down.invariant c.in-None-Some.ensures.below)
 
 pub down-preserved-in-Some-None : goal.down-preserved-in-Some-None
 down-preserved-in-Some-None g c =
-    rw c.shortened-b.ensures (first_below (g.S.NodeSpace.table c.args.space.now) c.args.x c.args.y c.down.a c.down.b c.in-Some-None.z c.down.invariant c.in-Some-None.ensures.below)
+    rw c.shortened-b.ensures (first_below (g.S.CountedSpace.table c.args.space.now) c.args.x c.args.y c.down.a c.down.b c.in-Some-None.z c.down.invariant c.in-Some-None.ensures.below)
 
 pub down-preserved-then-a-b-3 : goal.down-preserved-then-a-b-3
 down-preserved-then-a-b-3 g c =
-    rw c.shortened-b-then-a-b-3.ensures (first_below (g.S.NodeSpace.table c.args.space.now) c.args.x c.args.y c.down.a c.down.b c.in-Some-Some.z c.down.invariant c.in-Some-Some.ensures.below)
+    rw c.shortened-b-then-a-b-3.ensures (first_below (g.S.CountedSpace.table c.args.space.now) c.args.x c.args.y c.down.a c.down.b c.in-Some-Some.z c.down.invariant c.in-Some-Some.ensures.below)
 
 pub down-preserved : goal.down-preserved
 down-preserved g c =
-    rw c.shortened-a-else-a-b-3.ensures (second_below (g.S.NodeSpace.table c.args.space.now) c.args.x c.args.y c.down.a c.down.b c.in-Some-Some.w c.down.invariant c.in-Some-Some.ensures'.below)
+    rw c.shortened-a-else-a-b-3.ensures (second_below (g.S.CountedSpace.table c.args.space.now) c.args.x c.args.y c.down.a c.down.b c.in-Some-Some.w c.down.invariant c.in-Some-Some.ensures'.below)
 
 pub leaf_row-requires-clause-x : goal.leaf_row-requires-clause-x
 leaf_row-requires-clause-x g c = record {
-  reached = reached_itself (g.S.NodeSpace.table c.args.space.now) c.down.a c.down.invariant.first.is_span;
+  reached = reached_itself (g.S.CountedSpace.table c.args.space.now) c.down.a c.down.invariant.first.is_span;
   whole =
-      first_of_leaf (g.S.NodeSpace.table c.args.space.now) c.requires.sound c.down.a c.node-of_a.result
-      c.down.invariant.first.is_span c.node-of_a.ensures.view (c.down-in-down.ensures.leaf c.in-None-None.is-0);
-  view = c.node-of_a.ensures.view;
+      first_of_leaf (g.S.CountedSpace.table c.args.space.now) c.requires.sound c.down.a c.look-of_a.result
+      c.down.invariant.first.is_span c.look-of_a.ensures.view (c.down-in-down.ensures.leaf c.in-None-None.is-0);
+  view = c.look-of_a.ensures.view;
   leaf = c.down-in-down.ensures.leaf c.in-None-None.is-0;
 }
 
 pub leaf_row-requires-clause-y : goal.leaf_row-requires-clause-y
 leaf_row-requires-clause-y g c = record {
-  reached = reached_itself (g.S.NodeSpace.table c.args.space.now) c.down.b c.down.invariant.second.is_span;
+  reached = reached_itself (g.S.CountedSpace.table c.args.space.now) c.down.b c.down.invariant.second.is_span;
   whole =
-      first_of_leaf (g.S.NodeSpace.table c.args.space.now) c.requires.sound c.down.b c.node-of_b.result
-      c.down.invariant.second.is_span c.node-of_b.ensures.view (c.down-in-down-2.ensures.leaf c.in-None-None.is-1);
-  view = c.node-of_b.ensures.view;
+      first_of_leaf (g.S.CountedSpace.table c.args.space.now) c.requires.sound c.down.b c.look-of_b.result
+      c.down.invariant.second.is_span c.look-of_b.ensures.view (c.down-in-down-2.ensures.leaf c.in-None-None.is-1);
+  view = c.look-of_b.ensures.view;
   leaf = c.down-in-down-2.ensures.leaf c.in-None-None.is-1;
 }

@@ -7,7 +7,6 @@ use Rattle.std.proofs.lemmas.Result.{err_from_is_err_and}
 use Rattle.rope_node.specs.Denotes.{cells}
 use Rattle.cord_position.specs.Runs.{AreBytesOf, run_left, span_len}
 use Rattle.cord_position.proofs.LeafParts.{moved, run_cells, run_part}
-use Rattle.cord_position.proofs.Outcomes.{same_fault}
 use Rattle.std.proofs.lemmas.Slice.{drop-append-drop}
 use Rattle.cord_position.proofs.position.Pos.fill.Goals as goal
 
@@ -15,7 +14,7 @@ pub returns-in_ok-fill_part-clause-bytes : goal.returns-in_ok-fill_part-clause-b
 returns-in_ok-fill_part-clause-bytes g c =
     let a = c.self.inside in
     let t = g.S.NodeSpace.table a.space.now in
-    let st = g.T.Sources.stated c.args.sources.now in
+    let st = (g.T.Sources.reading c.args.sources.now).stated in
     let n = c.min-n.result in
     let x = c.in-Some.span in
     let filled = c.fill_part.new.buffer in
@@ -46,5 +45,5 @@ returns-in_err-fill_part-clause-reads g c =
     let long : length (take n c.args.buffer.now) ≡ n = omega (arith, length-take n c.args.buffer.now, c.min-n.ensures) in
     let reads = rw long at c.in_err-fill_part.ensures.reads in
     let p = err_from_is_err_and c.from_residual.result c.from_residual.ensures.1 in
-    rw (p.1, p.2, ← c.self.view_is, many) (same_fault _ _ _ _ _ _ _ _ (moved _ _ _ _ (rope_cell t a.rope) (cell_at t x.leaf.0) a.place x.start n (Err c.in_err-fill_part.field-0.0)
-    (λ k lt. run_cells t a.rope a.place x c.in-Some.ensures.run k (omega (arith, lt, c.min-n.ensures))) reads))
+    rw (p.1, p.2, ← c.self.view_is, many) (moved {X = Unit {0}} _ _ (rope_cell t a.rope) (cell_at t x.leaf.0) a.place x.start n (Err c.in_err-fill_part.field-0.0)
+    (λ k lt. run_cells t a.rope a.place x c.in-Some.ensures.run k (omega (arith, lt, c.min-n.ensures))) reads)

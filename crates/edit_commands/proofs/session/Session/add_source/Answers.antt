@@ -11,7 +11,7 @@ invariant_of-self-2 c =
     let items = c.self.inside.revisions.items in
     let nodes = c.count-nodes.ensures in
     let on = went_on_source old c.add_source.new.self c.args.len (Ok c.in_ok-add_source.field-0) nodes.sound nodes.true_records nodes.kept c.in_ok-add_source.ensures in
-    (session_kept (record { held = old; revisions = items }) c.add_source.new.self c.self.invariant.0 (revisions_kept old c.add_source.new.self on items c.self.invariant.0.each), c.self.invariant.1)
+    (session_kept (record { held = old; revisions = items }) c.add_source.new.self c.self.invariant.0 (revisions_kept old c.add_source.new.self on items c.self.invariant.0.each), c.self.invariant.1, c.self.invariant.2)
 
 pub returns : goal.returns
 returns c =

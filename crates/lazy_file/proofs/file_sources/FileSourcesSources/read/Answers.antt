@@ -1,4 +1,5 @@
 use Rattle.std.proofs.Common.{◌≡◌, length, map, ap, sym, ◌∙◌}
+use Rattle.lazy_file.specs.DeviceTexts.{texts_of}
 use Rattle.lazy_file.proofs.FileLists.{AreSound, refilled}
 use Rattle.lazy_file.proofs.file_sources.FileSourcesSources.read.Goals as goal
 
@@ -9,6 +10,20 @@ pub invariant_of-self : goal.invariant_of-self
 invariant_of-self g c =
     let items = c.self.inside.devices.items in
     let len : length c.read_source.new.devices ≡ length items = c.read_source.auto.devices ∙ ap length c.deref_mut.ensures.value in
-    let same : map g.D.Device.stated c.read_source.new.devices ≡ map g.D.Device.stated items = c.read_source.ensures.same ∙ ap (map g.D.Device.stated) c.deref_mut.ensures.value in
-    let sound : AreSound (map g.D.Device.stated c.read_source.new.devices) c.read_source.new.kept.entries = (rw same c.self.invariant.0, c.read_source.ensures.kept) in
+    let same : texts_of (map g.D.Device.reading c.read_source.new.devices) ≡ texts_of (map g.D.Device.reading items) = c.read_source.ensures.same ∙ ap (λ ds. texts_of (map g.D.Device.reading ds)) c.deref_mut.ensures.value in
+    let sound : AreSound (texts_of (map g.D.Device.reading c.read_source.new.devices)) c.read_source.new.kept.entries = (rw same c.self.invariant.0, c.read_source.ensures.kept) in
     rw (refilled c.self.inside.devices.len items c.read_source.new.devices (sym c.deref_mut.ensures.len ∙ ap length c.deref_mut.ensures.value) len) sound
+
+pub returns-clause-unread : goal.returns-clause-unread
+returns-clause-unread g c =
+    let items = c.self.inside.devices.items in
+    let len : length c.read_source.new.devices ≡ length items = c.read_source.auto.devices ∙ ap length c.deref_mut.ensures.value in
+    rw (refilled c.self.inside.devices.len items c.read_source.new.devices (sym c.deref_mut.ensures.len ∙ ap length c.deref_mut.ensures.value) len, ← c.self.view_is)
+    (rw c.deref_mut.ensures.value at c.read_source.ensures.unread)
+
+pub returns-clause-others : goal.returns-clause-others
+returns-clause-others g c =
+    let items = c.self.inside.devices.items in
+    let len : length c.read_source.new.devices ≡ length items = c.read_source.auto.devices ∙ ap length c.deref_mut.ensures.value in
+    rw (refilled c.self.inside.devices.len items c.read_source.new.devices (sym c.deref_mut.ensures.len ∙ ap length c.deref_mut.ensures.value) len, ← c.self.view_is)
+    (rw c.deref_mut.ensures.value at c.read_source.ensures.others)

@@ -1,9 +1,10 @@
-use Rattle.std.proofs.Common.{◌≡◌, [], ◌∷◌, ◌++◌, sym, subst, rules, ◌≤◌, ◌<◌, length, IfSome}
+use Rattle.std.proofs.Common.{◌≡◌, [], ◌∷◌, ◌++◌, sym, subst, rules, ◌≤◌, ◌<◌, length, IfSome, Err}
 use Rattle.edit_commands.specs.Refusals.{result_len}
 use Rattle.screen_editor.specs.declared.workspace.TheConstants.{LONGEST_TEXT}
+use Rattle.screen_editor.specs.declared.fault.KeyFault.TheVariants as Fault
 use Rattle.screen_editor.specs.Editing.{Editing}
-use Rattle.screen_editor.specs.Taking.{IsInOrder}
-use Rattle.screen_editor.proofs.Revising.{after_fault, after_revision}
+use Rattle.screen_editor.specs.Taking.{IsInOrder, RevisesOrNot}
+use Rattle.screen_editor.proofs.Revising.{after_fault, after_revision, refused_in_order}
 use Rattle.screen_editor.proofs.workspace.Workspace.revise.Goals as goal
 
 pub invariant_of-self-in-Err : goal.invariant_of-self-in-Err
@@ -24,3 +25,13 @@ invariant_of-self-2 c =
           (subst (λ (e : Editing). IfSome c.args.prior (λ j. j < length e.session.revisions)) (sym c.self.view_is) c.requires.prior),
       c.self.invariant.1,
     )
+
+pub returns-in-Err-clause-done : goal.returns-in-Err-clause-done
+returns-in-Err-clause-done c =
+    let before : Editing = record { session = c.self.inside.session; priors = c.self.inside.priors.items; place = c.self.inside.place; mark = c.self.inside.mark; cuts = c.self.inside.cuts.items; message = c.self.inside.message } in
+    let same : c.try_reserve.new.self.items ≡ c.self.inside.priors.items = search rules in
+    let done =
+    refused_in_order before c.args.command c.args.prior c.args.place c.in-Err.fault c.apply-applied.new.self c.count-before.ensures.session
+    (subst (λ (e : Editing). IsInOrder e.session c.args.command) (sym c.self.view_is) c.requires.order)
+    (subst (λ (e : Editing). result_len e.session c.args.command ≤ LONGEST_TEXT) (sym c.self.view_is) c.requires.short) c.in-Err.ensures in
+    rw same (subst (λ (e : Editing). RevisesOrNot c.args.command c.args.prior c.args.place e (Err (Fault.Edit c.in-Err.fault)) (record before { session = c.apply-applied.new.self })) c.self.view_is done)

@@ -1,0 +1,20 @@
+-- The commands of an editor's session as they are recorded.
+use Rattle.std.specs.Prelude.{ℕ, List, [], ◌∷◌, map}
+use Rattle.span_certificate.specs.declared.edit.Edit.{Edit}
+use Rattle.edit_commands.specs.declared.command.Command.{Command}
+use Rattle.edit_commands.specs.declared.command.Command.TheVariants.{Many}
+use Rattle.edit_commands.specs.declared.revision.Revision.{Revision}
+use Rattle.edit_commands.specs.Building.{edit_with}
+
+-- those of these revisions
+abbrev pub edits_of : List Revision → List Edit
+edits_of revisions = map (λ (r : Revision). r.edit) revisions
+
+-- a command that hands in no changes
+abbrev pub IsPlain : Command → Type 0
+IsPlain (Many r changes bytes) = ⊥
+IsPlain _ = Unit {0}
+
+-- such a command as it is recorded, its bytes standing in the pool from this place on
+abbrev pub edit_at : ℕ → Command → Edit
+edit_at place command = edit_with (place ∷ []) 0 command

@@ -1,0 +1,13 @@
+use Rattle.std.proofs.Common.{sym, subst}
+use Rattle.span_certificate.specs.Commands.{NamesSplices}
+use Rattle.image_reader.specs.declared.revision.Revision.{Revision}
+use Rattle.session_checker.proofs.EarlierRevisions.{names_there}
+use Rattle.session_checker.proofs.revision_rules.check_rules.Goals as goal
+
+pub is_in_range-requires-clause-named : goal.is_in_range-requires-clause-named
+is_in_range-requires-clause-named g c =
+    subst (λ (r : Revision). NamesSplices c.args.revisions.now.splices r.edit) (sym c.requires.revision) (names_there c.args.revisions.now c.count-count.ensures.image c.args.k c.requires.there)
+
+pub result_len-len-requires-clause-named : goal.result_len-len-requires-clause-named
+result_len-len-requires-clause-named g c =
+    subst (λ (r : Revision). NamesSplices c.args.revisions.now.splices r.edit) (sym c.requires.revision) (names_there c.args.revisions.now c.count-count.ensures.image c.args.k c.requires.there)

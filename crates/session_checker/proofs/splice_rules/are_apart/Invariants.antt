@@ -1,0 +1,8 @@
+use Rattle.std.proofs.Common.{◌≡◌, ◌+◌, ◌-◌, ◌∷◌, take, drop}
+use Rattle.span_certificate.specs.Commands.{are_apart}
+use Rattle.session_checker.proofs.splice_rules.are_apart.Given as goal
+
+abbrev pub invariant-loop-i : goal.invariant-loop-i
+invariant-loop-i g l =
+    are_apart (take l.count (drop l.first (g.P.Splices.splices l.splices)))
+    ≡ are_apart (l.before ∷ take (l.count - l.i) (drop (l.first + l.i) (g.P.Splices.splices l.splices)))

@@ -1,8 +1,0 @@
-use Rattle.std.proofs.Common.{◌≡◌, Some, ap, ◌∙◌}
-use Rattle.span_certificate.specs.declared.part.Part.TheVariants.{Old}
-use Rattle.span_certificate.proofs.exact.describe_part.Goals as goal
-
-pub returns-in-Some : goal.returns-in-Some
-returns-in-Some g c =
-    let is : c.args.part ≡ Old (Some c.in-Some.node) c.in-Old.i c.in-Old.n = c.in-Old.is ∙ ap (λ r. Old r c.in-Old.i c.in-Old.n) c.in-Some.is in
-    rw is c.describe_node.ensures

@@ -1,0 +1,27 @@
+-- How many looks descents take, and when a count may begin.
+use Rattle.std.specs.Prelude.{◌≡◌, ℕ, ◌+◌, ◌*◌, ◌<◌, min, List, length}
+use Rattle.std.specs.List.{sum_by}
+use Rattle.span_certificate.specs.declared.row.Row.{Row}
+use Rattle.span_certificate.specs.declared.row.RowKind.{RowKind}
+use Rattle.span_certificate.specs.declared.row.RowKind.TheVariants.{Shared, Leaf, Bytes}
+use Rattle.span_certificate.specs.declared.looks.TheConstants.{LOOKS_LIMIT}
+use Rattle.span_certificate.specs.declared.walk.TheConstants.{BYTES_LIMIT}
+
+-- a blank of this name and number of parts begins a count of the ledger
+pub record BeginsCount (ledger_name ledger_parts name parts : ℕ) : Type 0 where
+  pub same_name : name ≡ ledger_name
+  pub same_parts : parts ≡ ledger_parts
+  pub some : 0 < parts
+
+-- the bytes that a row of this kind compares, as far as it may be long
+abbrev pub kind_bytes : RowKind → ℕ → ℕ
+kind_bytes (Shared k o) n = 0
+kind_bytes Leaf n = 0
+kind_bytes Bytes n = min BYTES_LIMIT n
+
+abbrev pub row_bytes : Row → ℕ
+row_bytes row = kind_bytes row.kind row.len
+
+-- the most looks that rows take: so many for each, and for each byte of those that compare bytes
+abbrev pub most_looks : List Row → ℕ
+most_looks rows = LOOKS_LIMIT * length rows + LOOKS_LIMIT * sum_by row_bytes rows

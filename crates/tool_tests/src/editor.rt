@@ -1,0 +1,338 @@
+//! The screen editor on worked keys, and over keys, screens and sources that fail.
+
+use crate::fakes::{Flaky, Full, Giver, Taker};
+use crate::same::assert_same;
+use crate::tools::{show, texts_in};
+use cord_tools::{Status, ToolFault, run_edit};
+use lazy_file::{SOURCE_LIMIT, SourceFault, Sources};
+use screen_editor::{Editor, EditorFault, End, FrameFault, KeyFault, RunFault, Step};
+use std::alloc::AllocGlobal;
+use std::io::{ErrorKind, Write};
+use std::process::Abort;
+
+/// Keys, over a file or none: texts of the session's revisions, the last of them its last, and the end of the screen.
+#[derive(Clone, Copy)]
+struct Keys<'a> {
+    file: &'a [&'a [u8]],
+    keys: &'a [u8],
+    texts: &'a [&'a [u8]],
+    last: u64,
+    screen_end: &'a [u8],
+}
+
+/// The key Up.
+const UP: u8 = 0x10;
+
+/// Eighty `x` and a byte that is not shown as itself.
+const LONG_LINE: &[u8] =
+    b"xxxxxxxxxxxxxxxxxxxxxxxxxxxxxxxxxxxxxxxxxxxxxxxxxxxxxxxxxxxxxxxxxxxxxxxxxxxxxxxx\0";
+
+fn worked() -> [Keys<'static>; 8] {
+    [
+        // Typing goes on from the text that undo gave.
+        Keys {
+            file: &[],
+            keys: b"ab\x15c",
+            texts: &[b"", b"a", b"ab", b"a", b"ac"],
+            last: 4,
+            screen_end: b"\x1b[2J\x1b[Hac\r\n\r\n\r\n\r\n\r\n\r\n\r\n\r\n\r\n\r\n\r\n\r\n\r\n\r\n\r\n\r\n\r\n\
+                \r\n\r\n\r\n\r\n\r\n\r\nrev 4 byte 2 of 2\x1b[1;3H",
+        },
+        // Undo ends at the first text.
+        Keys {
+            file: &[],
+            keys: b"ab\x15\x15\x15",
+            texts: &[b"", b"a", b"ab", b"a", b""],
+            last: 4,
+            screen_end: b"\r\nrev 4 byte 0 of 0\x1b[1;1H",
+        },
+        // A line is shown from its 81st byte.
+        Keys {
+            file: &[LONG_LINE],
+            keys: b"\x05",
+            texts: &[LONG_LINE],
+            last: 0,
+            screen_end: b"\x1b[2J\x1b[H?\r\n\r\n\r\n\r\n\r\n\r\n\r\n\r\n\r\n\r\n\r\n\r\n\r\n\r\n\r\n\r\n\r\n\r\n\
+                \r\n\r\n\r\n\r\n\r\nrev 0 byte 81 of 81\x1b[1;2H",
+        },
+        // Up and down keep the column.
+        Keys {
+            file: &[b"ab\ncde"],
+            keys: b"\x06\x06\x06\x06\x06\x10",
+            texts: &[b"ab\ncde"],
+            last: 0,
+            screen_end: b"\r\nrev 0 byte 2 of 6\x1b[1;3H",
+        },
+        Keys {
+            file: &[b"ab\ncde"],
+            keys: b"\x06\x06\x06\x06\x06\x10\x0e",
+            texts: &[b"ab\ncde"],
+            last: 0,
+            screen_end: b"\r\nrev 0 byte 5 of 6\x1b[2;3H",
+        },
+        // What is typed stands before the file.
+        Keys {
+            file: &[b"x\ny"],
+            keys: b"abc",
+            texts: &[b"x\ny", b"ax\ny", b"abx\ny", b"abcx\ny"],
+            last: 3,
+            screen_end: b"\r\nrev 3 byte 3 of 6\x1b[1;4H",
+        },
+        // What was cut is pasted.
+        Keys {
+            file: &[],
+            keys: b"abc\x01\0\x06\x06\x17\x05\x19",
+            texts: &[b"", b"a", b"ab", b"abc", b"c", b"cab"],
+            last: 5,
+            screen_end: b"\r\nrev 5 byte 3 of 3\x1b[1;4H",
+        },
+        // Sixteen cut spans are kept.
+        Keys {
+            file: &[],
+            keys: b"a\0\x02\x17a\0\x02\x17a\0\x02\x17a\0\x02\x17a\0\x02\x17a\0\x02\x17a\0\x02\x17a\0\x02\x17a\0\x02\x17\
+                a\0\x02\x17a\0\x02\x17a\0\x02\x17a\0\x02\x17a\0\x02\x17a\0\x02\x17a\0\x02\x17a\0\x02\x17\
+                \x19\x14\x19\x14\x19\x14\x19\x14\x19\x14\x19\x14\x19\x14\x19\x14\x19\x14\
+                \x19\x14\x19\x14\x19\x14\x19\x14\x19\x14\x19\x14\x19\x14\x19\x14",
+            texts: &[b"aaaaaaaaaaaaaaaa"],
+            last: 50,
+            screen_end: b"\r\nrev 50 byte 16 of 16\x1b[1;17H",
+        },
+    ]
+}
+
+/// The text that an image shows of a revision.
+fn text<R: AllocGlobal + Abort>(
+    rt: &R,
+    image: &[u8],
+    file: &[&[u8]],
+    k: u64,
+) -> Result<Vec<u8>, ToolFault> {
+    let mut bytes = Vec::new(rt.alloc());
+    show(rt, Giver::of(image), &mut texts_in(rt, file), k, &mut bytes)?;
+    Ok(bytes)
+}
+
+/// Types the keys and the key Save, and looks at the end of the screen and at each revision of the image.
+fn assert_typed<R: AllocGlobal + Abort>(rt: &R, case: &Keys<'_>) {
+    let mut keys = case.keys.to_vec(rt.alloc()).expect(rt, "the keys");
+    keys.push(0x18).expect(rt, "the key Save");
+    let mut screen: Vec<u8> = Vec::new(rt.alloc());
+    let mut image: Vec<u8> = Vec::new(rt.alloc());
+    let sources = texts_in(rt, case.file);
+    let found = run_edit(
+        rt.alloc(),
+        sources,
+        &mut keys.as_slice(),
+        &mut screen,
+        &mut image,
+    );
+    assert_same(rt, &found, &Ok(Status::Success), &case.keys);
+    assert!(rt; screen.ends_with(case.screen_end), "{:?}", case.keys);
+    for (k, wanted) in (0..=case.last).rev().zip(case.texts.iter().rev()) {
+        let found = text(rt, &image, case.file, k).expect(rt, "a text");
+        assert_same(rt, &found.as_slice(), wanted, &k);
+    }
+    let none = text(rt, &image, case.file, case.last.saturating_add(1)).err();
+    assert_same(rt, &none, &Some(ToolFault::NoRevision), &case.keys);
+}
+
+#[test]
+fn worked_keys_are_shown_and_saved(rt: HostRuntime) {
+    for case in worked() {
+        assert_typed(&rt, &case);
+    }
+}
+
+/// The five frames of `a`, `b`, undo and `c`.
+fn five_frames<R: AllocGlobal + Abort>(rt: &R) -> Vec<u8> {
+    let mut screen = Vec::new(rt.alloc());
+    for (line, status) in [
+        ("", "rev 0 byte 0 of 0\x1b[1;1H"),
+        ("a", "rev 1 byte 1 of 1\x1b[1;2H"),
+        ("ab", "rev 2 byte 2 of 2\x1b[1;3H"),
+        ("a", "rev 3 byte 1 of 1\x1b[1;2H"),
+        ("ac", "rev 4 byte 2 of 2\x1b[1;3H"),
+    ] {
+        let rows =
+            "\r\n\r\n\r\n\r\n\r\n\r\n\r\n\r\n\r\n\r\n\r\n\r\n\r\n\r\n\r\n\r\n\r\n\r\n\r\n\r\n\r\n\r\n\r\n";
+        let frame = format!(in rt.alloc(); "\x1b[2J\x1b[H{line}{rows}{status}").expect(
+            rt, "a frame",
+        );
+        screen
+            .extend_from_slice(frame.as_bytes())
+            .expect(rt, "a screen");
+    }
+    screen
+}
+
+/// An editor of these texts, of which the first is edited.
+fn editor<S: Sources + Drop, R: AllocGlobal + Abort>(rt: &R, sources: S) -> Editor<S> {
+    Editor::new(rt.alloc(), sources).expect(rt, "an editor")
+}
+
+#[test]
+fn a_run_is_shown_as_far_as_the_screen_takes_it(rt: HostRuntime) {
+    let whole = five_frames(&rt);
+    for room in 0..=whole.len() {
+        for (keys, end) in [
+            (b"ab\x15c\x18z".as_slice(), End::Save),
+            (b"ab\x15c\x03z", End::Leave),
+            (b"ab\x15c", End::Leave),
+        ] {
+            let mut screen = Taker::with_room(room, Full::Fails);
+            let mut editor = editor(&rt, texts_in(&rt, &[]));
+            let found = editor.run(&mut Giver::of(keys), &mut screen);
+            let wanted = if room < whole.len() {
+                Err(RunFault::Write)
+            } else {
+                Ok(end)
+            };
+            assert_same(&rt, &found, &wanted, &room);
+            assert_same(&rt, &Some(screen.taken()), &whole.get(..room), &room);
+        }
+    }
+}
+
+/// Edits no file by keys that fail behind so many, on a screen and an image with this room.
+fn edited<R: AllocGlobal + Abort>(
+    rt: &R,
+    cut: Option<usize>,
+    screen: usize,
+    image: &mut Taker,
+) -> Result<Status, ToolFault> {
+    let mut keys = Giver {
+        cut,
+        ..Giver::of(b"ab\x15c\x18")
+    };
+    let mut screen = Taker::with_room(screen, Full::TakesNothing);
+    run_edit(rt.alloc(), texts_in(rt, &[]), &mut keys, &mut screen, image)
+}
+
+#[test]
+fn an_image_is_written_behind_all_frames_alone(rt: HostRuntime) {
+    for (cut, screen, image, wanted, written) in [
+        (None, 385, 512, ToolFault::Write, b"".as_slice()),
+        (Some(4), 512, 512, ToolFault::Read, b""),
+        (None, 512, 8, ToolFault::Write, b"CORDSESS"),
+    ] {
+        let mut taker = Taker::with_room(image, Full::Fails);
+        let found = edited(&rt, cut, screen, &mut taker);
+        assert_same(&rt, &found, &Err(wanted), &(cut, screen, image));
+        assert_same(&rt, &taker.taken(), &written, &(cut, screen, image));
+    }
+}
+
+fn press<S: Sources + Drop>(editor: &mut Editor<S>, byte: u8) -> Result<Step, KeyFault> {
+    editor.key(byte)
+}
+
+/// Asserts that the screen ends so.
+fn assert_shown<S: Sources + Drop, A: Abort>(rt: &A, editor: &mut Editor<S>, end: &[u8]) {
+    let frame = editor.frame().expect(rt, "a frame");
+    assert!(rt; frame.ends_with(end), "{end:?}");
+}
+
+/// A source of so many line breaks.
+#[derive(Drop)]
+struct Breaks {
+    len: u64,
+}
+
+impl Sources for Breaks {
+    ghost use Rattle.std.specs.Prelude.{[], ◌∷◌, None, true, min};
+    ghost use Rattle.lazy_file.specs.declared.sources.TheConstants.{SOURCE_LIMIT};
+
+    ghost reading = { λ s. record {
+      stated = record { sizes = min s.len SOURCE_LIMIT ∷ []; texts = None ∷ []; never_fails = true };
+      failures = λ _. 0;
+    } };
+
+    fn count(&self) -> u8 {
+        1
+    }
+
+    fn len(&self, _s: u8) -> u64 {
+        self.len.min(SOURCE_LIMIT)
+    }
+
+    fn read(&mut self, s: u8, off: u64, buffer: &mut [u8]) -> Result<(), SourceFault> {
+        let len = self.len.min(SOURCE_LIMIT);
+        if s > 0 || off > len || buffer.len() as u64 > len - off {
+            return Err(SourceFault::BadSource);
+        }
+        buffer.fill(b'\n');
+        Ok(())
+    }
+}
+
+#[test]
+fn a_text_of_two_gibibytes_is_too_long(rt: HostRuntime) {
+    let too_long = Breaks { len: 2_147_483_648 };
+    let refused = Editor::new(rt.alloc(), too_long).err();
+    assert_same(&rt, &refused, &Some(EditorFault::TooLong), &"new");
+    let mut editor = editor(&rt, Breaks { len: 2_147_483_647 });
+    let refused = press(&mut editor, b'a');
+    assert_same(&rt, &refused, &Err(KeyFault::TooLong), &"a");
+    assert_same(&rt, &editor.session().count(), &1, &"count");
+    assert_shown(
+        &rt,
+        &mut editor,
+        b"\r\nrev 0 byte 0 of 2147483647 K1\x1b[1;1H",
+    );
+    // The key Save leaves the message, and the mark takes it away.
+    assert_same(&rt, &press(&mut editor, 0x18), &Ok(Step::Save), &"Save");
+    assert_shown(
+        &rt,
+        &mut editor,
+        b"\r\nrev 0 byte 0 of 2147483647 K1\x1b[1;1H",
+    );
+    assert_same(&rt, &press(&mut editor, 0), &Ok(Step::Going), &"mark");
+    assert_shown(&rt, &mut editor, b"\r\nrev 0 byte 0 of 2147483647\x1b[1;1H");
+}
+
+/// Presses the keys Right, five times, Up and Down over two files of which one fails once, behind so many of its reads, and tells how many
+/// keys and frames said so. Each that did is tried again, and what was there before the refusal still is.
+fn refusals<R: AllocGlobal + Abort>(rt: &R, broken: u8, left: u64) -> u64 {
+    let files = Flaky {
+        texts: texts_in(rt, &[b"ab\ncde", b"fg"]),
+        broken,
+        left,
+        failed: 0,
+    };
+    let mut editor = editor(rt, files);
+    let mut refusals = 0u64;
+    for byte in *b"\x06\x06\x06\x06\x06\x10\x0e" {
+        let mut step = press(&mut editor, byte);
+        if step == Err(KeyFault::Source(SourceFault::Device)) {
+            refusals = refusals.saturating_add(1);
+            let kept: &[u8] = if byte == UP {
+                b"\r\nrev 0 byte 5 of 6 S1\x1b[2;3H"
+            } else {
+                b"\r\nrev 0 byte 2 of 6 S1\x1b[1;3H"
+            };
+            assert_shown(rt, &mut editor, kept);
+            step = press(&mut editor, byte);
+        }
+        assert_same(rt, &step, &Ok(Step::Going), &(broken, left, byte));
+    }
+    let end = b"\r\nrev 0 byte 5 of 6\x1b[2;3H";
+    match editor.frame() {
+        Ok(frame) => assert!(rt; frame.ends_with(end), "{broken} {left}"),
+        Err(fault) => {
+            refusals = refusals.saturating_add(1);
+            let told = FrameFault::Source(SourceFault::Device);
+            assert_same(rt, &fault, &told, &(broken, left));
+            assert_shown(rt, &mut editor, end);
+        }
+    }
+    refusals
+}
+
+#[test]
+fn a_key_or_a_frame_tells_the_read_that_failed(rt: HostRuntime) {
+    assert_same(&rt, &refusals(&rt, 0, 0), &1, &"the first read");
+    for left in 1..20 {
+        assert!(&rt; refusals(&rt, 0, left) <= 1, "{left}");
+    }
+    assert_same(&rt, &refusals(&rt, 1, 0), &0, &"the other file");
+}

@@ -1,0 +1,13 @@
+//! Tests of the tools and of the editor by their public calls, in a crate above them, so that each is proved once.
+#![tactic(auto)]
+
+#[cfg(test)]
+mod editor;
+#[cfg(test)]
+mod fakes;
+#[cfg(test)]
+mod images;
+#[cfg(test)]
+mod same;
+#[cfg(test)]
+mod tools;

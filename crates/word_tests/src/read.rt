@@ -1,0 +1,85 @@
+//! Words and what is read of them. What the program prints of words that it refuses, its own table shows.
+
+use clap::error::ErrorKind;
+use cord_words::{WordsFault, words};
+use std::alloc::AllocError;
+use std::test::Fail;
+
+/// The words of a line, which stand one space apart.
+fn line(rt: &HostRuntime, text: &str) -> Result<Vec<String>, AllocError> {
+    let alloc = rt.alloc();
+    let mut words = Vec::new(alloc);
+    for word in text.split(' ') {
+        words.push(String::from_str(alloc, word)?)?;
+    }
+    Ok(words)
+}
+
+/// What is read of a line, as it is written in Rust; the kind of the refusal alone.
+fn told(rt: &HostRuntime, text: &str) -> Result<String, AllocError> {
+    let alloc = rt.alloc();
+    let line = line(rt, text)?;
+    match words(alloc, line.as_slice()) {
+        Ok(action) => format!(in alloc; "{action:?}"),
+        Err(WordsFault::Memory) => Err(AllocError),
+        Err(WordsFault::Usage(error)) => {
+            let kind: ErrorKind = error.kind();
+            format!(in alloc; "{kind:?}")
+        }
+    }
+}
+
+#[test]
+fn words_are_read_or_refused(rt: HostRuntime) -> Result<(), Fail> {
+    for (text, wanted) in [
+        ("cordkit", "CheckInput"),
+        (
+            "cordkit check a.cord",
+            r#"Check { at_most: None, image: "a.cord", sources: [] }"#,
+        ),
+        (
+            "cordkit check a -- b -c",
+            r#"Check { at_most: None, image: "a", sources: ["b", "-c"] }"#,
+        ),
+        (
+            "cordkit show a 18446744073709551615 c b",
+            r#"Show { at_most: None, image: "a", revision: 18446744073709551615, sources: ["c", "b"] }"#,
+        ),
+        (
+            "cordkit show a 2 --at-most 137",
+            r#"Show { at_most: Some(137), image: "a", revision: 2, sources: [] }"#,
+        ),
+        (
+            "cordkit migrate --at-most 0 a b",
+            r#"Migrate { at_most: Some(0), image: "a", sources: ["b"] }"#,
+        ),
+        (
+            "cordkit cut 3 10 a.txt",
+            r#"Cut { start: 3, count: 10, file: "a.txt" }"#,
+        ),
+        ("cordkit join c b c", r#"Join { files: ["c", "b", "c"] }"#),
+        (
+            "cordkit find 7 needle a.txt",
+            r#"Find { start: 7, pattern: "needle", file: "a.txt" }"#,
+        ),
+        ("cordkit cmp b a", r#"Cmp { first: "b", second: "a" }"#),
+        (
+            "cordkit edit a.cord",
+            r#"Edit { image: "a.cord", file: None }"#,
+        ),
+        (
+            "cordkit edit a.cord b.txt",
+            r#"Edit { image: "a.cord", file: Some("b.txt") }"#,
+        ),
+        ("cordkit frob", "InvalidSubcommand"),
+        ("cordkit show a -1", "UnknownArgument"),
+        ("cordkit show a", "MissingRequiredArgument"),
+        ("cordkit show a x", "ValueValidation"),
+        ("cordkit check --at-most x a", "ValueValidation"),
+        ("cordkit help show", "DisplayHelp"),
+    ] {
+        let read = told(&rt, text)?;
+        assert_eq!(rt; read.as_str(), wanted, "{text}");
+    }
+    Ok(())
+}

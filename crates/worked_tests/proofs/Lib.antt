@@ -1,0 +1,5 @@
+pub mod WorkedPlaces
+pub mod WorkedRows
+pub mod WorkedFaults
+pub mod WorkedFrames
+pub mod WrittenImages
