@@ -4,6 +4,8 @@
 make_image.py literals [N [L]]  the image of one insertion of N literals of L bytes (500,000 of 16 where no number is given)
 make_image.py session           the image of a session of 1,000,000 nodes and 100,000 revisions of all commands
 make_image.py source            the text of the session's source
+make_image.py dearest [BYTES]   an accepted image of at most so many bytes (100,000), whose check takes the most looks at nodes; to standard
+                                error how many the check may take
 """
 import struct
 import sys
@@ -24,6 +26,38 @@ def one_insertion(count, size):
     image.pool = (turn * (count * size // 251 + 1))[: count * size]
     image.revise(NEW, None)
     image.revise(INSERT, root, r=0, n=len(image.pool), parts=[("pool", 0, len(image.pool))])
+    return image
+
+
+# ---- rows that compare each byte at the greatest depth
+
+DEEPEST, ROW_BYTES = 64, 4096
+
+
+def shape(size, doublings):
+    """How many rows of bytes an image of so many bytes has room for, where a text is one byte doubled so often, and how many a text takes."""
+    beside = 40 + 32 * (DEEPEST + 1) + 56 + (56 + 24) + doublings * (56 + 2 * 24) + 24
+    in_text = 2 ** doublings // ROW_BYTES
+    whole, left = divmod(max(size - beside, 0), 56 + 24 * in_text)
+    return whole * in_text + max(left - 56, 0) // 24, in_text
+
+
+def dearest(size):
+    image = Image([])
+    doublings = max(range(12, 39), key=lambda d: shape(size, d)[0])
+    left, in_text = shape(size, doublings)
+    root = image.function(FILL_BYTE, b"a", 1)
+    image.revise(NEW, None)
+    image.revise(FILL, root, r=0, a=ord("a"), n=1, parts=[("fill", ord("a"), 1)])
+    for k in range(1, doublings + 1):
+        half, n = root, image.length[root]
+        root = image.cat(half, half)
+        while k == doublings and image.depth[root] < DEEPEST:
+            root = image.sub(root, 0, 2 * n)
+        image.revise(JOIN, root, r=k, q=k, parts=[("old", half, 0, n)] * 2)
+    while left > 0:
+        image.revise(BACK, root, r=doublings + 1, rows=image.compare(root, min(left, in_text)))
+        left -= in_text
     return image
 
 
@@ -203,8 +237,16 @@ class Image:
             a, b = b, a + b
         return a <= self.length[root]
 
-    def revise(self, code, root, r=0, q=0, p=0, m=0, a=0, n=0, parts=()):
-        rows = self.cover(parts, root)
+    def compare(self, root, count):
+        """Writes so many rows of bytes, and one for what is left, that cover a root beside itself, and answers how many they are."""
+        self.rows += struct.pack(">BBHIQQ", BYTES, 0, 0, 0, ROW_BYTES, 0) * count
+        place, n = count * ROW_BYTES, self.length[root]
+        if place < n:
+            self.rows += struct.pack(">BBHIQQ", SHARED, 0, 0, root, n - place, place)
+        return count + (place < n)
+
+    def revise(self, code, root, r=0, q=0, p=0, m=0, a=0, n=0, parts=(), rows=None):
+        rows = self.cover(parts, root) if rows is None else rows
         mark = int(root is not None and self.is_balanced(root))
         number = NIL if root is None else root
         self.revisions += struct.pack(">BBHIIIQQQQII", code, mark, 0, number, r, q, p, m, a, n, rows, 0)
@@ -212,6 +254,11 @@ class Image:
 
     def row_count(self):
         return len(self.rows) // 24
+
+    def looks(self):
+        """The most looks at nodes that its check takes."""
+        compared = sum(min(n, 4096) for tag, n in struct.iter_unpack(">B7xQ8x", self.rows) if tag == BYTES)
+        return len(self.kind) + 2 * len(self.roots) + 132 * self.row_count() + 132 * compared
 
     def write(self, out):
         out.write(b"CORDSESS" + struct.pack(">IIIIIIQ", 1, len(self.sources), len(self.kind), len(self.roots),
@@ -355,6 +402,9 @@ def main():
     if what == "literals":
         count, size = (int(word) for word in (sys.argv[2:4] + ["500000", "16"][len(sys.argv) - 2 :]))
         image = one_insertion(count, size)
+    elif what == "dearest":
+        image = dearest(int((sys.argv[2:3] or ["100000"])[0]))
+        print(image.looks(), "looks", file=sys.stderr)
     else:
         session = Session()
         session.run(NODES, REVISIONS)

@@ -92,13 +92,8 @@ echo "accepted 1 revisions 0 nodes 0 rows" > "$folder/accepted"
 refuse_allocations stdout
 refuse_allocations stdout check "$folder/image"
 refuse_allocations "$folder/abc" show "$folder/image" 1
-{
-    head -c 32 stdin
-    printf '\0\0\0\0\0\020\0\0'
-    tail -c +41 stdin
-    head -c 1048573 /dev/zero
-} > "$folder/long_pool" # the same image with a pool of a megabyte, which show passes through
-refuse_allocations "$folder/abc" show "$folder/long_pool" 1
+"$program" migrate "$folder/image" > "$folder/in_two"
+refuse_allocations "$folder/in_two" migrate "$folder/image"
 refuse_allocations "$folder/accepted" check "$folder/one_source" "$folder/abc"
 refuse_allocations "$folder/nothing" show "$folder/one_source" 0 "$folder/abc"
 tr -d '[:space:]' < ../../tests/vectors/bytes_row_over_a_source.hex | tr a-f A-F | basenc --base16 -d > "$folder/bytes"

@@ -109,9 +109,22 @@ static uint64_t time_store() {
     return sum;
 }
 
-// With a word it times the operations alone, and else what an editor does.
-int main(int words, char **) {
+// 4,096 bytes of a megabyte replaced, one after the other
+static uint64_t replace_each(crope text) {
+    uint64_t step = text.size() / 4096;
+    auto start = Clock::now();
+    for (uint64_t k = 0; k < 4096; k++)
+        text.replace(k * step, 1, "x", 1);
+    auto taken = std::chrono::duration_cast<std::chrono::microseconds>(Clock::now() - start);
+    std::printf("  %-38s %8lld us\n", "4,096 bytes one after the other", (long long)taken.count());
+    return text.size();
+}
+
+// With the word `store` it times the operations alone, with `many` replacements, and else what an editor does.
+int main(int words, char **word) {
     uint64_t sum = 0;
+    if (words > 1 && std::string(word[1]) == "many")
+        return replace_each(crope(std::string(1 << 20, 'y').c_str())) == 0;
     if (words > 1)
         return time_store() == 0;
     for (uint64_t leaves : {1000, 10000, 100000})

@@ -31,6 +31,10 @@ echo "cordkit, what an editor does:"
 "$program"
 echo "libstdc++ ext/rope, the same:"
 "$peer"
+echo "cordkit, many replacements in a megabyte, every revision kept with its rows:"
+"$program" many
+echo "libstdc++ ext/rope, the same, no earlier text kept:"
+"$peer" many
 if pkg-config --exists absl_cord 2> /dev/null; then
     g++ -O2 -std=c++17 -o "$peer" bench/absl.cc $(pkg-config --cflags --libs absl_cord)
     echo "absl::Cord:"

@@ -1,6 +1,7 @@
 #!/usr/bin/env python3
-"""Checks images that this script makes, whole and damaged, by the built cordkit. A whole image is accepted, a damaged one accepted or
-refused, and each revision of an accepted one shows the text that its commands give here, on plain bytes objects.
+"""Checks images that this script makes, of both versions, whole and damaged, by the built cordkit, and the worked image of many replacements
+with each byte changed. A whole image is accepted, every line is the one that tests/image_rules.py gives, and each revision of an
+accepted one shows the text that its commands give here, on plain bytes objects.
 
 Usage: tests/damaged_images.py [IMAGES [PROGRAM]]; the last line is 'N passed, M failed'.
 """
@@ -8,23 +9,29 @@ Usage: tests/damaged_images.py [IMAGES [PROGRAM]]; the last line is 'N passed, M
 import multiprocessing
 import os
 import random
-import re
 import struct
 import subprocess
 import sys
 import tempfile
 
-NIL = 0xFFFFFFFF
-HEADER, SOURCE, NODE, REVISION, ROW = 40, 8, 32, 56, 24
-LITERAL, SOURCE_PART, FUNCTION, CONCATENATION, SUBSTRING = 1, 2, 3, 4, 5
-FILL, RAMP, CYCLE = 1, 2, 3
-NEW, OPEN, INSERT, DELETE, REPLACE, PASTE, JOIN, CUT, FILL_IN, BACK, BALANCE = range(1, 12)
-SHARED, LEAF, BYTES = 1, 2, 3
+import image_rules
+from image_rules import BACK, BALANCE, CUT, DELETE, FILL_IN, INSERT, JOIN, MANY, NEW, OPEN, PASTE, REPLACE
+from image_rules import BYTES, CONCATENATION, CYCLE, FILL, FUNCTION, LEAF, LITERAL, NIL, RAMP, SHARED, SOURCE_PART, SUBSTRING
+
 LONGEST_SHOWN = 1 << 20
 MEGABYTE = 1 << 20
+IMAGES_OF_A_BATCH = 21
+PLACES_OF_A_BATCH = 4
 
 
-def text_of(command, revision, texts, sources, pool):
+def replaced(text, splices, pool):
+    """The text with many replacements, whose places count in it as it was."""
+    for p, m, a, n in reversed(splices):
+        text = text[:p] + pool[a : a + n] + text[p + m :]
+    return text
+
+
+def text_of(command, revision, splices, texts, sources, pool):
     """What a command gives of the earlier texts."""
     r, q, p, m, a, n = revision
     text = texts[r] if command not in (NEW, OPEN) else b""
@@ -46,10 +53,12 @@ def text_of(command, revision, texts, sources, pool):
         return text[a : a + n]
     if command == FILL_IN:
         return text[:p] + bytes([a]) * n + text[p:]
+    if command == MANY:
+        return replaced(text, splices, pool)
     return text
 
 
-def parts_of(command, revision, texts):
+def parts_of(command, revision, splices, texts):
     """The pieces of a command's text, in order: an earlier text's by its number, the pool's, a source's, a fill."""
     r, q, p, m, a, n = revision
     whole = len(texts[r]) if texts else 0
@@ -65,8 +74,18 @@ def parts_of(command, revision, texts):
         FILL_IN: lambda: [("old", r, 0, p), ("fill", a, 0, n), ("old", r, p, whole - p)],
         BACK: lambda: [("old", r, 0, whole)],
         BALANCE: lambda: [("old", r, 0, whole)],
+        MANY: lambda: parts_of_many(r, splices, whole),
     }
     return pieces[command]()
+
+
+def parts_of_many(r, splices, whole):
+    """What stands before each replacement and its bytes, and at the end the rest."""
+    pieces, end = [], 0
+    for p, m, a, n in splices:
+        pieces += [("old", r, end, p - end), ("pool", 0, a, n)]
+        end = p + m
+    return [*pieces, ("old", r, end, whole - end)]
 
 
 class Image:
@@ -74,10 +93,11 @@ class Image:
 
     def __init__(self, chance):
         self.chance = chance
+        self.version = chance.choice([1, 2])
         self.sources = [random_text(chance) for _ in range(chance.randrange(3))]
         self.pool = bytearray()
         self.nodes, self.records = [], []
-        self.texts, self.roots, self.revisions, self.rows = [], [], [], []
+        self.texts, self.roots, self.revisions, self.splices, self.rows = [], [], [], [], []
 
     def node(self, node, text, depth, record):
         self.nodes.append((node, text, depth))
@@ -231,9 +251,31 @@ class Image:
                 place, at = place + count, at + count
         return rows
 
+    def replacements(self, size):
+        """Some replacements in a text of this size, each behind the one before it."""
+        found, start = [], 0
+        for _ in range(self.chance.randrange(1, 6)):
+            if start > size:
+                break
+            p = self.chance.randrange(start, size + 1)
+            m = self.chance.randrange(min(size - p, 9) + 1)
+            added = random_text(self.chance)[: self.chance.randrange(30)] or (b"" if m else b"x")
+            found.append((p, m, self.pooled(added) if added else 0, len(added)))
+            start = p + max(m, 1)
+        return found
+
     def command(self):
-        """A command in range at random."""
-        chance, kind = self.chance, self.chance.randrange(1, 12)
+        """A command in range at random, its fields, and its splices."""
+        kind = self.chance.randrange(NEW, MANY + self.version - 1)
+        if kind == MANY and self.texts:
+            r = self.chance.randrange(len(self.texts))
+            splices = self.replacements(len(self.texts[r]))
+            return MANY, (r, len(splices), 0, 0, 0, 0), splices
+        return *self.simple_command(kind), []
+
+    def simple_command(self, kind):
+        """A command in range of a kind, or New where nothing is there for it."""
+        chance = self.chance
         if kind == OPEN and self.sources:
             return OPEN, (0, chance.randrange(len(self.sources)), 0, 0, 0, 0)
         if kind in (NEW, OPEN) or not self.texts:
@@ -259,35 +301,29 @@ class Image:
         return kind, (r, 0, 0, 0, 0, 0)
 
     def revise(self):
-        kind, fields = self.command()
-        text = text_of(kind, fields, self.texts, self.sources, bytes(self.pool))
+        kind, fields, splices = self.command()
+        text = text_of(kind, fields, splices, self.texts, self.sources, bytes(self.pool))
         if len(text) > 5000:
             return
         root = self.roots[fields[0]] if kind == BACK and self.chance.random() < 0.8 else self.tree(text)
-        rows = self.cover(parts_of(kind, fields, self.texts), root)
-        mark = root != NIL and is_balanced(len(text), self.nodes[root][2]) and self.chance.random() < 0.7
+        rows = self.cover(parts_of(kind, fields, splices, self.texts), root)
+        mark = root != NIL and image_rules.is_balanced(len(text), self.nodes[root][2]) and self.chance.random() < 0.7
         r, q, p, m, a, n = fields
         self.revisions.append(struct.pack(">BB2xLLLQQQQL4x", kind, mark, root, r, q, p, m, a, n, len(rows)))
+        self.splices += [struct.pack(">QQQQ", *splice) for splice in splices]
         self.rows += rows
         self.texts.append(text)
         self.roots.append(root)
 
     def sections(self):
         counts = (len(self.sources), len(self.records), len(self.revisions), len(self.rows))
-        header = b"CORDSESS" + struct.pack(">LLLLL4xQ", 1, *counts, len(self.pool))
+        header = b"CORDSESS" + struct.pack(">LLLLLLQ", self.version, *counts, len(self.splices), len(self.pool))
         lengths = [struct.pack(">Q", len(source)) for source in self.sources]
-        return [[header], lengths, self.records, self.revisions, self.rows, [bytes(self.pool)]]
+        return [[header], lengths, self.records, self.revisions, self.splices, self.rows, [bytes(self.pool)]]
 
 
 def record(kind, depth, function, size, x, length, payload):
     return struct.pack(">BBBBLQ", kind, depth, function, size, x, length) + payload
-
-
-def is_balanced(length, depth):
-    low, high = 1, 2
-    for _ in range(depth):
-        low, high = high, low + high
-    return length >= low
 
 
 def random_text(chance):
@@ -340,23 +376,21 @@ def with_field(data, chance):
     return bytes(data)
 
 
-def commands_of(data):
-    """The revisions of an image's bytes as they are spelled, and its pool."""
-    sources, nodes, revisions, rows = struct.unpack(">LLLL", data[12:28])
-    start = HEADER + SOURCE * sources + NODE * nodes
-    pool = data[start + REVISION * revisions + ROW * rows :]
-    spelled = []
-    for k in range(revisions):
-        kind, _, _, r, q, p, m, a, n, _ = struct.unpack(">BB2xLLLQQQQL4x", data[start + REVISION * k : start + REVISION * (k + 1)])
-        spelled.append((kind, (r, q, p, m, a, n)))
-    return spelled, pool
-
-
 def run(program, *words):
     return subprocess.run([program, *words], stdin=subprocess.DEVNULL, capture_output=True, check=False)
 
 
-def answers(program, folder, data, sources, whole, long_pool):
+def texts_of(image, sources):
+    """The texts that the commands of an accepted image give, up to the first one that is too long to be shown here."""
+    texts = []
+    for revision in image.revisions:
+        if revision.command == FILL_IN and revision.fields[5] > LONGEST_SHOWN:
+            break
+        texts.append(text_of(revision.command, revision.fields, revision.splices, texts, sources, image.pool))
+    return texts
+
+
+def answers(program, folder, data, sources, long_pool):
     """Whether an image is accepted, and what is wrong with the answers for it, or nothing."""
     image = os.path.join(folder, "image")
     with open(image, "wb") as file:
@@ -366,22 +400,19 @@ def answers(program, folder, data, sources, whole, long_pool):
         files.append(os.path.join(folder, f"source{k}"))
         with open(files[-1], "wb") as file:
             file.write(source)
+    wanted = image_rules.line(data, sources)
+    accepted = wanted.startswith(b"accepted ")
     checked = run(program, "check", image, *files)
-    if checked.returncode == 1 and not whole:
-        line = re.fullmatch(rb"refused (C1\(I\d\)|C\d+(\(\d+(,\d+)?\))?)\n", checked.stdout)
-        return False, None if line and not checked.stderr else f"answered {checked.stdout!r} {checked.stderr!r}"
-    spelled, pool = commands_of(data)
-    if checked.returncode != 0 or checked.stderr or not checked.stdout.startswith(b"accepted %d revisions " % len(spelled)):
-        return False, f"answered {checked.stdout!r} {checked.stderr!r}, status {checked.returncode}"
-    texts = []
-    for kind, fields in spelled:
-        if kind == FILL_IN and fields[5] > LONGEST_SHOWN:
-            break
-        texts.append(text_of(kind, fields, texts, sources, pool))
+    if (checked.returncode, checked.stdout, checked.stderr) != (0 if accepted else 1, wanted, b""):
+        return accepted, f"answered {checked.stdout!r} {checked.stderr!r}, status {checked.returncode}, for {wanted!r}"
+    if not accepted:
+        return False, None
+    known = image_rules.Image(data)
+    texts = texts_of(known, sources)
     for longer in [False, True] if long_pool else [False]:
         if longer:
             with open(image, "wb") as file:
-                file.write(with_long_pool(data, len(pool)))
+                file.write(with_long_pool(data, len(known.pool)))
         for k, text in enumerate(texts):
             shown = run(program, "show", image, str(k), *files)
             if (shown.returncode, shown.stdout, shown.stderr) != (0, text, b""):
@@ -390,34 +421,57 @@ def answers(program, folder, data, sources, whole, long_pool):
 
 
 def with_long_pool(data, size):
-    """The image with a pool of a megabyte more, of which `show` may write a text as it reads it."""
+    """The image with a pool of a megabyte more."""
     return data[:32] + struct.pack(">Q", size + MEGABYTE) + data[40:] + bytes(MEGABYTE)
 
 
-def batch(given):
-    """One made image and damaged ones: how many of the changed ones are accepted, and what was wrong."""
-    program, seed, count = given
+def made_batch(program, seed):
+    """One made image and damaged ones: how many there are, how many of the changed ones are accepted, and what was wrong."""
     chance = random.Random(seed)
     image = made(chance)
     sections = image.sections()
     data, found, accepted = b"".join(b"".join(section) for section in sections), [], 0
     with tempfile.TemporaryDirectory() as folder:
-        for k in range(count):
+        for k in range(IMAGES_OF_A_BATCH):
             tried = data if k == 0 else damaged(sections, chance)
-            taken, fault = answers(program, folder, tried, image.sources, k == 0, k > 0 or seed % 10 == 0)
+            taken, fault = answers(program, folder, tried, image.sources, k > 0 or seed % 10 == 0)
             accepted += taken and tried != data
+            if k == 0 and not taken:
+                fault = "a whole image is refused"
             if fault:
                 found.append(f"seed {seed}, image {k}: {fault}")
+    return IMAGES_OF_A_BATCH, accepted, found
+
+
+def set_batch(program, data, first):
+    """An image with the byte of a few places changed, each by a little and by much."""
+    count, accepted, found = 0, 0, []
+    with tempfile.TemporaryDirectory() as folder:
+        for place in range(first, min(first + PLACES_OF_A_BATCH, len(data))):
+            old = data[place]
+            for new in sorted({0, 1, (old + 1) % 256, (old - 1) % 256, 255} - {old}):
+                taken, fault = answers(program, folder, data[:place] + bytes([new]) + data[place + 1 :], [], True)
+                count, accepted = count + 1, accepted + taken
+                if fault:
+                    found.append(f"byte {place} set to {new}: {fault}")
     return count, accepted, found
+
+
+def batch(given):
+    return given[0](*given[1:])
 
 
 def main():
     images = int(sys.argv[1]) if len(sys.argv) > 1 else 100_000
     top = os.path.dirname(os.path.dirname(os.path.abspath(__file__)))
     program = sys.argv[2] if len(sys.argv) > 2 else os.path.join(top, "crates/cordkit/out/cordkit")
+    with open(os.path.join(top, "tests/vectors/version2/many_replacements.hex"), encoding="ascii") as file:
+        worked = bytes.fromhex(file.read())
+    batches = [(set_batch, program, worked, first) for first in range(0, len(worked), PLACES_OF_A_BATCH)]
+    batches += [(made_batch, program, seed) for seed in range(-(-images // IMAGES_OF_A_BATCH))]
     tried = failed = taken = 0
     with multiprocessing.Pool() as pool:
-        for count, accepted, found in pool.imap_unordered(batch, ((program, seed, 21) for seed in range((images + 20) // 21))):
+        for count, accepted, found in pool.imap_unordered(batch, batches):
             tried += count
             taken += accepted
             failed += len(found)

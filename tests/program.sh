@@ -1,9 +1,11 @@
 #!/bin/sh
-# Runs the built program, or the one that $1 names, as bin/cordkit, on the cases of the table at the end, and compares what it writes and its
-# status with what the table says. The last line is 'N passed, M failed'; the status is not 0 where a case failed.
+# Runs the built program, or the one that $1 names, as bin/cordkit, on the cases of the tables, and compares what it writes and its
+# status with what the tables say. Where $2 is `launcher`, only the cases whose names begin with a star are tried. The last line is
+# 'N passed, M failed'; the status is not 0 where a case failed.
 set -u
 top=$(cd "$(dirname "$0")/.." && pwd)
 program=${1:-$top/crates/cordkit/out/cordkit}
+cases=${2:-all}
 case $program in
 /*) ;;
 *) program=$PWD/$program ;;
@@ -13,6 +15,14 @@ if ! [ -x "$program" ]; then
     echo "0 passed, 1 failed"
     exit 1
 fi
+case $cases in
+all | launcher) ;;
+*)
+    echo "the cases are all or launcher, and not $cases" >&2
+    echo "0 passed, 1 failed"
+    exit 1
+    ;;
+esac
 room=$(mktemp -d) || exit 1
 trap 'rm -rf "$room"' EXIT
 trap 'exit 1' HUP INT TERM
@@ -20,7 +30,7 @@ trap 'exit 1' HUP INT TERM
 # The files of the cases: every worked image by its name, and texts.
 mkdir "$room/files" "$room/files/folder"
 cd "$room/files" || exit 1
-for hex in "$top"/tests/vectors/*.hex; do
+for hex in "$top"/tests/vectors/*.hex "$top"/tests/vectors/version2/*.hex; do
     tr -d '[:space:]' < "$hex" | tr a-f A-F | basenc --base16 -d > "$(basename "$hex" .hex)" || exit 1
 done
 printf "$(seq 0 299 | awk '{ printf "\\%03o", $1 % 256 }')" > ramp
@@ -34,6 +44,8 @@ printf '\377' > highest
 yes abcdefg | head -c 10000 > long
 cp long long_twin
 printf b >> long_twin
+yes abcdefg | head -c 3000000 > large
+printf 'abc d' > 'a file'
 truncate -s 549755813888 half || exit 1
 truncate -s 1099511627776 too_long || exit 1
 printf 'ab\025c\030' > keys_saved
@@ -44,21 +56,32 @@ printf 'ab\025c' > keys_ended
 head -c -1 long_pool > long_pool_short
 { cat long_pool && printf x; } > long_pool_more
 { head -c 184 long_pool && printf '\003' && tail -c +186 long_pool; } > long_pool_bytes
+# images and their twins in version 2; a header alone whose version is 3; a terabyte of zeros behind an image
+for image in one_insert new_alone bytes_row_over_a_source; do
+    { head -c 11 "$image" && printf '\002' && tail -c +13 "$image"; } > "${image}_in_two" || exit 1
+done
+{ head -c 11 one_insert && printf '\003' && tail -c +13 one_insert | head -c 28; } > header_in_three
+cp one_insert too_much
+truncate -s 1099511627776 too_much || exit 1
 mkfifo pipe || exit 1
 cat one_insert > pipe &
 writer=$!
 trap 'kill "$writer" 2> /dev/null; rm -rf "$room"' EXIT
 
-# What the program has to write: the text of a file of tests/data, or what printf makes of the column.
+# What the program has to write: the text of a file of tests/data, or of a file of the cases behind an @, or what printf makes of the
+# column.
 expected() {
     case $1 in
     *.txt) cat "$top/tests/data/$1" ;;
+    @*) cat "${1#@}" ;;
     *) printf '%b' "$1" ;;
     esac
 }
 
-are_same() {
-    [ "$(sha256sum < "$1")" = "$(sha256sum < "$2")" ]
+# Whether what was written, to standard output and to standard error, is what was expected.
+is_expected() {
+    set -- $(sha256sum ../out ../expected_out ../err ../expected_err)
+    [ "$1 $5" = "$3 $7" ]
 }
 
 # A case: its name; the words, as a shell reads them; the file that is standard input, if any; the status; what goes to standard
@@ -78,7 +101,7 @@ try() {
     fi
     expected "$out" > ../expected_out
     expected "$err" > ../expected_err
-    if [ "$got" = "$status" ] && are_same ../out ../expected_out && are_same ../err ../expected_err; then
+    if [ "$got" = "$status" ] && is_expected; then
         passed=$((passed + 1))
     else
         failed=$((failed + 1))
@@ -88,33 +111,54 @@ try() {
     fi
 }
 
+# The same image from a file and from standard input.
+try_both() {
+    try "$1" "check $2" "" "$3" "$4\n" ""
+    try "$1, as standard input" "" "$2" "$3" "$4\n" ""
+}
+
+# The image $1 with the bytes that $3 spells in hex in place of those from place $2 on, as the file `changed`.
+change() {
+    { head -c "$2" "$1" && printf %s "$3" | basenc --base16 -d && tail -c "+$(($2 + ${#3} / 2 + 1))" "$1"; } > changed
+}
+
 # Every worked image: its name, the file that is its source, if any, the status, and the line.
-while IFS=';' read -r image source status line; do
-    try "the worked image $image" "check $image $source" "" "$status" "$line\n" ""
-done < "$top/tests/vectors/answers"
-answered=$((passed + failed))
-if [ "$answered" != "$(ls "$top"/tests/vectors/*.hex | wc -l)" ]; then
-    failed=$((failed + 1))
-    echo "FAILED: $answered answers for another number of worked images"
-fi
+try_worked_images() {
+    answered=0
+    while IFS=';' read -r image source status line; do
+        if [ -n "$source" ]; then
+            try "the worked image $image" "check $image $source" "" "$status" "$line\n" ""
+        else
+            try_both "the worked image $image" "$image" "$status" "$line"
+        fi
+        answered=$((answered + 1))
+    done < "$1/answers"
+    if [ "$answered" != "$(ls "$1"/*.hex | wc -l)" ]; then
+        failed=$((failed + 1))
+        echo "FAILED: $answered answers for another number of worked images"
+    fi
+}
 
 # Each shorter prefix of an image ends too early.
-size=$(wc -c < one_insert)
-count=0
-while [ "$count" -lt "$size" ]; do
-    head -c "$count" one_insert > changed
-    try "the first $count bytes of an image" "check changed" "" 1 "refused C1(I1)\n" ""
-    count=$((count + 1))
-done
-
-# The bytes of that image that are for later use, from one place to another: set to 1, each is refused.
-while read -r place last; do
-    while [ "$place" -le "$last" ]; do
-        { head -c "$place" one_insert && printf '\001' && tail -c "+$((place + 2))" one_insert; } > changed
-        try "an image whose unused byte $place is set" "check changed" "" 1 "refused C1(I6)\n" ""
-        place=$((place + 1))
+try_prefixes() {
+    size=$(wc -c < "$1")
+    count=0
+    while [ "$count" -lt "$size" ]; do
+        head -c "$count" "$1" > changed
+        try "the first $count bytes of $1" "check changed" "" 1 "refused C1(I1)\n" ""
+        count=$((count + 1))
     done
-done << 'PLACES'
+}
+
+# The bytes of one insertion that are for later use, from one place to another: set to 1, each is refused.
+try_unused_bytes() {
+    while read -r place last; do
+        while [ "$place" -le "$last" ]; do
+            change one_insert "$place" 01
+            try "an image whose unused byte $place is set" "check changed" "" 1 "refused C1(I6)\n" ""
+            place=$((place + 1))
+        done
+    done << 'PLACES'
 28 31
 42 47
 64 71
@@ -128,16 +172,56 @@ done << 'PLACES'
 185 191
 200 207
 PLACES
+}
 
+# Worked images of which some bytes are others: the case, the image, the place, the bytes there in hex, and the line.
+try_changed_images() {
+    while IFS=';' read -r name image place bytes line; do
+        change "$image" "$place" "$bytes"
+        try_both "$name" changed 1 "$line"
+    done << 'CHANGES'
+more nodes than there may be;one_insert;16;01000001;refused C1(I5)
+more revisions than are there;one_insert;20;00000003;refused C1(I1)
+more rows than are there;one_insert;24;00000002;refused C1(I1)
+a revision of more rows than the header has;one_insert;179;02;refused C1(I5)
+as many splices as there may be, which are not there;many_replacements;28;01000000;refused C1(I1)
+more splices than there may be;many_replacements;28;01000001;refused C1(I5)
+no replacement, in version 1;many_of_no_splices;11;01;refused C1(I7)
+more replacements than splices;many_replacements;420;00001001;refused C1(I5)
+a replacement past every text;many_replacements;464;FFFFFFFFFFFFFFFF;refused C8(2)
+a replacement of more than any text has;many_replacements;472;FFFFFFFFFFFFFFFF;refused C8(2)
+replacements in their own text;many_replacements;416;00000002;refused C8(2)
+replacements with a place outside their splices;many_replacements;431;01;refused C1(I6)
+replacements with a length outside their splices;many_replacements;439;01;refused C1(I6)
+replacements with a place of the pool outside their splices;many_replacements;447;01;refused C1(I6)
+replacements with a number of bytes outside their splices;many_replacements;455;01;refused C1(I6)
+a replacement that makes a text of 2^40 bytes;many_to_the_limit;351;00;refused C8(2)
+CHANGES
+}
+
+if [ "$cases" = all ]; then
+    try_worked_images "$top/tests/vectors"
+    try_worked_images "$top/tests/vectors/version2"
+    try_prefixes one_insert
+    try_prefixes many_replacements
+    try_unused_bytes
+    try_changed_images
+fi
+
+# A row whose name begins with a star shows that bin/cordkit hands on the words, standard input, what is written, and the status.
 while IFS=';' read -r name words input status out err; do
     [ -n "$name" ] || continue
+    case $cases$name in
+    all* | 'launcher* '*) ;;
+    *) continue ;;
+    esac
     try "$name" "$words" "$input" "$status" "$out" "$err"
 done << 'TABLE'
 an empty text is accepted;check new_alone;;0;accepted 1 revisions 0 nodes 0 rows\n;
-an insertion is accepted;check one_insert;;0;accepted 2 revisions 1 nodes 1 rows\n;
-no words check standard input;;one_insert;0;accepted 2 revisions 1 nodes 1 rows\n;
+* an insertion is accepted;check one_insert;;0;accepted 2 revisions 1 nodes 1 rows\n;
+* no words check standard input;;one_insert;0;accepted 2 revisions 1 nodes 1 rows\n;
 standard input without an image is refused;;nothing;1;refused C1(I1)\n;
-a text is no image;check abcde;;1;refused C1(I1)\n;
+* a text is no image;check abcde;;1;refused C1(I1)\n;
 a byte more is refused;check one_byte_more;;1;refused C1(I2)\n;
 a kind that is not known is refused;check unknown_node_kind;;1;refused C1(I7)\n;
 a child that is not earlier is refused;check child_not_earlier;;1;refused C4(1)\n;
@@ -153,16 +237,39 @@ a source that is not given is refused;check one_source;;1;refused C2\n;
 a row of bytes over a source is accepted;check bytes_row_over_a_source abc;;0;accepted 1 revisions 1 nodes 1 rows\n;
 a row that leads elsewhere is refused;check back_shared_elsewhere;;1;refused C11(2,0)\n;
 a command past its text is refused;check insert_past_the_end;;1;refused C8(2)\n;
+as many looks as the limit;check --at-most 137 one_insert;;0;accepted 2 revisions 1 nodes 1 rows\n;
+a look more than the limit;check --at-most 136 one_insert;;1;refused looks 137\n;
+a limit behind the image;check one_insert --at-most=136;;1;refused looks 137\n;
+the largest limit;check --at-most 18446744073709551615 one_insert;;0;accepted 2 revisions 1 nodes 1 rows\n;
+as many looks as the limit with bytes compared;check --at-most 531 bytes_row_over_a_source abc;;0;accepted 1 revisions 1 nodes 1 rows\n;
+a look more than the limit with bytes compared;check --at-most 530 bytes_row_over_a_source abc;;1;refused looks 531\n;
+a row of 4096 bytes and one of 1 are looked at;check --at-most 541072 bytes_row_of_the_limit;;1;refused looks 541073\n;
+of a row of 4097 bytes 4096 are counted;check --at-most 540808 bytes_row_too_long;;1;refused looks 540809\n;
+it is refused by its row within the limit;check --at-most 540809 bytes_row_too_long;;1;refused C11(1,0)\n;
+the limit stands behind the bytes;check --at-most 0 abcde;;1;refused C1(I1)\n;
+the limit stands behind the number of sources;check --at-most 0 one_source;;1;refused C2\n;
+the limit stands behind the lengths of sources;check --at-most 0 one_source ab;;1;refused C3(0)\n;
+the limit stands before the nodes;check --at-most 3 child_not_earlier;;1;refused looks 4\n;
+a node is refused within the limit;check --at-most 4 child_not_earlier;;1;refused C4(1)\n;
+the limit stands before the commands;check --at-most 0 insert_past_the_end;;1;refused looks 139\n;
 256 sources are refused;check one_source $(yes abc | head -n 256);;1;refused S4\n;
-an image that is not there;check missing;;3;;read\n
+* an image that is not there;check missing;;3;;read\n
 a source that is not there;check one_source missing;;3;;read\n
 an image by a pipe;check pipe;;0;accepted 2 revisions 1 nodes 1 rows\n;
 an image that is standard input;check /dev/stdin;one_insert;0;accepted 2 revisions 1 nodes 1 rows\n;
 an image that is a folder;check folder;;3;;read\n
+zeros without end are no image;check /dev/zero;;1;refused C1(I3)\n;
+a header alone is refused by its own fault;check header_in_three;;1;refused C1(I4)\n;
+a terabyte behind an image is refused;check too_much;;1;refused C1(I2)\n;
 standard input that is a folder;;folder;3;;read\n
-a line on a full device;check one_insert;;3;/dev/full;write\n
+* a line on a full device;check one_insert;;3;/dev/full;write\n
 a revision is shown;show one_insert 1;;0;abc;
 the text of New is shown;show one_insert 0;;0;;
+the text of New alone is shown;show new_alone 0;;0;;
+* a text of every byte is shown;show ramp_wraps 0 ramp;;0;@ramp;
+a text before many replacements is shown;show many_replacements 1;;0;abcdef;
+a text of many replacements is shown;show many_replacements 2;;0;aXdYZe;
+a text of which many replacements leave nothing is shown;show many_deletes_all 2;;0;;
 a substring of a substring is shown;show substring_of_substring 1;;0;cd;
 a revision beside a source is shown;show one_source 0 abc;;0;;
 a text of a source is shown;show bytes_row_over_a_source 0 abc;;0;abc;
@@ -172,6 +279,10 @@ all of a text deleted leaves none;show delete_all 2;;0;;
 a revision that is not there;show one_insert 2;;1;;refused no revision\n
 the largest number is no revision;show one_insert 18446744073709551615;;1;;refused no revision\n
 a refused image is not shown;show child_not_earlier 0;;1;;refused C4(1)\n
+a text is shown within the limit;show --at-most 137 one_insert 1;;0;abc;
+a text is not shown past the limit;show --at-most 136 one_insert 1;;1;;refused looks 137\n
+nor is that of a long pool;show --at-most 136 long_pool 1;;1;;refused looks 137\n
+a text in a long pool is shown within the limit;show --at-most 137 long_pool 1;;0;abc;
 an image is not shown beside a source too many;show one_insert 1 abc;;1;;refused C2\n
 an image is not shown beside 256 sources;show one_insert 1 $(yes abc | head -n 256);;1;;refused S4\n
 a text in a long pool is shown;show long_pool 1;;0;abc;
@@ -184,7 +295,21 @@ an image of a long pool and a byte more is not shown;show long_pool_more 1;;1;;r
 an image of a long pool is not shown beside a source too many;show long_pool 1 abc;;1;;refused C2\n
 a text in a long pool on a full device;show long_pool 1;;3;/dev/full;write\n
 an image to show that is not there;show missing 0;;3;;read\n
+zeros without end are not shown;show /dev/zero 0;;1;;refused C1(I3)\n
 a text on a full device;show one_insert 1;;3;/dev/full;write\n
+an image is written in version 2;migrate one_insert;;0;@one_insert_in_two;
+an image of version 2 is written as it is;migrate one_insert_in_two;;0;@one_insert_in_two;
+the image of an empty text is written in version 2;migrate new_alone;;0;@new_alone_in_two;
+an image over a source is written in version 2;migrate bytes_row_over_a_source abc;;0;@bytes_row_over_a_source_in_two;
+what is so written is accepted;check bytes_row_over_a_source_in_two abc;;0;accepted 1 revisions 1 nodes 1 rows\n;
+and its text is the same;show one_insert_in_two 1;;0;abc;
+an image by a pipe is written in version 2;migrate /dev/stdin;one_insert;0;@one_insert_in_two;
+a refused image is not written;migrate child_not_earlier;;1;;refused C4(1)\n
+zeros without end are not written;migrate /dev/zero;;1;;refused C1(I3)\n
+an image is not written beside a source too many;migrate one_insert abc;;1;;refused C2\n
+an image is not written beside 256 sources;migrate one_insert $(yes abc | head -n 256);;1;;refused S4\n
+an image to write that is not there;migrate missing;;3;;read\n
+an image in version 2 on a full device;migrate one_insert;;3;/dev/full;write\n
 keys are shown and saved;edit saved;keys_saved;0;edit.txt;
 the saved image shows its last text;show saved 4;;0;ac;
 the saved image shows what undo gave;show saved 3;;0;a;
@@ -212,6 +337,7 @@ a part of standard input;cut 1 3 /dev/stdin;abcde;0;bcd;
 a part of a file of 2^39 bytes;cut 549755813885 10 half;;0;\0000\0000\0000;
 a part of a file of 2^40 bytes;cut 0 1 too_long;;1;;refused S5\n
 files are joined in their order;join abcde ab highest;;0;abcdeab\0377;
+* a large file is joined;join large;;0;@large;
 one file is joined;join abc;;0;abc;
 255 files are joined;join abc $(yes nothing | head -n 253) ab;;0;abcab;
 256 files are refused;join $(yes abc | head -n 256);;1;;refused S4\n
@@ -219,11 +345,12 @@ nothing is joined where a file is not there;join abcde missing;;3;;read\n
 files on a full device;join abcde ab;;3;/dev/full;write\n
 files of 2^40 bytes together;join half half;;1;;refused N1\n
 a pattern is found;find 0 bcd abcde;;0;1\n;
+* words with a space;find 0 "c d" "a file";;0;2\n;
 a pattern is found at its start;find 1 bcd abcde;;0;1\n;
 a pattern before the start is not found;find 2 bcd abcde;;1;;
 a pattern that does not occur;find 0 zz abcde;;1;;
 a pattern over the border of two blocks;find 4090 efg long;;0;4092\n;
-an empty pattern is found at the end;find 5 "" abcde;;0;5\n;
+* an empty pattern is found at the end;find 5 "" abcde;;0;5\n;
 an empty pattern is not found past the end;find 6 "" abcde;;1;;
 a pattern is its bytes;find 0 "$(printf '\303\251')" accent;;0;1\n;
 a pattern that begins with a dash;find 0 -- -x dash;;0;1\n;
@@ -247,7 +374,46 @@ an option that is not known;--frobnicate;;2;;error: unexpected argument '--frobn
 a word that is missing;show one_insert;;2;;error: the following required arguments were not provided:\n  <REV>\n\nUsage: cordkit show <IMAGE> <REV> [SOURCE]...\n\nFor more information, try '--help'.\n
 a word too many;cmp abc ab abcde;;2;;error: unexpected argument 'abcde' found\n\nUsage: cordkit cmp <FIRST> <SECOND>\n\nFor more information, try '--help'.\n
 a number of more than 64 bits;cut 18446744073709551616 1 abcde;;2;;error: invalid value '18446744073709551616' for '<START>': number too large to fit in target type\n\nUsage: cordkit [COMMAND]\n\nFor more information, try '--help'.\n
+a limit that is no number;check --at-most few one_insert;;2;;error: invalid value 'few' for '<LOOKS>': invalid digit found in string\n\nUsage: cordkit [COMMAND]\n\nFor more information, try '--help'.\n
 a word that is no number;show one_insert one;;2;;error: invalid value 'one' for '<REV>': invalid digit found in string\n\nUsage: cordkit [COMMAND]\n\nFor more information, try '--help'.\n
+
+an image cut short on standard input is refused;;cut_short_by_one;1;refused C1(I1)\n;
+a kind that is not known on standard input is refused;;unknown_node_kind;1;refused C1(I7)\n;
+a child that is not earlier on standard input is refused;;child_not_earlier;1;refused C4(1)\n;
+a mark on what is not balanced on standard input is refused;;chain_of_four_marked;1;refused C10(1)\n;
+text that no row covers on standard input is refused;;text_left_uncovered;1;refused C11(1,1)\n;
+a source that standard input has none of is refused;;bytes_row_over_a_source;1;refused C2\n;
+the empty text of the shortest image is shown;show new_alone 0;;0;;
+an image cut short is not shown;show cut_short_by_one 1;;1;;refused C1(I1)\n
+an image is not shown beside a shorter source;show bytes_row_over_a_source 0 ab;;1;;refused C3(0)\n
+a part up to the largest number;cut 1 18446744073709551615 abcde;;0;bcde;
+a part at the end is empty;cut 5 1 abcde;;0;;
+an empty file is joined;join ab nothing abcde;;0;ababcde;
+200 files are joined;join $(yes abc | head -n 200);;0;joined.txt;
+a pattern at the start of the search;find 2 cd abcde;;0;2\n;
+
+help to check;check --help;;2;;check_help.txt
+help to show;show --help;;2;;show_help.txt
+help to show by its word;help show;;2;;show_help.txt
+a file before its command;abcde check;;2;;error: unrecognized subcommand 'abcde'\n\nUsage: cordkit [COMMAND]\n\nFor more information, try '--help'.\n
+an image to check that is missing;check;;2;;error: the following required arguments were not provided:\n  <IMAGE>\n\nUsage: cordkit check <IMAGE> [SOURCE]...\n\nFor more information, try '--help'.\n
+an option of check that is not known;check --frobnicate one_insert;;2;;error: unexpected argument '--frobnicate' found\n\n  tip: to pass '--frobnicate' as a value, use '-- --frobnicate'\n\nUsage: cordkit check [OPTIONS] <IMAGE> [SOURCE]...\n\nFor more information, try '--help'.\n
+an image and a revision that are missing;show;;2;;error: the following required arguments were not provided:\n  <IMAGE>\n  <REV>\n\nUsage: cordkit show <IMAGE> <REV> [SOURCE]...\n\nFor more information, try '--help'.\n
+a source in the place of a revision;show one_insert abc 1;;2;;error: invalid value 'abc' for '<REV>': invalid digit found in string\n\nUsage: cordkit [COMMAND]\n\nFor more information, try '--help'.\n
+a revision with a fraction;show one_insert 1.0;;2;;error: invalid value '1.0' for '<REV>': invalid digit found in string\n\nUsage: cordkit [COMMAND]\n\nFor more information, try '--help'.\n
+a revision of more than 64 bits;show one_insert 18446744073709551616;;2;;error: invalid value '18446744073709551616' for '<REV>': number too large to fit in target type\n\nUsage: cordkit [COMMAND]\n\nFor more information, try '--help'.\n
+a revision with a sign;show one_insert -1;;2;;error: unexpected argument '-1' found\n\n  tip: to pass '-1' as a value, use '-- -1'\n\nUsage: cordkit show [OPTIONS] <IMAGE> <REV> [SOURCE]...\n\nFor more information, try '--help'.\n
+all words of cut that are missing;cut;;2;;error: the following required arguments were not provided:\n  <START>\n  <COUNT>\n  <FILE>\n\nUsage: cordkit cut <START> <COUNT> <FILE>\n\nFor more information, try '--help'.\n
+a file to cut that is missing;cut 1 2;;2;;error: the following required arguments were not provided:\n  <FILE>\n\nUsage: cordkit cut <START> <COUNT> <FILE>\n\nFor more information, try '--help'.\n
+a start that is no number;cut x 2 abcde;;2;;error: invalid value 'x' for '<START>': invalid digit found in string\n\nUsage: cordkit [COMMAND]\n\nFor more information, try '--help'.\n
+a count that is no number;cut 1 x abcde;;2;;error: invalid value 'x' for '<COUNT>': invalid digit found in string\n\nUsage: cordkit [COMMAND]\n\nFor more information, try '--help'.\n
+a file too many to cut;cut 1 2 abcde ab;;2;;error: unexpected argument 'ab' found\n\nUsage: cordkit cut <START> <COUNT> <FILE>\n\nFor more information, try '--help'.\n
+files to join that are missing;join;;2;;error: the following required arguments were not provided:\n  <FILE>...\n\nUsage: cordkit join <FILE>...\n\nFor more information, try '--help'.\n
+a file to look in that is missing;find 1 b;;2;;error: the following required arguments were not provided:\n  <FILE>\n\nUsage: cordkit find <START> <PATTERN> <FILE>\n\nFor more information, try '--help'.\n
+a place that is no number;find x b abcde;;2;;error: invalid value 'x' for '<START>': invalid digit found in string\n\nUsage: cordkit [COMMAND]\n\nFor more information, try '--help'.\n
+a second file that is missing;cmp abc;;2;;error: the following required arguments were not provided:\n  <SECOND>\n\nUsage: cordkit cmp <FIRST> <SECOND>\n\nFor more information, try '--help'.\n
+an image to save that is missing;edit;;2;;error: the following required arguments were not provided:\n  <IMAGE>\n\nUsage: cordkit edit <IMAGE> [FILE]\n\nFor more information, try '--help'.\n
+a file too many to edit;edit unsaved abc ab;;2;;error: unexpected argument 'ab' found\n\nUsage: cordkit edit <IMAGE> [FILE]\n\nFor more information, try '--help'.\n
 TABLE
 
 echo "$passed passed, $failed failed"

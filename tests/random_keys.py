@@ -1,5 +1,6 @@
 #!/usr/bin/env python3
-"""Types random keys into the built cordkit, and compares with an editor of plain lists: every frame, and every revision of the image.
+"""Types random keys into the built cordkit, and compares with an editor of plain lists: every frame, and every revision of the image, which is
+of version 2 and keeps the rules of tests/image_rules.py.
 
 Usage: tests/random_keys.py [RUNS [PROGRAM]]; the last line is 'N passed, M failed'.
 """
@@ -9,6 +10,8 @@ import random
 import subprocess
 import sys
 import tempfile
+
+import image_rules
 
 ROWS, COLUMNS, ABOVE, CUTS = 23, 80, 11, 16
 SAVE, LEAVE = 0x18, 0x03
@@ -149,9 +152,14 @@ def run(program, folder, chance):
         return "an image without Save, or none with it"
     if not os.path.exists(image):
         return None
+    with open(image, "rb") as file:
+        data = file.read()
+    line = image_rules.line(data, [] if text is None else [text])
+    if not line.startswith(f"accepted {len(plain.texts)} revisions ".encode()) or image_rules.Image(data).version != 2:
+        return f"the image of {keys!r} over {text!r}: {line!r}"
     checked = subprocess.run([program, "check", image, *files], capture_output=True, check=False)
-    if not checked.stdout.startswith(f"accepted {len(plain.texts)} revisions ".encode()):
-        return f"the image of {keys!r} over {text!r}: {checked.stdout!r}"
+    if checked.stdout != line:
+        return f"the image of {keys!r} over {text!r}: {checked.stdout!r} for {line!r}"
     for k, revision in enumerate(plain.texts):
         shown = subprocess.run([program, "show", image, str(k), *files], capture_output=True, check=False)
         if shown.stdout != revision:

@@ -1,0 +1,48 @@
+#!/bin/sh
+# Runs what takes more than a minute and is no proof, over the program that `make run` built: half an hour and more in all. Each goes on
+# where another failed. One whose tools are not there is not tried, which is told and is no pass. The last line is 'N passed, M failed'; the
+# status is not 0 where one failed or none passed.
+#   100,000 damaged images, 1,000 sessions of keys    python3
+#   allocations, reads and writes that are refused    gcc
+#   the tests of ropes under memcheck                 valgrind, and rt where they are not built
+#   the editor in a terminal                          tmux
+#   refusals that come behind much work               nothing more
+set -u
+cd "$(dirname "$0")/.." || exit 1
+if ! [ -x crates/cordkit/out/cordkit ]; then
+    echo "there is no program crates/cordkit/out/cordkit: make run builds it" >&2
+    echo "0 passed, 1 failed"
+    exit 1
+fi
+passed=0
+failed=0
+
+# A run: its name, the tools that it needs, and its words.
+try() {
+    name=$1 tools=$2
+    shift 2
+    for tool in $tools; do
+        if ! command -v "$tool" > /dev/null; then
+            echo "NOT TRIED: $name: there is no $tool here"
+            return
+        fi
+    done
+    echo "== $name"
+    start=$(date +%s)
+    if "$@"; then
+        passed=$((passed + 1))
+        echo "== $name passed, in $(($(date +%s) - start)) s"
+    else
+        failed=$((failed + 1))
+        echo "FAILED: $name, in $(($(date +%s) - start)) s"
+    fi
+}
+
+try 'damaged images' python3 python3 tests/damaged_images.py 100000
+try 'sessions of keys' python3 python3 tests/random_keys.py 1000
+try 'refused allocations, reads and writes' gcc sh bench/refuse.sh
+try 'the tests of ropes under memcheck' valgrind sh tests/memcheck.sh
+try 'the editor in a terminal' tmux sh tests/terminal.sh
+try 'dear refusals' '' sh tests/dear_refusals.sh
+echo "$passed passed, $failed failed"
+[ "$failed" = 0 ] && [ "$passed" != 0 ]
