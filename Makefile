@@ -2,14 +2,17 @@
 # make run       proves and builds the program, and runs it on the stored image
 # make check     the merge gate: every proof and test, an edit of each public function that must be refused, and the built program
 # make long      what takes more than a minute and is no proof, over the built program: random images and keys, failing devices, dear refusals
+# make hostile   has the program check images at the format's limits: ten minutes, 5 GB of memory and of disk
+# make fuzz MINUTES=60  has the program and the second checker answer images that are made from those that reached something new
 # make audit     the edits that must be refused and that the gate has no time for
 # make bench     times the program beside the usual tools, on data that it makes
 # make refuse    refuses each allocation of a run in turn, and fails its reads and writes by real devices
 # make memcheck  runs the tests of ropes under valgrind's memcheck, where it is installed
 
-.PHONY: try run check long audit bench refuse memcheck
+.PHONY: try run check long hostile fuzz audit bench refuse memcheck
 
 IMAGE = crates/cordkit/stdin
+MINUTES = 10
 
 try:
 	(cd crates/cordkit && rt try) < "$(IMAGE)"
@@ -18,10 +21,16 @@ run:
 	cd crates/cordkit && rt run < stdin
 
 check:
-	rt ci && sh tests/program.sh && sh tests/program.sh bin/cordkit launcher
+	rt ci && sh tests/program.sh && sh tests/program.sh bin/cordkit launcher && sh tests/slice.sh
 
 long:
 	sh tests/long.sh
+
+hostile:
+	python3 tests/hostile.py
+
+fuzz:
+	python3 tests/fuzz_images.py $(MINUTES)
 
 audit:
 	sh audit/run.sh

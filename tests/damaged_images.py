@@ -1,484 +1,377 @@
 #!/usr/bin/env python3
-"""Checks images that this script makes, of both versions, whole and damaged, by the built cordkit, and the worked image of many replacements
-with each byte changed. A whole image is accepted, every line is the one that tests/image_rules.py gives, and each revision of an
-accepted one shows the text that its commands give here, on plain bytes objects.
+"""Checks images by the built cordkit and by the second checker: images that chance makes (tests/made_images.py), whole and damaged (bits, bytes,
+single fields by name, records put elsewhere, twice or left out, other sources), and the worked image of many replacements with each byte
+changed. Every line is the second checker's; an accepted image has the texts that its commands give on plain bytes, and is written anew as it
+is; what its nodes and marks record is what their bytes say.
 
-Usage: tests/damaged_images.py [IMAGES [PROGRAM]]; the last line is 'N passed, M failed'.
+Usage: tests/damaged_images.py [IMAGES [PROGRAM [FIRST]]]; FIRST is the number of the first made image. The last line is 'N passed, M failed'.
 """
 
+import collections
 import multiprocessing
 import os
 import random
+import re
 import struct
 import subprocess
 import sys
 import tempfile
 
-import image_rules
-from image_rules import BACK, BALANCE, CUT, DELETE, FILL_IN, INSERT, JOIN, MANY, NEW, OPEN, PASTE, REPLACE
-from image_rules import BYTES, CONCATENATION, CYCLE, FILL, FUNCTION, LEAF, LITERAL, NIL, RAMP, SHARED, SOURCE_PART, SUBSTRING
+from second_checker import PROGRAM, TOP, verify
+from made_images import made
 
 LONGEST_SHOWN = 1 << 20
 MEGABYTE = 1 << 20
 IMAGES_OF_A_BATCH = 21
 PLACES_OF_A_BATCH = 4
+ALL_FAULTS_FROM = 50_000
+
+# The fields of each kind of record: their names, places and sizes.
+HEADER = {"magic": (0, 8), "version": (8, 4), "sources": (12, 4), "nodes": (16, 4), "revisions": (20, 4), "rows": (24, 4), "splices": (28, 4),
+          "pool": (32, 8)}  # fmt: skip
+SOURCE = {"length": (0, 8)}
+NODE = {"kind": (0, 1), "depth": (1, 1), "function": (2, 1), "pattern length": (3, 1), "x": (4, 4), "length": (8, 8), "place": (16, 8),
+        "right": (16, 4), "first byte": (16, 1), "behind right": (20, 4), "behind place": (24, 8)}  # fmt: skip
+REVISION = {"command": (0, 1), "mark": (1, 1), "zero": (2, 2), "root": (4, 4), "r": (8, 4), "q": (12, 4), "p": (16, 8), "m": (24, 8),
+            "a": (32, 8), "n": (40, 8), "rows": (48, 4), "end": (52, 4)}  # fmt: skip
+SPLICE = {"p": (0, 8), "m": (8, 8), "a": (16, 8), "n": (24, 8)}
+ROW = {"tag": (0, 1), "zeros": (1, 3), "node": (4, 4), "length": (8, 8), "offset": (16, 8)}
+FIELDS = [HEADER, SOURCE, NODE, REVISION, SPLICE, ROW, {}]
+OFTEN = [1, 1, 5, 6, 3, 5, 1]
+
+# Numbers at which rules turn.
+TURNS = [0, 1, 2, 3, 16, 17, 64, 65, 255, 256, 4096, 4097, verify.MOST_REVISIONS, verify.MOST_NODES, verify.NIL, verify.NIL + 1,
+         verify.LONGEST_TEXT, verify.LONGEST_TEXT + 1, (1 << 63) - 1, 1 << 63, (1 << 64) - 1]  # fmt: skip
+
+NODE_KINDS = ["", "literal", "part of a source", "function", "concatenation", "substring"]
+COMMANDS = ["", "New", "Open", "Insert", "Delete", "Replace", "Paste", "Join", "Cut", "Fill", "Back", "Balance", "Many"]
+TAGS = ["", "Shared row", "Leaf row", "Bytes row"]
 
 
-def replaced(text, splices, pool):
-    """The text with many replacements, whose places count in it as it was."""
-    for p, m, a, n in reversed(splices):
-        text = text[:p] + pool[a : a + n] + text[p + m :]
-    return text
-
-
-def text_of(command, revision, splices, texts, sources, pool):
-    """What a command gives of the earlier texts."""
-    r, q, p, m, a, n = revision
-    text = texts[r] if command not in (NEW, OPEN) else b""
-    if command == NEW:
-        return b""
-    if command == OPEN:
-        return sources[q]
-    if command == INSERT:
-        return text[:p] + pool[a : a + n] + text[p:]
-    if command == DELETE:
-        return text[:p] + text[p + n :]
-    if command == REPLACE:
-        return text[:p] + pool[a : a + n] + text[p + m :]
-    if command == PASTE:
-        return text[:p] + texts[q][a : a + n] + text[p:]
-    if command == JOIN:
-        return text + texts[q]
-    if command == CUT:
-        return text[a : a + n]
-    if command == FILL_IN:
-        return text[:p] + bytes([a]) * n + text[p:]
-    if command == MANY:
-        return replaced(text, splices, pool)
-    return text
-
-
-def parts_of(command, revision, splices, texts):
-    """The pieces of a command's text, in order: an earlier text's by its number, the pool's, a source's, a fill."""
-    r, q, p, m, a, n = revision
-    whole = len(texts[r]) if texts else 0
-    pieces = {
-        NEW: lambda: [],
-        OPEN: lambda: [("source", q, 0, None)],
-        INSERT: lambda: [("old", r, 0, p), ("pool", 0, a, n), ("old", r, p, whole - p)],
-        DELETE: lambda: [("old", r, 0, p), ("old", r, p + n, whole - p - n)],
-        REPLACE: lambda: [("old", r, 0, p), ("pool", 0, a, n), ("old", r, p + m, whole - p - m)],
-        PASTE: lambda: [("old", r, 0, p), ("old", q, a, n), ("old", r, p, whole - p)],
-        JOIN: lambda: [("old", r, 0, whole), ("old", q, 0, len(texts[q]))],
-        CUT: lambda: [("old", r, a, n)],
-        FILL_IN: lambda: [("old", r, 0, p), ("fill", a, 0, n), ("old", r, p, whole - p)],
-        BACK: lambda: [("old", r, 0, whole)],
-        BALANCE: lambda: [("old", r, 0, whole)],
-        MANY: lambda: parts_of_many(r, splices, whole),
-    }
-    return pieces[command]()
-
-
-def parts_of_many(r, splices, whole):
-    """What stands before each replacement and its bytes, and at the end the rest."""
-    pieces, end = [], 0
-    for p, m, a, n in splices:
-        pieces += [("old", r, end, p - end), ("pool", 0, a, n)]
-        end = p + m
-    return [*pieces, ("old", r, end, whole - end)]
-
-
-class Image:
-    """An image in the making: each node with its text."""
-
-    def __init__(self, chance):
-        self.chance = chance
-        self.version = chance.choice([1, 2])
-        self.sources = [random_text(chance) for _ in range(chance.randrange(3))]
-        self.pool = bytearray()
-        self.nodes, self.records = [], []
-        self.texts, self.roots, self.revisions, self.splices, self.rows = [], [], [], [], []
-
-    def node(self, node, text, depth, record):
-        self.nodes.append((node, text, depth))
-        self.records.append(record)
-        return len(self.nodes) - 1
-
-    def pooled(self, text):
-        """Where the pool has the bytes."""
-        found = self.pool.find(text)
-        if found >= 0 and self.chance.random() < 0.5:
-            return found
-        self.pool += text
-        return len(self.pool) - len(text)
-
-    def leaf(self, text):
-        """A node of these bytes: one that is there, a part of one, a function, a part of a source, or a literal."""
-        kinds = ["literal", "node", "part", "source", "function"]
-        self.chance.shuffle(kinds)
-        for kind in kinds:
-            made = getattr(self, "as_" + kind)(text)
-            if made is not None:
-                return made
-        return self.as_literal(text)
-
-    def as_literal(self, text):
-        place = self.pooled(text)
-        return self.node((LITERAL, place), text, 0, record(LITERAL, 0, 0, 0, 0, len(text), struct.pack(">QQ", place, 0)))
-
-    def as_node(self, text):
-        same = [k for k, node in enumerate(self.nodes) if node[1] == text]
-        return self.chance.choice(same) if same else None
-
-    def as_part(self, text):
-        longer = [k for k, node in enumerate(self.nodes) if text in node[1] and node[2] < 60]
-        if not longer:
-            return None
-        base = self.chance.choice(longer)
-        place, depth = self.nodes[base][1].find(text), self.nodes[base][2] + 1
-        payload = struct.pack(">QQ", place, 0)
-        return self.node((SUBSTRING, base, place), text, depth, record(SUBSTRING, depth, 0, 0, base, len(text), payload))
-
-    def as_source(self, text):
-        holding = [s for s, source in enumerate(self.sources) if text in source]
-        if not holding:
-            return None
-        s = self.chance.choice(holding)
-        place = self.sources[s].find(text)
-        payload = struct.pack(">QQ", place, 0)
-        return self.node((SOURCE_PART, s, place), text, 0, record(SOURCE_PART, 0, 0, 0, s, len(text), payload))
-
-    def as_function(self, text):
-        c = text[0]
-        if text == bytes([c]) * len(text):
-            return self.function((FILL, c), text, bytes([c]), 0)
-        if text == bytes((c + k) % 256 for k in range(len(text))):
-            return self.function((RAMP, c), text, bytes([c]), 0)
-        for size in range(2, min(16, len(text)) + 1):
-            pattern = text[:size]
-            if text == (pattern * (len(text) // size + 1))[: len(text)]:
-                return self.function((CYCLE, pattern), text, pattern, size)
-        return None
-
-    def function(self, meaning, text, payload, size):
-        fields = record(FUNCTION, 0, meaning[0], size, 0, len(text), payload.ljust(16, b"\0"))
-        return self.node((FUNCTION, *meaning), text, 0, fields)
-
-    def tree(self, text):
-        """A rope of the bytes, in pieces and shapes that chance picks."""
-        if not text:
-            return NIL
-        if len(text) == 1 or self.chance.random() < 0.4:
-            return self.leaf(text)
-        middle = self.chance.randrange(1, len(text))
-        left, right = self.tree(text[:middle]), self.tree(text[middle:])
-        depth = 1 + max(self.nodes[left][2], self.nodes[right][2])
-        if depth > 60:
-            return self.as_literal(text)
-        payload = struct.pack(">L12x", right)
-        return self.node((CONCATENATION, left, right), text, depth, record(CONCATENATION, depth, 0, 0, left, len(text), payload))
-
-    def length(self, k):
-        return len(self.nodes[k][1])
-
-    def leaf_span(self, k, place):
-        """How the leaf's bytes at a place of a node are described, and how many of them follow there."""
-        node, text, _ = self.nodes[k]
-        if node[0] == CONCATENATION:
-            left = self.length(node[1])
-            return self.leaf_span(node[1], place) if place < left else self.leaf_span(node[2], place - left)
-        if node[0] == SUBSTRING:
-            description, count = self.leaf_span(node[1], node[2] + place)
-            return description, min(count, len(text) - place)
-        if node[0] == LITERAL:
-            return ("pool", node[1] + place), len(text) - place
-        if node[0] == SOURCE_PART:
-            return ("source", node[1], node[2] + place), len(text) - place
-        if node[1] == FILL:
-            return ("fill", node[2]), len(text) - place
-        if node[1] == RAMP:
-            return ("ramp", (node[2] + place) % 256), len(text) - place
-        return ("cycle", node[2], place % len(node[2])), len(text) - place
-
-    def ways(self, k, place, count):
-        """Each node and offset that a span leads to."""
-        node = self.nodes[k][0]
-        yield k, place
-        if node[0] == SUBSTRING:
-            yield from self.ways(node[1], node[2] + place, count)
-        elif node[0] == CONCATENATION:
-            left = self.length(node[1])
-            if place + count <= left:
-                yield from self.ways(node[1], place, count)
-            elif place >= left:
-                yield from self.ways(node[2], place - left, count)
-
-    def described(self, part, place):
-        kind, number, start, _ = part
-        if kind == "old":
-            return self.leaf_span(self.roots[number], start + place)
-        if kind == "pool":
-            return ("pool", start + place), part[3] - place
-        if kind == "source":
-            return ("source", number, start + place), part[3] - place
-        return ("fill", number), part[3] - place
-
-    def row(self, part, place, root, at, left):
-        """A row over bytes of a part from a place on, which stand in the root too."""
-        old, old_count = self.described(part, place)
-        new, new_count = self.leaf_span(root, at)
-        count = self.chance.randrange(1, left + 1)
-        if part[0] == "old" and self.chance.random() < 0.7:
-            there = set(self.ways(self.roots[part[1]], part[2] + place, count))
-            shared = [way for way in self.ways(root, at, count) if way in there]
-            if shared:
-                node, offset = self.chance.choice(shared)
-                return count, struct.pack(">B3xLQQ", SHARED, node, count, offset)
-        if old == new and self.chance.random() < 0.8:
-            count = min(old_count, new_count, left)
-            return count, struct.pack(">B7xQQ", LEAF, count, 0)
-        count = min(count, 4096)
-        return count, struct.pack(">B7xQQ", BYTES, count, 0)
-
-    def cover(self, parts, root):
-        rows, at = [], 0
-        for part in parts:
-            size = len(self.sources[part[1]]) if part[3] is None else part[3]
-            part, place = (*part[:3], size), 0
-            while place < size:
-                count, spelled = self.row(part, place, root, at, size - place)
-                rows.append(spelled)
-                place, at = place + count, at + count
-        return rows
-
-    def replacements(self, size):
-        """Some replacements in a text of this size, each behind the one before it."""
-        found, start = [], 0
-        for _ in range(self.chance.randrange(1, 6)):
-            if start > size:
-                break
-            p = self.chance.randrange(start, size + 1)
-            m = self.chance.randrange(min(size - p, 9) + 1)
-            added = random_text(self.chance)[: self.chance.randrange(30)] or (b"" if m else b"x")
-            found.append((p, m, self.pooled(added) if added else 0, len(added)))
-            start = p + max(m, 1)
-        return found
-
-    def command(self):
-        """A command in range at random, its fields, and its splices."""
-        kind = self.chance.randrange(NEW, MANY + self.version - 1)
-        if kind == MANY and self.texts:
-            r = self.chance.randrange(len(self.texts))
-            splices = self.replacements(len(self.texts[r]))
-            return MANY, (r, len(splices), 0, 0, 0, 0), splices
-        return *self.simple_command(kind), []
-
-    def simple_command(self, kind):
-        """A command in range of a kind, or New where nothing is there for it."""
-        chance = self.chance
-        if kind == OPEN and self.sources:
-            return OPEN, (0, chance.randrange(len(self.sources)), 0, 0, 0, 0)
-        if kind in (NEW, OPEN) or not self.texts:
-            return NEW, (0, 0, 0, 0, 0, 0)
-        r, q = chance.randrange(len(self.texts)), chance.randrange(len(self.texts))
-        size = len(self.texts[r])
-        p = chance.randrange(size + 1)
-        n = chance.randrange(size - p + 1)
-        if kind in (INSERT, REPLACE):
-            added = random_text(chance) or b"x"
-            return kind, (r, 0, p, n if kind == REPLACE else 0, self.pooled(added), len(added))
-        if kind == DELETE:
-            return kind, (r, 0, p, 0, 0, n)
-        if kind == PASTE:
-            start = chance.randrange(len(self.texts[q]) + 1)
-            return kind, (r, q, p, 0, start, chance.randrange(len(self.texts[q]) - start + 1))
-        if kind == JOIN:
-            return kind, (r, q, 0, 0, 0, 0)
-        if kind == CUT:
-            return kind, (r, 0, 0, 0, p, n)
-        if kind == FILL_IN:
-            return kind, (r, 0, p, 0, chance.randrange(256), chance.randrange(40))
-        return kind, (r, 0, 0, 0, 0, 0)
-
-    def revise(self):
-        kind, fields, splices = self.command()
-        text = text_of(kind, fields, splices, self.texts, self.sources, bytes(self.pool))
-        if len(text) > 5000:
-            return
-        root = self.roots[fields[0]] if kind == BACK and self.chance.random() < 0.8 else self.tree(text)
-        rows = self.cover(parts_of(kind, fields, splices, self.texts), root)
-        mark = root != NIL and image_rules.is_balanced(len(text), self.nodes[root][2]) and self.chance.random() < 0.7
-        r, q, p, m, a, n = fields
-        self.revisions.append(struct.pack(">BB2xLLLQQQQL4x", kind, mark, root, r, q, p, m, a, n, len(rows)))
-        self.splices += [struct.pack(">QQQQ", *splice) for splice in splices]
-        self.rows += rows
-        self.texts.append(text)
-        self.roots.append(root)
-
-    def sections(self):
-        counts = (len(self.sources), len(self.records), len(self.revisions), len(self.rows))
-        header = b"CORDSESS" + struct.pack(">LLLLLLQ", self.version, *counts, len(self.splices), len(self.pool))
-        lengths = [struct.pack(">Q", len(source)) for source in self.sources]
-        return [[header], lengths, self.records, self.revisions, self.splices, self.rows, [bytes(self.pool)]]
-
-
-def record(kind, depth, function, size, x, length, payload):
-    return struct.pack(">BBBBLQ", kind, depth, function, size, x, length) + payload
-
-
-def random_text(chance):
-    alphabet = chance.choice([b"a", b"ab", b"abc\n", bytes(range(256))])
-    size = chance.randrange(chance.choice([3, 20, 60, 400]))
-    if chance.random() < 0.1:
-        first = chance.randrange(256)
-        return bytes((first + k) % 256 for k in range(size))
-    return bytes(chance.choice(alphabet) for _ in range(size))
-
-
-def made(chance):
-    image = Image(chance)
-    for _ in range(chance.randrange(1, 9)):
-        image.revise()
-    return image
+# ---- Damage
 
 
 def damaged(sections, chance):
     """The bytes with one thing or a few changed: bits, a field, a record put elsewhere or taken away, the end."""
     sections = [list(section) for section in sections]
-    for _ in range(chance.choice([1, 1, 1, 2, 4])):
-        section = chance.choice([s for s in sections if s])
+    for _ in range(chance.choice([1, 1, 1, 1, 2, 4])):
+        number = chance.choices(range(len(sections)), [bool(section) * weight for section, weight in zip(sections, OFTEN)])[0]
+        section = sections[number]
         k, other = chance.randrange(len(section)), chance.randrange(len(section))
-        change = chance.randrange(6)
+        change = chance.randrange(10)
         if change == 0:
             section[k], section[other] = section[other], section[k]
         elif change == 1 and chance.random() < 0.3:
             section.insert(other, section[k])
-        elif change == 2 and chance.random() < 0.3 and section is not sections[0]:
+        elif change == 2 and chance.random() < 0.3 and number != 0:
             del section[k]
-        elif section[k]:
-            section[k] = with_field(bytearray(section[k]), chance)
+        elif change <= 4 and section[k]:
+            section[k] = with_number(bytearray(section[k]), chance)
+        elif FIELDS[number]:
+            section[k] = with_field(section, k, FIELDS[number], chance)
+    if chance.random() < 0.15:
+        sections[0][0] = counted(sections)
     data = b"".join(b"".join(section) for section in sections)
-    if chance.random() < 0.05:
+    if chance.random() < 0.04:
         return data[: chance.randrange(len(data) + 1)]
     return data + b"\0" if chance.random() < 0.02 else data
 
 
-def with_field(data, chance):
+def counted(sections):
+    """The header with the numbers of records that there are."""
+    header, sources, nodes, revisions, splices, rows, pool = sections
+    counts = [len(sources), len(nodes), len(revisions), len(rows), len(splices), sum(map(len, pool))]
+    return header[0][:12] + struct.pack(">LLLLLQ", *counts)
+
+
+def with_number(data, chance):
     """One byte, or a number of four or eight bytes, changed by a little or by much."""
     size = chance.choice([1, 1, 4, 8])
     if size > len(data):
         size = 1
-    start = chance.randrange(len(data) // size) * size
+    return with_value(data, chance.randrange(len(data) // size) * size, size, chance, [0])
+
+
+def with_field(section, k, fields, chance):
+    """A record with one field changed by a little or by much, or as in another record; a mark that is not there, set."""
+    name = chance.choice([*fields, "mark"] if "mark" in fields else list(fields))
+    start, size = fields[name]
+    if name == "mark" and section[k][start] == 0:
+        return section[k][:start] + b"\1" + section[k][start + size :]
+    others = [int.from_bytes(chance.choice(section)[start : start + size], "big")]
+    return with_value(bytearray(section[k]), start, size, chance, others)
+
+
+def with_value(data, start, size, chance, others):
     old = int.from_bytes(data[start : start + size], "big")
-    most = 256**size - 1
-    new = chance.choice([old + 1, old - 1, old ^ 1 << chance.randrange(8 * size), 0, most, chance.randrange(20)]) & most
-    data[start : start + size] = new.to_bytes(size, "big")
+    near = [old + 1, old - 1, old + chance.randrange(20), old - chance.randrange(20)]
+    new = chance.choice([*near, old ^ 1 << chance.randrange(8 * size), chance.randrange(20), chance.choice(TURNS), *others])
+    data[start : start + size] = (new % 256**size).to_bytes(size, "big")
     return bytes(data)
 
 
-def run(program, *words):
-    return subprocess.run([program, *words], stdin=subprocess.DEVNULL, capture_output=True, check=False)
+def other_sources(sources, chance):
+    """The sources, one more or one less, or one of them changed."""
+    sources = list(sources)
+    change = chance.randrange(4) if sources else 0
+    if change == 0:
+        return [*sources, b"abc"]
+    s = chance.randrange(len(sources))
+    if change == 1:
+        return sources[:s] + sources[s + 1 :]
+    if change == 2 or not sources[s]:
+        sources[s] = sources[s][:-1] if chance.random() < 0.5 else sources[s] + b"x"
+        return sources
+    place = chance.randrange(len(sources[s]))
+    sources[s] = sources[s][:place] + bytes([sources[s][place] ^ 1]) + sources[s][place + 1 :]
+    return sources
 
 
-def texts_of(image, sources):
+# ---- What the program answers
+
+
+class Room:
+    """A folder with an image and its sources, and the program that is asked about them."""
+
+    def __init__(self, program, folder, data, sources):
+        self.program, self.sources = program, [os.path.join(folder, f"source{s}") for s in range(len(sources))]
+        self.image = os.path.join(folder, "image")
+        self.write(data)
+        for path, source in zip(self.sources, sources):
+            with open(path, "wb") as file:
+                file.write(source)
+
+    def write(self, data):
+        with open(self.image, "wb") as file:
+            file.write(data)
+
+    def run(self, command, *words):
+        words = [self.program, command, self.image, *words, *self.sources]
+        done = subprocess.run(words, stdin=subprocess.DEVNULL, capture_output=True, check=False)
+        return done.returncode, done.stdout, done.stderr
+
+    def is_checked(self, line, *words):
+        """What is wrong with the answer to check, or nothing."""
+        status = 0 if line.startswith("accepted ") else 1
+        answer = self.run("check", *words)
+        return None if answer == (status, f"{line}\n".encode(), b"") else f"answered {answer} for {line!r}"
+
+
+def shown_texts(image, sources):
     """The texts that the commands of an accepted image give, up to the first one that is too long to be shown here."""
-    texts = []
+    count = 0
     for revision in image.revisions:
-        if revision.command == FILL_IN and revision.fields[5] > LONGEST_SHOWN:
+        if image.length(revision.root) > LONGEST_SHOWN:
             break
-        texts.append(text_of(revision.command, revision.fields, revision.splices, texts, sources, image.pool))
-    return texts
+        count += 1
+    return verify.all_texts(image._replace(revisions=image.revisions[:count]), sources)
 
 
-def answers(program, folder, data, sources, long_pool):
-    """Whether an image is accepted, and what is wrong with the answers for it, or nothing."""
-    image = os.path.join(folder, "image")
-    with open(image, "wb") as file:
-        file.write(data)
-    files = []
-    for k, source in enumerate(sources):
-        files.append(os.path.join(folder, f"source{k}"))
-        with open(files[-1], "wb") as file:
-            file.write(source)
-    wanted = image_rules.line(data, sources)
-    accepted = wanted.startswith(b"accepted ")
-    checked = run(program, "check", image, *files)
-    if (checked.returncode, checked.stdout, checked.stderr) != (0 if accepted else 1, wanted, b""):
-        return accepted, f"answered {checked.stdout!r} {checked.stderr!r}, status {checked.returncode}, for {wanted!r}"
-    if not accepted:
-        return False, None
-    known = image_rules.Image(data)
-    texts = texts_of(known, sources)
-    for longer in [False, True] if long_pool else [False]:
+def refused_fault(room, line):
+    """What is wrong with what show and migrate say of a refused image, or nothing."""
+    for words in [("show", "0"), ("migrate",)]:
+        if room.run(*words) != (1, b"", f"{line}\n".encode()):
+            return f"{words[0]} answers {room.run(*words)} for {line!r}"
+    return None
+
+
+def accepted_fault(room, data, image, sources, with_long_pool):
+    """What is wrong with the texts of an accepted image, or with the image that is written anew, or nothing."""
+    texts = shown_texts(image, sources)
+    fault = record_fault(image, texts, sources)
+    if fault:
+        return fault
+    if room.run("migrate") != (0, data[:11] + b"\2" + data[12:], b""):
+        return "it is written anew as another one"
+    for longer in [False, True] if with_long_pool else [False]:
         if longer:
-            with open(image, "wb") as file:
-                file.write(with_long_pool(data, len(known.pool)))
+            room.write(with_pool(data, len(image.pool) + MEGABYTE))
         for k, text in enumerate(texts):
-            shown = run(program, "show", image, str(k), *files)
-            if (shown.returncode, shown.stdout, shown.stderr) != (0, text, b""):
-                return True, f"revision {k} is shown as {shown.stdout[:80]!r}{' with a long pool' if longer else ''}"
-    return True, None
+            shown = room.run("show", str(k))
+            if shown != (0, text, b""):
+                return f"revision {k} is shown as {shown}{' with a long pool' if longer else ''}"
+    return None
 
 
-def with_long_pool(data, size):
-    """The image with a pool of a megabyte more."""
-    return data[:32] + struct.pack(">Q", size + MEGABYTE) + data[40:] + bytes(MEGABYTE)
+def record_fault(image, texts, sources):
+    """Whether what the nodes record is not what their bytes say, bottom up, or a root or a mark is wrong."""
+    known = []
+    for node in image.nodes:
+        known.append(node_bytes(image, node, known, sources))
+        if known[-1] is not None and (len(known[-1][0]), known[-1][1]) != (node.length, node.depth):
+            return f"node {len(known) - 1} has another length or depth"
+    for k, text in enumerate(texts):
+        root, mark = image.revisions[k].root, image.revisions[k].mark
+        found = (b"", 0) if root == verify.NIL else known[root]
+        if found is not None and found[0] != text:
+            return f"the root of revision {k} has another text"
+        if found is not None and mark and (root == verify.NIL or len(text) < fibonacci(found[1] + 2)):
+            return f"revision {k} has a mark and is not balanced"
+    return None
+
+
+def node_bytes(image, node, known, sources):
+    """The bytes of a node and its depth, from those of the nodes before it, or nothing where it is long."""
+    children = [known[child] for child in node.children()]
+    if node.length > LONGEST_SHOWN or None in children:
+        return None
+    depth = 1 + max(depth for _, depth in children) if children else 0
+    end = node.place + node.length
+    if node.kind == verify.CONCATENATION:
+        return children[0][0] + children[1][0], depth
+    if node.kind == verify.FUNCTION:
+        return bytes(function_byte(node, place) for place in range(node.length)), depth
+    whole = {verify.LITERAL: lambda: image.pool, verify.SOURCE_PART: lambda: sources[node.x], verify.SUBSTRING: lambda: children[0][0]}
+    return whole[node.kind]()[node.place : end], depth
+
+
+def function_byte(node, place):
+    if node.function == verify.RAMP:
+        return (node.pattern[0] + place) % 256
+    return node.pattern[place % len(node.pattern)]
+
+
+def fibonacci(number):
+    here, above = 0, 1
+    for _ in range(number):
+        here, above = above, here + above
+    return here
+
+
+def with_pool(data, size):
+    """The image with a pool of so many bytes, of which the last ones are zeros."""
+    old = struct.unpack(">Q", data[32:40])[0]
+    return data[:32] + struct.pack(">Q", size) + data[40:] + bytes(size - old)
+
+
+def answers(program, folder, data, sources, chance, with_long_pool):
+    """The line for an image, and what is wrong with the answers for it, or nothing."""
+    line = verify.line(data, sources)
+    room = Room(program, folder, data, sources)
+    fault = room.is_checked(line)
+    if fault is None and chance.random() < 0.1:
+        looks = chance.choice([0, 100, looks_of(data, sources)]) + chance.choice([-1, 0, 1])
+        limit = max(looks, 0)
+        fault = room.is_checked(verify.line(data, sources, limit), "--at-most", str(limit))
+    if fault is None and line.startswith("refused ") and chance.random() < 0.05:
+        fault = refused_fault(room, line)
+    if fault is None and line.startswith("accepted "):
+        fault = accepted_fault(room, data, verify.checked(data, sources), sources, with_long_pool)
+    return line, fault
+
+
+def looks_of(data, sources):
+    """How many looks the check may take, where the bytes spell an image."""
+    refused = re.fullmatch(r"refused looks (\d+)", verify.line(data, sources, 0))
+    return int(refused[1]) if refused else 0
+
+
+# ---- Which faults came
+
+
+def named(line, data):
+    """The fault of a line, with the kind of record that has it."""
+    found = re.fullmatch(r"refused (C\d+)\((\d+)(?:,(\d+))?\)", line)
+    if not found:
+        return line.removeprefix("refused ") if line.startswith("refused ") else "accepted"
+    code, k, row = found[1], int(found[2]), found[3]
+    if code == "C3":
+        return code
+    image = verify.image_of(data)
+    if code in ("C4", "C5", "C6", "C7"):
+        return f"{code} of a {NODE_KINDS[image.nodes[k].kind]}"
+    if code in ("C8", "C9", "C10"):
+        return f"{code} of {COMMANDS[image.revisions[k].command]}"
+    rows = image.revisions[k].rows
+    return f"{code} of a {TAGS[rows[int(row)].tag]}" if int(row) < len(rows) else f"{code} of text left uncovered"
+
+
+def all_faults():
+    """Every fault with every kind of record that may have it."""
+    yield from [f"C1(I{number})" for number in (1, 2, 3, 4, 5, 6, 7)]
+    yield from ["C2", "C3"]
+    rules = {"C4": (2, 4, 5), "C5": (1, 2, 3, 4, 5), "C6": (1, 2, 3, 4, 5), "C7": (1, 2, 5)}
+    yield from [f"{code} of a {NODE_KINDS[kind]}" for code, kinds in rules.items() for kind in kinds]
+    yield from [f"C8 of {command}" for command in COMMANDS[2:]]
+    yield from [f"{code} of {command}" for code in ("C9", "C10") for command in COMMANDS[1:]]
+    yield from [f"C11 of a {tag}" for tag in TAGS[1:]]
+    yield "C11 of text left uncovered"
+
+
+# ---- Batches
 
 
 def made_batch(program, seed):
-    """One made image and damaged ones: how many there are, how many of the changed ones are accepted, and what was wrong."""
+    """One made image and damaged ones: how many times each fault came, and what was wrong."""
     chance = random.Random(seed)
     image = made(chance)
     sections = image.sections()
-    data, found, accepted = b"".join(b"".join(section) for section in sections), [], 0
+    data, found, faults = b"".join(b"".join(section) for section in sections), [], collections.Counter()
     with tempfile.TemporaryDirectory() as folder:
         for k in range(IMAGES_OF_A_BATCH):
             tried = data if k == 0 else damaged(sections, chance)
-            taken, fault = answers(program, folder, tried, image.sources, k > 0 or seed % 10 == 0)
-            accepted += taken and tried != data
-            if k == 0 and not taken:
-                fault = "a whole image is refused"
+            sources = image.sources if k == 0 or chance.random() < 0.95 else other_sources(image.sources, chance)
+            line, fault = answers(program, folder, tried, sources, chance, seed % 10 == 0)
+            if k == 0:
+                fault = fault or whole_fault(image, line)
+            faults[named(line, tried) if k else "whole"] += 1
             if fault:
                 found.append(f"seed {seed}, image {k}: {fault}")
-    return IMAGES_OF_A_BATCH, accepted, found
+    return faults, found
+
+
+def whole_fault(image, line):
+    """What is wrong with the line of a whole image, or nothing."""
+    if image.too_deep() is not None:
+        return None if line == f"refused C6({image.too_deep()})" else f"a node too deep is answered {line!r}"
+    wanted = f"accepted {len(image.revisions)} revisions {len(image.nodes)} nodes {len(image.rows)} rows"
+    return None if line == wanted else f"a whole image is answered {line!r}"
 
 
 def set_batch(program, data, first):
     """An image with the byte of a few places changed, each by a little and by much."""
-    count, accepted, found = 0, 0, []
+    chance, faults, found = random.Random(first), collections.Counter(), []
     with tempfile.TemporaryDirectory() as folder:
         for place in range(first, min(first + PLACES_OF_A_BATCH, len(data))):
             old = data[place]
             for new in sorted({0, 1, (old + 1) % 256, (old - 1) % 256, 255} - {old}):
-                taken, fault = answers(program, folder, data[:place] + bytes([new]) + data[place + 1 :], [], True)
-                count, accepted = count + 1, accepted + taken
+                tried = data[:place] + bytes([new]) + data[place + 1 :]
+                line, fault = answers(program, folder, tried, [], chance, True)
+                faults[named(line, tried)] += 1
                 if fault:
                     found.append(f"byte {place} set to {new}: {fault}")
-    return count, accepted, found
+    return faults, found
 
 
 def batch(given):
     return given[0](*given[1:])
 
 
+def batches_of(program, images, first):
+    with open(os.path.join(TOP, "tests/vectors/version2/many_replacements.hex"), encoding="ascii") as file:
+        worked = bytes.fromhex(file.read())
+    places = range(0, len(worked), PLACES_OF_A_BATCH) if images >= ALL_FAULTS_FROM else []
+    seeds = range(first, first - (-images // IMAGES_OF_A_BATCH))
+    return [(set_batch, program, worked, place) for place in places] + [(made_batch, program, seed) for seed in seeds]
+
+
 def main():
     images = int(sys.argv[1]) if len(sys.argv) > 1 else 100_000
-    top = os.path.dirname(os.path.dirname(os.path.abspath(__file__)))
-    program = sys.argv[2] if len(sys.argv) > 2 else os.path.join(top, "crates/cordkit/out/cordkit")
-    with open(os.path.join(top, "tests/vectors/version2/many_replacements.hex"), encoding="ascii") as file:
-        worked = bytes.fromhex(file.read())
-    batches = [(set_batch, program, worked, first) for first in range(0, len(worked), PLACES_OF_A_BATCH)]
-    batches += [(made_batch, program, seed) for seed in range(-(-images // IMAGES_OF_A_BATCH))]
-    tried = failed = taken = 0
+    program = sys.argv[2] if len(sys.argv) > 2 else PROGRAM
+    first = int(sys.argv[3]) if len(sys.argv) > 3 else 0
+    failed, faults = 0, collections.Counter()
     with multiprocessing.Pool() as pool:
-        for count, accepted, found in pool.imap_unordered(batch, batches):
-            tried += count
-            taken += accepted
+        for came, found in pool.imap_unordered(batch, batches_of(program, images, first)):
+            faults += came
             failed += len(found)
             for line in found:
                 print(line)
-    print(f"{taken} changed images are accepted")
-    print(f"{tried - failed} passed, {failed} failed")
+    print("; ".join(f"{fault}: {count}" for fault, count in sorted(faults.items())))
+    missing = [fault for fault in all_faults() if faults[fault] == 0] if images >= ALL_FAULTS_FROM else []
+    for fault in missing:
+        print(f"no image had the fault {fault}")
+    failed += len(missing)
+    print(f"{sum(faults.values()) + len(missing) - failed} passed, {failed} failed")
     return failed != 0
 
 

@@ -2,7 +2,7 @@
 # Runs what takes more than a minute and is no proof, over the program that `make run` built: half an hour and more in all. Each goes on
 # where another failed. One whose tools are not there is not tried, which is told and is no pass. The last line is 'N passed, M failed'; the
 # status is not 0 where one failed or none passed.
-#   100,000 damaged images, 1,000 sessions of keys    python3
+#   100,000 damaged images, 1,000 sessions of keys    python3; both ask the second checker, bin/cordkit-verify
 #   allocations, reads and writes that are refused    gcc
 #   the tests of ropes under memcheck                 valgrind, and rt where they are not built
 #   the editor in a terminal                          tmux

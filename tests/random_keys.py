@@ -1,20 +1,61 @@
 #!/usr/bin/env python3
-"""Types random keys into the built cordkit, and compares with an editor of plain lists: every frame, and every revision of the image, which is
-of version 2 and keeps the rules of tests/image_rules.py.
+"""Types keys into the built cordkit, and compares with an editor of plain lists: every frame with its message, and the image that is saved, which
+is of version 2, keeps the rules of the second checker, and has every revision's text. What chance types: a few keys over a few bytes; more
+cut spans than are kept; hundreds of revisions; a file of thousands of lines. Beside these: images whose every byte is known, and the
+refusals that a long session meets.
 
-Usage: tests/random_keys.py [RUNS [PROGRAM]]; the last line is 'N passed, M failed'.
+Usage: tests/random_keys.py [RUNS [PROGRAM [FIRST]]]; FIRST is the number of the first run. The last line is 'N passed, M failed'.
 """
 
+import collections
+import multiprocessing
 import os
 import random
 import subprocess
 import sys
 import tempfile
 
-import image_rules
+from second_checker import PROGRAM, TOP, verify
 
 ROWS, COLUMNS, ABOVE, CUTS = 23, 80, 11, 16
-SAVE, LEAVE = 0x18, 0x03
+LONGEST = (1 << 31) - 1
+SAVE, LEAVE = b"\x18", b"\x03"
+MARK, CUT, PASTE, DROP, BALANCE, LINE_START, LINE_END = b"\0", b"\x17", b"\x19", b"\x14", b"\x0c", b"\x01", b"\x05"
+LONG_FROM = 500
+
+
+class Refused(Exception):
+    """A key that is refused, with its message."""
+
+
+class Same:
+    """A long text of one byte again and again, of which the length is kept alone."""
+
+    def __init__(self, byte, length):
+        self.byte, self.length = byte, length
+
+    def __len__(self):
+        return self.length
+
+    def __iter__(self):
+        return iter(bytes([self.byte]) * self.length)
+
+    def __getitem__(self, span):
+        return Same(self.byte, len(range(*span.indices(self.length))))
+
+    def __add__(self, other):
+        return Same(self.byte, self.length + len(other))
+
+    def find(self, *_):
+        return -1
+
+    rfind = find
+
+    def count(self, *_):
+        return 0
+
+    def split(self, _):
+        return [self]
 
 
 class Plain:
@@ -22,7 +63,7 @@ class Plain:
 
     def __init__(self, text):
         self.texts, self.priors = [text], [None]
-        self.place, self.mark, self.cuts = 0, None, []
+        self.place, self.mark, self.cuts, self.dropped, self.message = 0, None, [], 0, None
 
     def line_start(self, place):
         return self.texts[-1].rfind(b"\n", 0, place) + 1
@@ -32,6 +73,8 @@ class Plain:
         return len(self.texts[-1]) if found < 0 else found
 
     def revise(self, text, prior, place):
+        if len(text) > LONGEST:
+            raise Refused("K1")
         self.texts.append(text)
         self.priors.append(prior)
         self.place, self.mark = place, None
@@ -55,8 +98,10 @@ class Plain:
     def cut(self):
         if self.mark is not None and self.mark != self.place:
             start, end = sorted((self.mark, self.place))
-            self.cuts = (self.cuts + [self.texts[-1][start:end]])[-CUTS:]
+            cuts = self.cuts + [self.texts[-1][start:end]]
             self.replace(start, end, b"", start)
+            self.dropped += max(len(cuts) - CUTS, 0)
+            self.cuts = cuts[-CUTS:]
 
     def undo(self):
         prior = self.priors[-1]
@@ -64,7 +109,16 @@ class Plain:
             text = self.texts[prior]
             self.revise(text, self.priors[prior], min(self.place, len(text)))
 
-    def key(self, byte):
+    def key(self, byte, refusal=None):
+        """Takes a key, or sets the message: where the text would be too long, or where the key is known to be refused so."""
+        self.message = refusal
+        if refusal is None:
+            try:
+                self.take(byte)
+            except Refused as refused:
+                self.message = str(refused)
+
+    def take(self, byte):
         place, length = self.place, len(self.texts[-1])
         if 0x20 <= byte <= 0x7E or byte == 0x09:
             self.replace(place, place, bytes([byte]), place + 1)
@@ -110,9 +164,16 @@ class Plain:
         shown = b"".join(
             bytes(b if 0x20 <= b <= 0x7E else 0x3F for b in row[left : left + COLUMNS]) + b"\r\n" for row in rows
         )
-        status = f"rev {len(self.texts) - 1} byte {place} of {len(text)}"
+        message = f" {self.message}" if self.message else ""
+        status = f"rev {len(self.texts) - 1} byte {place} of {len(text)}{message}"
         cursor = f"\x1b[{line - first + 1};{column - left + 1}H"
         return b"\x1b[2J\x1b[H" + shown + status.encode() + cursor.encode()
+
+
+# ---- What is typed
+
+KEYS = [0, 1, 2, 4, 5, 6, 8, 10, 13, 14, 16, 20, 21, 23, 25, 12, 127, 97, 98, 32, 9]
+MOVES = [b"\x01", b"\x02", b"\x05", b"\x06", b"\x0e", b"\x10"]
 
 
 def random_text(chance):
@@ -120,67 +181,228 @@ def random_text(chance):
     return bytes(chance.choice(alphabet) for _ in range(chance.randrange(chance.choice([3, 100, 2000]))))
 
 
-def random_keys(chance):
-    keys = [0, 1, 2, 4, 5, 6, 8, 10, 13, 14, 16, 20, 21, 23, 25, 12, 127, 97, 98, 32, 9]
-    picked = bytes(
-        chance.choice(keys) if chance.random() < 0.95 else chance.randrange(256) for _ in range(chance.randrange(120))
-    )
-    return picked.replace(bytes([SAVE]), b"s").replace(bytes([LEAVE]), b"l")
+def random_keys(chance, most):
+    picked = bytes(chance.choice(KEYS) if chance.random() < 0.95 else chance.randrange(256) for _ in range(chance.randrange(most)))
+    return picked.replace(SAVE, b"s").replace(LEAVE, b"l")
 
 
-def run(program, folder, chance):
-    """What is wrong with one run, or nothing."""
-    image, source = os.path.join(folder, "image"), os.path.join(folder, "source")
-    if os.path.exists(image):
-        os.remove(image)
-    text = random_text(chance) if chance.random() < 0.7 else None
-    files = []
-    if text is not None:
-        with open(source, "wb") as file:
-            file.write(text)
-        files = [source]
-    keys, end = random_keys(chance), chance.choice([bytes([SAVE]), bytes([LEAVE]), b""])
-    plain = Plain(text or b"")
-    wanted = plain.frame()
-    for byte in keys:
-        plain.key(byte)
-        wanted += plain.frame()
-    done = subprocess.run([program, "edit", image, *files], input=keys + end, capture_output=True, check=False)
-    if (done.returncode, done.stdout, done.stderr) != (0, wanted, b""):
-        return f"frames of {keys!r} over {text!r}: status {done.returncode}"
-    if os.path.exists(image) != (end == bytes([SAVE])):
-        return "an image without Save, or none with it"
-    if not os.path.exists(image):
-        return None
-    with open(image, "rb") as file:
-        data = file.read()
-    line = image_rules.line(data, [] if text is None else [text])
-    if not line.startswith(f"accepted {len(plain.texts)} revisions ".encode()) or image_rules.Image(data).version != 2:
-        return f"the image of {keys!r} over {text!r}: {line!r}"
-    checked = subprocess.run([program, "check", image, *files], capture_output=True, check=False)
-    if checked.stdout != line:
-        return f"the image of {keys!r} over {text!r}: {checked.stdout!r} for {line!r}"
-    for k, revision in enumerate(plain.texts):
-        shown = subprocess.run([program, "show", image, str(k), *files], capture_output=True, check=False)
-        if shown.stdout != revision:
-            return f"revision {k} of {keys!r} over {text!r}"
+def few_keys(chance):
+    return random_text(chance), random_keys(chance, 120)
+
+
+def many_cuts(chance):
+    """More cut spans than are kept, and then pastes and drops down to the first one."""
+    keys = b""
+    for _ in range(2 * CUTS + chance.randrange(8)):
+        keys += b"abc de\n"[: chance.randrange(2, 8)] + chance.choice([b"\x02", b"\x01\x06", b"\x10"]) + MARK
+        keys += b"".join(chance.choice(MOVES) for _ in range(chance.randrange(1, 4))) + CUT
+    return random_text(chance), keys + b"".join(chance.choice([PASTE, DROP, PASTE + DROP, b"x"]) for _ in range(60))
+
+
+def many_revisions(chance):
+    """Hundreds of keys, most of which change the text."""
+    keys = [*KEYS, *b"abcdefgh \n" * 4]
+    return random_text(chance), bytes(chance.choice(keys) for _ in range(chance.randrange(400, 900)))
+
+
+def many_lines(chance):
+    """A file of thousands of lines, and ways over it."""
+    lines = [b"word " * chance.randrange(30) + b"x" * chance.randrange(3) for _ in range(chance.randrange(2000, 5000))]
+    keys = b""
+    for _ in range(chance.randrange(3, 12)):
+        keys += chance.choice(MOVES) * chance.randrange(60) + random_keys(chance, 12)
+    return b"\n".join(lines), keys
+
+
+KINDS = {few_keys: 80, many_cuts: 8, many_revisions: 6, many_lines: 6}
+
+
+# ---- A run, and what comes of it
+
+
+class Room:
+    """A folder with an image, a file to edit, if any, and the program that is asked about them."""
+
+    def __init__(self, program, folder, text):
+        self.program, self.folder, self.sources = program, folder, [] if text is None else [text]
+        self.image, self.files = os.path.join(folder, "image"), []
+        if text is not None:
+            self.files = [os.path.join(folder, "file")]
+            with open(self.files[0], "wb") as file:
+                file.write(text)
+
+    def run(self, command, *words, keys=b""):
+        words = [self.program, command, self.image, *words, *self.files]
+        done = subprocess.run(words, input=keys, capture_output=True, check=False)
+        return done.returncode, done.stdout, done.stderr
+
+    def saved(self):
+        """The bytes of the image, or nothing where there is none."""
+        if not os.path.exists(self.image):
+            return None
+        with open(self.image, "rb") as file:
+            return file.read()
+
+    def save(self, data):
+        with open(self.image, "wb") as file:
+            file.write(data)
+
+
+def typed(plain, keys, refusals=None):
+    """The frames that come of these keys, of which some are known to be refused, by their number from the end."""
+    frames = [plain.frame()]
+    for k, byte in enumerate(keys):
+        plain.key(byte, (refusals or {}).get(k - len(keys)))
+        frames.append(plain.frame())
+    return b"".join(frames)
+
+
+def image_fault(room, data, plain):
+    """What is wrong with an image that was saved, or nothing."""
+    line = verify.line(data, room.sources)
+    if not line.startswith(f"accepted {len(plain.texts)} revisions "):
+        return f"the second checker answers {line!r} of the image"
+    image = verify.checked(data, room.sources)
+    if image.version != 2 or verify.all_texts(image, room.sources) != plain.texts:
+        return "the image has another version or other texts"
+    if not all(verify.denotes(image, room.sources, image.revisions[k].root, text) for k, text in enumerate(plain.texts)):
+        return "a root of the image has another text"
+    if room.run("check") != (0, f"{line}\n".encode(), b""):
+        return f"check answers {room.run('check')} for {line!r}"
+    if room.run("migrate") != (0, data, b""):
+        return "the image is written anew as another one"
+    for k, text in enumerate(plain.texts):
+        if room.run("show", str(k)) != (0, text, b""):
+            return f"revision {k} is shown as another text"
     return None
+
+
+def older_image(chance, room):
+    """What stands where the image will be: nothing, other bytes, or more of them than a session has."""
+    older = chance.choice([None, None, b"no image", bytes(1 << 20), room.program.encode()])
+    if older is not None:
+        room.save(older)
+    return older
+
+
+def run(program, seed):
+    """What chance typed, whether a cut span was dropped, and what is wrong with the run, or nothing."""
+    chance = random.Random(seed)
+    kind = chance.choices(list(KINDS), KINDS.values())[0]
+    text, keys = kind(chance)
+    with tempfile.TemporaryDirectory() as folder:
+        room = Room(program, folder, text if chance.random() < 0.7 or kind is many_lines else None)
+        older, end = older_image(chance, room), chance.choice([SAVE, SAVE, LEAVE, b""])
+        plain = Plain(room.sources[0] if room.sources else b"")
+        wanted = typed(plain, keys)
+        answer = room.run("edit", keys=keys + end)
+        fault = None
+        if answer != (0, wanted, b""):
+            fault = f"other frames: status {answer[0]}, {answer[2]!r}"
+        elif end != SAVE and room.saved() != older:
+            fault = "an image was written without Save"
+        elif end == SAVE:
+            fault = image_fault(room, room.saved(), plain)
+        note = f"run {seed}, {kind.__name__}: {fault}" if fault else None
+        return kind.__name__, plain.dropped, len(plain.texts), note
+
+
+# ---- Images whose every byte is known
+
+
+def worked(name, changes):
+    """A worked image in version 2, with some bytes changed."""
+    with open(os.path.join(TOP, "tests/vectors", f"{name}.hex"), encoding="ascii") as file:
+        data = bytearray.fromhex(file.read())
+    for place, value in {11: 2, **changes}.items():
+        data[place] = value
+    return bytes(data)
+
+
+def known_images():
+    """Keys, the file that they are typed over, if any, and the image: worked images of a Leaf row and a mark, and of the byte a instead of abc."""
+    yield b"", None, worked("new_alone", {})
+    yield b"", b"abc", worked("bytes_row_over_a_source", {81: 1, 136: verify.LEAF})
+    yield b"a", None, worked("one_insert", {39: 1, 55: 1, 175: 1, 199: 1})[:-2]
+    yield b"a\x08", None, worked("delete_all", {39: 1, 55: 1, 175: 1, 231: 1, 255: 1})[:-2]
+
+
+def known(program):
+    """What is wrong with images whose every byte is known."""
+    found = []
+    for keys, text, wanted in known_images():
+        with tempfile.TemporaryDirectory() as folder:
+            room = Room(program, folder, text)
+            room.run("edit", keys=keys + SAVE)
+            if room.saved() != wanted:
+                found.append(f"the image of the keys {keys!r} has other bytes")
+    return found
+
+
+# ---- The refusals that a long session meets
+
+DOUBLED = LINE_START + MARK + LINE_END + CUT + PASTE + PASTE
+
+
+def long_sessions():
+    """Keys over a file of one byte again and again, the key that ends them, and the keys that are refused, by their number from the end, with
+    their messages. A text of 40 bytes doubled is one of as many pieces as it was doubled to. A balance makes a node less than it has
+    pieces, and a row a piece: one of 2^21 pieces is too many; of 2^20 pieces the sixteenth has too few nodes left, of 2^19 the
+    thirty-second too few rows, and their images are too large for the second checker. The text that is too long is found by the
+    editor of plain lists too."""
+    yield 1 << 20, 11 * DOUBLED + b"x", SAVE, {}
+    yield 40, 21 * DOUBLED + BALANCE + b"\x02", SAVE, {-2: "E8"}
+    yield 40, 20 * DOUBLED + 16 * BALANCE + b"\x02", LEAVE, {-2: "E7"}
+    yield 40, 19 * DOUBLED + 32 * BALANCE + b"\x02", LEAVE, {-2: "E6"}
+    yield 0, ((1 << 20) - 1) * BALANCE + b"\x0c\x02", SAVE, {-2: "E5"}
+
+
+def long_session(program, size, keys, end, refusals):
+    """What is wrong with a long session, or nothing. Its texts are compared by their lengths alone."""
+    with tempfile.TemporaryDirectory() as folder:
+        room = Room(program, folder, b"x" * size)
+        plain = Plain(Same(ord("x"), size))
+        wanted = typed(plain, keys, refusals)
+        if room.run("edit", keys=keys + end) != (0, wanted, b""):
+            return f"a long session over {size} bytes has other frames"
+        data = room.saved()
+        if end != SAVE:
+            return None if data is None else f"a long session over {size} bytes is saved without Save"
+        line = verify.line(data, room.sources)
+        if not line.startswith("accepted ") or room.run("check") != (0, f"{line}\n".encode(), b""):
+            return f"the image of a long session over {size} bytes: {line!r}"
+        image = verify.image_of(data)
+        if [image.length(revision.root) for revision in image.revisions] != [len(text) for text in plain.texts]:
+            return f"the image of a long session over {size} bytes has texts of other lengths"
+        return None
+
+
+def batch(given):
+    return run(*given)
 
 
 def main():
     runs = int(sys.argv[1]) if len(sys.argv) > 1 else 1000
-    top = os.path.dirname(os.path.dirname(os.path.abspath(__file__)))
-    program = sys.argv[2] if len(sys.argv) > 2 else os.path.join(top, "crates/cordkit/out/cordkit")
-    passed = 0
-    with tempfile.TemporaryDirectory() as folder:
-        for seed in range(runs):
-            wrong = run(program, folder, random.Random(seed))
-            if wrong:
-                print(f"run {seed}: {wrong}")
-            else:
-                passed += 1
-    print(f"{passed} passed, {runs - passed} failed")
-    return passed != runs
+    program = sys.argv[2] if len(sys.argv) > 2 else PROGRAM
+    first = int(sys.argv[3]) if len(sys.argv) > 3 else 0
+    found, kinds, dropped, revisions = known(program), collections.Counter(), 0, 0
+    with multiprocessing.Pool() as pool:
+        for kind, spans, texts, fault in pool.imap_unordered(batch, [(program, seed) for seed in range(first, first + runs)]):
+            kinds[kind] += 1
+            dropped += spans
+            revisions += texts
+            found += [fault] if fault else []
+    tried = runs + len(list(known_images()))
+    if runs >= LONG_FROM:
+        for session in long_sessions():
+            fault = long_session(program, *session)
+            tried, found = tried + 1, found + ([fault] if fault else [])
+    for fault in found:
+        print(fault)
+    print("; ".join(f"{kind}: {count}" for kind, count in sorted(kinds.items())))
+    print(f"{revisions} revisions; {dropped} cut spans dropped by a seventeenth")
+    print(f"{tried - len(found)} passed, {len(found)} failed")
+    return len(found) != 0
 
 
 if __name__ == "__main__":
