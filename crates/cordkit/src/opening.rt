@@ -1,0 +1,84 @@
+//! Files as inputs of the tools.
+
+ghost use Rattle.std.specs.Prelude.{◌≡◌, ◌*◌, ◌+◌, ◌<◌, ◌≤◌, IfOk, length};
+
+use cord_tools::{ToolFault, read_source};
+use lazy_file::{FileDevice, FileSources};
+use source_device::SourceDevice;
+use std::fs::{self, File};
+use std::io::ErrorKind;
+use std::num::NonZeroUsize;
+use std::sync::ledger::{Blank, Ledger, Share};
+
+/// So many blocks of the files are kept in memory.
+const BLOCKS: usize = 256;
+
+/// The sources of every tool: files that are read where they lie, and what was read of others.
+pub type OpenedSources<L> = FileSources<SourceDevice<FileDevice<L>>>;
+
+/// Opens an input.
+pub fn open(rt: &HostRuntime, path: &str) -> Result<File, ToolFault> {
+    match fs::open(rt, path) {
+        Ok(file) => Ok(file),
+        Err(error) => {
+            if error.kind() == ErrorKind::OutOfMemory {
+                Err(ToolFault::Memory)
+            } else {
+                Err(ToolFault::Read)
+            }
+        }
+    }
+}
+
+/// So many bytes a file tells that it has. A pipe tells none, nor does a file that the system makes as it is read.
+pub fn told_size(file: &File) -> u64 {
+    match file.metadata() {
+        Ok(metadata) if metadata.is_file() => metadata.len(),
+        _ => 0,
+    }
+}
+
+/// A file that tells its size is read where it lies, and its reads are counted by two parts of these. Another one is read now, to its
+/// end.
+fn opened_device<L: Ledger>(
+    rt: &HostRuntime,
+    path: &str,
+    parts: &mut Share<L>,
+) -> Result<SourceDevice<FileDevice<L>>, ToolFault>
+    requires some { 2 < parts.old.parts }
+    requires unused { parts.old.amount ≡ 0 }
+    ensures parts { parts.old.parts ≤ parts.new.parts + 2 }
+    ensures unused { parts.new.amount ≡ 0 }
+{
+    let file = open(rt, path)?;
+    let size = told_size(&file);
+    if size == 0 {
+        return Ok(SourceDevice::Held(read_source(rt.alloc(), file, 0)?));
+    }
+    let failed = parts.split_off(1, 0);
+    let called = parts.split_off(1, 0);
+    let device = FileDevice::new(file, size, failed, called);
+    Ok(SourceDevice::File(device))
+}
+
+/// The files as sources, in the order of their paths. The first that cannot be opened or added is the fault.
+pub fn opened_sources<L: Ledger>(
+    rt: &HostRuntime,
+    paths: &[&str],
+    blank: Blank,
+) -> Result<OpenedSources<L>, ToolFault>
+    requires name { blank.name ≡ L.name }
+    requires parts { blank.parts ≡ L.parts }
+    requires many { 2 * length paths.now < blank.parts }
+    ensures { IfOk result (λ sources. length sources.devices ≡ length paths.entry.now) }
+{
+    let blocks = NonZeroUsize::new(BLOCKS).unwrap_or(NonZeroUsize::MIN);
+    let (book, all) = blank.open::<L>();
+    let mut parts = all;
+    let mut sources = FileSources::new(rt.alloc(), blocks, book)?;
+    for path in paths {
+        let device = opened_device(rt, path, &mut parts)?;
+        sources.add(device).map_err(|refused| refused.fault)?;
+    }
+    Ok(sources)
+}
