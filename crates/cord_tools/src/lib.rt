@@ -26,5 +26,5 @@ pub use join::run_join;
 pub use migrate::run_migrate;
 pub use outcome::{Outcome, exit_status};
 pub use show::run_show;
-pub use sources::{read_source, sources_of};
+pub use sources::read_source;
 pub use status::Status;

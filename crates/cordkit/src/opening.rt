@@ -53,7 +53,7 @@ fn opened_device<L: Ledger>(
     let file = open(rt, path)?;
     let size = told_size(&file);
     if size == 0 {
-        return Ok(SourceDevice::Held(read_source(rt.alloc(), file, 0)?));
+        return Ok(SourceDevice::Held(read_source(rt.alloc(), file)?));
     }
     let failed = parts.split_off(1, 0);
     let called = parts.split_off(1, 0);

@@ -5,7 +5,7 @@ use crate::images::{ONE_INSERT, ONE_INSERT_IN_TWO, OPEN_SOURCE};
 use crate::same::assert_same;
 use cord_tools::{
     Outcome, Status, ToolFault, exit_status, read_source, refuse_check, run_check, run_cmp,
-    run_cut, run_find, run_join, run_migrate, run_show, run_stdin, sources_of,
+    run_cut, run_find, run_join, run_migrate, run_show, run_stdin,
 };
 use edit_commands::EditFault;
 use image_reader::ReadFault;
@@ -14,9 +14,8 @@ use node_table::NodeFault;
 use rebalance::BalanceFault;
 use session_checker::CheckFault;
 use std::alloc::AllocGlobal;
-use std::io::{ErrorKind, Write};
+use std::io::Write;
 use std::process::Abort;
-use std::test::Fail;
 
 /// A tool, with what it is given beside sources and a writer.
 #[derive(Clone, Copy, Debug)]
@@ -237,7 +236,7 @@ fn nothing_is_written_where_an_input_fails(rt: HostRuntime) {
         assert_unread(&rt, Tool::Stdin(one_insert), &[], cut);
         assert_unread(&rt, Tool::Check(open_source), &[b"abc"], cut);
         assert_unread(&rt, Tool::Show(open_source, 0), &[b"abc"], cut);
-        let fault = read_source(rt.alloc(), open_source, 160).err();
+        let fault = read_source(rt.alloc(), open_source).err();
         assert_same(&rt, &fault, &Some(ToolFault::Read), &cut);
     }
 }
@@ -280,29 +279,6 @@ fn each_read_of_a_file_that_fails_is_told(rt: HostRuntime) {
             }
         }
     }
-}
-
-#[test]
-fn texts_are_read_whole_and_are_sources_in_their_order(rt: HostRuntime) -> Result<(), Fail> {
-    let alloc = rt.alloc();
-    let mut texts = Vec::new(alloc);
-    for (text, expected) in [(b"abc".as_slice(), 3), (b"", 1), (ONE_INSERT, 100)] {
-        let interrupted = Giver {
-            cut: Some(1),
-            kind: ErrorKind::Interrupted,
-            ..Giver::of(text)
-        };
-        texts.push(read_source(alloc, interrupted, expected)?)?;
-    }
-    let mut sources = sources_of(alloc, texts.as_slice())?;
-    assert_same(&rt, &sources.count(), &3, &"count");
-    let mut bytes = [0; 211];
-    assert_same(&rt, &sources.read(2, 0, &mut bytes), &Ok(()), &"image");
-    assert_same(&rt, &bytes.as_slice(), &ONE_INSERT, &"image");
-    let mut first = [0; 3];
-    assert_same(&rt, &sources.read(0, 0, &mut first), &Ok(()), &"abc");
-    assert_same(&rt, &first, b"abc", &"abc");
-    Ok(())
 }
 
 #[test]

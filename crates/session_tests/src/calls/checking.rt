@@ -1,18 +1,19 @@
 //! Images that are accepted or refused, and what is fetched of them.
 
-use super::fakes::{FailsOnce, Unreadable};
+use super::fakes::{CutShort, FailsOnce, Unreadable};
 use super::records::{
     Node, Records, compared, empty, filled, image_of, insert, inserted, joined, leaf, literal,
-    longest_opened, one_insert, part, shared, two_opened,
+    longest_opened, one_insert, open, opened, part, shared, two_opened,
 };
 use super::texts::{assert_shown, counts, counts_alone};
 use super::{assert_same, assert_same_at};
 use cord_position::fetch_byte;
 use image_reader::{Image, ReadFault};
-use lazy_file::{MemSources, SourceFault};
+use lazy_file::{FileSources, MemSources, SourceFault};
 use rope_node::{NodeId, NodeSpace};
 use session_checker::{CheckFault, check, check_tables};
 use std::alloc::AllocGlobal;
+use std::num::NonZeroUsize;
 use std::process::Abort;
 
 /// The image of `cd`, inserted from the pool `abcd`, whose root is a substring of a substring of two joined literals.
@@ -237,4 +238,24 @@ fn source_is_read_for_rows_of_bytes_alone(rt: HostRuntime) {
         assert_same_at(&rt, &counts(&image, &mut sources), &answer, &rows);
         assert_same_at(&rt, &sources.is_read, &is_read, &rows);
     }
+}
+
+#[test]
+fn a_file_that_was_cut_short_is_accepted_and_fetched_as_short(rt: HostRuntime) {
+    let room = FileSources::new(rt.alloc(), NonZeroUsize::MIN, ());
+    let mut sources = room.expect(&rt, "room for a block");
+    assert!(&rt; sources.add(CutShort).is_ok());
+    let records = Records {
+        version: 1,
+        sources: &[[5]],
+        nodes: &[opened(0, 5)],
+        revisions: &[open(0, 0, 0, 1)],
+        splices: &[],
+        rows: &[leaf(5)],
+        pool: b"",
+    };
+    let bytes = image_of(&rt, &records);
+    let image = check(&bytes, &mut sources).expect(&rt, "the image is accepted");
+    let fetched = image.fetch(&mut sources, 0, 0);
+    assert_same(&rt, &fetched, &Err(SourceFault::Short));
 }

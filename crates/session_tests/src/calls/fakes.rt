@@ -1,6 +1,6 @@
 //! Sources whose reads fail, and a writer that does.
 
-use lazy_file::{SourceFault, Sources};
+use lazy_file::{Device, DeviceError, SourceFault, Sources};
 use std::io;
 
 /// The most bytes of a source.
@@ -86,6 +86,34 @@ impl Sources for FailsOnce {
         }
         buffer.fill(b'x');
         Ok(())
+    }
+}
+
+/// A file that had five bytes when it was opened, and has three now.
+#[derive(Clone, Copy)]
+pub struct CutShort;
+
+impl Device for CutShort {
+    type Book = ();
+
+    ghost use Rattle.lazy_file.specs.DeviceTexts.{unstated};
+
+    ghost reading = { λ _. record { stated = unstated 5; failures = 0; calls = 0 } };
+
+    fn size(&self) -> u64 {
+        5
+    }
+
+    fn read_at(
+        &mut self,
+        _book: &mut (),
+        off: u64,
+        buffer: &mut [u8],
+    ) -> Result<usize, DeviceError> {
+        let rest = b"abc".get(off as usize..).unwrap_or(&[]);
+        let count = rest.len().min(buffer.len());
+        buffer[..count].copy_from_slice(&rest[..count]);
+        Ok(count)
     }
 }
 
