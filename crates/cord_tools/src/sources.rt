@@ -17,10 +17,7 @@ use std::io;
 /// # Errors
 ///
 /// `Read`, where the reader failed. `Memory`.
-pub fn read_source<R: io::Read + Drop>(
-    alloc: Global,
-    reader: R,
-) -> Result<Vec<u8>, ToolFault>
+pub fn read_source<R: io::Read + Drop>(alloc: Global, reader: R) -> Result<Vec<u8>, ToolFault>
     ensures ok { IfOk result (λ v. AreReadUpTo source_limit (R.remaining reader) v.items) }
     ensures fault { IfErr result (λ e. (e ≡ Memory) ⊎ (e ≡ Read)) }
 {

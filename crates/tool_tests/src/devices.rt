@@ -57,12 +57,27 @@ fn files_and_held_bytes_are_sources_in_their_order(rt: HostRuntime) -> Result<()
     let file = File { bytes: b"xyz" };
     assert!(&rt; sources.add(SourceDevice::File(file)).is_ok());
     assert!(&rt; sources.count() == 4);
-    let sizes = [sources.len(0), sources.len(1), sources.len(2), sources.len(3)];
+    let sizes = [
+        sources.len(0),
+        sources.len(1),
+        sources.len(2),
+        sources.len(3),
+    ];
     assert_same(&rt, &sizes, &[3, 0, 211, 3], &"sizes");
     let mut writer = Taker::with_room(512, Full::Fails);
-    assert_same(&rt, &run_join(alloc, &mut sources, &mut writer), &Ok(()), &"joined");
+    assert_same(
+        &rt,
+        &run_join(alloc, &mut sources, &mut writer),
+        &Ok(()),
+        &"joined",
+    );
     let (front, rest) = writer.taken().split_at(3);
     assert_same(&rt, &front, b"abc", &"the first");
-    assert_same(&rt, &rest.strip_prefix(ONE_INSERT), &Some(b"xyz".as_slice()), &"the others");
+    assert_same(
+        &rt,
+        &rest.strip_prefix(ONE_INSERT),
+        &Some(b"xyz".as_slice()),
+        &"the others",
+    );
     Ok(())
 }
