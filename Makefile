@@ -37,6 +37,7 @@ audit:
 
 bench:
 	sh bench/check.sh
+	sh bench/sources.sh
 	sh bench/write.sh
 	sh bench/show.sh
 	sh bench/rope.sh

@@ -1,7 +1,7 @@
 #!/bin/sh
 # Times the check of images of a million nodes beside sha256sum of the same files, in one run: a session of 100,000 revisions of all
 # commands with rows of all kinds, and one insertion of 500,000 literals. With each, the rows verified a second, and the memory held
-# beside the image and its sources. Last, the image of 100,000 bytes whose check takes the most looks at nodes. It builds the program where it is not built, and makes the images by bench/make_image.py.
+# beside the image. Last, the image of 100,000 bytes whose check takes the most looks at nodes. It builds the program where it is not built, and makes the images by bench/make_image.py.
 set -eu
 cd "$(dirname "$0")/.."
 program=crates/cordkit/out/cordkit
@@ -31,7 +31,7 @@ print(resource.getrusage(resource.RUSAGE_CHILDREN).ru_maxrss * 1024)' "$@"
 measure() {
     "$program" check "$image" "$@"
     rows=$("$program" check "$image" "$@" | cut -d ' ' -f 6)
-    bytes=$(cat "$image" "$@" | wc -c)
+    bytes=$(wc -c < "$image")
     checked=$(best "$program" check "$image" "$@")
     hashed=$(best sha256sum "$image")
     echo "image      $(wc -c < "$image") bytes"
