@@ -1,6 +1,7 @@
 -- The steps from a rope's root down to the leaf that holds a place, and the forks on that path.
 use Rattle.std.specs.Prelude.{◌≡◌, ℕ, ◌+◌, ◌-◌, ◌<◌, ◌≤◌, min, map, List, length, Option, Some, slice_get}
 use Rattle.rope_node.specs.declared.limits.TheConstants.{MOST_DEPTH}
+use Rattle.leaf_buffer.specs.Progress.{Progress, leaf_of}
 use Rattle.smallvec.specs.SmallVec.{SmallVec}
 use Rattle.rope_node.specs.declared.node.NodeId.{NodeId}
 use Rattle.rope_node.specs.declared.node.LeafSpan.{LeafSpan}
@@ -83,10 +84,15 @@ pub record AreStepBytes (t : Table) (x : Step) (bytes : List ℕ) : Type 0 where
   pub exact : bytes ≡ span_bytes t (Some (span_from x x.first))
   pub cells : 1 ≤ length bytes → map Byte bytes ≡ leaf_part t x.node x.skipped x.len
 
--- a place of a rope, with the step to its leaf, the bytes of that step and the path to it
-pub record IsPlaced (t : Table) (rope : Option NodeId) (i : ℕ) (x : Step) (bytes : List ℕ) (path : SmallVec Fork)
+-- a cursor in the bytes of a step to a literal, as far on as place i, or at their end; in none for any other step
+pub record IsRunAt (t : Table) (x : Step) (i : ℕ) (run : Progress) : Type 0 where
+  pub bytes : AreStepBytes t x (leaf_of run)
+  pub passed : length run.passed ≡ min (i - x.first) (length (leaf_of run))
+
+-- a place of a rope, with the step to its leaf, a cursor there and the path to it
+pub record IsPlaced (t : Table) (rope : Option NodeId) (i : ℕ) (x : Step) (run : Progress) (path : SmallVec Fork)
     : Type 0 where
   pub position : IsPosition t rope i
   pub here : IsHere t rope i x
-  pub literal : AreStepBytes t x bytes
+  pub literal : IsRunAt t x i run
   pub way : IsPath t rope path

@@ -4,11 +4,12 @@ ghost use Rattle.std.specs.Prelude.{◌≡◌, ◌↔◌, ◌<◌, ◌≤◌, �
 ghost use Rattle.rope_node.specs.Denotes.{rope_len, rope_depth, IsRope};
 ghost use Rattle.rope_node.specs.Path.{rope_visits};
 ghost use Rattle.cord_position.specs.Fetched.{IsFetched, ReadsSpan, rope_cell};
-ghost use Rattle.cord_position.specs.Steps.{AreStepBytes, IsHere};
+ghost use Rattle.cord_position.specs.Steps.{IsHere, IsRunAt};
 
 use crate::leaf::leaf_byte;
 use crate::path::Step;
 use lazy_file::{SourceFault, Sources};
+use leaf_buffer::Run;
 use rope_node::{NodeSpace, Rope, find_leaf};
 
 /// The byte at `i` of a rope, and how many nodes were visited for it, from the root to the leaf. At the end and past it, no byte
@@ -53,11 +54,11 @@ pub fn fetch_here<S: NodeSpace, T: Sources>(
     sources: &mut T,
     rope: Rope,
     here: Step,
-    bytes: &[u8],
+    run: &Run<'_>,
     place: u64,
 ) -> Result<Option<u8>, SourceFault>
     requires here { IsHere (S.table space.now) rope place here }
-    requires bytes { AreStepBytes (S.table space.now) here bytes.now }
+    requires run { IsRunAt (S.table space.now) here place run.now }
     ensures byte { IfOk result
         (IsFetched (S.table space.now) (T.reading sources.old).stated rope place) }
     ensures inside { IfOk result
@@ -65,10 +66,10 @@ pub fn fetch_here<S: NodeSpace, T: Sources>(
     ensures reads { ReadsSpan (T.reading sources.old) (T.reading sources.new)
         (rope_cell (S.table space.now) rope) place (place + 1) result }
 {
-    let offset = place - here.first;
-    if offset < bytes.len() as u64 {
-        return Ok(Some(bytes[offset as usize]));
+    if let Some(byte) = run.peek() {
+        return Ok(Some(byte));
     }
+    let offset = place - here.first;
     if offset >= here.len {
         return Ok(None);
     }

@@ -10,8 +10,9 @@ ghost use Rattle.cord_position.specs.Runs.{rope_span, AreBytesOf, IsRun, IsRunPe
 use crate::fetch::fetch_here;
 use crate::fill::fill_part;
 use crate::path::{Path, Step, holds, seek};
-use crate::run::{find_period, find_run, literal_run, step_bytes};
+use crate::run::{find_period, find_run, literal_run, run_at};
 use lazy_file::{SourceFault, Sources};
+use leaf_buffer::Run;
 use rope_node::{NodeSpace, Rope, rope_len};
 use smallvec::SmallVec;
 use std::alloc::Global;
@@ -23,10 +24,10 @@ pub struct Pos<'a, S: NodeSpace> {
     space: &'a S,
     rope: Rope,
     place: u64,
-    /// The step to the leaf that holds the place, below the path's last fork. At the end it may be an earlier one, or empty.
+    /// The step to the leaf that holds the place, below the path's last fork. At the end it may be the last leaf's, or empty.
     here: Step,
-    /// The bytes of that step, where its leaf is a literal; else none.
-    bytes: &'a [u8],
+    /// A cursor at the place, in the bytes of that step where its leaf is a literal; else in none.
+    run: Run<'a>,
     path: Path,
 }
 
@@ -38,7 +39,7 @@ impl<'a, S: NodeSpace> Model for Pos<'a, S> {
 
     ghost view = { λ a. record { space = a.space.now; rope = a.rope; index = a.place } };
 
-    ghost invariant = { λ a. IsPlaced (S.table a.space.now) a.rope a.place a.here a.bytes.now a.path };
+    ghost invariant = { λ a. IsPlaced (S.table a.space.now) a.rope a.place a.here a.run a.path };
 }
 
 impl<'a, S: NodeSpace> Pos<'a, S> {
@@ -56,10 +57,10 @@ impl<'a, S: NodeSpace> Pos<'a, S> {
             rope,
             place: end,
             here: Step::default(),
-            bytes: &[],
+            run: Run::over(&[]),
             path: SmallVec::new(alloc),
         };
-        pos.move_to(i.min(end));
+        pos.go_to(i.min(end));
         pos
     }
 
@@ -95,7 +96,7 @@ impl<'a, S: NodeSpace> Pos<'a, S> {
             (cell_of S.table self.now) self.now.index (self.now.index + 1) result }
     {
         fetch_here(
-            self.space, sources, self.rope, self.here, self.bytes, self.place,
+            self.space, sources, self.rope, self.here, &self.run, self.place,
         )
     }
 
@@ -108,9 +109,14 @@ impl<'a, S: NodeSpace> Pos<'a, S> {
         ensures rope { self.new.rope ≡ self.old.rope }
     {
         let to = self.place + 1;
-        let moves = holds(self.here, to) || self.place < rope_len(self.space, self.rope);
+        if holds(self.here, to) {
+            self.place = to;
+            self.run.next();
+            return true;
+        }
+        let moves = self.place < rope_len(self.space, self.rope);
         if moves {
-            self.move_to(to);
+            self.go_to(to);
         }
         moves
     }
@@ -123,11 +129,17 @@ impl<'a, S: NodeSpace> Pos<'a, S> {
         ensures space { self.new.space ≡ self.old.space }
         ensures rope { self.new.rope ≡ self.old.rope }
     {
-        let moves = self.place > 0;
-        if moves {
-            self.move_to(self.place - 1);
+        if self.place == 0 {
+            return false;
         }
-        moves
+        let to = self.place - 1;
+        if holds(self.here, to) {
+            self.place = to;
+            self.run.back();
+        } else {
+            self.go_to(to);
+        }
+        true
     }
 
     /// Moves on by `n` places, to the end where there are fewer.
@@ -137,27 +149,33 @@ impl<'a, S: NodeSpace> Pos<'a, S> {
         ensures rope { self.new.rope ≡ self.old.rope }
     {
         let left = rope_len(self.space, self.rope) - self.place;
-        self.move_to(self.place + n.min(left));
+        let count = n.min(left);
+        let to = self.place + count;
+        if holds(self.here, to) {
+            self.place = to;
+            self.run.skip(count as usize);
+        } else {
+            self.go_to(to);
+        }
     }
 
-    /// Moves to a place. Where the last step does not hold it, the path leads there.
-    #[inline]
-    fn move_to(&mut self, to: u64)
+    /// Goes to a place. Where it is a byte's, the path leads there.
+    fn go_to(&mut self, to: u64)
         requires { to ≤ text_len S.table self.old }
         ensures index { self.new.index ≡ to }
         ensures space { self.new.space ≡ self.old.space }
         ensures rope { self.new.rope ≡ self.old.rope }
     {
         self.place = to;
-        if holds(self.here, to) {
-            return;
-        }
         match self.rope {
             Some(root) if to < self.space.len(root) => {
                 self.here = seek(self.space, root, &mut self.path, to);
-                self.bytes = step_bytes(self.space, self.here);
+                self.run = run_at(self.space, self.here, to);
             }
-            _ => {}
+            _ => {
+                self.here = Step::default();
+                self.run = Run::over(&[]);
+            }
         }
     }
 
@@ -202,7 +220,7 @@ impl<'a, S: NodeSpace> Pos<'a, S> {
         ensures cells { 1 ≤ length result.now
             → map Byte result.now ≡ cells_here S.table self.now (left_here S.table self.now) }
     {
-        literal_run(self.space, self.rope, self.here, self.bytes, self.place)
+        literal_run(self.space, self.rope, self.here, &self.run, self.place)
     }
 
     /// Writes the bytes from here to the end of the present leaf's span into the buffer, as many as it takes, and answers how many.

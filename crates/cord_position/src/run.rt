@@ -6,9 +6,10 @@ ghost use Rattle.rope_node.specs.Table.{len_at};
 ghost use Rattle.rope_node.specs.Denotes.{Byte, rope_len};
 ghost use Rattle.cord_position.specs.Fetched.{leaf_part, rope_part};
 ghost use Rattle.cord_position.specs.Runs.{rope_span, run_bytes, run_left, span_bytes, IsRun, IsRunPeriod};
-ghost use Rattle.cord_position.specs.Steps.{AreStepBytes, IsHere};
+ghost use Rattle.cord_position.specs.Steps.{AreStepBytes, IsHere, IsRunAt};
 
 use crate::path::Step;
+use leaf_buffer::Run;
 use rope_node::{LeafSpan, NodeSpace, NodeView, Rope};
 
 /// The leaf span that the bytes of a rope from a place on begin with, by the step that holds the place; at the end, none.
@@ -73,24 +74,32 @@ pub fn step_bytes<S: NodeSpace>(space: &S, step: Step) -> &[u8]
     )
 }
 
+/// A cursor at a place that the step holds, in its bytes where its leaf is a literal; else in none.
+pub fn run_at<'b, S: NodeSpace>(space: &'b S, step: Step, place: u64) -> Run<'b>
+    requires there { step.node.0 < length (S.table space.now).nodes }
+    requires inside { step.skipped + step.len ≤ len_at (S.table space.now) step.node.0 }
+    requires begun { step.first ≤ place }
+    ensures { IsRunAt (S.table space.now) step place result }
+{
+    let mut run = Run::over(step_bytes(space, step));
+    run.skip((place - step.first) as usize);
+    run
+}
+
 /// The bytes from a place to the end of its leaf's span, where the leaf is a literal; elsewhere and at the end, none.
 #[inline]
 pub fn literal_run<'b, S: NodeSpace>(
     space: &S,
     rope: Rope,
     here: Step,
-    bytes: &'b [u8],
+    run: &Run<'b>,
     place: u64,
 ) -> &'b [u8]
     requires here { IsHere (S.table space.now) rope place here }
-    requires bytes { AreStepBytes (S.table space.now) here bytes.now }
+    requires run { IsRunAt (S.table space.now) here place run.now }
     ensures exact { result.now ≡ run_bytes (S.table space.now) rope place }
     ensures cells { 1 ≤ length result.now → map Byte result.now
         ≡ rope_part (S.table space.now) rope place (run_left (S.table space.now) rope place) }
 {
-    let offset = place - here.first;
-    if offset >= bytes.len() as u64 {
-        return &[];
-    }
-    &bytes[offset as usize..]
+    run.rest()
 }

@@ -1,15 +1,23 @@
-use Rattle.std.proofs.Common.{◌≡◌, ℕ, ◌+◌, ◌-◌, ◌<◌, ap, ◌∙◌, arith}
+use Rattle.std.proofs.Common.{◌≡◌, ℕ, ◌+◌, ◌-◌, ◌<◌, Some, sym, subst, ap, ◌∙◌, arith}
 use Rattle.std.specs.Prelude.{Err}
 use Rattle.std.proofs.lemmas.Result.{err_from_is_err_and}
 use Rattle.rope_node.specs.Denotes.{cell_at}
-use Rattle.cord_position.specs.Fetched.{rope_cell}
+use Rattle.cord_position.specs.Fetched.{IsFetched, rope_cell}
+use Rattle.leaf_buffer.specs.Progress.{leaf_of}
+use Rattle.cord_position.proofs.RunLaws.{byte_here, held_here}
 use Rattle.cord_position.proofs.HereLaws.{fetched_here, fetched_literal, fetched_none, here_cell}
 use Rattle.cord_position.proofs.LeafParts.{moved}
 use Rattle.cord_position.proofs.fetch.fetch_here.Goals as goal
 
-pub returns-then-offset-bytes-clause-byte : goal.returns-then-offset-bytes-clause-byte
-returns-then-offset-bytes-clause-byte g c =
-    fetched_literal (g.S.NodeSpace.table c.args.space.now) (g.T.Sources.reading c.args.sources.now).stated c.args.rope c.args.place c.args.here c.args.bytes.now c.requires.here c.requires.bytes (omega (arith, c.if-offset-bytes.true))
+pub returns-in-Some-clause-byte : goal.returns-in-Some-clause-byte
+returns-in-Some-clause-byte g c =
+    let t = g.S.NodeSpace.table c.args.space.now in
+    let st = (g.T.Sources.reading c.args.sources.now).stated in
+    let x = c.args.here in
+    let run = c.args.run.now in
+    let next = c.in-Some.ensures in
+    subst (λ (b : ℕ). IsFetched t st c.args.rope c.args.place (Some b)) (byte_here t x c.args.place c.in-Some.byte run c.requires.run (sym next))
+    (fetched_literal t st c.args.rope c.args.place x (leaf_of run) c.requires.here c.requires.run.bytes (held_here t x c.args.place c.in-Some.byte run c.requires.run (sym next)))
 
 pub returns-then-offset-here-clause-byte : goal.returns-then-offset-here-clause-byte
 returns-then-offset-here-clause-byte g c =
