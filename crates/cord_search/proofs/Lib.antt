@@ -1,5 +1,6 @@
 pub mod BytePieces
 pub mod Fetches
+pub mod Looks
 pub mod NodePieces
 pub mod Orders
 pub mod PatternPieces
@@ -8,3 +9,4 @@ pub mod Reaching
 pub mod Repeats
 pub mod Standing
 pub mod TwoSpans
+pub mod Seeks

@@ -17,6 +17,7 @@ use Rattle.cord_position.specs.Fetched.{IsStated, ReadsSpan, leaf_part}
 use Rattle.cord_position.specs.Runs.{AreBytesOf}
 use Rattle.cord_position.proofs.LeafParts.{moved}
 use Rattle.cord_search.specs.Pieces.{IsPiece}
+use Rattle.cord_search.specs.Seeking.{SameCells}
 use Rattle.cord_search.proofs.Pieces.{byte_of_cell, filled_piece, piece_after}
 
 -- a node's cells by those of its children
@@ -38,12 +39,7 @@ base_cell t s id k b i there e lt =
     ap (λ cs. get_or cs k (Byte 0)) (cells_at t s id there (Sub b i) e)
     ∙ get_or-take (len_at t id) (drop i (cells t b.0)) k (Byte 0) lt ∙ get_or-drop i (cells t b.0) k (Byte 0)
 
--- n cells of a node from place i on are those of another from place j on
-pub record SameCells (t : Table) (x y : NodeId) (i j n : ℕ) : Type 0 where
-  pub here : i + n ≤ length (cells t x.0)
-  pub there : j + n ≤ length (cells t y.0)
-  pub each : (k : ℕ) → k < n → cell_at t x.0 (i + k) ≡ cell_at t y.0 (j + k)
-
+-- n cells of a node from place i on are those of its child
 pub left_cells : (t : Table) → IsSound t → HasTrueRecords t → (x l r : NodeId) (i n : ℕ) → x.0 < length t.nodes → view_at t x.0 ≡ Cat l r → i + n ≤ len_at t l.0 → SameCells t x l i i n
 left_cells t s h x l r i n there e fits =
     let below = rw e at (s.nodes x.0 there).references in
@@ -75,7 +71,7 @@ base_cells t s h x b o i n there e fits =
     }
 
 -- so their bytes are the same, and so is a read of them
-piece_of_same : (t : Table) (st : Stated) (x y : NodeId) (i j n : ℕ) (bytes : List ℕ) → SameCells t x y i j n → length bytes ≡ n → IsPiece t st (Some y) j bytes → IsPiece t st (Some x) i bytes
+pub piece_of_same : (t : Table) (st : Stated) (x y : NodeId) (i j n : ℕ) (bytes : List ℕ) → SameCells t x y i j n → length bytes ≡ n → IsPiece t st (Some y) j bytes → IsPiece t st (Some x) i bytes
 piece_of_same t st x y i j n bytes same long piece source agrees k lt stated =
     let each = same.each k (omega (arith, lt, long)) in
     piece source agrees k lt (subst (IsStated st) each stated)
@@ -88,7 +84,7 @@ pub reads_of_same : {X : Type 0} (old new : Reading) (t : Table) (x y : NodeId) 
 reads_of_same old new t x y i j n r same = moved old new (cell_at t x.0) (cell_at t y.0) i j n r same.each
 
 -- the bytes of a leaf
-leaf_piece : (t : Table) (st : Stated) (leaf : NodeId) (start n : ℕ) (bytes : List ℕ) → leaf.0 < length t.nodes → IsLeaf (view_at t leaf.0) → 1 ≤ n → start + n ≤ len_at t leaf.0
+pub leaf_piece : (t : Table) (st : Stated) (leaf : NodeId) (start n : ℕ) (bytes : List ℕ) → leaf.0 < length t.nodes → IsLeaf (view_at t leaf.0) → 1 ≤ n → start + n ≤ len_at t leaf.0
     → length bytes ≡ n → AreBytesOf st (leaf_part t leaf start n) bytes → IsPiece t st (Some leaf) start bytes
 leaf_piece t st leaf start n bytes there is some fits long are =
     let span : LeafSpan = record { leaf = leaf; start = start; len = n } in

@@ -49,9 +49,16 @@ next_place table old new s x p q is space rope index at =
     }
 
 -- past the end there is no source's cell
-cell_past : (t : Table) (x : Option NodeId) (p : ℕ) → length (rope_cells t x) ≤ p → rope_cell t x p ≡ Byte 0
+pub cell_past : (t : Table) (x : Option NodeId) (p : ℕ) → length (rope_cells t x) ≤ p → rope_cell t x p ≡ Byte 0
 cell_past t None p past = refl
 cell_past t (Some id) p past = get_or_past (cells t id.0) p (Byte 0) past
+
+pub stated_past : (t : Table) (st : Stated) (x : Option NodeId) (i end : ℕ) → EachCell (rope_cell t x) i (length (rope_cells t x)) (IsStated st) → EachCell (rope_cell t x) i end (IsStated st)
+stated_past t st x i end stated p above below =
+    elim (cases_lt p (length (rope_cells t x))) [
+      | inl lt ↦ stated p above lt
+      | inr past ↦ subst (IsStated st) (sym (cell_past t x p past)) tt
+    ]
 
 -- a byte at the end is one at any place past it
 pub fetched_past_end : (t : Table) (st : Stated) (x : Option NodeId) (p : ℕ) (found : Option ℕ) → length (rope_cells t x) ≡ rope_len t x → IsFetched t st x (min p (rope_len t x)) found → IsFetched t st x p found
@@ -145,6 +152,11 @@ pub byte_there : {S : Type 0} (table : S → Table) (here : Position S) (s : S) 
 byte_there table here s x p k old new bytes source at inside piece same agrees lt stated =
     let there = subst (λ st. IsPiece (table s) st x p bytes) same (piece_there table here s x p new bytes at inside piece) in
     there source agrees k lt stated
+
+-- the same of the whole piece
+pub piece_at : {S : Type 0} (table : S → Table) (here : Position S) (s : S) (x : Option NodeId) (p : ℕ) (old new : Stated) (bytes : List ℕ) → StandsAtPlace table here s x p
+    → here.index + length bytes ≤ text_len table here → IsPieceHere table new here bytes → new ≡ old → IsPiece (table s) old x p bytes
+piece_at table here s x p old new bytes at inside piece same = subst (λ st. IsPiece (table s) st x p bytes) same (piece_there table here s x p new bytes at inside piece)
 
 -- whether bytes are left there
 pub valid_there : {S : Type 0} (table : S → Table) (here : Position S) (s : S) (x : Option NodeId) (p : ℕ) (valid : Bool) → StandsAtPlace table here s x p

@@ -12,6 +12,7 @@ use Rattle.cord_position.specs.Position.{Position, left_here, text_len}
 use Rattle.cord_position.specs.Runs.{run_left, IsRunPeriod}
 use Rattle.cord_search.specs.Places.{StandsAt}
 use Rattle.cord_search.specs.Reached.{StandsAtPlace}
+use Rattle.cord_search.specs.Seeking.{RepeatsFrom}
 use Rattle.cord_search.specs.Skipped.{IsClearAlso}
 use Rattle.cord_search.proofs.Fetches.{text_length}
 use Rattle.cord_search.proofs.Pieces.{byte_of_cell, first_bytes}
@@ -36,8 +37,8 @@ stands_alike t x source s a b fits same stands = record {
         ∙ sym (same_byte t x source (b + d) (a + d) (omega (arith, lt, fits)) (omega (arith, lt, stands.inside, text_length t x source)) (same d lt))
 
 -- what stands nowhere in the first places of a run that repeats within them stands nowhere in the run
-pub clear_run : (t : Table) (x : Option NodeId) (i p count reach n : ℕ) → IsRunPeriod t x i p → p ≤ count → reach + n ≤ run_left t x i + 1 → IsClearAlso t x n i (i + count) i (i + reach)
-clear_run t x i p count reach n period few inside source s many clear j above below stands =
+pub clear_repeats : (t : Table) (x : Option NodeId) (i len p count reach n : ℕ) → RepeatsFrom t x i len p → p ≤ count → reach + n ≤ len + 1 → IsClearAlso t x n i (i + count) i (i + reach)
+clear_repeats t x i len p count reach n period few inside source s many clear j above below stands =
     let at : j ≡ i + (j - i) = omega (arith, above) in
     none (suc (j - i)) (j - i) (omega arith) (omega (arith, above, below)) (subst (StandsAt s (text source (rope_cells t x))) at stands)
   where
@@ -53,6 +54,9 @@ clear_run t x i p count reach n period few inside source s many clear j above be
               none m (k - p) (omega (arith, lt, back, period.some)) (omega (arith, held))
               (stands_alike t x source s (i + k) (i + (k - p)) (omega (arith, stands.inside, text_length t x source)) same stands)
         ]
+
+pub clear_run : (t : Table) (x : Option NodeId) (i p count reach n : ℕ) → IsRunPeriod t x i p → p ≤ count → reach + n ≤ run_left t x i + 1 → IsClearAlso t x n i (i + count) i (i + reach)
+clear_run t x i p count reach n period few inside = clear_repeats t x i (run_left t x i) p count reach n (record { some = period.some; same = period.same }) few inside
 
 -- a byte that stands nowhere in some places of a run that repeats within them stands nowhere in the run before them
 pub clear_before : (t : Table) (x : Option NodeId) (start p from end : ℕ) → IsRunPeriod t x start p → from + p ≤ end → from + p ≤ start + run_left t x start → start + run_left t x start ≤ length (rope_cells t x)

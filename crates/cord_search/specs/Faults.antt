@@ -11,11 +11,13 @@ use Rattle.cord_search.specs.declared.fault.PutFault.TheVariants as Put
 abbrev pub find_fault_code : FindFault → List ℕ
 find_fault_code Find.PatternTooLong = codes "F1"
 find_fault_code (Find.Source fault) = source_fault_code fault
+find_fault_code Find.Memory = codes "memory"
 
 -- the source's fault that a fault is, if it is one
 abbrev pub find_source_fault : FindFault → Option SourceFault
 find_source_fault Find.PatternTooLong = None
 find_source_fault (Find.Source fault) = Some fault
+find_source_fault Find.Memory = None
 
 abbrev pub put_source_fault : PutFault → Option SourceFault
 put_source_fault (Put.Source fault) = Some fault

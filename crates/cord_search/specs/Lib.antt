@@ -5,3 +5,4 @@ pub mod Reached
 pub mod Stated
 pub mod Faults
 pub mod Skipped
+pub mod Seeking

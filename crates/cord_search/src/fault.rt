@@ -5,6 +5,7 @@ ghost use Rattle.cord_search.specs.Faults.{find_fault_code};
 
 use byte_output::WriteFault;
 use lazy_file::SourceFault;
+use std::alloc::AllocError;
 use std::error::Error;
 use std::fmt;
 
@@ -15,6 +16,8 @@ pub enum FindFault {
     PatternTooLong,
     /// A byte of the text could not be read.
     Source(SourceFault),
+    /// Memory was refused.
+    Memory,
 }
 
 impl fmt::Display for FindFault {
@@ -24,6 +27,7 @@ impl fmt::Display for FindFault {
         match self {
             FindFault::PatternTooLong => f.write_str("F1"),
             FindFault::Source(fault) => write!(f, "{fault}"),
+            FindFault::Memory => f.write_str("memory"),
         }
     }
 }
@@ -37,6 +41,16 @@ impl From<SourceFault> for FindFault {
 
     fn from(fault: SourceFault) -> FindFault {
         FindFault::Source(fault)
+    }
+}
+
+impl From<AllocError> for FindFault {
+    ghost use Rattle.cord_search.specs.declared.fault.FindFault.TheVariants.{Memory};
+
+    ghost from_gives = { λ _ f. f ≡ Memory };
+
+    fn from(_error: AllocError) -> FindFault {
+        FindFault::Memory
     }
 }
 

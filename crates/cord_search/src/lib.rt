@@ -3,8 +3,10 @@
 
 mod compare;
 mod fault;
+mod look;
 mod pattern;
 mod runs;
+mod seeker;
 mod single_bytes;
 mod skips;
 mod text_bytes;

@@ -1,20 +1,20 @@
 //! The first place of a pattern.
 
-ghost use Rattle.std.specs.Prelude.{◌↔◌, ◌<◌, ◌≤◌, ℕ, [], length, IfOk, IsErrOf};
+ghost use Rattle.std.specs.Prelude.{◌≡◌, ◌↔◌, ◌<◌, ◌≤◌, ℕ, [], length, IfOk, IsErrOf, IsOk};
 ghost use Rattle.rope_node.specs.Denotes.{IsRope, rope_cells, rope_len, text};
 ghost use Rattle.lazy_file.specs.Readings.{fault_by, Reads};
 ghost use Rattle.cord_position.specs.Fetched.{InCells, ReadsSpan, rope_cell};
 ghost use Rattle.cord_search.specs.Places.{IsFirst, IsFromOn};
 ghost use Rattle.cord_search.specs.declared.pattern.TheConstants.{PATTERN_LIMIT};
+ghost use Rattle.cord_search.specs.Seeking.{IsSeeker};
 ghost use Rattle.cord_search.specs.Stated.{FindsFirst};
 ghost use Rattle.cord_search.specs.Faults.{find_source_fault};
 
 use crate::fault::FindFault;
-use crate::runs::{WINDOW, next_window};
-use crate::skips::clear_ahead;
-use cord_position::Pos;
+use crate::look::look_in;
+use crate::runs::WINDOW;
+use crate::seeker::Seeker;
 use lazy_file::{SourceFault, Sources};
-use memchr::memmem::Finder;
 use rope_node::{NodeSpace, Rope, rope_len};
 use std::alloc::Global;
 
@@ -34,50 +34,54 @@ fn find_empty<S: NodeSpace>(space: &S, x: Rope, start: u64) -> Option<u64>
     Some(start)
 }
 
-/// The first place from `start` on at which a pattern of some bytes stands, window by window: each begins where a place was not yet
-/// looked at.
+/// The first place from `start` on at which the pattern stands, leaf by leaf.
 fn find_some<S: NodeSpace, T: Sources>(
-    alloc: Global,
     space: &S,
     sources: &mut T,
     x: Rope,
     start: u64,
-    pattern: &[u8],
+    mut seeker: Seeker<'_>,
 ) -> Result<Option<u64>, SourceFault>
     requires rope { IsRope (S.table space.now) x }
-    requires some { 1 ≤ length pattern.now }
-    requires few { length pattern.now ≤ PATTERN_LIMIT }
-    ensures inside { IfOk result (IsFromOn pattern.now start (rope_len (S.table space.now) x)) }
+    requires kept { IsSeeker seeker }
+    requires begun { (seeker.place ≡ start) × (seeker.ring.items ≡ []) }
+    ensures inside { IfOk result (IsFromOn seeker.entry.finder start (rope_len (S.table space.now) x)) }
     ensures found { IfOk result
-        (FindsFirst (S.table space.now) (T.reading sources.old).stated x pattern.now start) }
+        (FindsFirst (S.table space.now) (T.reading sources.old).stated x seeker.entry.finder start) }
     ensures reads { ReadsSpan (T.reading sources.old) (T.reading sources.new)
         (rope_cell (S.table space.now) x) start (rope_len (S.table space.now) x) result }
 {
     let len = rope_len(space, x);
-    let need = pattern.len();
-    let places = (len + 1).saturating_sub(need as u64);
-    let finder = Finder::new(pattern);
-    let mut pos = Pos::set(alloc, space, x, start);
-    let mut buffer = [0; WINDOW];
-    let mut place = start;
-    while place < places {
-        let window = next_window(&pos, space, sources, x, need, len - place, &mut buffer)?;
-        if let Some(k) = finder.find(window) {
-            return Ok(Some(place + k as u64));
-        }
-        let count = (window.len() - need + 1) as u64;
-        let clear = clear_ahead(&pos, need as u64, count);
-        pos.skip(clear);
-        place += clear;
+    if start >= len {
+        return Ok(None);
     }
-    Ok(None)
+    let mut buffer = [0; WINDOW];
+    match x {
+        Some(root) => {
+            let left = len - start;
+            if let Some(found) = look_in(
+                space,
+                sources,
+                root,
+                start,
+                left,
+                &mut seeker,
+                &mut buffer,
+            )? {
+                return Ok(Some(found));
+            }
+            Ok(seeker.search_ring())
+        }
+        None => unreachable!(),
+    }
 }
 
 /// The first place from `start` on at which the pattern stands. An empty pattern stands at each place up to the text's end.
 ///
 /// # Errors
 ///
-/// `F1` for a pattern longer than `PATTERN_LIMIT`. A source's fault, where a byte is one of that source and the read of it failed.
+/// `F1` for a pattern longer than `PATTERN_LIMIT`. `Memory` where the ring for a pattern of some bytes is refused. A source's fault,
+/// where a byte is one of that source and the read of it failed.
 pub fn find<S: NodeSpace, T: Sources>(
     alloc: Global,
     space: &S,
@@ -95,6 +99,7 @@ pub fn find<S: NodeSpace, T: Sources>(
     ensures reads { Reads (T.reading sources.old) (T.reading sources.new)
         (InCells (rope_cell (S.table space.now) x) start (rope_len (S.table space.now) x))
         (fault_by find_source_fault result) }
+    ensures empty { pattern.now ≡ [] → IsOk result }
 {
     if pattern.len() > PATTERN_LIMIT {
         return Err(FindFault::PatternTooLong);
@@ -102,5 +107,6 @@ pub fn find<S: NodeSpace, T: Sources>(
     if pattern.is_empty() {
         return Ok(find_empty(space, x, start));
     }
-    Ok(find_some(alloc, space, sources, x, start, pattern)?)
+    let seeker = Seeker::new(alloc, pattern, start)?;
+    Ok(find_some(space, sources, x, start, seeker)?)
 }

@@ -1,95 +1,84 @@
-use Rattle.std.proofs.Common.{◌≡◌, ◌+◌, ◌-◌, ◌<◌, ◌≤◌, ℕ, List, length, inl, inr, refl, sym, subst, ◌∙◌, arith}
-use Rattle.std.specs.Prelude.{slice_get}
-use Rattle.std.proofs.lemmas.Bool.{cases_lt}
+use Rattle.std.proofs.Common.{◌≡◌, ◌+◌, ◌-◌, ◌<◌, ◌≤◌, ℕ, List, Option, Some, length, refl, sym, subst, ap, ◌∙◌, arith}
+use Rattle.std.specs.Prelude.{Ok, Err}
 use Rattle.std.proofs.lemmas.Result.{err_from_is_err_and}
-use Rattle.lazy_file.proofs.LaterReads.{same_stated}
-use Rattle.rope_node.specs.Denotes.{rope_cells, rope_len, text}
-use Rattle.cord_position.specs.Position.{text_len}
-use Rattle.memchr.specs.Find.{NoneBefore, Nowhere, OccursAt}
-use Rattle.cord_search.proofs.BytePieces.{nowhere_in_both}
-use Rattle.cord_search.proofs.Fetches.{text_length}
-use Rattle.cord_search.proofs.PatternPieces.{pattern_found, no_pattern_in}
-use Rattle.cord_search.proofs.Reaching.{byte_there, failed_there, later_place, there_len}
-use Rattle.cord_search.proofs.Repeats.{clear_there}
-use Rattle.cord_search.proofs.Standing.{none_past}
+use Rattle.rope_node.specs.declared.node.NodeId.{NodeId}
+use Rattle.rope_node.specs.Denotes.{cell_at, cells, rope_cells, rope_len}
+use Rattle.cord_position.specs.Fetched.{ReadsSpan, rope_cell}
+use Rattle.cord_position.proofs.Spans.{failed_in}
+use Rattle.cord_search.specs.Seeking.{IsSought, SameCells}
+use Rattle.cord_search.specs.Stated.{FindsFirst}
+use Rattle.cord_search.proofs.Looks.{same_itself, seeking_begun}
+use Rattle.cord_search.proofs.Seeks.{sought_first, sought_inside}
 use Rattle.cord_search.proofs.pattern.find_some.Goals as goal
 
-pub returns-in_err-window-clause-reads : goal.returns-in_err-window-clause-reads
-returns-in_err-window-clause-reads g c =
+pub returns-in_err-found-in-Some-clause-reads : goal.returns-in_err-found-in-Some-clause-reads
+returns-in_err-found-in-Some-clause-reads g c =
     let p = err_from_is_err_and c.from_residual.result c.from_residual.ensures.1 in
     let t = g.S.NodeSpace.table c.args.space.now in
-    let place : ℕ = c.loop-place.place in
-    let n : ℕ = c.rope_len-len.result - place in
-    rw (p.1, p.2) (failed_there (g.T.Sources.reading c.args.sources.now) (g.T.Sources.reading c.loop-place.sources) (g.T.Sources.reading c.next_window.new.sources) g.S.NodeSpace.table c.loop-place.pos c.args.space.now c.args.x
-    c.args.start (rope_len t c.args.x) place n c.in_err-window.field-0.0 c.loop-place.invariant.reads c.loop-place.invariant.at (sym c.rope_len-len.ensures.cells ∙ c.rope_len-len.ensures.exact) c.in_err-window.ensures.reads
-    c.loop-place.invariant.from (omega (arith, c.loop-place-test.true, c.saturating_sub-places.ensures, c.rope_len-len.ensures.exact)))
+    let start : ℕ = c.args.start in
+    let left : ℕ = c.rope_len-len.result - start in
+    let e = c.in_err-found-in-Some.field-0.0 in
+    let there = failed_in {X = Option ℕ} (g.T.Sources.reading c.args.sources.now) (g.T.Sources.reading c.args.sources.now) (g.T.Sources.reading c.look_in.new.sources) (cell_at t c.in-Some.root.0) start (rope_len t c.args.x) start (start + left) (Err e)
+    refl c.in_err-found-in-Some.ensures.reads (omega arith) (omega (arith, c.rope_len-len.ensures.exact, c.if-start-len.false)) in
+    rw (p.1, p.2) (subst (λ (y : Option NodeId). ReadsSpan {X = Option ℕ} (g.T.Sources.reading c.args.sources.now) (g.T.Sources.reading c.look_in.new.sources) (rope_cell t y) start (rope_len t c.args.x) (Err e)) (sym c.in-Some.is) there)
 
-pub returns-in-Some-clause-found : goal.returns-in-Some-clause-found
-returns-in-Some-clause-found g c source agrees stated =
+pub returns-in-Some-2-clause-inside : goal.returns-in-Some-2-clause-inside
+returns-in-Some-2-clause-inside g c =
     let t = g.S.NodeSpace.table c.args.space.now in
     let st = (g.T.Sources.reading c.args.sources.now).stated in
-    let u = text source (rope_cells t c.args.x) in
-    let s : List ℕ = c.args.pattern.now in
-    let place : ℕ = c.loop-place.place in
-    let window : List ℕ = c.in_ok-window.window.now in
-    let k : ℕ = c.in-Some.k in
-    let found : NoneBefore (OccursAt window s) 0 (length window + 1) k × OccursAt window s k = subst (λ z. NoneBefore (OccursAt window z) 0 (length window + 1) k × OccursAt window z k) c.new-finder.ensures c.in-Some.ensures in
-    let fits : place + length window ≤ rope_len t c.args.x = omega (arith, c.in_ok-window.ensures.most, c.loop-place-test.true, c.saturating_sub-places.ensures, c.rope_len-len.ensures.exact) in
-    let inside : c.loop-place.pos.index + length window ≤ text_len g.S.NodeSpace.table c.loop-place.pos = omega (arith, fits, there_len g.S.NodeSpace.table c.loop-place.pos c.args.space.now c.args.x place c.loop-place.invariant.at, c.loop-place.invariant.at.index) in
-    let held : place + length window ≤ length u = omega (arith, fits, text_length t c.args.x source, c.rope_len-len.ensures.cells, c.rope_len-len.ensures.exact) in
-    let same : (p : ℕ) → p < k + length s → slice_get window p ≡ slice_get u (place + p) = λ p lt.
-    byte_there g.S.NodeSpace.table c.loop-place.pos c.args.space.now c.args.x place p st (g.T.Sources.reading c.loop-place.sources).stated window source c.loop-place.invariant.at inside c.in_ok-window.ensures.bytes
-    (same_stated c.loop-place.invariant.reads) agrees (omega (arith, lt, found.1.fits)) (stated (place + p) (omega (arith, c.loop-place.invariant.from)) (omega (arith, lt))) in
-    let before = c.loop-place.invariant.told ((place + k) + length s) (omega arith) source agrees stated in
-    let none = no_pattern_in u window s place k (k + length s) found.0.before (omega arith) found.1.fits same in
-    record {
-      from = omega (arith, c.loop-place.invariant.from);
-      stands = pattern_found u window s place k found.1 held same;
-      none_before = nowhere_in_both s u c.args.start place (place + k) before none;
-    }
+    let root : NodeId = c.in-Some.root in
+    let start : ℕ = c.args.start in
+    let left : ℕ = c.rope_len-len.result - start in
+    let long : length (cells t root.0) ≡ c.rope_len-len.result = sym (ap (λ (y : Option NodeId). length (rope_cells t y)) c.in-Some.is) ∙ sym c.rope_len-len.ensures.cells in
+    let same = subst (λ (p : ℕ). SameCells t root root p start left) (sym c.requires.begun.0) (same_itself t root start left (omega (arith, long, c.if-start-len.false))) in
+    let sought = c.in_ok-found-in-Some.ensures.sought root start same (seeking_begun t st (Some root) start c.args.seeker c.requires.begun.1 c.requires.begun.0) in
+    let found = subst (λ (f : Option ℕ). IsSought t st (Some root) start c.look_in.new.seeker f) c.in-Some-2.is sought in
+    sought_inside t st (Some root) start (rope_len t c.args.x) c.look_in.new.seeker c.args.seeker.finder (Some c.in-Some-2.found) (long ∙ c.rope_len-len.ensures.exact) c.in_ok-found-in-Some.ensures.pattern found
 
-pub loop-place-preserved : goal.loop-place-preserved
-loop-place-preserved g c =
+pub returns-in-Some-2-clause-found : goal.returns-in-Some-2-clause-found
+returns-in-Some-2-clause-found g c =
     let t = g.S.NodeSpace.table c.args.space.now in
-    let s : List ℕ = c.args.pattern.now in
-    let place : ℕ = c.loop-place.place in
-    let window : List ℕ = c.in_ok-window.window.now in
-    let enough : length s ≤ length window = c.in_ok-window.ensures.enough in
-    let count : ℕ = (length window - length s) + 1 in
-    let clear : ℕ = c.clear_ahead-clear.result in
-    let len = there_len g.S.NodeSpace.table c.loop-place.pos c.args.space.now c.args.x place c.loop-place.invariant.at in
-    let fits : place + length window ≤ rope_len t c.args.x = omega (arith, c.in_ok-window.ensures.most, c.loop-place-test.true, c.saturating_sub-places.ensures, c.rope_len-len.ensures.exact) in
-    let left : place < rope_len t c.args.x = omega (arith, fits, enough, c.requires.some) in
-    record {
-      reads = c.in_ok-window.ensures.reads ∙ c.loop-place.invariant.reads;
-      from = omega (arith, c.loop-place.invariant.from);
-      inside = omega (arith, c.clear_ahead-clear.ensures.inside, c.loop-place.invariant.at.index, len, left, c.saturating_sub-places.ensures, c.rope_len-len.ensures.exact);
-      at = later_place g.S.NodeSpace.table c.loop-place.pos c.skip.new.self c.args.space.now c.args.x place clear c.skip.ensures.space c.skip.ensures.rope c.skip.ensures.index c.loop-place.invariant.at;
-      told = λ end far source agrees stated.
-          let st = (g.T.Sources.reading c.args.sources.now).stated in
-          let u = text source (rope_cells t c.args.x) in
-          let more : count ≤ clear = c.clear_ahead-clear.ensures.more in
-          let inside : c.loop-place.pos.index + length window ≤ text_len g.S.NodeSpace.table c.loop-place.pos = omega (arith, fits, len, c.loop-place.invariant.at.index) in
-          let same : (p : ℕ) → p < length window → slice_get window p ≡ slice_get u (place + p) = λ p lt.
-          byte_there g.S.NodeSpace.table c.loop-place.pos c.args.space.now c.args.x place p st (g.T.Sources.reading c.loop-place.sources).stated window source c.loop-place.invariant.at inside c.in_ok-window.ensures.bytes
-          (same_stated c.loop-place.invariant.reads) agrees lt (stated (place + p) (omega (arith, c.loop-place.invariant.from)) (omega (arith, lt, far, enough, more))) in
-          let before = c.loop-place.invariant.told end (omega (arith, far)) source agrees stated in
-          let nowhere : Nowhere (OccursAt window s) 0 (length window + 1) = subst (λ z. Nowhere (OccursAt window z) 0 (length window + 1)) c.new-finder.ensures c.in_default.ensures in
-          let none = no_pattern_in u window s place count (length window) (λ k low high. nowhere k low (omega (arith, high, enough, c.requires.some))) (omega (arith, enough)) (omega arith) same in
-          let also = clear_there g.S.NodeSpace.table c.loop-place.pos c.args.space.now c.args.x place (length s) count clear c.loop-place.invariant.at left c.clear_ahead-clear.ensures.clear in
-          nowhere_in_both s u c.args.start place (place + clear) before (also source s refl none);
-    }
+    let st = (g.T.Sources.reading c.args.sources.now).stated in
+    let root : NodeId = c.in-Some.root in
+    let start : ℕ = c.args.start in
+    let left : ℕ = c.rope_len-len.result - start in
+    let long : length (cells t root.0) ≡ c.rope_len-len.result = sym (ap (λ (y : Option NodeId). length (rope_cells t y)) c.in-Some.is) ∙ sym c.rope_len-len.ensures.cells in
+    let same = subst (λ (p : ℕ). SameCells t root root p start left) (sym c.requires.begun.0) (same_itself t root start left (omega (arith, long, c.if-start-len.false))) in
+    let sought = c.in_ok-found-in-Some.ensures.sought root start same (seeking_begun t st (Some root) start c.args.seeker c.requires.begun.1 c.requires.begun.0) in
+    let found = subst (λ (f : Option ℕ). IsSought t st (Some root) start c.look_in.new.seeker f) c.in-Some-2.is sought in
+    subst (λ (y : Option NodeId). FindsFirst t st y c.args.seeker.finder start (Some c.in-Some-2.found)) (sym c.in-Some.is)
+    (subst (λ (s : List ℕ). FindsFirst t st (Some root) s start (Some c.in-Some-2.found)) c.in_ok-found-in-Some.ensures.pattern found.0)
+
+pub returns-clause-inside : goal.returns-clause-inside
+returns-clause-inside g c =
+    let t = g.S.NodeSpace.table c.args.space.now in
+    let st = (g.T.Sources.reading c.args.sources.now).stated in
+    let root : NodeId = c.in-Some.root in
+    let start : ℕ = c.args.start in
+    let left : ℕ = c.rope_len-len.result - start in
+    let long : length (cells t root.0) ≡ c.rope_len-len.result = sym (ap (λ (y : Option NodeId). length (rope_cells t y)) c.in-Some.is) ∙ sym c.rope_len-len.ensures.cells in
+    let same = subst (λ (p : ℕ). SameCells t root root p start left) (sym c.requires.begun.0) (same_itself t root start left (omega (arith, long, c.if-start-len.false))) in
+    let sought = c.in_ok-found-in-Some.ensures.sought root start same (seeking_begun t st (Some root) start c.args.seeker c.requires.begun.1 c.requires.begun.0) in
+    let passed = subst (λ (f : Option ℕ). IsSought t st (Some root) start c.look_in.new.seeker f) c.in_default.is sought in
+    sought_inside t st (Some root) start (rope_len t c.args.x) c.search_ring.new.self c.args.seeker.finder c.search_ring.result (long ∙ c.rope_len-len.ensures.exact)
+    (c.search_ring.ensures.pattern ∙ c.in_ok-found-in-Some.ensures.pattern) (c.search_ring.ensures.sought t st (Some root) start passed)
 
 pub returns-clause-found : goal.returns-clause-found
-returns-clause-found g c source agrees stated =
+returns-clause-found g c =
     let t = g.S.NodeSpace.table c.args.space.now in
-    let u = text source (rope_cells t c.args.x) in
-    let s : List ℕ = c.args.pattern.now in
-    let long = text_length t c.args.x source in
-    elim (cases_lt (c.args.start + length s) (c.rope_len-len.result + 2)) [
-      | inl fits ↦
-          let far : c.loop-place.place + length s ≤ rope_len t c.args.x + 1 = omega (arith, fits, c.loop-place.invariant.inside, c.saturating_sub-places.ensures, c.rope_len-len.ensures.exact) in
-          none_past s u c.args.start c.loop-place.place (c.loop-place.invariant.told (rope_len t c.args.x) far source agrees stated)
-          (omega (arith, long, c.rope_len-len.ensures.cells, c.saturating_sub-places.ensures, c.loop-place-test.false))
-      | inr past ↦ λ j from stands. absurd (omega (arith, long, past, from, stands.inside, c.rope_len-len.ensures.cells))
-    ]
+    let st = (g.T.Sources.reading c.args.sources.now).stated in
+    let root : NodeId = c.in-Some.root in
+    let start : ℕ = c.args.start in
+    let left : ℕ = c.rope_len-len.result - start in
+    let long : length (cells t root.0) ≡ c.rope_len-len.result = sym (ap (λ (y : Option NodeId). length (rope_cells t y)) c.in-Some.is) ∙ sym c.rope_len-len.ensures.cells in
+    let same = subst (λ (p : ℕ). SameCells t root root p start left) (sym c.requires.begun.0) (same_itself t root start left (omega (arith, long, c.if-start-len.false))) in
+    let sought = c.in_ok-found-in-Some.ensures.sought root start same (seeking_begun t st (Some root) start c.args.seeker c.requires.begun.1 c.requires.begun.0) in
+    let passed = subst (λ (f : Option ℕ). IsSought t st (Some root) start c.look_in.new.seeker f) c.in_default.is sought in
+    let end : c.rope_len-len.result ≡ rope_len t (Some root) = c.rope_len-len.ensures.exact ∙ ap (rope_len t) c.in-Some.is in
+    let few : length c.search_ring.new.self.ring.items < length c.search_ring.new.self.finder =
+    omega (arith, c.search_ring.ensures.few, ap length c.search_ring.ensures.pattern) in
+    let ended : rope_len t (Some root) ≤ c.search_ring.new.self.place =
+    omega (arith, end, c.search_ring.ensures.place, c.in_ok-found-in-Some.ensures.place (ap Ok c.in_default.is), c.requires.begun.0, c.if-start-len.false) in
+    subst (λ (y : Option NodeId). FindsFirst t st y c.args.seeker.finder start c.search_ring.result) (sym c.in-Some.is)
+    (sought_first t st (Some root) start c.search_ring.new.self c.args.seeker.finder c.search_ring.result (long ∙ end)
+    (c.search_ring.ensures.pattern ∙ c.in_ok-found-in-Some.ensures.pattern) ended few (c.search_ring.ensures.sought t st (Some root) start passed))
