@@ -7,7 +7,7 @@ use Rattle.memchr.specs.Find.{Nowhere, Passes, is_byte}
 use Rattle.cord_search.specs.Places.{StandsAt}
 use Rattle.cord_search.proofs.Standing.{byte_stands, byte_read}
 
-itself : (n : ℕ) → (n == n) ≡ true
+pub itself : (n : ℕ) → (n == n) ≡ true
 itself n = by (n == n) refl
   where
     by : (b : Bool) → (n == n) ≡ b → b ≡ true

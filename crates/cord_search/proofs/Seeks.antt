@@ -1,26 +1,27 @@
 -- What a search of a piece tells of the places before it and in it, and how pieces are cut.
-use Rattle.std.proofs.Common.{◌≡◌, ℕ, ◌+◌, ◌-◌, ◌<◌, ◌≤◌, min, max, List, [], ◌∷◌, ◌++◌, length, take, drop, Option, Some, None, inl, inr, refl, sym, subst, ap, ◌∙◌, arith}
+use Rattle.std.proofs.Common.{◌≡◌, ℕ, ◌+◌, ◌-◌, ◌<◌, ◌≤◌, min, max, List, [], ◌++◌, length, take, drop, get_or, Option, Some, None, true, ◌==◌, inl, inr, refl, sym, subst, ap, ◌∙◌, arith}
 use Rattle.std.specs.Prelude.{slice_get, slice_index}
 use Rattle.std.proofs.lemmas.Bool.{cases_lt}
-use Rattle.std.proofs.lemmas.List.{length-append, length-drop, length-take}
+use Rattle.std.proofs.lemmas.List.{get_or-drop, get_or-take, length-append, length-drop, length-take}
+use Rattle.std.proofs.lemmas.Option.{get_or_from_slice_get}
 use Rattle.rope_node.specs.declared.node.NodeId.{NodeId}
 use Rattle.rope_node.specs.Table.{Table}
 use Rattle.rope_node.specs.Denotes.{rope_cells, rope_len, text}
 use Rattle.lazy_file.specs.SourceTexts.{Stated}
 use Rattle.circular_buffer.specs.Buffer.{Buffer, buffer, keep_last}
-use Rattle.memchr.specs.Find.{NoneBefore, Nowhere, OccursAt}
+use Rattle.memchr.specs.Find.{NoneBefore, Nowhere, OccursAt, Passes, is_byte}
 use Rattle.cord_position.specs.Fetched.{IsStated, rope_cell}
 use Rattle.cord_search.specs.Pieces.{IsPiece}
 use Rattle.cord_search.specs.Places.{IsFirst, IsFromOn, StandsAt}
-use Rattle.cord_search.specs.Seeking.{IsClearTo, IsSeeker, IsSeeking, IsSought, IsWithout}
+use Rattle.cord_search.specs.Seeking.{CannotBegin, IsClearTo, IsSeeker, IsSeeking, IsSought, MayBegin}
 use Rattle.cord_search.specs.declared.seeker.Seeker.{Seeker}
 use Rattle.cord_search.specs.Skipped.{IsClearAlso}
 use Rattle.cord_search.specs.Stated.{FindsFirst}
-use Rattle.cord_search.proofs.BytePieces.{no_byte_in, nowhere_in_both}
+use Rattle.cord_search.proofs.BytePieces.{itself, nowhere_in_both}
 use Rattle.cord_search.proofs.Fetches.{text_length}
 use Rattle.cord_search.proofs.PatternPieces.{pattern_found, no_pattern_in}
 use Rattle.cord_search.proofs.Reaching.{stated_past}
-use Rattle.cord_search.proofs.Standing.{byte_stands, none_past, pattern_byte}
+use Rattle.cord_search.proofs.Standing.{none_past, pattern_byte}
 use Rattle.cord_search.proofs.Pieces.{byte_of_first, byte_of_rest, piece_after}
 
 -- what is found in a piece is the first place of all, where there is none before the piece
@@ -83,20 +84,46 @@ part_len d run = omega (arith, length-take (length run - d) (drop d run), length
 pub part_piece : (t : Table) (st : Stated) (rope : Option NodeId) (i d : ℕ) (run : List ℕ) → IsPiece t st rope i run → IsPiece t st rope (i + d) (part d run)
 part_piece t st rope i d run piece = piece_first_bytes t st rope (i + d) (length run - d) (drop d run) (piece_last_bytes t st rope i d run piece)
 
--- where the first byte of a pattern is not, the pattern does not stand
-first_stands : (s u : List ℕ) (j : ℕ) → 1 ≤ length s → StandsAt s u j → StandsAt (slice_index s 0 ∷ []) u j
-first_stands s u j some stands =
-    byte_stands u j (slice_index s 0) (ap (slice_get u) (omega arith) ∙ pattern_byte u s j 0 stands.same (omega (arith, some)))
+-- where a pattern stands, it may begin
+may_begin_there : (s u bytes : List ℕ) (place k : ℕ) → ((p : ℕ) → p < k + length s → p < length bytes → slice_get bytes p ≡ slice_get u (place + p)) → StandsAt s u (place + k) → MayBegin s bytes k
+may_begin_there s u bytes place k same stands j few inside =
+    let there : place + (k + j) ≡ (place + k) + j = omega arith in
+    get_or_from_slice_get bytes (k + j) (get_or s j 0) 0 (same (k + j) (omega (arith, few)) inside ∙ ap (slice_get u) there ∙ pattern_byte u s (place + k) j stands.same few)
 
-pub passed_without : (t : Table) (st : Stated) (rope : Option NodeId) (s bytes : List ℕ) (start place n : ℕ) → start ≤ place → 1 ≤ length s → n ≤ length bytes → IsWithout bytes (slice_index s 0) n
+-- it can begin nowhere where its first byte is not
+pub cannot_begin : (s bytes : List ℕ) (from n : ℕ) → 1 ≤ length s → from + n ≤ length bytes → CannotBegin s bytes from
+    → Nowhere (Passes (is_byte (slice_index s 0)) (part from bytes)) 0 n → CannotBegin s bytes (from + n)
+cannot_begin s bytes from n some few before none k low high begins =
+    elim (cases_lt k from) [
+      | inl below ↦ before k low below begins
+      | inr past ↦
+          let j : ℕ = k - from in
+          let at : from + j ≡ k + 0 = omega (arith, past) in
+          let byte : get_or bytes (k + 0) 0 ≡ get_or s 0 0 = begins 0 some (omega (arith, high, few)) in
+          let here : get_or (part from bytes) j 0 ≡ get_or s 0 0 =
+          get_or-take (length bytes - from) (drop from bytes) j 0 (omega (arith, past, high, few)) ∙ get_or-drop from bytes j 0 ∙ ap (λ (p : ℕ). get_or bytes p 0) at ∙ byte in
+          none j (omega arith) (omega (arith, past, high)) (subst (λ (z : ℕ). (z == get_or s 0 0) ≡ true) (sym here) (itself (get_or s 0 0)))
+    ]
+
+-- nor at a place that was tried
+pub cannot_begin_there : (s bytes : List ℕ) (place : ℕ) → CannotBegin s bytes place → ¬ MayBegin s bytes place → CannotBegin s bytes (place + 1)
+cannot_begin_there s bytes place before none k low high begins =
+    elim (cases_lt k place) [
+      | inl below ↦ before k low below begins
+      | inr past ↦ let same : k ≡ place = omega (arith, past, high) in none (subst (MayBegin s bytes) same begins)
+    ]
+
+pub passed_without : (t : Table) (st : Stated) (rope : Option NodeId) (s bytes : List ℕ) (start place n : ℕ) → start ≤ place → 1 ≤ length s → n ≤ length bytes → CannotBegin s bytes n
     → IsClearTo t st rope s start place → IsPiece t st rope place bytes → IsClearTo t st rope s start (place + n)
 passed_without t st rope s bytes start place n from some few none clear piece end far source agrees stated =
     let u = text source (rope_cells t rope) in
     let before = clear end (omega (arith, far)) source agrees stated in
-    let same : (k : ℕ) → 0 ≤ k → k < n → slice_get bytes k ≡ slice_get u (place + k) = λ k low high.
-    piece source agrees k (omega (arith, high, few)) (stated (place + k) (omega (arith, from)) (omega (arith, high, far, some))) in
     let there : (j : ℕ) → place ≤ j → j < place + n → ¬ StandsAt s u j = λ j low high stands.
-    no_byte_in u bytes place (slice_index s 0) 0 n none same j (omega (arith, low)) high (first_stands s u j some stands) in
+    let k : ℕ = j - place in
+    let at : j ≡ place + k = omega (arith, low) in
+    let same : (p : ℕ) → p < k + length s → p < length bytes → slice_get bytes p ≡ slice_get u (place + p) = λ p below inside.
+    piece source agrees p inside (stated (place + p) (omega (arith, from)) (omega (arith, below, high, low, far))) in
+    none k (omega arith) (omega (arith, low, high)) (may_begin_there s u bytes place k same (subst (StandsAt s u) at stands)) in
     nowhere_in_both s u start place (place + n) before there
 
 -- a search of the ring
@@ -135,7 +162,7 @@ ring_passed t st rope start s some seeking none new is =
 
 -- the ring without the bytes before the first place at which the pattern may begin
 pub ring_trimmed : (t : Table) (st : Stated) (rope : Option NodeId) (start : ℕ) (s : Seeker) → 1 ≤ length s.finder → IsSeeking t st rope start s
-    → (n m : ℕ) → n ≤ length s.ring.items → IsWithout s.ring.items (slice_index s.finder 0) n → m + n ≡ length s.ring.items → (new : Buffer ℕ) → new ≡ buffer (keep_last m s.ring.items) s.ring.capacity
+    → (n m : ℕ) → n ≤ length s.ring.items → CannotBegin s.finder s.ring.items n → m + n ≡ length s.ring.items → (new : Buffer ℕ) → new ≡ buffer (keep_last m s.ring.items) s.ring.capacity
     → IsSeeking t st rope start (record s { ring = new })
 ring_trimmed t st rope start s some seeking n m few none rest new is =
     let xs = s.ring.items in
@@ -182,7 +209,7 @@ run_passed t st rope start s some seeking empty run d piece inside none tail =
 
 -- a short run: the ring gets the bytes from the first place on at which the pattern may begin
 pub run_kept : (t : Table) (st : Stated) (rope : Option NodeId) (start : ℕ) (s : Seeker) → 1 ≤ length s.finder → IsSeeking t st rope start s → s.ring.items ≡ []
-    → (run : List ℕ) (d n : ℕ) → IsPiece t st rope s.place run → s.place + length run ≤ length (rope_cells t rope) → d ≤ length run → IsWithout run (slice_index s.finder 0) d
+    → (run : List ℕ) (d n : ℕ) → IsPiece t st rope s.place run → s.place + length run ≤ length (rope_cells t rope) → d ≤ length run → CannotBegin s.finder run d
     → length run ≤ s.ring.capacity → n ≡ min (length (part d run)) (s.ring.capacity - length s.ring.items) → (new : Buffer ℕ) → new ≡ buffer (s.ring.items ++ take n (part d run)) s.ring.capacity
     → IsSeeking t st rope start (record s { ring = new; place = s.place + length run })
 run_kept t st rope start s some seeking empty run d n piece inside few none room count new is =

@@ -1,10 +1,10 @@
 -- A search that takes a text run by run: what it has found so far.
-use Rattle.std.specs.Prelude.{◌≡◌, ℕ, ◌+◌, ◌-◌, ◌*◌, ◌<◌, ◌≤◌, max, List, length, Option, Some, None}
+use Rattle.std.specs.Prelude.{◌≡◌, ℕ, ◌+◌, ◌-◌, ◌*◌, ◌<◌, ◌≤◌, max, List, length, slice_index, Option, Some, None}
 use Rattle.rope_node.specs.declared.node.NodeId.{NodeId}
 use Rattle.rope_node.specs.Table.{Table, len_at}
 use Rattle.rope_node.specs.Denotes.{cell_at, cells, rope_cells}
 use Rattle.lazy_file.specs.SourceTexts.{Stated}
-use Rattle.memchr.specs.Find.{Nowhere, Passes, is_byte}
+use Rattle.memchr.specs.Find.{Nowhere}
 use Rattle.cord_position.specs.Fetched.{rope_cell}
 use Rattle.cord_search.specs.Pieces.{IsPiece}
 use Rattle.cord_search.specs.Places.{IsFromOn}
@@ -12,9 +12,13 @@ use Rattle.cord_search.specs.Skipped.{IsClear}
 use Rattle.cord_search.specs.Stated.{FindsFirst, OfSpan}
 use Rattle.cord_search.specs.declared.seeker.Seeker.{Seeker}
 
--- none of the first n bytes is this one
-abbrev pub IsWithout : List ℕ → ℕ → ℕ → Type 0
-IsWithout bytes b n = Nowhere (Passes (is_byte b) bytes) 0 n
+-- s may begin at place k of these bytes: as far as both go, they are the same from there on
+abbrev pub MayBegin : List ℕ → List ℕ → ℕ → Type 0
+MayBegin s bytes k = (j : ℕ) → j < length s → k + j < length bytes → slice_index bytes (k + j) ≡ slice_index s j
+
+-- it begins at none of the first n places
+abbrev pub CannotBegin : List ℕ → List ℕ → ℕ → Type 0
+CannotBegin s bytes n = Nowhere (MayBegin s bytes) 0 n
 
 -- the pattern has some bytes, and the ring has room for twice as many
 pub record IsSeeker (s : Seeker) : Type 0 where

@@ -1,6 +1,6 @@
 //! A search that takes a text run by run.
 
-ghost use Rattle.std.specs.Prelude.{◌≡◌, ◌+◌, ◌-◌, ◌^◌, ◌<◌, ◌≤◌, ℕ, [], List, Option, length, take, slice_index, IfOk, IfSome};
+ghost use Rattle.std.specs.Prelude.{◌≡◌, ◌+◌, ◌-◌, ◌^◌, ◌<◌, ◌≤◌, ℕ, [], List, Option, length, take, IfOk, IfSome, IsTrue};
 ghost use Rattle.rope_node.specs.declared.node.NodeId.{NodeId};
 ghost use Rattle.rope_node.specs.Table.{Table};
 ghost use Rattle.rope_node.specs.Denotes.{rope_cells};
@@ -8,7 +8,7 @@ ghost use Rattle.lazy_file.specs.SourceTexts.{Stated};
 ghost use Rattle.memchr.specs.Find.{FindsNeedle};
 ghost use Rattle.cord_search.specs.declared.pattern.TheConstants.{PATTERN_LIMIT};
 ghost use Rattle.cord_search.specs.Pieces.{IsPiece};
-ghost use Rattle.cord_search.specs.Seeking.{IsClearTo, IsSeeker, IsSeeking, IsSought, IsWithout, RepeatsFrom};
+ghost use Rattle.cord_search.specs.Seeking.{CannotBegin, IsClearTo, IsSeeker, IsSeeking, IsSought, MayBegin, RepeatsFrom};
 
 use crate::pattern::PATTERN_LIMIT;
 use circular_buffer::HeapCircularBuffer;
@@ -16,17 +16,31 @@ use memchr::memchr;
 use memchr::memmem::Finder;
 use std::alloc::{AllocError, Global};
 
-/// How many of these bytes lie before the first at which the pattern may begin, where its first byte stands. All of them, where it
-/// stands nowhere.
+/// Whether a pattern whose first byte stands at a place of these bytes may begin there, by its second byte.
+fn may_begin(pattern: &[u8], bytes: &[u8], place: usize) -> bool
+    requires { place < length bytes.now }
+    ensures { MayBegin pattern.now bytes.now place → IsTrue result }
+{
+    pattern.len() < 2 || place + 1 >= bytes.len() || bytes[place + 1] == pattern[1]
+}
+
+/// How many of these bytes lie before the first at which the pattern may begin, by its first two bytes. All of them, where it can
+/// begin nowhere.
 fn before_first(finder: &Finder<'_>, bytes: &[u8]) -> usize
     requires some { 1 ≤ length finder.now }
     ensures most { result ≤ length bytes.now }
-    ensures none { IsWithout bytes.now (slice_index finder.now 0) result }
+    ensures none { CannotBegin finder.now bytes.now result }
 {
-    match memchr(finder.needle()[0], bytes) {
-        Some(k) => k,
-        None => bytes.len(),
+    let pattern = finder.needle();
+    let mut from = 0;
+    'places: while let Some(k) = memchr(pattern[0], &bytes[from..]) {
+        let place = from + k;
+        if may_begin(pattern, bytes, place) {
+            return place;
+        }
+        from = place + 1;
     }
+    bytes.len()
 }
 
 /// The first place of the pattern in the ring's bytes.
@@ -42,7 +56,7 @@ fn find_in_ring(finder: &Finder<'_>, ring: &mut HeapCircularBuffer<u8>) -> Optio
 fn before_first_in_ring(finder: &Finder<'_>, ring: &mut HeapCircularBuffer<u8>) -> usize
     requires some { 1 ≤ length finder.now }
     ensures most { result ≤ length ring.old.items }
-    ensures none { IsWithout ring.old.items (slice_index finder.now 0) result }
+    ensures none { CannotBegin finder.now ring.old.items result }
     ensures same { ring.new ≡ ring.old }
 {
     let bytes = ring.make_contiguous();
