@@ -15,7 +15,8 @@ use Rattle.node_table.specs.Held.{Held, table_of, coded_at, KeepsFunctions}
 use Rattle.span_certificate.specs.declared.part.Part.{Part}
 use Rattle.span_certificate.specs.Parts.{parts_of, AreRopes}
 use Rattle.span_certificate.specs.Covers.{CoversAlways, MeetsNoSource}
-use Rattle.span_certificate.proofs.Kept.{AgreeBelow, parts_kept, in_range_kept, all_cells_kept, covers_kept, no_source_kept}
+use Rattle.span_certificate.specs.Longest.{AreLongest}
+use Rattle.span_certificate.proofs.Kept.{AgreeBelow, parts_kept, in_range_kept, all_cells_kept, covers_kept, longest_kept, no_source_kept}
 use Rattle.span_certificate.proofs.PartsInRange.{parts_in_range}
 use Rattle.edit_commands.specs.declared.revision.Revision.{Revision}
 use Rattle.edit_commands.specs.Session.{command_of, roots_of, IsRevision, AreRevisions}
@@ -53,6 +54,8 @@ module _ (old new : Held Coded) (on : WentOn old new) where
             (λ source. covers_kept t u on.sound on.true_records on.kept (coded_at old) (coded_at new) agree source (parts_of t (roots_of before) (command_of r)) r.root r.rows.items are is.root (is.rows source));
         no_source = subst (λ (parts : List Part). MeetsNoSource u parts r.root r.rows.items) (sym same)
             (no_source_kept t u on.sound on.true_records on.kept (parts_of t (roots_of before) (command_of r)) r.root r.rows.items are is.root is.no_source);
+        longest = subst (λ (parts : List Part). AreLongest u parts r.root r.rows.items) (sym same)
+            (longest_kept t u on.sound on.true_records on.kept (parts_of t (roots_of before) (command_of r)) r.root r.rows.items are is.root is.longest);
       }
 
   pub revisions_kept : (revisions : List Revision) → AreRevisions old revisions → AreRevisions new revisions

@@ -16,7 +16,8 @@ use Rattle.span_certificate.specs.declared.making.MakeFault.{MakeFault}
 use Rattle.span_certificate.specs.declared.part.Part.{Part}
 use Rattle.span_certificate.specs.declared.row.Row.{Row}
 use Rattle.span_certificate.specs.Commands.{FullEdit, full_edit, result_of, with_splices}
-use Rattle.span_certificate.specs.Covers.{AreMade, CoversAlways, MeetsNoSource, IsCutShort, rows_len}
+use Rattle.span_certificate.specs.Covers.{CoversAlways, MeetsNoSource, rows_len}
+use Rattle.span_certificate.specs.Longest.{AreLongest, AreMade, IsCutShort}
 use Rattle.span_certificate.specs.declared.making.TheConstants.{ROWS_LIMIT}
 use Rattle.span_certificate.specs.Parts.{len_of, root_at, parts_cells, parts_of, AreRopes, IsInRange, givens_of}
 use Rattle.span_certificate.proofs.InRange.{in_range}
@@ -149,8 +150,9 @@ module _ (old new : Held Coded) (revisions : List Revision) (command : Command) 
     pub revises_so : (made : Revision) → made.edit ≡ edit_with places (splices_held revisions) command → made.splices.items ≡ splices_with places command → made.root ≡ root
         → (IsTrue made.mark ↔ IsBalancedRope (table_of coded_byte new) made.root) → CoversAlways (table_of coded_byte new) (coded_at new) (parts_of (table_of coded_byte new) (roots_of revisions) (command_with places command)) made.root made.rows.items
         → MeetsNoSource (table_of coded_byte new) (parts_of (table_of coded_byte new) (roots_of revisions) (command_with places command)) made.root made.rows.items
+        → AreLongest (table_of coded_byte new) (parts_of (table_of coded_byte new) (roots_of revisions) (command_with places command)) made.root made.rows.items
         → rows_held revisions + length made.rows.items ≤ ROWS_LIMIT → splices_held revisions + length made.splices.items ≤ SPLICES_LIMIT → Revises old revisions command (Ok made) new
-    revises_so made is_edit is_splices is_root mark rows none few few_splices =
+    revises_so made is_edit is_splices is_root mark rows none longest few few_splices =
         let t = table_of coded_byte new in
         let says : command_of made ≡ command_with places command = rw (is_splices, is_edit) (says_so places (splices_held revisions) command) in
         let behind_them : parts_of t (roots_of revisions) (command_with places command) ≡ parts_of t (roots_of revisions) (command_of made) = ap (parts_of t (roots_of revisions)) (sym says) in
@@ -161,6 +163,7 @@ module _ (old new : Held Coded) (revisions : List Revision) (command : Command) 
           mark = mark;
           rows = subst (λ (ps : List Part). CoversAlways t (coded_at new) ps made.root made.rows.items) behind_them rows;
           no_source = subst (λ (ps : List Part). MeetsNoSource t ps made.root made.rows.items) behind_them none;
+          longest = subst (λ (ps : List Part). AreLongest t ps made.root made.rows.items) behind_them longest;
         } in
         let by : IsMadeBy old revisions command made new = record {
           places = places;
@@ -179,11 +182,12 @@ module _ (old new : Held Coded) (revisions : List Revision) (command : Command) 
           fault = tt;
         }
 
--- rows that cover are made
+-- the longest rows that cover are made
 pub made_of_covers : (h : Held Coded) (parts : List Part) (root : Option NodeId) (rows : List Row) → CoversAlways (table_of coded_byte h) (coded_at h) parts root rows → MeetsNoSource (table_of coded_byte h) parts root rows
-    → AreMade (table_of coded_byte h) (coded_at h) parts root rows
-made_of_covers h parts root rows covers none = record {
+    → AreLongest (table_of coded_byte h) parts root rows → AreMade (table_of coded_byte h) (coded_at h) parts root rows
+made_of_covers h parts root rows covers none longest = record {
   fit = λ source. (covers source).fit;
   no_source = none;
+  longest = longest;
   in_root = omega (arith, (covers (λ k p. 0)).whole_root);
 }

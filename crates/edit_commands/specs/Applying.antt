@@ -12,7 +12,8 @@ use Rattle.node_table.specs.Puts.{AddsSource}
 use Rattle.rebalance.specs.declared.fault.BalanceFault.{BalanceFault}
 use Rattle.span_certificate.specs.declared.row.Row.{Row}
 use Rattle.span_certificate.specs.Commands.{result_of}
-use Rattle.span_certificate.specs.Covers.{AreMade, CoversAlways, IsCutShort, MeetsNoSource, rows_len}
+use Rattle.span_certificate.specs.Covers.{CoversAlways, MeetsNoSource, rows_len}
+use Rattle.span_certificate.specs.Longest.{AreLongest, AreMade, IsCutShort}
 use Rattle.span_certificate.specs.declared.making.MakeFault.{MakeFault}
 use Rattle.span_certificate.specs.declared.making.MakeFault.TheVariants.{TooManyRows}
 use Rattle.span_certificate.specs.declared.part.Part.{Part}
@@ -33,11 +34,12 @@ pub record Keeps (old new : SessionValue) : Type 0 where
   pub goes_on : GoesOn old.held new.held
   pub cells : cells_of (record { held = new.held; revisions = old.revisions }) ≡ cells_of old
 
--- rows that show, whatever the sources hold, that these parts have the root's text; or why there are none
+-- the longest rows that show, whatever the sources hold, that these parts have the root's text; or why there are none
 pub record MakesRows (coded : ℕ → Coded) (t : Table) (parts : List Part) (root : Option NodeId)
     (result : Result (Vec Row) MakeFault) : Type 0 where
   pub covers : IfOk result (λ rows. CoversAlways t coded parts root rows.items)
   pub no_source : IfOk result (λ rows. MeetsNoSource t parts root rows.items)
+  pub longest : IfOk result (λ rows. AreLongest t parts root rows.items)
   pub few : IfOk result (λ rows. length rows.items ≤ ROWS_LIMIT)
   pub too_many : IsErrOf result TooManyRows → IsCutShort t coded parts root
 
@@ -48,8 +50,8 @@ abbrev pub TermRefused : Held Coded → List Revision → Command → BalanceFau
 TermRefused old revisions command fault new =
     (places : List ℕ) × ChainsTerms old revisions command places (Err fault) new
 
--- The root that the command gives stands. The rows for its first bytes are more than there is room for behind those of
--- the earlier revisions; or they are as many, and text is left.
+-- The root that the command gives stands. The longest rows for its first bytes are more than there is room for behind
+-- those of the earlier revisions; or they are as many, and text is left.
 pub record RowsPass (old : Held Coded) (revisions : List Revision) (command : Command) (new : Held Coded) : Type 0 where
   pub root : Option NodeId
   pub places : List ℕ

@@ -16,6 +16,7 @@ use Rattle.span_certificate.specs.declared.part.Part.{Part}
 use Rattle.span_certificate.specs.declared.row.Row.{Row}
 use Rattle.span_certificate.specs.Commands.{FullEdit, Givens, IsHistory, with_splices}
 use Rattle.span_certificate.specs.Covers.{CoversAlways, MeetsNoSource}
+use Rattle.span_certificate.specs.Longest.{AreLongest}
 use Rattle.span_certificate.specs.declared.making.TheConstants.{ROWS_LIMIT}
 use Rattle.span_certificate.specs.Parts.{givens_of, parts_of, IsInRange}
 use Rattle.edit_commands.specs.declared.revision.Revision.{Revision}
@@ -76,8 +77,8 @@ NamesThese earlier splices (Many r first count) = (first ≡ earlier) × (count 
 NamesThese earlier splices _ = splices ≡ []
 
 -- Behind these revisions: its command is in range, and names its splices; its root is a rope, and marked exactly where
--- it is balanced; its rows cover the command's parts and the root whatever the sources hold, and none that compares
--- bytes is over a source.
+-- it is balanced; its rows cover the command's parts and the root whatever the sources hold, none that compares bytes
+-- is over a source, and each is the longest.
 pub record IsRevision (h : Held Coded) (before : List Revision) (r : Revision) : Type 0 where
   pub range : IsInRange (table_of coded_byte h) (roots_of before) (command_of r)
   pub names : NamesThese (splices_held before) r.splices.items r.edit
@@ -86,6 +87,8 @@ pub record IsRevision (h : Held Coded) (before : List Revision) (r : Revision) :
   pub rows : CoversAlways (table_of coded_byte h) (coded_at h)
       (parts_behind (table_of coded_byte h) before r) r.root r.rows.items
   pub no_source : MeetsNoSource (table_of coded_byte h)
+      (parts_behind (table_of coded_byte h) before r) r.root r.rows.items
+  pub longest : AreLongest (table_of coded_byte h)
       (parts_behind (table_of coded_byte h) before r) r.root r.rows.items
 
 -- each is, behind those before it

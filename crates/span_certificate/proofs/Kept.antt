@@ -1,9 +1,10 @@
 -- What a table that goes on keeps of commands, parts and rows over the older one.
 use Rattle.std.proofs.Common.{◌≡◌, ℕ, suc, ◌+◌, ◌-◌, ◌<◌, List, [], ◌∷◌, length, map, take, drop, filter, Option, Some, None, refl, sym, ap, subst, ◌∙◌, arith}
-use Rattle.std.specs.Prelude.{nat_lt}
+use Rattle.std.specs.Prelude.{nat_lt, IfSome}
 use Rattle.function_leaf.specs.declared.coded.Coded.{Coded}
 use Rattle.rope_node.specs.declared.node.NodeId.{NodeId}
-use Rattle.rope_node.specs.Table.{Table, IsLeaf, IsSound, HasTrueRecords}
+use Rattle.rope_node.specs.declared.node.NodeView.TheVariants.{Cat, Sub}
+use Rattle.rope_node.specs.Table.{Table, view_at, IsLeaf, IsSound, HasTrueRecords}
 use Rattle.rope_node.specs.Denotes.{Cell, Byte, rope_cells, rope_len, IsRope}
 use Rattle.rope_node.specs.Extends.{Extends}
 use Rattle.rope_node.proofs.Extensions.{view_kept, len_kept}
@@ -16,9 +17,10 @@ use Rattle.span_certificate.specs.declared.part.Part.TheVariants.{Old, Pool, Sou
 use Rattle.span_certificate.specs.declared.row.Row.{Row}
 use Rattle.span_certificate.specs.declared.row.RowKind.{RowKind}
 use Rattle.span_certificate.specs.declared.row.RowKind.TheVariants.{Shared, Leaf, Bytes}
-use Rattle.span_certificate.specs.Parts.{part_len, part_cells, parts_cells, IsPart, AreParts, root_at, terms_of, parts_of, AreRopes, IsInRange, front, rest, whole, pieces}
+use Rattle.span_certificate.specs.Parts.{part_at, part_len, part_cells, parts_cells, IsPart, AreParts, root_at, terms_of, parts_of, AreRopes, IsInRange, front, rest, whole, pieces}
 use Rattle.span_certificate.proofs.SplicedTexts.{can_splice_kept}
 use Rattle.span_certificate.specs.Leads.{Leads, here, in_left, in_right, in_base, RopeLeads, PartLeads, RopeHasDescription, PartHasDescription}
+use Rattle.span_certificate.specs.Longest.{PartLiesInLeaf, RopeLiesInLeaf, StayWithin, AreLongest}
 use Rattle.span_certificate.specs.Covers.{row_at, place_of, KindFits, Fits, Covers, MeetsNoSource}
 use Rattle.span_certificate.proofs.Covering.{holds_place}
 use Rattle.span_certificate.proofs.Descents.{children_of_cat, base_of_sub}
@@ -55,6 +57,75 @@ module _ (old new : Table) (s : IsSound old) (h : HasTrueRecords old) (x : Exten
   part_leads_kept n k o (Pool a m) off is lead = lead
   part_leads_kept n k o (Source r m) off is lead = lead
   part_leads_kept n k o (Fill c m) off is lead = lead
+
+  leads_there : {n k o y p : ℕ} → Leads old n k o y p → y < length old.nodes → k < length old.nodes
+  leads_there (here e f) there = rw (← e) there
+  leads_there {n} {k} {o} {y} {p} (in_left l r e fits lead) there = leads_there lead (omega (arith, (children_of_cat old s h y there l r e).0))
+  leads_there {n} {k} {o} {y} {p} (in_right l r e past lead) there = leads_there lead (omega (arith, (children_of_cat old s h y there l r e).1))
+  leads_there {n} {k} {o} {y} {p} (in_base b i e lead) there = leads_there lead (omega (arith, (base_of_sub old s y there b i e).0))
+
+  -- ---- what the older nodes lead to over the newer table, they led to
+
+  leads_back : {n k o y p : ℕ} → Leads new n k o y p → y < length old.nodes → Leads old n k o y p
+  leads_back (here e f) there = here e f
+  leads_back {n} {k} {o} {y} {p} (in_left l r e fits lead) there =
+      let view : view_at old y ≡ Cat l r = sym (view_kept old new x y there) ∙ e in
+      let c = children_of_cat old s h y there l r view in
+      let below : l.0 < length old.nodes = omega (arith, c.0) in
+      in_left l r view (omega (arith, fits, len_kept old new x l.0 below)) (leads_back lead below)
+  leads_back {n} {k} {o} {y} {p} (in_right l r e past lead) there =
+      let view : view_at old y ≡ Cat l r = sym (view_kept old new x y there) ∙ e in
+      let c = children_of_cat old s h y there l r view in
+      let left : l.0 < length old.nodes = omega (arith, c.0) in
+      let right : r.0 < length old.nodes = omega (arith, c.1) in
+      let len = len_kept old new x l.0 left in
+      in_right l r view (omega (arith, past, len)) (rw (sym len) (leads_back lead right))
+  leads_back {n} {k} {o} {y} {p} (in_base b i e lead) there =
+      let view : view_at old y ≡ Sub b i = sym (view_kept old new x y there) ∙ e in
+      let c = base_of_sub old s y there b i view in
+      in_base b i view (leads_back lead (omega (arith, c.0)))
+
+  rope_leads_back : (n k o : ℕ) (rope : Option NodeId) (p : ℕ) → IsRope old rope → RopeLeads new n k o rope p → RopeLeads old n k o rope p
+  rope_leads_back n k o None p there lead = lead
+  rope_leads_back n k o (Some y) p there lead = leads_back lead there
+
+  part_leads_back : (n k o : ℕ) (part : Part) (off : ℕ) → IsPart old part → PartLeads new n k o part off → PartLeads old n k o part off
+  part_leads_back n k o (Old rope i m) off is lead = rope_leads_back n k o rope (i + off) is.1.0 lead
+  part_leads_back n k o (Pool a m) off is lead = lead
+  part_leads_back n k o (Source r m) off is lead = lead
+  part_leads_back n k o (Fill c m) off is lead = lead
+
+  rope_lies_back : (n : ℕ) (rope : Option NodeId) (p : ℕ) → IsRope old rope → RopeLiesInLeaf new n rope p → RopeLiesInLeaf old n rope p
+  rope_lies_back n None p there lies = lies
+  rope_lies_back n (Some y) p there (k, o, lead) =
+      let back = leads_back lead.0 there in
+      (k, o, (back, subst IsLeaf (view_kept old new x k (leads_there back there)) lead.1))
+
+  part_lies_back : (n : ℕ) (part : Part) (off : ℕ) → IsPart old part → PartLiesInLeaf new n part off → PartLiesInLeaf old n part off
+  part_lies_back n (Old rope i m) off is lies = rope_lies_back n rope (i + off) is.1.0 lies
+  part_lies_back n (Pool a m) off is lies = lies
+  part_lies_back n (Source r m) off is lies = lies
+  part_lies_back n (Fill c m) off is lies = lies
+
+  stay_back : (n : ℕ) (part : Part) (off : ℕ) (root : Option NodeId) (place : ℕ) (kind : RowKind) → IsPart old part → IsRope old root → StayWithin new n part off root place kind → StayWithin old n part off root place kind
+  stay_back n part off root place (Shared k o) is there stay = (part_leads_back n k.0 o part off is stay.0, rope_leads_back n k.0 o root place there stay.1)
+  stay_back n part off root place Leaf is there stay = (part_lies_back n part off is stay.0, rope_lies_back n root place there stay.1)
+  stay_back n part off root place Bytes is there stay = (stay.0, part_lies_back n part off is stay.1, rope_lies_back n root place there stay.2)
+
+  -- so the longest rows stay the longest
+  pub longest_kept : (parts : List Part) (root : Option NodeId) (rows : List Row) → AreParts old parts → IsRope old root → AreLongest old parts root rows → AreLongest new parts root rows
+  longest_kept parts root rows are there longest j lt = at_place (part_at parts (place_of rows j)) refl (longest j lt)
+    where
+      row : Row
+      row = row_at rows j
+
+      LongestOver : Table → Part × ℕ → Type 0
+      LongestOver t at = at.1 + row.len < part_len at.0 → ¬ StayWithin t (row.len + 1) at.0 at.1 root (place_of rows j) row.kind
+
+      at_place : (here : Option (Part × ℕ)) → part_at parts (place_of rows j) ≡ here → IfSome here (LongestOver old) → IfSome here (LongestOver new)
+      at_place None e is = is
+      at_place (Some at) e is =
+          λ short stay. is short (stay_back (row.len + 1) at.0 at.1 root (place_of rows j) row.kind (holds_place old s h parts (place_of rows j) at.0 at.1 are e).is_part there stay)
 
   -- ---- cells
 
@@ -147,12 +218,6 @@ module _ (old new : Table) (s : IsSound old) (h : HasTrueRecords old) (x : Exten
   no_source_kept parts root rows are there none j lt = rw (parts_cells_kept parts are, cells_of_rope_kept root there) (none j lt)
 
   module _ (coded now : ℕ → Coded) (agree : AgreeBelow old coded now) where
-    leads_there : {n k o y p : ℕ} → Leads old n k o y p → y < length old.nodes → k < length old.nodes
-    leads_there (here e f) there = rw (← e) there
-    leads_there {n} {k} {o} {y} {p} (in_left l r e fits lead) there = leads_there lead (omega (arith, (children_of_cat old s h y there l r e).0))
-    leads_there {n} {k} {o} {y} {p} (in_right l r e past lead) there = leads_there lead (omega (arith, (children_of_cat old s h y there l r e).1))
-    leads_there {n} {k} {o} {y} {p} (in_base b i e lead) there = leads_there lead (omega (arith, (base_of_sub old s y there b i e).0))
-
     rope_described_kept : (n : ℕ) (rope : Option NodeId) (p : ℕ) (d : Description) → IsRope old rope → RopeHasDescription old coded n rope p d → RopeHasDescription new now n rope p d
     rope_described_kept n None p d there is = is
     rope_described_kept n (Some y) p d there (k, o, lead, is) =

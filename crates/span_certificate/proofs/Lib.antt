@@ -6,6 +6,7 @@ pub mod Ways
 pub mod Steps
 pub mod FirstLeaves
 pub mod Walks
+pub mod RowEnds
 pub mod NextRows
 pub mod ComparedCells
 pub mod RunLaws
@@ -22,6 +23,7 @@ pub mod Joined
 pub mod InRange
 pub mod PartsInRange
 pub mod Sameness
+pub mod OneRow
 pub mod MadeRows
 pub mod Kept
 pub mod AsBefore

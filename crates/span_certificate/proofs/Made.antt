@@ -11,7 +11,8 @@ use Rattle.rope_node.specs.Denotes.{cells, rope_cells, rope_len, IsRope}
 use Rattle.span_certificate.specs.declared.part.Part.{Part}
 use Rattle.span_certificate.specs.declared.row.Row.{Row}
 use Rattle.span_certificate.specs.Parts.{part_len, parts_len, part_cells, parts_cells, IsPart, AreParts, part_at}
-use Rattle.span_certificate.specs.Covers.{row_at, no_row, rows_len, place_of, row_compares, IsByte, Fits, AreMade, CoversAlways}
+use Rattle.span_certificate.specs.Covers.{row_at, no_row, rows_len, place_of, row_compares, IsByte, Fits, CoversAlways}
+use Rattle.span_certificate.specs.Longest.{AreMade, IsLongest}
 use Rattle.span_certificate.specs.declared.making.TheConstants.{ROWS_LIMIT}
 use Rattle.span_certificate.specs.Steps.{IsNext}
 use Rattle.span_certificate.proofs.ComparedCells.{all_compared, each_byte}
@@ -52,7 +53,7 @@ pub record IsMaking (t : Table) (coded : ℕ → Coded) (parts : List Part) (roo
 
 pub making_none : (t : Table) (coded : ℕ → Coded) (parts : List Part) (root : Option NodeId) → IsMaking t coded parts root [] 0
 making_none t coded parts root = record {
-  made = record { fit = λ source j lt. absurd (omega arith); no_source = λ j lt. absurd (omega arith); in_root = omega arith };
+  made = record { fit = λ source j lt. absurd (omega arith); no_source = λ j lt. absurd (omega arith); longest = λ j lt. absurd (omega arith); in_root = omega arith };
   stands = refl;
   limit = omega arith;
 }
@@ -82,9 +83,9 @@ step_of t s h parts node place off part are there same e =
     }
 
 pub making_more : (t : Table) → IsSound t → HasTrueRecords t → (coded : ℕ → Coded) (parts : List Part) (node : NodeId) (rows : List Row) (place off left : ℕ) (part : Part) (row : Row)
-    → AreParts t parts → parts_cells t parts ≡ cells t node.0 → part_at parts place ≡ Some (part, off) → IsStep t part off node place left → IsNext t coded part off node place left row
+    → AreParts t parts → parts_cells t parts ≡ cells t node.0 → part_at parts place ≡ Some (part, off) → IsStep t part off node place left → IsNext t coded part off node place left row → IsLongest t parts (Some node) place row
     → length rows < ROWS_LIMIT → IsMaking t coded parts (Some node) rows place → IsMaking t coded parts (Some node) (rows ++ row ∷ []) (place + row.len)
-making_more t s h coded parts node rows place off left part row are same e step next few making =
+making_more t s h coded parts node rows place off left part row are same e step next longest few making =
     let fits : (source : ℕ → ℕ → ℕ) → Fits t coded source parts (Some node) (rows_len rows) row =
     λ source. rw (← making.stands) (record {
       part = part;
@@ -101,6 +102,7 @@ making_more t s h coded parts node rows place off left part row are same e step 
       made = record {
         fit = λ source. each_more (λ i r. Fits t coded source parts (Some node) i r) rows row (making.made.fit source) (fits source);
         no_source = each_more (λ i r. All IsByte (row_compares t parts (Some node) i r)) rows row making.made.no_source over;
+        longest = each_more (λ i r. IsLongest t parts (Some node) i r) rows row making.made.longest (rw (← making.stands) longest);
         in_root = omega (arith, rows_len_more rows row, next.few, step.inside_root, making.stands);
       };
       stands = ap (λ (i : ℕ). i + row.len) making.stands ∙ sym (rows_len_more rows row);

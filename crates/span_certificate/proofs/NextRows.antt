@@ -1,11 +1,11 @@
 -- Rows for the first bytes of a part and of the root.
-use Rattle.std.proofs.Common.{◌≡◌, ℕ, ◌+◌, ◌≤◌, List, map, take, drop, Some, sym, ap, subst, ◌∙◌, arith}
+use Rattle.std.proofs.Common.{◌≡◌, ℕ, ◌+◌, ◌<◌, ◌≤◌, List, length, map, take, drop, Some, sym, ap, subst, ◌∙◌, arith}
 use Rattle.std.specs.Prelude.{replicate}
 use Rattle.std.specs.List.{range_with_len, drop-map}
 use Rattle.std.proofs.lemmas.List.{take-take}
 use Rattle.function_leaf.specs.declared.coded.Coded.{Coded}
 use Rattle.rope_node.specs.declared.node.NodeId.{NodeId}
-use Rattle.rope_node.specs.Table.{Table}
+use Rattle.rope_node.specs.Table.{Table, len_at, IsSound, HasTrueRecords}
 use Rattle.rope_node.specs.Denotes.{Cell, Byte, Place, cells, text}
 use Rattle.rope_node.proofs.Parts.{span_within, span-map, span-range_with_len}
 use Rattle.span_certificate.specs.declared.describe.Description.{Description}
@@ -17,7 +17,10 @@ use Rattle.span_certificate.specs.declared.row.RowKind.TheVariants.{Shared, Leaf
 use Rattle.span_certificate.specs.Parts.{part_len, part_cells}
 use Rattle.span_certificate.specs.Leads.{PartHasDescription}
 use Rattle.span_certificate.specs.Covers.{KindFits}
+use Rattle.span_certificate.specs.Descents.{first_of}
+use Rattle.span_certificate.specs.Longest.{GoesToLeafEnd, SpansStayWithin, StayWithin}
 use Rattle.span_certificate.specs.Steps.{SpansFit, IsRowOf, DescribedFits, IsDescribedRow, IsNext, AreBytes}
+use Rattle.span_certificate.proofs.RowEnds.{beside_end}
 use Rattle.span_certificate.proofs.Walks.{bytes_take}
 use Rattle.span_certificate.proofs.MappedResults.{map-replicate}
 
@@ -92,3 +95,25 @@ old_same t part node i m off left cs is fits same =
     let here : take left (drop off (part_cells t part)) ≡ take left (drop (i + off) (cells t node.0)) =
     rw is (span_within left off m i (cells t node.0) fits' ∙ ap (λ (j : ℕ). take left (drop j (cells t node.0))) (omega arith)) in
     sym here ∙ same
+
+-- ---- the longest
+
+stay_in_old : (t : Table) (node root : NodeId) (i m off place left n : ℕ) (kind : RowKind) → StayWithin t n (Old (Some node) i m) off (Some root) place kind
+    → SpansStayWithin t n (record { node = node; start = i + off; len = left }) (record { node = root; start = place; len = left }) kind
+stay_in_old t node root i m off place left n (Shared k o) stay = stay
+stay_in_old t node root i m off place left n Leaf stay = stay
+stay_in_old t node root i m off place left n Bytes stay = stay
+
+-- a row that is the longest over the span of an earlier text is over its part
+pub old_longest : (t : Table) (part : Part) (node root : NodeId) (i m off place left n : ℕ) (kind : RowKind) → part ≡ Old (Some node) i m
+    → (n < left → ¬ SpansStayWithin t (n + 1) (record { node = node; start = i + off; len = left }) (record { node = root; start = place; len = left }) kind)
+    → n < left → ¬ StayWithin t (n + 1) part off (Some root) place kind
+old_longest t part node root i m off place left n kind is longest short stay =
+    longest short (stay_in_old t node root i m off place left (n + 1) kind (rw is at stay))
+
+-- beside a part that is itself a leaf span the root's leaf span is the longest
+pub beside_longest : (t : Table) → IsSound t → HasTrueRecords t → (part : Part) (root : NodeId) (off place left n : ℕ) (kind : RowKind) → root.0 < length t.nodes → place + left ≤ len_at t root.0
+    → GoesToLeafEnd (first_of t (record { node = root; start = place; len = left })).len n kind → n < left → ¬ StayWithin t (n + 1) part off (Some root) place kind
+beside_longest t s h part root off place left n (Shared k o) there inside ends short stay = ends
+beside_longest t s h part root off place left n Leaf there inside ends short stay = beside_end t s h root.0 place left n there inside ends short stay.1
+beside_longest t s h part root off place left n Bytes there inside ends short stay = beside_end t s h root.0 place left n there inside (omega (arith, ends, stay.0)) short stay.2

@@ -23,7 +23,7 @@ pub away_of : (x k p o : ℕ) → ((x ≡ k) × (p ≡ o → ⊥)) ⊎ (x ≡ k 
 away_of x k p o (inl w) both = w.1 both.1
 away_of x k p o (inr w) both = w both.0
 
-after_cat_to : {t : Table} {n k o x p : ℕ} (l r : NodeId) → Leads t n k o x p → ¬ ((x ≡ k) × (p ≡ o)) → view_at t x ≡ Cat l r
+pub after_cat_to : {t : Table} {n k o x p : ℕ} (l r : NodeId) → Leads t n k o x p → ¬ ((x ≡ k) × (p ≡ o)) → view_at t x ≡ Cat l r
     → ((p + n ≤ len_at t l.0) × Leads t n k o l.0 p) ⊎ ((len_at t l.0 ≤ p) × Leads t n k o r.0 (p - len_at t l.0))
 after_cat_to l r (here e f) away is = absurd (away (e, f))
 after_cat_to {t} {n} {k} {o} {x} {p} l r (in_left l' r' e fits lead) away is =
@@ -35,7 +35,7 @@ after_cat_to {t} {n} {k} {o} {x} {p} l r (in_right l' r' e past lead) away is =
     inr (subst (λ (y : NodeId). (len_at t y.0 ≤ p) × Leads t n k o r.0 (p - len_at t y.0)) same_l (past, subst (λ (z : NodeId). Leads t n k o z.0 (p - len_at t l'.0)) same_r lead))
 after_cat_to l r (in_base b i e lead) away is = absurd cc
 
-after_sub_to : {t : Table} {n k o x p : ℕ} (b : NodeId) (i : ℕ) → Leads t n k o x p → ¬ ((x ≡ k) × (p ≡ o)) → view_at t x ≡ Sub b i → Leads t n k o b.0 (p + i)
+pub after_sub_to : {t : Table} {n k o x p : ℕ} (b : NodeId) (i : ℕ) → Leads t n k o x p → ¬ ((x ≡ k) × (p ≡ o)) → view_at t x ≡ Sub b i → Leads t n k o b.0 (p + i)
 after_sub_to b i (here e f) away is = absurd (away (e, f))
 after_sub_to b i (in_left l' r' e fits lead) away is = absurd cc
 after_sub_to b i (in_right l' r' e past lead) away is = absurd cc

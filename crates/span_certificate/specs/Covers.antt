@@ -13,7 +13,6 @@ use Rattle.span_certificate.specs.declared.row.RowKind.TheVariants.{Shared, Leaf
 use Rattle.span_certificate.specs.Parts.{part_at, part_len, parts_len, part_cells, parts_cells}
 use Rattle.span_certificate.specs.Leads.{RopeLeads, PartLeads, RopeHasDescription, PartHasDescription}
 use Rattle.span_certificate.specs.declared.walk.TheConstants.{BYTES_LIMIT}
-use Rattle.span_certificate.specs.declared.making.TheConstants.{ROWS_LIMIT}
 
 abbrev pub no_row : Row
 no_row = record { len = 0; kind = Leaf }
@@ -126,16 +125,3 @@ IsByte (Place s p) = ⊥
 -- no row of bytes stands over a source, in the parts or in the root
 abbrev pub MeetsNoSource : Table → List Part → Option NodeId → List Row → Type 0
 MeetsNoSource t parts root rows = ComparesOnly IsByte t parts root rows
-
--- rows for the first bytes of the parts and of the root, over any sources
-pub record AreMade (t : Table) (coded : ℕ → Coded) (parts : List Part) (root : Option NodeId) (rows : List Row)
-    : Type 0 where
-  pub fit : (source : ℕ → ℕ → ℕ) (j : ℕ) → j < length rows
-      → Fits t coded source parts root (place_of rows j) (row_at rows j)
-  pub no_source : MeetsNoSource t parts root rows
-  pub in_root : rows_len rows ≤ rope_len t root
-
--- as many rows as there may be, and text is left
-abbrev pub IsCutShort : Table → (ℕ → Coded) → List Part → Option NodeId → Type 0
-IsCutShort t coded parts root =
-    (rows : List Row) × AreMade t coded parts root rows × (length rows ≡ ROWS_LIMIT) × (rows_len rows < rope_len t root)

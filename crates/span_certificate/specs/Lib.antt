@@ -4,6 +4,7 @@ pub mod Parts
 pub mod Places
 pub mod Leads
 pub mod Covers
+pub mod Longest
 pub mod Steps
 pub mod Descents
 pub mod Runs

@@ -4,7 +4,8 @@ ghost use Rattle.std.specs.Prelude.{◌≡◌, ◌+◌, ◌<◌, ◌≤◌, leng
 ghost use Rattle.rope_node.specs.Table.{len_at, IsSound, HasTrueRecords};
 ghost use Rattle.rope_node.specs.Denotes.{cells, rope_cells, IsRope};
 ghost use Rattle.span_certificate.specs.Parts.{part_at, part_len, part_cells, parts_cells, IsPart, AreParts};
-ghost use Rattle.span_certificate.specs.Covers.{CoversAlways, MeetsNoSource, IsCutShort};
+ghost use Rattle.span_certificate.specs.Covers.{CoversAlways, MeetsNoSource};
+ghost use Rattle.span_certificate.specs.Longest.{AreLongest, IsCutShort, StayWithin};
 ghost use Rattle.span_certificate.specs.declared.making.TheConstants.{ROWS_LIMIT};
 ghost use Rattle.span_certificate.specs.Looks.{BeginsCount};
 ghost use Rattle.span_certificate.specs.Steps.{IsNext};
@@ -35,7 +36,7 @@ pub enum MakeFault {
     Memory,
 }
 
-/// A row for the first of the next `left` bytes, where they have the same cells on both sides.
+/// The longest row for the first of the next `left` bytes, where they have the same cells on both sides.
 fn next_row<S: CountedSpace<L>, L: Ledger>(
     space: &S,
     part: Part,
@@ -54,8 +55,10 @@ fn next_row<S: CountedSpace<L>, L: Ledger>(
     requires inside_root { place + left ≤ len_at (S.table space.now) root.0 }
     requires same { take left (drop off (part_cells (S.table space.now) part))
         ≡ take left (drop place (cells (S.table space.now) root.0)) }
-    ensures { IsNext (S.table space.now) (S.coded space.now)
+    ensures next { IsNext (S.table space.now) (S.coded space.now)
         part off root place left result }
+    ensures longest { result.len < left
+        → ¬ StayWithin (S.table space.now) (result.len + 1) part off (Some root) place result.kind }
 {
     let y = Span {
         node: root,
@@ -107,6 +110,8 @@ fn make_for<S: CodedSpace, P: Splices, L: Ledger>(
         (S.NodeSpace.table space.now) (S.coded space.now) parts.entry (Some root) rows.items) }
     ensures no_source { IfOk result (λ rows. MeetsNoSource
         (S.NodeSpace.table space.now) parts.entry (Some root) rows.items) }
+    ensures longest { IfOk result (λ rows. AreLongest
+        (S.NodeSpace.table space.now) parts.entry (Some root) rows.items) }
     ensures few { IfOk result (λ rows. length rows.items ≤ ROWS_LIMIT) }
     ensures too_many { IsErrOf result MakeFault.TooManyRows → IsCutShort
         (S.NodeSpace.table space.now) (S.coded space.now) parts.entry (Some root) }
@@ -141,12 +146,13 @@ fn make_for<S: CodedSpace, P: Splices, L: Ledger>(
     Ok(rows)
 }
 
-/// Rows that show that the parts and the root have one text, whatever the sources hold. No source is
-/// read, and no row of bytes is over one.
+/// Rows that show that the parts and the root have one text, whatever the sources hold, each as long as it can be: to
+/// the end of its part, while both sides stay in the node or in the leaves that it is over, and for at most 4,096 bytes
+/// where it compares bytes. No source is read, and no row of bytes is over one.
 ///
 /// # Errors
 ///
-/// `TooManyRows` where 16,777,216 rows do not reach the end, and `Memory`.
+/// `TooManyRows` where 16,777,216 such rows do not reach the end, and `Memory`.
 pub fn make<S: CodedSpace, P: Splices>(
     alloc: Global,
     space: &S,
@@ -160,6 +166,8 @@ pub fn make<S: CodedSpace, P: Splices>(
     ensures covers { IfOk result (λ rows. CoversAlways
         (S.NodeSpace.table space.now) (S.coded space.now) parts.entry root rows.items) }
     ensures no_source { IfOk result (λ rows. MeetsNoSource
+        (S.NodeSpace.table space.now) parts.entry root rows.items) }
+    ensures longest { IfOk result (λ rows. AreLongest
         (S.NodeSpace.table space.now) parts.entry root rows.items) }
     ensures few { IfOk result (λ rows. length rows.items ≤ ROWS_LIMIT) }
     ensures too_many { IsErrOf result MakeFault.TooManyRows → IsCutShort

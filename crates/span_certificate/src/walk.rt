@@ -1,8 +1,9 @@
 //! The longest row that fits at a place.
 
-ghost use Rattle.std.specs.Prelude.{◌≡◌, ℕ, ◌+◌, ◌≤◌, min, None, IfSome};
+ghost use Rattle.std.specs.Prelude.{◌≡◌, ℕ, ◌+◌, ◌<◌, ◌≤◌, min, None, IfSome};
 ghost use Rattle.rope_node.specs.Table.{view_at, IsLeaf, IsSound, HasTrueRecords};
-ghost use Rattle.span_certificate.specs.Descents.{IsLeafOf};
+ghost use Rattle.span_certificate.specs.Descents.{IsLeafOf, first_of};
+ghost use Rattle.span_certificate.specs.Longest.{GoesToLeafEnd, SpansStayWithin};
 ghost use Rattle.span_certificate.specs.Steps.{IsSpan, IsBelow, span_cells, child_span, CellsAs, IsRowOf, IsDescribedRow};
 ghost use Rattle.span_certificate.specs.declared.walk.TheConstants.{BYTES_LIMIT};
 ghost use Rattle.rope_node.specs.declared.node.NodeId.{NodeId};
@@ -111,7 +112,8 @@ fn leaf_row<S: CountedSpace<L>, L: Ledger>(
     requires len { y.span.len ≡ x.span.len }
     requires same { span_cells (S.table space.now) x.span
         ≡ span_cells (S.table space.now) y.span }
-    ensures { IsRowOf (S.table space.now) (S.coded space.now) x.span y.span result }
+    ensures row { IsRowOf (S.table space.now) (S.coded space.now) x.span y.span result }
+    ensures ends { GoesToLeafEnd x.span.len result.len result.kind }
 {
     match (
         describe(space, x.span.node, x.view, x.span.start, count),
@@ -127,6 +129,7 @@ fn described_row(d: Description, e: Description, len: u64) -> Row
     ensures leaf { result.kind ≡ RowKind.Leaf → (d ≡ e) × (result.len ≡ len) }
     ensures bytes { result.kind ≡ RowKind.Bytes → ¬ (d ≡ e) × (result.len ≡ min len BYTES_LIMIT) }
     ensures kind { (k : NodeId) → (o : ℕ) → ¬ (result.kind ≡ RowKind.Shared k o) }
+    ensures ends { GoesToLeafEnd len result.len result.kind }
 {
     if d.is_same(e) {
         Row {
@@ -156,7 +159,9 @@ pub fn next_old<S: CountedSpace<L>, L: Ledger>(
     requires len { y.len ≡ x.len }
     requires same { span_cells (S.table space.now) x
         ≡ span_cells (S.table space.now) y }
-    ensures { IsRowOf (S.table space.now) (S.coded space.now) x y result }
+    ensures row { IsRowOf (S.table space.now) (S.coded space.now) x y result }
+    ensures longest { result.len < x.len
+        → ¬ SpansStayWithin (S.table space.now) (result.len + 1) x y result.kind }
 {
     let mut a = x;
     let mut b = y;
@@ -213,7 +218,8 @@ pub fn next_leaf<S: CountedSpace<L>, L: Ledger>(
     requires true_records { HasTrueRecords (S.table space.now) }
     requires y { IsSpan (S.table space.now) y }
     requires same { CellsAs y.len d (span_cells (S.table space.now) y) }
-    ensures { IsDescribedRow (S.table space.now) (S.coded space.now) d y result }
+    ensures row { IsDescribedRow (S.table space.now) (S.coded space.now) d y result }
+    ensures ends { GoesToLeafEnd (first_of (S.table space.now) y).len result.len result.kind }
 {
     let z = leaf_of(space, y, count);
     match describe(space, z.span.node, z.view, z.span.start, count) {

@@ -111,7 +111,7 @@ returns-then-len-room c =
     let many : c.args.room < length rows = omega (arith, c.if-len-room.true, c.len.ensures) in
     revises_not old new c.args.revisions.now c.args.command.now c.requires.revisions b.builds.goes_on on EditFault.TooManyRows
     (rows_pass old new c.args.revisions.now c.args.command.now c.requires.revisions b.builds.goes_on on c.count-more_nodes.ensures.sound c.count-more_nodes.ensures.true_records c.in_ok-root.root c.build.new.places b rows
-    (made_of_covers new _ c.in_ok-root.root rows c.in_ok-rows.ensures.covers c.in_ok-rows.ensures.no_source)
+    (made_of_covers new _ c.in_ok-root.root rows c.in_ok-rows.ensures.covers c.in_ok-rows.ensures.no_source c.in_ok-rows.ensures.longest)
     (omega (arith, many, c.requires.room)) (λ full. absurd (omega (arith, many, full, c.requires.room))))
 
 pub recorded-requires : goal.recorded-requires
@@ -132,5 +132,5 @@ returns c =
     let room : splices_held c.args.revisions.now + length (changes_of command) ≤ SPLICES_LIMIT =
     ltb-false _ _ (passes (record { held = old; revisions = c.args.revisions.now }) command c.requires.accepted).splices in
     revises_so old new c.args.revisions.now command c.requires.revisions b.builds.goes_on on c.count-more_nodes.ensures.sound c.count-more_nodes.ensures.true_records c.in_ok-root.root places b _
-    (c.recorded.ensures ∙ ap (λ first. edit_with places first command) c.requires.splices) c.in_ok-splices.ensures.exact refl c.is_marked-mark.ensures c.in_ok-rows.ensures.covers c.in_ok-rows.ensures.no_source
+    (c.recorded.ensures ∙ ap (λ first. edit_with places first command) c.requires.splices) c.in_ok-splices.ensures.exact refl c.is_marked-mark.ensures c.in_ok-rows.ensures.covers c.in_ok-rows.ensures.no_source c.in_ok-rows.ensures.longest
     (omega (arith, c.if-len-room.false, c.len.ensures, c.requires.room)) (omega (arith, room, count, ap length c.in_ok-splices.ensures.exact))

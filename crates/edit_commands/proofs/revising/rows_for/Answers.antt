@@ -22,4 +22,4 @@ returns c =
     ∙ own_edit places command (c.requires.many ∙ ap length c.requires.splices) in
     let same = c.parts-parts.ensures.exact ∙ ap (parts_of t (roots_of c.args.revisions.now)) says in
     subst (λ (ps : List Part). MakesRows (coded_at c.args.store.now) t ps c.args.root c.make.result) same
-    (record { covers = c.make.ensures.covers; no_source = c.make.ensures.no_source; few = c.make.ensures.few; too_many = c.make.ensures.too_many })
+    (record { covers = c.make.ensures.covers; no_source = c.make.ensures.no_source; longest = c.make.ensures.longest; few = c.make.ensures.few; too_many = c.make.ensures.too_many })

@@ -13,3 +13,6 @@ returns-in-Some-clause-covers g c = rw c.in-Some.is c.make_for.ensures.covers
 
 pub returns-in-Some-clause-no_source : goal.returns-in-Some-clause-no_source
 returns-in-Some-clause-no_source g c = rw c.in-Some.is c.make_for.ensures.no_source
+
+pub returns-in-Some-clause-longest : goal.returns-in-Some-clause-longest
+returns-in-Some-clause-longest g c = rw c.in-Some.is c.make_for.ensures.longest

@@ -1,8 +1,10 @@
-use Rattle.std.proofs.Common.{◌≡◌, ℕ, ◌-◌, ◌<◌, List, [], ◌∷◌, ◌++◌, length, Option, Some, ap, ◌∙◌, arith, rules}
+use Rattle.std.proofs.Common.{◌≡◌, ℕ, ◌+◌, ◌-◌, ◌<◌, List, [], ◌∷◌, ◌++◌, length, Option, Some, ap, ◌∙◌, arith, rules}
 use Rattle.rope_node.specs.Table.{Table, IsSound, HasTrueRecords}
 use Rattle.rope_node.specs.Denotes.{cells}
 use Rattle.rope_node.specs.declared.node.NodeId.{NodeId}
 use Rattle.span_certificate.specs.declared.part.Part.{Part}
+use Rattle.span_certificate.specs.declared.row.Row.{Row}
+use Rattle.span_certificate.specs.Longest.{IsLongest, StayWithin}
 use Rattle.span_certificate.specs.Parts.{part_len, part_at, parts_cells, AreParts}
 use Rattle.span_certificate.specs.Places.{held, IsAt}
 use Rattle.span_certificate.proofs.PartPlaces.{at_part, at_whole}
@@ -16,6 +18,10 @@ step_here : (t : Table) → IsSound t → HasTrueRecords t → (parts : List Par
     → IsAt parts place here off rest → here ≡ Some part → len ≡ part_len part → IsStep t part off node place (len - off)
 step_here t s h parts node place here off rest part len are there same at is whole =
     rw whole (step_of t s h parts node place off part are there same (part_here parts place here off rest part at is))
+
+longest_here : (t : Table) (parts : List Part) (node : NodeId) (place off : ℕ) (part : Part) (len : ℕ) (row : Row) → part_at parts place ≡ Some (part, off) → len ≡ part_len part
+    → (row.len < len - off → ¬ StayWithin t (row.len + 1) part off (Some node) place row.kind) → IsLongest t parts (Some node) place row
+longest_here t parts node place off part len row here whole longest = rw here (λ short. longest (omega (arith, whole, short)))
 
 pub unreachable-requires : goal.unreachable-requires
 unreachable-requires g c =
@@ -45,7 +51,7 @@ pub overflow_add-place : goal.overflow_add-place
 overflow_add-place g c =
     let s = step_here (g.S.NodeSpace.table c.args.space.now) c.requires.sound c.requires.true_records c.args.parts c.args.root c.loop-place.place c.loop-place.at.part c.loop-place.at.off c.loop-place.at.rest c.in-Some.part c.len-in-Some.result
     c.requires.parts c.requires.root c.requires.same c.loop-place.invariant.at c.in-Some.is c.len-in-Some.ensures in
-    omega (arith, s.inside_root, c.next_row-row.ensures.few, c.len-end.ensures.value, c.len-end.ensures.limit)
+    omega (arith, s.inside_root, c.next_row-row.ensures.next.few, c.len-end.ensures.value, c.len-end.ensures.limit)
 
 pub loop-place-preserved : goal.loop-place-preserved
 loop-place-preserved g c =
@@ -57,7 +63,7 @@ loop-place-preserved g c =
     record {
       making = rw pushed
           (making_more t c.requires.sound c.requires.true_records (g.S.CodedSpace.coded c.args.space.now) c.args.parts c.args.root c.loop-place.rows.items c.loop-place.place c.loop-place.at.off (c.len-in-Some.result - c.loop-place.at.off) c.in-Some.part c.next_row-row.result
-          c.requires.parts c.requires.same here s c.next_row-row.ensures (search rules) c.loop-place.invariant.making);
+          c.requires.parts c.requires.same here s c.next_row-row.ensures.next (longest_here t c.args.parts c.args.root c.loop-place.place c.loop-place.at.off c.in-Some.part c.len-in-Some.result c.next_row-row.result here c.len-in-Some.ensures c.next_row-row.ensures.longest) (search rules) c.loop-place.invariant.making);
       at = c.skip.ensures c.args.parts c.loop-place.place c.loop-place.invariant.at;
     }
 

@@ -2,8 +2,8 @@ use Rattle.std.proofs.Common.{sym}
 use Rattle.span_certificate.proofs.Walks.{row_at_leaves}
 use Rattle.span_certificate.proofs.walk.leaf_row.Goals as goal
 
-pub returns : goal.returns
-returns g c =
+pub returns-clause-row : goal.returns-clause-row
+returns-clause-row g c =
     row_at_leaves (g.S.CountedSpace.table c.args.space.now) c.requires.sound (g.S.CountedSpace.coded c.args.space.now) c.args.x.span c.args.y.span c.in-Some-Some.d c.in-Some-Some.e
     (record {
       is_x = c.requires.x.reached.is_span;

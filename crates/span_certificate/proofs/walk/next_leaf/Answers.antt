@@ -2,8 +2,8 @@ use Rattle.std.proofs.Common.{sym}
 use Rattle.span_certificate.proofs.Walks.{described_row_fits}
 use Rattle.span_certificate.proofs.walk.next_leaf.Goals as goal
 
-pub returns : goal.returns
-returns g c =
+pub returns-clause-row : goal.returns-clause-row
+returns-clause-row g c =
     described_row_fits (g.S.CountedSpace.table c.args.space.now) c.requires.sound c.requires.true_records (g.S.CountedSpace.coded c.args.space.now) c.args.d c.in-Some.e c.args.y c.leaf_of-z.result.span
     (record {
       is_y = c.requires.y;
