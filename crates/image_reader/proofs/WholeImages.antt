@@ -12,6 +12,7 @@ use Rattle.image_reader.specs.declared.fault.ReadFault.TheVariants.{Truncated, T
 use Rattle.image_reader.specs.declared.version.FormatVersion.{FormatVersion}
 use Rattle.image_reader.specs.declared.version.FormatVersion.TheVariants.{One, Two}
 use Rattle.image_reader.specs.declared.header.Header.{Header}
+use Rattle.image_reader.specs.declared.section.Sections.{Sections}
 use Rattle.image_reader.specs.declared.revision.Revision.{Revision}
 use Rattle.span_certificate.specs.declared.edit.TheConstants.{MOST_REVISIONS, SPLICES_LIMIT}
 use Rattle.span_certificate.specs.Fields.{splices_of}
@@ -22,7 +23,7 @@ use Rattle.image_reader.specs.Layout.{IsBytes, spelled, number_in, records}
 use Rattle.image_reader.specs.Versions.{version_number, version_by, is_two}
 use Rattle.image_reader.specs.Value.{ImageValue, IsImage, FitsSource, FitsNode, FitsRevision, FitsSplice, FitsRow}
 use Rattle.image_reader.specs.Spelling.{records_spelling, header_layout, header_numbers, source_spelling, node_spelling, revision_spelling, splice_spelling, row_spelling, spelling}
-use Rattle.image_reader.specs.Reading.{HasHeader, HasRoom, source_of, image_node, revisions_of, splice_of, row_of, version_in, source_count, node_count, revision_count, splice_count, row_count, pool_len, stated_len, is_over_limit, is_unknown_version, has_header_pad, from_sources, from_nodes, from_revisions, from_splices, from_rows, from_pool, sections_value, image_of, whole_len, front_fault, header_fault, source_record_fault, node_record_fault, row_record_fault, counted_rows, counted_splices, first_fault, sections_fault, fault_of}
+use Rattle.image_reader.specs.Reading.{AreSections, HasHeader, source_of, image_node, revisions_of, splice_of, row_of, version_in, source_count, node_count, revision_count, splice_count, row_count, pool_len, stated_len, is_over_limit, is_unknown_version, has_header_pad, from_sources, from_nodes, from_revisions, from_splices, from_rows, from_pool, sections_value, image_of, front_fault, header_fault, source_record_fault, node_record_fault, row_record_fault, counted_rows, counted_splices, first_fault, sections_fault, fault_of}
 use Rattle.image_reader.proofs.Faults.{else_none, fault_if_none}
 use Rattle.image_reader.proofs.Cutting.{length-map-records}
 use Rattle.image_reader.proofs.Fields.{AreWide, FitFields, wide32, wide64, IsBytes-drop, numbers_from, spelled_back, spelled_again, length-spelled}
@@ -301,29 +302,16 @@ records_back bytes v is same =
     rw rest (take_at (records_spelling v) v.pool (length (records_spelling v ++ v.pool) - length v.pool) count)
 
 -- what the sections of bytes without a fault are
-pub sections_image : (bytes : List ℕ) (h : Header) (b0 b1 b2 b3 b4 b5 : List ℕ) → IsBytes bytes → HasHeader bytes h → length bytes ≡ whole_len h → None ≡ header_fault bytes → None ≡ sections_fault h.version h.sources b0 h.nodes b1 h.revisions b2 h.splices h.rows b4
-    → b0 ≡ drop 40 bytes → b1 ≡ drop (8 * h.sources) b0 → b2 ≡ drop (32 * h.nodes) b1 → b3 ≡ drop (56 * h.revisions) b2 → b4 ≡ drop (32 * h.splices) b3 → b5 ≡ drop (24 * h.rows) b4
-    → HasRoom h.sources b0 h.nodes b1 h.revisions b2 h.splices b3 h.rows b4 × IsImage (sections_value h.version h.sources b0 h.nodes b1 h.revisions b2 h.splices b3 h.rows b4 b5) × (first_fault node_record_fault (records 32 h.nodes b1) ≡ None) × (take (length b0 - length b5) b0 ≡ records_spelling (sections_value h.version h.sources b0 h.nodes b1 h.revisions b2 h.splices b3 h.rows b4 b5))
+pub sections_image : (bytes : List ℕ) (h : Header) (x : Sections) → IsBytes bytes → HasHeader bytes h → fault_of bytes ≡ None → AreSections h bytes x
+    → IsImage (sections_value h.version h.sources x.sources.now h.nodes x.nodes.now h.revisions x.revisions.now h.splices x.splices.now h.rows x.rows.now x.pool.now)
+    × (first_fault node_record_fault (records 32 h.nodes x.nodes.now) ≡ None)
+    × (take (length x.sources.now - length x.pool.now) x.sources.now ≡ records_spelling (sections_value h.version h.sources x.sources.now h.nodes x.nodes.now h.revisions x.revisions.now h.splices x.splices.now h.rows x.rows.now x.pool.now))
 unfolding fault_of sections_fault sections_value
-sections_image bytes h b0 b1 b2 b3 b4 b5 is_bytes header whole good none e0 e1 e2 e3 e4 e5 =
-    let none_of : fault_of bytes ≡ None = rw (← good, ← header.version, ← header.sources, ← header.nodes, ← header.revisions, ← header.splices, ← header.rows, ← e0, ← e1, ← e2, ← e3, ← e4, ← none) refl in
-    let back = whole_back bytes is_bytes none_of in
-    let image = back.0 in
-    let in_front = records_back bytes (image_of bytes) image back.1 in
-    let nodes : first_fault node_record_fault (records 32 h.nodes b1) ≡ None = (else_none _ _ (else_none _ _ (sym none)).1).0 in
-    let len0 : length b0 ≡ length bytes - 40 = rw e0 (length-drop 40 bytes) in
-    let len1 : length b1 ≡ length b0 - 8 * h.sources = rw e1 (length-drop (8 * h.sources) b0) in
-    let len2 : length b2 ≡ length b1 - 32 * h.nodes = rw e2 (length-drop (32 * h.nodes) b1) in
-    let len3 : length b3 ≡ length b2 - 56 * h.revisions = rw e3 (length-drop (56 * h.revisions) b2) in
-    let len4 : length b4 ≡ length b3 - 32 * h.splices = rw e4 (length-drop (32 * h.splices) b3) in (
-      record {
-        for_sources = omega (arith, whole);
-        for_nodes = omega (arith, whole);
-        for_revisions = omega (arith, whole);
-        for_splices = omega (arith, whole);
-        for_rows = omega (arith, whole);
-      },
-      rw (← header.version, ← header.sources, ← header.nodes, ← header.revisions, ← header.splices, ← header.rows, ← e0, ← e1, ← e2, ← e3, ← e4, ← e5) at image,
-      nodes,
-      rw (← header.sources, ← header.nodes, ← header.revisions, ← header.splices, ← header.rows, ← e0, ← e1, ← e2, ← e3, ← e4, ← e5) at in_front,
+sections_image bytes h x is_bytes header none are =
+    let back = whole_back bytes is_bytes none in
+    let in_front = records_back bytes (image_of bytes) back.0 back.1 in
+    let nodes : first_fault node_record_fault (records 32 (node_count bytes) (from_nodes bytes)) ≡ None = (else_none _ _ (else_none _ _ (else_none _ _ none).1).1).0 in (
+      rw (← header.version, ← header.sources, ← header.nodes, ← header.revisions, ← header.splices, ← header.rows, ← are.sources, ← are.nodes, ← are.revisions, ← are.splices, ← are.rows, ← are.pool) at back.0,
+      rw (← header.sources, ← header.nodes, ← are.sources, ← are.nodes) at nodes,
+      rw (← header.sources, ← header.nodes, ← header.revisions, ← header.splices, ← header.rows, ← are.sources, ← are.nodes, ← are.revisions, ← are.splices, ← are.rows, ← are.pool) at in_front,
     )

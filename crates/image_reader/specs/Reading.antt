@@ -18,6 +18,7 @@ use Rattle.image_reader.specs.declared.command.Numbers.{Numbers}
 use Rattle.image_reader.specs.declared.fault.ReadFault.{ReadFault}
 use Rattle.image_reader.specs.declared.fault.ReadFault.TheVariants.{Truncated, Trailing, Magic, Version, Count, NonZeroPad, Kind}
 use Rattle.image_reader.specs.declared.header.Header.{Header}
+use Rattle.image_reader.specs.declared.section.Sections.{Sections}
 use Rattle.image_reader.specs.declared.revision.Revision.{Revision}
 use Rattle.image_reader.specs.declared.version.FormatVersion.{FormatVersion}
 use Rattle.image_reader.specs.Layout.{number_in, records}
@@ -219,6 +220,15 @@ pub record HasRoom (s : ℕ) (sources : List ℕ) (n : ℕ) (nodes : List ℕ) (
   pub for_revisions : REVISION_SIZE * k ≤ length revisions
   pub for_splices : SPLICE_SIZE * i ≤ length splices
   pub for_rows : ROW_SIZE * j ≤ length rows
+
+-- these are the bytes from each section on, by the numbers of a header
+pub record AreSections (h : Header) (bytes : List ℕ) (x : Sections) : Type 0 where
+  pub sources : x.sources.now ≡ drop HEADER_SIZE bytes
+  pub nodes : x.nodes.now ≡ drop (SOURCE_SIZE * h.sources) x.sources.now
+  pub revisions : x.revisions.now ≡ drop (NODE_SIZE * h.nodes) x.nodes.now
+  pub splices : x.splices.now ≡ drop (REVISION_SIZE * h.revisions) x.revisions.now
+  pub rows : x.rows.now ≡ drop (SPLICE_SIZE * h.splices) x.splices.now
+  pub pool : x.pool.now ≡ drop (ROW_SIZE * h.rows) x.rows.now
 
 -- what sections say, each given with its number of records and with the bytes from it on
 unfoldable pub sections_value : FormatVersion → ℕ → List ℕ → ℕ → List ℕ → ℕ → List ℕ → ℕ → List ℕ → ℕ → List ℕ → List ℕ

@@ -8,16 +8,16 @@ ghost use Rattle.rope_node.specs.Table.{view_at, len_at, depth_at};
 ghost use Rattle.image_reader.specs.Value.{ImageValue, IsImage, function_at, image_table};
 ghost use Rattle.image_reader.specs.Accepted.{revision_at, splices_before};
 ghost use Rattle.image_reader.specs.Spelling.{spelling, records_spelling};
-ghost use Rattle.image_reader.specs.Reading.{fault_of, image_of};
+ghost use Rattle.image_reader.specs.Reading.{fault_of, image_of, whole_len, HasHeader};
 
 use crate::decode::{mark_in, revision_in, root_in, row_in, source_in, splice_in};
 use crate::fault::ReadFault;
-use crate::header::read_header;
-use crate::layout::{HEADER_SIZE, NODE_SIZE, REVISION_SIZE, ROW_SIZE, SOURCE_SIZE, SPLICE_SIZE};
+use crate::header::{Header, read_header};
+use crate::layout::{NODE_SIZE, REVISION_SIZE, ROW_SIZE, SOURCE_SIZE, SPLICE_SIZE};
 use crate::node::{depth_in, function_in, len_in, view_in};
-use crate::number::{bytes_before, bytes_from, cell_at};
+use crate::number::{bytes_before, cell_at};
 use crate::revision::Revision;
-use crate::section::check_sections;
+use crate::section::{check_sections, sections_of};
 use crate::version::FormatVersion;
 use function_leaf::Coded;
 use rope_node::{NodeId, NodeView, Rope};
@@ -74,6 +74,31 @@ fn is_function(view: NodeView) -> bool
 }
 
 impl<'a> Image<'a> {
+    /// Cuts the bytes of an image into sections, by its header.
+    fn cut(bytes: &'a [u8], header: &Header) -> Image<'a>
+        requires read { fault_of bytes.now ≡ None }
+        requires numbers { HasHeader bytes.now header.now }
+        requires whole { length bytes.now ≡ whole_len header.now }
+        ensures { result ≡ image_of bytes.now }
+    {
+        let sections = sections_of(header, bytes);
+        Image {
+            version: header.version,
+            source_count: header.sources,
+            node_count: header.nodes,
+            revision_count: header.revisions,
+            splice_count: header.splices,
+            row_count: header.rows,
+            recorded: bytes_before(sections.sources, sections.pool.len()),
+            sources: sections.sources,
+            nodes: sections.nodes,
+            revisions: sections.revisions,
+            splices: sections.splices,
+            rows: sections.rows,
+            pool: sections.pool,
+        }
+    }
+
     /// Cuts the bytes into sections, where no record has a fault.
     #[tactic(auto, unfolding(crate::specs::Reading::fault_of))]
     fn read_sections(bytes: &'a [u8]) -> Result<Image<'a>, ReadFault>
@@ -81,28 +106,8 @@ impl<'a> Image<'a> {
         ensures value { IfOk result (λ v. v ≡ image_of bytes.now) }
     {
         let header = read_header(bytes)?;
-        let sources = bytes_from(bytes, HEADER_SIZE);
-        let nodes = bytes_from(sources, SOURCE_SIZE * header.sources as usize);
-        let revisions = bytes_from(nodes, NODE_SIZE * header.nodes as usize);
-        let splices = bytes_from(revisions, REVISION_SIZE * header.revisions as usize);
-        let rows = bytes_from(splices, SPLICE_SIZE * header.splices as usize);
-        let pool = bytes_from(rows, ROW_SIZE * header.rows as usize);
-        check_sections(&header, sources, nodes, revisions, rows)?;
-        Ok(Image {
-            version: header.version,
-            source_count: header.sources,
-            node_count: header.nodes,
-            revision_count: header.revisions,
-            splice_count: header.splices,
-            row_count: header.rows,
-            recorded: bytes_before(sources, pool.len()),
-            sources,
-            nodes,
-            revisions,
-            splices,
-            rows,
-            pool,
-        })
+        check_sections(&header, &sections_of(&header, bytes))?;
+        Ok(Image::cut(bytes, &header))
     }
 
     /// Reads an image from all of the bytes. It takes no memory.
@@ -119,6 +124,18 @@ impl<'a> Image<'a> {
         ensures fault { result_err result ≡ fault_of bytes.now }
     {
         Image::read_sections(bytes)
+    }
+
+    /// The image of bytes that were read before, by their header alone. It takes no memory.
+    #[tactic(auto, unfolding(crate::specs::Reading::fault_of))]
+    pub fn again(bytes: &'a [u8]) -> Image<'a>
+        requires { fault_of bytes.now ≡ None }
+        ensures { result ≡ image_of bytes.now }
+    {
+        match read_header(bytes) {
+            Ok(header) => Image::cut(bytes, &header),
+            Err(_) => unreachable!(),
+        }
     }
 
     /// The same image once more. It takes no memory.

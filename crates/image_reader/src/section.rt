@@ -7,16 +7,16 @@ ghost use Rattle.image_reader.specs.declared.layout.TheConstants.{NODE_SIZE, REV
 ghost use Rattle.image_reader.specs.Versions.{last_code};
 ghost use Rattle.span_certificate.specs.declared.codes.TheConstants.{BALANCE, MANY};
 ghost use Rattle.image_reader.specs.Layout.{records};
-ghost use Rattle.image_reader.specs.Reading.{source_record_fault, node_record_fault, revision_record_fault, row_record_fault, first_fault, any_nonzero, unused_in_revision, unused_in_row, sections_fault};
+ghost use Rattle.image_reader.specs.Reading.{source_record_fault, node_record_fault, revision_record_fault, row_record_fault, first_fault, any_nonzero, unused_in_revision, unused_in_row, sections_fault, whole_len, AreSections, HasRoom};
 
 use crate::codes::{BYTES_ROW, SHARED_ROW};
 use crate::command::{edit_by, has_unused_number, numbers_in};
 use crate::decode::{counted_rows, counted_splices};
 use crate::fault::ReadFault;
 use crate::header::Header;
-use crate::layout::{NODE_SIZE, REVISION_SIZE, ROW_SIZE, SOURCE_SIZE};
+use crate::layout::{HEADER_SIZE, NODE_SIZE, REVISION_SIZE, ROW_SIZE, SOURCE_SIZE, SPLICE_SIZE};
 use crate::node::{has_unused_node_field, is_unknown_node};
-use crate::number::{u8_in, u16_in, u32_in, u64_in};
+use crate::number::{bytes_from, u8_in, u16_in, u32_in, u64_in};
 use crate::version::FormatVersion;
 use rope_node::TEXT_LIMIT;
 use span_certificate::codes::{BALANCE, MANY, NEW};
@@ -49,32 +49,61 @@ pub fn check_each<R: RecordKind>(count: u32, bytes: &[u8]) -> Result<(), ReadFau
     Ok(())
 }
 
+/// The bytes from each section on.
+#[derive(Drop)]
+pub struct Sections<'a> {
+    pub sources: &'a [u8],
+    pub nodes: &'a [u8],
+    pub revisions: &'a [u8],
+    pub splices: &'a [u8],
+    pub rows: &'a [u8],
+    pub pool: &'a [u8],
+}
+
+/// Cuts bytes, as many as their header states, into sections.
+pub fn sections_of<'a>(header: &Header, bytes: &'a [u8]) -> Sections<'a>
+    requires { length bytes.now ≡ whole_len header.now }
+    ensures sections { AreSections header.now bytes.now result }
+    ensures pool { length result.pool.now ≤ length result.sources.now }
+    ensures room { HasRoom header.now.sources result.sources.now header.now.nodes result.nodes.now
+        header.now.revisions result.revisions.now header.now.splices result.splices.now header.now.rows result.rows.now }
+{
+    let sources = bytes_from(bytes, HEADER_SIZE);
+    let nodes = bytes_from(sources, SOURCE_SIZE * header.sources as usize);
+    let revisions = bytes_from(nodes, NODE_SIZE * header.nodes as usize);
+    let splices = bytes_from(revisions, REVISION_SIZE * header.revisions as usize);
+    let rows = bytes_from(splices, SPLICE_SIZE * header.splices as usize);
+    let pool = bytes_from(rows, ROW_SIZE * header.rows as usize);
+    Sections {
+        sources,
+        nodes,
+        revisions,
+        splices,
+        rows,
+        pool,
+    }
+}
+
 /// Refuses sections with a fault: the first one's, section by section.
 #[tactic(auto, unfolding(crate::specs::Reading::sections_fault))]
-pub fn check_sections(
-    header: &Header,
-    sources: &[u8],
-    nodes: &[u8],
-    revisions: &[u8],
-    rows: &[u8],
-) -> Result<(), ReadFault>
-    requires sources { SOURCE_SIZE * header.now.sources ≤ length sources.now }
-    requires nodes { NODE_SIZE * header.now.nodes ≤ length nodes.now }
-    requires revisions { REVISION_SIZE * header.now.revisions ≤ length revisions.now }
-    requires rows { ROW_SIZE * header.now.rows ≤ length rows.now }
-    ensures { result_err result ≡ sections_fault header.now.version header.now.sources sources.now
-        header.now.nodes nodes.now header.now.revisions revisions.now header.now.splices header.now.rows rows.now }
+pub fn check_sections(header: &Header, sections: &Sections) -> Result<(), ReadFault>
+    requires { HasRoom header.now.sources sections.now.sources.now header.now.nodes sections.now.nodes.now
+        header.now.revisions sections.now.revisions.now header.now.splices sections.now.splices.now
+        header.now.rows sections.now.rows.now }
+    ensures { result_err result ≡ sections_fault header.now.version header.now.sources sections.now.sources.now
+        header.now.nodes sections.now.nodes.now header.now.revisions sections.now.revisions.now
+        header.now.splices header.now.rows sections.now.rows.now }
 {
-    check_each::<SourceRecords>(header.sources, sources)?;
-    check_each::<NodeRecords>(header.nodes, nodes)?;
-    check_revisions(header.version, header.revisions, revisions)?;
-    if counted_rows(header.revisions, revisions) != header.rows as u64 {
+    check_each::<SourceRecords>(header.sources, sections.sources)?;
+    check_each::<NodeRecords>(header.nodes, sections.nodes)?;
+    check_revisions(header.version, header.revisions, sections.revisions)?;
+    if counted_rows(header.revisions, sections.revisions) != header.rows as u64 {
         return Err(ReadFault::Count);
     }
-    if counted_splices(header.revisions, revisions) != header.splices as u64 {
+    if counted_splices(header.revisions, sections.revisions) != header.splices as u64 {
         return Err(ReadFault::Count);
     }
-    check_each::<RowRecords>(header.rows, rows)
+    check_each::<RowRecords>(header.rows, sections.rows)
 }
 
 /// The records of sources.

@@ -40,6 +40,16 @@ impl<'a> Model for Tables<'a> {
 }
 
 impl<'a> Tables<'a> {
+    /// The table of an image whose nodes were tested before.
+    pub(crate) fn again(image: Image<'a>) -> Tables<'a>
+        requires sound { IsSound (image_table image) }
+        requires true_records { HasTrueRecords (image_table image) }
+        ensures { result ≡ image.entry }
+    {
+        let _nodes = image.node_count();
+        Tables { image }
+    }
+
     /// The image that the nodes are of.
     pub fn image(&self) -> &Image<'a>
         ensures image { result.now ≡ self.now }
