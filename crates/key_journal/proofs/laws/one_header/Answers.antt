@@ -1,0 +1,5 @@
+use Rattle.key_journal.proofs.Cuts.{one_of}
+use Rattle.key_journal.proofs.laws.one_header.Goals as goal
+
+pub returns : goal.returns
+returns c = λ s t m n d e bytes small few len h k. one_of s t m n d e bytes small few len h k

@@ -1,0 +1,38 @@
+-- The header of a journal.
+use Rattle.std.specs.Prelude.{◌≡◌, ℕ, ◌-◌, List, [], ◌∷◌, ◌++◌, length, take, drop, nat_le, if◌then◌else◌, Option, IfSome}
+use Rattle.std.specs.Int.{w64, to_be_bytes}
+use Rattle.sha2.specs.declared.Sha256.{Sha256}
+use Rattle.sha2.specs.Hashers.{Holds256}
+use Rattle.sha2.specs.Sha256.{sha256}
+use Rattle.lazy_file.specs.SourceTexts.{Stated, text_at}
+use Rattle.key_journal.specs.declared.headers.TheConstants.{END_SIZE, WHOLE_LIMIT}
+
+-- CORDKEYS, the number 1, how many sources, the size of the first one, and a digest
+abbrev pub header_of : ℕ → ℕ → List ℕ → List ℕ
+header_of sources size digest =
+    0x43 ∷ 0x4F ∷ 0x52 ∷ 0x44 ∷ 0x4B ∷ 0x45 ∷ 0x59 ∷ 0x53 ∷ 0 ∷ 0 ∷ 0 ∷ 1 ∷ 0 ∷ 0 ∷ 0 ∷ sources
+    ∷ to_be_bytes w64 size ++ digest
+
+-- the bytes of a text of this size that are digested: all of them, or both of its ends
+abbrev pub digested : ℕ → List ℕ → List ℕ
+digested size text =
+    if nat_le size WHOLE_LIMIT then take size text
+    else (take END_SIZE text ++ take END_SIZE (drop (size - END_SIZE) text))
+
+-- the header over no sources, or over these, of which the first has this text, where that is known
+abbrev pub heads : List ℕ → Option (List ℕ) → List ℕ → Type 0
+heads [] first header = header ≡ header_of 0 0 (sha256 [])
+heads (size ∷ sizes) first header =
+    IfSome first (λ text. header ≡ header_of (length (size ∷ sizes)) size (sha256 (digested size text)))
+
+-- The header of the journal of a session over these sources.
+abbrev pub IsHeader : Stated → List ℕ → Type 0
+IsHeader st header = heads st.sizes (text_at st 0) header
+
+-- a place of the first source
+abbrev pub IsOfFirst : ℕ → ℕ → Type 0
+IsOfFirst s p = s ≡ 0
+
+-- a digest that n bytes of a text are taken into, from this place on
+abbrev pub TakesIn : List ℕ → ℕ → ℕ → Sha256 → Sha256 → Type 0
+TakesIn text off n old new = (m : List ℕ) → Holds256 old m → Holds256 new (m ++ take n (drop off text))

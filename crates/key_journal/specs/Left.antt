@@ -1,0 +1,17 @@
+-- What a reader whose bytes are kept has left, and what is kept.
+use Rattle.std.specs.Prelude.{ℕ, List, [], ◌∷◌, Option, Some, None, option_to_list}
+use Rattle.std.specs.Io.KnownBytes.{Consumes, IsAtEnd, prepend_known}
+use Rattle.key_journal.specs.declared.kept.Kept.{Kept}
+
+-- the byte that was read and not given, and what the inner reader has left
+abbrev pub keys_left : {R W : Type 0} → (R → Option (List ℕ)) → Kept R W → Option (List ℕ)
+keys_left remaining k = prepend_known (option_to_list k.held) (remaining k.inner)
+
+-- the bytes of the journal
+abbrev pub keys_kept : {R W : Type 0} → (W → Option (List ℕ)) → Kept R W → Option (List ℕ)
+keys_kept contents k = contents k.journal
+
+-- the next byte is the first, or there is none
+abbrev pub IsNextByte : Option (List ℕ) → Option (List ℕ) → Option ℕ → Type 0
+IsNextByte old new (Some b) = Consumes old new (b ∷ [])
+IsNextByte old new None = Consumes old new [] × IsAtEnd new

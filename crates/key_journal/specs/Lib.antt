@@ -1,0 +1,4 @@
+pub mod Keys
+pub mod Left
+pub mod Journal
+pub mod Headers

@@ -1,0 +1,139 @@
+//! The header of a journal: which session its keys belong to.
+
+ghost use Rattle.std.specs.Prelude.{◌≡◌, ◌+◌, ◌-◌, ◌<◌, ◌≤◌, ◌++◌, length, max, take, drop, IfOk, IfSome, OnOk};
+ghost use Rattle.sha2.specs.Sha256.{sha256};
+ghost use Rattle.lazy_file.specs.SourceTexts.{text_at};
+ghost use Rattle.lazy_file.specs.Readings.{InSpan, Reads, fault_in};
+ghost use Rattle.lazy_file.specs.declared.sources.TheConstants.{SOURCE_LIMIT};
+ghost use Rattle.key_journal.specs.declared.headers.TheConstants.{END_SIZE};
+ghost use Rattle.key_journal.specs.Headers.{IsHeader, IsOfFirst, TakesIn, digested, header_of};
+
+use lazy_file::{SourceFault, Sources};
+use sha2::{Digest, Sha256};
+
+/// The bytes of a header.
+pub const HEADER_SIZE: usize = 56;
+
+/// The most bytes of a text whose digest is of the whole of it.
+pub const WHOLE_LIMIT: u64 = 1 << 24;
+
+/// Of so many bytes at each end of a longer text its digest is.
+pub const END_SIZE: u64 = 1 << 20;
+
+/// The most bytes that are read at once.
+const CHUNK: usize = 4096;
+
+/// `CORDKEYS`, and the format's number 1.
+const FRONT: [u8; HEADER_SIZE] = [
+    0x43, 0x4F, 0x52, 0x44, 0x4B, 0x45, 0x59, 0x53, 0, 0, 0, 1, 0, 0, 0, 0, 0, 0, 0, 0, 0, 0, 0, 0,
+    0, 0, 0, 0, 0, 0, 0, 0, 0, 0, 0, 0, 0, 0, 0, 0, 0, 0, 0, 0, 0, 0, 0, 0, 0, 0, 0, 0, 0, 0, 0, 0,
+];
+
+/// Takes bytes of source 0 from place `off` on into a digest, as many as the buffer has.
+fn digest_run<S: Sources>(
+    sources: &mut S,
+    off: u64,
+    buffer: &mut [u8],
+    hasher: &mut Sha256,
+) -> Result<(), SourceFault>
+    ensures bytes { OnOk result (IfSome (text_at (S.reading sources.old).stated 0)
+        (λ t. TakesIn t off (length buffer.old) hasher.old hasher.new)) }
+    ensures reads { Reads (S.reading sources.old) (S.reading sources.new)
+        (InSpan 0 off (max 1 (length buffer.old))) (fault_in result) }
+{
+    sources.read(0, off, buffer)?;
+    hasher.update(&*buffer);
+    Ok(())
+}
+
+/// Takes `n` bytes of source 0 from place `off` on into a digest.
+fn digest_span<S: Sources>(
+    sources: &mut S,
+    off: u64,
+    n: u64,
+    hasher: &mut Sha256,
+) -> Result<(), SourceFault>
+    requires { off + n ≤ SOURCE_LIMIT }
+    ensures bytes { OnOk result (IfSome (text_at (S.reading sources.old).stated 0)
+        (λ t. TakesIn t off n hasher.old hasher.new)) }
+    ensures reads { Reads (S.reading sources.old) (S.reading sources.new) (InSpan 0 off n) (fault_in result) }
+{
+    let mut buffer = [0; CHUNK];
+    let mut done = 0;
+    while done < n {
+        let size = (n - done).min(CHUNK as u64) as usize;
+        digest_run(sources, off + done, &mut buffer[..size], hasher)?;
+        done += size as u64;
+    }
+    Ok(())
+}
+
+/// The digest of the whole of source 0.
+fn digest_whole<S: Sources>(sources: &mut S, size: u64) -> Result<[u8; 32], SourceFault>
+    requires { size ≤ SOURCE_LIMIT }
+    ensures bytes { IfOk result (λ digest. IfSome (text_at (S.reading sources.old).stated 0)
+        (λ t. digest ≡ sha256 (take size t))) }
+    ensures reads { Reads (S.reading sources.old) (S.reading sources.new) (InSpan 0 0 size) (fault_in result) }
+{
+    let mut hasher = Sha256::new();
+    digest_span(sources, 0, size, &mut hasher)?;
+    Ok(hasher.finalize())
+}
+
+/// The digest of both ends of source 0, one behind the other.
+fn digest_ends<S: Sources>(sources: &mut S, size: u64) -> Result<[u8; 32], SourceFault>
+    requires large { END_SIZE ≤ size }
+    requires limit { size ≤ SOURCE_LIMIT }
+    ensures bytes { IfOk result (λ digest. IfSome (text_at (S.reading sources.old).stated 0)
+        (λ t. digest ≡ sha256 (take END_SIZE t ++ take END_SIZE (drop (size - END_SIZE) t)))) }
+    ensures reads { Reads (S.reading sources.old) (S.reading sources.new) (InSpan 0 0 size) (fault_in result) }
+{
+    let mut hasher = Sha256::new();
+    digest_span(sources, 0, END_SIZE, &mut hasher)?;
+    digest_span(sources, size - END_SIZE, END_SIZE, &mut hasher)?;
+    Ok(hasher.finalize())
+}
+
+/// The digest of source 0.
+fn digest<S: Sources>(sources: &mut S, size: u64) -> Result<[u8; 32], SourceFault>
+    requires { size ≤ SOURCE_LIMIT }
+    ensures bytes { IfOk result (λ digest. IfSome (text_at (S.reading sources.old).stated 0)
+        (λ t. digest ≡ sha256 (digested size t))) }
+    ensures reads { Reads (S.reading sources.old) (S.reading sources.new) (InSpan 0 0 size) (fault_in result) }
+{
+    if size <= WHOLE_LIMIT {
+        digest_whole(sources, size)
+    } else {
+        digest_ends(sources, size)
+    }
+}
+
+/// The header of sources so many, of which the first has this size and this digest.
+fn spelled(sources: u8, size: u64, digest: &[u8; 32]) -> [u8; HEADER_SIZE]
+    ensures { result ≡ header_of sources size digest.now }
+{
+    let mut bytes = FRONT;
+    bytes[15] = sources;
+    bytes[16..24].copy_from_slice(&size.to_be_bytes());
+    bytes[24..].copy_from_slice(digest);
+    bytes
+}
+
+/// The header of the journal of a session over these sources, of which it reads the first: all of it where that has at most
+/// `WHOLE_LIMIT` bytes, else `END_SIZE` bytes at each of its ends.
+///
+/// # Errors
+///
+/// Those of the one read that failed.
+pub fn header_over<S: Sources>(sources: &mut S) -> Result<[u8; HEADER_SIZE], SourceFault>
+    ensures header { IfOk result (IsHeader (S.reading sources.old).stated) }
+    ensures reads { Reads (S.reading sources.old) (S.reading sources.new) IsOfFirst (fault_in result) }
+{
+    let count = sources.count();
+    if count == 0 {
+        return Ok(spelled(0, 0, &Sha256::new().finalize()));
+    }
+    let size = sources.len(0);
+    let digest = digest(sources, size)?;
+    Ok(spelled(count, size, &digest))
+}
