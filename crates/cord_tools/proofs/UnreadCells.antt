@@ -107,10 +107,12 @@ put_is_read (Put.Source e) is = refl
 
 find_told : {X : Type 0} (e : FindFault) (f : SourceFault) → find_source_fault e ≡ Some f → IsErrOf {T = X} (Err (find_fault e)) (read_fault f)
 find_told Find.PatternTooLong f is = absurd (not_some f is)
+find_told Find.Memory f is = absurd (not_some f is)
 find_told (Find.Source e) f is = read_told e f is
 
 find_is_read : {X : Type 0} (e : FindFault) → IsErrOf {T = X} (Err (find_fault e)) Read → IsSome (find_source_fault e)
 find_is_read Find.PatternTooLong is = absurd cc
+find_is_read Find.Memory is = absurd cc
 find_is_read (Find.Source e) is = refl
 
 -- a rope was not written, or it was not written to its end

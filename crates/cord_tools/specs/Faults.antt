@@ -60,6 +60,7 @@ put_fault Put.Write = Write
 abbrev pub find_fault : FindFault → ToolFault
 find_fault Find.PatternTooLong = PatternTooLong
 find_fault (Find.Source fault) = read_fault fault
+find_fault Find.Memory = Memory
 
 abbrev pub rope_fault : BalanceFault → ToolFault
 rope_fault Balance.TooManyPieces = Rope Balance.TooManyPieces

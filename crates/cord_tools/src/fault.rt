@@ -124,6 +124,7 @@ impl From<FindFault> for ToolFault {
         match fault {
             FindFault::PatternTooLong => ToolFault::PatternTooLong,
             FindFault::Source(fault) => ToolFault::from(fault),
+            FindFault::Memory => ToolFault::Memory,
         }
     }
 }
