@@ -2,7 +2,7 @@
 
 use anyhow::Result;
 use function_leaf::Coded;
-use leaf_buffer::{BLOCK_SIZE, LeafFault, Pool};
+use leaf_buffer::{BLOCK_SIZE, LeafError, Pool};
 use node_table::NodeFault;
 use rope_node::{MOST_NODES, NodeSpace};
 use rope_store::Store;
@@ -34,7 +34,7 @@ fn fill_store(store: &mut Store<Coded>) -> Option<NodeFault> {
 }
 
 /// Adds blocks of bytes to a pool until one is refused.
-fn fill_pool(pool: &mut Pool) -> Option<LeafFault> {
+fn fill_pool(pool: &mut Pool) -> Option<LeafError> {
     for _ in 0..BLOCKS {
         if let Err(fault) = pool.append(BLOCK) {
             return Some(fault);

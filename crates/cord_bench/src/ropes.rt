@@ -6,7 +6,7 @@ ghost use Rattle.rope_node.specs.Denotes.{IsRope};
 ghost use Rattle.node_table.specs.Held.{table_of};
 
 use anyhow::Result;
-use cord_position::{Pos, fetch_byte};
+use cord_position::{Pos, fetch};
 use function_leaf::Coded;
 use lazy_file::{MemSources, SourceFault};
 use node_table::NodeFault;
@@ -86,13 +86,13 @@ fn take_parts(store: &mut Store<Coded>, text: Rope) -> Result<(), NodeFault>
 }
 
 /// Bytes of a text, at random places, put into one.
-fn fetch(alloc: Global, store: &Store<Coded>, text: Rope) -> Result<u8, SourceFault>
+fn fetch_often(alloc: Global, store: &Store<Coded>, text: Rope) -> Result<u8, SourceFault>
     requires { IsRope (table_of coded_byte store.now) text }
 {
     let mut sources = MemSources::new(alloc);
     let mut all = 0;
     for k in 0..COUNT {
-        if let (Some(byte), _) = fetch_byte(store, &mut sources, text, place(k, MEGABYTE))? {
+        if let (Some(byte), _) = fetch(store, &mut sources, text, place(k, MEGABYTE))? {
             all ^= byte;
         }
     }
@@ -149,7 +149,7 @@ pub fn time_fetches(rt: &HostRuntime) -> Result<()> {
     let mut store = Store::new(rt.alloc());
     let text = megabyte(&mut store)?;
     let start = Instant::now(rt)?;
-    fetch(rt.alloc(), &store, text)?;
+    fetch_often(rt.alloc(), &store, text)?;
     report(rt, "a fetch in a megabyte", start)
 }
 

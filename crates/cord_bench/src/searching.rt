@@ -1,6 +1,6 @@
-//! A pattern at the end of a megabyte that was edited, beside the same bytes in one piece.
+//! A pattern at the end of a megabyte, of a source or of literals, edited or not, beside the same bytes in one piece.
 
-ghost use Rattle.std.specs.Prelude.{IfOk};
+ghost use Rattle.std.specs.Prelude.{◌<◌, IfOk};
 ghost use Rattle.function_leaf.specs.Coded.{coded_byte};
 ghost use Rattle.rope_node.specs.Denotes.{IsRope};
 ghost use Rattle.node_table.specs.Held.{table_of};
@@ -24,6 +24,11 @@ const INSERTIONS: [u32; 3] = [10, 100, 1000];
 /// What is looked for.
 const NEEDLE: &[u8] = b"the very end";
 
+/// So many bytes has a long literal, and a short one.
+const LONG: usize = 65_536;
+
+const SHORT: usize = 64;
+
 /// So often each search is made.
 const TIMES: u32 = 100;
 
@@ -36,11 +41,24 @@ fn letters(rt: &HostRuntime) -> Result<Vec<u8>> {
     Ok(bytes)
 }
 
-/// A megabyte of a source with insertions at random places, and what is looked for at its end.
-fn edited(store: &mut Store<Coded>, insertions: u32) -> Result<Rope, BalanceFault>
+/// Bytes in literals of so many, one behind the other.
+fn in_literals(store: &mut Store<Coded>, bytes: &[u8], len: usize) -> Result<Rope, BalanceFault>
+    requires { 0 < len }
     ensures { IfOk result (IsRope (table_of coded_byte store.new)) }
 {
-    let text = open(store)?;
+    let mut text = None;
+    for piece in bytes.chunks(len) {
+        let leaf = store.from_bytes(piece)?;
+        text = cat_any(store, text, leaf)?;
+    }
+    Ok(text)
+}
+
+/// A text with insertions at random places, and what is looked for at its end.
+fn edited(store: &mut Store<Coded>, text: Rope, insertions: u32) -> Result<Rope, BalanceFault>
+    requires { IsRope (table_of coded_byte store.old) text }
+    ensures { IfOk result (IsRope (table_of coded_byte store.new)) }
+{
     let text = insert_often(store, text, insertions)?;
     let longer = store.append(text, NEEDLE)?;
     Ok(longer)
@@ -71,40 +89,69 @@ fn find_plain_often(bytes: &[u8]) -> u64 {
     sum
 }
 
-/// Prints how long a search took.
-fn report(rt: &HostRuntime, work: &str, insertions: u32, start: Instant) -> Result<()> {
-    let taken = start.elapsed(rt)?.as_micros() / TIMES as u128;
-    let line = format!(in rt.alloc(); "{work}, {insertions} insertions")?;
-    eprintln!(rt; "  {line:<34} {taken:>6} us")?;
+/// Prints how long each search took.
+fn report(rt: &HostRuntime, work: &str, text: &str, start: Instant) -> Result<()> {
+    let taken = start.elapsed(rt)?.as_nanos() / TIMES as u128;
+    let line = format!(in rt.alloc(); "{work}: {text}")?;
+    eprintln!(rt; "  {line:<34} {taken:>6} ns")?;
     Ok(())
 }
 
-fn time_after(rt: &HostRuntime, insertions: u32) -> Result<()> {
-    let bytes = letters(rt)?;
-    let mut sources = MemSources::new(rt.alloc());
-    sources.add(bytes.as_slice())?;
-    let mut store = Store::new(rt.alloc());
-    let text = edited(&mut store, insertions)?;
+/// Times the search of a text, beside that of its bytes in one piece.
+fn time_text(
+    rt: &HostRuntime,
+    name: &str,
+    store: &Store<Coded>,
+    sources: &mut MemSources<'_>,
+    text: Rope,
+) -> Result<()>
+    requires { IsRope (table_of coded_byte store.now) text }
+{
     let mut plain = Vec::new(rt.alloc());
-    if put(rt.alloc(), &store, &mut sources, text, &mut plain).is_err() {
+    if put(rt.alloc(), store, sources, text, &mut plain).is_err() {
         bail!("the text was not written whole");
     }
     let start = Instant::now(rt)?;
-    let places = find_often(rt.alloc(), &store, &mut sources, text)?;
-    report(rt, "a search", insertions, start)?;
+    let places = find_often(rt.alloc(), store, sources, text)?;
+    report(rt, "a search", name, start)?;
     let start = Instant::now(rt)?;
     let same = find_plain_often(plain.as_slice()) == places;
-    report(rt, "of plain bytes", insertions, start)?;
+    report(rt, "one piece", name, start)?;
     if !same {
         bail!("the searches differ");
     }
     Ok(())
 }
 
-/// Times a search for a pattern at the end of a megabyte after so many insertions.
+fn time_source(rt: &HostRuntime, bytes: &[u8], insertions: u32) -> Result<()> {
+    let mut sources = MemSources::new(rt.alloc());
+    sources.add(bytes)?;
+    let mut store = Store::new(rt.alloc());
+    let text = open(&mut store)?;
+    let text = edited(&mut store, text, insertions)?;
+    let name = format!(in rt.alloc(); "source, {insertions} edits")?;
+    time_text(rt, name.as_str(), &store, &mut sources, text)
+}
+
+fn time_literals(rt: &HostRuntime, bytes: &[u8], len: usize, insertions: u32) -> Result<()>
+    requires { 0 < len }
+{
+    let mut sources = MemSources::new(rt.alloc());
+    let mut store = Store::new(rt.alloc());
+    let text = in_literals(&mut store, bytes, len)?;
+    let text = edited(&mut store, text, insertions)?;
+    let name = format!(in rt.alloc(); "{len} each, {insertions} edits")?;
+    time_text(rt, name.as_str(), &store, &mut sources, text)
+}
+
+/// Times searches for a pattern at the end of a megabyte: of a source and of long literals after so many insertions, and of short literals.
 pub fn time(rt: &HostRuntime) -> Result<()> {
+    let bytes = letters(rt)?;
     for insertions in INSERTIONS {
-        time_after(rt, insertions)?;
+        time_source(rt, bytes.as_slice(), insertions)?;
     }
-    Ok(())
+    for insertions in INSERTIONS {
+        time_literals(rt, bytes.as_slice(), LONG, insertions)?;
+    }
+    time_literals(rt, bytes.as_slice(), SHORT, 0)
 }

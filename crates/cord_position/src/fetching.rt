@@ -18,7 +18,7 @@ use rope_node::{NodeSpace, Rope, find_leaf};
 /// # Errors
 ///
 /// A source's fault, where the byte is one of that source and the read of it failed.
-pub fn fetch_byte<S: NodeSpace, T: Sources>(
+pub fn fetch<S: NodeSpace, T: Sources>(
     space: &S,
     sources: &mut T,
     rope: Rope,

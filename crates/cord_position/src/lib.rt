@@ -1,13 +1,13 @@
 //! The byte at a place of a rope, and positions in its text.
 #![tactic(auto)]
 
-mod fetch;
+mod fetching;
 mod fill;
 mod leaf;
 mod path;
 mod position;
 mod run;
 
-pub use fetch::fetch_byte;
+pub use fetching::fetch;
 pub use fill::{fill_part, fill_source};
 pub use position::Pos;

@@ -7,7 +7,7 @@ ghost use Rattle.cord_position.specs.Fetched.{IsFetched, ReadsSpan};
 ghost use Rattle.cord_position.specs.Position.{bytes_here, cell_of, cells_here, left_here, text_len};
 ghost use Rattle.cord_position.specs.Runs.{rope_span, AreBytesOf, IsRun, IsRunPeriod, IsRunStart};
 
-use crate::fetch::fetch_here;
+use crate::fetching::fetch_here;
 use crate::fill::fill_part;
 use crate::path::{Path, Step, holds, seek};
 use crate::run::{find_period, find_run, literal_run, run_at};

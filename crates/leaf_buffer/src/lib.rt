@@ -11,7 +11,7 @@ mod room;
 mod run;
 
 pub use block::BLOCK_SIZE;
-pub use fault::LeafFault;
+pub use fault::LeafError;
 pub use piece::Piece;
 pub use pool::{POOL_LIMIT, Pool};
 pub use run::Run;

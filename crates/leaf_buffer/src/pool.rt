@@ -6,7 +6,7 @@ ghost use Rattle.leaf_buffer.specs.Contents.{IsInOneBlock, KeepsPieces, IsLastPi
 ghost use Rattle.leaf_buffer.specs.Blocks.{AreConsecutive, IsLastBlock, IsBlockOf};
 
 use crate::block::{BLOCK_SIZE, Block};
-use crate::fault::LeafFault;
+use crate::fault::LeafError;
 use crate::piece::Piece;
 use crate::placed::PlacedBlock;
 use std::alloc::{AllocError, Global};
@@ -107,14 +107,14 @@ impl Pool {
     ///
     /// `Empty` where there are no bytes, `TooLong` for more than 65,536 of them, `PoolFull` where
     /// the pool would be longer than 2^32 - 1 bytes, `Memory` where none was given for a new block.
-    pub fn append(&mut self, bytes: &[u8]) -> Result<Piece, LeafFault>
+    pub fn append(&mut self, bytes: &[u8]) -> Result<Piece, LeafError>
         ensures piece { IfOk result (λ p. p ≡ record { start = length self.old.bytes; len = length bytes.now }) }
         ensures ok { OnOk result (self.new ≡ appended self.old bytes.now) }
 
-        ensures empty { IsErrOf result LeafFault.Empty ↔ (length bytes.now ≡ 0) }
-        ensures too_long { IsErrOf result LeafFault.TooLong ↔ (BLOCK_SIZE < length bytes.now) }
-        ensures full { IsErrOf result LeafFault.PoolFull ↔ IsPoolFull self.old (length bytes.now) }
-        ensures memory { IsErrOf result LeafFault.Memory → self.old.room < length bytes.now }
+        ensures empty { IsErrOf result LeafError.Empty ↔ (length bytes.now ≡ 0) }
+        ensures too_long { IsErrOf result LeafError.TooLong ↔ (BLOCK_SIZE < length bytes.now) }
+        ensures full { IsErrOf result LeafError.PoolFull ↔ IsPoolFull self.old (length bytes.now) }
+        ensures memory { IsErrOf result LeafError.Memory → self.old.room < length bytes.now }
         ensures succeeds { Takes self.old (length bytes.now) → IsOk result }
         ensures err { OnErr result (self.new ≡ self.old) }
 
@@ -123,13 +123,13 @@ impl Pool {
     {
         let len = self.len();
         if bytes.is_empty() {
-            return Err(LeafFault::Empty);
+            return Err(LeafError::Empty);
         }
         if bytes.len() > BLOCK_SIZE {
-            return Err(LeafFault::TooLong);
+            return Err(LeafError::TooLong);
         }
         if len + bytes.len() as u64 >= POOL_LIMIT {
-            return Err(LeafFault::PoolFull);
+            return Err(LeafError::PoolFull);
         }
         Ok(self.put(bytes)?)
     }

@@ -17,7 +17,7 @@ ghost use Rattle.session_checker.specs.Faithful.{IsFaithful, HasTrueRecordsOf, I
 use crate::fault::CheckFault;
 use crate::revision_rules::revisions_counted;
 use crate::tables::{Tables, passed, tables_within};
-use cord_position::fetch_byte;
+use cord_position::fetch;
 use function_leaf::Coded;
 use image_reader::{Image, Revisions};
 use lazy_file::{SourceFault, Sources};
@@ -125,7 +125,7 @@ impl<'a> Checked<'a> {
             (fetched_cell self.now k) i (i + 1) result }
     {
         match self.root(k) {
-            Some(root) => fetch_byte(&self.tables, sources, root, i),
+            Some(root) => fetch(&self.tables, sources, root, i),
             None => Ok((None, 0)),
         }
     }

@@ -1,9 +1,9 @@
 use super::assert_same;
-use leaf_buffer::{LeafFault, Piece, Pool, Run};
+use leaf_buffer::{LeafError, Piece, Pool, Run};
 
 // What a call ensures is not needed to prove a test, so each stands in a function of its own that ensures nothing.
 
-fn append(pool: &mut Pool, bytes: &[u8]) -> Result<Piece, LeafFault> {
+fn append(pool: &mut Pool, bytes: &[u8]) -> Result<Piece, LeafError> {
     pool.append(bytes)
 }
 
@@ -40,8 +40,8 @@ fn piece_past_the_room_opens_a_block(rt: HostRuntime) {
     let mut pool = Pool::new(rt.alloc());
     for (bytes, outcome, room) in [
         (b"abcde".as_slice(), Ok(piece(0, 5)), 65_531),
-        (b"", Err(LeafFault::Empty), 65_531),
-        (&full, Err(LeafFault::TooLong), 65_531),
+        (b"", Err(LeafError::Empty), 65_531),
+        (&full, Err(LeafError::TooLong), 65_531),
         (&full[1..], Ok(piece(5, 65_536)), 0),
         (b"b", Ok(piece(65_541, 1)), 65_535),
     ] {
@@ -81,10 +81,10 @@ fn run_moves_over_text_and_back(rt: HostRuntime) {
 #[test]
 fn refusals_print_their_codes(rt: HostRuntime) {
     for (fault, code) in [
-        (LeafFault::Empty, "L1"),
-        (LeafFault::TooLong, "L2"),
-        (LeafFault::PoolFull, "L3"),
-        (LeafFault::Memory, "Memory"),
+        (LeafError::Empty, "L1"),
+        (LeafError::TooLong, "L2"),
+        (LeafError::PoolFull, "L3"),
+        (LeafError::Memory, "Memory"),
     ] {
         let printed = fault.to_string(rt.alloc()).expect(&rt, "memory");
         assert_same(&rt, &printed.as_str(), &code);

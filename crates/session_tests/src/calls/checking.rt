@@ -7,7 +7,7 @@ use super::records::{
 };
 use super::texts::{assert_shown, counts, counts_alone};
 use super::{assert_same, assert_same_at};
-use cord_position::fetch_byte;
+use cord_position::fetch;
 use image_reader::{Image, ReadFault};
 use lazy_file::{FileSources, MemSources, SourceFault};
 use rope_node::{NodeId, NodeSpace};
@@ -70,7 +70,7 @@ fn table_that_passed_is_fetched_from(rt: HostRuntime) {
     for (i, found) in [(0, (Some(b'c'), 4)), (1, (Some(b'd'), 4)), (2, (None, 0))] {
         assert_same_at(
             &rt,
-            &fetch_byte(&tables, &mut none, root, i),
+            &fetch(&tables, &mut none, root, i),
             &Ok(found),
             &i,
         );

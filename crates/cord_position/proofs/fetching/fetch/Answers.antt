@@ -8,7 +8,7 @@ use Rattle.std.proofs.Common.{◌<◌, length, subst, arith}
 use Rattle.rope_node.specs.Denotes.{IsRope}
 use Rattle.cord_position.specs.Fetched.{IsByteOf}
 use Rattle.cord_position.proofs.RopeBytes.{fetched_inside, fetched_past}
-use Rattle.cord_position.proofs.fetch.fetch_byte.Goals as goal
+use Rattle.cord_position.proofs.fetching.fetch.Goals as goal
 
 pub returns-in_ok-byte-in-Some-clause-byte : goal.returns-in_ok-byte-in-Some-clause-byte
 returns-in_ok-byte-in-Some-clause-byte g c =

@@ -7,7 +7,7 @@ use Rattle.leaf_buffer.specs.Progress.{leaf_of}
 use Rattle.cord_position.proofs.RunLaws.{byte_here, held_here}
 use Rattle.cord_position.proofs.HereLaws.{fetched_here, fetched_literal, fetched_none, here_cell}
 use Rattle.cord_position.proofs.LeafParts.{moved}
-use Rattle.cord_position.proofs.fetch.fetch_here.Goals as goal
+use Rattle.cord_position.proofs.fetching.fetch_here.Goals as goal
 
 pub returns-in-Some-clause-byte : goal.returns-in-Some-clause-byte
 returns-in-Some-clause-byte g c =
