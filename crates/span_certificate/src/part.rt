@@ -1,6 +1,6 @@
 //! The parts of which a command makes its text.
 
-ghost use Rattle.std.specs.Prelude.{◌≡◌, ◌+◌, ◌≤◌};
+ghost use Rattle.std.specs.Prelude.{◌≡◌, ◌+◌, ◌<◌, ◌≤◌, length, get_or};
 ghost use Rattle.rope_node.specs.Denotes.{rope_len, IsRope};
 ghost use Rattle.span_certificate.specs.Parts.{part_len, front, rest, whole};
 
@@ -35,6 +35,15 @@ impl Part {
 
 /// A part of no bytes.
 pub const NO_PART: Part = Part::Pool { a: 0, n: 0 };
+
+/// The whole of source `s`.
+pub fn opened<S: NodeSpace>(space: &S, s: u32) -> Part
+    requires { s < length (S.table space.now).sources }
+    ensures { result ≡ Part.Source s (get_or (S.table space.now).sources s 0) }
+{
+    let n = space.source_len(s);
+    Part::Source { s, n }
+}
 
 /// A rope up to place `p`.
 pub fn front(rope: Rope, p: u64) -> Part

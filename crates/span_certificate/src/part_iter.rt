@@ -7,7 +7,7 @@ ghost use Rattle.span_certificate.specs.declared.pieces.TheConstants.{READY};
 ghost use Rattle.span_certificate.specs.Parts.{nonempty, front, rest, parts_of, IsInRange, AreRopes, AreParts};
 
 use crate::edit::Edit;
-use crate::part::{NO_PART, Part, front, rest, whole};
+use crate::part::{NO_PART, Part, front, opened, rest, whole};
 use crate::pieces::{Pieces, READY};
 use crate::roots::Roots;
 use crate::splices::Splices;
@@ -139,10 +139,7 @@ pub fn parts<'a, S: NodeSpace, R: Roots, P: Splices>(
 {
     match *edit {
         Edit::New => PartIter::few([NO_PART; READY], READY, splices),
-        Edit::Open { s } => {
-            let n = space.source_len(s);
-            PartIter::one(Part::Source { s, n }, splices)
-        }
+        Edit::Open { s } => PartIter::one(opened(space, s), splices),
         Edit::Insert { r, p, a, n } => {
             PartIter::around(space, roots.root(r), p, 0, Part::Pool { a, n }, splices)
         }

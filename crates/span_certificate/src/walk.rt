@@ -102,24 +102,29 @@ pub fn leaf_of<S: CountedSpace<L>, L: Ledger>(space: &S, x: Span, count: &mut Co
 /// The row for two leaf spans of one length and the same cells.
 fn leaf_row<S: CountedSpace<L>, L: Ledger>(
     space: &S,
-    x: Reached,
-    y: Reached,
+    x: Span,
+    of_x: NodeView,
+    y: Span,
+    of_y: NodeView,
     count: &mut Count<L>,
 ) -> Row
     requires sound { IsSound (S.table space.now) }
-    requires x { IsLeafOf (S.table space.now) x.span x }
-    requires y { IsLeafOf (S.table space.now) y.span y }
-    requires len { y.span.len ≡ x.span.len }
-    requires same { span_cells (S.table space.now) x.span
-        ≡ span_cells (S.table space.now) y.span }
-    ensures row { IsRowOf (S.table space.now) (S.coded space.now) x.span y.span result }
-    ensures ends { GoesToLeafEnd x.span.len result.len result.kind }
+    requires x { IsSpan (S.table space.now) x }
+    requires of_x { of_x ≡ view_at (S.table space.now) x.node.0 }
+    requires leaf_x { IsLeaf of_x }
+    requires y { IsSpan (S.table space.now) y }
+    requires of_y { of_y ≡ view_at (S.table space.now) y.node.0 }
+    requires leaf_y { IsLeaf of_y }
+    requires len { y.len ≡ x.len }
+    requires same { span_cells (S.table space.now) x ≡ span_cells (S.table space.now) y }
+    ensures row { IsRowOf (S.table space.now) (S.coded space.now) x y result }
+    ensures ends { GoesToLeafEnd x.len result.len result.kind }
 {
     match (
-        describe(space, x.span.node, x.view, x.span.start, count),
-        describe(space, y.span.node, y.view, y.span.start, count),
+        describe(space, x.node, of_x, x.start, count),
+        describe(space, y.node, of_y, y.start, count),
     ) {
-        (Some(d), Some(e)) => described_row(d, e, x.span.len),
+        (Some(d), Some(e)) => described_row(d, e, x.len),
         _ => unreachable!(),
     }
 }
@@ -175,17 +180,7 @@ pub fn next_old<S: CountedSpace<L>, L: Ledger>(
         let of_a = space.look(a.node, count);
         let of_b = space.look(b.node, count);
         match (down::<S, L>(space, a, of_a), down::<S, L>(space, b, of_b)) {
-            (None, None) => {
-                let first = Reached {
-                    span: a,
-                    view: of_a,
-                };
-                let second = Reached {
-                    span: b,
-                    view: of_b,
-                };
-                return leaf_row(space, first, second, count);
-            }
+            (None, None) => return leaf_row(space, a, of_a, b, of_b, count),
             (Some(z), None) => {
                 a = z;
                 b = b.shortened(z.len);

@@ -1,5 +1,3 @@
-use Rattle.span_certificate.proofs.Steps.{reached_itself}
-use Rattle.span_certificate.proofs.FirstLeaves.{first_of_leaf}
 use Rattle.span_certificate.proofs.RowEnds.{walked_none, first_walked, second_walked, leaves_end}
 use Rattle.span_certificate.proofs.Walks.{reached_same, row_through}
 use Rattle.span_certificate.proofs.walk.next_old.Goals as goal
@@ -31,26 +29,6 @@ down-preserved-then-a-b-3 g c =
 pub down-preserved : goal.down-preserved
 down-preserved g c =
     rw c.shortened-a-else-a-b-3.ensures (second_walked (g.S.CountedSpace.table c.args.space.now) c.requires.sound c.requires.true_records c.args.x c.args.y c.down.a c.down.b c.in-Some-Some.w c.look-of_b.result c.requires.y c.look-of_b.ensures.view c.in-Some-Some.ensures'.exact c.down.invariant c.in-Some-Some.ensures'.below)
-
-pub leaf_row-requires-clause-x : goal.leaf_row-requires-clause-x
-leaf_row-requires-clause-x g c = record {
-  reached = reached_itself (g.S.CountedSpace.table c.args.space.now) c.down.a c.down.invariant.reached.first.is_span;
-  whole =
-      first_of_leaf (g.S.CountedSpace.table c.args.space.now) c.requires.sound c.down.a c.look-of_a.result
-      c.down.invariant.reached.first.is_span c.look-of_a.ensures.view (c.down-in-down.ensures.leaf c.in-None-None.is-0);
-  view = c.look-of_a.ensures.view;
-  leaf = c.down-in-down.ensures.leaf c.in-None-None.is-0;
-}
-
-pub leaf_row-requires-clause-y : goal.leaf_row-requires-clause-y
-leaf_row-requires-clause-y g c = record {
-  reached = reached_itself (g.S.CountedSpace.table c.args.space.now) c.down.b c.down.invariant.reached.second.is_span;
-  whole =
-      first_of_leaf (g.S.CountedSpace.table c.args.space.now) c.requires.sound c.down.b c.look-of_b.result
-      c.down.invariant.reached.second.is_span c.look-of_b.ensures.view (c.down-in-down-2.ensures.leaf c.in-None-None.is-1);
-  view = c.look-of_b.ensures.view;
-  leaf = c.down-in-down-2.ensures.leaf c.in-None-None.is-1;
-}
 
 pub returns-in-None-None-clause-longest : goal.returns-in-None-None-clause-longest
 returns-in-None-None-clause-longest g c =
