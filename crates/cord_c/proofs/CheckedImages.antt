@@ -1,0 +1,78 @@
+-- What a check answers over what sources state, at each of its ends.
+use Rattle.std.proofs.Common.{◌≡◌, ℕ, List, true, false, inl, inr, refl, sym, ap, subst, ◌∙◌}
+use Rattle.std.specs.Prelude.{Err, IsOk, None, Ok, Result}
+use Rattle.lazy_file.specs.SourceTexts.{AreSizes, Stated}
+use Rattle.lazy_file.specs.Readings.{Reads}
+use Rattle.lazy_file.specs.declared.faults.AddFault.{AddFault}
+use Rattle.lazy_file.proofs.LaterReads.{reads_same}
+use Rattle.image_reader.specs.Accepted.{HasSources}
+use Rattle.image_reader.specs.Value.{ImageValue, IsImage}
+use Rattle.image_reader.specs.Reading.{fault_of, image_of}
+use Rattle.image_reader.specs.Spelling.{spelling}
+use Rattle.image_reader.proofs.WholeImages.{whole_again}
+use Rattle.session_checker.specs.Accepted.{Accepts, BytesAsk, IsAccepted, IsExact, IsFirstFault, NeedsNoRead}
+use Rattle.session_checker.specs.Faithful.{IsFaithful}
+use Rattle.session_checker.specs.RevisionRules.{source_fault}
+use Rattle.session_checker.specs.declared.fault.CheckFault.{CheckFault}
+use Rattle.cord_c.specs.declared.verdict.CordVerdict.{CordVerdict}
+use Rattle.cord_c.specs.HeldTexts.{limit_fault, reading_of}
+use Rattle.cord_c.specs.Verdicts.{accepted_verdict, limit_verdict, refused_verdict}
+use Rattle.cord_c.specs.Answers.{ChecksImage, SpellsFaithful}
+use Rattle.cord_c.specs.Opened.{WasAccepted}
+
+-- the image that bytes spell
+pub image_again : (bytes : List ℕ) (v : ImageValue) → IsImage v → bytes ≡ spelling v → image_of bytes ≡ v
+image_again bytes v image spelled = ap image_of spelled ∙ (whole_again v image).1
+
+pub faultless : (bytes : List ℕ) (v : ImageValue) → IsImage v → bytes ≡ spelling v → fault_of bytes ≡ None
+faultless bytes v image spelled = ap fault_of spelled ∙ (whole_again v image).0
+
+-- what is accepted can be opened again
+pub opens : (bytes : List ℕ) (st : Stated) → SpellsFaithful bytes st (image_of bytes) → WasAccepted bytes
+opens bytes st is = record { read = faultless bytes (image_of bytes) is.image is.spelled; true_records = is.faithful.true_records }
+
+-- sources that are none
+pub none_checks : (bytes : List ℕ) (st : Stated) (x : CordVerdict) (f : AddFault) → (AreSizes st.sizes → ⊥) → f ≡ limit_fault st.sizes → x ≡ limit_verdict f → ChecksImage bytes st false x
+none_checks bytes st x f none fault named = record {
+  faithful = λ e. absurd cc;
+  counts = λ e. absurd cc;
+  refused = λ e. inl (record { none = none; named = named ∙ ap limit_verdict fault });
+  always = λ sizes needs. absurd (none sizes);
+  accepts = λ sizes all is. absurd (none sizes);
+  refuses = λ sizes all g first. absurd (none sizes);
+}
+
+-- an image that is accepted
+pub accepted_checks : (bytes : List ℕ) (held st : Stated) (v : ImageValue) (x : CordVerdict) → held ≡ st → IsFaithful v held → IsImage v × (bytes ≡ spelling v) → HasSources v held.sizes → (IsOk {E = CheckFault} (Ok v) → IsAccepted bytes held)
+    → IsExact held bytes (Ok v) → x ≡ accepted_verdict v → ChecksImage bytes st true x
+accepted_checks bytes held st v x is faithful image sources accepted exact named =
+    let same : image_of bytes ≡ v = image_again bytes v image.0 image.1 in
+    subst (λ (y : Stated). ChecksImage bytes y true x) is (record {
+      faithful = λ _. subst (SpellsFaithful bytes held) (sym same) (record { accepted = accepted refl; image = image.0; spelled = image.1; sources = sources; faithful = faithful });
+      counts = λ _. named ∙ ap accepted_verdict (sym same);
+      refused = λ e. absurd cc;
+      always = λ sizes needs. refl;
+      accepts = λ sizes all good. refl;
+      refuses = λ sizes all f first. let never = (exact all).refuses f first in absurd cc;
+    })
+
+-- an image that is refused
+pub refused_checks : (bytes : List ℕ) (old new st : Stated) (f : CheckFault) (x : CordVerdict) → old ≡ st → (source_fault f ≡ None → IsFirstFault old bytes f) → Reads (reading_of old) (reading_of new) (BytesAsk old bytes) (source_fault f)
+    → IsExact old bytes (Err f) → ((n : NeedsNoRead bytes old.sizes) → Accepts (Err f) n.v) → x ≡ refused_verdict f → ChecksImage bytes st false x
+refused_checks bytes old new st f x is first reads exact always named =
+    let same : new ≡ old = reads_same (reading_of old) (reading_of new) (BytesAsk old bytes) (source_fault f) reads in
+    let own : Reads (reading_of old) (reading_of old) (BytesAsk old bytes) (source_fault f) = subst (λ (y : Stated). Reads (reading_of old) (reading_of y) (BytesAsk old bytes) (source_fault f)) same reads in
+    subst (λ (y : Stated). ChecksImage bytes y false x) is (record {
+      faithful = λ e. absurd cc;
+      counts = λ e. absurd cc;
+      refused = λ _. inr (record { fault = f; first = first; reads = own; named = named });
+      always = λ sizes needs. let never = (always needs).ok in absurd cc;
+      accepts = λ sizes all good. let never = (exact all).accepts good in absurd cc;
+      refuses = λ sizes all g other. named ∙ ap refused_verdict (same_fault f g ((exact all).refuses g other));
+    })
+  where
+    refusal : CheckFault → Result ImageValue CheckFault
+    refusal e = Err e
+
+    same_fault : (e g : CheckFault) → refusal e ≡ refusal g → e ≡ g
+    same_fault e g is = cc

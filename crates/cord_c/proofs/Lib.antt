@@ -1,0 +1,4 @@
+mod HeldLemmas
+mod CheckedImages
+mod LeafSpanSteps
+mod RunLaws

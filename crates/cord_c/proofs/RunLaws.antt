@@ -1,0 +1,81 @@
+-- What calls answer that find and read the bytes of a text.
+use Rattle.std.proofs.Common.{◌≡◌, ℕ, ◌+◌, ◌<◌, ◌≤◌, min, List, length, inr, refl, sym, ap, subst, ◌∙◌, arith}
+use Rattle.std.specs.Prelude.{Err, Option, Some}
+use Rattle.lazy_file.specs.SourceTexts.{Stated}
+use Rattle.lazy_file.specs.declared.faults.SourceFault.{SourceFault}
+use Rattle.rope_node.specs.declared.node.LeafSpan.{LeafSpan}
+use Rattle.rope_node.specs.declared.node.NodeId.{NodeId}
+use Rattle.rope_node.specs.Table.{Table, len_at, IsSound, HasTrueRecords}
+use Rattle.rope_node.specs.Path.{span_at}
+use Rattle.rope_node.proofs.LeafSpans.{begins}
+use Rattle.cord_position.specs.Fetched.{EachCell, IsReadable, ReadsSpan}
+use Rattle.cord_position.specs.Runs.{IsRun, rope_span, span_len}
+use Rattle.cord_position.proofs.LeafParts.{run_part}
+use Rattle.cord_position.proofs.Spans.{span_read}
+use Rattle.span_certificate.specs.declared.describe.Description.{Description}
+use Rattle.span_certificate.specs.declared.describe.Description.TheVariants.{Pooled, Sourced, Computed}
+use Rattle.function_leaf.specs.declared.coded.Coded.TheVariants.{Fill, Ramp, Cycle}
+use Rattle.span_certificate.specs.Leads.{Describes}
+use Rattle.image_reader.specs.Value.{ImageValue, image_table}
+use Rattle.session_checker.specs.Faithful.{fetched_cell}
+use Rattle.cord_c.specs.declared.run.CordRun.{CordRun}
+use Rattle.cord_c.specs.declared.text.TheConstants.{NOT_HELD}
+use Rattle.cord_c.specs.HeldTexts.{reading_of}
+use Rattle.cord_c.specs.Runs.{IsLocated, ReadsRun, left_of, root_of, run_told}
+
+-- the leaf span at a place of a rope is its run
+pub span_run : (t : Table) → IsSound t → HasTrueRecords t → (rope : Option NodeId) (node : NodeId) (i : ℕ) (x : LeafSpan) → rope ≡ Some node → node.0 < length t.nodes → i < len_at t node.0 → x ≡ span_at t node.0 i → IsRun t rope i x
+span_run t s h rope node i x is there inside same =
+    let all = begins t s h node.0 i there inside in
+    subst (λ (r : Option NodeId). IsRun t r i x) (sym is) (subst (IsRun t (Some node) i) (sym same) (record {
+      there = all.there;
+      leaf = all.leaf;
+      some = all.some;
+      in_leaf = all.in_leaf;
+      in_rope = all.in_node;
+      cells = all.cells;
+    }))
+
+-- the numbers of a run tell its length
+told_len : (what : Description) (n : ℕ) → (run_told what n).len ≡ n
+told_len (Pooled a) n = refl
+told_len (Sourced s a) n = refl
+told_len (Computed (Fill c) i) n = refl
+told_len (Computed (Ramp c) i) n = refl
+told_len (Computed (Cycle pattern) i) n = refl
+
+-- where a run stands that was found and described
+pub located : (v w : ImageValue) (k place : ℕ) (x : LeafSpan) (what : Description) (run : CordRun) → w ≡ v → Some x ≡ rope_span (image_table w) (root_of w k) place
+    → IsRun (image_table w) (root_of w k) place x → Describes (image_table w) x.leaf.0 x.start what → run ≡ run_told what x.len → IsLocated v k place run
+located v w k place x what run of is found describes told =
+    let len : run.len ≡ x.len = ap (λ (r : CordRun). r.len) told ∙ told_len what x.len in
+    subst (λ (y : ImageValue). IsLocated y k place run) of (record {
+      longest = len ∙ ap span_len is;
+      some = omega (arith, len, found.some);
+      inside = omega (arith, len, found.in_rope);
+      what = what;
+      cells = λ m le.
+          let few : m ≤ x.len = omega (arith, le, len) in
+          run_part (image_table w) (root_of w k) place m x found few ∙ describes.cells m (omega (arith, few, found.in_leaf));
+      told = told ∙ ap (run_told what) (sym len);
+    })
+
+-- each cell of a text from one place to another can be read
+abbrev EachReadable : ImageValue → Stated → ℕ → ℕ → ℕ → Type 0
+EachReadable v st k i j = EachCell (fetched_cell v k) i j (IsReadable st)
+
+-- a read that failed
+pub bytes_unheld : (v w : ImageValue) (held other st : Stated) (k place : ℕ) (old new : List ℕ) (fault : SourceFault) → w ≡ v → held ≡ st
+    → ReadsSpan {X = ℕ} (reading_of held) (reading_of other) (fetched_cell w k) place (place + min (left_of w k place) (length old)) (Err fault)
+    → ReadsRun v st k place old new 0 NOT_HELD
+bytes_unheld v w held other st k place old new fault of is reads =
+    let until = place + min (left_of w k place) (length old) in
+    let fails : EachReadable w held k place until → ⊥ = λ each. let ok = span_read {X = ℕ} (reading_of held) (reading_of other) (fetched_cell w k) place until (Err fault) reads each in absurd cc in
+    subst (λ (y : ImageValue). ReadsRun y st k place old new 0 NOT_HELD) of (subst (λ (y : Stated). ReadsRun w y k place old new 0 NOT_HELD) is (record {
+      count_is = λ e. absurd cc;
+      bytes = λ e. absurd cc;
+      rest = λ e. absurd cc;
+      none = λ other. refl;
+      succeeds = λ sizes each. absurd (fails each);
+      told = inr refl;
+    }))

@@ -1,0 +1,18 @@
+use Rattle.cord_c.specs.HeldTexts.{stated_as_held}
+use Rattle.cord_c.proofs.CheckedImages.{accepted_checks, none_checks, refused_checks}
+use Rattle.cord_c.proofs.check.cord_check.Goals as goal
+
+pub returns-in-Err : goal.returns-in-Err
+returns-in-Err c =
+    none_checks c.args.image.now (stated_as_held c.args.sources.now) c.of_sources.result c.in-Err.fault
+    (λ sizes. let e = c.in-Err.ensures.ok.1 sizes in absurd cc) c.in-Err.ensures.fault c.of_sources.ensures
+
+pub returns-in-Ok-check : goal.returns-in-Ok-check
+returns-in-Ok-check c =
+    accepted_checks c.args.image.now c.in-Ok.held (stated_as_held c.args.sources.now) c.in-Ok-check.checked c.of_image.result c.in-Ok.ensures.value
+    c.in-Ok-check.ensures.faithful c.in-Ok-check.ensures.image c.in-Ok-check.ensures.sources c.in-Ok-check.ensures.accepted c.in-Ok-check.ensures.exact c.of_image.ensures
+
+pub returns-in-Err-check : goal.returns-in-Err-check
+returns-in-Err-check c =
+    refused_checks c.args.image.now c.in-Ok.held c.check.new.sources (stated_as_held c.args.sources.now) c.in-Err-check.fault c.of_fault.result c.in-Ok.ensures.value
+    c.in-Err-check.ensures.refused c.in-Err-check.ensures.reads c.in-Err-check.ensures.exact c.in-Err-check.ensures.always c.of_fault.ensures

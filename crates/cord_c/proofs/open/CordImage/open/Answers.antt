@@ -1,0 +1,6 @@
+use Rattle.cord_c.specs.HeldTexts.{stated_as_held}
+use Rattle.cord_c.proofs.CheckedImages.{opens}
+use Rattle.cord_c.proofs.open.CordImage.open.Goals as goal
+
+pub invariant_of-result : goal.invariant_of-result
+invariant_of-result c = opens c.args.image.now (stated_as_held c.args.sources.now) (c.cord_check.ensures.faithful c.if-cord_check.true)

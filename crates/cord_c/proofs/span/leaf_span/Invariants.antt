@@ -1,0 +1,8 @@
+use Rattle.cord_c.proofs.LeafSpanSteps.{IsOnWay}
+use Rattle.cord_c.proofs.span.leaf_span.Given as goal
+
+abbrev pub invariant-down : goal.invariant-down
+invariant-down g l = IsOnWay (g.S.NodeSpace.table l.space) l.fn.node.0 l.place l.leaf.0 l.start l.len
+
+abbrev pub decreases-down : goal.decreases-down
+decreases-down g l = l.leaf.0

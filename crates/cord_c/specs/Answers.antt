@@ -1,0 +1,47 @@
+-- What is answered for an image with the sources that are handed in.
+use Rattle.std.specs.Prelude.{◌≡◌, ◌⊎◌, ℕ, Bool, false, IsTrue, List, None}
+use Rattle.lazy_file.specs.SourceTexts.{AreSizes, Stated}
+use Rattle.lazy_file.specs.Readings.{Reads}
+use Rattle.image_reader.specs.Accepted.{HasSources}
+use Rattle.image_reader.specs.Value.{ImageValue, IsImage}
+use Rattle.image_reader.specs.Reading.{image_of}
+use Rattle.image_reader.specs.Spelling.{spelling}
+use Rattle.session_checker.specs.Accepted.{BytesAsk, IsAccepted, IsFirstFault, NeedsNoRead, StatesAll}
+use Rattle.session_checker.specs.RevisionRules.{source_fault}
+use Rattle.session_checker.specs.Faithful.{IsFaithful}
+use Rattle.session_checker.specs.declared.fault.CheckFault.{CheckFault}
+use Rattle.cord_c.specs.declared.verdict.CordVerdict.{CordVerdict}
+use Rattle.cord_c.specs.HeldTexts.{limit_fault, reading_of}
+use Rattle.cord_c.specs.Verdicts.{accepted_verdict, limit_verdict, refused_verdict}
+
+-- the bytes are accepted over what the sources state; they spell this image, which is of just such sources and faithful
+pub record SpellsFaithful (bytes : List ℕ) (st : Stated) (v : ImageValue) : Type 0 where
+  pub accepted : IsAccepted bytes st
+  pub image : IsImage v
+  pub spelled : bytes ≡ spelling v
+  pub sources : HasSources v st.sizes
+  pub faithful : IsFaithful v st
+
+-- the verdict names the first fault of the bytes, or that of the one read that failed, for a row of bytes before which
+-- all is accepted
+pub record IsRefusedAs (bytes : List ℕ) (st : Stated) (x : CordVerdict) : Type 0 where
+  pub fault : CheckFault
+  pub first : source_fault fault ≡ None → IsFirstFault st bytes fault
+  pub reads : Reads (reading_of st) (reading_of st) (BytesAsk st bytes) (source_fault fault)
+  pub named : x ≡ refused_verdict fault
+
+-- the verdict names why the sources are none: they are too many, or else one of them is too long
+pub record IsNoSources (sizes : List ℕ) (x : CordVerdict) : Type 0 where
+  pub none : ¬ AreSizes sizes
+  pub named : x ≡ limit_verdict (limit_fault sizes)
+
+-- What a check answers: whether the bytes are accepted, and a verdict, which counts the image or names what is wrong.
+-- What keeps the rules and needs no byte of the sources is accepted, even where none is held; and where all are held,
+-- all that keeps the rules is, and all else is refused by its first fault.
+pub record ChecksImage (bytes : List ℕ) (st : Stated) (accepted : Bool) (x : CordVerdict) : Type 0 where
+  pub faithful : IsTrue accepted → SpellsFaithful bytes st (image_of bytes)
+  pub counts : IsTrue accepted → x ≡ accepted_verdict (image_of bytes)
+  pub refused : accepted ≡ false → IsNoSources st.sizes x ⊎ IsRefusedAs bytes st x
+  pub always : AreSizes st.sizes → NeedsNoRead bytes st.sizes → IsTrue accepted
+  pub accepts : AreSizes st.sizes → StatesAll st → IsAccepted bytes st → IsTrue accepted
+  pub refuses : AreSizes st.sizes → StatesAll st → (f : CheckFault) → IsFirstFault st bytes f → x ≡ refused_verdict f

@@ -1,0 +1,5 @@
+pub mod HeldTexts
+pub mod Verdicts
+pub mod Answers
+pub mod Opened
+pub mod Runs

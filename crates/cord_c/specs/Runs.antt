@@ -1,0 +1,100 @@
+-- Where the bytes of a revision's text stand.
+use Rattle.std.specs.Prelude.{◌≡◌, ◌≢◌, ◌⊎◌, ℕ, ◌+◌, ◌<◌, ◌≤◌, min, List, [], ◌∷◌, length, replicate, take, drop, Option, Some}
+use Rattle.function_leaf.specs.declared.coded.Coded.TheVariants.{Fill, Ramp, Cycle}
+use Rattle.function_leaf.specs.declared.pattern.TheConstants.{PATTERN_LIMIT}
+use Rattle.function_leaf.specs.Pattern.{padded}
+use Rattle.rope_node.specs.declared.node.NodeId.{NodeId}
+use Rattle.rope_node.specs.Denotes.{Cell, rope_len}
+use Rattle.lazy_file.specs.SourceTexts.{AreSizes, Stated}
+use Rattle.cord_position.specs.Fetched.{EachCell, IsReadable, rope_part}
+use Rattle.cord_position.specs.Runs.{AreBytesOf, run_left}
+use Rattle.span_certificate.specs.declared.describe.Description.{Description}
+use Rattle.span_certificate.specs.declared.describe.Description.TheVariants.{Pooled, Sourced, Computed}
+use Rattle.span_certificate.specs.Leads.{described_cells}
+use Rattle.image_reader.specs.declared.codes.TheConstants.{CYCLE, FILL, RAMP}
+use Rattle.image_reader.specs.Value.{ImageValue, image_table}
+use Rattle.image_reader.specs.Accepted.{revision_at}
+use Rattle.session_checker.specs.Faithful.{IsFetchedOf, fetched_cell}
+use Rattle.cord_c.specs.declared.run.CordRun.{CordRun}
+use Rattle.cord_c.specs.declared.run.TheConstants.{COMPUTED, POOLED, SOURCED}
+use Rattle.cord_c.specs.declared.text.TheConstants.{NO_PLACE, NOT_HELD, READ}
+
+-- the root of a revision's text; of none, nil
+abbrev pub root_of : ImageValue → ℕ → Option NodeId
+root_of v k = (revision_at v k).root
+
+-- how long that text is
+abbrev pub text_len : ImageValue → ℕ → ℕ
+text_len v k = rope_len (image_table v) (root_of v k)
+
+-- n cells of it from a place on
+abbrev pub text_part : ImageValue → ℕ → ℕ → ℕ → List Cell
+text_part v k place n = rope_part (image_table v) (root_of v k) place n
+
+-- how many bytes there are from a place of it to the end of its leaf's span; at the end, 0
+abbrev pub left_of : ImageValue → ℕ → ℕ → ℕ
+left_of v k place = run_left (image_table v) (root_of v k) place
+
+-- the numbers of a run of n bytes of the pool or of a source
+abbrev pub placed_run : ℕ → ℕ → ℕ → ℕ → CordRun
+placed_run kind s a n = record {
+  kind = kind;
+  source = s;
+  function = 0;
+  pattern_len = 0;
+  start = a;
+  len = n;
+  pattern = replicate PATTERN_LIMIT 0;
+}
+
+-- and of what a function answers from its place i on
+abbrev pub computed_run : ℕ → List ℕ → ℕ → ℕ → CordRun
+computed_run function pattern i n = record {
+  kind = COMPUTED;
+  source = 0;
+  function = function;
+  pattern_len = length pattern;
+  start = i;
+  len = n;
+  pattern = padded pattern;
+}
+
+abbrev pub run_told : Description → ℕ → CordRun
+run_told (Pooled a) n = placed_run POOLED 0 a n
+run_told (Sourced s a) n = placed_run SOURCED s a n
+run_told (Computed (Fill c) i) n = computed_run FILL (c ∷ []) i n
+run_told (Computed (Ramp c) i) n = computed_run RAMP (c ∷ []) i n
+run_told (Computed (Cycle pattern) i) n = computed_run CYCLE pattern i n
+
+-- The numbers are those of the run that the text has from this place on: bytes of one description, up to the end of the
+-- leaf's span.
+pub record IsLocated (v : ImageValue) (k place : ℕ) (x : CordRun) : Type 0 where
+  pub longest : x.len ≡ left_of v k place
+  pub some : 1 ≤ x.len
+  pub inside : place + x.len ≤ text_len v k
+  pub what : Description
+  pub cells : (m : ℕ) → m ≤ x.len → text_part v k place m ≡ described_cells (image_table v) m what
+  pub told : x ≡ run_told what x.len
+
+-- What a fetch of the byte at a place answers. It succeeds where the byte is none of a source, or all bytes of the
+-- sources are held.
+pub record FetchesByte (v : ImageValue) (st : Stated) (k place old new outcome : ℕ) : Type 0 where
+  pub found : outcome ≡ READ → IsFetchedOf v st k place (Some new)
+  pub inside : outcome ≡ READ → place < text_len v k
+  pub past : outcome ≡ NO_PLACE → text_len v k ≤ place
+  pub kept : outcome ≢ READ → new ≡ old
+  pub succeeds : AreSizes st.sizes → IsReadable st (fetched_cell v k place) → outcome ≢ NOT_HELD
+  pub told : (outcome ≡ READ) ⊎ ((outcome ≡ NO_PLACE) ⊎ (outcome ≡ NOT_HELD))
+
+-- What a read of the bytes from a place on answers, with how many were written: all up to the end of the leaf's span,
+-- or as many as there was room for. It succeeds where none of these is one of a source, or all bytes of the sources are
+-- held.
+pub record ReadsRun (v : ImageValue) (st : Stated) (k place : ℕ) (old new : List ℕ) (count outcome : ℕ) : Type 0 where
+  pub count_is : outcome ≡ READ → count ≡ min (left_of v k place) (length old)
+  pub bytes : outcome ≡ READ → AreBytesOf st (text_part v k place count) (take count new)
+  pub rest : outcome ≡ READ → drop count new ≡ drop count old
+  pub none : outcome ≢ READ → count ≡ 0
+  pub succeeds : AreSizes st.sizes
+      → EachCell (fetched_cell v k) place (place + min (left_of v k place) (length old)) (IsReadable st)
+      → outcome ≡ READ
+  pub told : (outcome ≡ READ) ⊎ (outcome ≡ NOT_HELD)

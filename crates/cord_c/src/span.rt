@@ -1,0 +1,73 @@
+//! The leaf span that a text's bytes from a place on begin with.
+
+ghost use Rattle.std.specs.Prelude.{◌≡◌, ◌↔◌, ◌<◌, ◌≤◌, ◌+◌, None, length, IfSome};
+ghost use Rattle.rope_node.specs.Table.{len_at, view_at, IsLeaf};
+ghost use Rattle.rope_node.specs.Path.{span_at};
+ghost use Rattle.cord_position.specs.Runs.{rope_span, IsRun};
+ghost use Rattle.image_reader.specs.Value.{image_table};
+ghost use Rattle.span_certificate.specs.Leads.{Describes};
+ghost use Rattle.cord_c.specs.Runs.{root_of, text_len};
+
+use rope_node::{LeafSpan, NodeId, NodeSpace, NodeView};
+use session_checker::Checked;
+use span_certificate::{Description, describe_leaf};
+
+/// The leaf span that the bytes of a node from a place on begin with. It costs one descent.
+fn leaf_span<S: NodeSpace>(space: &S, node: NodeId, place: u64) -> LeafSpan
+    requires there { node.0 < length (S.table space.now).nodes }
+    requires inside { place < len_at (S.table space.now) node.0 }
+    ensures { result ≡ span_at (S.table space.now) node.0 place }
+{
+    let mut leaf = node;
+    let mut start = place;
+    let mut len = space.len(node) - place;
+    'down: loop {
+        let view = space.node(leaf);
+        match view {
+            NodeView::Cat { l, r } => {
+                let left = space.len(l);
+                if start < left {
+                    leaf = l;
+                    len = len.min(left - start);
+                } else {
+                    leaf = r;
+                    start -= left;
+                }
+            }
+            NodeView::Sub { b, i } => {
+                leaf = b;
+                start += i;
+            }
+            NodeView::Lit { .. } | NodeView::Src { .. } | NodeView::Fun => {
+                return LeafSpan { leaf, start, len };
+            }
+        }
+    }
+}
+
+/// The leaf span that the text of a revision has from a place on; at its end and past it, none.
+pub fn span_of(image: &Checked, revision: u32, place: u64) -> Option<LeafSpan>
+    ensures exact { result ≡ rope_span (image_table image.now) (root_of image.now revision) place }
+    ensures run { IfSome result (IsRun (image_table image.now) (root_of image.now revision) place) }
+    ensures none { result ≡ None ↔ text_len image.now revision ≤ place }
+{
+    let _count = image.count();
+    match image.root(revision) {
+        Some(Some(node)) if place < image.len(node) => Some(leaf_span(image, node, place)),
+        _ => None,
+    }
+}
+
+/// What the bytes of a leaf span are.
+pub fn described(image: &Checked, span: LeafSpan) -> Description
+    requires there { span.leaf.0 < length (image_table image.now).nodes }
+    requires leaf { IsLeaf (view_at (image_table image.now) span.leaf.0) }
+    requires inside { span.start + span.len ≤ len_at (image_table image.now) span.leaf.0 }
+    ensures { Describes (image_table image.now) span.leaf.0 span.start result }
+{
+    let view = image.node(span.leaf);
+    match describe_leaf(image, span.leaf, view, span.start) {
+        Some(what) => what,
+        None => unreachable!(),
+    }
+}

@@ -1,0 +1,162 @@
+//! The texts of an open image.
+
+ghost use Rattle.std.specs.Prelude.{◌≡◌, ◌↔◌, ◌<◌, ◌+◌, ℕ, min, false, length, take, drop, IfOk, IsTrue};
+ghost use Rattle.lazy_file.specs.SourceTexts.{AreSizes};
+ghost use Rattle.cord_position.specs.Fetched.{ReadsSpan};
+ghost use Rattle.cord_position.specs.Runs.{AreBytesOf};
+ghost use Rattle.session_checker.specs.Faithful.{fetched_cell, revision_text};
+ghost use Rattle.cord_c.specs.HeldTexts.{stated_as_held};
+ghost use Rattle.cord_c.specs.Opened.{opened_image};
+ghost use Rattle.cord_c.specs.Verdicts.{accepted_verdict};
+ghost use Rattle.cord_c.specs.Runs.{FetchesByte, IsLocated, ReadsRun, left_of, text_len, text_part};
+
+use crate::held_sources::{CordSource, HeldSources};
+use crate::open::CordImage;
+use crate::run::CordRun;
+use crate::span::{described, span_of};
+use crate::verdict::CordVerdict;
+use cord_position::fill_part;
+use lazy_file::{SourceFault, Sources};
+use rope_node::{NodeSpace, rope_len};
+use session_checker::Checked;
+
+/// The bytes that were asked for are there.
+pub const READ: u32 = 0;
+
+/// There is no such place, or no such revision.
+pub const NO_PLACE: u32 = 1;
+
+/// They are of a source that does not hold them.
+pub const NOT_HELD: u32 = 2;
+
+/// How many revisions, nodes and rows the image has.
+#[unsafe(no_mangle)]
+pub extern "C" fn cord_counts(image: &CordImage, counts: &mut CordVerdict)
+    ensures { counts.new ≡ accepted_verdict (opened_image image.now) }
+{
+    *counts = CordVerdict::of_image(&image.checked());
+}
+
+/// The length of the text of a revision, where there is one. Else `len` stays.
+#[unsafe(no_mangle)]
+pub extern "C" fn cord_text_len(image: &CordImage, revision: u32, len: &mut u64) -> bool
+    ensures there { IsTrue result ↔ (revision < length (opened_image image.now).revisions) }
+    ensures value { IsTrue result → (source : ℕ → ℕ → ℕ)
+        → len.new ≡ length (revision_text (opened_image image.now) source revision) }
+    ensures kept { result ≡ false → len.new ≡ len.old }
+{
+    let image = image.checked();
+    match image.root(revision) {
+        Some(root) => {
+            *len = rope_len(&image, root);
+            true
+        }
+        None => false,
+    }
+}
+
+/// The byte at a place of the text of a revision. `READ`: it is `byte`. `NO_PLACE`, or `NOT_HELD`: `byte` stays.
+#[unsafe(no_mangle)]
+pub extern "C" fn cord_fetch(
+    image: &CordImage,
+    sources: &[CordSource],
+    revision: u32,
+    place: u64,
+    byte: &mut u8,
+) -> u32
+    ensures { FetchesByte (opened_image image.now) (stated_as_held sources.now) revision place
+        byte.old byte.new result }
+{
+    let Ok(mut held) = HeldSources::new(sources) else {
+        return NOT_HELD;
+    };
+    match image.checked().fetch(&mut held, revision, place) {
+        Ok((Some(found), _)) => {
+            *byte = found;
+            READ
+        }
+        Ok((None, _)) => NO_PLACE,
+        Err(_) => NOT_HELD,
+    }
+}
+
+/// Where the byte at a place of the text of a revision stands, and how many bytes of the text follow it there: all up to the end of its
+/// leaf's span. Where there is no such place, or no such revision, `run` stays.
+#[unsafe(no_mangle)]
+pub extern "C" fn cord_locate(
+    image: &CordImage,
+    revision: u32,
+    place: u64,
+    run: &mut CordRun,
+) -> bool
+    ensures there { IsTrue result ↔ (place < text_len (opened_image image.now) revision) }
+    ensures located { IsTrue result → IsLocated (opened_image image.now) revision place run.new }
+    ensures kept { result ≡ false → run.new ≡ run.old }
+{
+    let image = image.checked();
+    match span_of(&image, revision, place) {
+        Some(span) => {
+            *run = CordRun::of(described(&image, span), span.len);
+            true
+        }
+        None => false,
+    }
+}
+
+/// Writes the bytes of a text from a place to the end of its leaf's span there into the buffer, as many as it takes, and answers how
+/// many.
+///
+/// # Errors
+///
+/// A source's fault, where they are of that source and the read of them failed. They may then be any bytes in the buffer.
+fn fill_run<T: Sources>(
+    image: &Checked,
+    sources: &mut T,
+    revision: u32,
+    place: u64,
+    buffer: &mut [u8],
+) -> Result<usize, SourceFault>
+    ensures count { IfOk result (λ n. n ≡ min (left_of image.now revision place) (length buffer.old)) }
+    ensures rest { IfOk result (λ n. drop n buffer.new ≡ drop n buffer.old) }
+    ensures bytes { IfOk result (λ n. AreBytesOf (T.reading sources.old).stated
+        (text_part image.now revision place n) (take n buffer.new)) }
+    ensures reads { ReadsSpan (T.reading sources.old) (T.reading sources.new) (fetched_cell image.now revision)
+        place (place + min (left_of image.now revision place) (length buffer.old)) result }
+{
+    let Some(span) = span_of(image, revision, place) else {
+        return Ok(0);
+    };
+    let n = span.len.min(buffer.len() as u64) as usize;
+    if n > 0 {
+        fill_part(image, sources, span.leaf, span.start, &mut buffer[..n])?;
+    }
+    Ok(n)
+}
+
+/// Writes the bytes of the text of a revision from a place on into `out`: as many as it takes, up to the end of the run that
+/// `cord_locate` tells, and answers how many by `count`. `READ`: they were written. `NOT_HELD`: none is counted, and `out` may hold any
+/// bytes.
+#[unsafe(no_mangle)]
+pub extern "C" fn cord_read(
+    image: &CordImage,
+    sources: &[CordSource],
+    revision: u32,
+    place: u64,
+    out: &mut [u8],
+    count: &mut usize,
+) -> u32
+    ensures { ReadsRun (opened_image image.now) (stated_as_held sources.now) revision place
+        out.old out.new count.new result }
+{
+    *count = 0;
+    let Ok(mut held) = HeldSources::new(sources) else {
+        return NOT_HELD;
+    };
+    match fill_run(&image.checked(), &mut held, revision, place, out) {
+        Ok(n) => {
+            *count = n;
+            READ
+        }
+        Err(_) => NOT_HELD,
+    }
+}
