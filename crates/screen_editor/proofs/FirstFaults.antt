@@ -1,15 +1,13 @@
 -- Why there is no first revision.
-use Rattle.std.proofs.Common.{◌≡◌, ℕ, zero, suc, ◌+◌, ◌<◌, ◌≤◌, inl, inr, List, [], ◌∷◌, length, get_or, Err, Ok, Result, Option, None, refl, ap, subst, arith, ◌∙◌}
-use Rattle.std.proofs.lemmas.Bool.{cases_lt, lt-leb}
-use Rattle.std.proofs.lemmas.List.Sums.{sum_by-cons}
+use Rattle.std.proofs.Common.{◌≡◌, ℕ, zero, suc, ◌<◌, ◌≤◌, inl, inr, List, [], ◌∷◌, length, get_or, Err, Ok, Result, Option, Some, None, refl, ap, subst, arith, ◌∙◌}
+use Rattle.std.proofs.lemmas.Bool.{lt-leb, lt-ltb}
 use Rattle.function_leaf.specs.declared.coded.Coded.{Coded}
 use Rattle.function_leaf.specs.Coded.{coded_byte}
 use Rattle.rope_node.specs.declared.limits.TheConstants.{MOST_SOURCES, TEXT_LIMIT}
 use Rattle.rope_node.specs.declared.node.NodeId.{NodeId}
-use Rattle.rope_node.specs.Denotes.{rope_len}
-use Rattle.rope_node.specs.Table.{Table}
+use Rattle.rope_node.specs.Table.{Table, view_at, len_at, IsLeaf}
 use Rattle.node_table.specs.declared.fault.NodeFault.{NodeFault}
-use Rattle.node_table.specs.Held.{Held, table_of}
+use Rattle.node_table.specs.Held.{Held, table_of, coded_at}
 use Rattle.node_table.specs.Puts.{AddsSource}
 use Rattle.rope_store.specs.Additions.{after, source_added}
 use Rattle.rope_store.specs.Calls.{MakesSource}
@@ -17,9 +15,11 @@ use Rattle.rebalance.specs.declared.fault.BalanceFault.{BalanceFault}
 use Rattle.rebalance.specs.declared.fault.BalanceFault.TheVariants.{TooManyPieces, Node}
 use Rattle.rebalance.specs.AnyForms.{lifted}
 use Rattle.lazy_file.specs.declared.sources.TheConstants.{SOURCE_LIMIT}
-use Rattle.span_certificate.specs.declared.making.TheConstants.{ROWS_LIMIT}
 use Rattle.span_certificate.specs.declared.row.Row.{Row}
-use Rattle.span_certificate.specs.Covers.{row_at, rows_len}
+use Rattle.span_certificate.specs.declared.part.Part.TheVariants.{Source as Whole}
+use Rattle.span_certificate.specs.Longest.{AreMade}
+use Rattle.span_certificate.specs.Parts.{nonempty}
+use Rattle.span_certificate.proofs.OneRow.{one_source_row}
 use Rattle.edit_commands.specs.declared.fault.EditFault.{EditFault}
 use Rattle.edit_commands.specs.declared.fault.EditFault.TheVariants as Edit
 use Rattle.edit_commands.specs.declared.term.Piece.TheVariants.{Source}
@@ -31,7 +31,7 @@ use Rattle.edit_commands.specs.Session.{SessionValue}
 use Rattle.edit_commands.specs.Terms.{Taken, GoesBehind, Chain, done, next, refused}
 use Rattle.screen_editor.specs.declared.workspace.TheConstants.{LONGEST_TEXT}
 use Rattle.screen_editor.specs.Opening.{HoldsOnly}
-use Rattle.screen_editor.specs.Refusals.{IsStartFault, first_command}
+use Rattle.screen_editor.specs.Refusals.{first_command}
 
 -- a source that may be added wants nothing but memory
 pub only_memory : (old new : SessionValue) (len : ℕ) (f : EditFault) → length old.held.sources < MOST_SOURCES → len ≤ SOURCE_LIMIT → AddsSourceOrNot old len (Err f) new → f ≡ Edit.Memory
@@ -65,10 +65,15 @@ no_bytes : (t : Table) (n : ℕ) → (source_added {F = Coded} t 0 0 n).bytes �
 no_bytes t zero = refl
 no_bytes t (suc n) = refl
 
--- a whole source as the first node is of its length
-source_len : (old : Held Coded) (n : ℕ) → old.nodes ≡ [] → rope_len (table_of coded_byte (after old (source_added (table_of coded_byte old) 0 0 n))) (source_added {F = Coded} (table_of coded_byte old) 0 0 n).rope ≡ n
-source_len old zero none = refl
-source_len old (suc n) none = rw none refl
+-- a rope of n bytes that is one leaf, or has no node
+abbrev pub IsOneLeaf : Table → ℕ → Option NodeId → Type 0
+IsOneLeaf t n None = n ≡ 0
+IsOneLeaf t n (Some x) = IsLeaf (view_at t x.0) × (len_at t x.0 ≡ n) × (1 ≤ n)
+
+-- a whole source as the first node is so
+source_leaf : (old : Held Coded) (n : ℕ) → old.nodes ≡ [] → IsOneLeaf (table_of coded_byte (after old (source_added (table_of coded_byte old) 0 0 n))) n (source_added {F = Coded} (table_of coded_byte old) 0 0 n).rope
+source_leaf old zero none = refl
+source_leaf old (suc n) none = rw none (tt, refl, omega arith)
 
 -- a fault of the store, and none of a full table or pool
 pub record IsOfEmpty (fault : BalanceFault) : Type 0 where
@@ -107,24 +112,31 @@ term_refused (n ∷ sizes) old new fault no_node no_byte h = of_chain h.1.chain
         let behind = (alone p.made (Err f) p.behind).0 in
         of_plain p.between p.takes.plain p.takes.says (is ∙ behind ∙ told)
 
--- the root of the first command is as long as the first source
-root_len : (sizes : List ℕ) (old new : Held Coded) (root : Option NodeId) (places : List ℕ) → old.sources ≡ sizes → old.nodes ≡ [] → ChainsTerms old [] (first_command sizes) places (Ok root) new → rope_len (table_of coded_byte new) root ≡ get_or sizes 0 0
-root_len [] old new root places is_sources no_node h = of_chain h.chain
+-- the root of the first command is one leaf as long as the first source, and the sources are as before
+pub record IsOpened (sizes : List ℕ) (new : Held Coded) (root : Option NodeId) : Type 0 where
+  pub sources : new.sources ≡ sizes
+  pub leaf : IsOneLeaf (table_of coded_byte new) (get_or sizes 0 0) root
+
+root_opened : (sizes : List ℕ) (old new : Held Coded) (root : Option NodeId) (places : List ℕ) → old.sources ≡ sizes → old.nodes ≡ [] → ChainsTerms old [] (first_command sizes) places (Ok root) new → IsOpened sizes new root
+root_opened [] old new root places is_sources no_node h = of_chain h.chain
   where
-    of_chain : {places : List ℕ} → Chain [] old None places (Ok root) new → rope_len (table_of coded_byte new) root ≡ 0
-    of_chain (done is same) = (let none : root ≡ None = cc in rw none refl)
-root_len (n ∷ sizes) old new root places is_sources no_node h = of_chain h.chain
+    of_chain : {places : List ℕ} → Chain [] old None places (Ok root) new → IsOpened [] new root
+    of_chain (done is same) = (let none : root ≡ None = cc in record { sources = ap (λ (v : Held Coded). v.sources) same ∙ is_sources; leaf = rw none refl })
+root_opened (n ∷ sizes) old new root places is_sources no_node h = of_chain h.chain
   where
-    of_plain : (between : Held Coded) (plain : Result (Option NodeId) NodeFault) → MakesSource coded_byte old 0 0 n plain between → Ok root ≡ lifted plain → rope_len (table_of coded_byte between) root ≡ n
+    of_plain : (between : Held Coded) (plain : Result (Option NodeId) NodeFault) → MakesSource coded_byte old 0 0 n plain between → Ok root ≡ lifted plain → IsOpened (n ∷ sizes) between root
     of_plain between (Ok rope) makes is =
         let same : root ≡ (source_added {F = Coded} (table_of coded_byte old) 0 0 n).rope = (let same_rope = makes.makes.rope in cc) in
-        rw (same, makes.makes.table) (source_len old n no_node)
+        record {
+          sources = ap (λ (v : Held Coded). v.sources) makes.makes.table ∙ is_sources;
+          leaf = rw (same, makes.makes.table) (source_leaf old n no_node);
+        }
     of_plain between (Err f) makes is = absurd cc
 
     len_is : get_or old.sources 0 0 ≡ n
     len_is = ap (λ (s : List ℕ). get_or s 0 0) is_sources
 
-    of_chain : {places : List ℕ} → Chain (Taken (Source 0) ∷ []) old None places (Ok root) new → rope_len (table_of coded_byte new) root ≡ n
+    of_chain : {places : List ℕ} → Chain (Taken (Source 0) ∷ []) old None places (Ok root) new → IsOpened (n ∷ sizes) new root
     of_chain (next {rope = built} place puts right (done is same) all) =
         let p = puts.0 in
         let behind = alone p.made (Ok built) p.behind in
@@ -132,27 +144,31 @@ root_len (n ∷ sizes) old new root places is_sources no_node h = of_chain h.cha
         rw (same, behind.1) (of_plain p.between p.takes.plain makes (is ∙ behind.0 ∙ p.takes.told))
     of_chain (refused puts is) = absurd cc
 
--- rows that are not empty are at most as many as their bytes
-rows_reach : (rows : List Row) → ((j : ℕ) → j < length rows → 1 ≤ (row_at rows j).len) → length rows ≤ rows_len rows
-rows_reach [] each = omega arith
-rows_reach (row ∷ rows) each =
-    let first : 1 ≤ row.len = each 0 (omega arith) in
-    let rest = rows_reach rows (λ j there. each (suc j) (omega (arith, there))) in
-    let len : rows_len (row ∷ rows) ≡ row.len + rows_len rows = sum_by-cons (λ (r : Row). r.len) row rows in
-    omega (arith, first, rest, len)
+-- no part has rows
+no_row : (t : Table) (coded : ℕ → Coded) (root : Option NodeId) (rows : List Row) → AreMade t coded [] root rows → length rows ≤ 1
+no_row t coded root [] made = omega arith
+no_row t coded root (row ∷ rows) made = (let at = (made.fit (λ s p. 0) 0 (omega arith)).at_part in absurd cc)
 
--- too many rows only of a source of more bytes than that
-rows_pass : (sizes : List ℕ) (old new : Held Coded) → old.sources ≡ sizes → old.nodes ≡ [] → RowsPass old [] (first_command sizes) new → ROWS_LIMIT < get_or sizes 0 0
-rows_pass sizes old new is_sources no_node h =
-    let len = root_len sizes old new h.root h.places is_sources no_node h.terms in
-    let reach = rows_reach h.rows (λ j there. (h.made.fit (λ s p. 0) j there).not_empty) in
-    elim (cases_lt ROWS_LIMIT (length h.rows)) [
-      | inl more ↦ omega (arith, more, reach, len, h.made.in_root)
-      | inr most ↦ (let left = h.left (omega (arith, most, h.full)) in omega (arith, left, reach, len, h.full))
-    ]
+-- one source has one row at most
+one_row : (t : Table) (coded : ℕ → Coded) (n : ℕ) (root : Option NodeId) (rows : List Row) → IsOneLeaf t n root → AreMade t coded (nonempty (Whole 0 n ∷ [])) root rows → length rows ≤ 1
+one_row t coded zero root rows leaf made = no_row t coded root rows made
+one_row t coded (suc n) None rows leaf made = absurd cc
+one_row t coded (suc n) (Some x) rows leaf made =
+    one_source_row t coded 0 n x rows leaf.0 (omega (arith, leaf.1)) (rw (lt-ltb 0 (suc n) (omega arith)) at made)
+
+-- so there are never too many
+few_rows : (sizes : List ℕ) (old new : Held Coded) → old.sources ≡ sizes → old.nodes ≡ [] → ¬ RowsPass old [] (first_command sizes) new
+few_rows [] old new is_sources no_node h =
+    let few = no_row (table_of coded_byte new) (coded_at new) h.root h.rows h.made in
+    absurd (omega (arith, few, h.full))
+few_rows (n ∷ sizes) old new is_sources no_node h =
+    let opened = root_opened (n ∷ sizes) old new h.root h.places is_sources no_node h.terms in
+    let made = subst (λ (s : List ℕ). AreMade (table_of coded_byte new) (coded_at new) (nonempty (Whole 0 (get_or s 0 0) ∷ [])) h.root h.rows) opened.sources h.made in
+    let few = one_row (table_of coded_byte new) (coded_at new) n h.root h.rows opened.leaf made in
+    absurd (omega (arith, few, h.full))
 
 -- the call for the first revision met this on the way
-pub first_refused : (sizes : List ℕ) (old new : SessionValue) (fault : EditFault) → HoldsOnly sizes old → get_or sizes 0 0 ≤ LONGEST_TEXT → AppliesOrNot old (first_command old.held.sources) (Err fault) new → IsStartFault sizes fault
+pub first_refused : (sizes : List ℕ) (old new : SessionValue) (fault : EditFault) → HoldsOnly sizes old → get_or sizes 0 0 ≤ LONGEST_TEXT → AppliesOrNot old (first_command old.held.sources) (Err fault) new → fault ≡ Edit.Memory
 first_refused sizes old new fault only short h =
     let applies = subst (λ (s : List ℕ). AppliesOrNot old (first_command s) (Err fault) new) only.sources h in
     let met : IsLaterFault old.held [] (first_command sizes) fault new.held = rw only.no_revisions at (applies.later (none_refused old sizes only.sources only.no_revisions short)) in
@@ -161,7 +177,7 @@ first_refused sizes old new fault only short h =
     of_term : (f : BalanceFault) → TermRefused old.held [] (first_command sizes) f new.held → IsOfEmpty f
     of_term f met = term_refused sizes old.held new.held f only.no_nodes only.no_bytes met
 
-    of_fault : (f : EditFault) → IsLaterFault old.held [] (first_command sizes) f new.held → IsStartFault sizes f
+    of_fault : (f : EditFault) → IsLaterFault old.held [] (first_command sizes) f new.held → f ≡ Edit.Memory
     of_fault Edit.NoRevision met = absurd met
     of_fault Edit.NoSource met = absurd met
     of_fault Edit.Range met = absurd met
@@ -169,7 +185,7 @@ first_refused sizes old new fault only short h =
     of_fault Edit.SpliceCount met = absurd met
     of_fault Edit.TooManySplices met = absurd met
     of_fault Edit.TooManyRevisions met = absurd met
-    of_fault Edit.TooManyRows met = rows_pass sizes old.held new.held only.sources only.no_nodes met
+    of_fault Edit.TooManyRows met = absurd (few_rows sizes old.held new.held only.sources only.no_nodes met)
     of_fault (Edit.Node NodeFault.TableFull) met = (let p = of_term (Node NodeFault.TableFull) met in absurd (p.not_table cc))
     of_fault (Edit.Node NodeFault.PoolFull) met = (let p = of_term (Node NodeFault.PoolFull) met in absurd (p.not_pool cc))
     of_fault (Edit.Node NodeFault.TooLong) met = absurd met
@@ -178,4 +194,4 @@ first_refused sizes old new fault only short h =
     of_fault (Edit.Node NodeFault.TooManySources) met = absurd met
     of_fault (Edit.Node NodeFault.Memory) met = absurd met
     of_fault Edit.TooManyPieces met = (let p = of_term TooManyPieces met in absurd (let is = p.is in cc))
-    of_fault Edit.Memory met = tt
+    of_fault Edit.Memory met = refl

@@ -9,7 +9,6 @@ use Rattle.edit_commands.specs.declared.command.Command.{Command}
 use Rattle.edit_commands.specs.declared.fault.EditFault.{EditFault}
 use Rattle.edit_commands.specs.declared.fault.EditFault.TheVariants as Edit
 use Rattle.span_certificate.specs.declared.edit.TheConstants.{MOST_REVISIONS}
-use Rattle.span_certificate.specs.declared.making.TheConstants.{ROWS_LIMIT}
 use Rattle.edit_commands.specs.Applying.{IsLaterFault}
 use Rattle.screen_editor.specs.declared.fault.EditorFault.{EditorFault}
 use Rattle.screen_editor.specs.declared.fault.EditorFault.TheVariants as New
@@ -81,14 +80,8 @@ abbrev pub first_command : List ℕ → Command
 first_command [] = Command.New
 first_command (n ∷ sizes) = Command.Open 0
 
--- memory was refused; or there were too many rows, which only a text of more bytes than there may be rows has
-abbrev pub IsStartFault : List ℕ → EditFault → Type 0
-IsStartFault sizes Edit.Memory = Unit {0}
-IsStartFault sizes Edit.TooManyRows = ROWS_LIMIT < get_or sizes 0 0
-IsStartFault sizes other = ⊥
-
--- the first source is too long; the call for the first revision was refused so; or memory was
+-- the first source is too long; or memory was refused, to the call for the first revision or beside it
 abbrev pub IsNewFault : Stated → EditorFault → Type 0
 IsNewFault st New.TooLong = IsTooLong st
-IsNewFault st (New.Edit fault) = IsStartFault st.sizes fault
+IsNewFault st (New.Edit fault) = fault ≡ Edit.Memory
 IsNewFault st New.Memory = Unit {0}

@@ -136,8 +136,7 @@ impl<R: Sources + Drop> Editor<R> {
     /// # Errors
     ///
     /// `TooLong` where source 0 has more than 2,147,483,647 bytes. `Memory`, and `Edit` with `Memory`, where memory was
-    /// refused. `Edit` with `TooManyRows` where the first revision would have more than 16,777,216 rows, which only a
-    /// source 0 of more bytes than that can meet.
+    /// refused.
     pub fn new(alloc: Global, sources: R) -> Result<Editor<R>, EditorFault>
         ensures sources { IfOk result (λ e. e.sources ≡ sources) }
         ensures made { IfOk result (λ e. IsMade (R.reading sources).stated.sizes e.editing) }
