@@ -1,0 +1,13 @@
+pub mod Choices
+pub mod Numbers
+pub mod Bytes
+pub mod Fronts
+pub mod Quotes
+pub mod Laws
+pub mod ChangeWords
+pub mod Printed
+pub mod PrintedWords
+pub mod Scripts
+pub mod Histories
+pub mod Sessions
+pub mod Logs

@@ -1,0 +1,25 @@
+//! Commands as lines of a script.
+#![tactic(auto)]
+
+mod applying;
+mod blanks;
+mod changes;
+mod command;
+mod comment;
+mod fault;
+mod handing;
+mod law;
+mod line;
+mod number;
+mod printing;
+mod quoted;
+mod room;
+
+pub use applying::apply_script;
+pub use comment::{Note, comment_text};
+pub use fault::{LineFault, Stop, Stopped};
+pub use handing::{handed, span};
+pub use law::{reads_a_log, reads_as_printed, says_the_script, says_the_texts};
+pub use line::parse_line;
+pub use printing::{push_escaped, push_front, push_line, push_number};
+pub use room::Room;

@@ -1,0 +1,119 @@
+//! Bytes in quotes.
+
+ghost use Rattle.std.specs.Prelude.{◌≡◌, ◌+◌, ◌<◌, ◌≤◌, length, take, drop, IfOk};
+ghost use Rattle.edit_script.specs.Words.{is_plain, escape_of};
+ghost use Rattle.edit_script.specs.Reading.{Gives, hex_digit, hex_at, escape_at, byte_at, unquoted, quoted_at};
+
+use crate::blanks::{behind_blanks, is_behind_word};
+use crate::fault::LineFault;
+
+/// Whether a byte stands for itself between quotes.
+fn is_plain(b: u8) -> bool
+    ensures { result ≡ is_plain b }
+{
+    b == b'\t' || (b >= b' ' && !(b == b'"' || b == b'\\' || b == 0x7f))
+}
+
+/// The byte that a letter or sign behind a backslash stands for.
+fn escape_of(e: u8) -> Option<u8>
+    ensures { result ≡ escape_of e }
+{
+    match e {
+        b'n' => Some(b'\n'),
+        b't' => Some(b'\t'),
+        b'r' => Some(b'\r'),
+        b'\\' => Some(b'\\'),
+        b'"' => Some(b'"'),
+        _ => None,
+    }
+}
+
+fn hex_digit(b: u8) -> Result<u8, LineFault>
+    ensures value { Gives (λ d. d) result (hex_digit b) }
+    ensures small { IfOk result (λ d. d < 16) }
+{
+    match char::from(b).to_digit(16) {
+        Some(d) => Ok(d as u8),
+        None => Err(LineFault::NoCommand),
+    }
+}
+
+fn hex_at(text: &[u8]) -> Result<(u8, &[u8]), LineFault>
+    ensures { Gives (λ x. (x.0, x.1.now)) result (hex_at text.now) }
+{
+    match text {
+        [high, low, rest @ ..] => {
+            let high = hex_digit(*high)?;
+            let low = hex_digit(*low)?;
+            Ok((high * 16 + low, rest))
+        }
+        _ => Err(LineFault::NoCommand),
+    }
+}
+
+fn escape_at(text: &[u8]) -> Result<(u8, &[u8]), LineFault>
+    ensures { Gives (λ x. (x.0, x.1.now)) result (escape_at text.now) }
+{
+    match text {
+        [] => Err(LineFault::NoCommand),
+        [b'x', rest @ ..] => hex_at(rest),
+        [e, rest @ ..] => match escape_of(*e) {
+            Some(b) => Ok((b, rest)),
+            None => Err(LineFault::NoCommand),
+        },
+    }
+}
+
+/// The byte that is written at the front, and what follows.
+fn byte_at(text: &[u8]) -> Result<(u8, &[u8]), LineFault>
+    ensures { Gives (λ x. (x.0, x.1.now)) result (byte_at text.now) }
+{
+    match text {
+        [] => Err(LineFault::NoCommand),
+        [b'\\', rest @ ..] => escape_at(rest),
+        [b, rest @ ..] => {
+            if is_plain(*b) {
+                Ok((*b, rest))
+            } else {
+                Err(LineFault::NoCommand)
+            }
+        }
+    }
+}
+
+/// Puts the bytes that are written up to a quote behind those in `room`, and answers what follows the quote.
+fn unquote<'a>(text: &'a [u8], room: &mut Vec<u8>) -> Result<&'a [u8], LineFault>
+    ensures bytes { Gives (λ rest. (drop (length room.old.items) room.new.items, rest.now)) result
+        (unquoted (length text.now) text.now) }
+    ensures kept { take (length room.old.items) room.new.items ≡ room.old.items }
+{
+    let mut rest = text;
+    while let [c, behind @ ..] = rest {
+        if *c == b'"' {
+            return Ok(behind);
+        }
+        let (b, after) = byte_at(rest)?;
+        room.push(b)?;
+        rest = after;
+    }
+    Err(LineFault::NoCommand)
+}
+
+/// The place and the number in `room` of the bytes that are written in quotes at a line's front, and what is left.
+pub fn quoted<'a>(line: &'a [u8], room: &mut Vec<u8>) -> Result<(u64, u64, &'a [u8]), LineFault>
+    ensures bytes { Gives (λ x. (take x.1 (drop x.0 room.new.items), x.2.now)) result (quoted_at line.now) }
+    ensures behind { IfOk result (λ x. (x.0 ≡ length room.old.items) × (x.0 + x.1 ≡ length room.new.items)) }
+    ensures kept { take (length room.old.items) room.new.items ≡ room.old.items }
+{
+    let place = room.len();
+    match behind_blanks(line) {
+        [b'"', text @ ..] => {
+            let rest = unquote(text, room)?;
+            if !is_behind_word(rest) {
+                return Err(LineFault::NoCommand);
+            }
+            Ok((place as u64, (room.len() - place) as u64, rest))
+        }
+        _ => Err(LineFault::NoCommand),
+    }
+}
