@@ -8,11 +8,18 @@
 # make bench     times the program beside the usual tools, on data that it makes
 # make refuse    refuses each allocation of a run in turn, and fails its reads and writes by real devices
 # make memcheck  runs the tests of ropes under valgrind's memcheck, where it is installed
+# make install PREFIX=/usr/local [DESTDIR=..] [PROGRAM=..]  installs the program that `make run` built, or another, with scripts, man pages and completions
+# make uninstall PREFIX=/usr/local [DESTDIR=..]  takes away what make install put there
+# make deb       makes a package for Debian of the program that `make run` built, or of PROGRAM=.., in the folder out
+# make installed tries all three in folders of their own, over the built program or PROGRAM=..
 
-.PHONY: try run check long hostile fuzz audit bench refuse memcheck
+.PHONY: try run check long hostile fuzz audit bench refuse memcheck install uninstall deb installed
 
 IMAGE = crates/cordkit/stdin
 MINUTES = 10
+PREFIX = /usr/local
+DESTDIR =
+PROGRAM = crates/cordkit/out/cordkit
 
 try:
 	(cd crates/cordkit && rt try) < "$(IMAGE)"
@@ -21,7 +28,7 @@ run:
 	cd crates/cordkit && rt run < stdin
 
 check:
-	rt ci && sh tests/program.sh && sh tests/program.sh bin/cordkit launcher && sh tests/slice.sh
+	rt ci && sh tests/program.sh && sh tests/program.sh bin/cordkit launcher && sh tests/slice.sh && $(MAKE) installed
 
 long:
 	sh tests/long.sh
@@ -49,3 +56,15 @@ refuse:
 
 memcheck:
 	sh tests/memcheck.sh
+
+install:
+	sh packaging/install.sh install "$(DESTDIR)$(PREFIX)" "$(PROGRAM)"
+
+uninstall:
+	sh packaging/install.sh uninstall "$(DESTDIR)$(PREFIX)"
+
+deb:
+	sh packaging/deb.sh "$(PROGRAM)"
+
+installed:
+	sh tests/install.sh "$(PROGRAM)" && sh tests/deb.sh "$(PROGRAM)"

@@ -1,0 +1,76 @@
+# Completions of cordkit, cordedit and cordkit-verify for bash.
+
+# What the words of a command are, in their order; `files` are all words from there on.
+_cordkit_kinds() {
+    case $1 in
+        check | migrate | cordkit-verify) echo file files ;;
+        show) echo file number files ;;
+        cut) echo number number file ;;
+        join) echo files ;;
+        find) echo number text file ;;
+        cmp | edit | cordedit) echo file file ;;
+        help) echo command ;;
+    esac
+}
+
+_cordkit_options() {
+    case $1 in
+        cordkit-verify) echo --text --graph --at-most --help ;;
+        check | show | migrate) echo --at-most --help ;;
+        *) echo --help ;;
+    esac
+}
+
+# Reads the words before the present one: how many of the command's own there are, as `place`, whether options have ended, and whether the
+# present word is an option's number or a file that output goes to.
+_cordkit_read() {
+    local k word
+    for ((k = 1; k < COMP_CWORD; k++)); do
+        word=${COMP_WORDS[k]}
+        if [[ $word == [\<\>]* ]]; then
+            ((++k == COMP_CWORD)) && redirected=yes
+        elif [[ -n $ended ]]; then
+            ((++place))
+        elif [[ $word == -- ]]; then
+            ended=yes
+        elif [[ $word == --at-most || $word == --text ]]; then
+            [[ ${COMP_WORDS[k + 1]} == = ]] && ((++k))
+            ((++k >= COMP_CWORD)) && valued=yes
+        elif [[ $word != -* && -z $command ]]; then
+            command=$word
+        elif [[ $word != -* ]]; then
+            ((++place))
+        fi
+    done
+}
+
+_cordkit() {
+    local commands='check show cut join find cmp edit migrate help'
+    local command='' place=0 ended='' valued='' redirected='' kind kinds
+    COMPREPLY=()
+    [[ ${1##*/} == cordkit ]] || command=${1##*/}
+    _cordkit_read
+    if [[ -n $redirected ]]; then
+        compopt -o default
+        return
+    fi
+    [[ -z $valued ]] || return
+    if [[ -z $ended && $2 == -* ]]; then
+        COMPREPLY=($(compgen -W "$(_cordkit_options "$command")" -- "$2"))
+        return
+    fi
+    kind=command
+    if [[ -n $command ]]; then
+        kinds=($(_cordkit_kinds "$command"))
+        kind=${kinds[place]:-}
+        if [[ -z $kind && ${kinds[*]} == *files ]]; then
+            kind=files
+        fi
+    fi
+    case $kind in
+        command) COMPREPLY=($(compgen -W "$commands" -- "$2")) ;;
+        file | files) compopt -o default ;;
+    esac
+}
+
+complete -F _cordkit cordkit cordedit cordkit-verify

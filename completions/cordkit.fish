@@ -1,0 +1,18 @@
+# Completions of cordkit for fish. Files are offered where no rule says otherwise.
+
+set --local commands check show cut join find cmp edit migrate help
+set --local none "not __fish_seen_subcommand_from $commands"
+
+complete -c cordkit -n $none -f
+complete -c cordkit -s h -l help -d 'Print help'
+complete -c cordkit -n $none -a check -d 'Say whether a saved session is accepted, or by which fault it is refused'
+complete -c cordkit -n $none -a show -d 'Write the text of one revision of a saved session'
+complete -c cordkit -n $none -a cut -d 'Write a part of a file'
+complete -c cordkit -n $none -a join -d 'Write files, one behind the other'
+complete -c cordkit -n $none -a find -d 'Print the place at which a pattern first occurs in a file'
+complete -c cordkit -n $none -a cmp -d 'Say whether a file is less than another, equal or greater, byte by byte'
+complete -c cordkit -n $none -a edit -d 'Edit a text on the screen, and save the session'
+complete -c cordkit -n $none -a migrate -d 'Write a saved session anew, in the latest version of its format'
+complete -c cordkit -n $none -a help -d 'Print the help of the program or of a command'
+complete -c cordkit -n '__fish_seen_subcommand_from check show migrate' -l at-most -x -d 'The most looks at nodes that the check may take'
+complete -c cordkit -n '__fish_seen_subcommand_from help' -f -a "$commands"

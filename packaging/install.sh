@@ -1,0 +1,95 @@
+#!/bin/sh
+# install.sh install|uninstall ROOT [PROGRAM]: puts cordkit and what belongs to it below the folder ROOT, or takes it away from there. PROGRAM
+# is the program, where it is not the one that `make run` built. Each folder that install had to make is noted in lib/cordkit/folders, so that
+# uninstall leaves none of them, and takes away none of anybody else's.
+set -eu
+task=${1:-}
+root=${2:-}
+program=${3:-}
+
+usage() {
+    echo "usage: install.sh install|uninstall ROOT [PROGRAM]" >&2
+    exit 2
+}
+
+[ -n "$root" ] || usage
+
+# Paths may be relative to the folder in which this script was started.
+case $root in
+/*) ;;
+*) root=$PWD/$root ;;
+esac
+case $program in
+"" | /*) ;;
+*) program=$PWD/$program ;;
+esac
+cd "$(dirname "$0")/.."
+program=${program:-crates/cordkit/out/cordkit}
+noted=$root/lib/cordkit/folders
+
+# Each file: its mode, its place below the root, and where it stands here.
+files="755 lib/cordkit/cordkit $program
+755 bin/cordkit bin/cordkit
+755 bin/cordedit bin/cordedit
+755 bin/cordkit-verify bin/cordkit-verify
+644 share/man/man1/cordkit.1 man/cordkit.1
+644 share/man/man1/cordedit.1 man/cordedit.1
+644 share/man/man1/cordkit-verify.1 man/cordkit-verify.1
+644 share/man/man5/cord-image.5 man/cord-image.5
+644 share/bash-completion/completions/cordkit completions/cordkit.bash
+644 share/bash-completion/completions/cordedit completions/cordkit.bash
+644 share/bash-completion/completions/cordkit-verify completions/cordkit.bash
+644 share/zsh/site-functions/_cordkit completions/_cordkit
+644 share/fish/vendor_completions.d/cordkit.fish completions/cordkit.fish
+644 share/fish/vendor_completions.d/cordkit-verify.fish completions/cordkit-verify.fish
+644 share/cordkit/magic packaging/magic"
+
+# Makes a folder below the root, with those above it, and tells each that was not there, the upper one first.
+make_folder() {
+    if ! [ -d "$root/$1" ]; then
+        if [ "$1" != . ]; then
+            make_folder "$(dirname "$1")"
+        fi
+        mkdir -p "$root/$1"
+        echo "$1"
+    fi
+}
+
+put_all() {
+    if ! [ -f "$program" ] || ! [ -x "$program" ]; then
+        echo "there is no program $program: make run builds it" >&2
+        exit 1
+    fi
+    made=$(printf '%s\n' "$files" | while read -r mode place source; do make_folder "$(dirname "$place")"; done)
+    if [ -n "$made" ]; then
+        echo "$made" >> "$noted"
+    fi
+    printf '%s\n' "$files" | while read -r mode place source; do
+        install -m "$mode" "$source" "$root/$place"
+    done
+}
+
+# A folder that something else came to lie in stays.
+take_all_away() {
+    made=
+    if [ -f "$noted" ]; then
+        made=$(sed '1!G; h; $!d' "$noted")
+    fi
+    printf '%s\n' "$files" | while read -r mode place source; do
+        rm -f "$root/$place"
+    done
+    rm -f "$noted"
+    echo "$made" | while read -r folder; do
+        case $folder in
+        "") ;;
+        .) rmdir "$root" 2> /dev/null || true ;;
+        *) rmdir "$root/$folder" 2> /dev/null || true ;;
+        esac
+    done
+}
+
+case $task in
+install) put_all ;;
+uninstall) take_all_away ;;
+*) usage ;;
+esac

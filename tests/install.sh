@@ -1,0 +1,292 @@
+#!/bin/sh
+# Installs the built program, or the one that $1 names, with what belongs to it into folders of its own, and tries what lies there: the launcher,
+# on the rows of tests/program.sh that are for it, or on all of them where $2 is `all`; every example of the manual pages; the manual pages, the
+# completions and the magic, each by its own tool; and that uninstall leaves nothing. What cannot be tried here is told. The last line is
+# 'N passed, M failed'; the status is not 0 where a case failed.
+set -u
+top=$(cd "$(dirname "$0")/.." && pwd)
+program=${1:-$top/crates/cordkit/out/cordkit}
+cases=${2:-launcher}
+case $program in
+/*) ;;
+*) program=$PWD/$program ;;
+esac
+if ! [ -x "$program" ]; then
+    echo "there is no program $program" >&2
+    echo "0 passed, 1 failed"
+    exit 1
+fi
+room=$(mktemp -d) || exit 1
+trap 'rm -rf "$room"' EXIT
+trap 'exit 1' HUP INT TERM
+prefix="$room/a prefix"
+unset MAKEFLAGS MFLAGS MAKELEVEL
+passed=0
+failed=0
+
+passes() {
+    passed=$((passed + 1))
+}
+
+fails() {
+    failed=$((failed + 1))
+    echo "FAILED: $1"
+}
+
+# A case: its name, what there is, and what there has to be.
+is_same() {
+    if [ "$2" = "$3" ]; then
+        passes
+    else
+        fails "$1: it is"
+        printf '%s\nand has to be\n%s\n' "$2" "$3"
+    fi
+}
+
+# Whether there is this tool, without which something is not tried.
+has() {
+    if command -v "$1" > /dev/null; then
+        return 0
+    fi
+    echo "LEFT OUT: $2: there is no $1 here"
+    return 1
+}
+
+make_it() {
+    make -s -C "$top" "$@" > "$room/made" 2>&1
+}
+
+# What lies below a folder, if there is one.
+below() {
+    if [ -d "$1" ]; then
+        (cd "$1" && find . | sort)
+    fi
+}
+
+# ---- Installing and taking away
+
+try_installing() {
+    make_it install PREFIX="$room/none" PROGRAM="$room/missing"
+    is_same 'without a program it is told how to build one' \
+        "$(grep -c 'there is no program .*: make run builds it' "$room/made") $(below "$room/none")" '1 '
+    make_it install PREFIX="$prefix" PROGRAM="$program" || cat "$room/made"
+    is_same 'the installed program' "$(sha256sum < "$prefix/lib/cordkit/cordkit")" "$(sha256sum < "$program")"
+    make_it install DESTDIR="$room/stage" PREFIX=/usr PROGRAM="$program" || cat "$room/made"
+    is_same 'a staged installation has the same files' "$(below "$room/stage/usr")" "$(below "$prefix")"
+    make_it uninstall DESTDIR="$room/stage" PREFIX=/usr
+    is_same 'nothing of it is left' "$(below "$room/stage")" .
+}
+
+# A prefix with folders and files of others, into which is installed twice.
+try_shared_prefix() {
+    mkdir -p "$room/shared/bin" "$room/shared/share/man/man1" "$room/shared/share/fish"
+    : > "$room/shared/share/man/man1/other.1"
+    before=$(below "$room/shared")
+    make_it install PREFIX="$room/shared" PROGRAM="$program"
+    make_it install PREFIX="$room/shared" PROGRAM="$program"
+    is_same 'a program among others' "$("$room/shared/bin/cordkit" check "$top/crates/cordkit/stdin")" "$(cat "$top/crates/cordkit/stdout")"
+    make_it uninstall PREFIX="$room/shared"
+    is_same 'what was there before is left, and nothing else' "$(below "$room/shared")" "$before"
+    make_it uninstall PREFIX="$room/shared"
+    is_same 'a second time changes nothing' "$(below "$room/shared")" "$before"
+}
+
+# ---- The programs
+
+try_programs() {
+    if written=$(sh "$top/tests/program.sh" "$prefix/bin/cordkit" "$cases"); then
+        echo "the rows of the program: $written"
+        passes
+    else
+        echo "$written"
+        fails 'the rows of the program'
+    fi
+    mkdir "$room/links"
+    ln -s "$prefix/bin/cordkit" "$prefix/bin/cordedit" "$room/links"
+    cd "$room/links" || exit 1
+    is_same 'the launcher by a link' "$(./cordkit check "$top/crates/cordkit/stdin")" "$(cat "$top/crates/cordkit/stdout")"
+    printf 'ab\030' | PATH=/usr/bin:/bin ./cordedit image > frames
+    is_same 'cordedit by a link runs the program beside it' "$("$prefix/bin/cordkit" show image 2)" ab
+    if has python3 'the second checker'; then
+        is_same 'the second checker' "$("$prefix/bin/cordkit-verify" "$top/crates/cordkit/stdin")" "$(cat "$top/crates/cordkit/stdout")"
+    fi
+}
+
+# The commands that the program's help names.
+commands() {
+    "$prefix/bin/cordkit" --help 2>&1 | awk '/^Commands:/ { on = 1; next } /^$/ { on = 0 } on { print $1 }' | sort
+}
+
+# ---- The manual pages
+
+# The examples of a manual page as shell scripts, each with what it has to write beside it: 1, 1.wanted, and so on. A line that begins with
+# a dollar is a command; those behind it that begin with > go on with it.
+examples_of() {
+    sed 's/\\e/\\/g; s/^\\&//' "$1" | awk -v folder="$2" '
+        /^\.Sh / { examples = $2 == "EXAMPLES" }
+        examples && /^\.Bd / { block = 1; script = ""; wanted = ""; next }
+        block && /^\.Ed/ {
+            block = 0
+            if (script == "") next
+            n++
+            printf "%s", script > (folder "/" n)
+            printf "%s", wanted > (folder "/" n ".wanted")
+        }
+        block && /^\$ / { script = script substr($0, 3) "\n"; command = 1; next }
+        block && command && /^> / { script = script substr($0, 3) "\n"; next }
+        block { wanted = wanted $0 "\n"; command = 0 }'
+}
+
+try_examples() {
+    name=$(basename "$1")
+    mkdir "$room/$name" "$room/$name.scripts"
+    examples_of "$1" "$room/$name.scripts"
+    cd "$room/$name" || exit 1
+    count=0
+    while [ -f "$room/$name.scripts/$((count + 1))" ]; do
+        count=$((count + 1))
+        PATH="$prefix/bin:$PATH" sh "$room/$name.scripts/$count" > ../written 2>&1
+        is_same "example $count of $name" "$(cat ../written)" "$(cat "$room/$name.scripts/$count.wanted")"
+    done
+    all_examples=$((all_examples + count))
+}
+
+try_pages() {
+    all_examples=0
+    for page in "$prefix"/share/man/man*/*; do
+        if [ "$(basename "$page")" = cordkit-verify.1 ] && ! has python3 'the examples of the second checker'; then
+            continue
+        fi
+        try_examples "$page"
+    done
+    if [ "$all_examples" -ge 5 ]; then passes; else fails "$all_examples examples in the manual pages"; fi
+    is_same 'the commands of the manual page' \
+        "$(sed -n 's/^\.It Cm \([a-z]*\).*/\1/p' "$prefix/share/man/man1/cordkit.1" | sort)" "$(commands)"
+    if has mandoc 'the manual pages'; then
+        is_same 'the manual pages have no fault' \
+            "$(mandoc -T lint -W style "$prefix"/share/man/man*/* 2> /dev/null | grep -v ': referenced manual not found: ')" ''
+    fi
+}
+
+# ---- Completions
+
+# What bash makes of keys that are typed, with a tab for each star: the words that the command then gets, each behind a bar.
+try_typed() {
+    : > got
+    : > keys
+    while IFS=';' read -r typed wanted; do
+        printf '%s\n' "$typed" | tr '*' '\t' >> keys
+    done < table
+    echo exit >> keys
+    script -qec "bash --noprofile --rcfile ../rc -i" /dev/null < keys > ../screen 2>&1
+    n=0
+    while IFS=';' read -r typed wanted; do
+        n=$((n + 1))
+        is_same "bash completes '$typed'" "$(sed -n "${n}p" got)" "$wanted"
+    done < table
+}
+
+try_bash() {
+    mkdir "$room/completions"
+    cd "$room/completions" || exit 1
+    : > session.cord
+    : > text
+    : > 'a file'
+    : > 1st
+    cat > ../rc << 'RC'
+PS1=
+bind 'set bell-style none'
+bind 'set enable-bracketed-paste off'
+show_words() { printf '|%s' "$@" >> got; echo >> got; }
+cordkit() { show_words "$@"; }
+cordedit() { show_words "$@"; }
+cordkit-verify() { show_words "$@"; }
+RC
+    echo ". '$prefix/share/bash-completion/completions/cordkit'" >> ../rc
+    cat > table << 'TABLE'
+cordkit ch*ses*te*;|check|session.cord|text
+cordkit check --a*1 ses*;|check|--at-most|1|session.cord
+cordkit check --at-most 1* ses*;|check|--at-most|1|session.cord
+cordkit check --at-most=1* ses*;|check|--at-most=1|session.cord
+cordkit check ses*--h*;|check|session.cord|--help
+cordkit check -- ses*;|check|--|session.cord
+cordkit sh*ses*1* te*te*;|show|session.cord|1|text|text
+cordkit mi*ses*te*;|migrate|session.cord|text
+cordkit cu*1* 1* te*te*;|cut|1|1|text|te
+cordkit j*te*a*;|join|text|a file
+cordkit f*1* te* te*;|find|1|te|text
+cordkit cm*te*a*te*;|cmp|text|a file|te
+cordkit ed*ses*te*;|edit|session.cord|text
+cordkit help mi*mi*;|help|migrate|mi
+cordkit --h*;|--help
+cordkit te*;|te
+cordedit ses*te*te*;|session.cord|text|te
+cordkit-verify --te*1* ses*te*;|--text|1|session.cord|text
+cordkit-verify --g*ses*;|--graph|session.cord
+TABLE
+    is_same 'the commands that bash offers' "$(bash -c '. "$1"
+        COMP_WORDS=(cordkit "") COMP_CWORD=1
+        _cordkit cordkit "" cordkit
+        printf "%s\n" "${COMPREPLY[@]}"' bash "$prefix/share/bash-completion/completions/cordkit" | sort)" "$(commands)"
+    if has script 'completions as they are typed'; then
+        try_typed
+    fi
+}
+
+try_fish() {
+    cd "$room/completions" || exit 1
+    offered=$(fish --no-config -c "source '$prefix/share/fish/vendor_completions.d/cordkit.fish'; complete -C 'cordkit '")
+    is_same 'the commands that fish offers' "$(printf '%s\n' "$offered" | cut -f 1 | sort)" "$(commands)"
+    offered=$(fish --no-config -c "source '$prefix/share/fish/vendor_completions.d/cordkit.fish'; complete -C 'cordkit check --a'; complete -C 'cordkit show ses'")
+    is_same 'the option and the file that fish offers' "$(printf '%s\n' "$offered" | cut -f 1)" "--at-most
+session.cord"
+    offered=$(fish --no-config -c "source '$prefix/share/fish/vendor_completions.d/cordkit-verify.fish'; complete -C 'cordkit-verify --'")
+    is_same 'the options of the second checker that fish offers' "$(printf '%s\n' "$offered" | cut -f 1 | sort)" "--at-most
+--graph
+--help
+--text"
+}
+
+# The keys that zsh is given in a terminal of its own, as of bash.
+try_zsh() {
+    cd "$room/completions" || exit 1
+    : > got
+    zsh -f -c '
+        zmodload zsh/zpty
+        zpty shell zsh -f -i
+        zpty -w shell "PS1= ; fpath=(${(q)1} \$fpath); autoload -Uz compinit; compinit -u -D; unsetopt beep; source ../functions"
+        zpty -w shell "cordkit ch	ses	te	"
+        zpty -w shell "exit"
+        zpty -r shell > ../screen
+    ' zsh "$prefix/share/zsh/site-functions"
+    cat got
+}
+
+try_magic() {
+    cd "$room" || exit 1
+    magic=$prefix/share/cordkit/magic
+    is_same 'the magic has no fault' "$(file -C -m "$magic" 2>&1)" ''
+    rm -f magic.mgc
+    is_same 'an image of version 1' "$(file -b -m "$magic" "$top/crates/cordkit/stdin")" 'cordkit session image, version 1, 2 revisions'
+    printf 'ab\030' | "$prefix/bin/cordkit" edit image > frames
+    is_same 'an image of version 2' "$(file -b -m "$magic" image)" 'cordkit session image, version 2, 3 revisions'
+    printf '\030' | "$prefix/bin/cordkit" edit image > frames
+    is_same 'an image of one revision' "$(file -b -m "$magic" image)" 'cordkit session image, version 2, 1 revision'
+    is_same 'its type' "$(file -b --mime-type -m "$magic" image)" application/x-cordkit-session
+    is_same 'no image' "$(file -b -m "$magic" "$top/Makefile")" 'ASCII text'
+}
+
+try_installing
+try_shared_prefix
+try_programs
+try_pages
+if has bash 'the completions of bash'; then try_bash; fi
+if has zsh 'the completions of zsh'; then try_zsh; fi
+if has fish 'the completions of fish'; then try_fish; fi
+if has file 'the magic'; then try_magic; fi
+cd "$room" || exit 1
+make_it uninstall PREFIX="$prefix"
+is_same 'uninstall leaves nothing' "$(below "$prefix")" ''
+
+echo "$passed passed, $failed failed"
+[ "$failed" = 0 ]
