@@ -3,6 +3,7 @@
 # is the program, where it is not the one that `make run` built. Each folder that install had to make is noted in lib/cordkit/folders, so that
 # uninstall leaves none of them, and takes away none of anybody else's.
 set -eu
+umask 022
 task=${1:-}
 root=${2:-}
 program=${3:-}

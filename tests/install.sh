@@ -170,45 +170,43 @@ try_pages() {
 
 # ---- Completions
 
-# What bash makes of keys that are typed, with a tab for each star: the words that the command then gets, each behind a bar.
+# What a shell makes of the keys of a table, in which a tab stands as a star: the words that the command then gets, each behind a bar.
 try_typed() {
+    name=$1
+    shift
     : > got
-    : > keys
     while IFS=';' read -r typed wanted; do
-        printf '%s\n' "$typed" | tr '*' '\t' >> keys
-    done < table
+        printf '%s\n' "$typed"
+    done < table | tr '*' '\t' > keys
     echo exit >> keys
-    script -qec "bash --noprofile --rcfile ../rc -i" /dev/null < keys > ../screen 2>&1
+    ZDOTDIR=$room/zsh timeout 60 script -qec "$*" /dev/null < keys > ../screen 2>&1
     n=0
     while IFS=';' read -r typed wanted; do
         n=$((n + 1))
-        is_same "bash completes '$typed'" "$(sed -n "${n}p" got)" "$wanted"
+        is_same "$name completes '$typed'" "$(sed -n "${n}p" got)" "$wanted"
     done < table
 }
 
-try_bash() {
-    mkdir "$room/completions"
+# A folder with the files that are completed, and commands that tell the words that they get.
+make_completions() {
+    mkdir "$room/completions" "$room/zsh"
     cd "$room/completions" || exit 1
     : > session.cord
     : > text
     : > 'a file'
     : > 1st
-    cat > ../rc << 'RC'
+    cat > ../words << 'WORDS'
 PS1=
-bind 'set bell-style none'
-bind 'set enable-bracketed-paste off'
 show_words() { printf '|%s' "$@" >> got; echo >> got; }
 cordkit() { show_words "$@"; }
 cordedit() { show_words "$@"; }
 cordkit-verify() { show_words "$@"; }
-RC
-    echo ". '$prefix/share/bash-completion/completions/cordkit'" >> ../rc
+WORDS
     cat > table << 'TABLE'
 cordkit ch*ses*te*;|check|session.cord|text
-cordkit check --a*1 ses*;|check|--at-most|1|session.cord
 cordkit check --at-most 1* ses*;|check|--at-most|1|session.cord
 cordkit check --at-most=1* ses*;|check|--at-most=1|session.cord
-cordkit check ses*--h*;|check|session.cord|--help
+cordkit check --he*;|check|--help
 cordkit check -- ses*;|check|--|session.cord
 cordkit sh*ses*1* te*te*;|show|session.cord|1|text|text
 cordkit mi*ses*te*;|migrate|session.cord|text
@@ -221,16 +219,34 @@ cordkit help mi*mi*;|help|migrate|mi
 cordkit --h*;|--help
 cordkit te*;|te
 cordedit ses*te*te*;|session.cord|text|te
-cordkit-verify --te*1* ses*te*;|--text|1|session.cord|text
+cordkit-verify --text 1* ses*te*;|--text|1|session.cord|text
 cordkit-verify --g*ses*;|--graph|session.cord
 TABLE
+}
+
+try_bash() {
+    completions=$prefix/share/bash-completion/completions/cordkit
     is_same 'the commands that bash offers' "$(bash -c '. "$1"
         COMP_WORDS=(cordkit "") COMP_CWORD=1
         _cordkit cordkit "" cordkit
-        printf "%s\n" "${COMPREPLY[@]}"' bash "$prefix/share/bash-completion/completions/cordkit" | sort)" "$(commands)"
-    if has script 'completions as they are typed'; then
-        try_typed
-    fi
+        printf "%s\n" "${COMPREPLY[@]}"' bash "$completions" | sort)" "$(commands)"
+    has script 'completions as they are typed in bash' || return
+    {
+        cat ../words
+        echo "bind 'set bell-style none'; bind 'set enable-bracketed-paste off'; . '$completions'"
+    } > ../bashrc
+    try_typed bash bash --noprofile --rcfile ../bashrc -i
+}
+
+try_zsh() {
+    is_same 'the commands that zsh offers' \
+        "$(sed -n "s/^        '\([a-z]*\):.*/\1/p" "$prefix/share/zsh/site-functions/_cordkit" | sort)" "$(commands)"
+    has script 'completions as they are typed in zsh' || return
+    {
+        cat ../words
+        echo "fpath=('$prefix/share/zsh/site-functions' \$fpath); autoload -Uz compinit; compinit -u -D; unsetopt beep"
+    } > ../zsh/.zshrc
+    try_typed zsh zsh -i
 }
 
 try_fish() {
@@ -245,21 +261,6 @@ session.cord"
 --graph
 --help
 --text"
-}
-
-# The keys that zsh is given in a terminal of its own, as of bash.
-try_zsh() {
-    cd "$room/completions" || exit 1
-    : > got
-    zsh -f -c '
-        zmodload zsh/zpty
-        zpty shell zsh -f -i
-        zpty -w shell "PS1= ; fpath=(${(q)1} \$fpath); autoload -Uz compinit; compinit -u -D; unsetopt beep; source ../functions"
-        zpty -w shell "cordkit ch	ses	te	"
-        zpty -w shell "exit"
-        zpty -r shell > ../screen
-    ' zsh "$prefix/share/zsh/site-functions"
-    cat got
 }
 
 try_magic() {
@@ -280,6 +281,7 @@ try_installing
 try_shared_prefix
 try_programs
 try_pages
+make_completions
 if has bash 'the completions of bash'; then try_bash; fi
 if has zsh 'the completions of zsh'; then try_zsh; fi
 if has fish 'the completions of fish'; then try_fish; fi

@@ -1,0 +1,70 @@
+#!/bin/sh
+# deb.sh [PROGRAM [FOLDER]]: makes a package for Debian, by dpkg-deb, of the program that `make run` built or of PROGRAM, with what make install puts
+# beside it. The package, cordkit_VERSION_ARCHITECTURE.deb, comes into the folder out, or FOLDER, and its path is printed. The version is that of
+# CHANGELOG.md. Its times are those of the last commit, or of CHANGELOG.md where there is no git, so that a package made twice is the same.
+set -eu
+umask 022
+program=${1:-}
+folder=${2:-}
+case $program in
+"" | /*) ;;
+*) program=$PWD/$program ;;
+esac
+case $folder in
+"" | /*) ;;
+*) folder=$PWD/$folder ;;
+esac
+cd "$(dirname "$0")/.."
+folder=${folder:-out}
+room=$(mktemp -d)
+trap 'rm -rf "$room"' EXIT
+trap 'exit 1' HUP INT TERM
+if ! command -v dpkg-deb > /dev/null; then
+    echo "there is no dpkg-deb here" >&2
+    exit 1
+fi
+sh packaging/install.sh install "$room/package/usr" "$program"
+rm "$room/package/usr/lib/cordkit/folders"
+
+# Debian's zsh looks for the completions of packages in a folder of its own.
+mv "$room/package/usr/share/zsh/site-functions" "$room/package/usr/share/zsh/vendor-completions"
+
+version=$(sed -n 's/^## \([0-9.]*\) (unreleased)$/\1~unreleased/p; s/^## \([0-9.]*\) .*/\1/p' CHANGELOG.md | head -n 1)
+architecture=$(dpkg --print-architecture)
+: "${SOURCE_DATE_EPOCH=$(git log -1 --format=%ct 2> /dev/null || stat -c %Y CHANGELOG.md)}"
+export SOURCE_DATE_EPOCH
+
+# The libraries that the program needs, by Debian's own tool where it is there.
+mkdir "$room/debian"
+: > "$room/debian/control"
+needed=$(cd "$room" && dpkg-shlibdeps -O package/usr/lib/cordkit/cordkit 2> /dev/null | sed -n 's/^shlibs:Depends=//p' || true)
+
+documents=$room/package/usr/share/doc/cordkit
+mkdir -p "$documents" "$room/package/DEBIAN"
+cp CHANGELOG.md "$documents/changelog"
+cp LICENSE "$documents/copyright"
+find "$room/package/usr/share/man" "$documents/changelog" -type f -exec gzip -9n {} +
+{
+    echo "Package: cordkit"
+    echo "Version: $version"
+    echo "Architecture: $architecture"
+    echo "Section: editors"
+    echo "Priority: optional"
+    echo "Maintainer: $(git log -1 --format='%an <%ae>' 2> /dev/null || echo 'The cordkit authors <nobody@localhost>')"
+    echo "Depends: ${needed:-libc6}"
+    echo "Recommends: python3"
+    echo "Suggests: bash-completion, file"
+    echo "Installed-Size: $(du -sk "$room/package/usr" | cut -f 1)"
+    echo "Description: text workbench whose saved sessions can be checked"
+    echo " cordkit works on large texts as ropes, and keeps every old state of a text at"
+    echo " little cost. A saved session carries every revision of its texts, the commands"
+    echo " that made them, and rows that show that each text is what its command gives."
+    echo " So it can be checked, and trusted, without the editor that wrote it. The"
+    echo " program is proved. An editor for the terminal and a second checker, in python,"
+    echo " come with it."
+} > "$room/package/DEBIAN/control"
+(cd "$room/package" && find usr -type f | sort | xargs md5sum) > "$room/package/DEBIAN/md5sums"
+mkdir -p "$folder"
+package=$folder/cordkit_${version}_$architecture.deb
+dpkg-deb --root-owner-group -Zxz --build "$room/package" "$package" > /dev/null
+echo "$package"
