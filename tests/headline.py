@@ -1,0 +1,173 @@
+"""docs/HEADLINE.md: the clause of the checker that says what an accepted image is, and every definition that it rests on, in reading order, and nothing else;
+behind it how much the contract of each public call rests on. Where the page is not what specs/ say now, the last line says so, and the status is 1.
+
+headline.py                        compares the page with what it would write
+headline.py --write                writes it
+headline.py CRATE CALL [CLAUSE]    prints what another call rests on, or one clause of it: headline.py rope_store Store::append
+headline.py --bare                 prints which definitions have no comment, of those in the page and of those that public calls cite"""
+
+import os
+import sys
+import textwrap
+
+sys.dont_write_bytecode = True
+from definitions import TOP, Crates
+
+PAGE = os.path.join(TOP, "docs/HEADLINE.md")
+CRATE, CALL, CLAUSE = "session_checker", "check", "faithful"
+
+
+def is_code(key):
+    """Whether the code declares it."""
+    return "/" in key[0]
+
+
+def counted(crates, keys):
+    """How much there is to read."""
+    code = [key for key in keys if is_code(key)]
+    written = [key for key in keys if not is_code(key)]
+    comments = sum(len(crates.comments[key]) for key in written)
+    said = f"{len(written)} definitions in {crates.size(written)} lines, {comments} of them comments"
+    return f"{said}, over {len(code)} types and limits of the code in {crates.size(code)} lines" if code else said
+
+
+def in_order(crates, keys):
+    """The files of these, each behind those that it rests on: a crate's code, and then its definitions."""
+    order = []
+
+    def visit(place):
+        if place not in order and place not in waiting:
+            waiting.append(place)
+            for key in crates.lines:
+                if key[0] == place and key in keys:
+                    for below in sorted({it[0] for it in crates.rests_on(key) & keys}, key=rank):
+                        visit(below)
+            order.append(place)
+
+    def rank(place):
+        crate = place.replace("/", ".").split(".")[0]
+        return crates.names.index(crate), "/" not in place, place
+
+    waiting = []
+    for place in sorted({key[0] for key in keys}, key=rank):
+        visit(place)
+    return sorted(order, key=lambda place: (rank(place)[:2], order.index(place)))
+
+
+def definitions(crates, keys):
+    """The text of these definitions, file by file."""
+    told, crate = [], None
+    for place in in_order(crates, keys):
+        of, file = place.replace("/", ".", 1).split(".", 1)
+        if of != crate:
+            told.append(f"## {of}\n")
+            crate = of
+        blocks = ["\n".join(crates.lines[key]) for key in crates.lines if key[0] == place and key in keys]
+        if "/" in place:
+            told.append(f"`src/{file}`:\n\n```rust\n" + "\n\n".join(blocks) + "\n```\n")
+        else:
+            intro = [filled(" ".join(crates.intros[place]))] if crates.intros[place] else []
+            told.append("\n\n".join([f"### {file}", *intro, "```\n" + "\n\n".join(blocks)]) + "\n```\n")
+    return "\n".join(told)
+
+
+def filled(text):
+    return textwrap.fill(" ".join(text.split()), 150, break_on_hyphens=False)
+
+
+def found(crates, crate, name):
+    return next((call for call in crates.calls if (call.crate, call.name) == (crate, name)), None)
+
+
+def rested(crates, call, clause=None):
+    return crates.closure(crates.met(call.place, call.text(clause)))
+
+
+def head(call, clause=None):
+    """The call with its clauses, or with one of them."""
+    lines = [line for _, name, lines in call.clauses() if clause in (None, name) for line in lines]
+    return "```rust\n" + "\n".join([*call.comment, *call.head, *lines]) + "\n```\n"
+
+
+def clause_table(crates, call):
+    """Each clause of a call, and what it rests on."""
+    rows = ["| Clause | Definitions | Lines | Types and limits of the code | Lines |", "|---|---|---|---|---|"]
+    for name in [*dict.fromkeys(name for _, name, _ in call.clauses()), None]:
+        keys = rested(crates, call, name)
+        code = {key for key in keys if is_code(key)}
+        said = f"`{name}`" if name else "all together"
+        rows.append(f"| {said} | {len(keys - code)} | {crates.size(keys - code)} | {len(code)} | {crates.size(code)} |")
+    return "\n".join(rows) + "\n"
+
+
+def call_lists(crates):
+    """The public calls, crate by crate, each with the lines that its contract rests on."""
+    told = []
+    for crate in crates.names:
+        sizes = [f"`{call.name}` {crates.size(rested(crates, call))}" for call in crates.calls if call.crate == crate]
+        if sizes:
+            told.append(textwrap.fill(f"- **{crate}**: {', '.join(sizes)}", 150, subsequent_indent="  ", break_on_hyphens=False))
+    return "\n".join(told) + "\n"
+
+
+def page(crates):
+    call = found(crates, CRATE, CALL)
+    keys = rested(crates, call, CLAUSE)
+    opening = f"""What a sceptic reads. The program says `accepted` of an image where `{CALL}` of `{CRATE}` accepts it, and what that means is
+        the clause `{CLAUSE}` below. This page has that clause and every definition that it rests on, each behind those that it uses, and nothing else:
+        {counted(crates, keys)}. Whoever would rather go from the claim down begins at the last one. That the code keeps to the clause is what the gate
+        proves. Words that stand nowhere here, as `length`, `take`, `map`, `get_or` or `Option`, are those of Rattle's standard library."""
+    closing = """The lines of definitions, with their comments, and of types and limits of the code, that the contract of each call rests on. How a type
+        of the code is seen as a value (`ghost view`) is not counted. `python3 tests/headline.py CRATE CALL` prints them, as `python3 tests/headline.py
+        rope_store Store::append`."""
+    return f"""# What `accepted` rests on
+
+Made from the crates' `specs/` by `python3 tests/headline.py --write`; `make check` fails where it is stale.
+
+{filled(opening)}
+
+## The clause
+
+{head(call, CLAUSE)}
+{definitions(crates, keys)}
+## The other clauses of `{CALL}`
+
+{clause_table(crates, call)}
+## What each public call rests on
+
+{filled(closing)}
+
+{call_lists(crates)}"""
+
+
+def bare(crates):
+    """Which definitions have no comment."""
+    inside = rested(crates, found(crates, CRATE, CALL), CLAUSE)
+    cited = {key for call in crates.calls for key in crates.met(call.place, call.text())}
+    for key in crates.lines:
+        if not is_code(key) and not crates.comments[key] and key in inside | cited:
+            print(f"{key[0]} {key[1]}{' (in the page)' if key in inside else ''}")
+
+
+def main(words):
+    crates = Crates()
+    if words == ["--write"]:
+        with open(PAGE, "w", encoding="utf-8") as file:
+            file.write(page(crates))
+    elif words == ["--bare"]:
+        bare(crates)
+    elif words:
+        call = found(crates, *words[:2]) if len(words) in (2, 3) else None
+        if not call:
+            sys.exit(__doc__)
+        keys = rested(crates, call, *words[2:])
+        print(f"{head(call, *words[2:])}\n{counted(crates, keys)}\n\n{definitions(crates, keys)}", end="")
+    else:
+        with open(PAGE, encoding="utf-8") as file:
+            is_new = file.read() == page(crates)
+        print("docs/HEADLINE.md is what specs/ say" if is_new else "docs/HEADLINE.md is stale: python3 tests/headline.py --write")
+        return not is_new
+    return 0
+
+
+sys.exit(main(sys.argv[1:]))
