@@ -158,7 +158,7 @@ def main(words):
         bare(crates)
     elif words:
         call = found(crates, *words[:2]) if len(words) in (2, 3) else None
-        if not call:
+        if not call or words[2:] and words[2] not in [name for _, name, _ in call.clauses()]:
             sys.exit(__doc__)
         keys = rested(crates, call, *words[2:])
         print(f"{head(call, *words[2:])}\n{counted(crates, keys)}\n\n{definitions(crates, keys)}", end="")
