@@ -1,5 +1,6 @@
-"""docs/HEADLINE.md: the clause of the checker that says what an accepted image is, and every definition that it rests on, in reading order, and nothing else;
-behind it how much the contract of each public call rests on. Where the page is not what specs/ say now, the last line says so, and the status is 1.
+"""docs/HEADLINE.md: the clause of the checker that says what an accepted image is, and every definition that it rests on, in reading order, and
+nothing else; behind it how much the contract of each public call rests on. Where the page is not what specs/ say now, the last line says so, and
+the status is 1.
 
 headline.py                        compares the page with what it would write
 headline.py --write                writes it
@@ -113,13 +114,14 @@ def call_lists(crates):
 def page(crates):
     call = found(crates, CRATE, CALL)
     keys = rested(crates, call, CLAUSE)
-    opening = f"""What a sceptic reads. The program says `accepted` of an image where `{CALL}` of `{CRATE}` accepts it, and what that means is
-        the clause `{CLAUSE}` below. This page has that clause and every definition that it rests on, each behind those that it uses, and nothing else:
-        {counted(crates, keys)}. Whoever would rather go from the claim down begins at the last one. That the code keeps to the clause is what the gate
-        proves. Words that stand nowhere here, as `length`, `take`, `map`, `get_or` or `Option`, are those of Rattle's standard library."""
-    closing = """The lines of definitions, with their comments, and of types and limits of the code, that the contract of each call rests on. How a type
-        of the code is seen as a value (`ghost view`) is not counted. `python3 tests/headline.py CRATE CALL` prints them, as `python3 tests/headline.py
-        rope_store Store::append`."""
+    opening = f"""What a sceptic reads. The program says `accepted` of an image where `{CALL}` of `{CRATE}` accepts it, and what that means is the
+        clause `{CLAUSE}` below. This page has that clause and every definition that it rests on, each behind those that it uses, and nothing
+        else: {counted(crates, keys)}. Whoever would rather go from the claim down begins at the last one. That the code keeps to the clause is
+        what the gate proves. Words that stand nowhere here, as `length`, `take`, `map`, `get_or` or `Option`, are those of Rattle's standard
+        library."""
+    closing = """The lines of definitions, with their comments, and of types and limits of the code, that the contract of each call rests on. How a
+        type of the code is seen as a value (`ghost view`) is not counted. `python3 tests/headline.py CRATE CALL` prints them, as `python3
+        tests/headline.py rope_store Store::append`."""
     return f"""# What `accepted` rests on
 
 Made from the crates' `specs/` by `python3 tests/headline.py --write`; `make check` fails where it is stale.

@@ -1,5 +1,5 @@
-"""One name, one meaning: which words the specs/ of two crates define differently. Those that did when this script was made are excused by name; a new one is
-told, and the status is 1. A word that is no longer so is told too: take it out of the list.
+"""One name, one meaning: which words the specs/ of two crates define differently. Those that did when this script was made are excused by name; a new
+one is told, and the status is 1. A word that is no longer so is told too: take it out of the list.
 
 names.py"""
 
