@@ -1,7 +1,8 @@
 """What the contracts of the crates rest on: the definitions in specs/, the types and limits of the code that these name, and the public calls.
 
 A definition is kept by its key, a module and a name: ("rope_node.Table", "Node"), and what the code declares by its file:
-("rope_node/node.rt", "NodeId"). What a definition rests on is found by the words that it uses and by the imports of its file, so it is never less than what it needs."""
+("rope_node/node.rt", "NodeId"). What a definition rests on is found by the words that it uses and by the imports of its file, so it is never less
+than what it needs."""
 
 import os
 import re

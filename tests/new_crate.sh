@@ -22,10 +22,8 @@ cat > "crates/$name/README.md" << END
 # $name
 
 What it is, in a sentence.
-
-- \`echo\`: what it gives, by the clause that says so (\`ensures\`)
-
-Begin at \`src/lib.rt\` and \`specs/Echo.antt\`.
+- \`echo\` (\`echo_of\`): its public calls, each with the clauses that say what it gives
+- Begin at \`src/lib.rt\` and \`specs/Echo.antt\`.
 END
 
 # Behind the last crate that it names; where it names none of ours, behind the comment.
