@@ -141,7 +141,8 @@ class Crates:
                 continue
             inner, public, name = call.groups()
             found = Call(crate, place, f"{owner}::{name}" if inner else name, lines, i)
-            if (owner if inner else name) in exported and (public or inner and kind == "of a trait" and found.contract):
+            is_exported = (owner if inner else name) in exported or place.endswith("/lib.rt")
+            if is_exported and (public or inner and kind == "of a trait" and found.contract):
                 self.calls.append(found)
 
     # -- what rests on what
