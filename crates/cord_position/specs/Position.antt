@@ -17,17 +17,19 @@ pub record Position (S : Type 0) : Type 0 where
 abbrev pub text_len : {S : Type 0} → (S → Table) → Position S → ℕ
 text_len table here = rope_len (table here.space) here.rope
 
--- the cell at each place, and n cells from here on
+-- the cell at each place
 abbrev pub cell_of : {S : Type 0} → (S → Table) → Position S → ℕ → Cell
 cell_of table here = rope_cell (table here.space) here.rope
 
+-- n cells from here on
 abbrev pub cells_here : {S : Type 0} → (S → Table) → Position S → ℕ → List Cell
 cells_here table here n = rope_part (table here.space) here.rope here.index n
 
--- how many bytes there are from here to the end of the present leaf's span, and the bytes, where the leaf is a literal
+-- how many bytes there are from here to the end of the present leaf's span
 abbrev pub left_here : {S : Type 0} → (S → Table) → Position S → ℕ
 left_here table here = run_left (table here.space) here.rope here.index
 
+-- the bytes from here to the end of the present leaf's span, where the leaf is a literal
 abbrev pub bytes_here : {S : Type 0} → (S → Table) → Position S → List ℕ
 bytes_here table here = run_bytes (table here.space) here.rope here.index
 

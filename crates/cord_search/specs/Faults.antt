@@ -19,6 +19,7 @@ find_source_fault Find.PatternTooLong = None
 find_source_fault (Find.Source fault) = Some fault
 find_source_fault Find.Memory = None
 
+-- the source's fault that a fault of put is, if it is one
 abbrev pub put_source_fault : PutFault → Option SourceFault
 put_source_fault (Put.Source fault) = Some fault
 put_source_fault Put.Write = None

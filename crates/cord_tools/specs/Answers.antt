@@ -88,6 +88,7 @@ AnswersCheck at_most reading old new remaining before after (Err Read) =
 AnswersCheck at_most reading old new remaining before after (Err Memory) = Keeps before after
 AnswersCheck at_most reading old new remaining before after (Err other) = ⊥
 
+-- what run_check does: its line and its status, and what it reads of the sources
 pub record ChecksImage {T : Type 0} (at_most : Option ℕ) (reading : T → Reading) (old new : T)
     (remaining before after : Option (List ℕ)) (outcome : Result Status ToolFault) : Type 0 where
   pub answer : AnswersCheck at_most reading old new remaining before after outcome
@@ -176,6 +177,7 @@ ShowAsks remaining st k s p =
     ⊎ ((v : ImageValue) × (bytes : List ℕ) × AreRead remaining bytes × SpellsFaithful bytes st v
     × AmongCells (revision_cells v k) s p)
 
+-- what run_show does: the text that it writes, and what it reads of the sources
 pub record ShowsRevision {T : Type 0} (at_most : Option ℕ) (reading : T → Reading) (old new : T)
     (remaining : Option (List ℕ)) (k : ℕ)
     (before after : Option (List ℕ)) (outcome : Result (Unit {0}) ToolFault) : Type 0 where

@@ -36,6 +36,7 @@ AnswersMigrate at_most reading old new remaining before after (Err Write) =
 AnswersMigrate at_most reading old new remaining before after (Err other) =
     EndsUnwritten at_most reading old new remaining before after other
 
+-- what run_migrate does: the image that it writes, and what it reads of the sources
 pub record MigratesImage {T : Type 0} (at_most : Option ℕ) (reading : T → Reading) (old new : T)
     (remaining before after : Option (List ℕ)) (outcome : Result (Unit {0}) ToolFault) : Type 0 where
   pub reads : ReadsAt (reading old) (reading new) (CheckAsks remaining (reading old).stated) outcome

@@ -83,6 +83,7 @@ abbrev pub migrate_app : App
 migrate_app = with_rule (with_rule (with_rule (new_app (codes "migrate")) limit_rule) image_rule)
     sources_rule
 
+-- the program, as clap is told of it: all its subcommands
 unfoldable pub cordkit_app : App
 cordkit_app = with_subcommand (with_subcommand (with_subcommand (with_subcommand (with_subcommand
     (with_subcommand (with_subcommand (with_subcommand (new_app (codes "cordkit")) check_app.top) show_app.top)

@@ -110,17 +110,22 @@ pub record HoldsHistory (v : SessionValue) : Type 0 where
       (texts_of source v)
   pub lengths : map length (cells_of v) ≡ map (rope_len (session_table v)) (roots_of v.revisions)
 
+-- the root of revision k, where there is one
 abbrev pub root_of : SessionValue → ℕ → Option (Option NodeId)
 root_of v k = option_map (λ (r : Revision). r.root) (slice_get v.revisions k)
 
+-- whether revision k, where there is one, is marked as balanced
 abbrev pub mark_of : SessionValue → ℕ → Option Bool
 mark_of v k = option_map (λ (r : Revision). r.mark) (slice_get v.revisions k)
 
+-- the command of revision k, where there is one, as it is recorded
 abbrev pub edit_of : SessionValue → ℕ → Option Edit
 edit_of v k = option_map (λ (r : Revision). r.edit) (slice_get v.revisions k)
 
+-- the rows of revision k, where there is one
 abbrev pub rows_of : SessionValue → ℕ → Option (List Row)
 rows_of v k = option_map (λ (r : Revision). r.rows.items) (slice_get v.revisions k)
 
+-- the splices of revision k, where there is one
 abbrev pub splices_of : SessionValue → ℕ → Option (List Splice)
 splices_of v k = option_map (λ (r : Revision). r.splices.items) (slice_get v.revisions k)

@@ -1,3 +1,4 @@
+-- Functions that an image can hold.
 use Rattle.std.specs.Prelude.{ℕ, ◌+◌, ◌%◌, length, slice_index}
 use Rattle.function_leaf.specs.declared.coded.Coded.{Coded}
 use Rattle.function_leaf.specs.declared.coded.Coded.TheVariants.{Fill, Ramp, Cycle}

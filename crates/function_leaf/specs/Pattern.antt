@@ -1,3 +1,4 @@
+-- Patterns of 1 to 16 bytes.
 use Rattle.std.specs.Prelude.{◌≡◌, ℕ, ◌-◌, ◌≤◌, List, ◌++◌, length, drop, replicate}
 use Rattle.function_leaf.specs.declared.pattern.TheConstants.{PATTERN_LIMIT}
 

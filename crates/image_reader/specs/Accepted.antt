@@ -34,6 +34,7 @@ AreGoodNodes t = (id : ℕ) → id < length t.nodes → IsGoodNode t id
 abbrev pub no_revision : Revision
 no_revision = record { edit = New; mark = false; root = None; rows = 0 }
 
+-- revision k
 abbrev pub revision_at : ImageValue → ℕ → Revision
 revision_at v k = get_or v.revisions k no_revision
 
@@ -53,10 +54,11 @@ parts_at v k = parts_of (image_table v) (roots_before v k) (command_at v k)
 abbrev pub splices_before : ImageValue → ℕ → ℕ
 splices_before v k = sum_by (λ (r : Revision). splices_of r.edit) (take k v.revisions)
 
--- how many rows the revisions before k have, and the rows of revision k
+-- how many rows the revisions before k have
 abbrev pub rows_before : ImageValue → ℕ → ℕ
 rows_before v k = sum_by (λ (r : Revision). r.rows) (take k v.revisions)
 
+-- the rows of revision k
 abbrev pub rows_at : ImageValue → ℕ → List Row
 rows_at v k = take (revision_at v k).rows (drop (rows_before v k) v.rows)
 

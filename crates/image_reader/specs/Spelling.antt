@@ -37,6 +37,7 @@ header_numbers v =
 abbrev pub source_layout : List Width
 source_layout = w64 ∷ []
 
+-- the bytes of a source's record
 unfoldable pub source_spelling : ℕ → List ℕ
 source_spelling n = spelled source_layout (n ∷ [])
 
@@ -132,6 +133,7 @@ revision_layout = w8 ∷ w8 ∷ w16 ∷ w32 ∷ w32 ∷ w32 ∷ w64 ∷ w64 ∷ 
 abbrev pub revision_numbers : ℕ → Numbers → ℕ → ℕ → ℕ → List ℕ
 revision_numbers code x mark root rows = code ∷ mark ∷ 0 ∷ root ∷ x.r ∷ x.q ∷ x.p ∷ x.m ∷ x.a ∷ x.n ∷ rows ∷ 0 ∷ []
 
+-- the bytes of a revision's record
 unfoldable pub revision_spelling : Revision → List ℕ
 revision_spelling r =
     spelled revision_layout (revision_numbers (recorded r.edit).code (numbers_of r.edit) (mark_number r.mark)
@@ -141,6 +143,7 @@ revision_spelling r =
 abbrev pub splice_layout : List Width
 splice_layout = w64 ∷ w64 ∷ w64 ∷ w64 ∷ []
 
+-- the bytes of a splice's record
 unfoldable pub splice_spelling : Splice → List ℕ
 splice_spelling x = spelled splice_layout (x.p ∷ x.m ∷ x.a ∷ x.n ∷ [])
 
@@ -153,6 +156,7 @@ row_numbers len (Shared k o) = SHARED_ROW ∷ 0 ∷ 0 ∷ k.0 ∷ len ∷ o ∷ 
 row_numbers len Leaf = LEAF_ROW ∷ 0 ∷ 0 ∷ 0 ∷ len ∷ 0 ∷ []
 row_numbers len Bytes = BYTES_ROW ∷ 0 ∷ 0 ∷ 0 ∷ len ∷ 0 ∷ []
 
+-- the bytes of a row's record
 unfoldable pub row_spelling : Row → List ℕ
 row_spelling r = spelled row_layout (row_numbers r.len r.kind)
 
@@ -165,6 +169,7 @@ records_spelling v =
     ++ (flat_map splice_spelling v.splices
     ++ flat_map row_spelling v.rows)))
 
+-- the bytes of an image: header, sources, nodes, revisions, splices, rows, and the pool
 unfoldable pub spelling : ImageValue → List ℕ
 spelling v =
     spelled header_layout (header_numbers v)

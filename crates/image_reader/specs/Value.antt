@@ -102,6 +102,7 @@ abbrev pub ArePlaced : ℕ → List Revision → Type 0
 ArePlaced first [] = Unit {0}
 ArePlaced first (r ∷ rs) = IsPlacedAt first r.edit × ArePlaced (first + splices_of r.edit) rs
 
+-- each number of a splice fits its field
 pub record FitsSplice (x : Splice) : Type 0 where
   pub p : x.p < 2 ^ 64
   pub m : x.m < 2 ^ 64
@@ -113,6 +114,7 @@ FitsKind (Shared k o) = (k.0 < 2 ^ 32) × (o < 2 ^ 64)
 FitsKind Leaf = Unit {0}
 FitsKind Bytes = Unit {0}
 
+-- so do those of a row
 pub record FitsRow (r : Row) : Type 0 where
   pub len : r.len < 2 ^ 64
   pub kind : FitsKind r.kind

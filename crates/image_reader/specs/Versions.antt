@@ -5,6 +5,7 @@ use Rattle.image_reader.specs.declared.version.FormatVersion.{FormatVersion}
 use Rattle.image_reader.specs.declared.version.FormatVersion.TheVariants.{One, Two}
 use Rattle.image_reader.specs.declared.version.TheConstants.{VERSION_ONE, VERSION_TWO}
 
+-- the number of a version
 abbrev pub version_number : FormatVersion → ℕ
 version_number One = VERSION_ONE
 version_number Two = VERSION_TWO
@@ -13,6 +14,7 @@ version_number Two = VERSION_TWO
 abbrev pub version_by : ℕ → FormatVersion
 version_by n = if n == VERSION_TWO then Two else One
 
+-- whether it is version 2, which has splices
 abbrev pub is_two : FormatVersion → Bool
 is_two One = false
 is_two Two = true

@@ -1,3 +1,4 @@
+-- What devices state, and what a read of one, or of sources that are devices, does.
 use Rattle.std.specs.Prelude.{◌≡◌, ◌≢◌, ◌↔◌, ◌<◌, ◌≤◌, ℕ, false, ◌+◌, ◌-◌, ◌/◌, List, Option, None, Result, drop, get_or, length, map, slice_get, take, option_map, IfOk, IfSome, IsErr, IsErrOf, OnOk}
 use Rattle.lazy_file.specs.SourceTexts.{Stated}
 use Rattle.lazy_file.specs.Readings.{Reading}

@@ -1,3 +1,4 @@
+-- How faults of sources are printed.
 use Rattle.std.specs.Prelude.{ℕ, List, codes}
 use Rattle.lazy_file.specs.declared.faults.AddFault.{AddFault}
 use Rattle.lazy_file.specs.declared.faults.AddFault.TheVariants as Add

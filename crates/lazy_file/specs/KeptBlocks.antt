@@ -1,3 +1,4 @@
+-- Blocks of devices that are kept, and what a read makes of them.
 use Rattle.std.specs.Prelude.{◌≡◌, ◌<◌, ◌≤◌, ℕ, ◌+◌, ◌-◌, ◌*◌, ◌/◌, min, ◌⊎◌, Bool, IsTrue, List, Vec, Contains, drop, get_or, length, take}
 use Rattle.std.specs.Map.{keys_of}
 use Rattle.lazy_file.specs.DeviceTexts.{AreBytesOf, DeviceText, no_device}

@@ -1,3 +1,4 @@
+-- What sources state: their sizes, and the texts of those that state one.
 use Rattle.std.specs.Prelude.{◌≡◌, ℕ, ◌+◌, ◌<◌, ◌≤◌, Bool, ◌&&◌, nat_lt, nat_le, true, List, Option, Some, None, length, map, slice_index, All}
 use Rattle.std.specs.List.{slice_index_or}
 use Rattle.lazy_file.specs.declared.sources.TheConstants.{COUNT_LIMIT, SOURCE_LIMIT}

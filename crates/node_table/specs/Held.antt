@@ -23,6 +23,7 @@ node_of r = record { view = r.view; len = r.len; depth = r.depth }
 abbrev pub function_of : {F : Type 0} → Record F → Option F
 function_of r = r.function
 
+-- what records, a pool and sources hold together
 abbrev pub held_of : {F : Type 0} → List (Record F) → Contents → List ℕ → Held F
 held_of records pool sources = record {
   nodes = map node_of records;
@@ -31,6 +32,7 @@ held_of records pool sources = record {
   sources = sources;
 }
 
+-- the table of nodes that this is, where each function means these bytes; a missing one answers 0
 abbrev pub table_of : {F : Type 0} → (F → ℕ → ℕ) → Held F → Table
 table_of meaning h = record {
   nodes = h.nodes;

@@ -75,6 +75,7 @@ pub record AnyForm {F : Type 0} (meaning : F → ℕ → ℕ) (old : Held F) (a 
 
 -- ---- two ropes, one behind the other
 
+-- what the call for l followed by r does, also where the node over both would be too deep
 abbrev pub CatsAny : {F : Type 0} → (F → ℕ → ℕ) → Held F → Option NodeId → Option NodeId
     → Result (Option NodeId) BalanceFault → Held F → Type 0
 CatsAny meaning old l r result new =

@@ -6,6 +6,7 @@ use Rattle.rope_node.specs.declared.node.NodeView.{NodeView}
 use Rattle.rope_node.specs.declared.node.NodeView.TheVariants.{Lit, Src, Fun, Cat, Sub}
 use Rattle.rope_node.specs.Table.{Table, view_at, len_at, depth_at}
 
+-- a byte, or a place of a source: the source, and the place in it
 pub data Cell : Type 0 where
   Byte : ℕ → Cell
   Place : ℕ → ℕ → Cell
@@ -18,6 +19,7 @@ node_cells t below id n Fun = map (λ k. Byte (t.answer id k)) (range_with_len 0
 node_cells t below id n (Cat l r) = below l.0 ++ below r.0
 node_cells t below id n (Sub b i) = take n (drop i (below b.0))
 
+-- the cells of a node, found in at most so many steps down; none where these are used up
 abbrev pub cells_in : Table → ℕ → ℕ → List Cell
 cells_in t zero id = []
 cells_in t (suc steps) id = node_cells t (cells_in t steps) id (len_at t id) (view_at t id)
@@ -30,14 +32,17 @@ cells t id = cells_in t (suc id) id
 abbrev pub cell_at : Table → ℕ → ℕ → Cell
 cell_at t id i = get_or (cells t id) i (Byte 0)
 
+-- the cells of a rope: its root's, and none for nil
 abbrev pub rope_cells : Table → Option NodeId → List Cell
 rope_cells t None = []
 rope_cells t (Some id) = cells t id.0
 
+-- the recorded length of a rope's root; 0 for nil
 abbrev pub rope_len : Table → Option NodeId → ℕ
 rope_len t None = 0
 rope_len t (Some id) = len_at t id.0
 
+-- the recorded depth of a rope's root; 0 for nil
 abbrev pub rope_depth : Table → Option NodeId → ℕ
 rope_depth t None = 0
 rope_depth t (Some id) = depth_at t id.0

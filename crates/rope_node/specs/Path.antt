@@ -20,6 +20,7 @@ abbrev pub visits_in : Table → ℕ → ℕ → ℕ → ℕ
 visits_in t zero id i = 0
 visits_in t (suc steps) id i = node_visits t (visits_in t steps) i (view_at t id)
 
+-- how many nodes the path from a node to the leaf that holds place i has, with both ends
 abbrev pub visits : Table → ℕ → ℕ → ℕ
 visits t id i = visits_in t (suc id) id i
 

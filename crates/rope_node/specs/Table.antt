@@ -23,15 +23,19 @@ pub record Table : Type 0 where
 abbrev pub no_node : Node
 no_node = record { view = Fun; len = 0; depth = 0 }
 
+-- the node of a number
 abbrev pub node_at : Table → ℕ → Node
 node_at t id = get_or t.nodes id no_node
 
+-- what the node of a number is
 abbrev pub view_at : Table → ℕ → NodeView
 view_at t id = (node_at t id).view
 
+-- the length that is recorded with it
 abbrev pub len_at : Table → ℕ → ℕ
 len_at t id = (node_at t id).len
 
+-- the depth that is recorded with it
 abbrev pub depth_at : Table → ℕ → ℕ
 depth_at t id = (node_at t id).depth
 
@@ -51,6 +55,8 @@ HasSpanInside t n Fun = Unit {0}
 HasSpanInside t n (Cat l r) = Unit {0}
 HasSpanInside t n (Sub b i) = i + n ≤ len_at t b.0
 
+-- A node's children are earlier ones and its source is there; it is not empty, not too long and not too deep, and its
+-- span lies inside.
 pub record IsSoundNode (t : Table) (id : ℕ) (n : Node) : Type 0 where
   pub references : HasGoodReferences t id n.view
   pub not_empty : 1 ≤ n.len
@@ -58,6 +64,7 @@ pub record IsSoundNode (t : Table) (id : ℕ) (n : Node) : Type 0 where
   pub not_deep : n.depth ≤ MOST_DEPTH
   pub span : HasSpanInside t n.len n.view
 
+-- a table whose every node is so, with a pool and sources that are not too long
 pub record IsSound (t : Table) : Type 0 where
   pub nodes : (id : ℕ) → id < length t.nodes → IsSoundNode t id (node_at t id)
   pub pool : length t.pool < POOL_LIMIT
@@ -79,13 +86,16 @@ depth_of t Fun = 0
 depth_of t (Cat l r) = 1 + max (depth_at t l.0) (depth_at t r.0)
 depth_of t (Sub b i) = 1 + depth_at t b.0
 
+-- both records of a node are what they say
 pub record IsTrueNode (t : Table) (n : Node) : Type 0 where
   pub len : HasTrueLength t n.len n.view
   pub depth : n.depth ≡ depth_of t n.view
 
+-- a table whose records are all true
 pub record HasTrueRecords (t : Table) : Type 0 where
   pub nodes : (id : ℕ) → id < length t.nodes → IsTrueNode t (node_at t id)
 
+-- a node that is a literal
 abbrev pub IsLiteral : NodeView → Type 0
 IsLiteral (Lit a) = Unit {0}
 IsLiteral (Src s a) = ⊥
@@ -105,6 +115,7 @@ literal_bytes t off n (Sub b i) = []
 abbrev pub literal_from : Table → ℕ → ℕ → List ℕ
 literal_from t id off = literal_bytes t off (len_at t id) (view_at t id)
 
+-- a node that is a function
 abbrev pub IsFunction : NodeView → Type 0
 IsFunction (Lit a) = ⊥
 IsFunction (Src s a) = ⊥
@@ -112,6 +123,7 @@ IsFunction Fun = Unit {0}
 IsFunction (Cat l r) = ⊥
 IsFunction (Sub b i) = ⊥
 
+-- a node without children: a literal, a part of a source or a function
 abbrev pub IsLeaf : NodeView → Type 0
 IsLeaf (Lit a) = Unit {0}
 IsLeaf (Src s a) = Unit {0}

@@ -30,6 +30,7 @@ edit_code Edit.SpliceCount = codes "E9"
 edit_code Edit.TooManySplices = codes "E10"
 edit_code Edit.Memory = codes "Memory"
 
+-- how a refused key is told
 abbrev pub key_code : KeyFault → List ℕ
 key_code Key.TooLong = codes "K1"
 key_code (Key.Edit f) = edit_code f

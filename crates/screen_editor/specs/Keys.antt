@@ -4,6 +4,7 @@ use Rattle.screen_editor.specs.declared.key.Step.{Step}
 use Rattle.screen_editor.specs.declared.key.Key.{Key}
 use Rattle.screen_editor.specs.declared.key.Key.TheVariants.{Typed, EraseBefore, EraseAt, Left, Right, LineStart, LineEnd, Up, Down, Mark, Cut, Paste, DropCut, Undo, Balance, Save, Leave, Nothing}
 
+-- what a byte asks for; one that is no key asks for nothing
 abbrev pub key_of : ℕ → Key
 key_of b =
     if (nat_le 0x20 b && nat_le b 0x7E) || b == 0x09 then Typed b

@@ -28,13 +28,15 @@ givens v source = record {
   byte = λ b. b;
 }
 
+-- what the commands of all revisions say
 abbrev pub commands : ImageValue → List FullEdit
 commands v = map (λ (r : Revision). full_edit v.splices r.edit) v.revisions
 
--- the cells of each revision's root, and its text over the sources' bytes
+-- the cells of each revision's root
 abbrev pub texts_cells : ImageValue → List (List Cell)
 texts_cells v = map (λ (r : Revision). rope_cells (image_table v) r.root) v.revisions
 
+-- the text of each revision's root, over the sources' bytes
 abbrev pub texts : ImageValue → (ℕ → ℕ → ℕ) → List (List ℕ)
 texts v source = map (λ (r : Revision). text source (rope_cells (image_table v) r.root)) v.revisions
 
@@ -42,10 +44,11 @@ texts v source = map (λ (r : Revision). text source (rope_cells (image_table v)
 abbrev pub revision_text : ImageValue → (ℕ → ℕ → ℕ) → ℕ → List ℕ
 revision_text v source k = get_or (texts v source) k []
 
--- the root of revision k, which is there, and which is nil or a node; its mark
+-- the root of revision k, which is there, and which is nil or a node
 abbrev pub IsRootOf : ImageValue → ℕ → Option NodeId → Type 0
 IsRootOf v k root = (k < length v.revisions) × (root ≡ (revision_at v k).root) × IsRope (image_table v) root
 
+-- the mark of revision k, which is there
 abbrev pub IsMarkOf : ImageValue → ℕ → Bool → Type 0
 IsMarkOf v k mark = (k < length v.revisions) × (mark ≡ (revision_at v k).mark)
 
@@ -76,6 +79,7 @@ pub record HasTrueRecordsOf (v : ImageValue) : Type 0 where
   -- each marked root is balanced
   pub marks : (k : ℕ) → k < length v.revisions → HasGoodMark (image_table v) (revision_at v k)
 
+-- what holds of each revision, by its number
 abbrev pub EachRevision : ImageValue → (ℕ → Type 0) → Type 0
 EachRevision v P = (k : ℕ) → k < length v.revisions → P k
 
@@ -84,6 +88,8 @@ pub record GivesText {C : Type 0} (g : Givens C) (commands : List FullEdit) (tex
     : Type 0 where
   pub gives : (e : FullEdit) → slice_get commands k ≡ Some e → slice_get texts k ≡ result_of g (take k texts) e
 
+-- What an accepted image is: its records are true, and each revision's text is what its command gives of
+-- the texts before it.
 pub record IsFaithful (v : ImageValue) (st : Stated) : Type 0 where
   pub true_records : HasTrueRecordsOf v
   -- Each revision's text is what its command gives of the texts before it, over any bytes of the sources over which

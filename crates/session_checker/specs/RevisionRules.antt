@@ -27,6 +27,7 @@ HasSameBytes v Same k = HaveSameBytes Same (image_table v) (parts_at v k) (revis
 abbrev pub IsGoodOver : ImageValue → Stated → ℕ → Type 0
 IsGoodOver v st k = IsGoodRevision v (SameStated st) k
 
+-- so of all revisions
 abbrev pub AreGoodOver : ImageValue → Stated → Type 0
 AreGoodOver v st = AreGoodRevisions v (SameStated st)
 
@@ -75,6 +76,7 @@ abbrev pub source_fault : CheckFault → Option SourceFault
 source_fault (Source fault) = Some fault
 source_fault other = None
 
+-- the source's fault that an outcome is, if it is one
 abbrev pub source_fault_in : {X : Type 0} → Result X CheckFault → Option SourceFault
 source_fault_in outcome = fault_by source_fault outcome
 

@@ -44,6 +44,7 @@ splices_in revisions = flat_map (λ (r : Kept.Revision). r.splices.items) revisi
 abbrev pub rows_in : List Kept.Revision → List Row
 rows_in revisions = flat_map (λ (r : Kept.Revision). r.rows.items) revisions
 
+-- the image of a session, in version 2
 abbrev pub image_of : SessionValue → ImageValue
 image_of v = record {
   version = Two;

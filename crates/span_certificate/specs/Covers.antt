@@ -14,12 +14,15 @@ use Rattle.span_certificate.specs.Parts.{part_at, part_len, parts_len, part_cell
 use Rattle.span_certificate.specs.Leads.{RopeLeads, PartLeads, RopeHasDescription, PartHasDescription}
 use Rattle.span_certificate.specs.declared.walk.TheConstants.{BYTES_LIMIT}
 
+-- what is read past the last row
 abbrev pub no_row : Row
 no_row = record { len = 0; kind = Leaf }
 
+-- row j
 abbrev pub row_at : List Row → ℕ → Row
 row_at rows j = get_or rows j no_row
 
+-- how many bytes rows stand for together
 abbrev pub rows_len : List Row → ℕ
 rows_len rows = sum_by (λ (r : Row). r.len) rows
 
@@ -101,6 +104,7 @@ abbrev pub kind_compares : Table → Part → ℕ → Option NodeId → ℕ → 
 kind_compares t part off root place row =
     compared row.kind (take row.len (drop off (part_cells t part))) (take row.len (drop place (rope_cells t root)))
 
+-- the cells that a row at a place of the parts and of the root compares
 abbrev pub row_compares : Table → List Part → Option NodeId → ℕ → Row → List Cell
 row_compares t parts root place row =
     compared row.kind (take row.len (drop place (parts_cells t parts))) (take row.len (drop place (rope_cells t root)))

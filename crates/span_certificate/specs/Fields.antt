@@ -103,5 +103,6 @@ unused edit f = map f (filter (λ x. not (is_used (recorded edit).uses x)) field
 abbrev pub FitsField : Field × ℕ → Type 0
 FitsField x = x.1 < number_limit (place_in_record x.0)
 
+-- so do all numbers of the command
 abbrev pub FitsRecord : Edit → Type 0
 FitsRecord edit = AllByRecursion FitsField (recorded edit).uses

@@ -11,6 +11,7 @@ use Rattle.span_certificate.specs.declared.edit.Splice.{Splice}
 use Rattle.span_certificate.specs.declared.part.Part.{Part}
 use Rattle.span_certificate.specs.declared.part.Part.TheVariants.{Old, Pool, Source, Fill}
 
+-- how many bytes a part has
 abbrev pub part_len : Part → ℕ
 part_len (Old rope i n) = n
 part_len (Pool a n) = n
@@ -20,6 +21,7 @@ part_len (Fill c n) = n
 abbrev pub parts_len : List Part → ℕ
 parts_len parts = sum_by part_len parts
 
+-- the cells that a part stands for: of an earlier text, of the pool, of a source from its first byte on, or a fill
 abbrev pub part_cells : Table → Part → List Cell
 part_cells t (Old rope i n) = take n (drop i (rope_cells t rope))
 part_cells t (Pool a n) = map Byte (take n (drop a t.pool))
@@ -41,6 +43,7 @@ IsInside t (Fill c n) = Unit {0}
 abbrev pub IsPart : Table → Part → Type 0
 IsPart t part = (1 ≤ part_len part) × IsInside t part
 
+-- each of them is such a part
 abbrev pub AreParts : Table → List Part → Type 0
 AreParts t parts = AllByRecursion (IsPart t) parts
 
@@ -53,13 +56,15 @@ part_at (x ∷ xs) place = if nat_lt place (part_len x) then Some (x, place) els
 abbrev pub root_at : List (Option NodeId) → ℕ → Option NodeId
 root_at roots r = get_or roots r None
 
--- a rope up to place p, from place p on, and whole
+-- a rope up to place p
 abbrev pub front : Option NodeId → ℕ → Part
 front rope p = Old rope 0 p
 
+-- a rope from place p on
 abbrev pub rest : Table → Option NodeId → ℕ → Part
 rest t rope p = Old rope p (rope_len t rope - p)
 
+-- all of a rope
 abbrev pub whole : Table → Option NodeId → Part
 whole t rope = Old rope 0 (rope_len t rope)
 
@@ -91,6 +96,7 @@ terms_of t roots (Command.Back r) = whole t (root_at roots r) ∷ []
 terms_of t roots (Command.Balance r) = whole t (root_at roots r) ∷ []
 terms_of t roots (Command.Many r splices) = pieces (root_at roots r) (rope_len t (root_at roots r)) 0 splices
 
+-- the parts that have a byte
 abbrev pub nonempty : List Part → List Part
 nonempty parts = filter (λ part. nat_lt 0 (part_len part)) parts
 
@@ -98,6 +104,7 @@ nonempty parts = filter (λ part. nat_lt 0 (part_len part)) parts
 abbrev pub parts_of : Table → List (Option NodeId) → FullEdit → List Part
 parts_of t roots edit = nonempty (terms_of t roots edit)
 
+-- each root is nil or a node of the table
 abbrev pub AreRopes : Table → List (Option NodeId) → Type 0
 AreRopes t roots = (r : ℕ) → r < length roots → IsRope t (root_at roots r)
 
