@@ -20,7 +20,8 @@ room=$(mktemp -d) || exit 1
 trap 'rm -rf "$room"' EXIT
 trap 'exit 1' HUP INT TERM
 prefix="$room/a prefix"
-unset MAKEFLAGS MFLAGS MAKELEVEL
+unset MAKEFLAGS MFLAGS MAKELEVEL CORDKIT
+export LC_ALL=C TERM=xterm
 passed=0
 failed=0
 
@@ -49,6 +50,16 @@ has() {
         return 0
     fi
     echo "LEFT OUT: $2: there is no $1 here"
+    return 1
+}
+
+# Whether script gives a shell a terminal of its own.
+has_terminal() {
+    has script "$1" || return 1
+    if [ "$(script -qec 'echo told' /dev/null 2> /dev/null < /dev/null | tr -d '\r')" = told ]; then
+        return 0
+    fi
+    echo "LEFT OUT: $1: script makes no terminal here"
     return 1
 }
 
@@ -117,6 +128,11 @@ commands() {
     "$prefix/bin/cordkit" --help 2>&1 | awk '/^Commands:/ { on = 1; next } /^$/ { on = 0 } on { print $1 }' | sort
 }
 
+# The options that the help of a command names.
+options() {
+    "$prefix/bin/cordkit" help "$1" 2>&1 | sed '1,/^Options:/d' | grep -o '^  *\(-., \)\{0,1\}--[a-z-]*' | grep -o -e '--.*' | sort
+}
+
 # ---- The manual pages
 
 # The examples of a manual page as shell scripts, each with what it has to write beside it: 1, 1.wanted, and so on. A line that begins with
@@ -162,7 +178,10 @@ try_pages() {
     if [ "$all_examples" -ge 5 ]; then passes; else fails "$all_examples examples in the manual pages"; fi
     is_same 'the commands of the manual page' \
         "$(sed -n 's/^\.It Cm \([a-z]*\).*/\1/p' "$prefix/share/man/man1/cordkit.1" | sort)" "$(commands)"
-    if has mandoc 'the manual pages'; then
+    is_same 'the options of the manual page' \
+        "$(sed -n 's/^\.It Fl \(. , \)\{0,1\}-\([a-z-][a-z-]*\).*/--\2/p' "$prefix/share/man/man1/cordkit.1" | sort)" \
+        "$(for command in $(commands); do options "$command"; done | sort -u)"
+    if has mandoc 'the faults of the manual pages'; then
         is_same 'the manual pages have no fault' \
             "$(mandoc -T lint -W style "$prefix"/share/man/man*/* 2> /dev/null | grep -v ': referenced manual not found: ')" ''
     fi
@@ -230,7 +249,11 @@ try_bash() {
         COMP_WORDS=(cordkit "") COMP_CWORD=1
         _cordkit cordkit "" cordkit
         printf "%s\n" "${COMPREPLY[@]}"' bash "$completions" | sort)" "$(commands)"
-    has script 'completions as they are typed in bash' || return
+    for command in $(commands); do
+        is_same "the options of $command that bash offers" \
+            "$(bash -c '. "$1"; printf "%s\n" $(_cordkit_options "$2")' bash "$completions" "$command" | sort)" "$(options "$command")"
+    done
+    has_terminal 'completions as they are typed in bash' || return
     {
         cat ../words
         echo "bind 'set bell-style none'; bind 'set enable-bracketed-paste off'; . '$completions'"
@@ -241,12 +264,12 @@ try_bash() {
 try_zsh() {
     is_same 'the commands that zsh offers' \
         "$(sed -n "s/^        '\([a-z]*\):.*/\1/p" "$prefix/share/zsh/site-functions/_cordkit" | sort)" "$(commands)"
-    has script 'completions as they are typed in zsh' || return
+    has_terminal 'completions as they are typed in zsh' || return
     {
         cat ../words
         echo "fpath=('$prefix/share/zsh/site-functions' \$fpath); autoload -Uz compinit; compinit -u -D; unsetopt beep"
     } > ../zsh/.zshrc
-    try_typed zsh zsh -i
+    try_typed zsh zsh -d -i
 }
 
 try_fish() {

@@ -7,6 +7,7 @@
 #   the tests of ropes under memcheck                 valgrind, and rt where they are not built
 #   the editor in a terminal                          tmux
 #   refusals that come behind much work               nothing more
+#   every case of tests/program.sh, installed         nothing more; mandoc, file, bash, zsh and fish for what is installed beside
 set -u
 cd "$(dirname "$0")/.." || exit 1
 if ! [ -x crates/cordkit/out/cordkit ]; then
@@ -44,5 +45,6 @@ try 'refused allocations, reads and writes' gcc sh bench/refuse.sh
 try 'the tests of ropes under memcheck' valgrind sh tests/memcheck.sh
 try 'the editor in a terminal' tmux sh tests/terminal.sh
 try 'dear refusals' '' sh tests/dear_refusals.sh
+try 'what is installed' '' sh tests/install.sh crates/cordkit/out/cordkit all
 echo "$passed passed, $failed failed"
 [ "$failed" = 0 ] && [ "$passed" != 0 ]
