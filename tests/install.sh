@@ -82,6 +82,22 @@ try_installing() {
         "$(grep -c 'there is no program .*: make run builds it' "$room/made") $(below "$room/none")" '1 '
     make_it install PREFIX="$prefix" PROGRAM="$program" || cat "$room/made"
     is_same 'the installed program' "$(sha256sum < "$prefix/lib/cordkit/cordkit")" "$(sha256sum < "$program")"
+    is_same 'the installed files' "$(cd "$prefix" && find . -type f -printf '%m %P\n' | sort)" '644 lib/cordkit/folders
+644 share/bash-completion/completions/cordedit
+644 share/bash-completion/completions/cordkit
+644 share/bash-completion/completions/cordkit-verify
+644 share/cordkit/magic
+644 share/fish/vendor_completions.d/cordkit-verify.fish
+644 share/fish/vendor_completions.d/cordkit.fish
+644 share/man/man1/cordedit.1
+644 share/man/man1/cordkit-verify.1
+644 share/man/man1/cordkit.1
+644 share/man/man5/cord-image.5
+644 share/zsh/site-functions/_cordkit
+755 bin/cordedit
+755 bin/cordkit
+755 bin/cordkit-verify
+755 lib/cordkit/cordkit'
     make_it install DESTDIR="$room/stage" PREFIX=/usr PROGRAM="$program" || cat "$room/made"
     is_same 'a staged installation has the same files' "$(below "$room/stage/usr")" "$(below "$prefix")"
     make_it uninstall DESTDIR="$room/stage" PREFIX=/usr
