@@ -23,3 +23,5 @@ pub mod Status
 pub mod WindowLaws
 pub mod PlainKeys
 pub mod LaterReadings
+pub mod Playing
+pub mod KeptKeys

@@ -27,7 +27,7 @@ use Rattle.screen_editor.specs.Turns.{IsTurn, TakesNone, TakesOne}
 
 -- ---- states: all but the last, and the last
 
-abbrev final : Editing → List Editing → Editing
+abbrev pub final : Editing → List Editing → Editing
 final old [] = old
 final old (e ∷ es) = final e es
 
@@ -35,7 +35,7 @@ abbrev earlier : Editing → List Editing → List Editing
 earlier old [] = []
 earlier old (e ∷ es) = old ∷ earlier e es
 
-split : (old : Editing) (behind : List Editing) → old ∷ behind ≡ earlier old behind ++ final old behind ∷ []
+pub split : (old : Editing) (behind : List Editing) → old ∷ behind ≡ earlier old behind ++ final old behind ∷ []
 split old [] = refl
 split old (e ∷ es) = ap (λ (xs : List Editing). old ∷ xs) (split e es)
 
@@ -43,7 +43,7 @@ length_earlier : (old : Editing) (behind : List Editing) → length (earlier old
 length_earlier old [] = refl
 length_earlier old (e ∷ es) = ap suc (length_earlier e es)
 
-final_more : (old new : Editing) (behind : List Editing) → final old (behind ++ new ∷ []) ≡ new
+pub final_more : (old new : Editing) (behind : List Editing) → final old (behind ++ new ∷ []) ≡ new
 final_more old new [] = refl
 final_more old new (e ∷ es) = final_more e new es
 
@@ -55,17 +55,17 @@ take_earlier : (old : Editing) (behind : List Editing) → take (length behind) 
 take_earlier old [] = refl
 take_earlier old (e ∷ es) = ap (λ (xs : List Editing). old ∷ xs) (take_earlier e es)
 
-get_final : (old : Editing) (behind : List Editing) → slice_get (old ∷ behind) (length behind) ≡ Some (final old behind)
+pub get_final : (old : Editing) (behind : List Editing) → slice_get (old ∷ behind) (length behind) ≡ Some (final old behind)
 get_final old [] = refl
 get_final old (e ∷ es) = get_final e es
 
-follow_length : (a z : Reading) (old : Editing) (keys : List ℕ) (behind : List Editing) → Follow a z old keys behind → length keys ≡ length behind
+pub follow_length : (a z : Reading) (old : Editing) (keys : List ℕ) (behind : List Editing) → Follow a z old keys behind → length keys ≡ length behind
 follow_length a z old [] [] h = refl
 follow_length a z old [] (e ∷ es) h = absurd h
 follow_length a z old (b ∷ bs) [] h = absurd h
 follow_length a z old (b ∷ bs) (e ∷ es) h = ap suc (follow_length h.0 z e bs es h.2)
 
-follow_more : (a m z : Reading) (old new : Editing) (keys : List ℕ) (behind : List Editing) (b : ℕ)
+pub follow_more : (a m z : Reading) (old new : Editing) (keys : List ℕ) (behind : List Editing) (b : ℕ)
     → Follow a m old keys behind → Passes m z b (final old behind) new → Follow a z old (keys ++ b ∷ []) (behind ++ new ∷ [])
 follow_more a m z old new [] [] b h p = (z, subst (λ (x : Reading). Passes x z b old new) h p, refl)
 follow_more a m z old new [] (e ∷ es) b h p = absurd h
@@ -188,7 +188,7 @@ ran_more keys_before keys_mid keys_left before mid now old cur new n h one =
 -- ---- the end of a run
 
 -- the last state, as a run names it
-last_named : (a z : Reading) (old new : Editing) (keys : List ℕ) (behind : List Editing) → Follow a z old keys behind → final old behind ≡ new → slice_get (old ∷ behind) (length keys) ≡ Some new
+pub last_named : (a z : Reading) (old new : Editing) (keys : List ℕ) (behind : List Editing) → Follow a z old keys behind → final old behind ≡ new → slice_get (old ∷ behind) (length keys) ≡ Some new
 last_named a z old new keys behind follow last = rw (follow_length a z old keys behind follow) (get_final old behind ∙ ap Some last)
 
 earlier_named : (a z : Reading) (old : Editing) (keys : List ℕ) (behind : List Editing) → Follow a z old keys behind → earlier old behind ≡ take (length keys) (old ∷ behind)

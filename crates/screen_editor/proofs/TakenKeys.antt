@@ -1,10 +1,12 @@
 -- Keys that end no run.
-use Rattle.std.proofs.Common.{◌≡◌, ℕ, List, [], ◌∷◌, Option, None, Result, true, false, refl, sym, subst, ◌∙◌}
+use Rattle.std.proofs.Common.{◌≡◌, ℕ, List, [], ◌∷◌, Option, Some, None, Ok, inl, true, false, refl, sym, subst, ◌∙◌}
 use Rattle.std.specs.Io.KnownBytes.{Consumes}
 use Rattle.lazy_file.specs.Readings.{Reading, Reads}
 use Rattle.edit_commands.specs.Session.{texts_of}
 use Rattle.screen_editor.specs.declared.fault.KeyFault.{KeyFault}
 use Rattle.screen_editor.specs.declared.fault.KeyFault.TheVariants as Fault
+use Rattle.screen_editor.specs.declared.fault.End.{End}
+use Rattle.screen_editor.specs.declared.fault.End.TheVariants as End
 use Rattle.screen_editor.specs.declared.key.Key.{Key}
 use Rattle.screen_editor.specs.declared.key.Key.TheVariants.{Save, Leave}
 use Rattle.screen_editor.specs.declared.key.Step.{Step}
@@ -13,8 +15,8 @@ use Rattle.screen_editor.specs.Keys.{answer_to, key_of, looks_for_lines}
 use Rattle.screen_editor.specs.Machine.{done}
 use Rattle.screen_editor.specs.Refusals.{IsPlainFault, KeyAsks, key_source_fault}
 use Rattle.screen_editor.specs.Revising.{TakesKey}
-use Rattle.screen_editor.specs.Runs.{Shows}
-use Rattle.screen_editor.specs.Turns.{TakesOne}
+use Rattle.screen_editor.specs.Runs.{Passes, Shows}
+use Rattle.screen_editor.specs.Turns.{IsTurn, Presses, TakesOne}
 use Rattle.screen_editor.proofs.KeyPlans.{makes_none, no_source}
 use Rattle.screen_editor.proofs.ToldKeys.{goes_on}
 
@@ -34,16 +36,20 @@ refused_goes_on before now key old new fault h reads = goes_on key
 
 -- ---- a key behind a frame, whose making changed nothing that the key sees
 
-pub takes_one : (keys left before now : Option (List ℕ)) (answer : Step) (b : ℕ) (result : Result Step KeyFault) (old mid new : EditorValue Reading)
+takes_one : (keys left before now : Option (List ℕ)) (answer : Step) (b : ℕ) (old mid new : EditorValue Reading)
     → Consumes keys left (b ∷ []) → Shows old.sources.stated before now (old.editing ∷ []) → mid.sources ≡ old.sources → mid.editing ≡ old.editing
-    → TakesKey (key_of b) mid result new → answer_to (key_of b) ≡ answer → TakesOne keys left before now answer old new
-takes_one keys left before now answer b result old mid new key shown unfailed same h answers = record {
+    → Passes mid.sources new.sources b mid.editing new.editing → answer_to (key_of b) ≡ answer → TakesOne keys left before now answer old new
+takes_one keys left before now answer b old mid new key shown unfailed same h answers = record {
   byte = b;
   key = key;
   answers = answers;
-  passes = record {
-    result = result;
-    takes = subst (λ (e : Editing). TakesKey (key_of b) (over old.sources e) result new) same (subst (λ (r : Reading). TakesKey (key_of b) (over r mid.editing) result new) unfailed h);
-  };
+  passes = subst (λ (e : Editing). Passes old.sources new.sources b e new.editing) same (subst (λ (r : Reading). Passes r new.sources b mid.editing new.editing) unfailed h);
   shown = shown;
 }
+
+pub turned : (keys left before now : Option (List ℕ)) (b : ℕ) (end : Option End) (old mid new : EditorValue Reading)
+    → Consumes keys left (b ∷ []) → Shows old.sources.stated before now (old.editing ∷ []) → mid.sources ≡ old.sources → mid.editing ≡ old.editing
+    → Presses mid b end new → IsTurn keys left before now old (Ok end) new
+turned keys left before now b None old mid new key shown unfailed same h = takes_one keys left before now Step.Going b old mid new key shown unfailed same h.0 h.1
+turned keys left before now b (Some End.Save) old mid new key shown unfailed same h = takes_one keys left before now Step.Save b old mid new key shown unfailed same h.0 h.1
+turned keys left before now b (Some End.Leave) old mid new key shown unfailed same h = inl (takes_one keys left before now Step.Leave b old mid new key shown unfailed same h.0 h.1)

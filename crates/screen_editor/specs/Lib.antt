@@ -12,4 +12,5 @@ pub mod Opening
 pub mod LineKeys
 pub mod Runs
 pub mod Turns
+pub mod Playing
 pub mod Rows

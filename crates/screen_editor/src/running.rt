@@ -5,7 +5,7 @@ ghost use Rattle.std.specs.Io.KnownBytes.{Consumes};
 ghost use Rattle.screen_editor.specs.declared.fault.RunFault.TheVariants.{Read};
 ghost use Rattle.screen_editor.specs.Editing.{seen};
 ghost use Rattle.screen_editor.specs.Runs.{IsLater, IsRun, Shows};
-ghost use Rattle.screen_editor.specs.Turns.{IsNextKey, IsTurn, NotShown};
+ghost use Rattle.screen_editor.specs.Turns.{IsNextKey, IsTurn, NotShown, Presses};
 
 use crate::editor::Editor;
 use crate::fault::{End, RunFault};
@@ -42,7 +42,7 @@ fn next_key<K: io::Read>(keys: &mut K) -> Result<Option<u8>, RunFault>
 impl<R: Sources + Drop> Editor<R> {
     /// Writes what the screen shows.
     #[tactic(auto, using(crate::proofs::ManyTurns::shows_none))]
-    fn show<W: io::Write>(&mut self, screen: &mut W) -> Result<(), RunFault>
+    pub(crate) fn show<W: io::Write>(&mut self, screen: &mut W) -> Result<(), RunFault>
         ensures shown { OnOk result (Shows (R.reading self.old.sources).stated
             (W.contents screen.old) (W.contents screen.new) (self.old.editing ∷ [])) }
         ensures not_shown { IfErr result (NotShown (W.contents screen.old) (W.contents screen.new)
@@ -54,6 +54,21 @@ impl<R: Sources + Drop> Editor<R> {
         let frame = self.frame()?;
         write_bytes(screen, &frame)?;
         Ok(())
+    }
+
+    /// Takes a key, and answers how the run ends behind it, if it does.
+    #[tactic(auto, using(crate::proofs::LaterReadings::reads_later))]
+    pub(crate) fn press(&mut self, byte: u8) -> Option<End>
+        ensures presses { Presses (seen R.reading self.old) byte result (seen R.reading self.new) }
+        ensures later { IsLater (R.reading self.old.sources) (R.reading self.new.sources) }
+    {
+        match self.key(byte) {
+            Ok(Step::Save) => Some(End::Save),
+            Ok(Step::Leave) => Some(End::Leave),
+            Ok(Step::Going) => None,
+            // A refused key ends nothing: the next frame shows why it was refused.
+            Err(_) => None,
+        }
     }
 
     /// Shows the state and takes a key.
@@ -71,13 +86,7 @@ impl<R: Sources + Drop> Editor<R> {
         let Some(byte) = next_key(keys)? else {
             return Ok(Some(End::Leave));
         };
-        match self.key(byte) {
-            Ok(Step::Save) => Ok(Some(End::Save)),
-            Ok(Step::Leave) => Ok(Some(End::Leave)),
-            Ok(Step::Going) => Ok(None),
-            // A refused key ends nothing: the next frame shows why it was refused.
-            Err(_) => Ok(None),
-        }
+        Ok(self.press(byte))
     }
 
     /// Shows the state, takes a key, and so on: up to the key Save or Leave, or where no key is left.
