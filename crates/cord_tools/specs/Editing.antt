@@ -1,8 +1,10 @@
 -- What editing a file shows, and what it writes as the image of its session.
-use Rattle.std.specs.Prelude.{◌≡◌, ◌↔◌, ℕ, List, Option, Result, Ok, Err, OnOk}
+use Rattle.std.specs.Prelude.{◌≡◌, ◌↔◌, ◌⊎◌, ◌++◌, ℕ, List, [], Option, Result, Ok, Err, OnOk}
+use Rattle.std.specs.Int.{w64, to_be_bytes}
 use Rattle.std.specs.Io.KnownBytes.{Keeps}
 use Rattle.byte_output.specs.declared.writing.WriteFault.{WriteFault}
 use Rattle.lazy_file.specs.Readings.{Reading}
+use Rattle.image_reader.specs.declared.header.TheConstants.{MAGIC}
 use Rattle.image_reader.specs.Spelling.{spelling}
 use Rattle.image_reader.specs.Value.{IsImage}
 use Rattle.screen_editor.specs.declared.fault.EditorFault.{EditorFault}
@@ -13,6 +15,7 @@ use Rattle.screen_editor.specs.declared.fault.RunFault.{RunFault}
 use Rattle.screen_editor.specs.Editing.{Editing, EditorValue, seen}
 use Rattle.screen_editor.specs.Refusals.{IsNewFault, IsTooLong}
 use Rattle.screen_editor.specs.Revising.{IsMade}
+use Rattle.screen_editor.specs.Playing.{Resumes}
 use Rattle.screen_editor.specs.Runs.{IsRun}
 use Rattle.session_image.specs.Written.{IsTrusted, Writes, image_of}
 use Rattle.cord_tools.specs.declared.fault.ToolFault.{ToolFault}
@@ -60,3 +63,25 @@ pub data EditsFile {T : Type 0} (reading : T → Reading) (sources : T)
       → IsRun keys_before keys_left shown_before shown_now (seen reading first) end (seen reading last)
       → Concludes (reading sources).stated.sizes end last.editing before now result
       → EditsFile reading sources keys_before keys_left shown_before shown_now before now result
+
+-- As above, but these keys are played first, and the keys of the run are kept.
+pub data EditsKept {T : Type 0} (reading : T → Reading) (sources : T) (played : List ℕ)
+    (keys_before keys_left kept_before kept_now shown_before shown_now before now : Option (List ℕ))
+    (result : Result Status ToolFault) : Type 0 where
+  not_made : (fault : EditorFault) → IsNewFault (reading sources).stated fault
+      → (fault ≡ TooLong) ↔ IsTooLong (reading sources).stated → result ≡ Err (editor_fault fault)
+      → Keeps keys_before keys_left → Keeps kept_before kept_now → Keeps shown_before shown_now → Keeps before now
+      → EditsKept reading sources played keys_before keys_left kept_before kept_now shown_before shown_now before now
+          result
+  ran : (first last : EditorValue T) (end : Result End RunFault)
+      → first.sources ≡ sources → ¬ IsTooLong (reading sources).stated
+      → IsMade (reading sources).stated.sizes first.editing
+      → Resumes played keys_before keys_left kept_before kept_now shown_before shown_now (seen reading first) end
+          (seen reading last)
+      → Concludes (reading sources).stated.sizes end last.editing before now result
+      → EditsKept reading sources played keys_before keys_left kept_before kept_now shown_before shown_now before now
+          result
+
+-- the bytes of a file that an image may replace: none, or such as an image begins with
+abbrev pub MayReplace : List ℕ → Type 0
+MayReplace bytes = (bytes ≡ []) ⊎ ((rest : List ℕ) × (bytes ≡ to_be_bytes w64 MAGIC ++ rest))

@@ -115,4 +115,6 @@ IsJoinFault Tool.NoRevision = ⊥
 IsJoinFault (Tool.Edit f) = ⊥
 IsJoinFault Tool.TextTooLong = ⊥
 IsJoinFault Tool.TooManyKeys = ⊥
+IsJoinFault Tool.OtherKeys = ⊥
+IsJoinFault Tool.KeysInUse = ⊥
 IsJoinFault PatternTooLong = ⊥

@@ -51,6 +51,12 @@ pub enum ToolFault {
     /// The editor took 16,777,216 keys, and none ended its run.
     #[error("refused K2")]
     TooManyKeys,
+    /// The file of keys has keys of another text, or is no journal.
+    #[error("refused J1")]
+    OtherKeys,
+    /// Another session has the file of keys.
+    #[error("refused J2")]
+    KeysInUse,
 }
 
 impl From<AddFault> for ToolFault {

@@ -19,7 +19,7 @@ mod status;
 pub use check::{refuse_check, run_check, run_stdin};
 pub use cmp::run_cmp;
 pub use cut::run_cut;
-pub use edit::run_edit;
+pub use edit::{may_replace, run_edit, run_kept};
 pub use fault::ToolFault;
 pub use find::run_find;
 pub use join::run_join;

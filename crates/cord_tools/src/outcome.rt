@@ -29,7 +29,9 @@ fn fault_status(fault: ToolFault) -> u8
         | ToolFault::Rope(_)
         | ToolFault::Edit(_)
         | ToolFault::TextTooLong
-        | ToolFault::TooManyKeys => 1,
+        | ToolFault::TooManyKeys
+        | ToolFault::OtherKeys
+        | ToolFault::KeysInUse => 1,
         ToolFault::Memory | ToolFault::Read | ToolFault::Write => 3,
     }
 }

@@ -3,9 +3,12 @@
 use crate::fakes::{Flaky, Full, Giver, Taker};
 use crate::same::assert_same;
 use crate::tools::{show, texts_in};
-use cord_tools::{Status, ToolFault, run_edit};
+use cord_tools::{Status, ToolFault, may_replace, run_edit, run_kept};
+use image_reader::ReadFault;
+use key_journal::Kept;
 use lazy_file::{SOURCE_LIMIT, SourceFault, Sources};
 use screen_editor::{Editor, EditorFault, End, FrameFault, KeyFault, RunFault, Step};
+use session_checker::CheckFault;
 use std::alloc::AllocGlobal;
 use std::io::{ErrorKind, Write};
 use std::process::Abort;
@@ -140,6 +143,92 @@ fn assert_typed<R: AllocGlobal + Abort>(rt: &R, case: &Keys<'_>) {
 fn worked_keys_are_shown_and_saved(rt: HostRuntime) {
     for case in worked() {
         assert_typed(&rt, &case);
+    }
+}
+
+/// Edits a file behind the first `cut` keys, which are played, and saves. Answers what the journal has then.
+fn resumed<R: AllocGlobal + Abort>(
+    rt: &R,
+    case: &Keys<'_>,
+    cut: usize,
+    image: &mut Vec<u8>,
+) -> Vec<u8> {
+    let (played, typed) = case.keys.split_at(cut);
+    let mut typed = typed.to_vec(rt.alloc()).expect(rt, "the keys");
+    typed.push(0x18).expect(rt, "the key Save");
+    let mut screen: Vec<u8> = Vec::new(rt.alloc());
+    let mut journal = played.to_vec(rt.alloc()).expect(rt, "a journal");
+    let mut keys = Kept::new(Giver::of(&typed), &mut journal);
+    let found = run_kept(
+        rt.alloc(),
+        texts_in(rt, case.file),
+        played,
+        &mut keys,
+        &mut screen,
+        image,
+    );
+    assert_same(rt, &found, &Ok(Status::Success), &(case.keys, cut));
+    assert!(rt; screen.ends_with(case.screen_end), "{:?} {cut}", case.keys);
+    drop(keys);
+    journal
+}
+
+#[test]
+fn a_session_goes_on_from_each_front_of_its_keys(rt: HostRuntime) {
+    for case in worked() {
+        for cut in 0..=case.keys.len() {
+            let mut image: Vec<u8> = Vec::new(rt.alloc());
+            let journal = resumed(&rt, &case, cut, &mut image);
+            assert_same(&rt, &journal.as_slice(), &case.keys, &cut);
+            for (k, wanted) in (0..=case.last).rev().zip(case.texts.iter().rev()) {
+                let found = text(&rt, &image, case.file, k).expect(&rt, "a text");
+                assert_same(&rt, &found.as_slice(), wanted, &(case.keys, cut, k));
+            }
+        }
+    }
+}
+
+#[test]
+fn a_key_that_is_not_kept_is_not_taken(rt: HostRuntime) {
+    let typed = b"abc\x18";
+    for (room, wanted, written) in [
+        (0, Err(ToolFault::Write), b"".as_slice()),
+        (2, Err(ToolFault::Write), b""),
+        (3, Ok(Status::Success), b"CORDSESS"),
+    ] {
+        let mut journal = Taker::with_room(room, Full::Fails);
+        let mut screen: Vec<u8> = Vec::new(rt.alloc());
+        let mut image: Vec<u8> = Vec::new(rt.alloc());
+        let mut keys = Kept::new(Giver::of(typed), &mut journal);
+        let found = run_kept(
+            rt.alloc(),
+            texts_in(&rt, &[]),
+            &[],
+            &mut keys,
+            &mut screen,
+            &mut image,
+        );
+        drop(keys);
+        assert_same(&rt, &found, &wanted, &room);
+        assert!(&rt; image.starts_with(written), "{room}");
+        assert_same(&rt, &image.is_empty(), &written.is_empty(), &room);
+        assert_same(&rt, &Some(journal.taken()), &typed.get(..room), &room);
+    }
+}
+
+#[test]
+fn an_image_replaces_an_image_or_nothing(rt: HostRuntime) {
+    let refused = Err(ToolFault::Refused(CheckFault::Read(ReadFault::Magic)));
+    for (front, wanted) in [
+        (b"".as_slice(), Ok(())),
+        (b"CORDSESS", Ok(())),
+        (b"CORDSESS and more", Ok(())),
+        (b"C", refused),
+        (b"CORDSES", refused),
+        (b"CORDKEYS", refused),
+        (b"an essay", refused),
+    ] {
+        assert_same(&rt, &may_replace(front), &wanted, &front);
     }
 }
 

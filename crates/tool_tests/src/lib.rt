@@ -10,6 +10,8 @@ mod fakes;
 #[cfg(test)]
 mod images;
 #[cfg(test)]
+mod keys;
+#[cfg(test)]
 mod same;
 #[cfg(test)]
 mod tools;

@@ -297,6 +297,8 @@ fn a_fault_has_its_word_or_its_code_and_a_status(rt: HostRuntime) {
         (ToolFault::from(EditFault::TooManyRows), "refused E6", 1),
         (ToolFault::TextTooLong, "refused K1", 1),
         (ToolFault::TooManyKeys, "refused K2", 1),
+        (ToolFault::OtherKeys, "refused J1", 1),
+        (ToolFault::KeysInUse, "refused J2", 1),
     ] {
         let printed = format!(in rt.alloc(); "{fault}").expect(&rt, "a line");
         assert_same(&rt, &printed.as_str(), &words, &fault);
