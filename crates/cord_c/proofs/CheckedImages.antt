@@ -17,7 +17,7 @@ use Rattle.session_checker.specs.declared.fault.CheckFault.{CheckFault}
 use Rattle.cord_c.specs.declared.verdict.CordVerdict.{CordVerdict}
 use Rattle.cord_c.specs.HeldTexts.{limit_fault, reading_of}
 use Rattle.cord_c.specs.Verdicts.{accepted_verdict, limit_verdict, refused_verdict}
-use Rattle.cord_c.specs.Answers.{ChecksImage, SpellsFaithful}
+use Rattle.cord_c.specs.Answers.{JudgesImage, SpellsFaithful}
 use Rattle.cord_c.specs.Opened.{WasAccepted}
 
 -- the image that bytes spell
@@ -32,7 +32,7 @@ pub opens : (bytes : List ℕ) (st : Stated) → SpellsFaithful bytes st (image_
 opens bytes st is = record { read = faultless bytes (image_of bytes) is.image is.spelled; true_records = is.faithful.true_records }
 
 -- sources that are none
-pub none_checks : (bytes : List ℕ) (st : Stated) (x : CordVerdict) (f : AddFault) → (AreSizes st.sizes → ⊥) → f ≡ limit_fault st.sizes → x ≡ limit_verdict f → ChecksImage bytes st false x
+pub none_checks : (bytes : List ℕ) (st : Stated) (x : CordVerdict) (f : AddFault) → (AreSizes st.sizes → ⊥) → f ≡ limit_fault st.sizes → x ≡ limit_verdict f → JudgesImage bytes st false x
 none_checks bytes st x f none fault named = record {
   faithful = λ e. absurd cc;
   counts = λ e. absurd cc;
@@ -44,10 +44,10 @@ none_checks bytes st x f none fault named = record {
 
 -- an image that is accepted
 pub accepted_checks : (bytes : List ℕ) (held st : Stated) (v : ImageValue) (x : CordVerdict) → held ≡ st → IsFaithful v held → IsImage v × (bytes ≡ spelling v) → HasSources v held.sizes → (IsOk {E = CheckFault} (Ok v) → IsAccepted bytes held)
-    → IsExact held bytes (Ok v) → x ≡ accepted_verdict v → ChecksImage bytes st true x
+    → IsExact held bytes (Ok v) → x ≡ accepted_verdict v → JudgesImage bytes st true x
 accepted_checks bytes held st v x is faithful image sources accepted exact named =
     let same : image_of bytes ≡ v = image_again bytes v image.0 image.1 in
-    subst (λ (y : Stated). ChecksImage bytes y true x) is (record {
+    subst (λ (y : Stated). JudgesImage bytes y true x) is (record {
       faithful = λ _. subst (SpellsFaithful bytes held) (sym same) (record { accepted = accepted refl; image = image.0; spelled = image.1; sources = sources; faithful = faithful });
       counts = λ _. named ∙ ap accepted_verdict (sym same);
       refused = λ e. absurd cc;
@@ -58,11 +58,11 @@ accepted_checks bytes held st v x is faithful image sources accepted exact named
 
 -- an image that is refused
 pub refused_checks : (bytes : List ℕ) (old new st : Stated) (f : CheckFault) (x : CordVerdict) → old ≡ st → (source_fault f ≡ None → IsFirstFault old bytes f) → Reads (reading_of old) (reading_of new) (BytesAsk old bytes) (source_fault f)
-    → IsExact old bytes (Err f) → ((n : NeedsNoRead bytes old.sizes) → Accepts (Err f) n.v) → x ≡ refused_verdict f → ChecksImage bytes st false x
+    → IsExact old bytes (Err f) → ((n : NeedsNoRead bytes old.sizes) → Accepts (Err f) n.v) → x ≡ refused_verdict f → JudgesImage bytes st false x
 refused_checks bytes old new st f x is first reads exact always named =
     let same : new ≡ old = reads_same (reading_of old) (reading_of new) (BytesAsk old bytes) (source_fault f) reads in
     let own : Reads (reading_of old) (reading_of old) (BytesAsk old bytes) (source_fault f) = subst (λ (y : Stated). Reads (reading_of old) (reading_of y) (BytesAsk old bytes) (source_fault f)) same reads in
-    subst (λ (y : Stated). ChecksImage bytes y false x) is (record {
+    subst (λ (y : Stated). JudgesImage bytes y false x) is (record {
       faithful = λ e. absurd cc;
       counts = λ e. absurd cc;
       refused = λ _. inr (record { fault = f; first = first; reads = own; named = named });

@@ -38,7 +38,7 @@ pub record IsNoSources (sizes : List ℕ) (x : CordVerdict) : Type 0 where
 -- What a check answers: whether the bytes are accepted, and a verdict, which counts the image or names what is wrong.
 -- What keeps the rules and needs no byte of the sources is accepted, even where none is held; and where all are held,
 -- all that keeps the rules is, and all else is refused by its first fault.
-pub record ChecksImage (bytes : List ℕ) (st : Stated) (accepted : Bool) (x : CordVerdict) : Type 0 where
+pub record JudgesImage (bytes : List ℕ) (st : Stated) (accepted : Bool) (x : CordVerdict) : Type 0 where
   pub faithful : IsTrue accepted → SpellsFaithful bytes st (image_of bytes)
   pub counts : IsTrue accepted → x ≡ accepted_verdict (image_of bytes)
   pub refused : accepted ≡ false → IsNoSources st.sizes x ⊎ IsRefusedAs bytes st x

@@ -20,20 +20,20 @@ use Rattle.cord_c.specs.declared.run.TheConstants.{COMPUTED, POOLED, SOURCED}
 use Rattle.cord_c.specs.declared.text.TheConstants.{NO_PLACE, NOT_HELD, READ}
 
 -- the root of a revision's text; of none, nil
-abbrev pub root_of : ImageValue → ℕ → Option NodeId
-root_of v k = (revision_at v k).root
+abbrev pub root_at : ImageValue → ℕ → Option NodeId
+root_at v k = (revision_at v k).root
 
 -- how long that text is
-abbrev pub text_len : ImageValue → ℕ → ℕ
-text_len v k = rope_len (image_table v) (root_of v k)
+abbrev pub revision_len : ImageValue → ℕ → ℕ
+revision_len v k = rope_len (image_table v) (root_at v k)
 
 -- n cells of it from a place on
 abbrev pub text_part : ImageValue → ℕ → ℕ → ℕ → List Cell
-text_part v k place n = rope_part (image_table v) (root_of v k) place n
+text_part v k place n = rope_part (image_table v) (root_at v k) place n
 
 -- how many bytes there are from a place of it to the end of its leaf's span; at the end, 0
 abbrev pub left_of : ImageValue → ℕ → ℕ → ℕ
-left_of v k place = run_left (image_table v) (root_of v k) place
+left_of v k place = run_left (image_table v) (root_at v k) place
 
 -- the numbers of a run of n bytes of the pool or of a source
 abbrev pub placed_run : ℕ → ℕ → ℕ → ℕ → CordRun
@@ -71,7 +71,7 @@ run_told (Computed (Cycle pattern) i) n = computed_run CYCLE pattern i n
 pub record IsLocated (v : ImageValue) (k place : ℕ) (x : CordRun) : Type 0 where
   pub longest : x.len ≡ left_of v k place
   pub some : 1 ≤ x.len
-  pub inside : place + x.len ≤ text_len v k
+  pub inside : place + x.len ≤ revision_len v k
   pub what : Description
   pub cells : (m : ℕ) → m ≤ x.len → text_part v k place m ≡ described_cells (image_table v) m what
   pub told : x ≡ run_told what x.len
@@ -80,8 +80,8 @@ pub record IsLocated (v : ImageValue) (k place : ℕ) (x : CordRun) : Type 0 whe
 -- sources are held.
 pub record FetchesByte (v : ImageValue) (st : Stated) (k place old new outcome : ℕ) : Type 0 where
   pub found : outcome ≡ READ → IsFetchedOf v st k place (Some new)
-  pub inside : outcome ≡ READ → place < text_len v k
-  pub past : outcome ≡ NO_PLACE → text_len v k ≤ place
+  pub inside : outcome ≡ READ → place < revision_len v k
+  pub past : outcome ≡ NO_PLACE → revision_len v k ≤ place
   pub kept : outcome ≢ READ → new ≡ old
   pub succeeds : AreSizes st.sizes → IsReadable st (fetched_cell v k place) → outcome ≢ NOT_HELD
   pub told : (outcome ≡ READ) ⊎ ((outcome ≡ NO_PLACE) ⊎ (outcome ≡ NOT_HELD))

@@ -4,7 +4,7 @@ ghost use Rattle.std.specs.Prelude.{◌≡◌, ◌↔◌, None, false, IsTrue};
 ghost use Rattle.image_reader.specs.Looks.{looks_bound};
 ghost use Rattle.image_reader.specs.Reading.{fault_of, image_of};
 ghost use Rattle.cord_c.specs.HeldTexts.{stated_as_held};
-ghost use Rattle.cord_c.specs.Answers.{ChecksImage};
+ghost use Rattle.cord_c.specs.Answers.{JudgesImage};
 
 use crate::held_sources::{CordSource, HeldSources};
 use crate::verdict::CordVerdict;
@@ -36,7 +36,7 @@ pub extern "C" fn cord_check(
     sources: &[CordSource],
     verdict: &mut CordVerdict,
 ) -> bool
-    ensures { ChecksImage image.now (stated_as_held sources.now) result verdict.new }
+    ensures { JudgesImage image.now (stated_as_held sources.now) result verdict.new }
 {
     let mut held = match HeldSources::new(sources) {
         Ok(held) => held,

@@ -2,7 +2,7 @@
 
 ghost use Rattle.std.specs.Prelude.{◌≡◌, false, is_some, IfSome, IsTrue};
 ghost use Rattle.cord_c.specs.HeldTexts.{stated_as_held};
-ghost use Rattle.cord_c.specs.Answers.{ChecksImage};
+ghost use Rattle.cord_c.specs.Answers.{JudgesImage};
 ghost use Rattle.cord_c.specs.Opened.{opened_image};
 
 use crate::check::cord_check;
@@ -39,7 +39,7 @@ impl<'a> CordImage<'a> {
         sources: &[CordSource],
         verdict: &mut CordVerdict,
     ) -> Option<CordImage<'a>>
-        ensures check { ChecksImage image.now (stated_as_held sources.now) (is_some result) verdict.new }
+        ensures check { JudgesImage image.now (stated_as_held sources.now) (is_some result) verdict.new }
         ensures value { IfSome result (λ opened. opened.now ≡ image.now) }
     {
         if cord_check(image, sources, verdict) {
@@ -66,7 +66,7 @@ pub extern "C" fn cord_open<'a>(
     opened: &mut CordImage<'a>,
     verdict: &mut CordVerdict,
 ) -> bool
-    ensures check { ChecksImage image.now (stated_as_held sources.now) result verdict.new }
+    ensures check { JudgesImage image.now (stated_as_held sources.now) result verdict.new }
     ensures opened { IsTrue result → opened.new.now ≡ image.now }
     ensures kept { result ≡ false → opened.new ≡ opened.old }
 {

@@ -8,7 +8,7 @@ ghost use Rattle.session_checker.specs.Faithful.{fetched_cell, revision_text};
 ghost use Rattle.cord_c.specs.HeldTexts.{stated_as_held};
 ghost use Rattle.cord_c.specs.Opened.{opened_image};
 ghost use Rattle.cord_c.specs.Verdicts.{accepted_verdict};
-ghost use Rattle.cord_c.specs.Runs.{FetchesByte, IsLocated, ReadsRun, left_of, text_len, text_part};
+ghost use Rattle.cord_c.specs.Runs.{FetchesByte, IsLocated, ReadsRun, left_of, revision_len, text_part};
 
 use crate::held_sources::{CordSource, HeldSources};
 use crate::open::CordImage;
@@ -89,7 +89,7 @@ pub extern "C" fn cord_locate(
     place: u64,
     run: &mut CordRun,
 ) -> bool
-    ensures there { IsTrue result ↔ (place < text_len (opened_image image.now) revision) }
+    ensures there { IsTrue result ↔ (place < revision_len (opened_image image.now) revision) }
     ensures located { IsTrue result → IsLocated (opened_image image.now) revision place run.new }
     ensures kept { result ≡ false → run.new ≡ run.old }
 {
