@@ -35,14 +35,14 @@ pub record TakesOne (keys_before keys_left before now : Option (List ℕ)) (answ
   pub shown : Shows old.sources.stated before now (old.editing ∷ [])
 
 -- the answer to the key behind which a run ends so, or goes on
-abbrev pub answer_of : Option End → Step
-answer_of None = Step.Going
-answer_of (Some Save) = Step.Save
-answer_of (Some Leave) = Step.Leave
+abbrev pub end_answer : Option End → Step
+end_answer None = Step.Going
+end_answer (Some Save) = Step.Save
+end_answer (Some Leave) = Step.Leave
 
 -- a byte's key is taken or refused, and so the run ends behind it, or goes on
 abbrev pub Presses : EditorValue Reading → ℕ → Option End → EditorValue Reading → Type 0
-Presses old b end new = Passes old.sources new.sources b old.editing new.editing × (answer_to (key_of b) ≡ answer_of end)
+Presses old b end new = Passes old.sources new.sources b old.editing new.editing × (answer_to (key_of b) ≡ end_answer end)
 
 -- no key is taken
 pub record TakesNone (keys_before keys_left : Option (List ℕ)) (old new : Editing) : Type 0 where

@@ -5,7 +5,7 @@ use Rattle.std.proofs.lemmas.List.Elements.{All-head, All-nil, All-cons, All-tai
 use Rattle.terminal_keys.specs.declared.mode.Mode.{Mode}
 use Rattle.terminal_keys.specs.declared.mode.Mode.TheVariants.{Typed, Pasted, Returned}
 use Rattle.terminal_keys.specs.Keys.{is_text, keys_in, keys_of, mode_after, passed}
-use Rattle.terminal_keys.specs.Pastes.{text_of}
+use Rattle.terminal_keys.specs.Pastes.{pasted_text}
 
 pub ended : (m : Mode) (rest : List ℕ) → keys_in m (0x1B ∷ 0x5B ∷ 0x32 ∷ 0x30 ∷ 0x31 ∷ 0x7E ∷ rest) ≡ keys_of rest
 ended Typed rest = refl
@@ -47,7 +47,7 @@ put_before true b xs ys = refl
 put_before false b xs ys = refl
 
 pasted_from : (before : ℕ) (bytes rest : List ℕ) → All (λ b. b ≢ 0x1B) bytes
-    → keys_in (mode_of before) (bytes ++ 0x1B ∷ 0x5B ∷ 0x32 ∷ 0x30 ∷ 0x31 ∷ 0x7E ∷ rest) ≡ text_of before bytes ++ keys_of rest
+    → keys_in (mode_of before) (bytes ++ 0x1B ∷ 0x5B ∷ 0x32 ∷ 0x30 ∷ 0x31 ∷ 0x7E ∷ rest) ≡ pasted_text before bytes ++ keys_of rest
 pasted_from before [] rest h = ended (mode_of before) rest
 pasted_from before (b ∷ bs) rest h =
     let returned = before == 0x0D in
@@ -58,11 +58,11 @@ pasted_from before (b ∷ bs) rest h =
     ∙ ap (λ (l : List ℕ). l ++ keys_in (mode_after (mode_of before) b) behind) key
     ∙ ap (λ (m : Mode). (if test then b ∷ [] else []) ++ keys_in m behind) (follows returned b)
     ∙ ap (λ (l : List ℕ). (if test then b ∷ [] else []) ++ l) (pasted_from b bs rest (All-tail (λ x. x ≢ 0x1B) b bs h))
-    ∙ put_before test b (text_of b bs) (keys_of rest)
+    ∙ put_before test b (pasted_text b bs) (keys_of rest)
 
-pub pasted_text : (bytes rest : List ℕ) → All (λ b. b ≢ 0x1B) bytes
-    → keys_in Pasted (bytes ++ 0x1B ∷ 0x5B ∷ 0x32 ∷ 0x30 ∷ 0x31 ∷ 0x7E ∷ rest) ≡ text_of 0 bytes ++ keys_of rest
-pasted_text bytes rest h = pasted_from 0 bytes rest h
+pub text_between_marks : (bytes rest : List ℕ) → All (λ b. b ≢ 0x1B) bytes
+    → keys_in Pasted (bytes ++ 0x1B ∷ 0x5B ∷ 0x32 ∷ 0x30 ∷ 0x31 ∷ 0x7E ∷ rest) ≡ pasted_text 0 bytes ++ keys_of rest
+text_between_marks bytes rest h = pasted_from 0 bytes rest h
 
 -- what is put down is text
 abbrev IsText : ℕ → Type 0
@@ -73,6 +73,6 @@ only_text true true b xs is h = All-cons IsText b xs is h
 only_text true false b xs is h = h
 only_text false other b xs is h = h
 
-pub text_is : (before : ℕ) (bytes : List ℕ) → All IsText (text_of before bytes)
+pub text_is : (before : ℕ) (bytes : List ℕ) → All IsText (pasted_text before bytes)
 text_is before [] = All-nil IsText
-text_is before (b ∷ bs) = only_text (is_text b) (not (before == 0x0D && b == 0x0A)) b (text_of b bs) refl (text_is b bs)
+text_is before (b ∷ bs) = only_text (is_text b) (not (before == 0x0D && b == 0x0A)) b (pasted_text b bs) refl (text_is b bs)

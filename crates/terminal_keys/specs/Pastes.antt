@@ -3,7 +3,7 @@ use Rattle.std.specs.Prelude.{ℕ, List, [], ◌∷◌, ◌&&◌, ◌==◌, not,
 use Rattle.terminal_keys.specs.Keys.{is_text}
 
 -- of bytes behind this one those that are text, but no LF behind CR
-abbrev pub text_of : ℕ → List ℕ → List ℕ
-text_of before [] = []
-text_of before (b ∷ bs) =
-    if is_text b && not (before == 0x0D && b == 0x0A) then b ∷ text_of b bs else text_of b bs
+abbrev pub pasted_text : ℕ → List ℕ → List ℕ
+pasted_text before [] = []
+pasted_text before (b ∷ bs) =
+    if is_text b && not (before == 0x0D && b == 0x0A) then b ∷ pasted_text b bs else pasted_text b bs

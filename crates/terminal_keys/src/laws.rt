@@ -3,7 +3,7 @@
 ghost use Rattle.std.specs.Prelude.{◌≡◌, ◌≢◌, ◌⊎◌, ℕ, ◌<◌, ◌≤◌, List, [], ◌∷◌, ◌++◌, length, replicate, All, IsTrue};
 ghost use Rattle.terminal_keys.specs.Held.{are_parameters, IsOpen};
 ghost use Rattle.terminal_keys.specs.Keys.{is_text, keys_in, keys_of, letter, meant, mode_behind};
-ghost use Rattle.terminal_keys.specs.Pastes.{text_of};
+ghost use Rattle.terminal_keys.specs.Pastes.{pasted_text};
 ghost use Rattle.terminal_keys.specs.declared.mode.Mode.{Mode};
 ghost use Rattle.terminal_keys.specs.declared.mode.Mode.TheVariants.{Pasted};
 
@@ -52,6 +52,6 @@ pub fn pastes()
     ensures ends { (mode : Mode) (rest : List ℕ)
         → keys_in mode (0x1B ∷ 0x5B ∷ 0x32 ∷ 0x30 ∷ 0x31 ∷ 0x7E ∷ rest) ≡ keys_of rest }
     ensures text { (bytes rest : List ℕ) → All (λ b. b ≢ 0x1B) bytes
-        → keys_in Pasted (bytes ++ 0x1B ∷ 0x5B ∷ 0x32 ∷ 0x30 ∷ 0x31 ∷ 0x7E ∷ rest) ≡ text_of 0 bytes ++ keys_of rest }
-    ensures no_command { (bytes : List ℕ) → All (λ b. IsTrue (is_text b)) (text_of 0 bytes) }
+        → keys_in Pasted (bytes ++ 0x1B ∷ 0x5B ∷ 0x32 ∷ 0x30 ∷ 0x31 ∷ 0x7E ∷ rest) ≡ pasted_text 0 bytes ++ keys_of rest }
+    ensures no_command { (bytes : List ℕ) → All (λ b. IsTrue (is_text b)) (pasted_text 0 bytes) }
 {}
