@@ -12,7 +12,7 @@ HEAD = re.compile(r"^(?:(?:pub|abbrev|unfoldable|record|data) )+([^\s:({]+)")
 CASE = re.compile(r"^  (?:pub )?([^\s:]+) :")
 ITEM = re.compile(r"^pub (?:enum|struct|type|const|trait) (\w+)")
 USE = re.compile(r"^\s*(?:ghost |pub )*use Rattle\.([\w.-]+)(?:\.\{([^}]*)\}| as (\w+))", re.M)
-CALL = re.compile(r"^(    )?(pub )?(?:const )?(?:unsafe )?fn (\w+)")
+CALL = re.compile(r'^(    )?(pub )?(?:const )?(?:unsafe )?(?:extern "C" )?fn (\w+)')
 
 
 def words_of(text):
