@@ -8,13 +8,15 @@
 # make bench     times the program beside the usual tools, on data that it makes
 # make refuse    refuses each allocation of a run in turn, and fails its reads and writes by real devices
 # make crate NAME=.. DEPS=".."  makes the folders and files of a new crate, and its line in crates.txt
+# make callers   builds the C library and its callers in C, Rust and Python, and compares their answers
+# make wasm      builds the C library as WebAssembly, for examples/check.html, and tries it in node, where that is installed
 # make memcheck  runs the tests of ropes under valgrind's memcheck, where it is installed
 # make install PREFIX=/usr/local [DESTDIR=..] [PROGRAM=..]  installs the program that `make run` built, or another, with scripts, man pages and completions
 # make uninstall PREFIX=/usr/local [DESTDIR=..]  takes away what make install put there
 # make deb       makes a package for Debian of the program that `make run` built, or of PROGRAM=.., in the folder out
 # make installed tries all three in folders of their own, over the built program or PROGRAM=..
 
-.PHONY: try run check long hostile fuzz audit bench refuse memcheck crate install uninstall deb installed
+.PHONY: try run check long hostile fuzz audit bench refuse callers wasm memcheck crate install uninstall deb installed
 
 IMAGE = crates/cordkit/stdin
 MINUTES = 10
@@ -54,6 +56,12 @@ bench:
 
 refuse:
 	sh bench/refuse.sh
+
+callers:
+	cd crates/cord_c && rt lib && sh callers/run.sh
+
+wasm:
+	sh crates/cord_c/wasm.sh
 
 memcheck:
 	sh tests/memcheck.sh
