@@ -46,7 +46,7 @@ _cordkit_read() {
 
 _cordkit() {
     local commands='check show cut join find cmp edit migrate help'
-    local command='' place=0 ended='' valued='' redirected='' kind kinds
+    local IFS=$' \t\n' command='' place=0 ended='' valued='' redirected='' kind kinds
     COMPREPLY=()
     [[ ${1##*/} == cordkit ]] || command=${1##*/}
     _cordkit_read
