@@ -13,7 +13,7 @@ use Rattle.edit_script.specs.declared.room.Room.{Room}
 use Rattle.edit_script.specs.Words.{Word, Name, Number, Quoted, BeginsWith, HasWords, IsComment, Spells, is_blank, ends_word, behind_blanks}
 use Rattle.edit_script.specs.Commands.{Kind, Revision, Place, Byte, Text, shapes, shape_in, shape_of, Shape, Suits, HasKinds, IsLine}
 use Rattle.edit_script.specs.Handed.{said}
-use Rattle.edit_script.specs.Reading.{◌>>=◌, Gives, front, behind_front, number_at, number_below, quoted_at, is_comment, word_at, words_at, end_at, groups_at, again_at, command_at, line_at}
+use Rattle.edit_script.specs.Reading.{◌>>=◌, IsReadAs, front, behind_front, number_at, number_below, quoted_at, is_comment, word_at, words_at, end_at, groups_at, again_at, named_at, line_at}
 use Rattle.edit_script.proofs.Choices.{chosen, passed, bind_some, some_is}
 use Rattle.edit_script.proofs.Fronts.{IsFront, digit_is_no_end, front_is, behind_front_is, front_parts, behind_front_ends, number_back, number_again, below_back, below_again}
 use Rattle.edit_script.proofs.Quotes.{quoted_back, quoted_again}
@@ -218,7 +218,7 @@ not_comment (b ∷ name) rest h =
 pub line_back : (line : List ℕ) (ws : List Word) → line_at line ≡ Some ws → IsLine ws × HasWords line ws
 line_back line ws e =
     let t = behind_blanks line in
-    elim (chosen (is_comment t) (Some []) (command_at (front t) (behind_front t)) (Some ws) e) [
+    elim (chosen (is_comment t) (Some []) (named_at (front t) (behind_front t)) (Some ws) e) [
       | inl p ↦ subst (λ (vs : List Word). IsLine vs × HasWords line vs) (some_is [] ws p.1) (refl, comment_back t p.0)
       | inr p ↦
           let s = bind_some (shape_of (front t)) (λ shape. words_at (again_at shape.again) shape.once (behind_front t) >>= λ ws. Some (Name (front t) ∷ ws)) ws p.1 in
@@ -242,14 +242,14 @@ line_again line (Name name ∷ ws) c h =
     let parts : behind_blanks line ≡ name ++ rest = b.parts ∙ ap (λ (t : List ℕ). t ++ rest) b.spelled in
     rw (parts, not_comment name rest is, front_is name rest plain b.ends, behind_front_is name rest plain b.ends, c.1, words_again (again_at c.0.again) c.0.again (again_again c.0.again) c.0.once rest ws c.2 h.2) refl
 
-pub is_found : (line : List ℕ) (room : Room) (r : Result (Option Edit) LineFault) → Gives (said room) r (line_at line)
+pub is_found : (line : List ℕ) (room : Room) (r : Result (Option Edit) LineFault) → IsReadAs (said room) r (line_at line)
     → IfOk r (λ x. IsLine (said room x) × HasWords line (said room x))
 is_found line room (Ok x) read = line_back line (said room x) read
 is_found line room (Err e) read = tt
 
-pub is_only : (line : List ℕ) (room : Room) (r : Result (Option Edit) LineFault) → Gives (said room) r (line_at line)
-    → (ws : List Word) → IsLine ws → HasWords line ws → Gives (said room) r (Some ws)
-is_only line room r read ws c h = subst (λ (o : Option (List Word)). Gives (said room) r o) (line_again line ws c h) read
+pub is_only : (line : List ℕ) (room : Room) (r : Result (Option Edit) LineFault) → IsReadAs (said room) r (line_at line)
+    → (ws : List Word) → IsLine ws → HasWords line ws → IsReadAs (said room) r (Some ws)
+is_only line room r read ws c h = subst (λ (o : Option (List Word)). IsReadAs (said room) r o) (line_again line ws c h) read
 
 -- no line is two commands
 pub one_command : (line : List ℕ) (ws vs : List Word) → IsLine ws → IsLine vs → HasWords line ws → HasWords line vs → ws ≡ vs

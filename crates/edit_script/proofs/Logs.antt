@@ -13,10 +13,10 @@ use Rattle.std.proofs.lemmas.List.Splits.{slice_split-cons_no}
 use Rattle.std.proofs.lemmas.Str.Parse.{digit_from_value}
 use Rattle.std.proofs.lemmas.Slice.Eq.{bytes_eq-Decides}
 use Rattle.std.specs.Str.{bytes_eq}
-use Rattle.edit_script.specs.Words.{Word, Name, Number, Quoted, IsTail, escaped, spelled, spelled_on, line_of}
+use Rattle.edit_script.specs.Words.{Word, Name, Number, Quoted, IsTail, escaped, printed_word, spelled_on, line_of}
 use Rattle.edit_script.specs.Commands.{Kind, Revision, Place, Byte, Text, shapes, shape_in, Shape, Suits, HasKinds, HasBytes, IsPrintable}
 use Rattle.edit_script.specs.Applied.{lines_of}
-use Rattle.edit_script.specs.Scripts.{Reads, SaysFirst, IsOneLine, Printed, IsPrinted, script_of, Noted, comment_of}
+use Rattle.edit_script.specs.Scripts.{ReadsScript, SaysFirst, IsOneLine, Printed, IsPrinted, script_of, Noted, comment_of}
 use Rattle.edit_script.proofs.Choices.{chosen}
 use Rattle.edit_script.proofs.Printed.{line_printed}
 
@@ -49,7 +49,7 @@ bytes_one : (bytes : List ℕ) → AllByRecursion (λ b. b < 256) bytes → IsOn
 bytes_one [] h = refl
 bytes_one (b ∷ bytes) h = rw flat_map-cons (one_append (escaped b) (flat_map escaped bytes) (escaped_one b h.0) (bytes_one bytes h.1))
 
-word_one : (k : Kind) (w : Word) → Suits k w → HasBytes w → IsOneLine (spelled w)
+word_one : (k : Kind) (w : Word) → Suits k w → HasBytes w → IsOneLine (printed_word w)
 word_one Revision (Number n) s h = decimal_one n (omega (arith, s))
 word_one Revision (Name t) s h = absurd s
 word_one Revision (Quoted t) s h = absurd s
@@ -66,9 +66,9 @@ word_one Text (Quoted t) s h = one_append (flat_map escaped t) (34 ∷ []) (byte
 words_one : (again kinds : List Kind) (ws : List Word) → HasKinds again kinds ws → AllByRecursion HasBytes ws → IsOneLine (spelled_on ws)
 words_one again [] [] s h = refl
 words_one [] [] (w ∷ ws) s h = absurd s
-words_one (k ∷ again) [] (w ∷ ws) s h = one_append (spelled w) (spelled_on ws) (word_one k w s.0 h.0) (words_one (k ∷ again) again ws s.1 h.1)
+words_one (k ∷ again) [] (w ∷ ws) s h = one_append (printed_word w) (spelled_on ws) (word_one k w s.0 h.0) (words_one (k ∷ again) again ws s.1 h.1)
 words_one again (k ∷ kinds) [] s h = absurd s
-words_one again (k ∷ kinds) (w ∷ ws) s h = one_append (spelled w) (spelled_on ws) (word_one k w s.0 h.0) (words_one again kinds ws s.1 h.1)
+words_one again (k ∷ kinds) (w ∷ ws) s h = one_append (printed_word w) (spelled_on ws) (word_one k w s.0 h.0) (words_one again kinds ws s.1 h.1)
 
 names_one : (table : List (List ℕ × Shape)) (name : List ℕ) (shape : Shape) → list_all (λ (x : List ℕ × Shape). list_all is_inside x.0) table ≡ true → shape_in table name ≡ Some shape → IsOneLine name
 names_one [] name shape h e = absurd cc
@@ -87,14 +87,14 @@ line_one (Name name ∷ ws) p =
     one_append name (spelled_on ws) (names_one shapes name p.command.0 refl p.command.1) (words_one p.command.0.again p.command.0.once ws p.command.2 p.bytes.1)
 
 -- printed commands are the script's commands
-pub log_reads : (xs : List Printed) → AllByRecursion IsPrinted xs → Reads (lines_of (script_of xs)) (map (λ (x : Printed). x.0) xs)
+pub log_reads : (xs : List Printed) → AllByRecursion IsPrinted xs → ReadsScript (lines_of (script_of xs)) (map (λ (x : Printed). x.0) xs)
 log_reads [] h = inl (tt, refl)
 log_reads (x ∷ xs) h =
     let commands = map (λ (y : Printed). y.0) (x ∷ xs) in
     let line = line_of x.0 ++ x.1 in
     let split : lines_of (script_of (x ∷ xs)) ≡ line ∷ lines_of (script_of xs) = line_split line (script_of xs) (one_append (line_of x.0) x.1 (line_one x.0 h.0.command) h.0.one) in
     let first : SaysFirst line commands (map (λ (y : Printed). y.0) xs) = record { first = x.0; some = h.0.some; known = h.0.command.command; words = line_printed x.0 x.1 h.0.command h.0.tail; all = refl } in
-    subst (λ (lines : List (List ℕ)). Reads lines commands) (sym split) (inr (map (λ (y : Printed). y.0) xs, first, log_reads xs h.1))
+    subst (λ (lines : List (List ℕ)). ReadsScript lines commands) (sym split) (inr (map (λ (y : Printed). y.0) xs, first, log_reads xs h.1))
 
 -- a note's numbers have 64 bits
 pub record FitsNote (x : Noted) : Type 0 where

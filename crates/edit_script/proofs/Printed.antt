@@ -8,7 +8,7 @@ use Rattle.std.proofs.lemmas.Bool.{cases_Bool, cases_eq, and_parts, and_from, or
 use Rattle.std.proofs.lemmas.Fmt.{decimal_is_IsNumeral}
 use Rattle.std.proofs.lemmas.List.Concat.{flat_map-cons}
 use Rattle.std.proofs.lemmas.Str.Parse.{digit_from_value}
-use Rattle.edit_script.specs.Words.{Word, Name, Number, Quoted, HasWords, IsBehindWord, IsTail, SpellsByte, plain, short, hex, SpellsBytes, Spells, is_plain, is_printed_plain, is_blank, ends_word, behind_blanks, escaped, spelled, spelled_on, line_of}
+use Rattle.edit_script.specs.Words.{Word, Name, Number, Quoted, HasWords, IsBehindWord, IsTail, SpellsByte, plain, short, hex, SpellsBytes, Spells, is_plain, is_printed_plain, is_blank, ends_word, behind_blanks, escaped, printed_word, spelled_on, line_of}
 use Rattle.edit_script.specs.Commands.{Kind, Revision, Place, Byte, Text, Suits, HasKinds, HasBytes, IsPrintable}
 use Rattle.edit_script.proofs.Fronts.{digit_is_no_end}
 use Rattle.edit_script.proofs.Laws.{is_name, name_is}
@@ -88,7 +88,7 @@ name_begins (b ∷ t) h =
     (or_parts (is_blank b) (eqb b 35) (not-true (ends_word b) p.0)).0
 
 abbrev IsPrinted : Word → Type 0
-IsPrinted w = Spells w (spelled w) × BeginsPlain (spelled w)
+IsPrinted w = Spells w (printed_word w) × BeginsPlain (printed_word w)
 
 number_printed : (n : ℕ) → n < 2 ^ 64 → IsPrinted (Number n)
 number_printed n small = let d = decimal_is_IsNumeral n small in ((d.0, d.1), numeral_begins (decimal n) d.0)
@@ -117,9 +117,9 @@ one_more : (k : Kind) (w : Word) (ws : List Word) (tail : List ℕ) → Suits k 
 one_more k w ws tail s h t others =
     let rest = spelled_on ws ++ tail in
     let p = word_printed k w s h in
-    let parts : behind_blanks (spelled_on (w ∷ ws) ++ tail) ≡ spelled w ++ rest =
-    ap behind_blanks (append_assoc (spelled w) (spelled_on ws) tail) ∙ no_blanks (spelled w) rest p.1 in
-    (rest, record { text = spelled w; spelled = p.0; parts = parts; ends = ends_behind ws tail t }, others)
+    let parts : behind_blanks (spelled_on (w ∷ ws) ++ tail) ≡ printed_word w ++ rest =
+    ap behind_blanks (append_assoc (printed_word w) (spelled_on ws) tail) ∙ no_blanks (printed_word w) rest p.1 in
+    (rest, record { text = printed_word w; spelled = p.0; parts = parts; ends = ends_behind ws tail t }, others)
 
 words_printed : (again kinds : List Kind) (ws : List Word) (tail : List ℕ) → HasKinds again kinds ws → AllByRecursion HasBytes ws → IsTail tail → HasWords (spelled_on ws ++ tail) ws
 words_printed again [] [] tail s h t = t.comment

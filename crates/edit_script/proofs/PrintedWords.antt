@@ -4,7 +4,7 @@ use Rattle.std.specs.Fmt.{decimal}
 use Rattle.std.proofs.lemmas.List.{append-nil}
 use Rattle.std.proofs.lemmas.Grind.{take_at_read}
 use Rattle.span_certificate.specs.declared.edit.Splice.{Splice}
-use Rattle.edit_script.specs.Words.{Word, Number, Quoted, numbers_on, spelled, spelled_on}
+use Rattle.edit_script.specs.Words.{Word, Number, Quoted, numbers_on, printed_word, spelled_on}
 use Rattle.edit_script.specs.Commands.{splice_words}
 
 numbers_split : (xs ys : List ℕ) → numbers_on (xs ++ ys) ≡ numbers_on xs ++ numbers_on ys
@@ -24,7 +24,7 @@ numbers_more out name ns mid new i lt so_far pushed =
 
 pub words_split : (xs ys : List Word) → spelled_on (xs ++ ys) ≡ spelled_on xs ++ spelled_on ys
 words_split [] ys = refl
-words_split (w ∷ ws) ys = ap (λ (t : List ℕ). 32 ∷ spelled w ++ t) (words_split ws ys) ∙ sym (append_assoc (32 ∷ spelled w) (spelled_on ws) (spelled_on ys))
+words_split (w ∷ ws) ys = ap (λ (t : List ℕ). 32 ∷ printed_word w ++ t) (words_split ws ys) ∙ sym (append_assoc (32 ∷ printed_word w) (spelled_on ws) (spelled_on ys))
 
 pub splices_split : (pool : List ℕ) (xs ys : List Splice) → splice_words pool (xs ++ ys) ≡ splice_words pool xs ++ splice_words pool ys
 splices_split pool [] ys = refl

@@ -24,8 +24,8 @@ use Rattle.edit_script.specs.declared.fault.Stopped.{Stopped}
 use Rattle.edit_script.specs.Words.{Word, Name, Number, Quoted}
 use Rattle.edit_script.specs.Commands.{StandsInside, splice_words, words_of}
 use Rattle.edit_script.specs.Handed.{places_from, words_handed}
-use Rattle.edit_script.specs.Applied.{Makes, TakesLines}
-use Rattle.edit_script.specs.Scripts.{AreInside, Reads, words_held}
+use Rattle.edit_script.specs.Applied.{TakesWords, TakesLines}
+use Rattle.edit_script.specs.Scripts.{AreInside, ReadsScript, words_held}
 use Rattle.edit_script.proofs.Choices.{passed, bind_some}
 use Rattle.edit_script.proofs.Laws.{one_command}
 use Rattle.node_table.specs.Held.{table_of}
@@ -203,7 +203,7 @@ all_inside old new le (d ∷ es) e inside here = (inside_more old new le d insid
 abbrev Grows : SessionValue → List (List Word) → SessionValue → Type 0
 Grows old cs new = (words_held new ≡ words_held old ++ cs) × AreInside new
 
-makes_grows : (old : SessionValue) (ws : List Word) (new : SessionValue) → AreInside old → Makes old ws new → Grows old (ws ∷ []) new
+makes_grows : (old : SessionValue) (ws : List Word) (new : SessionValue) → AreInside old → TakesWords old ws new → Grows old (ws ∷ []) new
 makes_grows old ws new inside m =
     let applies = m.applies in
     let is = applies.is in
@@ -231,7 +231,7 @@ makes_grows old ws new inside m =
 
 -- a session that took a script's lines says what it said before, and then what the script says
 pub says_script : (old : SessionValue) (k : ℕ) (lines : List (List ℕ)) (result : Result (Unit {0}) Stopped) (new : SessionValue) (cs : List (List Word))
-    → AreInside old → result ≡ Ok tt → TakesLines old k lines result new → Reads lines cs → Grows old cs new
+    → AreInside old → result ≡ Ok tt → TakesLines old k lines result new → ReadsScript lines cs → Grows old cs new
 says_script old k [] result new cs inside ok t r =
     subst (Grows old cs) (sym t.1) (subst (λ (ds : List (List Word)). words_held old ≡ words_held old ++ ds) (sym r) (sym (append-nil (words_held old))), inside)
 says_script old k (line ∷ lines) result new cs inside ok (inr t) r = let no : Ok tt ≡ Err (record { line = k + 1; why = t.0 }) = sym ok ∙ t.2 in absurd cc

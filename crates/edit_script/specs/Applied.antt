@@ -18,7 +18,7 @@ abbrev pub lines_of : List ℕ → List (List ℕ)
 lines_of script = slice_split (λ b. b == 10) script
 
 -- a command of these words makes the next revision
-pub record Makes (old : SessionValue) (ws : List Word) (new : SessionValue) : Type 0 where
+pub record TakesWords (old : SessionValue) (ws : List Word) (new : SessionValue) : Type 0 where
   pub command : Command
   pub takes : TakesAll command
   pub words : words_handed command ≡ ws
@@ -26,7 +26,7 @@ pub record Makes (old : SessionValue) (ws : List Word) (new : SessionValue) : Ty
   pub applies : Applies old command number new
 
 -- a command of these words is refused
-pub record Refuses (old : SessionValue) (ws : List Word) (fault : EditFault) (new : SessionValue) : Type 0 where
+pub record RefusesWords (old : SessionValue) (ws : List Word) (fault : EditFault) (new : SessionValue) : Type 0 where
   pub command : Command
   pub takes : TakesAll command
   pub words : words_handed command ≡ ws
@@ -35,12 +35,12 @@ pub record Refuses (old : SessionValue) (ws : List Word) (fault : EditFault) (ne
 -- a line without words changes nothing, one with a command makes a revision
 abbrev pub TakesLine : SessionValue → List ℕ → SessionValue → Type 0
 TakesLine old line new =
-    (HasWords line [] × (new ≡ old)) ⊎ ((ws : List Word) × IsLine ws × HasWords line ws × Makes old ws new)
+    (HasWords line [] × (new ≡ old)) ⊎ ((ws : List Word) × IsLine ws × HasWords line ws × TakesWords old ws new)
 
 -- why a line is not taken: it has words and they are no command, or its command is refused
 abbrev pub StopsLine : SessionValue → List ℕ → Stop → SessionValue → Type 0
 StopsLine old line NoCommand new = (new ≡ old) × ((ws : List Word) → IsLine ws → HasWords line ws → ⊥)
-StopsLine old line (Refused fault) new = (ws : List Word) × IsLine ws × HasWords line ws × Refuses old ws fault new
+StopsLine old line (Refused fault) new = (ws : List Word) × IsLine ws × HasWords line ws × RefusesWords old ws fault new
 StopsLine old line Memory new = Unit {0}
 
 -- the lines behind the first k are taken one after the other, or the first that is not stops them

@@ -19,9 +19,9 @@ abbrev pub Fails : {Y : Type 0} → LineFault → Option Y → Type 0
 Fails NoCommand read = read ≡ None
 Fails Memory read = Unit {0}
 
-abbrev pub Gives : {X Y : Type 0} → (X → Y) → Result X LineFault → Option Y → Type 0
-Gives view (Ok x) read = read ≡ Some (view x)
-Gives view (Err e) read = Fails e read
+abbrev pub IsReadAs : {X Y : Type 0} → (X → Y) → Result X LineFault → Option Y → Type 0
+IsReadAs view (Ok x) read = read ≡ Some (view x)
+IsReadAs view (Err e) read = Fails e read
 
 -- ---- numbers
 
@@ -142,8 +142,8 @@ again_at [] line = end_at line
 again_at kinds line = groups_at (length line) kinds line
 
 -- the words of a command behind its name
-abbrev pub command_at : List ℕ → List ℕ → Option (List Word)
-command_at name line = do
+abbrev pub named_at : List ℕ → List ℕ → Option (List Word)
+named_at name line = do
   shape ← shape_of name
   ws ← words_at (again_at shape.again) shape.once line
   Some (Name name ∷ ws)
@@ -160,4 +160,4 @@ change_at line = do
 abbrev pub line_at : List ℕ → Option (List Word)
 line_at line =
     if is_comment (behind_blanks line) then Some []
-    else command_at (front (behind_blanks line)) (behind_front (behind_blanks line))
+    else named_at (front (behind_blanks line)) (behind_front (behind_blanks line))

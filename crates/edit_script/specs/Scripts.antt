@@ -16,11 +16,11 @@ pub record SaysFirst (line : List ℕ) (commands others : List (List Word)) : Ty
   pub all : commands ≡ first ∷ others
 
 -- Each line has no words, or is the next command.
-abbrev pub Reads : List (List ℕ) → List (List Word) → Type 0
-Reads [] commands = commands ≡ []
-Reads (line ∷ lines) commands =
-    (HasWords line [] × Reads lines commands)
-    ⊎ ((others : List (List Word)) × SaysFirst line commands others × Reads lines others)
+abbrev pub ReadsScript : List (List ℕ) → List (List Word) → Type 0
+ReadsScript [] commands = commands ≡ []
+ReadsScript (line ∷ lines) commands =
+    (HasWords line [] × ReadsScript lines commands)
+    ⊎ ((others : List (List Word)) × SaysFirst line commands others × ReadsScript lines others)
 
 -- what a session's revisions say
 abbrev pub words_held : SessionValue → List (List Word)

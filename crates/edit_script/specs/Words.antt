@@ -97,15 +97,15 @@ escaped b =
     else (if is_printed_plain b then b ∷ []
     else 92 ∷ 120 ∷ digit_glyph false (b / 16) ∷ digit_glyph false (b % 16) ∷ [])))))
 
-abbrev pub spelled : Word → List ℕ
-spelled (Name name) = name
-spelled (Number n) = decimal n
-spelled (Quoted bytes) = 34 ∷ flat_map escaped bytes ++ 34 ∷ []
+abbrev pub printed_word : Word → List ℕ
+printed_word (Name name) = name
+printed_word (Number n) = decimal n
+printed_word (Quoted bytes) = 34 ∷ flat_map escaped bytes ++ 34 ∷ []
 
 -- a blank and a word, for each of them
 abbrev pub spelled_on : List Word → List ℕ
 spelled_on [] = []
-spelled_on (w ∷ ws) = 32 ∷ spelled w ++ spelled_on ws
+spelled_on (w ∷ ws) = 32 ∷ printed_word w ++ spelled_on ws
 
 -- the same for numbers
 abbrev pub numbers_on : List ℕ → List ℕ
@@ -115,7 +115,7 @@ numbers_on (n ∷ ns) = 32 ∷ decimal n ++ numbers_on ns
 -- the words, a blank between two
 abbrev pub line_of : List Word → List ℕ
 line_of [] = []
-line_of (w ∷ ws) = spelled w ++ spelled_on ws
+line_of (w ∷ ws) = printed_word w ++ spelled_on ws
 
 -- what may stand behind a printed line: nothing, or blanks and a comment
 pub record IsTail (tail : List ℕ) : Type 0 where

@@ -3,7 +3,7 @@
 ghost use Rattle.std.specs.Prelude.{◌≡◌, ◌+◌, ◌<◌, ◌≤◌, ◌∷◌, Some, None, length, OnOk, IfErr, IfSome};
 ghost use Rattle.std.specs.Option.{option_map};
 ghost use Rattle.edit_script.specs.Handed.{IsInRoom, words_in};
-ghost use Rattle.edit_script.specs.Applied.{Makes, Refuses, TakesLine, StopsLine, TakesLines, lines_of, lines_left};
+ghost use Rattle.edit_script.specs.Applied.{TakesWords, RefusesWords, TakesLine, StopsLine, TakesLines, lines_of, lines_left};
 
 use crate::fault::{LineFault, Stop, Stopped};
 use crate::handing::handed;
@@ -12,13 +12,13 @@ use crate::room::Room;
 use edit_commands::{EditFault, Session};
 use span_certificate::Edit;
 
-/// Makes the revision of a command that was read into a room.
+/// TakesWords the revision of a command that was read into a room.
 fn apply_edit(session: &mut Session, edit: &Edit, room: &Room) -> Result<(), EditFault>
     requires { IsInRoom room.now edit.now }
     ensures made { OnOk result
-        (Makes session.old (words_in room.now.bytes.items room.now.changes.items edit.now) session.new) }
+        (TakesWords session.old (words_in room.now.bytes.items room.now.changes.items edit.now) session.new) }
     ensures refused { IfErr result
-        (λ e. Refuses session.old (words_in room.now.bytes.items room.now.changes.items edit.now) e session.new) }
+        (λ e. RefusesWords session.old (words_in room.now.bytes.items room.now.changes.items edit.now) e session.new) }
 {
     match session.apply(handed(edit, room)) {
         Ok(_) => Ok(()),
@@ -26,7 +26,7 @@ fn apply_edit(session: &mut Session, edit: &Edit, room: &Room) -> Result<(), Edi
     }
 }
 
-/// Makes the revision that a line asks for, if it asks for one.
+/// TakesWords the revision that a line asks for, if it asks for one.
 fn apply_line(session: &mut Session, line: &[u8], room: &mut Room) -> Result<(), Stop>
     ensures taken { OnOk result (TakesLine session.old line.now session.new) }
     ensures stopped { IfErr result (λ why. StopsLine session.old line.now why session.new) }

@@ -6,7 +6,7 @@ ghost use Rattle.edit_script.specs.declared.fault.LineFault.TheVariants.{Memory}
 ghost use Rattle.edit_script.specs.Words.{Number, Quoted};
 ghost use Rattle.edit_script.specs.Commands.{splice_words, splice_kinds};
 ghost use Rattle.edit_script.specs.Handed.{splices_in};
-ghost use Rattle.edit_script.specs.Reading.{Gives, change_at, groups_at};
+ghost use Rattle.edit_script.specs.Reading.{IsReadAs, change_at, groups_at};
 
 use crate::blanks::is_end;
 use crate::fault::LineFault;
@@ -17,7 +17,7 @@ use edit_commands::Change;
 
 /// The change that a line begins with, and what is left. Its bytes are put behind those that are there.
 fn change<'a>(line: &'a [u8], bytes: &mut Vec<u8>) -> Result<(Change, &'a [u8]), LineFault>
-    ensures read { Gives (λ x. (Number x.0.p ∷ Number x.0.m ∷ Quoted (drop (length bytes.old.items) bytes.new.items) ∷ [], x.1.now))
+    ensures read { IsReadAs (λ x. (Number x.0.p ∷ Number x.0.m ∷ Quoted (drop (length bytes.old.items) bytes.new.items) ∷ [], x.1.now))
         result (change_at line.now) }
     ensures len { IfOk result (λ x. length bytes.new.items ≡ length bytes.old.items + x.0.n) }
     ensures kept { take (length bytes.old.items) bytes.new.items ≡ bytes.old.items }
@@ -42,7 +42,7 @@ pub fn count_of(changes: &[Change]) -> Result<u32, LineFault>
 pub fn changes(line: &[u8], room: &mut Room) -> Result<(), LineFault>
     requires bytes { room.now.bytes.items ≡ [] }
     requires changes { room.now.changes.items ≡ [] }
-    ensures read { Gives (λ _. splice_words room.new.bytes.items (splices_in room.new.changes.items)) result
+    ensures read { IsReadAs (λ _. splice_words room.new.bytes.items (splices_in room.new.changes.items)) result
         (groups_at (length line.now) splice_kinds line.now) }
     ensures takes { OnOk result (sum_by (λ c. c.n) room.new.changes.items ≡ length room.new.bytes.items) }
 {

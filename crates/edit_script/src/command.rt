@@ -5,7 +5,7 @@ ghost use Rattle.std.specs.Global.{Vec};
 ghost use Rattle.edit_commands.specs.declared.command.Change.{Change};
 ghost use Rattle.edit_script.specs.declared.room.Room.{Room};
 ghost use Rattle.edit_script.specs.Handed.{IsInRoom, words_in};
-ghost use Rattle.edit_script.specs.Reading.{Gives, end_at, command_at};
+ghost use Rattle.edit_script.specs.Reading.{IsReadAs, end_at, named_at};
 
 use crate::blanks::is_end;
 use crate::changes::{changes, count_of};
@@ -17,7 +17,7 @@ use span_certificate::Edit;
 
 /// No more words.
 fn end(line: &[u8]) -> Result<(), LineFault>
-    ensures { Gives (λ _. []) result (end_at line.now) }
+    ensures { IsReadAs (λ _. []) result (end_at line.now) }
 {
     if is_end(line) {
         Ok(())
@@ -27,7 +27,7 @@ fn end(line: &[u8]) -> Result<(), LineFault>
 }
 
 fn new_text(line: &[u8]) -> Result<Edit, LineFault>
-    ensures read { (bytes : List ℕ) (changes : List Change) → Gives (words_in bytes changes) result (command_at (codes "new") line.now) }
+    ensures read { (bytes : List ℕ) (changes : List Change) → IsReadAs (words_in bytes changes) result (named_at (codes "new") line.now) }
     ensures inside { (room : Room) → IfOk result (IsInRoom room) }
 {
     end(line)?;
@@ -35,7 +35,7 @@ fn new_text(line: &[u8]) -> Result<Edit, LineFault>
 }
 
 fn open(line: &[u8]) -> Result<Edit, LineFault>
-    ensures read { (bytes : List ℕ) (changes : List Change) → Gives (words_in bytes changes) result (command_at (codes "open") line.now) }
+    ensures read { (bytes : List ℕ) (changes : List Change) → IsReadAs (words_in bytes changes) result (named_at (codes "open") line.now) }
     ensures inside { (room : Room) → IfOk result (IsInRoom room) }
 {
     let (s, rest) = number32(line)?;
@@ -44,7 +44,7 @@ fn open(line: &[u8]) -> Result<Edit, LineFault>
 }
 
 fn insert(line: &[u8], bytes: &mut Vec<u8>) -> Result<Edit, LineFault>
-    ensures read { (changes : List Change) → Gives (words_in bytes.new.items changes) result (command_at (codes "insert") line.now) }
+    ensures read { (changes : List Change) → IsReadAs (words_in bytes.new.items changes) result (named_at (codes "insert") line.now) }
     ensures inside { (changes : Vec Change) → IfOk result (IsInRoom (record { bytes = bytes.new; changes = changes })) }
 {
     let (r, rest) = number32(line)?;
@@ -55,7 +55,7 @@ fn insert(line: &[u8], bytes: &mut Vec<u8>) -> Result<Edit, LineFault>
 }
 
 fn delete(line: &[u8]) -> Result<Edit, LineFault>
-    ensures read { (bytes : List ℕ) (changes : List Change) → Gives (words_in bytes changes) result (command_at (codes "delete") line.now) }
+    ensures read { (bytes : List ℕ) (changes : List Change) → IsReadAs (words_in bytes changes) result (named_at (codes "delete") line.now) }
     ensures inside { (room : Room) → IfOk result (IsInRoom room) }
 {
     let (r, rest) = number32(line)?;
@@ -66,7 +66,7 @@ fn delete(line: &[u8]) -> Result<Edit, LineFault>
 }
 
 fn replace(line: &[u8], bytes: &mut Vec<u8>) -> Result<Edit, LineFault>
-    ensures read { (changes : List Change) → Gives (words_in bytes.new.items changes) result (command_at (codes "replace") line.now) }
+    ensures read { (changes : List Change) → IsReadAs (words_in bytes.new.items changes) result (named_at (codes "replace") line.now) }
     ensures inside { (changes : Vec Change) → IfOk result (IsInRoom (record { bytes = bytes.new; changes = changes })) }
 {
     let (r, rest) = number32(line)?;
@@ -78,7 +78,7 @@ fn replace(line: &[u8], bytes: &mut Vec<u8>) -> Result<Edit, LineFault>
 }
 
 fn paste(line: &[u8]) -> Result<Edit, LineFault>
-    ensures read { (bytes : List ℕ) (changes : List Change) → Gives (words_in bytes changes) result (command_at (codes "paste") line.now) }
+    ensures read { (bytes : List ℕ) (changes : List Change) → IsReadAs (words_in bytes changes) result (named_at (codes "paste") line.now) }
     ensures inside { (room : Room) → IfOk result (IsInRoom room) }
 {
     let (r, rest) = number32(line)?;
@@ -91,7 +91,7 @@ fn paste(line: &[u8]) -> Result<Edit, LineFault>
 }
 
 fn join(line: &[u8]) -> Result<Edit, LineFault>
-    ensures read { (bytes : List ℕ) (changes : List Change) → Gives (words_in bytes changes) result (command_at (codes "join") line.now) }
+    ensures read { (bytes : List ℕ) (changes : List Change) → IsReadAs (words_in bytes changes) result (named_at (codes "join") line.now) }
     ensures inside { (room : Room) → IfOk result (IsInRoom room) }
 {
     let (r, rest) = number32(line)?;
@@ -101,7 +101,7 @@ fn join(line: &[u8]) -> Result<Edit, LineFault>
 }
 
 fn cut(line: &[u8]) -> Result<Edit, LineFault>
-    ensures read { (bytes : List ℕ) (changes : List Change) → Gives (words_in bytes changes) result (command_at (codes "cut") line.now) }
+    ensures read { (bytes : List ℕ) (changes : List Change) → IsReadAs (words_in bytes changes) result (named_at (codes "cut") line.now) }
     ensures inside { (room : Room) → IfOk result (IsInRoom room) }
 {
     let (r, rest) = number32(line)?;
@@ -112,7 +112,7 @@ fn cut(line: &[u8]) -> Result<Edit, LineFault>
 }
 
 fn fill(line: &[u8]) -> Result<Edit, LineFault>
-    ensures read { (bytes : List ℕ) (changes : List Change) → Gives (words_in bytes changes) result (command_at (codes "fill") line.now) }
+    ensures read { (bytes : List ℕ) (changes : List Change) → IsReadAs (words_in bytes changes) result (named_at (codes "fill") line.now) }
     ensures inside { (room : Room) → IfOk result (IsInRoom room) }
 {
     let (r, rest) = number32(line)?;
@@ -124,7 +124,7 @@ fn fill(line: &[u8]) -> Result<Edit, LineFault>
 }
 
 fn back(line: &[u8]) -> Result<Edit, LineFault>
-    ensures read { (bytes : List ℕ) (changes : List Change) → Gives (words_in bytes changes) result (command_at (codes "back") line.now) }
+    ensures read { (bytes : List ℕ) (changes : List Change) → IsReadAs (words_in bytes changes) result (named_at (codes "back") line.now) }
     ensures inside { (room : Room) → IfOk result (IsInRoom room) }
 {
     let (r, rest) = number32(line)?;
@@ -133,7 +133,7 @@ fn back(line: &[u8]) -> Result<Edit, LineFault>
 }
 
 fn balance(line: &[u8]) -> Result<Edit, LineFault>
-    ensures read { (bytes : List ℕ) (changes : List Change) → Gives (words_in bytes changes) result (command_at (codes "balance") line.now) }
+    ensures read { (bytes : List ℕ) (changes : List Change) → IsReadAs (words_in bytes changes) result (named_at (codes "balance") line.now) }
     ensures inside { (room : Room) → IfOk result (IsInRoom room) }
 {
     let (r, rest) = number32(line)?;
@@ -144,7 +144,7 @@ fn balance(line: &[u8]) -> Result<Edit, LineFault>
 fn many(line: &[u8], room: &mut Room) -> Result<Edit, LineFault>
     requires bytes { room.now.bytes.items ≡ [] }
     requires changes { room.now.changes.items ≡ [] }
-    ensures read { Gives (words_in room.new.bytes.items room.new.changes.items) result (command_at (codes "many") line.now) }
+    ensures read { IsReadAs (words_in room.new.bytes.items room.new.changes.items) result (named_at (codes "many") line.now) }
     ensures inside { IfOk result (IsInRoom room.new) }
 {
     let (r, rest) = number32(line)?;
@@ -157,7 +157,7 @@ fn many(line: &[u8], room: &mut Room) -> Result<Edit, LineFault>
 pub fn command(name: &[u8], line: &[u8], room: &mut Room) -> Result<Edit, LineFault>
     requires bytes { room.now.bytes.items ≡ [] }
     requires changes { room.now.changes.items ≡ [] }
-    ensures read { Gives (words_in room.new.bytes.items room.new.changes.items) result (command_at name.now line.now) }
+    ensures read { IsReadAs (words_in room.new.bytes.items room.new.changes.items) result (named_at name.now line.now) }
     ensures inside { IfOk result (IsInRoom room.new) }
 {
     match name {

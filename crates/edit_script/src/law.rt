@@ -8,7 +8,7 @@ ghost use Rattle.span_certificate.specs.Commands.{FullEdit, Givens, IsHistory};
 ghost use Rattle.edit_commands.specs.Session.{SessionValue};
 ghost use Rattle.edit_script.specs.Texts.{SayTheSame};
 ghost use Rattle.edit_script.specs.Applied.{TakesLines, lines_of};
-ghost use Rattle.edit_script.specs.Scripts.{AreInside, Reads, words_held, Printed, IsPrinted, script_of};
+ghost use Rattle.edit_script.specs.Scripts.{AreInside, ReadsScript, words_held, Printed, IsPrinted, script_of};
 
 /// A command stands in the line that it is printed as, whatever comment follows; and no line is two commands. So what was printed
 /// is read again, and as no other command.
@@ -27,11 +27,11 @@ pub fn says_the_texts()
 /// A session that took a script's lines says what it said before, and then what the script says.
 pub fn says_the_script()
     ensures { (old : SessionValue) (k : ℕ) (lines : List (List ℕ)) (new : SessionValue) (commands : List (List Word))
-        → AreInside old → TakesLines old k lines (Ok tt) new → Reads lines commands
+        → AreInside old → TakesLines old k lines (Ok tt) new → ReadsScript lines commands
         → (words_held new ≡ words_held old ++ commands) × AreInside new }
 {}
 
 /// A script of printed commands, each with nothing or a comment behind it, is read as those commands.
 pub fn reads_a_log()
-    ensures { (xs : List Printed) → AllByRecursion IsPrinted xs → Reads (lines_of (script_of xs)) (map (λ (x : Printed). x.0) xs) }
+    ensures { (xs : List Printed) → AllByRecursion IsPrinted xs → ReadsScript (lines_of (script_of xs)) (map (λ (x : Printed). x.0) xs) }
 {}

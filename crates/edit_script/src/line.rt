@@ -4,7 +4,7 @@ ghost use Rattle.std.specs.Prelude.{◌≡◌, [], List, Some, IfOk, IfSome};
 ghost use Rattle.edit_script.specs.Words.{Word, HasWords};
 ghost use Rattle.edit_script.specs.Commands.{IsLine};
 ghost use Rattle.edit_script.specs.Handed.{IsInRoom, said};
-ghost use Rattle.edit_script.specs.Reading.{Gives, line_at};
+ghost use Rattle.edit_script.specs.Reading.{IsReadAs, line_at};
 
 use crate::blanks::{behind_blanks, is_end, split_front};
 use crate::command::command;
@@ -15,7 +15,7 @@ use span_certificate::Edit;
 fn read_line(line: &[u8], room: &mut Room) -> Result<Option<Edit>, LineFault>
     requires bytes { room.now.bytes.items ≡ [] }
     requires changes { room.now.changes.items ≡ [] }
-    ensures read { Gives (said room.new) result (line_at line.now) }
+    ensures read { IsReadAs (said room.new) result (line_at line.now) }
     ensures inside { IfOk result (λ x. IfSome x (IsInRoom room.new)) }
 {
     if is_end(line) {
@@ -36,7 +36,7 @@ pub fn parse_line(line: &[u8], room: &mut Room) -> Result<Option<Edit>, LineFaul
     // What is read stands in the line.
     ensures found { IfOk result (λ x. IsLine (said room.new x) × HasWords line.now (said room.new x)) }
     // What stands in the line is read, unless memory runs out.
-    ensures only { (ws : List Word) → IsLine ws → HasWords line.now ws → Gives (said room.new) result (Some ws) }
+    ensures only { (ws : List Word) → IsLine ws → HasWords line.now ws → IsReadAs (said room.new) result (Some ws) }
     ensures inside { IfOk result (λ x. IfSome x (IsInRoom room.new)) }
 {
     room.clear();

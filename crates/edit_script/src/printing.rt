@@ -4,7 +4,7 @@ ghost use Rattle.std.specs.Prelude.{◌≡◌, false, ◌<◌, ◌+◌, ◌≤�
 ghost use Rattle.std.specs.Fmt.{decimal, digit_glyph};
 ghost use Rattle.std.specs.List.{flat_map, AllByRecursion};
 ghost use Rattle.span_certificate.specs.Commands.{with_splices};
-ghost use Rattle.edit_script.specs.Words.{escaped, numbers_on, spelled, spelled_on, line_of, Number, Quoted};
+ghost use Rattle.edit_script.specs.Words.{escaped, numbers_on, printed_word, spelled_on, line_of, Number, Quoted};
 ghost use Rattle.span_certificate.specs.declared.edit.Splice.{Splice};
 ghost use Rattle.edit_script.specs.Commands.{front_of, texts_of, words_of, splice_words, StandsInside};
 
@@ -65,7 +65,7 @@ pub fn push_number(out: &mut Vec<u8>, n: u64) -> Result<(), AllocError>
 
 /// A blank, and bytes in quotes.
 fn push_quoted(out: &mut Vec<u8>, bytes: &[u8]) -> Result<(), AllocError>
-    ensures { OnOk result (out.new.items ≡ out.old.items ++ 32 ∷ spelled (Quoted bytes.now)) }
+    ensures { OnOk result (out.new.items ≡ out.old.items ++ 32 ∷ printed_word (Quoted bytes.now)) }
 {
     out.extend_from_slice(b" \"")?;
     push_escaped(out, bytes)?;

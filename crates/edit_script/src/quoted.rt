@@ -2,7 +2,7 @@
 
 ghost use Rattle.std.specs.Prelude.{◌≡◌, ◌+◌, ◌<◌, ◌≤◌, length, take, drop, IfOk};
 ghost use Rattle.edit_script.specs.Words.{is_plain, escape_of};
-ghost use Rattle.edit_script.specs.Reading.{Gives, hex_digit, hex_at, escape_at, byte_at, unquoted, quoted_at};
+ghost use Rattle.edit_script.specs.Reading.{IsReadAs, hex_digit, hex_at, escape_at, byte_at, unquoted, quoted_at};
 
 use crate::blanks::{behind_blanks, is_behind_word};
 use crate::fault::LineFault;
@@ -29,7 +29,7 @@ fn escape_of(e: u8) -> Option<u8>
 }
 
 fn hex_digit(b: u8) -> Result<u8, LineFault>
-    ensures value { Gives (λ d. d) result (hex_digit b) }
+    ensures value { IsReadAs (λ d. d) result (hex_digit b) }
     ensures small { IfOk result (λ d. d < 16) }
 {
     match char::from(b).to_digit(16) {
@@ -39,7 +39,7 @@ fn hex_digit(b: u8) -> Result<u8, LineFault>
 }
 
 fn hex_at(text: &[u8]) -> Result<(u8, &[u8]), LineFault>
-    ensures { Gives (λ x. (x.0, x.1.now)) result (hex_at text.now) }
+    ensures { IsReadAs (λ x. (x.0, x.1.now)) result (hex_at text.now) }
 {
     match text {
         [high, low, rest @ ..] => {
@@ -52,7 +52,7 @@ fn hex_at(text: &[u8]) -> Result<(u8, &[u8]), LineFault>
 }
 
 fn escape_at(text: &[u8]) -> Result<(u8, &[u8]), LineFault>
-    ensures { Gives (λ x. (x.0, x.1.now)) result (escape_at text.now) }
+    ensures { IsReadAs (λ x. (x.0, x.1.now)) result (escape_at text.now) }
 {
     match text {
         [] => Err(LineFault::NoCommand),
@@ -66,7 +66,7 @@ fn escape_at(text: &[u8]) -> Result<(u8, &[u8]), LineFault>
 
 /// The byte that is written at the front, and what follows.
 fn byte_at(text: &[u8]) -> Result<(u8, &[u8]), LineFault>
-    ensures { Gives (λ x. (x.0, x.1.now)) result (byte_at text.now) }
+    ensures { IsReadAs (λ x. (x.0, x.1.now)) result (byte_at text.now) }
 {
     match text {
         [] => Err(LineFault::NoCommand),
@@ -83,7 +83,7 @@ fn byte_at(text: &[u8]) -> Result<(u8, &[u8]), LineFault>
 
 /// Puts the bytes that are written up to a quote behind those in `room`, and answers what follows the quote.
 fn unquote<'a>(text: &'a [u8], room: &mut Vec<u8>) -> Result<&'a [u8], LineFault>
-    ensures bytes { Gives (λ rest. (drop (length room.old.items) room.new.items, rest.now)) result
+    ensures bytes { IsReadAs (λ rest. (drop (length room.old.items) room.new.items, rest.now)) result
         (unquoted (length text.now) text.now) }
     ensures kept { take (length room.old.items) room.new.items ≡ room.old.items }
 {
@@ -101,7 +101,7 @@ fn unquote<'a>(text: &'a [u8], room: &mut Vec<u8>) -> Result<&'a [u8], LineFault
 
 /// The place and the number in `room` of the bytes that are written in quotes at a line's front, and what is left.
 pub fn quoted<'a>(line: &'a [u8], room: &mut Vec<u8>) -> Result<(u64, u64, &'a [u8]), LineFault>
-    ensures bytes { Gives (λ x. (take x.1 (drop x.0 room.new.items), x.2.now)) result (quoted_at line.now) }
+    ensures bytes { IsReadAs (λ x. (take x.1 (drop x.0 room.new.items), x.2.now)) result (quoted_at line.now) }
     ensures behind { IfOk result (λ x. (x.0 ≡ length room.old.items) × (x.0 + x.1 ≡ length room.new.items)) }
     ensures kept { take (length room.old.items) room.new.items ≡ room.old.items }
 {
