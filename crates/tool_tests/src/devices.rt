@@ -72,7 +72,7 @@ fn files_and_held_bytes_are_sources_in_their_order(rt: HostRuntime) -> Result<()
         &"joined",
     );
     let (front, rest) = writer.taken().split_at(3);
-    assert_same(&rt, &front, b"abc", &"the first");
+    assert_same(&rt, &front, &b"abc".as_slice(), &"the first");
     assert_same(
         &rt,
         &rest.strip_prefix(ONE_INSERT),
