@@ -30,7 +30,8 @@ const UP: u8 = 0x10;
 const LONG_LINE: &[u8] =
     b"xxxxxxxxxxxxxxxxxxxxxxxxxxxxxxxxxxxxxxxxxxxxxxxxxxxxxxxxxxxxxxxxxxxxxxxxxxxxxxxx\0";
 
-fn worked() -> [Keys<'static>; 8] {
+/// Keys over no file.
+fn worked_alone() -> [Keys<'static>; 4] {
     [
         // Typing goes on from the text that undo gave.
         Keys {
@@ -49,6 +50,31 @@ fn worked() -> [Keys<'static>; 8] {
             last: 4,
             screen_end: b"\r\nrev 4 byte 0 of 0\x1b[1;1H",
         },
+        // What was cut is pasted.
+        Keys {
+            file: &[],
+            keys: b"abc\x01\0\x06\x06\x17\x05\x19",
+            texts: &[b"", b"a", b"ab", b"abc", b"c", b"cab"],
+            last: 5,
+            screen_end: b"\r\nrev 5 byte 3 of 3\x1b[1;4H",
+        },
+        // Sixteen cut spans are kept.
+        Keys {
+            file: &[],
+            keys: b"a\0\x02\x17a\0\x02\x17a\0\x02\x17a\0\x02\x17a\0\x02\x17a\0\x02\x17a\0\x02\x17a\0\x02\x17a\0\x02\x17\
+                a\0\x02\x17a\0\x02\x17a\0\x02\x17a\0\x02\x17a\0\x02\x17a\0\x02\x17a\0\x02\x17a\0\x02\x17\
+                \x19\x14\x19\x14\x19\x14\x19\x14\x19\x14\x19\x14\x19\x14\x19\x14\x19\x14\
+                \x19\x14\x19\x14\x19\x14\x19\x14\x19\x14\x19\x14\x19\x14\x19\x14",
+            texts: &[b"aaaaaaaaaaaaaaaa"],
+            last: 50,
+            screen_end: b"\r\nrev 50 byte 16 of 16\x1b[1;17H",
+        },
+    ]
+}
+
+/// Keys over a file.
+fn worked_over_a_file() -> [Keys<'static>; 4] {
+    [
         // A line is shown from its 81st byte.
         Keys {
             file: &[LONG_LINE],
@@ -81,26 +107,13 @@ fn worked() -> [Keys<'static>; 8] {
             last: 3,
             screen_end: b"\r\nrev 3 byte 3 of 6\x1b[1;4H",
         },
-        // What was cut is pasted.
-        Keys {
-            file: &[],
-            keys: b"abc\x01\0\x06\x06\x17\x05\x19",
-            texts: &[b"", b"a", b"ab", b"abc", b"c", b"cab"],
-            last: 5,
-            screen_end: b"\r\nrev 5 byte 3 of 3\x1b[1;4H",
-        },
-        // Sixteen cut spans are kept.
-        Keys {
-            file: &[],
-            keys: b"a\0\x02\x17a\0\x02\x17a\0\x02\x17a\0\x02\x17a\0\x02\x17a\0\x02\x17a\0\x02\x17a\0\x02\x17a\0\x02\x17\
-                a\0\x02\x17a\0\x02\x17a\0\x02\x17a\0\x02\x17a\0\x02\x17a\0\x02\x17a\0\x02\x17a\0\x02\x17\
-                \x19\x14\x19\x14\x19\x14\x19\x14\x19\x14\x19\x14\x19\x14\x19\x14\x19\x14\
-                \x19\x14\x19\x14\x19\x14\x19\x14\x19\x14\x19\x14\x19\x14\x19\x14",
-            texts: &[b"aaaaaaaaaaaaaaaa"],
-            last: 50,
-            screen_end: b"\r\nrev 50 byte 16 of 16\x1b[1;17H",
-        },
     ]
+}
+
+fn worked() -> [Keys<'static>; 8] {
+    let [undone, ended, pasted, kept] = worked_alone();
+    let [long, up, down, before] = worked_over_a_file();
+    [undone, ended, long, up, down, before, pasted, kept]
 }
 
 /// The text that an image shows of a revision.

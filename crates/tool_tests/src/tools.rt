@@ -103,8 +103,8 @@ struct Case<'a> {
     status: Status,
 }
 
-/// Each tool once.
-fn cases() -> [Case<'static>; 10] {
+/// The tools over images.
+fn cases_of_images() -> [Case<'static>; 5] {
     [
         Case {
             tool: Tool::Stdin(Giver::of(ONE_INSERT)),
@@ -141,6 +141,12 @@ fn cases() -> [Case<'static>; 10] {
             answer: ONE_INSERT_IN_TWO,
             status: Status::Success,
         },
+    ]
+}
+
+/// The tools over texts, and what is said of one that is too long.
+fn cases_of_texts() -> [Case<'static>; 5] {
+    [
         Case {
             tool: Tool::Refuse(AddFault::SourceTooLong),
             texts: &[],
@@ -176,6 +182,15 @@ fn cases() -> [Case<'static>; 10] {
             answer: b"less\n",
             status: Status::Failure,
         },
+    ]
+}
+
+/// Each tool once.
+fn cases() -> [Case<'static>; 10] {
+    let [stdin, check, refused, show, migrate] = cases_of_images();
+    let [long, cut, join, find, cmp] = cases_of_texts();
+    [
+        stdin, check, refused, show, migrate, long, cut, join, find, cmp,
     ]
 }
 
