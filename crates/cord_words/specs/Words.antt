@@ -74,9 +74,13 @@ cmp_app = with_rule (with_rule (new_app (codes "cmp")) (required_rule (codes "FI
 abbrev pub optional_file_rule : Rule
 optional_file_rule = new_rule (codes "FILE")
 
--- `edit IMAGE [FILE]`
+-- the value of `--keep`, or none
+abbrev pub keep_rule : Rule
+keep_rule = record (new_rule (codes "KEYS")) { long = Some (codes "keep") }
+
+-- `edit [--keep KEYS] IMAGE [FILE]`
 abbrev pub edit_app : App
-edit_app = with_rule (with_rule (new_app (codes "edit")) image_rule) optional_file_rule
+edit_app = with_rule (with_rule (with_rule (new_app (codes "edit")) keep_rule) image_rule) optional_file_rule
 
 -- `migrate [--at-most LOOKS] IMAGE [SOURCE]...`
 abbrev pub migrate_app : App
@@ -141,8 +145,9 @@ Holds given (Find start pattern file) = Gives given (codes "find") (λ rows.
     × (file.now ≡ text_of rows (codes "FILE")))
 Holds given (Cmp first second) = Gives given (codes "cmp") (λ rows.
     (first.now ≡ text_of rows (codes "FIRST")) × (second.now ≡ text_of rows (codes "SECOND")))
-Holds given (Edit image file) = Gives given (codes "edit") (λ rows.
-    (image.now ≡ text_of rows (codes "IMAGE"))
+Holds given (Edit keys image file) = Gives given (codes "edit") (λ rows.
+    (option_map (λ k. k.now) keys ≡ first_of (codes "KEYS") rows)
+    × (image.now ≡ text_of rows (codes "IMAGE"))
     × (option_map (λ f. f.now) file ≡ first_of (codes "FILE") rows))
 Holds given (Migrate at_most image sources) = Gives given (codes "migrate") (λ rows.
     MayReadAs (first_of (codes "LOOKS") rows) at_most

@@ -48,8 +48,10 @@ pub enum Action<'a> {
         first: &'a str,
         second: &'a str,
     },
-    /// Edit a text on the screen, which begins as that of a file or empty. Save its session as an image.
+    /// Edit a text on the screen, which begins as that of a file or empty. Save its session as an image. Keep the keys of the terminal
+    /// in the file `keys`, where there is one, and begin with those that it has.
     Edit {
+        keys: Option<&'a str>,
         image: &'a str,
         file: Option<&'a str>,
     },

@@ -3,8 +3,8 @@
 ghost use Rattle.std.specs.Prelude.{◌≡◌, IfOk, false};
 ghost use Rattle.clap.specs.Words.{App, Rule, app_of, new_app, rule_of, with_rule};
 ghost use Rattle.clap.specs.declared.builder.command.Command.TheViews.{out-Command as fields_of};
-ghost use Rattle.cord_words.specs.Words.{file_rule, image_rule, limit_rule, optional_file_rule};
-ghost use Rattle.cord_words.specs.Words.{required_rule, sources_rule, start_rule};
+ghost use Rattle.cord_words.specs.Words.{file_rule, image_rule, keep_rule, limit_rule};
+ghost use Rattle.cord_words.specs.Words.{optional_file_rule, required_rule, sources_rule, start_rule};
 
 use clap::{Arg, ArgAction, Command};
 use std::alloc::{AllocError, Global};
@@ -93,4 +93,14 @@ pub fn optional_file<'a>(alloc: Global) -> Arg<'a>
     ensures local { result.global ≡ false }
 {
     Arg::new(alloc, "FILE").help("The file of the text to begin with")
+}
+
+/// `--keep KEYS`
+pub fn keep<'a>(alloc: Global) -> Arg<'a>
+    ensures rule { rule_of result ≡ keep_rule }
+    ensures local { result.global ≡ false }
+{
+    Arg::new(alloc, "KEYS").long("keep").help(
+        "The file in which keys are kept until they are saved, and that a session which was not goes on from",
+    )
 }

@@ -1,4 +1,4 @@
-//! `edit IMAGE [FILE]`
+//! `edit [--keep KEYS] IMAGE [FILE]`
 
 ghost use Rattle.std.specs.Prelude.{◌≡◌, IfOk, Some, codes, false};
 ghost use Rattle.clap.specs.Words.{app_of, found_of, rows_of};
@@ -17,7 +17,8 @@ pub fn command<'a>(alloc: Global) -> Result<Command<'a>, AllocError>
 {
     let about = "Edit a text on the screen, and save the session";
     let command = args::command(alloc, "edit", about);
-    let command = args::with(Ok(command), args::image(alloc));
+    let command = args::with(Ok(command), args::keep(alloc));
+    let command = args::with(command, args::image(alloc));
     args::with(command, args::optional_file(alloc))
 }
 
@@ -26,6 +27,7 @@ pub fn action<'a>(given: &ArgMatches<'a>) -> Action<'a>
     ensures { Holds (Some (codes "edit", rows_of (found_of given.now))) result }
 {
     Action::Edit {
+        keys: given::optional_text(given, "KEYS"),
         image: given::text(given, "IMAGE"),
         file: given::optional_text(given, "FILE"),
     }

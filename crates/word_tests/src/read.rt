@@ -65,12 +65,21 @@ fn words_are_read_or_refused(rt: HostRuntime) -> Result<(), Fail> {
         ("cordkit cmp b a", r#"Cmp { first: "b", second: "a" }"#),
         (
             "cordkit edit a.cord",
-            r#"Edit { image: "a.cord", file: None }"#,
+            r#"Edit { keys: None, image: "a.cord", file: None }"#,
         ),
         (
             "cordkit edit a.cord b.txt",
-            r#"Edit { image: "a.cord", file: Some("b.txt") }"#,
+            r#"Edit { keys: None, image: "a.cord", file: Some("b.txt") }"#,
         ),
+        (
+            "cordkit edit --keep k a.cord b.txt",
+            r#"Edit { keys: Some("k"), image: "a.cord", file: Some("b.txt") }"#,
+        ),
+        (
+            "cordkit edit --keep=k -- -a.cord",
+            r#"Edit { keys: Some("k"), image: "-a.cord", file: None }"#,
+        ),
+        ("cordkit edit --keep", "InvalidValue"),
         ("cordkit frob", "InvalidSubcommand"),
         ("cordkit show a -1", "UnknownArgument"),
         ("cordkit show a", "MissingRequiredArgument"),
