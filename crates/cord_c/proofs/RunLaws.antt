@@ -21,7 +21,7 @@ use Rattle.session_checker.specs.Faithful.{fetched_cell}
 use Rattle.cord_c.specs.declared.run.CordRun.{CordRun}
 use Rattle.cord_c.specs.declared.text.TheConstants.{NOT_HELD}
 use Rattle.cord_c.specs.HeldTexts.{reading_of}
-use Rattle.cord_c.specs.Runs.{IsLocated, ReadsRun, left_of, root_at, run_told}
+use Rattle.cord_c.specs.Runs.{IsLocated, ReadsRun, left_of, text_root, run_told}
 
 -- the leaf span at a place of a rope is its run
 pub span_run : (t : Table) → IsSound t → HasTrueRecords t → (rope : Option NodeId) (node : NodeId) (i : ℕ) (x : LeafSpan) → rope ≡ Some node → node.0 < length t.nodes → i < len_at t node.0 → x ≡ span_at t node.0 i → IsRun t rope i x
@@ -45,8 +45,8 @@ told_len (Computed (Ramp c) i) n = refl
 told_len (Computed (Cycle pattern) i) n = refl
 
 -- where a run stands that was found and described
-pub located : (v w : ImageValue) (k place : ℕ) (x : LeafSpan) (what : Description) (run : CordRun) → w ≡ v → Some x ≡ rope_span (image_table w) (root_at w k) place
-    → IsRun (image_table w) (root_at w k) place x → Describes (image_table w) x.leaf.0 x.start what → run ≡ run_told what x.len → IsLocated v k place run
+pub located : (v w : ImageValue) (k place : ℕ) (x : LeafSpan) (what : Description) (run : CordRun) → w ≡ v → Some x ≡ rope_span (image_table w) (text_root w k) place
+    → IsRun (image_table w) (text_root w k) place x → Describes (image_table w) x.leaf.0 x.start what → run ≡ run_told what x.len → IsLocated v k place run
 located v w k place x what run of is found describes told =
     let len : run.len ≡ x.len = ap (λ (r : CordRun). r.len) told ∙ told_len what x.len in
     subst (λ (y : ImageValue). IsLocated y k place run) of (record {
@@ -56,7 +56,7 @@ located v w k place x what run of is found describes told =
       what = what;
       cells = λ m le.
           let few : m ≤ x.len = omega (arith, le, len) in
-          run_part (image_table w) (root_at w k) place m x found few ∙ describes.cells m (omega (arith, few, found.in_leaf));
+          run_part (image_table w) (text_root w k) place m x found few ∙ describes.cells m (omega (arith, few, found.in_leaf));
       told = told ∙ ap (run_told what) (sym len);
     })
 

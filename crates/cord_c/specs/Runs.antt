@@ -20,20 +20,20 @@ use Rattle.cord_c.specs.declared.run.TheConstants.{COMPUTED, POOLED, SOURCED}
 use Rattle.cord_c.specs.declared.text.TheConstants.{NO_PLACE, NOT_HELD, READ}
 
 -- the root of a revision's text; of none, nil
-abbrev pub root_at : ImageValue → ℕ → Option NodeId
-root_at v k = (revision_at v k).root
+abbrev pub text_root : ImageValue → ℕ → Option NodeId
+text_root v k = (revision_at v k).root
 
 -- how long that text is
 abbrev pub revision_len : ImageValue → ℕ → ℕ
-revision_len v k = rope_len (image_table v) (root_at v k)
+revision_len v k = rope_len (image_table v) (text_root v k)
 
 -- n cells of it from a place on
 abbrev pub text_part : ImageValue → ℕ → ℕ → ℕ → List Cell
-text_part v k place n = rope_part (image_table v) (root_at v k) place n
+text_part v k place n = rope_part (image_table v) (text_root v k) place n
 
 -- how many bytes there are from a place of it to the end of its leaf's span; at the end, 0
 abbrev pub left_of : ImageValue → ℕ → ℕ → ℕ
-left_of v k place = run_left (image_table v) (root_at v k) place
+left_of v k place = run_left (image_table v) (text_root v k) place
 
 -- the numbers of a run of n bytes of the pool or of a source
 abbrev pub placed_run : ℕ → ℕ → ℕ → ℕ → CordRun
@@ -59,6 +59,7 @@ computed_run function pattern i n = record {
   pattern = padded pattern;
 }
 
+-- the numbers of n bytes of a description
 abbrev pub run_told : Description → ℕ → CordRun
 run_told (Pooled a) n = placed_run POOLED 0 a n
 run_told (Sourced s a) n = placed_run SOURCED s a n

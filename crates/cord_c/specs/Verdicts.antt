@@ -35,6 +35,7 @@ add_number add.TooManySources = 4
 add_number add.SourceTooLong = 5
 add_number add.Memory = 0
 
+-- the verdict that names a fault by these numbers
 abbrev pub refused_with : ℕ → ℕ → ℕ → ℕ → CordVerdict
 refused_with code kind number row = record {
   code = code;
@@ -46,6 +47,7 @@ refused_with code kind number row = record {
   row = row;
 }
 
+-- a fault of an image
 abbrev pub refused_verdict : CheckFault → CordVerdict
 refused_verdict (Read fault) = refused_with 1 (read_number fault) 0 0
 refused_verdict SourceCount = refused_with 2 0 0 0
@@ -61,9 +63,11 @@ refused_verdict (Rows revision row) = refused_with 11 0 revision row
 refused_verdict (Source fault) = refused_with 12 (source_number fault) 0 0
 refused_verdict (Looks bound) = refused_with DEAR 0 0 bound
 
+-- sources that are none
 abbrev pub limit_verdict : AddFault → CordVerdict
 limit_verdict fault = refused_with NO_SOURCES (add_number fault) 0 0
 
+-- an accepted image: how many revisions, nodes and rows it has
 abbrev pub accepted_verdict : ImageValue → CordVerdict
 accepted_verdict v = record {
   code = 0;

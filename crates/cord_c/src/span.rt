@@ -6,7 +6,7 @@ ghost use Rattle.rope_node.specs.Path.{span_at};
 ghost use Rattle.cord_position.specs.Runs.{rope_span, IsRun};
 ghost use Rattle.image_reader.specs.Value.{image_table};
 ghost use Rattle.span_certificate.specs.Leads.{Describes};
-ghost use Rattle.cord_c.specs.Runs.{root_at, revision_len};
+ghost use Rattle.cord_c.specs.Runs.{text_root, revision_len};
 
 use rope_node::{LeafSpan, NodeId, NodeSpace, NodeView};
 use session_checker::Checked;
@@ -47,8 +47,8 @@ fn leaf_span<S: NodeSpace>(space: &S, node: NodeId, place: u64) -> LeafSpan
 
 /// The leaf span that the text of a revision has from a place on; at its end and past it, none.
 pub fn span_of(image: &Checked, revision: u32, place: u64) -> Option<LeafSpan>
-    ensures exact { result ≡ rope_span (image_table image.now) (root_at image.now revision) place }
-    ensures run { IfSome result (IsRun (image_table image.now) (root_at image.now revision) place) }
+    ensures exact { result ≡ rope_span (image_table image.now) (text_root image.now revision) place }
+    ensures run { IfSome result (IsRun (image_table image.now) (text_root image.now revision) place) }
     ensures none { result ≡ None ↔ revision_len image.now revision ≤ place }
 {
     let _count = image.count();

@@ -7,7 +7,7 @@ use Rattle.cord_position.specs.Runs.{AreBytesOf, span_len}
 use Rattle.cord_position.proofs.LeafParts.{moved, run_cells, run_part}
 use Rattle.image_reader.specs.Value.{image_table}
 use Rattle.session_checker.specs.Faithful.{fetched_cell}
-use Rattle.cord_c.specs.Runs.{left_of, root_at}
+use Rattle.cord_c.specs.Runs.{left_of, text_root}
 use Rattle.cord_c.proofs.text.fill_run.Goals as goal
 
 pub returns-in_ok-fill_part-clause-bytes : goal.returns-in_ok-fill_part-clause-bytes
@@ -18,7 +18,7 @@ returns-in_ok-fill_part-clause-bytes g c =
     let x = c.in-Some.span in
     let filled = c.fill_part.new.buffer in
     let long : length (take n c.args.buffer.now) ≡ n = omega (arith, length-take n c.args.buffer.now, c.min-n.ensures) in
-    let part = run_part t (root_at c.args.image.now c.args.revision) c.args.place n x c.in-Some.ensures.run (omega (arith, c.min-n.ensures)) in
+    let part = run_part t (text_root c.args.image.now c.args.revision) c.args.place n x c.in-Some.ensures.run (omega (arith, c.min-n.ensures)) in
     let there : AreBytesOf st (take n (drop x.start (cells t x.leaf.0))) filled = subst (λ (m : ℕ). AreBytesOf st (take m (drop x.start (cells t x.leaf.0))) filled) long c.in_ok-fill_part.ensures.bytes in
     let whole : length filled ≡ n = c.in_ok-fill_part.ensures.length ∙ long in
     let front : take n (filled ++ drop n c.args.buffer.now) ≡ filled = take-append-le n filled (drop n c.args.buffer.now) (omega (arith, whole)) ∙ take_all n filled (omega (arith, whole)) in
@@ -34,4 +34,4 @@ returns-in_err-fill_part-clause-reads g c =
     let reads = rw long at c.in_err-fill_part.ensures.reads in
     let p = err_from_is_err_and c.from_residual.result c.from_residual.ensures.1 in
     rw (p.1, p.2, many) (moved {X = ℕ} _ _ (fetched_cell c.args.image.now c.args.revision) (cell_at t x.leaf.0) c.args.place x.start n (Err c.in_err-fill_part.field-0.0)
-    (λ k lt. run_cells t (root_at c.args.image.now c.args.revision) c.args.place x c.in-Some.ensures.run k (omega (arith, lt, c.min-n.ensures))) reads)
+    (λ k lt. run_cells t (text_root c.args.image.now c.args.revision) c.args.place x c.in-Some.ensures.run k (omega (arith, lt, c.min-n.ensures))) reads)
