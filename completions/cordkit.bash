@@ -17,6 +17,8 @@ _cordkit_options() {
     case $1 in
         cordkit-verify) echo --text --graph --at-most --help ;;
         check | show | migrate) echo --at-most --help ;;
+        edit) echo --keep --help ;;
+        cordedit) echo -f --copy --text --continue --discard ;;
         *) echo --help ;;
     esac
 }
@@ -33,7 +35,7 @@ _cordkit_read() {
             ((++place))
         elif [[ $word == -- ]]; then
             ended=yes
-        elif [[ $word == --at-most || $word == --text ]]; then
+        elif [[ $word == --at-most || $word == --text || $word == --keep ]]; then
             [[ ${COMP_WORDS[k + 1]} == = ]] && ((++k))
             ((++k >= COMP_CWORD)) && valued=yes
         elif [[ $word != -* && -z $command ]]; then

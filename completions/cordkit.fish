@@ -15,4 +15,5 @@ complete -c cordkit -n $none -a edit -d 'Edit a text on the screen, and save the
 complete -c cordkit -n $none -a migrate -d 'Write a saved session anew, in the latest version of its format'
 complete -c cordkit -n $none -a help -d 'Print the help of the program or of a command'
 complete -c cordkit -n '__fish_seen_subcommand_from check show migrate' -l at-most -x -d 'The most looks at nodes that the check may take'
+complete -c cordkit -n '__fish_seen_subcommand_from edit' -l keep -r -d 'Keep the keys here until they are saved'
 complete -c cordkit -n '__fish_seen_subcommand_from help' -f -a "$commands"

@@ -5,7 +5,7 @@
 #   100,000 damaged images, 1,000 sessions of keys    python3; both ask the second checker, bin/cordkit-verify
 #   allocations, reads and writes that are refused    gcc
 #   the tests of ropes under memcheck                 valgrind, and rt where they are not built
-#   the editor in a terminal                          tmux
+#   the editor in a terminal, keys that are kept      tmux
 #   refusals that come behind much work               nothing more
 #   every case of tests/program.sh, installed         nothing more; mandoc, file, bash, zsh and fish for what is installed beside
 set -u
@@ -44,6 +44,7 @@ try 'sessions of keys' python3 python3 tests/random_keys.py 1000
 try 'refused allocations, reads and writes' gcc sh bench/refuse.sh
 try 'the tests of ropes under memcheck' valgrind sh tests/memcheck.sh
 try 'the editor in a terminal' tmux sh tests/terminal.sh
+try 'keys that are kept' tmux sh tests/kept_keys.sh
 try 'dear refusals' '' sh tests/dear_refusals.sh
 try 'what is installed' '' sh tests/install.sh crates/cordkit/out/cordkit all
 echo "$passed passed, $failed failed"

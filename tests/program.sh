@@ -51,6 +51,8 @@ truncate -s 1099511627776 too_long || exit 1
 printf 'ab\025c\030' > keys_saved
 printf 'ab\025c\003' > keys_left
 printf 'ab\025c' > keys_ended
+printf '\030' > key_save
+awk 'BEGIN { RS = "\033\\[2J" } { last = $0 } END { printf "\033[2J%s", last }' "$top/tests/data/edit.txt" > last_frame
 # the insertion of abc with a pool of 1,048,576 bytes, which begins with abc; the same a byte shorter, longer, and with a row of bytes
 { head -c 32 one_insert && printf '\0\0\0\0\0\020\0\0' && tail -c +41 one_insert && head -c 1048573 /dev/zero; } > long_pool
 head -c -1 long_pool > long_pool_short
@@ -324,6 +326,17 @@ frames on a full device;edit unsaved;keys_saved;3;/dev/full;write\n
 no image behind them;check unsaved;;3;;read\n
 a file to edit that is not there;edit unsaved missing;keys_saved;3;;read\n
 keys that are a folder;edit unsaved abc;folder;3;edit_abc.txt;read\n
+a file that is no image is not replaced;edit abc;keys_saved;1;;refused C1(I3)\n
+it is as it was;cut 0 10 abc;;0;abc;
+a folder is not replaced;edit folder;keys_saved;3;;write\n
+keys that leave are kept;edit --keep keys kept;keys_left;0;edit.txt;
+no image is behind them;check kept;;3;;read\n
+they are not those of a file;edit --keep keys kept abc;keys_saved;1;;refused J1\n
+a file that is no journal keeps no keys;edit --keep=abcde kept;keys_saved;1;;refused J1\n
+what was kept is played before the first frame;edit --keep keys kept;key_save;0;@last_frame;
+the image has what was typed before;show kept 4;;0;ac;
+keys that were saved are not kept;cut 0 1 keys;;3;;read\n
+keys that cannot be kept;edit --keep missing/keys kept;keys_saved;3;;write\n
 a part of a file;cut 1 3 abcde;;0;bcd;
 a part past the end ends with the file;cut 3 10 abcde;;0;de;
 a part behind the end is empty;cut 9 1 abcde;;0;;

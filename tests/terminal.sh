@@ -218,15 +218,34 @@ press C-c
 ended 'left' 'status 0, mode restored'
 is_same 'no image is written' "$(ls none 2> /dev/null)" ''
 start missing/image
-screen 'before a save that fails' 'rev 0 byte 0 of 0' '0 0'
-press C-x
-ended 'a message comes behind the screen' write 'status 3, mode restored'
-start image missing
-ended 'a file that is not there' read 'status 3, mode restored'
+ended 'a folder that is not there' 'cordedit: missing/image.keys.said cannot be made' 'status 2, mode restored'
+start image
+ended 'an image that is there' 'cordedit: image is there already: -f replaces it' 'status 2, mode restored'
+start none missing
+ended 'a message comes behind the screen' read 'status 3, mode restored'
 start none
 screen 'before a signal' 'rev 0 byte 0 of 0' '0 0'
 kill -TERM "$(cat editor)"
 ended 'a signal' 'status 143, mode restored'
+start typed
+screen 'before keys of a terminal' 'rev 0 byte 0 of 0' '0 0'
+type_text abc
+press Left Left
+screen 'an arrow types nothing' 'rev 3 byte 1 of 3' '1 0' abc
+press Home DC End
+screen 'Home, Delete and End' 'rev 4 byte 2 of 2' '2 0' bc
+printf 'x\030y' > pasted
+in_tmux load-buffer -b pasted pasted
+in_tmux paste-buffer -p -r -d -b pasted
+screen 'a paste has no command' 'rev 6 byte 4 of 4' '4 0' bcxy
+press C-c
+ended 'left with keys' "cordedit: not saved; the keys are kept: the same command goes on from there, and cordedit --discard 'typed' drops them" \
+    'status 0, mode restored'
+start typed
+screen 'gone on from the keys' 'rev 6 byte 4 of 4' '4 0' bcxy
+press C-x
+ended 'saved from there' 'status 0, mode restored'
+is_same 'the text that was kept' "$(text_of typed 6) $(ls typed*)" '62637879 typed'
 
 # Keys that are no terminal's.
 got=0

@@ -1,18 +1,21 @@
 //! The program `cordkit`: it opens what its words name, and ends as its tool says.
 #![tactic(auto)]
 
-mod late_file;
+mod image_file;
+mod journal;
 mod opening;
 
 ghost use Rattle.std.specs.Prelude.{◌≡◌, ◌*◌, ◌-◌, ◌^◌, ◌<◌, length};
 
-use crate::late_file::LateFile;
+use crate::image_file::ImageFile;
+use crate::journal::Journal;
 use crate::opening::{open, opened_sources, told_size};
 use cord_tools::{
     Outcome, Status, ToolFault, exit_status, refuse_check, run_check, run_cmp, run_cut, run_edit,
     run_find, run_join, run_migrate, run_show, run_stdin,
 };
 use cord_words::{Action, WordsFault, words};
+use lazy_file::Sources;
 use std::marker::Brand;
 use std::process::ExitCode;
 use std::sync::ledger::{Blank, Ledger};
@@ -166,9 +169,40 @@ fn compare<L: Ledger>(
     run_cmp(rt.alloc(), &mut sources, &mut io::writer(rt))
 }
 
-/// Edits a file, or an empty text, and saves the session. The image is opened when it is saved.
+/// What follows an edit: an image that is whole is put in its place. Answers whether there is one.
+fn finish(status: Result<Status, ToolFault>, image: &ImageFile<'_>) -> Result<bool, ToolFault> {
+    let saved = match status {
+        Ok(_) => image.put(),
+        Err(fault) => Err(fault),
+    };
+    if saved.is_err() {
+        image.drop_part();
+    }
+    saved
+}
+
+/// Edits, and keeps the keys until they are saved.
+fn edit_kept<'a, S: Sources + Drop>(
+    rt: &'a HostRuntime,
+    keys: &'a str,
+    sources: S,
+    image: &mut ImageFile<'a>,
+) -> Result<Status, ToolFault> {
+    let mut sources = sources;
+    let journal = Journal::open(rt, keys, &mut sources)?;
+    let status = journal.edit(sources, image);
+    let saved = finish(status, image);
+    if saved == Ok(true) || journal.is_empty() {
+        journal.remove()?;
+    }
+    saved?;
+    Ok(Status::Success)
+}
+
+/// Edits a file, or an empty text, and saves the session. The image is looked at before, and opened when it is saved.
 fn edit<L: Ledger>(
     rt: &HostRuntime,
+    keys: Option<&str>,
     image: &str,
     file: Option<&str>,
     blank: Blank,
@@ -177,17 +211,23 @@ fn edit<L: Ledger>(
     requires parts { blank.parts ≡ L.parts }
     requires many { 2 < blank.parts }
 {
+    let mut image = ImageFile::new(rt, image)?;
     let sources = match file {
         Some(file) => opened_sources::<L>(rt, &[file], blank)?,
         None => opened_sources::<L>(rt, &[], blank)?,
     };
-    run_edit(
+    if let Some(keys) = keys {
+        return edit_kept(rt, keys, sources, &mut image);
+    }
+    let status = run_edit(
         rt.alloc(),
         sources,
         &mut rt.reader(),
         &mut io::writer(rt),
-        &mut LateFile::new(rt, image),
-    )
+        &mut image,
+    );
+    finish(status, &image)?;
+    Ok(Status::Success)
 }
 
 /// Does what the words ask for. Files are opened in the order of the words before anything is written, the image of `edit` when it is
@@ -218,7 +258,7 @@ fn run<L: Ledger>(rt: &HostRuntime, action: &Action, blank: Blank) -> Result<Sta
             file,
         } => find::<L>(rt, *start, pattern.as_bytes(), file, blank),
         Action::Cmp { first, second } => compare::<L>(rt, first, second, blank),
-        Action::Edit { image, file } => edit::<L>(rt, image, *file, blank),
+        Action::Edit { keys, image, file } => edit::<L>(rt, *keys, image, *file, blank),
         Action::Migrate {
             at_most,
             image,

@@ -6,7 +6,7 @@ use cord_tools::{ToolFault, read_source};
 use lazy_file::{FileDevice, FileSources};
 use source_device::SourceDevice;
 use std::fs::{self, File};
-use std::io::ErrorKind;
+use std::io::{self, ErrorKind};
 use std::num::NonZeroUsize;
 use std::sync::ledger::{Blank, Ledger, Share};
 
@@ -16,18 +16,18 @@ const BLOCKS: usize = 256;
 /// The sources of every tool: files that are read where they lie, and what was read of others.
 pub type OpenedSources<L> = FileSources<SourceDevice<FileDevice<L>>>;
 
+/// How an error of an input is told.
+pub fn told(error: io::Error) -> ToolFault {
+    if error.kind() == ErrorKind::OutOfMemory {
+        ToolFault::Memory
+    } else {
+        ToolFault::Read
+    }
+}
+
 /// Opens an input.
 pub fn open(rt: &HostRuntime, path: &str) -> Result<File, ToolFault> {
-    match fs::open(rt, path) {
-        Ok(file) => Ok(file),
-        Err(error) => {
-            if error.kind() == ErrorKind::OutOfMemory {
-                Err(ToolFault::Memory)
-            } else {
-                Err(ToolFault::Read)
-            }
-        }
-    }
+    fs::open(rt, path).map_err(told)
 }
 
 /// So many bytes a file tells that it has. A pipe tells none, nor does a file that the system makes as it is read.
