@@ -15,12 +15,14 @@ neither front some none (inr m) = none m.0 m.1
 
 pub returns-in-Some-clause-ok : goal.returns-in-Some-clause-ok
 returns-in-Some-clause-ok c =
-    let is : c.args.front.now ≡ magic ++ c.in-Some.field-0.now =
-    rw c.in-Some.is at (strip_prefix_is Decides-eqb c.args.front.now magic c.strip_prefix.result c.strip_prefix.ensures.cases) in
+    let cut : c.args.front.now ≡ c.to_be_bytes.result ++ c.in-Some.field-0.now =
+    rw c.in-Some.is at (strip_prefix_is Decides-eqb c.args.front.now c.to_be_bytes.result c.strip_prefix.result c.strip_prefix.ensures.cases) in
+    let is : c.args.front.now ≡ magic ++ c.in-Some.field-0.now = rw c.to_be_bytes.ensures at cut in
     (λ e. inr (c.in-Some.field-0.now, is), λ m. refl)
 
 pub returns-in-None-clause-ok : goal.returns-in-None-clause-ok
 returns-in-None-clause-ok c =
-    let none : (rest : List ℕ) → c.args.front.now ≢ magic ++ rest =
-    rw c.in-None.is at (strip_prefix_is Decides-eqb c.args.front.now magic c.strip_prefix.result c.strip_prefix.ensures.cases) in
+    let uncut : (rest : List ℕ) → c.args.front.now ≢ c.to_be_bytes.result ++ rest =
+    rw c.in-None.is at (strip_prefix_is Decides-eqb c.args.front.now c.to_be_bytes.result c.strip_prefix.result c.strip_prefix.ensures.cases) in
+    let none : (rest : List ℕ) → c.args.front.now ≢ magic ++ rest = rw c.to_be_bytes.ensures at uncut in
     (λ e. absurd cc, λ m. absurd (neither c.args.front.now c.if-is_empty.ensures none m))
