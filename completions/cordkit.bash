@@ -19,6 +19,7 @@ _cordkit_options() {
         check | show | migrate) echo --at-most --help ;;
         edit) echo --keep --help ;;
         cordedit) echo -f --copy --text --continue --discard ;;
+        help) ;;
         *) echo --help ;;
     esac
 }

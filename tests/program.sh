@@ -426,7 +426,7 @@ a file to look in that is missing;find 1 b;;2;;error: the following required arg
 a place that is no number;find x b abcde;;2;;error: invalid value 'x' for '<START>': invalid digit found in string\n\nUsage: cordkit [COMMAND]\n\nFor more information, try '--help'.\n
 a second file that is missing;cmp abc;;2;;error: the following required arguments were not provided:\n  <SECOND>\n\nUsage: cordkit cmp <FIRST> <SECOND>\n\nFor more information, try '--help'.\n
 an image to save that is missing;edit;;2;;error: the following required arguments were not provided:\n  <IMAGE>\n\nUsage: cordkit edit <IMAGE> [FILE]\n\nFor more information, try '--help'.\n
-a file too many to edit;edit unsaved abc ab;;2;;error: unexpected argument 'ab' found\n\nUsage: cordkit edit <IMAGE> [FILE]\n\nFor more information, try '--help'.\n
+a file too many to edit;edit unsaved abc ab;;2;;error: unexpected argument 'ab' found\n\nUsage: cordkit edit [OPTIONS] <IMAGE> [FILE]\n\nFor more information, try '--help'.\n
 TABLE
 
 echo "$passed passed, $failed failed"
