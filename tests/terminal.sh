@@ -239,8 +239,8 @@ in_tmux load-buffer -b pasted pasted
 in_tmux paste-buffer -p -r -d -b pasted
 screen 'a paste has no command' 'rev 6 byte 4 of 4' '4 0' bcxy
 press C-c
-ended 'left with keys' "cordedit: not saved; the keys are kept: the same command goes on from there, and cordedit --discard 'typed' drops them" \
-    'status 0, mode restored'
+ended 'left with keys' 'cordedit: not saved; the keys are kept: the same command goes on from there, and' \
+    " cordedit --discard 'typed' drops them" 'status 0, mode restored'
 start typed
 screen 'gone on from the keys' 'rev 6 byte 4 of 4' '4 0' bcxy
 press C-x
