@@ -72,15 +72,15 @@ pub data EditsKept {T : Type 0} (reading : T → Reading) (sources : T) (played 
       → (fault ≡ TooLong) ↔ IsTooLong (reading sources).stated → result ≡ Err (editor_fault fault)
       → Keeps keys_before keys_left → Keeps kept_before kept_now → Keeps shown_before shown_now → Keeps before now
       → EditsKept reading sources played keys_before keys_left kept_before kept_now shown_before shown_now before now
-          result
+      result
   ran : (first last : EditorValue T) (end : Result End RunFault)
       → first.sources ≡ sources → ¬ IsTooLong (reading sources).stated
       → IsMade (reading sources).stated.sizes first.editing
       → Resumes played keys_before keys_left kept_before kept_now shown_before shown_now (seen reading first) end
-          (seen reading last)
+      (seen reading last)
       → Concludes (reading sources).stated.sizes end last.editing before now result
       → EditsKept reading sources played keys_before keys_left kept_before kept_now shown_before shown_now before now
-          result
+      result
 
 -- the bytes of a file that an image may replace: none, or such as an image begins with
 abbrev pub MayReplace : List ℕ → Type 0

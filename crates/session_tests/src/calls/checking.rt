@@ -68,12 +68,7 @@ fn table_that_passed_is_fetched_from(rt: HostRuntime) {
     assert!(&rt; tables.count() == 5);
     let root = Some(NodeId(4));
     for (i, found) in [(0, (Some(b'c'), 4)), (1, (Some(b'd'), 4)), (2, (None, 0))] {
-        assert_same_at(
-            &rt,
-            &fetch(&tables, &mut none, root, i),
-            &Ok(found),
-            &i,
-        );
+        assert_same_at(&rt, &fetch(&tables, &mut none, root, i), &Ok(found), &i);
     }
     let mut one = MemSources::new(rt.alloc());
     assert_same(&rt, &one.add(b"abc"), &Ok(0));
