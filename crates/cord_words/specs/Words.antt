@@ -10,7 +10,7 @@ use Rattle.clap.specs.Kinds.{or_else}
 use Rattle.clap.specs.declared.builder.action.ArgAction.TheVariants.{Append}
 use Rattle.clap.specs.declared.error.kind.ErrorKind.TheVariants.{ValueValidation}
 use Rattle.cord_words.specs.declared.action.Action.{Action}
-use Rattle.cord_words.specs.declared.action.Action.TheVariants.{CheckInput, Check, Show, Cut, Join, Find, Cmp, Edit, Migrate}
+use Rattle.cord_words.specs.declared.action.Action.TheVariants.{CheckInput, Check, Show, Cut, Join, Find, Cmp, Edit, Migrate, Apply}
 
 -- ---- the words that the program takes
 
@@ -87,11 +87,15 @@ abbrev pub migrate_app : App
 migrate_app = with_rule (with_rule (with_rule (new_app (codes "migrate")) limit_rule) image_rule)
     sources_rule
 
+-- `apply SCRIPT [SOURCE]...`
+abbrev pub apply_app : App
+apply_app = with_rule (with_rule (new_app (codes "apply")) (required_rule (codes "SCRIPT"))) sources_rule
+
 -- the program, as clap is told of it: all its subcommands
 unfoldable pub cordkit_app : App
-cordkit_app = with_subcommand (with_subcommand (with_subcommand (with_subcommand (with_subcommand
+cordkit_app = with_subcommand (with_subcommand (with_subcommand (with_subcommand (with_subcommand (with_subcommand
     (with_subcommand (with_subcommand (with_subcommand (new_app (codes "cordkit")) check_app.top) show_app.top)
-    cut_app.top) join_app.top) find_app.top) cmp_app.top) edit_app.top) migrate_app.top
+    cut_app.top) join_app.top) find_app.top) cmp_app.top) edit_app.top) migrate_app.top) apply_app.top
 
 -- ---- what was given
 
@@ -153,6 +157,9 @@ Holds given (Migrate at_most image sources) = Gives given (codes "migrate") (λ 
     MayReadAs (first_of (codes "LOOKS") rows) at_most
     × (image.now ≡ text_of rows (codes "IMAGE"))
     × (map (λ s. s.now) sources.items ≡ texts_of rows (codes "SOURCE")))
+Holds given (Apply script sources) = Gives given (codes "apply") (λ rows.
+    (script.now ≡ text_of rows (codes "SCRIPT"))
+    × (map (λ s. s.now) sources.items ≡ texts_of rows (codes "SOURCE")))
 
 abbrev pub IsOneOf : List Text → Text → Type 0
 IsOneOf [] n = ⊥
@@ -160,7 +167,7 @@ IsOneOf (x ∷ xs) n = (n ≡ x) ⊎ IsOneOf xs n
 
 abbrev pub subcommand_names : List Text
 subcommand_names = codes "check" ∷ codes "show" ∷ codes "cut" ∷ codes "join" ∷ codes "find"
-    ∷ codes "cmp" ∷ codes "edit" ∷ codes "migrate" ∷ []
+    ∷ codes "cmp" ∷ codes "edit" ∷ codes "migrate" ∷ codes "apply" ∷ []
 
 -- the subcommand that was given, if any, is one of the program's own, and not `help`
 abbrev pub IsKnown : Option (Text × List Row) → Type 0

@@ -55,4 +55,9 @@ pub enum Action<'a> {
         image: &'a str,
         file: Option<&'a str>,
     },
+    /// Write the image of the session that a script makes, over files of these lengths.
+    Apply {
+        script: &'a str,
+        sources: Vec<&'a str>,
+    },
 }

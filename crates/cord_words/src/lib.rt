@@ -2,6 +2,7 @@
 #![tactic(auto)]
 
 mod action;
+mod apply;
 mod args;
 mod check;
 mod cmp;

@@ -50,6 +50,10 @@ fn words_are_read_or_refused(rt: HostRuntime) -> Result<(), Fail> {
             r#"Show { at_most: Some(137), image: "a", revision: 2, sources: [] }"#,
         ),
         (
+            "cordkit apply s.txt b a",
+            r#"Apply { script: "s.txt", sources: ["b", "a"] }"#,
+        ),
+        (
             "cordkit migrate --at-most 0 a b",
             r#"Migrate { at_most: Some(0), image: "a", sources: ["b"] }"#,
         ),

@@ -11,4 +11,5 @@ returns c =
     let five = c.add_subcommand-command-5.ensures _ _ four c.command-5.ensures.app in
     let six = c.add_subcommand-command-6.ensures _ _ five c.command-6.ensures.app in
     let seven = c.add_subcommand-command-7.ensures _ _ six c.command-7.ensures.app in
-    c.add_subcommand.ensures _ _ seven c.command-8.ensures.app
+    let eight = c.add_subcommand-command-8.ensures _ _ seven c.command-8.ensures.app in
+    c.add_subcommand.ensures _ _ eight c.command-9.ensures.app
