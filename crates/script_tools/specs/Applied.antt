@@ -1,8 +1,7 @@
 -- What applying a script to a new session writes.
-use Rattle.std.specs.Prelude.{◌≡◌, ℕ, List, [], ◌∷◌, length, Option, Result, Ok, Err, IfOk, OnOk}
+use Rattle.std.specs.Prelude.{◌≡◌, ℕ, List, [], Option, Result, Ok, Err}
 use Rattle.std.specs.Io.KnownBytes.{Appends, Keeps}
 use Rattle.byte_output.specs.Prefix.{AppendsPrefix}
-use Rattle.edit_commands.specs.declared.fault.EditFault.{EditFault}
 use Rattle.edit_commands.specs.Session.{SessionValue, HoldsHistory}
 use Rattle.edit_script.specs.declared.fault.Stopped.{Stopped}
 use Rattle.edit_script.specs.Words.{Word}

@@ -1,4 +1,4 @@
-use Rattle.std.proofs.Common.{◌≡◌, List, ◌++◌, Ok, refl, ap, ◌∙◌}
+use Rattle.std.proofs.Common.{List, ◌++◌, Ok, refl, ap, ◌∙◌}
 use Rattle.edit_script.specs.Words.{Word}
 use Rattle.edit_script.specs.Applied.{lines_of}
 use Rattle.script_tools.proofs.Made.{none_inside, no_words, sources_kept}
@@ -17,5 +17,5 @@ returns-in-Ok-apply_script-clause-ok c =
           let both = c.says_the_script.ensures begun 0 (lines_of c.args.script.now) new commands (none_inside begun c.in-Ok.ensures.revisions) takes reads in
           (both.0 ∙ ap (λ (ws : List (List Word)). ws ++ commands) (no_words begun c.in-Ok.ensures.revisions), both.1);
       sources = sources_kept begun 0 (lines_of c.args.script.now) (Ok tt) new refl takes ∙ c.in-Ok.ensures.sources;
-      history = c.count.ensures.history;
+      history = c.count-count.ensures.history;
     }

@@ -1,4 +1,4 @@
-use Rattle.std.proofs.Common.{◌≡◌, ℕ, List, length, map, get_or, refl, ap}
+use Rattle.std.proofs.Common.{ℕ, List, length, map, get_or, refl, ap}
 use Rattle.std.specs.List.{range_with_len}
 use Rattle.std.proofs.lemmas.List.Elements.{All-from_recursion}
 use Rattle.edit_commands.specs.Session.{session_table, commands_of, text_givens, texts_of}
