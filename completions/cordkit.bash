@@ -3,7 +3,7 @@
 # What the words of a command are, in their order; `files` are all words from there on.
 _cordkit_kinds() {
     case $1 in
-        check | migrate | cordkit-verify) echo file files ;;
+        check | migrate | apply | cordkit-verify) echo file files ;;
         show) echo file number files ;;
         cut) echo number number file ;;
         join) echo files ;;
@@ -48,7 +48,7 @@ _cordkit_read() {
 }
 
 _cordkit() {
-    local commands='check show cut join find cmp edit migrate help'
+    local commands='check show cut join find cmp edit migrate apply help'
     local IFS=$' \t\n' command='' place=0 ended='' valued='' redirected='' kind kinds
     COMPREPLY=()
     [[ ${1##*/} == cordkit ]] || command=${1##*/}

@@ -48,6 +48,12 @@ yes abcdefg | head -c 3000000 > large
 printf 'abc d' > 'a file'
 truncate -s 549755813888 half || exit 1
 truncate -s 1099511627776 too_long || exit 1
+printf 'new\n\n# the fox\ninsert 0 0 "abc" # revision 1\r\n' > script_of_abc
+printf 'new\ninsert 0 0 "the fox"\nreplace 1 4 3 "\\x64\\x6fg"\nmany 2 0 0 "A\\n" 3 1 "_"\ncut 3 2 3' > script
+printf 'open 0\njoin 0 0\npaste 1 1 0 0 2\nfill 2 0 45 3\nback 3\nbalance 4\ndelete 5 0 1' > script_over_a_source
+printf 'new\ninsert 0 0 abc\n' > script_without_quotes
+printf 'new\n\ninsert 0 1 "x"\n' > script_past_the_end
+{ printf 'CORDSESS\0\0\0\2' && head -c 28 /dev/zero; } > no_revisions_in_two
 printf 'ab\025c\030' > keys_saved
 printf 'ab\025c\003' > keys_left
 printf 'ab\025c' > keys_ended
@@ -312,6 +318,18 @@ an image is not written beside a source too many;migrate one_insert abc;;1;;refu
 an image is not written beside 256 sources;migrate one_insert $(yes abc | head -n 256);;1;;refused S4\n
 an image to write that is not there;migrate missing;;3;;read\n
 an image in version 2 on a full device;migrate one_insert;;3;/dev/full;write\n
+a script makes the image of its session;apply script_of_abc;;0;@one_insert_in_two;
+a script by a pipe does;apply /dev/stdin;script_of_abc;0;@one_insert_in_two;
+a script without a line makes no revision;apply nothing;;0;@no_revisions_in_two;
+a text of a script is shown;show $("$program" apply script > applied; echo applied) 3;;0;A\nthe_dog;
+the last text of a script is shown;show $("$program" apply script > applied; echo applied) 4;;0;the;
+a text of a script over a source is shown;show $("$program" apply script_over_a_source abc > applied; echo applied) 6 abc;;0;--aabbcabc;
+a line that is no command is told;apply script_without_quotes;;1;;refused P(2)\n
+a refused command is told with its line;apply script_past_the_end;;1;;refused E3(3)\n
+a script over a source that is not handed in;apply script_over_a_source;;1;;refused E2(1)\n
+a script beside 256 sources;apply script_of_abc $(yes abc | head -n 256);;1;;refused S4\n
+a script that is not there;apply missing;;3;;read\n
+a script's image on a full device;apply script_of_abc;;3;/dev/full;write\n
 keys are shown and saved;edit saved;keys_saved;0;edit.txt;
 the saved image shows its last text;show saved 4;;0;ac;
 the saved image shows what undo gave;show saved 3;;0;a;

@@ -4,18 +4,21 @@
 mod image_file;
 mod journal;
 mod opening;
+mod scripts;
 
 ghost use Rattle.std.specs.Prelude.{◌≡◌, ◌*◌, ◌-◌, ◌^◌, ◌<◌, length};
 
 use crate::image_file::ImageFile;
 use crate::journal::Journal;
 use crate::opening::{open, opened_sources, told_size};
+use crate::scripts::{lens_of, refuse_script};
 use cord_tools::{
-    Outcome, Status, ToolFault, exit_status, refuse_check, run_check, run_cmp, run_cut, run_edit,
-    run_find, run_join, run_migrate, run_show, run_stdin,
+    Outcome, Status, ToolFault, exit_status, read_source, refuse_check, run_check, run_cmp,
+    run_cut, run_edit, run_find, run_join, run_migrate, run_show, run_stdin,
 };
 use cord_words::{Action, WordsFault, words};
 use lazy_file::Sources;
+use script_tools::{ApplyFault, run_apply};
 use std::marker::Brand;
 use std::process::ExitCode;
 use std::sync::ledger::{Blank, Ledger};
@@ -230,6 +233,28 @@ fn edit<L: Ledger>(
     Ok(Status::Success)
 }
 
+/// Writes the image of the session that a script makes.
+fn apply<L: Ledger>(
+    rt: &HostRuntime,
+    script: &str,
+    paths: &[&str],
+    blank: Blank,
+) -> Result<Status, ToolFault>
+    requires name { blank.name ≡ L.name }
+    requires parts { blank.parts ≡ L.parts }
+    requires many { 2 * length paths.now < blank.parts }
+{
+    let script = read_source(rt.alloc(), open(rt, script)?)?;
+    let sources = opened_sources::<L>(rt, paths, blank)?;
+    let lens = lens_of(rt.alloc(), &sources)?;
+    match run_apply(rt.alloc(), &script, &lens, &mut io::writer(rt)) {
+        Ok(()) => Ok(Status::Success),
+        Err(ApplyFault::Stop(stopped)) => refuse_script(rt, stopped),
+        Err(ApplyFault::Source(fault)) => Err(ToolFault::from(fault)),
+        Err(ApplyFault::Write) => Err(ToolFault::Write),
+    }
+}
+
 /// Does what the words ask for. Files are opened in the order of the words before anything is written, the image of `edit` when it is
 /// saved.
 fn run<L: Ledger>(rt: &HostRuntime, action: &Action, blank: Blank) -> Result<Status, ToolFault>
@@ -264,6 +289,7 @@ fn run<L: Ledger>(rt: &HostRuntime, action: &Action, blank: Blank) -> Result<Sta
             image,
             sources,
         } => migrate::<L>(rt, *at_most, image, sources.as_slice(), blank),
+        Action::Apply { script, sources } => apply::<L>(rt, script, sources.as_slice(), blank),
     }
 }
 /// How the program ended. What ended it without its answer goes to standard error.
