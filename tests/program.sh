@@ -53,6 +53,8 @@ printf 'new\ninsert 0 0 "the fox"\nreplace 1 4 3 "\\x64\\x6fg"\nmany 2 0 0 "A\\n
 printf 'open 0\njoin 0 0\npaste 1 1 0 0 2\nfill 2 0 45 3\nback 3\nbalance 4\ndelete 5 0 1' > script_over_a_source
 printf 'new\ninsert 0 0 abc\n' > script_without_quotes
 printf 'new\n\ninsert 0 1 "x"\n' > script_past_the_end
+printf 'new\n\nback 7\n' > script_of_no_revision
+printf 'new\nfill 0 0 0 1099511627776\n' > script_too_long
 { printf 'CORDSESS\0\0\0\2' && head -c 28 /dev/zero; } > no_revisions_in_two
 printf 'ab\025c\030' > keys_saved
 printf 'ab\025c\003' > keys_left
@@ -326,6 +328,9 @@ the last text of a script is shown;show $("$program" apply script > applied; ech
 a text of a script over a source is shown;show $("$program" apply script_over_a_source abc > applied; echo applied) 6 abc;;0;--aabbcabc;
 a line that is no command is told;apply script_without_quotes;;1;;refused P(2)\n
 a refused command is told with its line;apply script_past_the_end;;1;;refused E3(3)\n
+a command over a revision that is not there;apply script_of_no_revision;;1;;refused E1(3)\n
+a text that is too long;apply script_too_long;;1;;refused E7(N1,2)\n
+a script beside a source that is not there;apply script_of_abc missing;;3;;read\n
 a script over a source that is not handed in;apply script_over_a_source;;1;;refused E2(1)\n
 a script beside 256 sources;apply script_of_abc $(yes abc | head -n 256);;1;;refused S4\n
 a script that is not there;apply missing;;3;;read\n
