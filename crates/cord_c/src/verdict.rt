@@ -1,7 +1,7 @@
 //! What a check answers, as numbers.
 
 ghost use Rattle.std.specs.Prelude.{◌≡◌};
-ghost use Rattle.cord_c.specs.Verdicts.{accepted_verdict, add_number, limit_verdict, read_number, refused_verdict, source_number};
+ghost use Rattle.cord_c.specs.Verdicts.{accepted_verdict, add_number, limit_verdict, read_number, refused_verdict, refused_with, source_number};
 
 use image_reader::ReadFault;
 use lazy_file::{AddFault, SourceFault};
@@ -69,7 +69,7 @@ fn add_number(fault: AddFault) -> u32
 
 impl CordVerdict {
     fn refused(code: u32, kind: u32, number: u32, row: u64) -> CordVerdict
-        ensures { result ≡ record { code = code; kind = kind; number = number; revisions = 0; nodes = 0; rows = 0; row = row } }
+        ensures { result ≡ refused_with code kind number row }
     {
         CordVerdict {
             code,

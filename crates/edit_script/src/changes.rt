@@ -17,8 +17,11 @@ use edit_commands::Change;
 
 /// The change that a line begins with, and what is left. Its bytes are put behind those that are there.
 fn change<'a>(line: &'a [u8], bytes: &mut Vec<u8>) -> Result<(Change, &'a [u8]), LineFault>
-    ensures read { IsReadAs (λ x. (Number x.0.p ∷ Number x.0.m ∷ Quoted (drop (length bytes.old.items) bytes.new.items) ∷ [], x.1.now))
-        result (change_at line.now) }
+    ensures read { IsReadAs (λ x. (
+      Number x.0.p ∷ Number x.0.m
+          ∷ Quoted (drop (length bytes.old.items) bytes.new.items) ∷ [],
+      x.1.now,
+    )) result (change_at line.now) }
     ensures len { IfOk result (λ x. length bytes.new.items ≡ length bytes.old.items + x.0.n) }
     ensures kept { take (length bytes.old.items) bytes.new.items ≡ bytes.old.items }
 {

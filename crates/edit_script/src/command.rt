@@ -27,7 +27,8 @@ fn end(line: &[u8]) -> Result<(), LineFault>
 }
 
 fn new_text(line: &[u8]) -> Result<Edit, LineFault>
-    ensures read { (bytes : List ℕ) (changes : List Change) → IsReadAs (words_in bytes changes) result (named_at (codes "new") line.now) }
+    ensures read { (bytes : List ℕ) (changes : List Change)
+        → IsReadAs (words_in bytes changes) result (named_at (codes "new") line.now) }
     ensures inside { (room : Room) → IfOk result (IsInRoom room) }
 {
     end(line)?;
@@ -35,7 +36,8 @@ fn new_text(line: &[u8]) -> Result<Edit, LineFault>
 }
 
 fn open(line: &[u8]) -> Result<Edit, LineFault>
-    ensures read { (bytes : List ℕ) (changes : List Change) → IsReadAs (words_in bytes changes) result (named_at (codes "open") line.now) }
+    ensures read { (bytes : List ℕ) (changes : List Change)
+        → IsReadAs (words_in bytes changes) result (named_at (codes "open") line.now) }
     ensures inside { (room : Room) → IfOk result (IsInRoom room) }
 {
     let (s, rest) = number32(line)?;
@@ -44,7 +46,8 @@ fn open(line: &[u8]) -> Result<Edit, LineFault>
 }
 
 fn insert(line: &[u8], bytes: &mut Vec<u8>) -> Result<Edit, LineFault>
-    ensures read { (changes : List Change) → IsReadAs (words_in bytes.new.items changes) result (named_at (codes "insert") line.now) }
+    ensures read { (changes : List Change)
+        → IsReadAs (words_in bytes.new.items changes) result (named_at (codes "insert") line.now) }
     ensures inside { (changes : Vec Change) → IfOk result (IsInRoom (record { bytes = bytes.new; changes = changes })) }
 {
     let (r, rest) = number32(line)?;
@@ -55,7 +58,8 @@ fn insert(line: &[u8], bytes: &mut Vec<u8>) -> Result<Edit, LineFault>
 }
 
 fn delete(line: &[u8]) -> Result<Edit, LineFault>
-    ensures read { (bytes : List ℕ) (changes : List Change) → IsReadAs (words_in bytes changes) result (named_at (codes "delete") line.now) }
+    ensures read { (bytes : List ℕ) (changes : List Change)
+        → IsReadAs (words_in bytes changes) result (named_at (codes "delete") line.now) }
     ensures inside { (room : Room) → IfOk result (IsInRoom room) }
 {
     let (r, rest) = number32(line)?;
@@ -66,7 +70,8 @@ fn delete(line: &[u8]) -> Result<Edit, LineFault>
 }
 
 fn replace(line: &[u8], bytes: &mut Vec<u8>) -> Result<Edit, LineFault>
-    ensures read { (changes : List Change) → IsReadAs (words_in bytes.new.items changes) result (named_at (codes "replace") line.now) }
+    ensures read { (changes : List Change)
+        → IsReadAs (words_in bytes.new.items changes) result (named_at (codes "replace") line.now) }
     ensures inside { (changes : Vec Change) → IfOk result (IsInRoom (record { bytes = bytes.new; changes = changes })) }
 {
     let (r, rest) = number32(line)?;
@@ -78,7 +83,8 @@ fn replace(line: &[u8], bytes: &mut Vec<u8>) -> Result<Edit, LineFault>
 }
 
 fn paste(line: &[u8]) -> Result<Edit, LineFault>
-    ensures read { (bytes : List ℕ) (changes : List Change) → IsReadAs (words_in bytes changes) result (named_at (codes "paste") line.now) }
+    ensures read { (bytes : List ℕ) (changes : List Change)
+        → IsReadAs (words_in bytes changes) result (named_at (codes "paste") line.now) }
     ensures inside { (room : Room) → IfOk result (IsInRoom room) }
 {
     let (r, rest) = number32(line)?;
@@ -91,7 +97,8 @@ fn paste(line: &[u8]) -> Result<Edit, LineFault>
 }
 
 fn join(line: &[u8]) -> Result<Edit, LineFault>
-    ensures read { (bytes : List ℕ) (changes : List Change) → IsReadAs (words_in bytes changes) result (named_at (codes "join") line.now) }
+    ensures read { (bytes : List ℕ) (changes : List Change)
+        → IsReadAs (words_in bytes changes) result (named_at (codes "join") line.now) }
     ensures inside { (room : Room) → IfOk result (IsInRoom room) }
 {
     let (r, rest) = number32(line)?;
@@ -101,7 +108,8 @@ fn join(line: &[u8]) -> Result<Edit, LineFault>
 }
 
 fn cut(line: &[u8]) -> Result<Edit, LineFault>
-    ensures read { (bytes : List ℕ) (changes : List Change) → IsReadAs (words_in bytes changes) result (named_at (codes "cut") line.now) }
+    ensures read { (bytes : List ℕ) (changes : List Change)
+        → IsReadAs (words_in bytes changes) result (named_at (codes "cut") line.now) }
     ensures inside { (room : Room) → IfOk result (IsInRoom room) }
 {
     let (r, rest) = number32(line)?;
@@ -112,7 +120,8 @@ fn cut(line: &[u8]) -> Result<Edit, LineFault>
 }
 
 fn fill(line: &[u8]) -> Result<Edit, LineFault>
-    ensures read { (bytes : List ℕ) (changes : List Change) → IsReadAs (words_in bytes changes) result (named_at (codes "fill") line.now) }
+    ensures read { (bytes : List ℕ) (changes : List Change)
+        → IsReadAs (words_in bytes changes) result (named_at (codes "fill") line.now) }
     ensures inside { (room : Room) → IfOk result (IsInRoom room) }
 {
     let (r, rest) = number32(line)?;
@@ -124,7 +133,8 @@ fn fill(line: &[u8]) -> Result<Edit, LineFault>
 }
 
 fn back(line: &[u8]) -> Result<Edit, LineFault>
-    ensures read { (bytes : List ℕ) (changes : List Change) → IsReadAs (words_in bytes changes) result (named_at (codes "back") line.now) }
+    ensures read { (bytes : List ℕ) (changes : List Change)
+        → IsReadAs (words_in bytes changes) result (named_at (codes "back") line.now) }
     ensures inside { (room : Room) → IfOk result (IsInRoom room) }
 {
     let (r, rest) = number32(line)?;
@@ -133,7 +143,8 @@ fn back(line: &[u8]) -> Result<Edit, LineFault>
 }
 
 fn balance(line: &[u8]) -> Result<Edit, LineFault>
-    ensures read { (bytes : List ℕ) (changes : List Change) → IsReadAs (words_in bytes changes) result (named_at (codes "balance") line.now) }
+    ensures read { (bytes : List ℕ) (changes : List Change)
+        → IsReadAs (words_in bytes changes) result (named_at (codes "balance") line.now) }
     ensures inside { (room : Room) → IfOk result (IsInRoom room) }
 {
     let (r, rest) = number32(line)?;
@@ -144,7 +155,8 @@ fn balance(line: &[u8]) -> Result<Edit, LineFault>
 fn many(line: &[u8], room: &mut Room) -> Result<Edit, LineFault>
     requires bytes { room.now.bytes.items ≡ [] }
     requires changes { room.now.changes.items ≡ [] }
-    ensures read { IsReadAs (words_in room.new.bytes.items room.new.changes.items) result (named_at (codes "many") line.now) }
+    ensures read { IsReadAs (words_in room.new.bytes.items room.new.changes.items) result
+        (named_at (codes "many") line.now) }
     ensures inside { IfOk result (IsInRoom room.new) }
 {
     let (r, rest) = number32(line)?;

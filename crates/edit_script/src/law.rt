@@ -13,7 +13,8 @@ ghost use Rattle.edit_script.specs.Scripts.{AreInside, ReadsScript, words_held, 
 /// A command stands in the line that it is printed as, whatever comment follows; and no line is two commands. So what was printed
 /// is read again, and as no other command.
 pub fn reads_as_printed()
-    ensures printed { (ws : List Word) (tail : List ℕ) → IsPrintable ws → IsTail tail → HasWords (line_of ws ++ tail) ws }
+    ensures printed { (ws : List Word) (tail : List ℕ) → IsPrintable ws → IsTail tail
+        → HasWords (line_of ws ++ tail) ws }
     ensures one { (line : List ℕ) (ws vs : List Word) → IsLine ws → IsLine vs
         → HasWords line ws → HasWords line vs → ws ≡ vs }
 {}
@@ -33,5 +34,6 @@ pub fn says_the_script()
 
 /// A script of printed commands, each with nothing or a comment behind it, is read as those commands.
 pub fn reads_a_log()
-    ensures { (xs : List Printed) → AllByRecursion IsPrinted xs → ReadsScript (lines_of (script_of xs)) (map (λ (x : Printed). x.0) xs) }
+    ensures { (xs : List Printed) → AllByRecursion IsPrinted xs
+        → ReadsScript (lines_of (script_of xs)) (map (λ (x : Printed). x.0) xs) }
 {}
