@@ -71,8 +71,8 @@ fn files_and_held_bytes_are_sources_in_their_order(rt: HostRuntime) -> Result<()
         &Ok(()),
         &"joined",
     );
-    let (front, rest) = writer.taken().split_at(3);
-    assert_same(&rt, &front, &b"abc".as_slice(), &"the first");
+    let joined = writer.taken().strip_prefix(b"abc".as_slice());
+    let rest = joined.expect(&rt, "the first");
     assert_same(
         &rt,
         &rest.strip_prefix(ONE_INSERT),

@@ -166,7 +166,8 @@ fn resumed<R: AllocGlobal + Abort>(
     cut: usize,
     image: &mut Vec<u8>,
 ) -> Vec<u8> {
-    let (played, typed) = case.keys.split_at(cut);
+    let played = case.keys.get(..cut).expect(rt, "the keys before");
+    let typed = case.keys.get(cut..).expect(rt, "the keys behind");
     let mut typed = typed.to_vec(rt.alloc()).expect(rt, "the keys");
     typed.push(0x18).expect(rt, "the key Save");
     let mut screen: Vec<u8> = Vec::new(rt.alloc());

@@ -158,10 +158,10 @@ impl Sources for Ramp {
         if s > 0 || off > len || buffer.len() as u64 > len - off {
             return Err(SourceFault::BadSource);
         }
-        let mut value = off % 251;
+        let mut value = u8::try_from(off % 251).unwrap_or(0);
         for byte in buffer.iter_mut() {
-            *byte = value as u8;
-            value = (value + 1) % 251;
+            *byte = value;
+            value = value.wrapping_add(1) % 251;
         }
         Ok(())
     }

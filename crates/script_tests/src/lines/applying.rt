@@ -25,7 +25,10 @@ fn pool<A: AllocGlobal + Abort>(rt: &A, session: &Session) -> Vec<u8> {
     let space = session.space();
     let mut bytes = Vec::new(rt.alloc());
     let mut done = 0u64;
-    while done < space.pool_len() {
+    for _ in 0..u64::MAX {
+        if done >= space.pool_len() {
+            break;
+        }
         let block = space.pool(done);
         bytes.extend_from_slice(block).expect(rt, "a block");
         done = done.saturating_add(block.len() as u64);
