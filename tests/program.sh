@@ -323,9 +323,9 @@ an image in version 2 on a full device;migrate one_insert;;3;/dev/full;write\n
 a script makes the image of its session;apply script_of_abc;;0;@one_insert_in_two;
 a script by a pipe does;apply /dev/stdin;script_of_abc;0;@one_insert_in_two;
 a script without a line makes no revision;apply nothing;;0;@no_revisions_in_two;
-a text of a script is shown;show $("$program" apply script > applied; echo applied) 3;;0;A\nthe_dog;
-the last text of a script is shown;show $("$program" apply script > applied; echo applied) 4;;0;the;
-a text of a script over a source is shown;show $("$program" apply script_over_a_source abc > applied; echo applied) 6 abc;;0;--aabbcabc;
+a text of a script is shown;show $("$program" apply script > applied && echo applied) 3;;0;A\nthe_dog;
+the last text of a script is shown;show $("$program" apply script > applied && echo applied) 4;;0;the;
+a text of a script over a source is shown;show $("$program" apply script_over_a_source abc > applied && echo applied) 6 abc;;0;--aabbcabc;
 a line that is no command is told;apply script_without_quotes;;1;;refused P(2)\n
 a refused command is told with its line;apply script_past_the_end;;1;;refused E3(3)\n
 a command over a revision that is not there;apply script_of_no_revision;;1;;refused E1(3)\n
