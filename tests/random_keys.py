@@ -277,9 +277,13 @@ def image_fault(room, data, plain):
     return None
 
 
+# What an image does not replace.
+NO_IMAGE = b"no image"
+
+
 def older_image(chance, room):
-    """What stands where the image will be: nothing, other bytes, or more of them than a session has."""
-    older = chance.choice([None, None, b"no image", bytes(1 << 20), room.program.encode()])
+    """What stands where the image will be: nothing, no bytes, what is left of an image, more bytes than a session has, or no image."""
+    older = chance.choice([None, None, b"", b"CORDSESS", b"CORDSESS" + bytes(1 << 20), NO_IMAGE])
     if older is not None:
         room.save(older)
     return older
@@ -297,7 +301,10 @@ def run(program, seed):
         wanted = typed(plain, keys)
         answer = room.run("edit", keys=keys + end)
         fault = None
-        if answer != (0, wanted, b""):
+        if older == NO_IMAGE:
+            if answer != (1, b"", b"refused C1(I3)\n") or room.saved() != older:
+                fault = f"a file that is no image: status {answer[0]}, {answer[2]!r}"
+        elif answer != (0, wanted, b""):
             fault = f"other frames: status {answer[0]}, {answer[2]!r}"
         elif end != SAVE and room.saved() != older:
             fault = "an image was written without Save"
