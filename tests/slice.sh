@@ -1,13 +1,13 @@
 #!/bin/sh
 # A slice of what `make long` and `make fuzz` run with python, with fixed seeds, in some seconds: the second checker on the worked images, damaged
 # images, keys, the inputs that the fuzzer kept, and sources of any size, over the program that `make run` built or the one that $1 names; and whether
-# docs/HEADLINE.md is what specs/ say, each new name there one thing, and each call and clause there that a crate's README.md names. Where there is no
-# python3 nothing of it is tried, which is told. The last line is 'N passed, M failed'; the status is not 0 where one failed.
+# docs/HEADLINE.md is what specs/ say, each new name there one thing, and each call and clause there that a crate's README.md or docs/PROVED.md names.
+# Where there is no python3 nothing of it is tried, which is told. The last line is 'N passed, M failed'; the status is not 0 where one failed.
 set -u
 top=$(cd "$(dirname "$0")/.." && pwd)
 program=${1:-$top/crates/cordkit/out/cordkit}
 if ! command -v python3 > /dev/null; then
-    echo "LEFT OUT: the second checker, damaged images, keys, the inputs of the fuzzer, large sources, docs/HEADLINE.md, names and README.md: there is no python3 here"
+    echo "LEFT OUT: the second checker, damaged images, keys, the inputs of the fuzzer, large sources, docs/HEADLINE.md, names, README.md and docs/PROVED.md: there is no python3 here"
     echo "0 passed, 0 failed"
     exit 0
 fi
@@ -37,6 +37,6 @@ try 'the inputs of the fuzzer' "$top/tests/fuzz_images.py" 0 "$program"
 try 'sources of any size' "$top/tests/large_sources.py" "$program"
 try 'the page of definitions' "$top/tests/headline.py"
 try 'names' "$top/tests/names.py"
-try 'what each README.md names' "$top/tests/readmes.py"
+try 'what README.md files and docs/PROVED.md name' "$top/tests/readmes.py"
 echo "$passed passed, $failed failed"
 [ "$failed" = 0 ]
