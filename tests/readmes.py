@@ -1,6 +1,7 @@
 """What the documents name of the code. The README.md of each crate: at most ten lines; each call that it names is a public call of the crate, the words in
 brackets behind a call are clauses of its contract or words of it, and the files where to begin are there. docs/PROVED.md: a table for each crate that has
-public calls, whose rows name such calls and what of their contracts carries the claim, or a law and its file. What is not so is told, and the status is 1.
+public calls, whose rows name such calls and what of their contracts carries the claim, or a law and its file. docs/ARCHITECTURE.md: a row for each crate, as in crates.txt.
+What is not so is told, and the status is 1.
 
 readmes.py"""
 
@@ -13,6 +14,7 @@ from definitions import TOP, Crates, lines_of, words_of
 
 CITED = re.compile(r"`([^`]+)`|([()])")
 PROVED = "docs/PROVED.md"
+MAP = "docs/ARCHITECTURE.md"
 
 
 def is_there(*path):
@@ -108,11 +110,19 @@ def faults_of_proved(crates):
     yield from (f"{crate} has no table" for crate in sorted({call.crate for call in crates.calls} - told))
 
 
+def faults_of_map(crates):
+    """The map has a row for each crate, in the order of crates.txt."""
+    rows = [line.split("`")[1] for line in lines_of(MAP) if line.startswith("| `")]
+    if rows != crates.names:
+        yield f"its rows are not the crates of crates.txt in their order: {', '.join(sorted(set(rows) ^ set(crates.names))) or 'the order'}"
+
+
 def main():
     crates = Crates()
     faults = [f"{crate}/README.md: {fault}" for crate in crates.names for fault in faults_of(crates, crate)]
     faults += [f"{PROVED}: {fault}" for fault in faults_of_proved(crates)]
-    print("\n".join([*faults, f"{len(crates.names)} crates, {len(faults)} faults of what their README.md and {PROVED} name"]))
+    faults += [f"{MAP}: {fault}" for fault in faults_of_map(crates)]
+    print("\n".join([*faults, f"{len(crates.names)} crates, {len(faults)} faults of what their README.md, {PROVED} and {MAP} name"]))
     return bool(faults)
 
 
