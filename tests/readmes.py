@@ -1,7 +1,7 @@
 """What the documents name of the code. The README.md of each crate: at most ten lines; each call that it names is a public call of the crate, the words in
 brackets behind a call are clauses of its contract or words of it, and the files where to begin are there. docs/PROVED.md: a table for each crate that has
-public calls, whose rows name such calls and what of their contracts carries the claim, or a law and its file. docs/ARCHITECTURE.md: a row for each crate, as in crates.txt.
-What is not so is told, and the status is 1.
+public calls, whose rows name such calls and what of their contracts carries the claim, or a law and its file. docs/ARCHITECTURE.md: a row for each crate,
+as in crates.txt. What is not so is told, and the status is 1.
 
 readmes.py"""
 
