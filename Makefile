@@ -52,6 +52,7 @@ bench:
 	sh bench/show.sh
 	sh bench/rope.sh
 	sh bench/tools.sh
+	sh bench/scripts.sh
 	sh bench/edit.sh
 
 refuse:

@@ -55,6 +55,90 @@ printf 'new\ninsert 0 0 abc\n' > script_without_quotes
 printf 'new\n\ninsert 0 1 "x"\n' > script_past_the_end
 printf 'new\n\nback 7\n' > script_of_no_revision
 printf 'new\nfill 0 0 0 1099511627776\n' > script_too_long
+# every command; the same two lines in other ways; what bytes may be; numbers; commands that are refused; as many bytes and changes as there may be
+cat > every_command << 'SCRIPT'
+new                            # 0, and its text
+open 0                         # 1  abc
+insert 1 1 "XY"                # 2  aXYbc
+delete 2 0 2                   # 3  Ybc
+replace 3 1 1 "--"             # 4  Y--c
+paste 4 4 2 1 2                # 5  Y--cXY
+join 5 1                       # 6  Y--cXYabc
+cut 6 3 4                      # 7  cXYa
+fill 7 4 33 3                  # 8  cXYa!!!
+back 2                         # 9  aXYbc
+balance 8                      # 10 cXYa!!!
+many 10 0 1 "" 1 0 "<" 3 2 ">" # 11 <XY>!!
+SCRIPT
+printf 'new\r\ninsert 0 0 "abc"\r\n' > abc_with_returns
+printf 'new\ninsert 0 0 "abc"' > abc_without_end
+printf 'new#"\n#\n\t\r\ninsert 0 0 "abc"#"d' > abc_with_comments
+printf '\t\r new \n  insert\t0 \t 0\r"abc" \t\n\n' > abc_with_blanks
+printf 'new\ninsert 0000000000000000000000000000000 00 "abc"' > abc_with_zeros
+printf 'new\ninsert 0 0 "\\x61b\\x63"' > abc_by_digits
+printf 'new\ninsert 0 0 "\\t\\r\\\\\\"\\n\\x4a\\x4A\\xfF\\x00"' > script_of_escapes
+printf 'new\ninsert 0 0 "\t\303\251\200\377 #"' > script_of_high_bytes
+lines_that_are_none() {
+    cat << 'LINES'
+quotes_without_end;insert 0 0 "abc
+quotes_of_an_escape;insert 0 0 "abc\"
+quotes_and_more;insert 0 0 "a"bc
+quotes_behind_a_number;insert 0 0"abc"
+letter_behind_a_backslash;insert 0 0 "\a"
+one_digit;insert 0 0 "\x4"
+no_digit;insert 0 0 "\x4g"
+no_number;insert 0 x "abc"
+no_bytes_in_quotes;insert 0 0
+number_in_quotes;insert 0 "0" "abc"
+word_too_many;insert 0 0 "abc" 0
+name_too_long;news
+large_letters;NEW
+sign;back -0
+plus;back +0
+fraction;back 0.0
+comma;join 0,0
+number_of_2_64;cut 0 0 18446744073709551616
+revision_of_2_32;back 4294967296
+source_of_2_32;open 4294967296
+byte_of_256;fill 0 0 256 1
+change_without_bytes;many 0 0 0
+change_of_two_numbers;many 0 0 0 "a" 1 0
+LINES
+    printf 'return_in_quotes;insert 0 0 "a\rb"\n'
+    printf 'delete_in_quotes;insert 0 0 "\177"\n'
+    printf 'blank_that_is_none;new\013\n'
+}
+commands_that_are_refused() {
+    cat << 'LINES'
+E1;the_next_revision;back 1
+E1;a_revision_of_2_32_less_1;back 4294967295
+E1;a_second_revision;join 0 1
+E1;all_that_can_be;many 1
+E9;no_change;many 0
+E2;a_source;open 0
+E3;a_place_of_2_64_less_1;insert 0 18446744073709551615 ""
+E3;a_sum_past_2_64;delete 0 1 18446744073709551615
+E3;a_part_of_what_is_pasted;paste 0 0 0 0 1
+E3;a_part_of_what_is_cut;cut 0 1 0
+E3;a_change_at_a_place_twice;many 0 0 0 "a" 0 0 "b"
+E3;a_change_past_the_end;many 0 0 1 "a"
+E4;no_bytes;insert 0 0 ""
+E4;no_bytes_in_place_of_none;replace 0 0 0 ""
+E4;a_change_of_nothing;many 0 0 0 ""
+E7(N1);a_fill;fill 0 0 0 18446744073709551615
+LINES
+}
+lines_that_are_none | while IFS=';' read -r name line; do printf 'new\n%s\nback 9' "$line" > "none_$name"; done
+commands_that_are_refused | while IFS=';' read -r _ name line; do printf '# a comment\nnew\n%s\nnone' "$line" > "refused_$name"; done
+yes a | head -n 65536 | tr -d '\n' > most_bytes
+{ printf 'new\ninsert 0 0 "' && cat most_bytes && printf '"'; } > script_of_most_bytes
+{ printf 'new\ninsert 0 0 "' && cat most_bytes && printf 'a"'; } > script_of_more_bytes
+changes() { printf '\nmany 1' && seq 0 "$1" | awk '{ printf " %d 1 \"b\"", $1 * 2 }'; }
+{ cat script_of_most_bytes && changes 4095; } > script_of_most_changes
+{ cat script_of_most_bytes && changes 4096; } > script_of_more_changes
+{ yes ba | head -n 4096 | tr -d '\n' && tail -c 57344 most_bytes; } > most_changes
+printf 'open 0\njoin 0 0\n' > script_of_a_double
+seq 0 4999 | awk 'BEGIN { print "new" } { print "insert " $1 " 0 \"x\"" }' > script_of_5000
 { printf 'CORDSESS\0\0\0\2' && head -c 28 /dev/zero; } > no_revisions_in_two
 printf 'ab\025c\030' > keys_saved
 printf 'ab\025c\003' > keys_left
@@ -209,7 +293,36 @@ a replacement that makes a text of 2^40 bytes;many_to_the_limit;351;00;refused C
 CHANGES
 }
 
+# Lines that are no command, and commands that are refused, each behind a revision of no text.
+try_scripts() {
+    lines_that_are_none > ../lines
+    while IFS=';' read -r script _; do
+        try "a line of a script with $script" "apply none_$script" "" 1 "" "refused P(2)\n"
+    done < ../lines
+    commands_that_are_refused > ../lines
+    while IFS=';' read -r code script _; do
+        case $code in
+        *')') told="${code%')'},3)" ;;
+        *) told="$code(3)" ;;
+        esac
+        try "a refused command of $script" "apply refused_$script" "" 1 "" "refused $told\n"
+    done < ../lines
+}
+
+# What is longer than a pipe holds, into one whose reader goes.
+try_closed_pipe() {
+    { timeout 60 "$program" "$2" "$3" 2> ../err; echo $? > ../status; } | head -c 1 > ../out
+    if [ "$(cat ../status) $(cat ../err)" = '3 write' ]; then
+        passed=$((passed + 1))
+    else
+        failed=$((failed + 1))
+        echo "FAILED: $1: status $(cat ../status) for 3, and it wrote $(cat ../err)"
+    fi
+}
+
 if [ "$cases" = all ]; then
+    try_scripts
+    try_closed_pipe 'an image into a closed pipe' apply script_of_5000
     try_worked_images "$top/tests/vectors"
     try_worked_images "$top/tests/vectors/version2"
     try_prefixes one_insert
@@ -322,7 +435,6 @@ an image to write that is not there;migrate missing;;3;;read\n
 an image in version 2 on a full device;migrate one_insert;;3;/dev/full;write\n
 a script makes the image of its session;apply script_of_abc;;0;@one_insert_in_two;
 a script by a pipe does;apply /dev/stdin;script_of_abc;0;@one_insert_in_two;
-a script without a line makes no revision;apply nothing;;0;@no_revisions_in_two;
 a text of a script is shown;show $("$program" apply script > applied && echo applied) 3;;0;A\nthe_dog;
 the last text of a script is shown;show $("$program" apply script > applied && echo applied) 4;;0;the;
 a text of a script over a source is shown;show $("$program" apply script_over_a_source abc > applied && echo applied) 6 abc;;0;--aabbcabc;
@@ -334,6 +446,33 @@ a script beside a source that is not there;apply script_of_abc missing;;3;;read\
 a script over a source that is not handed in;apply script_over_a_source;;1;;refused E2(1)\n
 a script beside 256 sources;apply script_of_abc $(yes abc | head -n 256);;1;;refused S4\n
 a script that is not there;apply missing;;3;;read\n
+every command, new;show $("$program" apply every_command abc > applied && echo applied) 0 abc;;0;;
+every command, open;show applied 1 abc;;0;abc;
+every command, insert;show applied 2 abc;;0;aXYbc;
+every command, delete;show applied 3 abc;;0;Ybc;
+every command, replace;show applied 4 abc;;0;Y--c;
+every command, paste;show applied 5 abc;;0;Y--cXY;
+every command, join;show applied 6 abc;;0;Y--cXYabc;
+every command, cut;show applied 7 abc;;0;cXYa;
+every command, fill;show applied 8 abc;;0;cXYa!!!;
+every command, back;show applied 9 abc;;0;aXYbc;
+every command, balance;show applied 10 abc;;0;cXYa!!!;
+every command, many;show applied 11 abc;;0;<XY>!!;
+lines of a script that end with a return;apply abc_with_returns;;0;@one_insert_in_two;
+a last line without its end;apply abc_without_end;;0;@one_insert_in_two;
+comments right behind words;apply abc_with_comments;;0;@one_insert_in_two;
+blanks, tabs and returns between words;apply abc_with_blanks;;0;@one_insert_in_two;
+numbers with zeros before them;apply abc_with_zeros;;0;@one_insert_in_two;
+bytes by their digits;apply abc_by_digits;;0;@one_insert_in_two;
+escapes;show $("$program" apply script_of_escapes > applied && echo applied) 1;;0;\t\r\\"\nJJ\0377\0000;
+bytes of no ASCII, a tab and a sign in quotes;show $("$program" apply script_of_high_bytes > applied && echo applied) 1;;0;\t\0303\0251\0200\0377 #;
+a script that says nothing;apply nothing;;0;@no_revisions_in_two;
+as many bytes as a command takes;show $("$program" apply script_of_most_bytes > applied && echo applied) 1;;0;@most_bytes;
+a byte more;apply script_of_more_bytes;;1;;refused E7(N1,2)\n
+as many changes as a command takes;show $("$program" apply script_of_most_changes > applied && echo applied) 2;;0;@most_changes;
+a change more;apply script_of_more_changes;;1;;refused E9(3)\n
+a text of a source twice that is too long;apply script_of_a_double half;;1;;refused E7(N1,2)\n
+a script that is a folder;apply folder;;3;;read\n
 a script's image on a full device;apply script_of_abc;;3;/dev/full;write\n
 keys are shown and saved;edit saved;keys_saved;0;edit.txt;
 the saved image shows its last text;show saved 4;;0;ac;

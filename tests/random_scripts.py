@@ -25,6 +25,8 @@ from second_checker import PROGRAM, TOP, verify
 
 LONGEST, MOST_BYTES, MOST_CHANGES = (1 << 40) - 1, 65536, 4096
 LONG_FROM = 500
+# `log --brief` prints so many bytes of a text.
+BRIEF = 60
 # A longer text is not made here.
 LONGEST_MADE = 1 << 22
 
@@ -210,10 +212,16 @@ def printed_byte(byte):
 PRINTED_BYTES = [printed_byte(byte) for byte in range(256)]
 
 
-def printed(name, values):
-    """The line as `log` prints it."""
-    words = [b'"' + b"".join(PRINTED_BYTES[byte] for byte in v) + b'"' if isinstance(v, bytes) else b"%d" % v for v in values]
-    return b" ".join([name, *words])
+def printed(name, values, most=None):
+    """The line as `log` prints it, with at most so many bytes of each text, and three dots where it has more."""
+    words = [name]
+    for value in values:
+        if isinstance(value, bytes):
+            dots = b"..." if most is not None and len(value) > most else b""
+            words.append(b'"' + b"".join(PRINTED_BYTES[byte] for byte in value[:most]) + b'"' + dots)
+        else:
+            words.append(b"%d" % value)
+    return b" ".join(words)
 
 
 def written_byte(chance, byte):
@@ -284,21 +292,27 @@ def random_command(chance, session):
     }[name]()
 
 
+def edges(kind, count, size):
+    """Values at the edge of what a session of so many revisions takes, for a text of this size."""
+    if kind == "r":
+        return [0, count - 1, count, 2**32 - 1]
+    if kind == "p":
+        return [0, size, size + 1, LONGEST - size, LONGEST + 1 - size, 2**63, 2**64 - 1]
+    return [0, 255] if kind == "b" else [b"", bytes(MOST_BYTES), bytes(MOST_BYTES + 1)]
+
+
 def spoiled(chance, session, name, values):
     """The command with some of its values at the edge of what is taken, or past it."""
-    values = list(values)
-    size = len(session.texts[values[0]]) if values and values[0] < len(session.texts) else 0
-    edges = [0, len(session.texts), size, size + 1, LONGEST - size, LONGEST + 1 - size, LONGEST, 255, 256, 2**32 - 1, 2**32, 2**63, 2**64 - 1, 2**64]
+    values, count = list(values), len(session.texts)
+    size = len(session.texts[values[0]]) if values and values[0] < count else 0
     for _ in range(chance.randrange(1, 4)):
-        k = chance.randrange(len(values)) if values else 0
+        kinds = SHAPES[name] if name != b"many" else "r" + "ppt" * (len(values) // 3)
         if name == b"many" and chance.random() < 0.3:
             values = values[:1] + random_changes(chance, size, 3) * chance.choice([0, 1, 2, MOST_CHANGES + 1])
-        elif values and isinstance(values[k], bytes):
-            values[k] = bytes(chance.choice([0, 0, MOST_BYTES, MOST_BYTES + 1]))
-        elif values:
-            values[k] = chance.choice(edges)
-        else:
-            values = [chance.choice(edges)]
+        elif kinds:
+            k = chance.randrange(len(kinds))
+            past = kinds[k] in BELOW and chance.random() < 0.05
+            values[k] = BELOW[kinds[k]] if past else chance.choice(edges(kinds[k], count, size))
     return values
 
 
@@ -333,7 +347,7 @@ def refused_lines(chance, session):
     """A line that is no command, or a command at an edge, with lines before and behind it."""
     before = lines_of(chance, session, chance.randrange(12))
     while True:
-        if chance.random() < 0.3:
+        if chance.random() < 0.2:
             line = chance.choice(NO_COMMANDS)
             break
         name, values = random_command(chance, session)
@@ -428,14 +442,14 @@ def words_in(image, revision):
     ][revision.command - 1]  # fmt: skip
 
 
-def log_of(image):
-    """The script of an image as `log` prints it."""
+def log_of(image, most=None):
+    """The script of an image as `log` prints it, with at most so many bytes of each text."""
     lines = []
     for k, revision in enumerate(image.revisions):
         depth = 0 if revision.root == verify.NIL else image.nodes[revision.root].depth
         balanced = ", balanced" if revision.mark else ""
         note = f" # {k}: {image.length(revision.root)} bytes, depth {depth}{balanced}, {revision.row_count} rows\n"
-        lines.append(printed(*words_in(image, revision)) + note.encode())
+        lines.append(printed(*words_in(image, revision), most) + note.encode())
     return b"".join(lines)
 
 
@@ -484,20 +498,14 @@ def longest_in(values):
 
 
 def brief_fault(room, data, image):
-    """What is wrong with the brief log of an image whose log is right: lines of short texts are as in the log, others are no commands."""
+    """What is wrong with the brief log of an image whose log is right. Its first line that is not whole is no command."""
     room.save(data)
-    status, brief, told = room.run("log", "--brief", room.image)
-    whole = log_of(image)
-    if (status, told) != (0, b"") or brief.count(b"\n") != whole.count(b"\n"):
-        return f"log --brief: status {status}, {told!r}"
-    first = None
-    for k, (ours, theirs, revision) in enumerate(zip(whole.split(b"\n"), brief.split(b"\n"), image.revisions)):
-        is_long = longest_in(words_in(image, revision)[1]) > 60
-        if is_long == (ours == theirs) or is_long and b"..." not in theirs:
-            return f"log --brief prints {theirs[:200]!r}"
-        first = k + 1 if is_long and first is None else first
-    if first and room.apply(brief) != (1, b"", f"refused P({first})\n".encode()):
-        return f"a brief log is applied: {room.apply(brief)}"
+    answer = room.run("log", "--brief", room.image)
+    if answer != (0, log_of(image, BRIEF), b""):
+        return f"log --brief prints {answer[1][:200]!r}, status {answer[0]}, {answer[2]!r}"
+    first = next((k for k, revision in enumerate(image.revisions, 1) if longest_in(words_in(image, revision)[1]) > BRIEF), None)
+    if first and room.apply(answer[1]) != (1, b"", f"refused P({first})\n".encode()):
+        return f"a brief log is applied: {room.apply(answer[1])}"
     return None
 
 

@@ -1,0 +1,65 @@
+"""Runs what docs/SCRIPTS.md shows, block by block, with the built program, or the one that is named, as `cordkit`, and compares what each block writes
+with what stands there. A block that writes nothing there is no example to be run. Where the program has no `log`, or no `find --all`, what needs
+them is not tried, nor is what needs git where there is none: that is told. The last line is 'N passed, M failed'.
+
+script_tour.py [PROGRAM]"""
+
+import os
+import re
+import shutil
+import subprocess
+import sys
+import tempfile
+
+from second_checker import PROGRAM, TOP
+
+PAGE = os.path.join(TOP, "docs/SCRIPTS.md")
+NEEDS = {r"cordkit log|cord.textconv": ("log", "x"), r"find --all": ("find", "--all", "0", "x", "/dev/null")}
+
+
+def blocks_of(text):
+    """Each block of the page as a shell script, and what it writes."""
+    for block in re.findall(r"^```\n(.*?)^```$", text, re.M | re.S):
+        script, wanted = [], []
+        for line in block.split("\n")[:-1]:
+            if line.startswith(("$ ", "> ")):
+                script.append(line[2:])
+            else:
+                wanted.append(line)
+        if wanted:
+            yield "".join(f"{line}\n" for line in script), "".join(f"{line}\n" for line in wanted)
+
+
+def missing(program, script):
+    """What a block needs that is not here, or nothing."""
+    for needed, words in NEEDS.items():
+        if re.search(needed, script) and subprocess.run([program, *words], stdin=subprocess.DEVNULL, capture_output=True, check=False).returncode == 2:
+            return f"the program has no {' '.join(words[:-1])}"
+    return "there is no git" if "git " in script and not shutil.which("git") else None
+
+
+def main():
+    program = os.path.abspath(sys.argv[1] if len(sys.argv) > 1 else PROGRAM)
+    passed = failed = 0
+    with open(PAGE, encoding="utf-8") as file:
+        blocks = list(blocks_of(file.read()))
+    with tempfile.TemporaryDirectory() as room, tempfile.TemporaryDirectory() as tools:
+        os.symlink(program, os.path.join(tools, "cordkit"))
+        plain = {**os.environ, "PATH": f"{tools}:{os.environ['PATH']}", "GIT_CONFIG_GLOBAL": os.devnull, "GIT_CONFIG_NOSYSTEM": "1"}
+        for script, wanted in blocks:
+            reason = missing(program, script)
+            if reason:
+                print(f"LEFT OUT: what begins with {script.splitlines()[0]!r}: {reason}")
+                continue
+            done = subprocess.run(["sh", "-e"], input=script, capture_output=True, text=True, cwd=room, env=plain, check=False)
+            if (done.returncode, done.stdout, done.stderr) == (0, wanted, ""):
+                passed += 1
+            else:
+                failed += 1
+                print(f"FAILED: status {done.returncode}, it wrote:\n{done.stdout}{done.stderr}for:\n{wanted}")
+    print(f"{passed} passed, {failed} failed")
+    return failed != 0 or passed + failed == 0 and not blocks
+
+
+if __name__ == "__main__":
+    sys.exit(main())
