@@ -3,6 +3,7 @@
 # where another failed. One whose tools are not there is not tried, which is told and is no pass. The last line is 'N passed, M failed'; the
 # status is not 0 where one failed or none passed.
 #   100,000 damaged images, 1,000 sessions of keys    python3; both ask the second checker, bin/cordkit-verify
+#   1,000 scripts and those of a million lines; 3,000 images, their logs    python3; so does this one
 #   allocations, reads and writes that are refused    gcc
 #   the tests of ropes under memcheck                 valgrind, and rt where they are not built
 #   the editor in a terminal, keys that are kept      tmux
@@ -41,6 +42,7 @@ try() {
 
 try 'damaged images' python3 python3 tests/damaged_images.py 100000
 try 'sessions of keys' python3 python3 tests/random_keys.py 1000
+try 'scripts and logs' python3 python3 tests/random_scripts.py 1000
 try 'refused allocations, reads and writes' gcc sh bench/refuse.sh
 try 'the tests of ropes under memcheck' valgrind sh tests/memcheck.sh
 try 'the editor in a terminal' tmux sh tests/terminal.sh

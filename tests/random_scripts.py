@@ -648,7 +648,9 @@ def main():
     for fault in found:
         print(fault)
     print("; ".join(f"{kind}: {count}" for kind, count in sorted(kinds.items())))
-    print(f"{revisions} revisions; {'with their logs' if logs else 'LEFT OUT: their logs, this program has no log'}")
+    print(f"{revisions} revisions")
+    if not logs:
+        print("LEFT OUT: the logs of these scripts and of random and worked images: the program has no log")
     print(f"{tried - len(found)} passed, {len(found)} failed")
     return len(found) != 0
 

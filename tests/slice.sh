@@ -1,13 +1,14 @@
 #!/bin/sh
 # A slice of what `make long` and `make fuzz` run with python, with fixed seeds, in some seconds: the second checker on the worked images, damaged
-# images, keys, the inputs that the fuzzer kept, and sources of any size, over the program that `make run` built or the one that $1 names; and whether
-# docs/HEADLINE.md is what specs/ say, each new name there one thing, and each call and clause there that a crate's README.md or docs/PROVED.md names.
-# Where there is no python3 nothing of it is tried, which is told. The last line is 'N passed, M failed'; the status is not 0 where one failed.
+# images, keys, scripts, the inputs that the fuzzer kept, and sources of any size, over the program that `make run` built or the one that $1 names; the
+# history of README.md as a session, and what docs/SCRIPTS.md shows; and whether docs/HEADLINE.md is what specs/ say, each new name there one thing, and
+# each call and clause there that a crate's README.md or docs/PROVED.md names. Where there is no python3 nothing of it is tried, which is told. What a
+# test left out is told too. The last line is 'N passed, M failed'; the status is not 0 where one failed.
 set -u
 top=$(cd "$(dirname "$0")/.." && pwd)
 program=${1:-$top/crates/cordkit/out/cordkit}
 if ! command -v python3 > /dev/null; then
-    echo "LEFT OUT: the second checker, damaged images, keys, the inputs of the fuzzer, large sources, docs/HEADLINE.md, names, README.md and docs/PROVED.md: there is no python3 here"
+    echo "LEFT OUT: the second checker, damaged images, keys, scripts, the history of README.md, the inputs of the fuzzer, large sources, docs/HEADLINE.md, names, README.md and docs/PROVED.md: there is no python3 here"
     echo "0 passed, 0 failed"
     exit 0
 fi
@@ -19,6 +20,7 @@ try() {
     shift
     if python3 "$@" > "$written" 2>&1; then
         passed=$((passed + 1))
+        grep '^LEFT OUT' "$written"
         echo "$name: $(tail -n 1 "$written")"
     else
         failed=$((failed + 1))
@@ -33,6 +35,9 @@ trap 'exit 1' HUP INT TERM
 try 'the second checker on worked images' "$top/tests/worked_images.py"
 try 'damaged images' "$top/tests/damaged_images.py" 1050 "$program"
 try 'keys' "$top/tests/random_keys.py" 25 "$program"
+try 'scripts' "$top/tests/random_scripts.py" 60 "$program"
+try 'the history of a file' "$top/tests/git_history.py" "$program"
+try 'what docs/SCRIPTS.md shows' "$top/tests/script_tour.py" "$program"
 try 'the inputs of the fuzzer' "$top/tests/fuzz_images.py" 0 "$program"
 try 'sources of any size' "$top/tests/large_sources.py" "$program"
 try 'the page of definitions' "$top/tests/headline.py"
