@@ -66,7 +66,7 @@ class Repository:
             with open(self.file, "wb") as file:
                 file.write(text)
         self.git("add", "-A")
-        self.git("commit", "-q", "--allow-empty", "-m", subject)
+        self.git("commit", "-q", "--allow-empty", "--allow-empty-message", "-m", subject)
 
 
 def small_repository(folder):

@@ -474,8 +474,8 @@ def image_fault(room, data, texts, commands):
     return None
 
 
-def log_fault(room, data):
-    """What is wrong with the log of an image and what is made of it, or nothing."""
+def log_fault(room, data, is_own=False):
+    """What is wrong with the log of an image and what is made of it, or nothing. A session's own image is made again byte by byte."""
     room.save(data)
     line = verify.line(data, room.sources)
     answer = room.run("log", room.image)
@@ -488,8 +488,8 @@ def log_fault(room, data):
     status, again, told = room.apply(answer[1])
     if long is not None:
         return None if (status, again, told) == (1, b"", f"refused E7(N1,{long + 1})\n".encode()) else f"what is too long is answered by {told!r}"
-    if (status, told) != (0, b""):
-        return f"apply of the log: status {status}, {told!r}"
+    if (status, told) != (0, b"") or is_own and again != data:
+        return f"apply of the log: status {status}, {told!r}, {'the same' if again == data else 'another'} image"
     return image_fault(room, again, verify.all_texts(image, room.sources), [words_in(image, it) for it in image.revisions]) or brief_fault(room, data, image)
 
 
@@ -538,7 +538,7 @@ def run_script(given):
         else:
             fault = image_fault(room, data, session.texts, session.commands)
             if logs and not fault:
-                fault = log_fault(room, data)
+                fault = log_fault(room, data, is_own=True)
         return f"{kind}, {'refused' if refusal else 'taken'}", len(session.texts), f"script {seed}, {kind}: {fault}" if fault else None
 
 
