@@ -18,18 +18,19 @@ from second_checker import PROGRAM, TOP, verify
 FROM_GIT = os.path.join(TOP, "examples/from_git")
 LINE = re.compile(rb'((?:[^"#]|"(?:[^"\\]|\\.)*")*)# (part of )?(\S+) (.*)')
 
-# No setting of whoever runs this takes part.
+# Another repository that was named for git takes no part; nor does a setting of whoever runs this, where a repository is made.
+HERE = {name: value for name, value in os.environ.items() if not name.startswith("GIT_")}
 PLAIN = {
-    **os.environ,
+    **HERE,
     "GIT_CONFIG_GLOBAL": os.devnull,
     "GIT_CONFIG_NOSYSTEM": "1",
     **{f"GIT_{who}_{what}": value for who in ("AUTHOR", "COMMITTER") for what, value in [("NAME", "x"), ("EMAIL", "x@localhost")]},
 }
 
 
-def git(folder, *words):
+def git(folder, *words, env=None):
     """What git writes, or nothing where it fails."""
-    done = subprocess.run(["git", "--literal-pathspecs", "-C", folder, *words], capture_output=True, check=False, env=PLAIN)
+    done = subprocess.run(["git", "--literal-pathspecs", "-C", folder, *words], capture_output=True, check=False, env=env or HERE)
     return done.stdout if done.returncode == 0 else None
 
 
@@ -55,7 +56,7 @@ class Repository:
         self.git("checkout", "-q", "-b", "first")
 
     def git(self, *words):
-        require(git(self.folder, *words) is not None, f"git {words} failed")
+        require(git(self.folder, *words, env=PLAIN) is not None, f"git {words} failed")
 
     def commit(self, text, subject):
         """Commits this text of the file, or its absence."""
@@ -110,7 +111,7 @@ def small_repository(folder):
 
 def script_of(file):
     """The script, or why there is none."""
-    done = subprocess.run([sys.executable, FROM_GIT, file], capture_output=True, check=False)
+    done = subprocess.run([sys.executable, FROM_GIT, file], capture_output=True, check=False, env=HERE)
     return (done.stdout, None) if done.returncode == 0 else (None, done.stderr.decode(errors="replace").strip())
 
 
@@ -129,7 +130,7 @@ def told_commits(script):
 def try_history(program, file, script):
     """Applies a script of a file's history. How many commits it has."""
     folder, name = os.path.split(file)
-    prefix = git(folder, "rev-parse", "--show-prefix").rstrip(b"\n").decode()
+    prefix = (git(folder, "rev-parse", "--show-prefix") or b"").rstrip(b"\n").decode()
     told = told_commits(script)
     with tempfile.TemporaryDirectory() as room:
         image = os.path.join(room, "image")
@@ -149,7 +150,7 @@ def try_history(program, file, script):
             require(git(folder, "show", "-s", "--format=%s", commit) == subject + b"\n", f"revision {k} has another subject")
             require(is_part or texts[k] == (git(folder, "show", f"{commit}:{prefix}{name}") or b""), f"revision {k} is another text than git shows")
     whole = [commit for commit, _, is_part in told[1:] if not is_part]
-    commits = git(folder, "log", "--format=%H", "--", name).decode().split()
+    commits = (git(folder, "log", "--format=%H", "--", name) or b"").decode().split()
     require(sorted(whole) == sorted(commit[:12] for commit in commits), "these are not the commits of the file")
     return len(whole)
 

@@ -45,7 +45,8 @@ def main():
         blocks = list(blocks_of(file.read()))
     with tempfile.TemporaryDirectory() as room, tempfile.TemporaryDirectory() as tools:
         os.symlink(program, os.path.join(tools, "cordkit"))
-        plain = {**os.environ, "PATH": f"{tools}:{os.environ['PATH']}", "GIT_CONFIG_GLOBAL": os.devnull, "GIT_CONFIG_NOSYSTEM": "1"}
+        here = {name: value for name, value in os.environ.items() if not name.startswith("GIT_")}
+        plain = {**here, "PATH": f"{tools}:{here['PATH']}", "GIT_CONFIG_GLOBAL": os.devnull, "GIT_CONFIG_NOSYSTEM": "1"}
         for script, wanted in blocks:
             reason = missing(program, script)
             if reason:
