@@ -18,7 +18,7 @@ PROGRAM = os.path.join(TOP, "crates/cordkit/out/cordkit")
 # As bin/cordkit asks for large pages.
 PAGES = {**os.environ, "GLIBC_TUNABLES": "glibc.malloc.hugetlb=1:glibc.malloc.mmap_threshold=33554432"}
 MOST_REVISIONS, MOST_CHANGES, MEGABYTE = 1 << 20, 4096, 1 << 20
-IMAGES = 10000
+IMAGES = 2000
 
 
 def timed(words, output, **given):
