@@ -490,7 +490,19 @@ def log_fault(room, data, is_own=False):
         return None if (status, again, told) == (1, b"", f"refused E7(N1,{long + 1})\n".encode()) else f"what is too long is answered by {told!r}"
     if (status, told) != (0, b"") or is_own and again != data:
         return f"apply of the log: status {status}, {told!r}, {'the same' if again == data else 'another'} image"
-    return image_fault(room, again, verify.all_texts(image, room.sources), [words_in(image, it) for it in image.revisions]) or brief_fault(room, data, image)
+    return again_fault(room, image, again) or brief_fault(room, data, image)
+
+
+def again_fault(room, image, again):
+    """What is wrong with the image that was made of an image's log, or nothing. Texts that are too long to be made here are compared by their lengths."""
+    commands = [words_in(image, revision) for revision in image.revisions]
+    lengths = [image.length(revision.root) for revision in image.revisions]
+    if max(lengths, default=0) <= LONGEST_MADE:
+        return image_fault(room, again, verify.all_texts(image, room.sources), commands)
+    made_again = verify.checked(again, room.sources)
+    same = commands == [words_in(made_again, revision) for revision in made_again.revisions]
+    same = same and lengths == [made_again.length(revision.root) for revision in made_again.revisions]
+    return None if same else "the image of the log has other commands or lengths"
 
 
 def longest_in(values):
@@ -581,12 +593,13 @@ def typed_lines():
 
 
 def doubled(times):
-    return [b"new", b'insert 0 0 "x"', *(b"join %d %d" % (k, k) for k in range(1, times + 1))]
+    return [b"new", b'insert 0 0 "%s"' % (b"x" * 40), *(b"join %d %d" % (k, k) for k in range(1, times + 1))]
 
 
 def long_scripts():
-    """Long scripts, and what refuses them. A balance makes a node less than it has pieces, and a row a piece: one of 2^21 pieces is too many; of 2^20
-    pieces the sixteenth has too few nodes left, of 2^19 the thirty-second too few rows. A text of 4,096 bytes that go one by one has no node."""
+    """Long scripts, and what refuses them. A text of 40 bytes doubled is one of as many pieces as it was doubled to. A balance makes a node less than it
+    has pieces, and a row a piece: one of 2^21 pieces is too many; of 2^20 pieces the sixteenth has too few nodes left, of 2^19 the thirty-second too few
+    rows. A text of 4,096 bytes that go one by one has no node."""
     typed, _ = typed_lines()
     yield [*typed, b"back 0"], f"refused E5({MOST_REVISIONS + 1})"
     yield [*doubled(21), b"balance 22"], "refused E8(24)"
