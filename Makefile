@@ -1,5 +1,6 @@
 # make try [IMAGE=..]  checks the stored image, or the one that is named, by the program with no proof: a minute; it keeps no program
 # make run       proves and builds the program, and runs it on the stored image
+# make library   proves and builds the C library, and, where there is a C compiler, a shared one of it for Python
 # make check     the merge gate: every proof and test, an edit of each public function that must be refused, and the built program
 # make long      what takes more than a minute and is no proof, over the built program: random images and keys, failing devices, dear refusals
 # make hostile   has the program check images at the format's limits: ten minutes, 5 GB of memory and of disk
@@ -8,21 +9,24 @@
 # make bench     times the program beside the usual tools, on data that it makes
 # make refuse    refuses each allocation of a run in turn, and fails its reads and writes by real devices
 # make crate NAME=.. DEPS=".."  makes the folders and files of a new crate, and its line in crates.txt
-# make callers   builds the C library and its callers in C, Rust and Python, and compares their answers
-# make wasm      builds the C library as WebAssembly, for examples/check.html, and tries it in node, where that is installed
+# make callers IMAGES=2100  builds the C library and its callers in C, Rust and Python, and compares their answers with each other and the program's
+# make wasm      builds the C library as WebAssembly, for examples/check.html, and tries it in node and in chromium, where these are installed
 # make memcheck  runs the tests of ropes under valgrind's memcheck, where it is installed
-# make install PREFIX=/usr/local [DESTDIR=..] [PROGRAM=..]  installs the program that `make run` built, or another, with scripts, man pages and completions
+# make install PREFIX=/usr/local [DESTDIR=..] [PROGRAM=..] [LIBRARY=..]  installs the program that `make run` built, or another, with scripts, man pages
+#                and completions, and the C library, its header and the Python module, where `make library` built them
 # make uninstall PREFIX=/usr/local [DESTDIR=..]  takes away what make install put there
-# make deb       makes a package for Debian of the program that `make run` built, or of PROGRAM=.., in the folder out
-# make installed tries all three in folders of their own, over the built program or PROGRAM=..
+# make deb       makes a package for Debian of what `make run` and `make library` built, or of PROGRAM=.. and LIBRARY=.., in the folder out
+# make installed tries all three in folders of their own, over what is built, or PROGRAM=.. and LIBRARY=..
 
-.PHONY: try run check long hostile fuzz audit bench refuse callers wasm memcheck crate install uninstall deb installed
+.PHONY: try run library check long hostile fuzz audit bench refuse callers wasm memcheck crate install uninstall deb installed
 
 IMAGE = crates/cordkit/stdin
 MINUTES = 10
 PREFIX = /usr/local
 DESTDIR =
 PROGRAM = crates/cordkit/out/cordkit
+LIBRARY = crates/cord_c/out/libcord_c.a
+IMAGES = 2100
 
 try:
 	(cd crates/cordkit && rt try) < "$(IMAGE)"
@@ -30,8 +34,11 @@ try:
 run:
 	cd crates/cordkit && rt run < stdin
 
+library:
+	cd crates/cord_c && rt lib && sh shared.sh
+
 check:
-	rt ci && sh tests/program.sh && sh tests/program.sh bin/cordkit launcher && sh tests/slice.sh && $(MAKE) installed
+	rt ci && $(MAKE) library && sh tests/program.sh && sh tests/program.sh bin/cordkit launcher && sh tests/slice.sh && $(MAKE) installed
 
 long:
 	sh tests/long.sh
@@ -58,8 +65,8 @@ bench:
 refuse:
 	sh bench/refuse.sh
 
-callers:
-	cd crates/cord_c && rt lib && sh callers/run.sh
+callers: library
+	sh crates/cord_c/callers/run.sh $(IMAGES) "$(PROGRAM)"
 
 wasm:
 	sh crates/cord_c/wasm.sh
@@ -68,16 +75,16 @@ memcheck:
 	sh tests/memcheck.sh
 
 install:
-	sh packaging/install.sh install "$(DESTDIR)$(PREFIX)" "$(PROGRAM)"
+	sh packaging/install.sh install "$(DESTDIR)$(PREFIX)" "$(PROGRAM)" "$(LIBRARY)"
 
 uninstall:
 	sh packaging/install.sh uninstall "$(DESTDIR)$(PREFIX)"
 
 deb:
-	sh packaging/deb.sh "$(PROGRAM)"
+	sh packaging/deb.sh "$(PROGRAM)" out "$(LIBRARY)"
 
 installed:
-	sh tests/install.sh "$(PROGRAM)" && sh tests/deb.sh "$(PROGRAM)"
+	sh tests/install.sh "$(PROGRAM)" launcher "$(LIBRARY)" && sh tests/deb.sh "$(PROGRAM)" "$(LIBRARY)"
 
 crate:
 	@sh tests/new_crate.sh "$(NAME)" $(DEPS)

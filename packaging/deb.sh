@@ -1,11 +1,13 @@
 #!/bin/sh
-# deb.sh [PROGRAM [FOLDER]]: makes a package for Debian, by dpkg-deb, of the program that `make run` built or of PROGRAM, with what make install puts
-# beside it. The package, cordkit_VERSION_ARCHITECTURE.deb, comes into the folder out, or FOLDER, and its path is printed. The version is that of
-# CHANGELOG.md. Its times are those of the last commit, or of CHANGELOG.md where there is no git, so that a package made twice is the same.
+# deb.sh [PROGRAM [FOLDER [LIBRARY]]]: makes a package for Debian, by dpkg-deb, of the program that `make run` built or of PROGRAM, with what make
+# install puts beside it, the C library among it where that is built. The package, cordkit_VERSION_ARCHITECTURE.deb, comes into the folder out, or
+# FOLDER, and its path is printed. The version is that of CHANGELOG.md. Its times are those of the last commit, or of CHANGELOG.md where there is no
+# git, so that a package made twice is the same.
 set -eu
 umask 022
 program=${1:-}
 folder=${2:-}
+library=${3:-}
 case $program in
 "" | /*) ;;
 *) program=$PWD/$program ;;
@@ -13,6 +15,10 @@ esac
 case $folder in
 "" | /*) ;;
 *) folder=$PWD/$folder ;;
+esac
+case $library in
+"" | /*) ;;
+*) library=$PWD/$library ;;
 esac
 cd "$(dirname "$0")/.."
 folder=${folder:-out}
@@ -23,13 +29,23 @@ if ! command -v dpkg-deb > /dev/null; then
     echo "there is no dpkg-deb here" >&2
     exit 1
 fi
-sh packaging/install.sh install "$room/package/usr" "$program"
+sh packaging/install.sh install "$room/package/usr" "$program" "$library" >&2
 rm "$room/package/usr/lib/cordkit/folders"
 
 # Debian's zsh looks for the completions of packages in a folder of its own.
 mv "$room/package/usr/share/zsh/site-functions" "$room/package/usr/share/zsh/vendor-completions"
 
-version=$(sed -n 's/^## \([0-9.]*\) (unreleased)$/\1~unreleased/p; s/^## \([0-9.]*\) .*/\1/p' CHANGELOG.md | head -n 1)
+# And its python for modules. What python keeps beside one is taken away with it.
+mkdir -p "$room/package/DEBIAN"
+if [ -d "$room/package/usr/lib/cordkit/python" ]; then
+    mkdir -p "$room/package/usr/lib/python3/dist-packages"
+    mv "$room/package/usr/lib/cordkit/python/cordkit" "$room/package/usr/lib/python3/dist-packages/cordkit"
+    rmdir "$room/package/usr/lib/cordkit/python"
+    printf '#!/bin/sh\nset -e\nrm -rf "$DPKG_ROOT/usr/lib/python3/dist-packages/cordkit/__pycache__"\n' > "$room/package/DEBIAN/prerm"
+    chmod 755 "$room/package/DEBIAN/prerm"
+fi
+
+version=$(sh packaging/version.sh)
 architecture=$(dpkg --print-architecture)
 : "${SOURCE_DATE_EPOCH=$(git log -1 --format=%ct 2> /dev/null || stat -c %Y CHANGELOG.md)}"
 export SOURCE_DATE_EPOCH
@@ -40,7 +56,7 @@ mkdir "$room/debian"
 needed=$(cd "$room" && dpkg-shlibdeps -O package/usr/lib/cordkit/cordkit 2> /dev/null | sed -n 's/^shlibs:Depends=//p' || true)
 
 documents=$room/package/usr/share/doc/cordkit
-mkdir -p "$documents" "$room/package/DEBIAN"
+mkdir -p "$documents"
 cp CHANGELOG.md "$documents/changelog"
 cp LICENSE "$documents/copyright"
 find "$room/package/usr/share/man" "$documents/changelog" -type f -exec gzip -9n {} +
@@ -61,7 +77,7 @@ find "$room/package/usr/share/man" "$documents/changelog" -type f -exec gzip -9n
     echo " that made them, and rows that show that each text is what its command gives."
     echo " So it can be checked, and trusted, without the editor that wrote it. The"
     echo " program is proved. An editor for the terminal and a second checker, in python,"
-    echo " come with it."
+    echo " come with it, and the checker as a library for C and for python."
 } > "$room/package/DEBIAN/control"
 (cd "$room/package" && find usr -type f | sort | xargs md5sum) > "$room/package/DEBIAN/md5sums"
 mkdir -p "$folder"

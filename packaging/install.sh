@@ -1,15 +1,17 @@
 #!/bin/sh
-# install.sh install|uninstall ROOT [PROGRAM]: puts cordkit and what belongs to it below the folder ROOT, or takes it away from there. PROGRAM
-# is the program, where it is not the one that `make run` built. Each folder that install had to make is noted in lib/cordkit/folders, so that
-# uninstall leaves none of them, and takes away none of anybody else's.
+# install.sh install|uninstall ROOT [PROGRAM [LIBRARY]]: puts cordkit and what belongs to it below the folder ROOT, or takes it away from there.
+# PROGRAM is the program, where it is not the one that `make run` built, and LIBRARY the C library, where it is not the one that `make library`
+# built; where there is none, that is told, and all else is installed. Each folder that install had to make is noted in lib/cordkit/folders, so
+# that uninstall leaves none of them, and takes away none of anybody else's.
 set -eu
 umask 022
 task=${1:-}
 root=${2:-}
 program=${3:-}
+library=${4:-}
 
 usage() {
-    echo "usage: install.sh install|uninstall ROOT [PROGRAM]" >&2
+    echo "usage: install.sh install|uninstall ROOT [PROGRAM [LIBRARY]]" >&2
     exit 2
 }
 
@@ -24,8 +26,14 @@ case $program in
 "" | /*) ;;
 *) program=$PWD/$program ;;
 esac
+case $library in
+"" | /*) ;;
+*) library=$PWD/$library ;;
+esac
 cd "$(dirname "$0")/.."
 program=${program:-crates/cordkit/out/cordkit}
+library=${library:-crates/cord_c/out/libcord_c.a}
+shared=${library%.a}.so
 noted=$root/lib/cordkit/folders
 
 # Each file: its mode, its place below the root, and where it stands here.
@@ -45,6 +53,23 @@ files="755 lib/cordkit/cordkit $program
 644 share/fish/vendor_completions.d/cordkit-verify.fish completions/cordkit-verify.fish
 644 share/cordkit/magic packaging/magic"
 
+# Those of the C library, and those of the Python module, which loads it.
+c_files="644 lib/libcord_c.a $library
+644 include/cord.h crates/cord_c/cord.h
+644 lib/pkgconfig/cordkit.pc packaging/cordkit.pc"
+python_files="644 lib/cordkit/python/cordkit/__init__.py crates/cord_c/callers/cordkit.py
+644 lib/cordkit/python/cordkit/libcord_c.so $shared"
+
+# Adds the files that need a library, or tells that it is not there.
+add() {
+    if [ -f "$2" ]; then
+        files="$files
+$3"
+    else
+        echo "LEFT OUT: $1: there is no $2: make library builds it"
+    fi
+}
+
 # Makes a folder below the root, with those above it, and tells each that was not there, the upper one first.
 make_folder() {
     if ! [ -d "$root/$1" ]; then
@@ -61,6 +86,8 @@ put_all() {
         echo "there is no program $program: make run builds it" >&2
         exit 1
     fi
+    add 'the C library' "$library" "$c_files"
+    add 'the Python module' "$shared" "$python_files"
     made=$(printf '%s\n' "$files" | while read -r mode place source; do make_folder "$(dirname "$place")"; done)
     if [ -n "$made" ]; then
         echo "$made" >> "$noted"
@@ -68,6 +95,10 @@ put_all() {
     printf '%s\n' "$files" | while read -r mode place source; do
         install -m "$mode" "$source" "$root/$place"
     done
+    if [ -f "$library" ]; then
+        version=$(sh packaging/version.sh)
+        sed "s/@version@/${version%~*}/" packaging/cordkit.pc > "$root/lib/pkgconfig/cordkit.pc"
+    fi
 }
 
 # A folder that something else came to lie in stays.
@@ -76,9 +107,10 @@ take_all_away() {
     if [ -f "$noted" ]; then
         made=$(sed '1!G; h; $!d' "$noted")
     fi
-    printf '%s\n' "$files" | while read -r mode place source; do
+    printf '%s\n' "$files" "$c_files" "$python_files" | while read -r mode place source; do
         rm -f "$root/$place"
     done
+    rm -rf "$root/lib/cordkit/python/cordkit/__pycache__"
     rm -f "$noted"
     echo "$made" | while read -r folder; do
         case $folder in

@@ -1,13 +1,18 @@
 #!/bin/sh
-# Makes the package for Debian twice, of the built program or of the one that $1 names, and tries it: dpkg installs it into a folder of its own, the
-# launcher's rows of tests/program.sh run there, and dpkg takes it away again. What cannot be tried here is told. The last line is
-# 'N passed, M failed'; the status is not 0 where a case failed.
+# Makes the package for Debian twice, of the built program or of the one that $1 names, and of the C library or that of $2, and tries it: dpkg installs
+# it into a folder of its own, the launcher's rows of tests/program.sh and the Python module run there, and dpkg takes it away again. What cannot be
+# tried here is told. The last line is 'N passed, M failed'; the status is not 0 where a case failed.
 set -u
 top=$(cd "$(dirname "$0")/.." && pwd)
 program=${1:-$top/crates/cordkit/out/cordkit}
+library=${2:-$top/crates/cord_c/out/libcord_c.a}
 case $program in
 /*) ;;
 *) program=$PWD/$program ;;
+esac
+case $library in
+/*) ;;
+*) library=$PWD/$library ;;
 esac
 PATH=$PATH:/usr/sbin:/sbin
 for tool in dpkg dpkg-deb; do
@@ -43,7 +48,7 @@ is_same() {
 as_root=
 [ "$(id -u)" = 0 ] || as_root=fakeroot
 in_folder() {
-    $as_root dpkg --root="$room/root" --force-depends "$@" > "$room/told" 2>&1 || cat "$room/told"
+    $as_root dpkg --root="$room/root" --force-depends --force-script-chrootless "$@" > "$room/told" 2>&1 || cat "$room/told"
 }
 
 # What lies in the folder, but what dpkg keeps there.
@@ -60,12 +65,18 @@ try_package() {
     is_same 'it runs' "$("$room/root/usr/bin/cordkit" check "$top/crates/cordkit/stdin")" "$(cat "$top/crates/cordkit/stdout")"
     rows=$(sh "$top/tests/program.sh" "$room/root/usr/bin/cordkit" launcher)
     is_same 'the rows of the program' "$(echo "$rows" | sed 's/^[1-9][0-9]* passed/some passed/')" 'some passed, 0 failed'
+    if [ -d "$room/root/usr/lib/python3/dist-packages/cordkit" ] && command -v python3 > /dev/null; then
+        is_same 'python loads its module' "$(PYTHONPATH=$room/root/usr/lib/python3/dist-packages python3 -c \
+            'import cordkit, sys; print(cordkit.check(cordkit.read(sys.argv[1])))' "$top/crates/cordkit/stdin")" "$(cat "$top/crates/cordkit/stdout")"
+    else
+        echo "LEFT OUT: the package's Python module: it has none, or there is no python3 here"
+    fi
     in_folder -r cordkit
     is_same 'nothing of it is left' "$(left)" '. ./var ./var/lib '
 }
 
-package=$(sh "$top/packaging/deb.sh" "$program" "$room") || exit 1
-again=$(sh "$top/packaging/deb.sh" "$program" "$room/again") || exit 1
+package=$(sh "$top/packaging/deb.sh" "$program" "$room" "$library") || exit 1
+again=$(sh "$top/packaging/deb.sh" "$program" "$room/again" "$library" 2> /dev/null) || exit 1
 is_same 'made twice, it is the same' "$(sha256sum < "$package")" "$(sha256sum < "$again")"
 version=$(dpkg-deb -f "$package" Version)
 is_same 'its version is that of CHANGELOG.md' "$(grep -c "^## ${version%~unreleased} (" "$top/CHANGELOG.md")" 1

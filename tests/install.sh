@@ -1,15 +1,20 @@
 #!/bin/sh
 # Installs the built program, or the one that $1 names, with what belongs to it into folders of its own, and tries what lies there: the launcher,
-# on the rows of tests/program.sh that are for it, or on all of them where $2 is `all`; every example of the manual pages; the manual pages, the
-# completions and the magic, each by its own tool; and that uninstall leaves nothing. What cannot be tried here is told. The last line is
-# 'N passed, M failed'; the status is not 0 where a case failed.
+# on the rows of tests/program.sh that are for it, or on all of them where $2 is `all`; the C library, or that of $3, and the Python module, by the
+# programs of docs/C_LIBRARY.md; every example of the manual pages; the manual pages, the completions and the magic, each by its own tool; and that
+# uninstall leaves nothing. What cannot be tried here is told. The last line is 'N passed, M failed'; the status is not 0 where a case failed.
 set -u
 top=$(cd "$(dirname "$0")/.." && pwd)
 program=${1:-$top/crates/cordkit/out/cordkit}
 cases=${2:-launcher}
+library=${3:-$top/crates/cord_c/out/libcord_c.a}
 case $program in
 /*) ;;
 *) program=$PWD/$program ;;
+esac
+case $library in
+/*) ;;
+*) library=$PWD/$library ;;
 esac
 if ! [ -x "$program" ]; then
     echo "there is no program $program" >&2
@@ -64,7 +69,7 @@ has_terminal() {
 }
 
 make_it() {
-    make -s -C "$top" "$@" > "$room/made" 2>&1
+    make -s -C "$top" LIBRARY="$library" "$@" > "$room/made" 2>&1
 }
 
 # What lies below a folder, if there is one.
@@ -76,13 +81,9 @@ below() {
 
 # ---- Installing and taking away
 
-try_installing() {
-    make_it install PREFIX="$room/none" PROGRAM="$room/missing"
-    is_same 'without a program it is told how to build one' \
-        "$(grep -c 'there is no program .*: make run builds it' "$room/made") $(below "$room/none")" '1 '
-    make_it install PREFIX="$prefix" PROGRAM="$program" || cat "$room/made"
-    is_same 'the installed program' "$(sha256sum < "$prefix/lib/cordkit/cordkit")" "$(sha256sum < "$program")"
-    is_same 'the installed files' "$(cd "$prefix" && find . -type f -printf '%m %P\n' | sort)" '644 lib/cordkit/folders
+# Each file that has to be there, with its mode.
+wanted_files() {
+    echo '644 lib/cordkit/folders
 644 share/bash-completion/completions/cordedit
 644 share/bash-completion/completions/cordkit
 644 share/bash-completion/completions/cordkit-verify
@@ -98,6 +99,25 @@ try_installing() {
 755 bin/cordkit
 755 bin/cordkit-verify
 755 lib/cordkit/cordkit'
+    if [ -f "$library" ]; then
+        echo '644 include/cord.h
+644 lib/libcord_c.a
+644 lib/pkgconfig/cordkit.pc'
+    fi
+    if [ -f "${library%.a}.so" ]; then
+        echo '644 lib/cordkit/python/cordkit/__init__.py
+644 lib/cordkit/python/cordkit/libcord_c.so'
+    fi
+}
+
+try_installing() {
+    make_it install PREFIX="$room/none" PROGRAM="$room/missing"
+    is_same 'without a program it is told how to build one' \
+        "$(grep -c 'there is no program .*: make run builds it' "$room/made") $(below "$room/none")" '1 '
+    make_it install PREFIX="$prefix" PROGRAM="$program" || cat "$room/made"
+    is_same 'the installed program' "$(sha256sum < "$prefix/lib/cordkit/cordkit")" "$(sha256sum < "$program")"
+    grep 'LEFT OUT' "$room/made"
+    is_same 'the installed files' "$(cd "$prefix" && find . -type f -printf '%m %P\n' | sort)" "$(wanted_files | sort)"
     make_it install DESTDIR="$room/stage" PREFIX=/usr PROGRAM="$program" || cat "$room/made"
     is_same 'a staged installation has the same files' "$(below "$room/stage/usr")" "$(below "$prefix")"
     make_it uninstall DESTDIR="$room/stage" PREFIX=/usr
@@ -137,6 +157,44 @@ try_programs() {
     if has python3 'the second checker'; then
         is_same 'the second checker' "$("$prefix/bin/cordkit-verify" "$top/crates/cordkit/stdin")" "$(cat "$top/crates/cordkit/stdout")"
     fi
+}
+
+# ---- The C library, and the Python module
+
+# Block number $2 of a language in docs/C_LIBRARY.md, as it stands.
+block_of() {
+    awk -v language="$1" -v wanted="$2" '
+        /^```/ && on { on = 0; next }
+        $0 == "```" language { on = ++n == wanted }
+        on && !/^```/' "$top/docs/C_LIBRARY.md"
+}
+
+try_c_library() {
+    has gcc 'the installed C library' && has pkg-config 'the installed C library' || return
+    export PKG_CONFIG_PATH="$prefix/lib/pkgconfig"
+    is_same 'the version of the C library' "$(pkg-config --modversion cordkit)" "$(sed -n 's/^## \([0-9.]*\) (.*/\1/p' "$top/CHANGELOG.md" | head -n 1)"
+    block_of c 1 > show.c
+    if eval "gcc -std=c11 -Wall -Wextra -pedantic -Werror -o show show.c $(pkg-config --cflags --libs cordkit)" > log 2>&1; then
+        is_same 'the program in C' "$(./show < fox.cord)" 'the brown fox'
+        is_same 'the program in C of no image' "$(./show < script) $?" 'refused C1 1'
+    else
+        fails "the program in C: $(cat log)"
+    fi
+}
+
+try_python_module() {
+    has python3 'the installed Python module' || return
+    block_of python 1 > show.py
+    is_same 'the program in Python' "$(PYTHONPATH="$prefix/lib/cordkit/python" python3 show.py fox.cord 2>&1)" "$(block_of text 1)"
+}
+
+try_library() {
+    mkdir "$room/library"
+    cd "$room/library" || exit 1
+    printf 'new\ninsert 0 0 "the fox"\ninsert 1 4 "brown "\n' > script
+    "$prefix/bin/cordkit" apply script > fox.cord
+    if [ -f "$library" ]; then try_c_library; fi
+    if [ -f "${library%.a}.so" ]; then try_python_module; fi
 }
 
 # The commands that the program's help names.
@@ -319,6 +377,7 @@ try_magic() {
 try_installing
 try_shared_prefix
 try_programs
+try_library
 try_pages
 make_completions
 if has bash 'the completions of bash'; then try_bash; fi

@@ -1,17 +1,21 @@
-/* The proved checker of session images (cordkit), for C, for C++, and for whatever can call C.
+/* cord.h: the proved checker of session images (cordkit) as a library for C, for C++, and for whatever can call C.
  *
- * What a caller has to see to, since no proof can:
- * - A pointer is not null, also where its count is 0 (cord_nothing serves), and leads to as many elements as are said.
- * - What a pointer to non-const leads to overlaps nothing else that is passed, and nobody else touches it during the call.
- * - A struct cord_image is CORD_IMAGE_NONE, or what cord_open put there, or a copy of that; and the image's bytes stay where and as
- *   they are for as long as it is used.
+ * A caller sees to three things, which no proof can:
+ * 1. A pointer is not null, has its type's alignment, and leads to as many elements as are said; so does one inside a struct. Where the
+ *    count is 0, cord_nothing and cord_no_sources serve.
+ * 2. During a call nobody else writes what a pointer leads to, be it another thread or, where a file is mapped, another program; and what
+ *    a pointer to non-const leads to overlaps nothing else that is passed, and nobody else reads it.
+ * 3. A struct cord_image is CORD_IMAGE_NONE, or what cord_open put there, or a copy of that, also where it is handed to cord_open; and the
+ *    image's bytes stay where and as they are for as long as it is used.
+ * Nothing else is asked: the bytes of images and sources, and all numbers, may be any. What stands where an answer is to be written may be
+ * anything, but in a struct cord_image.
  *
- * No call takes memory, keeps anything, blocks, or writes elsewhere than is said. Any number may run at once, on any threads. Nothing
- * is to be closed. The library wants memcpy, memmove and memset, and no other symbol.
+ * No call takes memory, keeps anything, blocks, or writes elsewhere than is said. Any number may run at once, on any threads. Nothing is
+ * to be closed. The library wants memcpy, memmove and memset, and no other symbol.
  *
- * Proved is what stands below as the answer of each call, for all bytes, sources and numbers: the contracts stand at the functions in
- * src/, in words of specs/. Not proved: that these declarations are those functions' and their layouts (the callers' tests compare
- * them by running), and that a caller keeps the three rules. Codes are those of docs/FORMAT.md. */
+ * Proved of each call is what stands below as its answer, for all that it may be handed, and that it ends, and reads and writes only where
+ * it may: the contracts stand at the functions in src/, in words of specs/. Tested, not proved: that these declarations are those
+ * functions', with their layouts; what a call's comment says is tested. Neither: how long a call takes. */
 #ifndef CORD_H
 #define CORD_H
 
@@ -23,90 +27,138 @@
 extern "C" {
 #endif
 
-/* What a pointer to no bytes may lead to. */
-static const uint8_t cord_nothing[1] = {0};
+/* ---- Sources */
 
-/* A source of a session: the bytes that are held of it, from its first on, and how many it has in all. Where none are held, give
- * cord_nothing and 0: an image that a session wrote is checked, and located in, without a byte of its sources. */
+/* A source of a session, mostly a file: the bytes that are held of it, from its first on, and how many it has in all. Of a source that is
+ * not held, give cord_nothing, 0 and its length: an image that a session wrote is checked, and located in, without a byte of its sources.
+ * What is held behind its length is not looked at. */
 struct cord_source {
     const uint8_t *bytes;
     size_t held;
     uint64_t size;
 };
 
-/* What a check answers. */
+/* What a pointer to no bytes may lead to, and one to no sources. */
+static const uint8_t cord_nothing[1] = {0};
+static const struct cord_source cord_no_sources[1] = {{cord_nothing, 0, 0}};
+
+/* ---- Checking an image */
+
+/* What a check answers: an image is accepted, by code 0, and counted; or it has a first fault, in this order of codes.
+ *   13  the sources cannot be a session's: kind 4, there are more than 255; 5, one has more than 2^40 - 1 bytes
+ *   1   the bytes are no image: kind 1, too few; 2, too many; 3, the first eight; 4, the version; 5, a count or a length; 6, an unused
+ *       field that is not 0; 7, an unknown code
+ *   2   the image has more or fewer sources
+ *   3   source `number` is not as long as the image says
+ *   4   node `number` has no such child or source; 5: another length; 6: another depth; 7: a span that lies outside
+ *   8   the command of revision `number` is out of range; 9: its root is none, or has another length; 10: it is not balanced
+ *   11  the rows of revision `number` do not show that its root has its text: the first such row is `row`
+ *   12  a row compares bytes of a source that are not held (kind 2)
+ * Nodes go before revisions, and one node or revision before the next. Fields that nothing is said of are 0. `cordkit check` prints such a
+ * verdict as C1(I3), C5(7), C11(2,5) or S4; docs/FORMAT.md and cord-image(5) tell each exactly. */
 struct cord_verdict {
-    uint32_t code;      /* 0: accepted. 1 to 12: the first fault is C1 to C12. 13: the sources are none: S4 or S5 */
-    uint32_t kind;      /* of C1 which of I1 to I7; of C12 which of S1 to S3, 2 being bytes that are not held; of 13: 4 or 5; else 0 */
-    uint32_t number;    /* the source of C3, the node of C4 to C7, the revision of C8 to C11; else 0 */
-    uint32_t revisions; /* of an accepted image; else 0 */
+    uint32_t code;
+    uint32_t kind;
+    uint32_t number;
+    uint32_t revisions; /* of an accepted image: how many revisions, nodes and rows it has */
     uint32_t nodes;
     uint32_t rows;
-    uint64_t row;       /* the row of C11; else 0 */
+    uint64_t row;
 };
 
-/* An image that was accepted: its bytes, which it borrows. */
+/* Whether the image is accepted with these sources.
+ *   true:  *verdict counts it. The bytes spell an image of just such sources; each revision's text is what the commands give of them; each
+ *          recorded length, depth, reference and mark is right. So it is however the sources go on behind the bytes that are held.
+ *   false: *verdict names the first fault.
+ * What keeps the rules is accepted where all bytes of the sources are held, and where no row compares bytes of a source also where none
+ * are. So with all held, false says that the image breaks a rule with these sources. Proved: all of this. */
+bool cord_check(const uint8_t *image, size_t image_len, const struct cord_source *sources, size_t source_count,
+                struct cord_verdict *verdict);
+
+/* What such a check may cost, told by the image's counts and rows before any node is looked at: a stranger's image of 100,000 bytes can
+ * ask for two billion looks at nodes.
+ *   true:  *bound is how many looks it takes at most.
+ *   false: the bytes are no image, and *bound stays; a check answers code 1 of them, or 13.
+ * Proved: all of this; that a check takes no more looks is proved of the call beneath (check_counted of session_checker). Measured: a look
+ * takes some nanoseconds. */
+bool cord_looks_bound(const uint8_t *image, size_t image_len, uint64_t *bound);
+
+/* ---- Asking an image that was accepted */
+
+/* An image that was accepted: its bytes, which it borrows. It may be copied, and is not closed. */
 struct cord_image {
     const uint8_t *bytes;
     size_t len;
 };
 
-/* An image with no revisions. */
+/* An image with no revisions, for a struct cord_image to begin with: struct cord_image image = CORD_IMAGE_NONE; */
 static const uint8_t cord_no_revisions[40] = {'C', 'O', 'R', 'D', 'S', 'E', 'S', 'S', 0, 0, 0, 1};
 #define CORD_IMAGE_NONE {cord_no_revisions, sizeof cord_no_revisions}
 
-/* A piece of a text that stands in one place. */
-struct cord_run {
-    uint32_t kind;        /* 1: in the image's pool. 2: in a source. 3: it is what a function answers */
-    uint32_t source;      /* the source, of kind 2; else 0 */
-    uint32_t function;    /* of kind 3: 1 a fill, 2 a ramp, 3 a cycle; else 0 */
-    uint32_t pattern_len; /* how many bytes the pattern has, of kind 3; else 0 */
-    uint64_t start;       /* the place of its first byte in the pool, in the source, or in the cycle's pattern; else 0 */
-    uint64_t len;         /* how many bytes it has, 1 or more */
-    uint8_t pattern[16];  /* of kind 3; else zeros. Its byte j is pattern[0] of a fill, pattern[0] + j modulo 256 of a ramp, and
-                             pattern[(start + j) % pattern_len] of a cycle */
-};
-
-/* Whether the image is accepted with these sources; the verdict says how large it is, or names its first fault.
- *   true:  the bytes spell an image of just such sources; each revision's text is what the commands give of them; each recorded
- *          length, depth, reference and mark is right.
- *   false: the verdict is the first fault in the order of docs/FORMAT.md; C12 where a row compares bytes of a source that are not held.
- * What keeps the rules is accepted where all bytes of the sources are held, and where no row compares bytes of a source also where
- * none are. */
-bool cord_check(const uint8_t *image, size_t image_len, const struct cord_source *sources, size_t source_count,
-                struct cord_verdict *verdict);
-
-/* How many looks at nodes such a check takes at most, told before any: some nanoseconds each. An image of 100,000 bytes can ask for
- * two billion. false: the bytes are no image (C1), and *bound stays. */
-bool cord_looks_bound(const uint8_t *image, size_t image_len, uint64_t *bound);
-
-/* As cord_check, and an accepted image is put into *opened; else *opened stays. */
+/* As cord_check, with the same answer and verdict.
+ *   true:  *opened is the image.
+ *   false: *opened stays.
+ * *opened is an image before the call too: CORD_IMAGE_NONE, or an earlier one, which need not be closed. Proved: all of this. */
 bool cord_open(const uint8_t *image, size_t image_len, const struct cord_source *sources, size_t source_count,
                struct cord_image *opened, struct cord_verdict *verdict);
 
-/* How many revisions, nodes and rows it has. */
+/* How many revisions, nodes and rows it has: the verdict that accepted it. Proved: all of this. */
 void cord_counts(const struct cord_image *image, struct cord_verdict *counts);
 
-/* The length of the text of a revision. false: there is no such revision, and *len stays. */
+/* How long the text of a revision is; revisions are counted from 0.
+ *   true:  *len is its length.
+ *   false: there is no such revision, and *len stays.
+ * Proved: all of this. */
 bool cord_text_len(const struct cord_image *image, uint32_t revision, uint64_t *len);
 
 /* What cord_fetch and cord_read answer. */
 #define CORD_READ 0u     /* the bytes are there */
 #define CORD_NO_PLACE 1u /* there is no such place, or no such revision */
-#define CORD_NOT_HELD 2u /* they are of a source that does not hold them, or the sources are none */
+#define CORD_NOT_HELD 2u /* they are of a source that does not hold them; or the sources cannot be a session's (code 13 of a verdict) */
 
-/* The byte at a place of that text. CORD_READ: it is *byte; the others: *byte stays. It is never CORD_NOT_HELD where the byte is none
- * of a source, nor where all bytes of the sources are held. */
+/* The byte at a place of the text of a revision; places are counted from 0. The sources may be others than those of the check: the text is
+ * what the commands give of the ones that are handed in here.
+ *   CORD_READ:     it is *byte.
+ *   CORD_NO_PLACE: place is the text's length or more, or there is no such revision; *byte stays.
+ *   CORD_NOT_HELD: *byte stays. It is never answered of a byte that no source has, nor where all bytes of the sources are held, and they are
+ *                  as many and as long as those of the check.
+ * Proved: all of this. */
 uint32_t cord_fetch(const struct cord_image *image, const struct cord_source *sources, size_t source_count, uint32_t revision,
                     uint64_t place, uint8_t *byte);
 
-/* Where the byte at a place of that text stands, and how many of the text follow it there: all up to the end of the span of its leaf.
- * It needs no source. false: there is no such place or revision, and *run stays. */
+/* What a run is of, and which function it is. */
+#define CORD_POOL 1u     /* bytes that were typed, from the image's pool */
+#define CORD_SOURCE 2u   /* bytes of a source */
+#define CORD_FUNCTION 3u /* what a function gives */
+#define CORD_FILL 1u     /* its byte j is pattern[0] */
+#define CORD_RAMP 2u     /* (pattern[0] + start + j) % 256 */
+#define CORD_CYCLE 3u    /* pattern[(start + j) % pattern_len] */
+
+/* A piece of a text that stands in one place. */
+struct cord_run {
+    uint32_t kind;        /* CORD_POOL, CORD_SOURCE or CORD_FUNCTION */
+    uint32_t source;      /* which source; of another kind 0 */
+    uint32_t function;    /* CORD_FILL, CORD_RAMP or CORD_CYCLE; of another kind 0 */
+    uint32_t pattern_len; /* how many bytes the function's pattern has, 1 to 16; of another kind 0 */
+    uint64_t start;       /* the place of its first byte in the pool, in the source, or in what the function gives */
+    uint64_t len;         /* how many bytes it has, 1 or more */
+    uint8_t pattern[16];  /* the function's pattern, and zeros */
+};
+
+/* Where the byte at a place of the text of a revision stands, and how many bytes of the text follow it there. It needs no source.
+ *   true:  *run is where: len bytes of the text, from that place on, up to the end of its leaf's span.
+ *   false: place is the text's length or more, or there is no such revision; *run stays.
+ * Proved: all of this; the run has these very bytes, and what is told of a source is of that place of it. Tested: that bytes of the pool are
+ * told by the place of their leaf, where the pool has the same bytes twice or a function gives them too; that the start of a fill and
+ * of a ramp is 0, and that of a cycle inside its pattern. */
 bool cord_locate(const struct cord_image *image, uint32_t revision, uint64_t place, struct cord_run *run);
 
-/* Writes bytes of that text from a place on: as many as cord_locate tells there, or len where that is less; none at the end of the text
- * and past it. CORD_READ: *count were written, and nothing behind them. CORD_NOT_HELD, where cord_fetch may answer it for one of them:
- * *count is 0, and any bytes may stand in out. */
+/* Writes bytes of that text from a place on into out, as read(2) does: as many as cord_locate tells there, or len where that is less; none
+ * at the text's end and past it, and of no revision. A loop that adds up *count until it is 0 reads to the end. Sources are as in cord_fetch.
+ *   CORD_READ:     *count bytes were written, and nothing behind them.
+ *   CORD_NOT_HELD: one of these bytes is of a source that does not hold it: *count is 0, and any bytes may stand in out.
+ * CORD_NOT_HELD is never answered where no source has one of these bytes, nor where all bytes of the sources are held, and they are as many
+ * and as long as those of the check. CORD_NO_PLACE is never answered. Proved: all of this. */
 uint32_t cord_read(const struct cord_image *image, const struct cord_source *sources, size_t source_count, uint32_t revision,
                    uint64_t place, uint8_t *out, size_t len, size_t *count);
 

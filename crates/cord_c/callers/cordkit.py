@@ -1,4 +1,4 @@
-"""Session images in Python, by the proved checker: `libcord_c.so`, beside this file or where CORDKIT_LIBRARY says.
+"""Session images in Python, by the proved checker: `libcord_c.so`, where CORDKIT_LIBRARY says, beside this file, or where `make library` puts it.
 
     import cordkit
     image = cordkit.Image("notes.cord", ["README.md"])   # checked; raises Refused
@@ -52,7 +52,7 @@ class Run(ctypes.Structure):
         """Byte j of a run of a function."""
         if self.function == CYCLE:
             return self._pattern[(self.start + j) % self.pattern_len]
-        return (self._pattern[0] + (j if self.function == RAMP else 0)) % 256
+        return (self._pattern[0] + (self.start + j if self.function == RAMP else 0)) % 256
 
     def __repr__(self) -> str:
         where = {POOL: "pool", SOURCE: f"source {self.source}", FUNCTION: f"function {self.function} {self.pattern!r}"}[self.kind]
@@ -99,9 +99,16 @@ class Command(NamedTuple):
     splices: Tuple[Splice, ...]
 
 
-def _loaded() -> ctypes.CDLL:
+def library_path() -> str:
+    """The library that is loaded."""
     here = os.path.dirname(os.path.abspath(__file__))
-    library = ctypes.CDLL(os.environ.get("CORDKIT_LIBRARY", os.path.join(here, "libcord_c.so")))
+    built = os.path.join(os.path.dirname(here), "out", "libcord_c.so")
+    beside = os.path.join(here, "libcord_c.so")
+    return os.environ.get("CORDKIT_LIBRARY") or (built if os.path.exists(built) and not os.path.exists(beside) else beside)
+
+
+def _loaded() -> ctypes.CDLL:
+    library = ctypes.CDLL(library_path())
     size, u32, u64, pointer = ctypes.c_size_t, ctypes.c_uint32, ctypes.c_uint64, ctypes.c_void_p
     for name, result, words in [
         ("check", ctypes.c_bool, [ctypes.c_char_p, size, pointer, size, pointer]),
