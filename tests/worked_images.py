@@ -57,15 +57,27 @@ RUNS = [
 ]
 
 
-def answers():
-    """Each worked image with its words, its status, and the line."""
+def table():
+    """Each worked image as its table has it: its name, its bytes, its source's name or nothing, the status, and the line."""
     for folder in ("tests/vectors", "tests/vectors/version2"):
         with open(os.path.join(TOP, folder, "answers"), encoding="ascii") as file:
             for answer in file.read().splitlines():
                 image, source, status, line = answer.split(";")
-                with open(os.path.join(TOP, folder, f"{image}.hex"), encoding="ascii") as spelled, open(image, "wb") as written:
-                    written.write(bytes.fromhex(spelled.read()))
-                yield f"{image} {source}".strip(), int(status), f"{line}\n".encode(), b""
+                with open(os.path.join(TOP, folder, f"{image}.hex"), encoding="ascii") as spelled:
+                    yield image, bytes.fromhex(spelled.read()), source, int(status), line
+
+
+def worked():
+    """The bytes, the sources and the line of each."""
+    return [(data, [SOURCES[source]] if source else [], line) for _, data, source, _, line in table()]
+
+
+def answers():
+    """Each worked image with its words, its status, and the line."""
+    for image, data, source, status, line in table():
+        with open(image, "wb") as written:
+            written.write(data)
+        yield f"{image} {source}".strip(), status, f"{line}\n".encode(), b""
 
 
 def is_same(words, status, output, errors):

@@ -1,12 +1,14 @@
 #!/usr/bin/env python3
-"""Compares the library, by cordkit.py, with what has to be answered: the worked images, images that chance makes (tests/made_images.py) and
-damaged ones. Each line is that of the second checker, bin/cordkit-verify; each text of an accepted image is what the commands give on plain
-bytes; each byte is where it is said to stand, up to the end of its leaf's span, and was brought by the revision that it is said to be of.
+"""Compares the library, by cordkit.py, and programs over it, with what has to be answered: the worked images, images that chance makes
+(tests/made_images.py) and damaged ones. Each line is that of the second checker, bin/cordkit-verify; each text of an accepted image is what the
+commands give on plain bytes; each byte is where it is said to stand, up to the end of its leaf's span, and was brought by the revision that it is
+said to be of.
 
-Usage: compare.py [IMAGES [PROGRAM]]: every tenth line, and some texts, are those of the built cordkit too, where PROGRAM names it. The last
-line is 'N passed, M failed'.
+Usage: compare.py [IMAGES [PROGRAM [CHECK SHOW]...]]: the built cordkit, where PROGRAM names it, and each pair of callers, as check_c and show_c, are
+asked for each line, with its status, and for the newest text of each accepted image. The last line is 'N passed, M failed'.
 """
 
+import multiprocessing
 import os
 import random
 import subprocess
@@ -20,35 +22,24 @@ sys.path[:0] = [HERE, os.path.join(TOP, "tests")]
 from second_checker import verify  # noqa: E402
 from damaged_images import damaged, other_sources  # noqa: E402
 from made_images import made  # noqa: E402
+from worked_images import worked  # noqa: E402
 
 import cordkit  # noqa: E402
 
 LONGEST_SHOWN = 1 << 16
+PLACES_OF_A_TEXT = 100
 IMAGES_OF_A_SEED = 21
 
 
-def worked():
-    """The worked images: data, sources, and the line that the table says."""
-    ramp = bytes(k % 256 for k in range(300))
-    files = {"": [], "abc": [b"abc"], "ab": [b"ab"], "ramp": [ramp]}
-    for folder in ("tests/vectors", "tests/vectors/version2"):
-        with open(os.path.join(TOP, folder, "answers"), encoding="ascii") as answers:
-            for answer in answers:
-                name, source, _, line = answer.rstrip("\n").split(";")
-                with open(os.path.join(TOP, folder, name + ".hex"), encoding="ascii") as digits:
-                    yield bytes.fromhex(digits.read()), files[source], line
-
-
-def tried(images):
-    """Images with their sources and the line of the second checker."""
-    for seed in range(-(-images // IMAGES_OF_A_SEED)):
-        chance = random.Random(seed)
-        image = made(chance)
-        sections = image.sections()
-        for k in range(IMAGES_OF_A_SEED):
-            data = b"".join(b"".join(section) for section in sections) if k == 0 else damaged(sections, chance)
-            sources = image.sources if k == 0 or chance.random() < 0.95 else other_sources(image.sources, chance)
-            yield data, sources, verify.line(data, sources)
+def tried(seed):
+    """Images of a seed, one whole and the others damaged: data, sources, and the line of the second checker."""
+    chance = random.Random(seed)
+    image = made(chance)
+    sections = image.sections()
+    for k in range(IMAGES_OF_A_SEED):
+        data = b"".join(b"".join(section) for section in sections) if k == 0 else damaged(sections, chance)
+        sources = image.sources if k == 0 or chance.random() < 0.95 else other_sources(image.sources, chance)
+        yield data, sources, verify.line(data, sources)
 
 
 def brought(image, revision, k, before):
@@ -111,27 +102,30 @@ def run_fault(image, opened, k, place, text, sources):
         is_right = leaf.kind == verify.SOURCE_PART and run.start == leaf.place + start and run.source == leaf.x
     else:
         found = bytes(run.answer(j) for j in range(run.len))
-        is_right = leaf.kind == verify.FUNCTION and run.function == leaf.function
+        is_first = run.start < run.pattern_len if run.function == cordkit.CYCLE else run.start == 0
+        is_right = leaf.kind == verify.FUNCTION and run.function == leaf.function and is_first
     return None if is_right and found == wanted else f"byte {place} of revision {k} is said to stand in {run}"
 
 
-def image_fault(data, sources):
+def texts_of(image, sources):
+    """The texts of an accepted image up to the first that is too long, and the revision that brought each of their bytes."""
+    origins = []
+    for k, revision in enumerate(image.revisions):
+        if image.length(revision.root) > LONGEST_SHOWN:
+            break
+        origins.append(brought(image, revision, k, origins))
+    return verify.all_texts(image._replace(revisions=image.revisions[: len(origins)]), sources), origins
+
+
+def image_fault(image, data, sources, texts, origins):
     """What is wrong with the texts of an accepted image, or nothing."""
-    image = verify.checked(data, sources)
     opened = cordkit.Image(data, sources)
     if opened.revisions != len(image.revisions):
         return f"{opened.revisions} revisions"
-    origins, count = [], 0
-    for revision in image.revisions:
-        if image.length(revision.root) > LONGEST_SHOWN:
-            break
-        origins.append(brought(image, revision, count, origins))
-        count += 1
-    texts = verify.all_texts(image._replace(revisions=image.revisions[:count]), sources)
     for k, text in enumerate(texts):
         if opened.length(k) != len(text) or opened.text(k) != text or opened.text(k, 3, 7) != text[3:10]:
             return f"revision {k} has another text"
-        for place in range(0, len(text), 1 + len(text) // 400):
+        for place in range(0, len(text), 1 + len(text) // PLACES_OF_A_TEXT):
             fault = run_fault(image, opened, k, place, text, sources)
             if fault is None and opened.byte(k, place) != text[place]:
                 fault = f"byte {place} of revision {k} is {opened.byte(k, place)}"
@@ -169,51 +163,67 @@ def looks_fault(data, sources):
     return None if is_told else f"{bound} looks are told and not {line!r}"
 
 
-def program_fault(program, folder, data, sources, line):
-    """Whether the built cordkit answers otherwise, or nothing."""
+def programs_fault(programs, folder, data, sources, line, newest):
+    """Whether a program answers otherwise: for the line, and for the newest text, where there is one that is not too long. Or nothing."""
     names = [os.path.join(folder, name) for name in ["image", *map(str, range(len(sources)))]]
     for name, content in zip(names, [data, *sources]):
         with open(name, "wb") as file:
             file.write(content)
-    ran = subprocess.run([program, "check", *names], capture_output=True, text=True, check=False)
-    if ran.stdout != line + "\n":
-        return f"cordkit prints {ran.stdout!r} and the library {line!r}"
-    if line.startswith("accepted ") and not line.startswith("accepted 0 "):
-        opened = cordkit.Image(data, sources)
-        k = opened.revisions - 1
-        if opened.length(k) <= LONGEST_SHOWN:
-            ran = subprocess.run([program, "show", names[0], str(k), *names[1:]], capture_output=True, check=False)
-            if ran.stdout != opened.text(k):
-                return f"cordkit shows revision {k} as another text"
+    status = 0 if line.startswith("accepted ") else 1
+    for check, show in programs:
+        ran = subprocess.run([*check, *names], capture_output=True, check=False)
+        if ran.stdout != line.encode() + b"\n" or ran.returncode != status:
+            return f"{' '.join(check)} prints {ran.stdout!r} with status {ran.returncode} and not {line!r}"
+        if newest:
+            k, text = newest
+            ran = subprocess.run([*show, names[0], str(k), *names[1:]], capture_output=True, check=False)
+            if ran.stdout != text or ran.returncode != 0:
+                return f"{' '.join(show)} shows revision {k} as another text, with status {ran.returncode}"
     return None
 
 
-def fault_of(data, sources, line, program, folder):
+def fault_of(data, sources, line, programs, folder):
     told = str(cordkit.check(data, sources))
     if told != line:
         return f"{told!r} and not {line!r}"
-    fault = looks_fault(data, sources)
+    fault, newest = looks_fault(data, sources), None
     if fault is None and line.startswith("accepted "):
-        fault = image_fault(data, sources)
-    if fault is None and program:
-        fault = program_fault(program, folder, data, sources, line)
-    return fault
+        image = verify.checked(data, sources)
+        texts, origins = texts_of(image, sources)
+        fault = image_fault(image, data, sources, texts, origins)
+        if texts and len(texts) == len(image.revisions):
+            newest = len(texts) - 1, texts[-1]
+    return fault or programs_fault(programs, folder, data, sources, line, newest)
+
+
+def batch(given):
+    """Of a seed's images, or where it is None of the worked ones: how many there are, how many of them are accepted, and what is wrong."""
+    seed, programs = given
+    count, accepted, faults = 0, 0, []
+    with tempfile.TemporaryDirectory() as folder:
+        for data, sources, line in worked() if seed is None else tried(seed):
+            count, accepted = count + 1, accepted + line.startswith("accepted ")
+            fault = fault_of(data, sources, line, programs, folder)
+            if fault:
+                faults.append(f"image {count - 1} of seed {seed}, {data[:4000].hex()}: {fault}")
+    return count, accepted, faults
 
 
 def main():
     images = int(sys.argv[1]) if len(sys.argv) > 1 else 2100
-    program = sys.argv[2] if len(sys.argv) > 2 else None
-    passed = failed = accepted = 0
-    with tempfile.TemporaryDirectory() as folder:
-        for number, (data, sources, line) in enumerate([*worked(), *tried(images)]):
-            ask = program if number % 10 == 0 else None
-            fault = fault_of(data, sources, line, ask, folder)
-            passed, failed = passed + (fault is None), failed + (fault is not None)
-            accepted += line.startswith("accepted ")
-            if fault:
-                print(f"image {number}, {data[:4000].hex()}: {fault}")
-    print(f"{accepted} of the images are accepted, with each text, place and origin")
-    print(f"{passed} passed, {failed} failed")
+    program, callers = sys.argv[2] if len(sys.argv) > 2 else "", sys.argv[3:]
+    programs = [([check], [show]) for check, show in zip(callers[::2], callers[1::2])]
+    if program:
+        programs.append(([program, "check"], [program, "show"]))
+    seeds = [None, *range(-(-images // IMAGES_OF_A_SEED))]
+    count = accepted = failed = 0
+    with multiprocessing.Pool() as pool:
+        for came, good, faults in pool.imap_unordered(batch, [(seed, programs) for seed in seeds]):
+            count, accepted, failed = count + came, accepted + good, failed + len(faults)
+            for fault in faults:
+                print(fault)
+    print(f"{accepted} of {count} images are accepted, with each text, place and origin; {len(programs)} programs besides")
+    print(f"{count - failed} passed, {failed} failed")
     return failed != 0
 
 

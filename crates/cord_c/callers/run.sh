@@ -1,20 +1,27 @@
 #!/bin/sh
-# run.sh [IMAGES]: builds the callers in C, Rust and Python over out/libcord_c.a, which `rt lib` makes, and compares what they answer: each on
-# every worked image with the tables of tests/vectors, and the Python module on so many images that chance makes, whole and damaged (2,100 if
-# left out), with the second checker, and with the built cordkit where that is. What is not installed is left out, and said so. The last
-# line is 'N passed, M failed'; the status is not 0 where one failed.
+# run.sh [IMAGES [PROGRAM]]: builds the callers in C, Rust and Python over out/libcord_c.a, which `make library` makes, and compares what they answer:
+# each on every worked image with the tables of tests/vectors; and each, with the second checker and with the built cordkit, or PROGRAM, on so many
+# images that chance makes, whole and damaged (2,100 if left out). Then the header in C++, and examples/check_many.py over a folder of images. What is
+# not installed is left out, and said so. The last line is 'N passed, M failed'; the status is not 0 where one failed.
 set -u
 here=$(cd "$(dirname "$0")" && pwd)
 top=$(cd "$here/../../.." && pwd)
 library=$top/crates/cord_c/out/libcord_c.a
-program=$top/crates/cordkit/out/cordkit
 images=${1:-2100}
+program=${2:-$top/crates/cordkit/out/cordkit}
+case $program in
+/*) ;;
+*) program=$PWD/$program ;;
+esac
 if ! [ -f "$library" ]; then
-    echo "there is no library $library: run 'rt lib' in crates/cord_c" >&2
+    echo "there is no library $library: make library builds it" >&2
     echo "0 passed, 1 failed"
     exit 1
 fi
-[ -x "$program" ] || program=
+if ! [ -x "$program" ]; then
+    echo "LEFT OUT: the built cordkit beside the library: there is no $program"
+    program=
+fi
 room=$(mktemp -d) || exit 1
 trap 'rm -rf "$room"' EXIT
 trap 'exit 1' HUP INT TERM
@@ -30,18 +37,21 @@ fail() {
 }
 try() { if "$@" > log 2>&1; then pass; else fail "$*"; cat log; fi; }
 
-# The callers that can be built: each a name of two programs, check_NAME and show_NAME.
+# The callers that can be built: each a name of two programs, check_NAME and show_NAME. Those that start fast are asked for images of chance too.
 callers=
+pairs=
 if has gcc; then
     for caller in check show; do
-        try gcc -std=c11 -O2 -Wall -Wextra -Werror -o "${caller}_c" "$here/$caller.c" "$library"
+        try gcc -std=c11 -O2 -Wall -Wextra -pedantic -Werror -o "${caller}_c" "$here/$caller.c" "$library"
     done
     callers="$callers c"
+    pairs="$pairs ./check_c ./show_c"
 else
     echo "LEFT OUT: the callers in C, and in Python: there is no gcc here"
 fi
 if has g++; then
-    try g++ -Wall -Wextra -Werror -fsyntax-only -x c++ -include "$here/../cord.h" /dev/null
+    try g++ -Wall -Wextra -pedantic -Werror -o check_cpp "$here/check.cpp" "$library"
+    callers="$callers cpp"
 else
     echo "LEFT OUT: the header in C++: there is no g++ here"
 fi
@@ -50,11 +60,12 @@ if has rustc; then
         try rustc --edition 2021 -O -D warnings -L "native=${library%/*}" -o "${caller}_rust" "$here/$caller.rs"
     done
     callers="$callers rust"
+    pairs="$pairs ./check_rust ./show_rust"
 else
     echo "LEFT OUT: the callers in Rust: there is no rustc here"
 fi
 if has gcc && has python3; then
-    try gcc -shared -o libcord_c.so -Wl,--whole-archive "$library" -Wl,--no-whole-archive -Wl,-z,defs -lc
+    try env CC=gcc sh "$here/../shared.sh" "$library" "$room/libcord_c.so"
     export CORDKIT_LIBRARY="$room/libcord_c.so" PYTHONDONTWRITEBYTECODE=1
     for caller in check show; do
         printf '#!/bin/sh\nexec python3 "%s" "$@"\n' "$here/$caller.py" > "${caller}_python"
@@ -69,6 +80,9 @@ fi
 printf abc > abc
 printf ab > ab
 printf "$(seq 0 299 | awk '{ printf "\\%03o", $1 % 256 }')" > ramp
+mkdir folder
+accepted=0
+refused=0
 for folder in "$top/tests/vectors" "$top/tests/vectors/version2"; do
     while IFS=';' read -r name source status line; do
         tr -d '[:space:]' < "$folder/$name.hex" | tr a-f A-F | basenc --base16 -d > image
@@ -87,7 +101,7 @@ for folder in "$top/tests/vectors" "$top/tests/vectors/version2"; do
             else
                 fail "check_$caller $name: status $got, $answer"
             fi
-            if [ -n "$program" ] && [ -n "$shown" ]; then
+            if [ -n "$program" ] && [ -n "$shown" ] && [ -x "./show_$caller" ]; then
                 if "./show_$caller" image $((shown - 1)) ${source:+"$source"} 2> /dev/null | cmp -s - wanted; then
                     pass
                 else
@@ -95,13 +109,19 @@ for folder in "$top/tests/vectors" "$top/tests/vectors/version2"; do
                 fi
             fi
         done
+
+        # The same in a folder of images, whose sources lie beside them.
+        at=folder/$(basename "$folder").$name.cord
+        cp image "$at"
+        [ -z "$source" ] || cp "$source" "$at.0"
+        [ "$status" = 0 ] && accepted=$((accepted + 1)) || { refused=$((refused + 1)); echo "$at: $line" >> wanted_lines; }
     done < "$folder/answers"
 done
-[ -n "$program" ] || echo "LEFT OUT: the built cordkit beside the library: there is no crates/cordkit/out/cordkit"
 
 # A limit of looks, and sources that are not held.
 tr -d '[:space:]' < "$top/tests/vectors/bytes_row_over_a_source.hex" | tr a-f A-F | basenc --base16 -d > image
 for caller in $callers; do
+    [ "$caller" != cpp ] || continue
     answer=$("./check_$caller" 530 image abc)
     [ "$?$answer" = "1refused looks 531" ] && pass || fail "check_$caller 530: $answer"
     answer=$("./check_$caller" 531 image abc)
@@ -112,10 +132,17 @@ if has gcc; then
     [ "$?$answer" = "3read" ] && pass || fail "check_c -l: $answer"
 fi
 
-# Images that chance makes, by the module for Python.
+# The folder of images, by one process and by two; and the images that chance makes.
 case $callers in
 *python*)
-    if python3 "$here/compare.py" "$images" $program > log 2>&1; then
+    sort wanted_lines > wanted
+    for processes in 1 2; do
+        python3 "$top/examples/check_many.py" folder --processes $processes > told 2> log
+        [ $? = 1 ] && grep -v ' images: ' told | sort | cmp -s - wanted && pass || fail "check_many.py --processes $processes: $(cat log)"
+        line="$((accepted + refused)) images: $accepted accepted, $refused refused, 0 not read;"
+        tail -n 1 told | grep -q "^$line" && pass || fail "check_many.py --processes $processes: $(tail -n 1 told)"
+    done
+    if python3 "$here/compare.py" "$images" "$program" $pairs > log 2>&1; then
         set -- $(tail -n 1 log)
         passed=$((passed + $1))
         echo "images: $(tail -n 2 log | head -n 1)"
