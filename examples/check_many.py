@@ -8,8 +8,8 @@ An image is a file NAME.cord; the files of its sources, in their order, are NAME
 the lengths that the image states are taken: an image that the editor wrote needs no more. With --at-most LOOKS an image whose check
 may take more looks at nodes is refused by that number (300,000,000 looks are about a second), so that no image holds up the others.
 
-The library is libcord_c.so, beside crates/cord_c/callers/cordkit.py or where CORDKIT_LIBRARY says. The last line counts: images, accepted,
-refused, not read, and images a second. Status: 0 where all are accepted, else 1.
+The library is that of the module cordkit, an installed one or crates/cord_c/callers/cordkit.py, or CORDKIT_LIBRARY. The last line counts: images,
+accepted, refused, not read, and images a second. Status: 0 where all are accepted, else 1.
 """
 
 import argparse
@@ -83,14 +83,11 @@ def on_cluster(batches: Iterable[List[str]], at_most: Optional[int], scheduler: 
     from distributed import Client, as_completed
 
     with Client(scheduler) as client:
-        # The workers get this file's functions by their code, and find the library by its own path.
-        client.run(os.environ.setdefault, "CORDKIT_LIBRARY", library_path())
+        # The workers get this file's functions by their code, and find the module and its library as this machine does.
+        if "CORDKIT_LIBRARY" in os.environ:
+            client.run(os.environ.setdefault, "CORDKIT_LIBRARY", os.environ["CORDKIT_LIBRARY"])
         asked = client.map(lines_of, list(batches), at_most=at_most, pure=False)
         yield from (result for _, result in as_completed(asked, with_results=True))
-
-
-def library_path() -> str:
-    return os.environ.get("CORDKIT_LIBRARY", os.path.join(CALLERS, "libcord_c.so"))
 
 
 def main() -> int:

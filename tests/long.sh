@@ -8,6 +8,8 @@
 #   the tests of ropes under memcheck                 valgrind, and rt where they are not built
 #   the editor in a terminal, keys that are kept      tmux
 #   refusals that come behind much work               nothing more
+#   21,000 images by the callers of the C library     the library (make library); gcc, g++, rustc and python3, each for its own
+#   420 images by the page in a browser               the module (make wasm), chromium and python3
 #   every case of tests/program.sh, installed         nothing more; mandoc, file, bash, zsh and fish for what is installed beside
 set -u
 cd "$(dirname "$0")/.." || exit 1
@@ -48,6 +50,16 @@ try 'the tests of ropes under memcheck' valgrind sh tests/memcheck.sh
 try 'the editor in a terminal' tmux sh tests/terminal.sh
 try 'keys that are kept' tmux sh tests/kept_keys.sh
 try 'dear refusals' '' sh tests/dear_refusals.sh
+if [ -f crates/cord_c/out/libcord_c.a ]; then
+    try 'the callers of the C library' '' sh crates/cord_c/callers/run.sh 21000
+else
+    echo "NOT TRIED: the callers of the C library: there is no crates/cord_c/out/libcord_c.a: make library builds it"
+fi
+if [ -f crates/cord_c/out/cord_c.wasm ]; then
+    try 'the page in a browser' 'python3 chromium' python3 tests/browser.py 420
+else
+    echo "NOT TRIED: the page in a browser: there is no crates/cord_c/out/cord_c.wasm: make wasm builds it"
+fi
 try 'what is installed' '' sh tests/install.sh crates/cordkit/out/cordkit all
 echo "$passed passed, $failed failed"
 [ "$failed" = 0 ] && [ "$passed" != 0 ]
