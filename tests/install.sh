@@ -122,6 +122,12 @@ try_installing() {
     is_same 'a staged installation has the same files' "$(below "$room/stage/usr")" "$(below "$prefix")"
     make_it uninstall DESTDIR="$room/stage" PREFIX=/usr
     is_same 'nothing of it is left' "$(below "$room/stage")" .
+    make_it install PREFIX="$room/bare" PROGRAM="$program" LIBRARY="$room/missing.a"
+    is_same 'without a C library it is told how to build one, and all else is installed' \
+        "$(grep -c 'LEFT OUT: .*: make library builds it' "$room/made") $(cd "$room/bare" && find . -type f | sort)" \
+        "2 $(cd "$prefix" && find . -type f | grep -v -e /cord.h -e /libcord_c -e /pkgconfig/ -e /python/ | sort)"
+    make_it uninstall PREFIX="$room/bare"
+    is_same 'nothing of that is left' "$(below "$room/bare")" ''
 }
 
 # A prefix with folders and files of others, into which is installed twice.
