@@ -79,13 +79,17 @@ def here(batches: Iterable[List[str]], at_most: Optional[int], processes: int) -
         yield from pool.map(lines_of, batches, itertools.repeat(at_most))
 
 
+def take_library(path: str) -> None:
+    os.environ.setdefault("CORDKIT_LIBRARY", path)
+
+
 def on_cluster(batches: Iterable[List[str]], at_most: Optional[int], scheduler: str) -> Iterator[List[Tuple[str, str]]]:
     from distributed import Client, as_completed
 
     with Client(scheduler) as client:
         # The workers get this file's functions by their code, and find the module and its library as this machine does.
         if "CORDKIT_LIBRARY" in os.environ:
-            client.run(os.environ.setdefault, "CORDKIT_LIBRARY", os.environ["CORDKIT_LIBRARY"])
+            client.run(take_library, os.environ["CORDKIT_LIBRARY"])
         asked = client.map(lines_of, list(batches), at_most=at_most, pure=False)
         yield from (result for _, result in as_completed(asked, with_results=True))
 

@@ -36,7 +36,9 @@ class Browser:
     def __init__(self, program, folder):
         to_read, self.to_browser = os.pipe()
         self.from_browser, to_write = os.pipe()
-        words = [program, "--headless", "--no-sandbox", "--disable-gpu", "--remote-debugging-pipe", "--user-data-dir=" + folder, "about:blank"]
+        words = [program, "--headless", "--disable-gpu", "--remote-debugging-pipe", "--user-data-dir=" + folder, "about:blank"]
+        if os.geteuid() == 0:
+            words.insert(1, "--no-sandbox")
         start = ["sh", "-c", 'exec "$@" 3<&%d 4>&%d' % (to_read, to_write), "sh", *words]
         quiet = {"stdin": subprocess.DEVNULL, "stdout": subprocess.DEVNULL, "stderr": subprocess.DEVNULL}
         self.process = subprocess.Popen(start, pass_fds=[to_read, to_write], **quiet)
