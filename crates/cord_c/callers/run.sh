@@ -110,11 +110,20 @@ for folder in "$top/tests/vectors" "$top/tests/vectors/version2"; do
             fi
         done
 
-        # The same in a folder of images, whose sources lie beside them.
+        # The same in a folder of images, whose sources lie beside them; where these are missing, others are taken for them there.
         at=folder/$(basename "$folder").$name.cord
+        if [ -n "$source" ]; then
+            cp "$source" "$at.0"
+        elif [ "$(od -A n -t x1 -j 12 -N 4 image | tr -d ' ')" != 00000000 ]; then
+            continue
+        fi
         cp image "$at"
-        [ -z "$source" ] || cp "$source" "$at.0"
-        [ "$status" = 0 ] && accepted=$((accepted + 1)) || { refused=$((refused + 1)); echo "$at: $line" >> wanted_lines; }
+        if [ "$status" = 0 ]; then
+            accepted=$((accepted + 1))
+        else
+            refused=$((refused + 1))
+            echo "$at: $line" >> wanted_lines
+        fi
     done < "$folder/answers"
 done
 
