@@ -179,10 +179,11 @@ try_c_library() {
     has gcc 'the installed C library' && has pkg-config 'the installed C library' || return
     export PKG_CONFIG_PATH="$prefix/lib/pkgconfig"
     is_same 'the version of the C library' "$(pkg-config --modversion cordkit)" "$(sed -n 's/^## \([0-9.]*\) (.*/\1/p' "$top/CHANGELOG.md" | head -n 1)"
-    block_of c 1 > show.c
-    if eval "gcc -std=c11 -Wall -Wextra -pedantic -Werror -o show show.c $(pkg-config --cflags --libs cordkit)" > log 2>&1; then
-        is_same 'the program in C' "$(./show < fox.cord)" 'the brown fox'
-        is_same 'the program in C of no image' "$(./show < script) $?" 'refused C1 1'
+    block_of c 1 > newest.c
+    if eval "gcc -std=c11 -Wall -Wextra -pedantic -Werror -o newest newest.c $(pkg-config --cflags --libs cordkit)" > log 2>&1; then
+        is_same 'the program in C' "$(./newest < fox.cord)" 'the brown fox'
+        is_same 'the program in C of no image' "$(./newest < script || echo "status $?")" "refused C1
+status 1"
     else
         fails "the program in C: $(cat log)"
     fi
@@ -190,8 +191,8 @@ try_c_library() {
 
 try_python_module() {
     has python3 'the installed Python module' || return
-    block_of python 1 > show.py
-    is_same 'the program in Python' "$(PYTHONPATH="$prefix/lib/cordkit/python" python3 show.py fox.cord 2>&1)" "$(block_of text 1)"
+    block_of python 1 > newest.py
+    is_same 'the program in Python' "$(PYTHONPATH="$prefix/lib/cordkit/python" python3 newest.py fox.cord 2>&1)" "$(block_of text 1)"
 }
 
 try_library() {

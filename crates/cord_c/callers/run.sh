@@ -114,7 +114,7 @@ for folder in "$top/tests/vectors" "$top/tests/vectors/version2"; do
         at=folder/$(basename "$folder").$name.cord
         if [ -n "$source" ]; then
             cp "$source" "$at.0"
-        elif [ "$(od -A n -t x1 -j 12 -N 4 image | tr -d ' ')" != 00000000 ]; then
+        elif [ "$(od -A n -t x1 -j 12 -N 4 image 2> /dev/null | tr -d ' ')" != 00000000 ]; then
             continue
         fi
         cp image "$at"
