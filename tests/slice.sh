@@ -1,9 +1,10 @@
 #!/bin/sh
 # A slice of what `make long` and `make fuzz` run with python, with fixed seeds, in some seconds: the second checker on the worked images, damaged
 # images, keys, scripts, the inputs that the fuzzer kept, and sources of any size, over the program that `make run` built or the one that $1 names; the
-# history of README.md as a session, and what docs/SCRIPTS.md shows; and whether docs/HEADLINE.md is what specs/ say, each new name there one thing, and
-# each call and clause there that a crate's README.md or docs/PROVED.md names. Where there is no python3 nothing of it is tried, which is told. What a
-# test left out is told too. The last line is 'N passed, M failed'; the status is not 0 where one failed.
+# history of README.md as a session, and what docs/SCRIPTS.md shows; images by the C library, through its Python module, where `make library` built it;
+# and whether docs/HEADLINE.md is what specs/ say, each new name there one thing, and each call and clause there that a crate's README.md or
+# docs/PROVED.md names. Where there is no python3 nothing of it is tried, which is told. What a test left out is told too. The last line is
+# 'N passed, M failed'; the status is not 0 where one failed.
 set -u
 top=$(cd "$(dirname "$0")/.." && pwd)
 program=${1:-$top/crates/cordkit/out/cordkit}
@@ -40,6 +41,11 @@ try 'the history of a file' "$top/tests/git_history.py" "$program"
 try 'what docs/SCRIPTS.md shows' "$top/tests/script_tour.py" "$program"
 try 'the inputs of the fuzzer' "$top/tests/fuzz_images.py" 0 "$program"
 try 'sources of any size' "$top/tests/large_sources.py" "$program"
+if [ -f "$top/crates/cord_c/out/libcord_c.so" ]; then
+    try 'the C library' -B "$top/crates/cord_c/callers/compare.py" 420 "$program"
+else
+    echo "LEFT OUT: the C library: there is no crates/cord_c/out/libcord_c.so: make library builds it"
+fi
 try 'the page of definitions' "$top/tests/headline.py"
 try 'names' "$top/tests/names.py"
 try 'what README.md files and docs/PROVED.md name' "$top/tests/readmes.py"
