@@ -27,6 +27,8 @@ CALLERS = os.path.join(os.path.dirname(os.path.dirname(os.path.abspath(__file__)
 # So many images are handed out at once.
 BATCH = 64
 
+Answers = Tuple["collections.Counter[str]", List[str]]
+
 
 def sources_of(path: str, image: bytes) -> List["bytes | int"]:
     """The bytes of the files of an image's sources, or their lengths as the image states them."""
@@ -57,8 +59,11 @@ def line_of(path: str, at_most: Optional[int]) -> str:
         return "read"
 
 
-def lines_of(paths: List[str], at_most: Optional[int]) -> List[Tuple[str, str]]:
-    return [(path, line_of(path, at_most)) for path in paths]
+def answers_on(paths: List[str], at_most: Optional[int]) -> Answers:
+    """How many images are accepted, refused and not read, and the line of each that is not accepted."""
+    lines = [(path, line_of(path, at_most)) for path in paths]
+    counted = collections.Counter(line.split(" ")[0] for _, line in lines)
+    return counted, [f"{path}: {line}" for path, line in lines if not line.startswith("accepted ")]
 
 
 def images_in(folder: str) -> Iterator[str]:
@@ -71,26 +76,26 @@ def batches_of(paths: Iterable[str]) -> Iterator[List[str]]:
     return iter(lambda: list(itertools.islice(paths, BATCH)), [])
 
 
-def here(batches: Iterable[List[str]], at_most: Optional[int], processes: int) -> Iterator[List[Tuple[str, str]]]:
+def here(batches: Iterable[List[str]], at_most: Optional[int], processes: int) -> Iterator[Answers]:
     if processes == 1:
-        yield from (lines_of(batch, at_most) for batch in batches)
+        yield from (answers_on(batch, at_most) for batch in batches)
         return
     with concurrent.futures.ProcessPoolExecutor(processes) as pool:
-        yield from pool.map(lines_of, batches, itertools.repeat(at_most))
+        yield from pool.map(answers_on, batches, itertools.repeat(at_most))
 
 
 def take_library(path: str) -> None:
     os.environ.setdefault("CORDKIT_LIBRARY", path)
 
 
-def on_cluster(batches: Iterable[List[str]], at_most: Optional[int], scheduler: str) -> Iterator[List[Tuple[str, str]]]:
+def on_cluster(batches: Iterable[List[str]], at_most: Optional[int], scheduler: str) -> Iterator[Answers]:
     from distributed import Client, as_completed
 
     with Client(scheduler) as client:
         # The workers get this file's functions by their code, and find the module and its library as this machine does.
         if "CORDKIT_LIBRARY" in os.environ:
             client.run(take_library, os.environ["CORDKIT_LIBRARY"])
-        asked = client.map(lines_of, list(batches), at_most=at_most, pure=False)
+        asked = client.map(answers_on, list(batches), at_most=at_most, pure=False)
         yield from (result for _, result in as_completed(asked, with_results=True))
 
 
@@ -107,10 +112,10 @@ def main() -> int:
     else:
         answers = here(batches, asked.at_most, asked.processes)
     counted = collections.Counter()
-    for path, line in itertools.chain.from_iterable(answers):
-        counted[line.split(" ")[0]] += 1
-        if not line.startswith("accepted "):
-            print(f"{path}: {line}")
+    for found, lines in answers:
+        counted += found
+        for line in lines:
+            print(line)
     images, seconds = sum(counted.values()), time.monotonic() - begun
     print(f"{images} images: {counted['accepted']} accepted, {counted['refused']} refused, {counted['read']} not read; {images / seconds:.0f} a second")
     return int(counted["accepted"] != images)
