@@ -53,7 +53,10 @@ for n in 1 2 3 5 8 13 40 100 700 3000 9000; do
         "$program" find 0 "$pattern" letters > ours || true
         grep -obaF "$pattern" letters | head -n 1 | cut -d : -f 1 > theirs || true
         same "find $pattern"
-        runs=$((runs + 1))
+        "$program" find --all 0 "$pattern" letters > ours || true
+        grep -obaF "$pattern" letters | cut -d : -f 1 > theirs || true
+        same "find --all $pattern"
+        runs=$((runs + 2))
     done
     runs=$((runs + 6))
 done
@@ -89,3 +92,4 @@ beside cmp "$(best "$program" cmp big twin)" "$(best cmp big twin)"
 beside join "$(best "$program" join big)" "$(best cat big)"
 beside cut "$(best "$program" cut 1000000 250000000 big)" "$(best usual_cut)"
 beside find "$(best "$program" find 0 'the needle at the end' big)" "$(best grep -obaF -m1 'the needle at the end' big)"
+beside 'find --all' "$(best "$program" find --all 0 ab big)" "$(best grep -obaF ab big)"

@@ -94,7 +94,7 @@ among_cells old new t rope j fault cs is h = reads_weaker old new (InCells (rope
 
 -- ---- what the tools call
 
-read_told : {X : Type 0} (e f : SourceFault) → ◌≡◌ {A = Option SourceFault} (Some e) (Some f) → IsErrOf {T = X} (Err (read_fault e)) (read_fault f)
+pub read_told : {X : Type 0} (e f : SourceFault) → ◌≡◌ {A = Option SourceFault} (Some e) (Some f) → IsErrOf {T = X} (Err (read_fault e)) (read_fault f)
 read_told e f is = let same : e ≡ f = cc in ap (λ (x : SourceFault). Err (read_fault x)) same
 
 put_told : {X : Type 0} (e : PutFault) (f : SourceFault) → put_source_fault e ≡ Some f → IsErrOf {T = X} (Err (put_fault e)) (read_fault f)

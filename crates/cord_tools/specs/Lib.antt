@@ -1,3 +1,4 @@
+pub mod AllPlaces
 pub mod Answers
 pub mod Editing
 pub mod Faults

@@ -1,11 +1,11 @@
 -- What a tool does to the sources that it reads, and what it tells of a read that failed.
-use Rattle.std.specs.Prelude.{◌≡◌, ℕ, List, Option, Some, Result, Err, Any, IsErrOf, IsSome}
+use Rattle.std.specs.Prelude.{◌≡◌, ◌⊎◌, ℕ, List, Option, Some, Result, Err, Any, IsErrOf, IsSome}
 use Rattle.rope_node.specs.Denotes.{Cell, Place}
 use Rattle.lazy_file.specs.Readings.{IsFaultAmong, Reading, Reads}
 use Rattle.lazy_file.specs.declared.faults.SourceFault.{SourceFault}
 use Rattle.cord_tools.specs.Faults.{read_fault}
 use Rattle.cord_tools.specs.declared.fault.ToolFault.{ToolFault}
-use Rattle.cord_tools.specs.declared.fault.ToolFault.TheVariants.{Read}
+use Rattle.cord_tools.specs.declared.fault.ToolFault.TheVariants.{Memory, Read}
 
 -- the places of sources among these cells
 abbrev pub AmongCells : List Cell → ℕ → ℕ → Type 0
@@ -29,3 +29,7 @@ pub record ReadsCells {X : Type 0} (before after : Reading) (cells : List Cell) 
     : Type 0 where
   pub at : ReadsAt before after (AmongCells cells) outcome
   pub unread : IsErrOf outcome Read → IsSome at.fault
+
+-- what a tool is told that could not read
+abbrev pub IsUnread : ToolFault → Type 0
+IsUnread fault = (fault ≡ Read) ⊎ (fault ≡ Memory)

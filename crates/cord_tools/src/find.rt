@@ -1,6 +1,6 @@
 //! The first place of a pattern in a file.
 
-ghost use Rattle.std.specs.Prelude.{◌≡◌, ◌↔◌, ◌⊎◌, ◌<◌, ◌≤◌, length, drop, IfOk, IfErr, IsErrOf, string_bytes};
+ghost use Rattle.std.specs.Prelude.{◌≡◌, ◌↔◌, ◌⊎◌, ◌<◌, ◌≤◌, ◌++◌, length, drop, IfOk, IfErr, IsErrOf, OnOk};
 ghost use Rattle.cord_search.specs.Places.{IsFirst};
 ghost use Rattle.cord_search.specs.declared.pattern.TheConstants.{PATTERN_LIMIT};
 ghost use Rattle.cord_tools.specs.Files.{FindsPattern, OfFile, file_cells, place_line};
@@ -12,15 +12,18 @@ use crate::files::{part, store_of};
 use crate::status::Status;
 use byte_output::write_bytes;
 use cord_search::{PATTERN_LIMIT, find};
+use itoa::Buffer;
 use lazy_file::Sources;
 use std::alloc::{AllocError, Global};
 use std::io;
 
-/// The line that tells a place.
-fn line_of(alloc: Global, place: u64) -> Result<String, AllocError>
-    ensures { IfOk result (λ line. string_bytes line ≡ place_line place) }
+/// Puts the line that tells a place behind the others.
+pub fn push_line(lines: &mut Vec<u8>, place: u64) -> Result<(), AllocError>
+    ensures { OnOk result (lines.new.items ≡ lines.old.items ++ place_line place) }
 {
-    format!(in alloc; "{place}\n")
+    let mut digits = Buffer::new();
+    lines.extend_from_slice(digits.format(place).as_bytes())?;
+    lines.extend_from_slice(b"\n")
 }
 
 /// The first place of the pattern in the first source, from its byte `start` on. The fault is `PatternTooLong`, `Read` or `Memory`.
@@ -66,8 +69,9 @@ pub fn run_find<T: Sources, W: io::Write>(
 {
     match first_place(alloc, sources, start, pattern)? {
         Some(place) => {
-            let line = line_of(alloc, place)?;
-            write_bytes(writer, line.as_bytes())?;
+            let mut line = Vec::new(alloc);
+            push_line(&mut line, place)?;
+            write_bytes(writer, &line)?;
             Ok(Status::Success)
         }
         None => Ok(Status::Failure),

@@ -12,6 +12,8 @@ mod images;
 #[cfg(test)]
 mod keys;
 #[cfg(test)]
+mod places;
+#[cfg(test)]
 mod same;
 #[cfg(test)]
 mod tools;

@@ -5,7 +5,7 @@ use crate::images::{ONE_INSERT, ONE_INSERT_IN_TWO, OPEN_SOURCE};
 use crate::same::assert_same;
 use cord_tools::{
     Outcome, Status, ToolFault, exit_status, read_source, refuse_check, run_check, run_cmp,
-    run_cut, run_find, run_join, run_migrate, run_show, run_stdin,
+    run_cut, run_find, run_find_all, run_join, run_migrate, run_show, run_stdin,
 };
 use edit_commands::EditFault;
 use image_reader::ReadFault;
@@ -28,6 +28,7 @@ enum Tool<'a> {
     Cut(u64, u64),
     Join,
     Find(u64, &'a [u8]),
+    FindAll(u64, &'a [u8]),
     Cmp,
 }
 
@@ -84,6 +85,10 @@ fn run<R: AllocGlobal + Abort, S: Sources, W: Write>(
         Tool::Find(start, pattern) => {
             assert!(rt; count >= 1);
             return run_find(alloc, sources, start, pattern, writer);
+        }
+        Tool::FindAll(start, pattern) => {
+            assert!(rt; count >= 1);
+            return run_find_all(alloc, sources, start, pattern, writer);
         }
         Tool::Cmp => {
             assert!(rt; count >= 2);
@@ -145,7 +150,7 @@ fn cases_of_images() -> [Case<'static>; 5] {
 }
 
 /// The tools over texts, and what is said of one that is too long.
-fn cases_of_texts() -> [Case<'static>; 5] {
+fn cases_of_texts() -> [Case<'static>; 6] {
     [
         Case {
             tool: Tool::Refuse(AddFault::SourceTooLong),
@@ -176,6 +181,13 @@ fn cases_of_texts() -> [Case<'static>; 5] {
             status: Status::Success,
         },
         Case {
+            tool: Tool::FindAll(1, b"aa"),
+            texts: &[b"aaaaa", b"ab"],
+            read: &[0],
+            answer: b"1\n3\n",
+            status: Status::Success,
+        },
+        Case {
             tool: Tool::Cmp,
             texts: &[b"ab", b"abc"],
             read: &[0, 1],
@@ -186,11 +198,11 @@ fn cases_of_texts() -> [Case<'static>; 5] {
 }
 
 /// Each tool once.
-fn cases() -> [Case<'static>; 10] {
+fn cases() -> [Case<'static>; 11] {
     let [stdin, check, refused, show, migrate] = cases_of_images();
-    let [long, cut, join, find, cmp] = cases_of_texts();
+    let [long, cut, join, find, find_all, cmp] = cases_of_texts();
     [
-        stdin, check, refused, show, migrate, long, cut, join, find, cmp,
+        stdin, check, refused, show, migrate, long, cut, join, find, find_all, cmp,
     ]
 }
 

@@ -1,0 +1,159 @@
+//! All the places of a pattern in a file.
+
+ghost use Rattle.std.specs.Prelude.{◌≡◌, ◌+◌, ◌<◌, ◌≤◌, ◌^◌, [], length, drop, slice_index, OnOk, IfOk, IfErr};
+ghost use Rattle.memchr.specs.Find.{FindsNeedle};
+ghost use Rattle.cord_search.specs.Places.{StandsAt};
+ghost use Rattle.cord_tools.specs.AllPlaces.{FindsAll, FindsIn, FindsOn};
+ghost use Rattle.cord_tools.specs.Files.{OfFile, file_cells};
+ghost use Rattle.cord_tools.specs.Unread.{IsUnread, ReadsCells};
+ghost use Rattle.cord_tools.specs.declared.status.Status.TheVariants.{Success};
+
+use crate::fault::ToolFault;
+use crate::find::push_line;
+use crate::status::Status;
+use byte_output::write_bytes;
+use cord_search::PATTERN_LIMIT;
+use lazy_file::Sources;
+use memchr::memmem::Finder;
+use std::alloc::{AllocError, Global};
+use std::io;
+
+/// Bytes are searched by so many.
+const WINDOW: usize = 65_536;
+
+/// What was found in a window: the lines of the places, and the place from which on to go on.
+#[derive(Drop)]
+struct Found {
+    lines: Vec<u8>,
+    next: u64,
+}
+
+/// The first place of the pattern in these bytes from `at` on.
+fn next_in(finder: &Finder<'_>, bytes: &[u8], at: usize) -> Option<usize>
+    ensures { FindsNeedle bytes.now finder.now at result }
+{
+    if at > bytes.len() {
+        return None;
+    }
+    match finder.find(&bytes[at..]) {
+        Some(k) => Some(at + k),
+        None => None,
+    }
+}
+
+/// The places of the pattern in these bytes, which are those of a text from its place `first` on.
+fn found_in(
+    alloc: Global,
+    finder: &Finder<'_>,
+    bytes: &[u8],
+    first: u64,
+) -> Result<Found, AllocError>
+    requires limit { first + length bytes.now < 2 ^ 41 }
+    requires short { length finder.now ≤ length bytes.now }
+    requires few { length finder.now ≤ 4096 }
+    ensures found { IfOk result (λ found. FindsIn finder.now bytes.now first found.next found.lines.items) }
+    ensures next { IfOk result (λ found.
+        first + (length bytes.now + 1) ≤ found.next + length finder.now) }
+    ensures last { IfOk result (λ found. found.next ≤ first + length bytes.now + 1) }
+{
+    let need = finder.needle().len();
+    let mut lines = Vec::new(alloc);
+    let mut at = 0;
+    'places: while let Some(k) = next_in(finder, bytes, at) {
+        push_line(&mut lines, first + k as u64)?;
+        at = k + need.max(1);
+    }
+    let clear = bytes.len() + 1 - need;
+    Ok(Found {
+        lines,
+        next: first + at.max(clear) as u64,
+    })
+}
+
+/// Reads bytes of the first source, from its byte `from` on. No bytes are read without the source.
+fn read_part<T: Sources>(sources: &mut T, from: u64, part: &mut [u8]) -> Result<(), ToolFault>
+    requires { from + length part.old ≤ slice_index (T.reading sources.old).stated.sizes 0 }
+    ensures part { OnOk result (OfFile (T.reading sources.old).stated 0 (λ t. StandsAt part.new t from)) }
+    ensures fault { IfErr result IsUnread }
+    ensures reads { ReadsCells (T.reading sources.old) (T.reading sources.new)
+        (drop from (file_cells (T.reading sources.old).stated.sizes 0)) result }
+{
+    if !part.is_empty() {
+        sources.read(0, from, part)?;
+    }
+    Ok(())
+}
+
+/// The places of the pattern in the first source from its byte `from` on, as far as the window takes its bytes.
+fn found_from<T: Sources>(
+    alloc: Global,
+    finder: &Finder<'_>,
+    sources: &mut T,
+    from: u64,
+    window: &mut [u8],
+) -> Result<Found, ToolFault>
+    requires size { slice_index (T.reading sources.old).stated.sizes 0 < 2 ^ 40 }
+    requires inside { from + length window.old ≤ slice_index (T.reading sources.old).stated.sizes 0 }
+    requires short { length finder.now ≤ length window.old }
+    requires few { length finder.now ≤ 4096 }
+    ensures found { IfOk result (λ found.
+        FindsOn (T.reading sources.old).stated finder.now from found.next found.lines.items) }
+    ensures next { IfOk result (λ found.
+        from + (length window.old + 1) ≤ found.next + length finder.now) }
+    ensures fault { IfErr result IsUnread }
+    ensures reads { ReadsCells (T.reading sources.old) (T.reading sources.new)
+        (drop from (file_cells (T.reading sources.old).stated.sizes 0)) result }
+{
+    read_part(sources, from, window)?;
+    Ok(found_in(alloc, finder, window, from)?)
+}
+
+/// Whether there was a place, where there was one before or these lines are of some.
+fn status_with(status: Status, lines: &[u8]) -> Status
+    ensures none { lines.now ≡ [] → result ≡ status }
+    ensures some { 0 < length lines.now → result ≡ Success }
+{
+    if lines.is_empty() {
+        status
+    } else {
+        Status::Success
+    }
+}
+
+/// Writes the line of each place of the pattern in the first source, from its byte `start` on and each behind the end of the one
+/// before, and answers `Success`. Where the pattern stands nowhere, it writes nothing, and answers `Failure`. An empty pattern stands
+/// at each place up to the source's end.
+///
+/// # Errors
+///
+/// `PatternTooLong` for a pattern of more than 4,096 bytes. `Write`, where the writer failed or took no byte: a prefix of the lines
+/// was written. `Read`, where the source could not be read, and `Memory`: the lines of the first places were written.
+pub fn run_find_all<T: Sources, W: io::Write>(
+    alloc: Global,
+    sources: &mut T,
+    start: u64,
+    pattern: &[u8],
+    writer: &mut W,
+) -> Result<Status, ToolFault>
+    requires { 1 ≤ length (T.reading sources.old).stated.sizes }
+    ensures { FindsAll (T.reading sources.old) (T.reading sources.new) start pattern.now
+        (W.contents writer.old) (W.contents writer.new) result }
+{
+    if pattern.len() > PATTERN_LIMIT {
+        return Err(ToolFault::PatternTooLong);
+    }
+    let finder = Finder::new(pattern);
+    let size = sources.len(0);
+    let end = (size + 1).saturating_sub(pattern.len() as u64);
+    let mut buffer = [0; WINDOW];
+    let mut status = Status::Failure;
+    let mut from = start;
+    while from < end {
+        let n = (size - from).min(WINDOW as u64) as usize;
+        let found = found_from(alloc, &finder, sources, from, &mut buffer[..n])?;
+        write_bytes(writer, &found.lines)?;
+        status = status_with(status, &found.lines);
+        from = found.next;
+    }
+    Ok(status)
+}
