@@ -1,5 +1,5 @@
 -- All the places of a pattern: those that lead on from one place to a later one, and those in a part of a text.
-use Rattle.std.proofs.Common.{◌≡◌, ℕ, zero, suc, ◌+◌, ◌-◌, ◌<◌, ◌≤◌, List, [], ◌∷◌, ◌++◌, length, take, drop, get_or, Option, Some, None, inl, inr, refl, sym, ap, subst, ◌∙◌, append_assoc, arith}
+use Rattle.std.proofs.Common.{◌≡◌, ℕ, zero, suc, ◌+◌, ◌-◌, ◌<◌, ◌≤◌, List, [], ◌∷◌, ◌++◌, length, take, drop, get_or, Some, None, inl, inr, sym, ap, subst, ◌∙◌, append_assoc, arith}
 use Rattle.std.proofs.lemmas.Bool.{cases_Bool, cases_lt, false≢true}
 use Rattle.std.proofs.lemmas.List.{append-nil, get_or-drop, get_or-take, length-drop, length-take, take_all}
 use Rattle.memchr.specs.Find.{FindsNeedle, OccursAt, occurs_at}
@@ -89,17 +89,17 @@ all_earlier s t from next [] le none all = λ j above stands.
       | inr past ↦ all j past stands
     ]
 all_earlier s t from next (k ∷ ks) le none all = (
-      record {
-        from = omega (arith, le, all.0.from);
-        stands = all.0.stands;
-        none_before = λ j above below stands.
-            elim (cases_lt j next) [
-              | inl short ↦ none j above short stands
-              | inr past ↦ all.0.none_before j past below stands
-            ];
-      },
-      all.1,
-    )
+  record {
+    from = omega (arith, le, all.0.from);
+    stands = all.0.stands;
+    none_before = λ j above below stands.
+        elim (cases_lt j next) [
+          | inl short ↦ none j above short stands
+          | inr past ↦ all.0.none_before j past below stands
+        ];
+  },
+  all.1,
+)
 
 pub lead_nowhere : (s t : List ℕ) (start next : ℕ) → start ≡ next → LeadTo s t start [] next
 lead_nowhere s t start next is rest all = subst (λ (p : ℕ). AreAllPlaces s t p rest) (sym is) all
@@ -123,21 +123,23 @@ all_there : (s t : List ℕ) (n start : ℕ) → length t < start + n → (place
 all_there s t zero start short = ([], λ j above stands. absurd (omega (arith, stands.inside, above, short)))
 all_there s t (suc n) start short =
     elim (cases_Bool (occurs_at t s start)) [
-      | inl yes ↦
-          let more = all_there s t n (behind s start) (omega (arith, short)) in
-          (start ∷ more.0, (
-            record {
-              from = omega arith;
-              stands = stands_of s t start (OccursAt-true t s start yes);
-              none_before = λ j above below stands. absurd (omega (arith, above, below));
-            },
-            more.1,
-          ))
-      | inr no ↦
+      | inl here ↦
+          let more = all_there s t n (behind s start) (omega (arith, short)) in (
+            start ∷ more.0,
+            (
+              record {
+                from = omega arith;
+                stands = stands_of s t start (OccursAt-true t s start here);
+                none_before = λ j above below stands. absurd (omega (arith, above, below));
+              },
+              more.1,
+            ),
+          )
+      | inr not_here ↦
           let more = all_there s t n (start + 1) (omega (arith, short)) in
           let none : (j : ℕ) → start ≤ j → j < start + 1 → ¬ StandsAt s t j = λ j above below stands.
-              let here : j ≡ start = omega (arith, above, below) in
-              false≢true (sym no ∙ occurs_at-true t s start (occurs_of s t start (subst (StandsAt s t) here stands))) in
+          let same : j ≡ start = omega (arith, above, below) in
+          false≢true (sym not_here ∙ occurs_at-true t s start (occurs_of s t start (subst (StandsAt s t) same stands))) in
           (more.0, all_earlier s t start (start + 1) more.0 (omega arith) none more.1)
     ]
 

@@ -1,6 +1,6 @@
 -- The places that were found in a file, window by window.
-use Rattle.std.proofs.Common.{◌≡◌, ◌⊎◌, ℕ, ◌+◌, ◌-◌, ◌<◌, ◌≤◌, max, List, [], ◌∷◌, ◌++◌, length, map, take, drop, get_or, Option, Some, None, Err, Ok, inl, inr, refl, sym, ap, subst, ◌∙◌, arith, length-append}
-use Rattle.std.specs.Prelude.{Result, IfSome, codes, slice_index}
+use Rattle.std.proofs.Common.{◌≡◌, ◌==◌, Bool, false, ℕ, zero, suc, ◌+◌, ◌-◌, ◌<◌, ◌≤◌, max, List, [], ◌∷◌, ◌++◌, length, map, take, drop, get_or, Option, Some, None, Err, Ok, inl, inr, refl, sym, ap, subst, ◌∙◌, arith, length-append}
+use Rattle.std.specs.Prelude.{Result, IfSome, IsErrOf, codes, slice_index}
 use Rattle.std.specs.Fmt.{decimal}
 use Rattle.std.specs.List.{range_with_len}
 use Rattle.std.specs.Io.KnownBytes.{Appends}
@@ -22,12 +22,12 @@ use Rattle.cord_tools.specs.Faults.{read_fault}
 use Rattle.cord_tools.specs.Files.{OfFile, file_bytes, file_cells, place_line}
 use Rattle.cord_tools.specs.Unread.{AmongCells, IsUnread, ReadsCells}
 use Rattle.cord_tools.specs.declared.fault.ToolFault.{ToolFault}
-use Rattle.cord_tools.specs.declared.fault.ToolFault.TheVariants.{Write}
+use Rattle.cord_tools.specs.declared.fault.ToolFault.TheVariants.{PatternTooLong, Write}
 use Rattle.cord_tools.specs.declared.status.Status.{Status}
 use Rattle.cord_tools.specs.declared.status.Status.TheVariants.{Success, Failure}
 use Rattle.cord_tools.proofs.AllPlaces.{first_in, lead_as_first, lead_both, lead_nowhere, lead_past, lead_to_all, lead_to_place, none_in}
-use Rattle.session_image.proofs.Sections.{appends_then, prefix_then}
-use Rattle.cord_tools.proofs.UnreadCells.{read_told}
+use Rattle.session_image.proofs.Sections.{appends_nothing, appends_then, prefix_then}
+use Rattle.cord_tools.proofs.UnreadCells.{other_cells, read_told}
 
 -- ---- the lines of places in bytes
 
@@ -60,12 +60,17 @@ in_past s bytes first at next lines h none le short = record {
 pub read_stands : (st : Stated) (from n : ℕ) (read : List ℕ) → length read ≡ n → from + n ≤ slice_index st.sizes 0 → IfSome (text_at st 0) (λ t. read ≡ take n (drop from t)) → OfFile st 0 (λ t. StandsAt read t from)
 read_stands st from n read long inside is source agrees stated =
     let size = get_or st.sizes 0 0 in
+    let begin : 0 + from ≡ from = omega arith in
     let bytes : take n (drop from (file_bytes st.sizes source 0)) ≡ read =
-    span-map (source 0) n from (range_with_len 0 size) ∙ ap (map (source 0)) (span-range_with_len n from 0 size inside ∙ ap (λ (p : ℕ). range_with_len p n) (omega arith)) ∙ sym (agreed_read st source 0 from n read agrees stated long is) in
+    span-map (source 0) n from (range_with_len 0 size) ∙ ap (map (source 0)) (span-range_with_len n from 0 size inside ∙ ap (λ (p : ℕ). range_with_len p n) begin) ∙ sym (agreed_read st source 0 from n read agrees stated long is) in
     record {
       inside = omega (arith, length-map-range_with_len (source 0) 0 size, inside, long);
       same = ap (λ (m : ℕ). take m (drop from (file_bytes st.sizes source 0))) long ∙ bytes;
     }
+
+pub some_bytes : (n : ℕ) (is_empty : Bool) → is_empty ≡ (n == 0) → is_empty ≡ false → 0 < n
+some_bytes zero is_empty tested none = absurd cc
+some_bytes (suc n) is_empty tested none = omega arith
 
 -- no bytes stand anywhere inside it
 pub none_stand : (st : Stated) (from : ℕ) (read : List ℕ) → read ≡ [] → from ≤ slice_index st.sizes 0 → OfFile st 0 (λ t. StandsAt read t from)
@@ -113,14 +118,15 @@ cells_earlier old new cells start from outcome le h = record {
         let there : get_or (drop start cells) ((from - start) + k) x ≡ x = get_or-drop start cells ((from - start) + k) x ∙ ap (λ (m : ℕ). get_or cells m x) same ∙ sym (get_or-drop from cells k x) ∙ at in
         ((from - start) + k, x, omega (arith, lt, le, length-drop from cells, length-drop start cells), there, is)
 
--- ---- a file's places so far
+-- what a call read that was stopped, of sources that are as they were
+pub reads_earlier : {X Y : Type 0} (old mid new : Reading) (start from : ℕ) (e : ToolFault) → mid ≡ old → start ≤ from → ReadsCells {X = X} mid new (drop from (file_cells mid.stated.sizes 0)) (Err e)
+    → ReadsCells {X = Y} old new (drop start (file_cells old.stated.sizes 0)) (Err e)
+reads_earlier {X} {Y} old mid new start from e same le h =
+    let cells = file_cells old.stated.sizes 0 in
+    let there : ReadsCells {X = X} old new (drop from cells) (Err e) = subst (λ (r : Reading). ReadsCells {X = X} r new (drop from (file_cells r.stated.sizes 0)) (Err e)) same h in
+    cells_earlier {X = Y} old new cells start from (Err e) le (other_cells old new (drop from cells) e there)
 
-pub on_file : (st : Stated) (s bytes : List ℕ) (first next : ℕ) (lines : List ℕ) → OfFile st 0 (λ t. StandsAt bytes t first) → FindsIn s bytes first next lines → FindsOn st s first next lines
-on_file st s bytes first next lines there h = record {
-  places = h.places;
-  lead = λ source agrees stated. h.lead (file_bytes st.sizes source 0) (there source agrees stated);
-  told = h.told;
-}
+-- ---- a file's places so far
 
 -- what the search has written that has come to a place
 pub record HasFound (st : Stated) (s : List ℕ) (start from : ℕ) (status : Status) (before now : Option (List ℕ)) : Type 0 where
@@ -128,6 +134,10 @@ pub record HasFound (st : Stated) (s : List ℕ) (start from : ℕ) (status : St
   pub found : FindsOn st s start from lines
   pub status_of : status ≡ places_status found.places
   pub written : Appends before now lines
+
+-- the same places, where the pattern and the sources are said otherwise
+pub found_of : (mid old : Reading) (q s : List ℕ) (start next : ℕ) (lines : List ℕ) → mid ≡ old → q ≡ s → FindsOn mid.stated q start next lines → FindsOn old.stated s start next lines
+found_of mid old q s start next lines same is h = subst (λ (r : Reading). FindsOn r.stated s start next lines) same (subst (λ (p : List ℕ). FindsOn mid.stated p start next lines) is h)
 
 both : (st : Stated) (s : List ℕ) (start from next : ℕ) (lines more : List ℕ) → FindsOn st s start from lines → FindsOn st s from next more → FindsOn st s start next (lines ++ more)
 both st s start from next lines more h f = record {
@@ -145,8 +155,17 @@ status_both places (k ∷ ks) lines status later was told none some =
     success [] = refl
     success (x ∷ xs) = refl
 
+pub found_none : (st : Stated) (s : List ℕ) (start : ℕ) (before : Option (List ℕ)) → HasFound st s start start Failure before before
+found_none st s start before = record {
+  lines = [];
+  found = record { places = []; lead = λ source agrees stated. lead_nowhere s (file_bytes st.sizes source 0) start start refl; told = refl };
+  status_of = refl;
+  written = appends_nothing before;
+}
+
 pub found_more : (st : Stated) (s : List ℕ) (start from next : ℕ) (status later : Status) (lines : List ℕ) (before mid now : Option (List ℕ)) → HasFound st s start from status before mid → FindsOn st s from next lines
     → (lines ≡ [] → later ≡ status) → (0 < length lines → later ≡ Success) → Appends mid now lines → HasFound st s start next later before now
+unfolding both
 found_more st s start from next status later lines before mid now h f none some more = record {
   lines = h.lines ++ lines;
   found = both st s start from next h.lines lines h.found f;
@@ -158,10 +177,10 @@ found_more st s start from next status later lines before mid now h f none some 
 
 first_places : (st : Stated) (s : List ℕ) (start from : ℕ) (lines : List ℕ) (P : List ℕ → Type 0) → FindsOn st s start from lines → P lines → OfFirstPlaces st start s P
 first_places st s start from lines P h told = (
-      h.places,
-      λ source agrees stated. lead_as_first s (file_bytes st.sizes source 0) start from h.places (h.lead source agrees stated),
-      subst P h.told told,
-    )
+  h.places,
+  λ source agrees stated. lead_as_first s (file_bytes st.sizes source 0) start from h.places (h.lead source agrees stated),
+  subst P h.told told,
+)
 
 pub found_stopped : (st : Stated) (s : List ℕ) (start from : ℕ) (status : Status) (before now : Option (List ℕ)) (e : ToolFault) → HasFound st s start from status before now → IsUnread e → AnswersFindAll st start s before now (Err e)
 found_stopped st s start from status before now e h (inl is) = rw is (first_places st s start from h.lines (Appends before now) h.found h.written)
@@ -176,10 +195,14 @@ found_unwritten st s start from next status lines before mid now h f more =
 
 pub found_all : (st : Stated) (s : List ℕ) (start from : ℕ) (status : Status) (before now : Option (List ℕ)) → HasFound st s start from status before now → (slice_index st.sizes 0 + 1) - length s ≤ from → AnswersFindAll st start s before now (Ok status)
 found_all st s start from status before now h ended = (
-      h.found.places,
-      λ source agrees stated.
-          let t = file_bytes st.sizes source 0 in
-          lead_to_all s t start from h.found.places (h.found.lead source agrees stated) (λ j above stands. absurd (omega (arith, ended, above, stands.inside, length-map-range_with_len (source 0) 0 (get_or st.sizes 0 0)))),
-      h.status_of,
-      subst (Appends before now) h.found.told h.written,
-    )
+  h.found.places,
+  λ source agrees stated.
+      let t = file_bytes st.sizes source 0 in
+      lead_to_all s t start from h.found.places (h.found.lead source agrees stated) (λ j above stands. absurd (omega (arith, ended, above, stands.inside, length-map-range_with_len (source 0) 0 (get_or st.sizes 0 0)))),
+  h.status_of,
+  subst (Appends before now) h.found.told h.written,
+)
+
+pub not_too_long : {X : Type 0} (e : ToolFault) → IsUnread e → IsErrOf {T = X} (Err e) PatternTooLong → ⊥
+not_too_long e (inl is) long = absurd cc
+not_too_long e (inr is) long = absurd cc

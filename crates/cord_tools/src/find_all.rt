@@ -52,9 +52,7 @@ fn found_in(
     requires short { length finder.now ≤ length bytes.now }
     requires few { length finder.now ≤ 4096 }
     ensures found { IfOk result (λ found. FindsIn finder.now bytes.now first found.next found.lines.items) }
-    ensures next { IfOk result (λ found.
-        first + (length bytes.now + 1) ≤ found.next + length finder.now) }
-    ensures last { IfOk result (λ found. found.next ≤ first + length bytes.now + 1) }
+    ensures next { IfOk result (λ found. first < found.next) }
 {
     let need = finder.needle().len();
     let mut lines = Vec::new(alloc);
@@ -78,10 +76,10 @@ fn read_part<T: Sources>(sources: &mut T, from: u64, part: &mut [u8]) -> Result<
     ensures reads { ReadsCells (T.reading sources.old) (T.reading sources.new)
         (drop from (file_cells (T.reading sources.old).stated.sizes 0)) result }
 {
-    if !part.is_empty() {
-        sources.read(0, from, part)?;
+    if part.is_empty() {
+        return Ok(());
     }
-    Ok(())
+    Ok(sources.read(0, from, part)?)
 }
 
 /// The places of the pattern in the first source from its byte `from` on, as far as the window takes its bytes.
@@ -98,8 +96,7 @@ fn found_from<T: Sources>(
     requires few { length finder.now ≤ 4096 }
     ensures found { IfOk result (λ found.
         FindsOn (T.reading sources.old).stated finder.now from found.next found.lines.items) }
-    ensures next { IfOk result (λ found.
-        from + (length window.old + 1) ≤ found.next + length finder.now) }
+    ensures next { IfOk result (λ found. from < found.next) }
     ensures fault { IfErr result IsUnread }
     ensures reads { ReadsCells (T.reading sources.old) (T.reading sources.new)
         (drop from (file_cells (T.reading sources.old).stated.sizes 0)) result }

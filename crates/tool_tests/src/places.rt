@@ -28,7 +28,12 @@ fn assert_places<R: AllocGlobal + Abort, S: Sources>(
 #[test]
 fn each_place_is_behind_the_end_of_the_one_before(rt: HostRuntime) {
     for (text, start, pattern, lines) in [
-        (b"aaaaa".as_slice(), 0, b"aa".as_slice(), b"0\n2\n".as_slice()),
+        (
+            b"aaaaa".as_slice(),
+            0,
+            b"aa".as_slice(),
+            b"0\n2\n".as_slice(),
+        ),
         (b"aaaaa", 1, b"aa", b"1\n3\n"),
         (b"aaaaa", 3, b"aa", b"3\n"),
         (b"abcabcabc", 0, b"abcabc", b"0\n"),

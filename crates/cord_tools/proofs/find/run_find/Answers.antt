@@ -1,10 +1,10 @@
-use Rattle.std.proofs.Common.{List, ℕ, ◌∙◌, subst}
+use Rattle.std.proofs.Common.{List, ℕ, ◌++◌, ◌∙◌, ap, subst}
 use Rattle.std.specs.Prelude.{Option}
 use Rattle.std.proofs.lemmas.Result.{err_from_is_err_and}
 use Rattle.std.specs.Io.KnownBytes.{Appends}
 use Rattle.byte_output.specs.Prefix.{AppendsPrefix}
 use Rattle.cord_search.specs.Places.{IsFirst}
-use Rattle.cord_tools.specs.Files.{OfFile}
+use Rattle.cord_tools.specs.Files.{OfFile, place_line}
 use Rattle.cord_tools.specs.declared.fault.ToolFault.TheVariants.{PatternTooLong}
 use Rattle.cord_tools.proofs.ToolFaults.{find_stopped}
 use Rattle.cord_tools.proofs.UnreadCells.{not_read, other_cells, same_after, same_error}
@@ -14,12 +14,13 @@ pub returns-in_err-write_bytes-in-Some : goal.returns-in_err-write_bytes-in-Some
 returns-in_err-write_bytes-in-Some g c =
     let p = err_from_is_err_and c.from_residual-in_err-write_bytes-in-Some.result c.from_residual-in_err-write_bytes-in-Some.ensures.1 in
     let st = (g.T.Sources.reading c.args.sources.now).stated in
+    let line = c.deref.ensures.value ∙ c.in_ok-push_line-in-Some.ensures ∙ ap (λ (xs : List ℕ). xs ++ place_line c.in-Some.place) c.new-line.ensures.items in
     rw (p.1, p.2) (record {
       reads = not_read (g.T.Sources.reading c.args.sources.now) (g.T.Sources.reading c.first_place.new.sources) _ _ (same_after (g.T.Sources.reading c.args.sources.now) (g.T.Sources.reading c.first_place.new.sources) _ _ c.in_ok-place.ensures.reads.at) (λ is. absurd cc);
       answer = (
         c.in-Some.place,
         subst (λ (found : Option ℕ). OfFile st 0 (λ t. IsFirst c.args.pattern.now t c.args.start found)) c.in-Some.is c.in_ok-place.ensures.found,
-        subst (λ (line : List ℕ). AppendsPrefix (g.W.Write.contents c.args.writer.now) (g.W.Write.contents c.write_bytes.new.writer) line) (c.as_bytes.ensures.value ∙ c.in_ok-line-in-Some.ensures) c.in_err-write_bytes-in-Some.ensures.err,
+        subst (λ (xs : List ℕ). AppendsPrefix (g.W.Write.contents c.args.writer.now) (g.W.Write.contents c.write_bytes.new.writer) xs) line c.in_err-write_bytes-in-Some.ensures.err,
       );
       too_long = (λ is. absurd cc, λ long. let is = c.in_ok-place.ensures.too_long.1 long in absurd cc);
     })
@@ -37,12 +38,13 @@ returns-in_err-place g c =
 pub returns-in_ok-write_bytes-in-Some : goal.returns-in_ok-write_bytes-in-Some
 returns-in_ok-write_bytes-in-Some g c =
     let st = (g.T.Sources.reading c.args.sources.now).stated in
+    let line = c.deref.ensures.value ∙ c.in_ok-push_line-in-Some.ensures ∙ ap (λ (xs : List ℕ). xs ++ place_line c.in-Some.place) c.new-line.ensures.items in
     record {
       reads = not_read (g.T.Sources.reading c.args.sources.now) (g.T.Sources.reading c.first_place.new.sources) _ _ (same_after (g.T.Sources.reading c.args.sources.now) (g.T.Sources.reading c.first_place.new.sources) _ _ c.in_ok-place.ensures.reads.at) (λ is. absurd cc);
       answer = (
         c.in-Some.place,
         subst (λ (found : Option ℕ). OfFile st 0 (λ t. IsFirst c.args.pattern.now t c.args.start found)) c.in-Some.is c.in_ok-place.ensures.found,
-        subst (λ (line : List ℕ). Appends (g.W.Write.contents c.args.writer.now) (g.W.Write.contents c.write_bytes.new.writer) line) (c.as_bytes.ensures.value ∙ c.in_ok-line-in-Some.ensures) c.in_ok-write_bytes-in-Some.ensures.ok,
+        subst (λ (xs : List ℕ). Appends (g.W.Write.contents c.args.writer.now) (g.W.Write.contents c.write_bytes.new.writer) xs) line c.in_ok-write_bytes-in-Some.ensures.ok,
       );
       too_long = (λ is. absurd cc, λ long. let is = c.in_ok-place.ensures.too_long.1 long in absurd cc);
     }
