@@ -50,7 +50,6 @@ fn found_in(
 ) -> Result<Found, AllocError>
     requires limit { first + length bytes.now < 2 ^ 41 }
     requires short { length finder.now ≤ length bytes.now }
-    requires few { length finder.now ≤ 4096 }
     ensures found { IfOk result (λ found. FindsIn finder.now bytes.now first found.next found.lines.items) }
     ensures next { IfOk result (λ found. first < found.next) }
 {
@@ -93,7 +92,6 @@ fn found_from<T: Sources>(
     requires size { slice_index (T.reading sources.old).stated.sizes 0 < 2 ^ 40 }
     requires inside { from + length window.old ≤ slice_index (T.reading sources.old).stated.sizes 0 }
     requires short { length finder.now ≤ length window.old }
-    requires few { length finder.now ≤ 4096 }
     ensures found { IfOk result (λ found.
         FindsOn (T.reading sources.old).stated finder.now from found.next found.lines.items) }
     ensures next { IfOk result (λ found. from < found.next) }
