@@ -24,6 +24,7 @@ pub use edit::{may_replace, run_edit, run_kept};
 pub use fault::ToolFault;
 pub use find::run_find;
 pub use find_all::run_find_all;
+pub use input::read_image;
 pub use join::run_join;
 pub use migrate::run_migrate;
 pub use outcome::{Outcome, exit_status};
