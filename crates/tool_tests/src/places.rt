@@ -19,7 +19,8 @@ fn assert_places<R: AllocGlobal + Abort, S: Sources>(
 ) {
     let mut writer = Taker::with_room(64, Full::Fails);
     let at = (start, pattern.len());
-    assert!(rt; sources.count() >= 1);
+    let count = sources.count();
+    assert!(rt; count >= 1);
     let found = run_find_all(rt.alloc(), sources, start, pattern, &mut writer);
     assert_same(rt, &found, &ended, &at);
     assert_same(rt, &writer.taken(), &lines, &at);
@@ -83,10 +84,12 @@ fn a_long_pattern_is_refused(rt: HostRuntime) {
 /// A text in which `aa` stands at 7, at 65,535, where the first 65,536 bytes end, and at 70,000.
 fn long_text() -> [u8; 70_010] {
     let mut text = [b'b'; 70_010];
-    for place in [7, 65_535, 70_000] {
-        text[place] = b'a';
-        text[place + 1] = b'a';
-    }
+    text[7] = b'a';
+    text[8] = b'a';
+    text[65_535] = b'a';
+    text[65_536] = b'a';
+    text[70_000] = b'a';
+    text[70_001] = b'a';
     text
 }
 
