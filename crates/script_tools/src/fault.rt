@@ -1,7 +1,13 @@
-//! Why a script gave no image.
+//! Why a script gave no image, and an image no log.
 
+ghost use Rattle.std.specs.Prelude.{◌≡◌};
+ghost use Rattle.script_tools.specs.declared.fault.LogFault.TheVariants.{Memory, Write};
+
+use byte_output::WriteFault;
 use edit_commands::EditFault;
 use edit_script::Stopped;
+use session_checker::CheckFault;
+use std::alloc::{AllocError, AllocFailed};
 
 /// Why a script gave no image.
 #[derive(Clone, Copy, Debug, PartialEq, Eq)]
@@ -12,4 +18,39 @@ pub enum ApplyFault {
     Source(EditFault),
     /// The image was not written to its end.
     Write,
+}
+
+/// Why a log was not written to its end.
+#[derive(Clone, Copy, Debug, PartialEq, Eq)]
+pub enum LogFault {
+    /// The image was not accepted: it is refused, or a read of a source failed.
+    Check(CheckFault),
+    /// Memory for a piece of a line was refused.
+    Memory,
+    /// The writer failed, or took no byte.
+    Write,
+}
+
+impl From<AllocError> for LogFault {
+    ghost from_gives = { λ _ e. e ≡ Memory };
+
+    fn from(_error: AllocError) -> LogFault {
+        LogFault::Memory
+    }
+}
+
+impl<T: Drop> From<AllocFailed<T>> for LogFault {
+    ghost from_gives = { λ _ e. e ≡ Memory };
+
+    fn from(_error: AllocFailed<T>) -> LogFault {
+        LogFault::Memory
+    }
+}
+
+impl From<WriteFault> for LogFault {
+    ghost from_gives = { λ _ e. e ≡ Write };
+
+    fn from(_fault: WriteFault) -> LogFault {
+        LogFault::Write
+    }
 }
