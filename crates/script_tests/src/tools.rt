@@ -10,7 +10,7 @@ use std::io::{Error, ErrorKind, Write};
 use std::process::Abort;
 
 /// The insertion of `abc` as it is worked by hand, in version 2: its header, node, two revisions, row and pool.
-const ONE_INSERT: &[u8] = b"CORDSESS\0\0\0\x02\0\0\0\0\0\0\0\x01\0\0\0\x02\
+pub(crate) const ONE_INSERT: &[u8] = b"CORDSESS\0\0\0\x02\0\0\0\0\0\0\0\x01\0\0\0\x02\
     \0\0\0\x01\0\0\0\0\0\0\0\0\0\0\0\x03\
     \x01\0\0\0\0\0\0\0\0\0\0\0\0\0\0\x03\0\0\0\0\0\0\0\0\
     \0\0\0\0\0\0\0\0\
@@ -24,15 +24,15 @@ const ONE_INSERT: &[u8] = b"CORDSESS\0\0\0\x02\0\0\0\0\0\0\0\x01\0\0\0\x02\
     abc";
 
 /// Fails the test where the two differ, and prints both.
-fn assert_same<A: Abort, T: PartialEq + Debug>(rt: &A, found: &T, wanted: &T) {
+pub(crate) fn assert_same<A: Abort, T: PartialEq + Debug>(rt: &A, found: &T, wanted: &T) {
     assert_eq!(rt; found, wanted);
 }
 
 /// A writer that takes so many bytes, and then fails.
 #[derive(Drop)]
-struct Taker<'a> {
-    left: usize,
-    taken: &'a mut Vec<u8>,
+pub(crate) struct Taker<'a> {
+    pub(crate) left: usize,
+    pub(crate) taken: &'a mut Vec<u8>,
 }
 
 impl Write for Taker<'_> {
@@ -56,14 +56,18 @@ impl Write for Taker<'_> {
 }
 
 /// The image that a script makes over sources of these lengths, or why it makes none.
-fn applied<A: AllocGlobal>(rt: &A, script: &[u8], lens: &[u64]) -> Result<Vec<u8>, ApplyFault> {
+pub(crate) fn applied<A: AllocGlobal>(
+    rt: &A,
+    script: &[u8],
+    lens: &[u64],
+) -> Result<Vec<u8>, ApplyFault> {
     let mut image: Vec<u8> = Vec::new(rt.alloc());
     run_apply(rt.alloc(), script, lens, &mut image)?;
     Ok(image)
 }
 
 /// Its script, each line with its end and a comment.
-const ONE_INSERT_LINES: &[u8] = b"new # 0: 0 bytes, depth 0, 0 rows
+pub(crate) const ONE_INSERT_LINES: &[u8] = b"new # 0: 0 bytes, depth 0, 0 rows
 insert 0 0 \"abc\" # 1: 3 bytes, depth 0, balanced, 1 rows
 ";
 

@@ -1,14 +1,20 @@
 //! What a log is worth.
 
-ghost use Rattle.std.specs.Prelude.{◌≡◌, ℕ, List, All, length, map};
+ghost use Rattle.std.specs.Prelude.{◌≡◌, ℕ, List, All, Ok, Option, length, map};
 ghost use Rattle.edit_commands.specs.Session.{SessionValue, texts_of};
 ghost use Rattle.edit_script.specs.Commands.{StandsInside, words_of};
 ghost use Rattle.edit_script.specs.Applied.{lines_of};
 ghost use Rattle.edit_script.specs.Scripts.{ReadsScript};
 ghost use Rattle.script_tools.specs.Applied.{IsMadeByScript};
+ghost use Rattle.script_tools.specs.Logged.{log_of};
+ghost use Rattle.script_tools.specs.declared.shown.LogTexts.TheVariants.{Whole};
 ghost use Rattle.image_reader.specs.Value.{ImageValue};
-ghost use Rattle.session_checker.specs.Faithful.{givens, commands, texts};
+ghost use Rattle.lazy_file.specs.Readings.{Reading};
+ghost use Rattle.session_checker.specs.Faithful.{EachRevision, givens, commands, texts};
+ghost use Rattle.session_checker.specs.Limits.{ChecksWithin};
+ghost use Rattle.session_checker.specs.RevisionRules.{HasSameBytes};
 ghost use Rattle.span_certificate.specs.Commands.{IsHistory};
+ghost use Rattle.span_certificate.specs.Covers.{SameOver};
 
 use edit_script::says_the_texts;
 
@@ -23,4 +29,26 @@ pub fn has_the_texts()
         → texts_of source v ≡ texts w source }
 {
     says_the_texts();
+}
+
+/// The log of an accepted image, with its texts whole, is read as the image's commands, bytes for bytes.
+pub fn says_the_commands()
+    ensures { (at_most : Option ℕ) (old new : Reading) (bytes : List ℕ) (w : ImageValue)
+        → ChecksWithin at_most old new bytes (Ok w)
+        → ReadsScript (lines_of (log_of Whole w)) (map (words_of w.pool) (commands w)) }
+{
+}
+
+/// A session that the log of an accepted image made, over sources of the image's lengths, has the image's texts, whatever bytes the
+/// sources hold over which the image's rows of bytes have the same bytes on both sides.
+pub fn gives_the_texts_again()
+    ensures { (at_most : Option ℕ) (old new : Reading) (bytes : List ℕ) (w : ImageValue) (v : SessionValue)
+        (source : ℕ → ℕ → ℕ)
+        → ChecksWithin at_most old new bytes (Ok w)
+        → EachRevision w (HasSameBytes w (SameOver source))
+        → IsMadeByScript w.sources (log_of Whole w) v
+        → texts_of source v ≡ texts w source }
+{
+    has_the_texts();
+    says_the_commands();
 }

@@ -1,0 +1,45 @@
+-- Texts as a log shows them, put together of their pieces.
+use Rattle.std.proofs.Common.{◌≡◌, ℕ, zero, suc, ◌+◌, ◌<◌, List, [], ◌∷◌, ◌++◌, length, take, drop, Option, Some, refl, sym, ap, ◌∙◌, append_assoc, arith}
+use Rattle.std.specs.Prelude.{slice_get}
+use Rattle.std.specs.List.{flat_map, range_with_len}
+use Rattle.std.specs.Fmt.{decimal}
+use Rattle.std.proofs.lemmas.List.{append-nil}
+use Rattle.span_certificate.specs.declared.edit.Splice.{Splice}
+use Rattle.edit_script.specs.Words.{Word, Quoted, escaped, numbers_on}
+use Rattle.edit_script.specs.Commands.{splice_words}
+use Rattle.script_tools.specs.declared.shown.LogTexts.{LogTexts}
+use Rattle.script_tools.specs.Logged.{dots, shown, shown_on, shown_word}
+
+-- a blank and the quote, what is shown, and what is behind it
+pub shown_text : (texts : LogTexts) (text : List ℕ) → (32 ∷ 34 ∷ []) ++ (flat_map escaped (shown texts text) ++ (34 ∷ dots texts text)) ≡ 32 ∷ shown_word texts (Quoted text)
+shown_text texts text = ap (λ (t : List ℕ). 32 ∷ 34 ∷ t) (sym (append_assoc (flat_map escaped (shown texts text)) (34 ∷ []) (dots texts text)))
+
+-- the words of one splice
+abbrev pub splice_shown : LogTexts → List ℕ → Splice → List ℕ
+splice_shown texts pool s = shown_on texts (splice_words pool (s ∷ []))
+
+-- its numbers, and its text
+pub shown_splice : (texts : LogTexts) (pool : List ℕ) (s : Splice) → numbers_on (s.p ∷ s.m ∷ []) ++ (32 ∷ shown_word texts (Quoted (take s.n (drop s.a pool)))) ≡ splice_shown texts pool s
+shown_splice texts pool s =
+    let p = decimal s.p in
+    let m = decimal s.m in
+    let w = shown_word texts (Quoted (take s.n (drop s.a pool))) in
+    ap (λ (t : List ℕ). 32 ∷ t) (
+      append_assoc p (32 ∷ (m ++ [])) (32 ∷ w)
+      ∙ ap (λ (t : List ℕ). p ++ 32 ∷ t) (ap (λ (t : List ℕ). t ++ 32 ∷ w) (append-nil m) ∙ ap (λ (t : List ℕ). m ++ 32 ∷ t) (sym (append-nil w))))
+
+shown_behind : (texts : LogTexts) (xs ys : List Word) → shown_on texts (xs ++ ys) ≡ shown_on texts xs ++ shown_on texts ys
+shown_behind texts [] ys = refl
+shown_behind texts (w ∷ ws) ys = ap (λ (t : List ℕ). (32 ∷ shown_word texts w) ++ t) (shown_behind texts ws ys) ∙ sym (append_assoc (32 ∷ shown_word texts w) (shown_on texts ws) (shown_on texts ys))
+
+-- the words of splices are those of each, one behind the other
+pub splices_shown : (texts : LogTexts) (pool : List ℕ) (splices : List Splice) → flat_map (splice_shown texts pool) splices ≡ shown_on texts (splice_words pool splices)
+splices_shown texts pool [] = refl
+splices_shown texts pool (s ∷ splices) =
+    ap (λ (t : List ℕ). splice_shown texts pool s ++ t) (splices_shown texts pool splices) ∙ sym (shown_behind texts (splice_words pool (s ∷ [])) (splice_words pool splices))
+
+-- the k-th of numbers in a row
+pub range_at : (from n k : ℕ) → k < n → slice_get (range_with_len from n) k ≡ Some (from + k)
+range_at from zero k lt = absurd (omega arith)
+range_at from (suc n) zero lt = let same : from ≡ from + 0 = omega arith in ap (λ (i : ℕ). Some i) same
+range_at from (suc n) (suc k) lt = let same : (from + 1) + k ≡ from + suc k = omega arith in range_at (from + 1) n k (omega arith) ∙ ap (λ (i : ℕ). Some i) same
