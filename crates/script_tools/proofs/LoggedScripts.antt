@@ -132,7 +132,7 @@ log_says v is records lines =
     let ks = range_with_len 0 (length v.revisions) in
     let printed : AllByRecursion IsPrinted (map (printed_at v) ks) =
     each_printed IsPrinted (printed_at v) 0 (length v.revisions) (λ k lt. let there : k < length v.revisions = omega (arith, lt) in
-      note_printed (words_of v.pool (command_at v k)) (noted_of v k) (lines k there) (some_words v.pool (command_at v k)) (noted_fits v is records k there)) in
+    note_printed (words_of v.pool (command_at v k)) (noted_of v k) (lines k there) (some_words v.pool (command_at v k)) (noted_fits v is records k there)) in
     let reads = log_reads (map (printed_at v) ks) printed in
     subst (λ (t : List ℕ). ReadsScript (lines_of t) (map (words_of v.pool) (commands v))) (sym (log_as_script v ks))
     (subst (ReadsScript (lines_of (script_of (map (printed_at v) ks)))) (words_at v ks ∙ commands_are v) reads)

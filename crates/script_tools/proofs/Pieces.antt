@@ -42,12 +42,11 @@ writes_same a b xs ys (Err e) same h = subst (AppendsPrefix a b) same h
 pub parts_to_next : {X : Type 0} (f : X → List ℕ) (xs : List X) (done more : ℕ) → flat_map f (take done xs) ++ flat_map f (take more (drop done xs)) ≡ flat_map f (take (done + more) xs)
 parts_to_next f xs done more = sym (ap (flat_map f) (take-add done more xs) ∙ flat_map-behind f (take done xs) (take more (drop done xs)))
 
--- and of those behind them
+-- and of the others
+pub parts_whole : {X : Type 0} (f : X → List ℕ) (xs : List X) (done : ℕ) → flat_map f (take done xs) ++ flat_map f (drop done xs) ≡ flat_map f xs
+parts_whole f xs done = sym (flat_map-behind f (take done xs) (drop done xs)) ∙ ap (flat_map f) (take-append-drop done xs)
+
 pub parts_and_rest : {X : Type 0} (f : X → List ℕ) (xs : List X) (done more : ℕ)
     → flat_map f (take done xs) ++ (flat_map f (take more (drop done xs)) ++ flat_map f (drop more (drop done xs))) ≡ flat_map f xs
 parts_and_rest f xs done more =
-    ap (λ (t : List ℕ). flat_map f (take done xs) ++ t) (sym (flat_map-behind f (take more (drop done xs)) (drop more (drop done xs))) ∙ ap (flat_map f) (take-append-drop more (drop done xs)))
-    ∙ parts_whole f xs done
-  where
-    parts_whole : {X : Type 0} (f : X → List ℕ) (xs : List X) (done : ℕ) → flat_map f (take done xs) ++ flat_map f (drop done xs) ≡ flat_map f xs
-    parts_whole f xs done = sym (flat_map-behind f (take done xs) (drop done xs)) ∙ ap (flat_map f) (take-append-drop done xs)
+    ap (λ (t : List ℕ). flat_map f (take done xs) ++ t) (parts_whole f (drop done xs) more) ∙ parts_whole f xs done

@@ -1,7 +1,7 @@
 //! Why a script gave no image, and an image no log.
 
 ghost use Rattle.std.specs.Prelude.{◌≡◌};
-ghost use Rattle.script_tools.specs.declared.fault.LogFault.TheVariants.{Memory, Write};
+ghost use Rattle.script_tools.specs.declared.fault.PieceFault.TheVariants.{Memory, Write};
 
 use byte_output::WriteFault;
 use edit_commands::EditFault;
@@ -31,26 +31,35 @@ pub enum LogFault {
     Write,
 }
 
-impl From<AllocError> for LogFault {
+/// Why a piece of a log was not written.
+#[derive(Clone, Copy, Debug, PartialEq, Eq)]
+pub(crate) enum PieceFault {
+    /// Memory for it was refused.
+    Memory,
+    /// The writer failed, or took no byte.
+    Write,
+}
+
+impl From<AllocError> for PieceFault {
     ghost from_gives = { λ _ e. e ≡ Memory };
 
-    fn from(_error: AllocError) -> LogFault {
-        LogFault::Memory
+    fn from(_error: AllocError) -> PieceFault {
+        PieceFault::Memory
     }
 }
 
-impl<T: Drop> From<AllocFailed<T>> for LogFault {
+impl<T: Drop> From<AllocFailed<T>> for PieceFault {
     ghost from_gives = { λ _ e. e ≡ Memory };
 
-    fn from(_error: AllocFailed<T>) -> LogFault {
-        LogFault::Memory
+    fn from(_error: AllocFailed<T>) -> PieceFault {
+        PieceFault::Memory
     }
 }
 
-impl From<WriteFault> for LogFault {
+impl From<WriteFault> for PieceFault {
     ghost from_gives = { λ _ e. e ≡ Write };
 
-    fn from(_fault: WriteFault) -> LogFault {
-        LogFault::Write
+    fn from(_fault: WriteFault) -> PieceFault {
+        PieceFault::Write
     }
 }

@@ -1,11 +1,13 @@
 //! What a log is worth.
 
-ghost use Rattle.std.specs.Prelude.{◌≡◌, ℕ, List, All, Ok, Option, length, map};
+ghost use Rattle.std.specs.Prelude.{◌≡◌, ◌≢◌, ℕ, List, All, Ok, Option, length, map};
 ghost use Rattle.edit_commands.specs.Session.{SessionValue, texts_of};
+ghost use Rattle.edit_script.specs.declared.fault.Stop.TheVariants.{NoCommand};
+ghost use Rattle.edit_script.specs.declared.fault.Stopped.{Stopped};
 ghost use Rattle.edit_script.specs.Commands.{StandsInside, words_of};
 ghost use Rattle.edit_script.specs.Applied.{lines_of};
 ghost use Rattle.edit_script.specs.Scripts.{ReadsScript};
-ghost use Rattle.script_tools.specs.Applied.{IsMadeByScript};
+ghost use Rattle.script_tools.specs.Applied.{IsMadeByScript, IsStopped};
 ghost use Rattle.script_tools.specs.Logged.{log_of};
 ghost use Rattle.script_tools.specs.declared.shown.LogTexts.TheVariants.{Whole};
 ghost use Rattle.image_reader.specs.Value.{ImageValue};
@@ -36,7 +38,16 @@ pub fn says_the_commands()
     ensures { (at_most : Option ℕ) (old new : Reading) (bytes : List ℕ) (w : ImageValue)
         → ChecksWithin at_most old new bytes (Ok w)
         → ReadsScript (lines_of (log_of Whole w)) (map (words_of w.pool) (commands w)) }
+{}
+
+/// Where a session does not take the log of an accepted image, it refuses a command or is out of memory: each line says a command.
+pub fn reads_each_line()
+    ensures { (at_most : Option ℕ) (old new : Reading) (bytes : List ℕ) (w : ImageValue) (at : Stopped)
+        → ChecksWithin at_most old new bytes (Ok w)
+        → IsStopped w.sources (log_of Whole w) at
+        → at.why ≢ NoCommand }
 {
+    says_the_commands();
 }
 
 /// A session that the log of an accepted image made, over sources of the image's lengths, has the image's texts, whatever bytes the

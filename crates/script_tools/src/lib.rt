@@ -9,6 +9,6 @@ mod shown;
 
 pub use applying::run_apply;
 pub use fault::{ApplyFault, LogFault};
-pub use law::{gives_the_texts_again, has_the_texts, says_the_commands};
+pub use law::{gives_the_texts_again, has_the_texts, reads_each_line, says_the_commands};
 pub use logging::run_log;
 pub use shown::{BRIEF_LEN, LogTexts};

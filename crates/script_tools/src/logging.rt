@@ -1,6 +1,6 @@
 //! The script of an image.
 
-ghost use Rattle.std.specs.Prelude.{◌≡◌, ◌∷◌, ◌++◌, ◌+◌, ◌<◌, ◌≤◌, ◌^◌, [], List, length, take, drop, OnOk};
+ghost use Rattle.std.specs.Prelude.{◌≡◌, ◌∷◌, ◌++◌, ◌+◌, ◌<◌, ◌≤◌, ◌^◌, [], List, length, take, drop, Ok, OnOk};
 ghost use Rattle.std.specs.List.{AllByRecursion};
 ghost use Rattle.rope_node.specs.Denotes.{IsRope, rope_depth};
 ghost use Rattle.span_certificate.specs.declared.edit.Splice.{Splice};
@@ -8,12 +8,12 @@ ghost use Rattle.span_certificate.specs.Commands.{NamesSplices, full_edit, with_
 ghost use Rattle.image_reader.specs.Value.{IsImage, image_table};
 ghost use Rattle.image_reader.specs.Accepted.{command_at, revision_at};
 ghost use Rattle.session_checker.specs.Faithful.{EachRevision};
-ghost use Rattle.edit_script.specs.Words.{line_of};
+ghost use Rattle.edit_script.specs.Words.{Quoted, line_of};
 ghost use Rattle.edit_script.specs.Commands.{StandsInside, front_of, splice_words, texts_of};
 ghost use Rattle.edit_script.specs.Scripts.{comment_of, noted_in};
-ghost use Rattle.script_tools.specs.Logged.{LogsImage, WritesText, log_of, noted_of, revision_line, shown_command, shown_on};
+ghost use Rattle.script_tools.specs.Logged.{LogsImage, WritesLog, WritesText, log_of, noted_of, revision_line, shown_command, shown_on};
 
-use crate::fault::LogFault;
+use crate::fault::{LogFault, PieceFault};
 use crate::shown::{LogTexts, put_numbers, write_piece, write_text};
 use edit_script::{Note, comment_text, push_front, span};
 use image_reader::{Image, Revision};
@@ -43,21 +43,37 @@ fn put_comment(alloc: Global, piece: &mut Vec<u8>, note: &Note) -> Result<(), Al
     Ok(piece.push(b'\n')?)
 }
 
+/// Writes the `n` bytes of an image's pool from `a` on, as a text of a command.
+fn write_span<W: io::Write>(
+    texts: LogTexts,
+    piece: &mut Vec<u8>,
+    image: &Image,
+    a: u64,
+    n: u64,
+    writer: &mut W,
+) -> Result<(), PieceFault>
+    requires { a + n ≤ length image.now.pool }
+    ensures { WritesText (W.contents writer.old) (W.contents writer.new)
+        (shown_on texts (Quoted (take n (drop a image.now.pool)) ∷ [])) result }
+{
+    write_text(texts, piece, span(image.pool(), a, n), writer)
+}
+
 /// Writes the words of a splice.
 fn write_splice<W: io::Write>(
     texts: LogTexts,
     piece: &mut Vec<u8>,
-    pool: &[u8],
+    image: &Image,
     splice: Splice,
     writer: &mut W,
-) -> Result<(), LogFault>
-    requires { splice.a + splice.n ≤ length pool.now }
+) -> Result<(), PieceFault>
+    requires { splice.a + splice.n ≤ length image.now.pool }
     ensures { WritesText (W.contents writer.old) (W.contents writer.new)
-        (shown_on texts (splice_words pool.now (splice ∷ []))) result }
+        (shown_on texts (splice_words image.now.pool (splice ∷ []))) result }
 {
     put_numbers(piece, splice.p, splice.m)?;
     write_piece(piece, writer)?;
-    write_text(texts, piece, span(pool, splice.a, splice.n), writer)
+    write_span(texts, piece, image, splice.a, splice.n, writer)
 }
 
 /// Writes the words of `count` splices of an image from splice `first` on.
@@ -68,7 +84,7 @@ fn write_splices<W: io::Write>(
     first: u32,
     count: u32,
     writer: &mut W,
-) -> Result<(), LogFault>
+) -> Result<(), PieceFault>
     requires there { first + count ≤ length image.now.splices }
     requires fit { first + count < 2 ^ 32 }
     requires inside { AllByRecursion (λ (s : Splice). s.a + s.n ≤ length image.now.pool)
@@ -77,7 +93,7 @@ fn write_splices<W: io::Write>(
         (shown_on texts (splice_words image.now.pool (take count (drop first image.now.splices)))) result }
 {
     for i in 0..count {
-        write_splice(texts, piece, image.pool(), image.splice(first + i), writer)?;
+        write_splice(texts, piece, image, image.splice(first + i), writer)?;
     }
     Ok(())
 }
@@ -89,15 +105,15 @@ fn write_texts<W: io::Write>(
     image: &Image,
     edit: &Edit,
     writer: &mut W,
-) -> Result<(), LogFault>
+) -> Result<(), PieceFault>
     requires named { NamesSplices image.now.splices edit.now }
     requires inside { StandsInside (length image.now.pool) (full_edit image.now.splices edit.now) }
     ensures { WritesText (W.contents writer.old) (W.contents writer.new)
         (shown_on texts (texts_of image.now.pool (full_edit image.now.splices edit.now))) result }
 {
     match *edit {
-        Edit::Insert { a, n, .. } => write_text(texts, piece, span(image.pool(), a, n), writer),
-        Edit::Replace { a, n, .. } => write_text(texts, piece, span(image.pool(), a, n), writer),
+        Edit::Insert { a, n, .. } => write_span(texts, piece, image, a, n, writer),
+        Edit::Replace { a, n, .. } => write_span(texts, piece, image, a, n, writer),
         Edit::Many { first, count, .. } => {
             write_splices(texts, piece, image, first, count, writer)
         }
@@ -112,7 +128,7 @@ fn write_command<W: io::Write>(
     image: &Image,
     edit: &Edit,
     writer: &mut W,
-) -> Result<(), LogFault>
+) -> Result<(), PieceFault>
     requires named { NamesSplices image.now.splices edit.now }
     requires inside { StandsInside (length image.now.pool) (full_edit image.now.splices edit.now) }
     ensures { WritesText (W.contents writer.old) (W.contents writer.new)
@@ -159,7 +175,7 @@ fn write_revision<W: io::Write>(
     k: u32,
     revision: Revision,
     writer: &mut W,
-) -> Result<(), LogFault>
+) -> Result<(), PieceFault>
     requires there { k < length image.now.revisions }
     requires revision { revision ≡ revision_at image.now k }
     requires inside { StandsInside (length image.now.pool) (command_at image.now k) }
@@ -177,7 +193,7 @@ fn write_log<W: io::Write>(
     texts: LogTexts,
     image: &Checked,
     writer: &mut W,
-) -> Result<(), LogFault>
+) -> Result<(), PieceFault>
     requires { EachRevision image.now (λ k. StandsInside (length image.now.pool) (command_at image.now k)) }
     ensures { WritesText (W.contents writer.old) (W.contents writer.new) (log_of texts image.now) result }
 {
@@ -190,6 +206,23 @@ fn write_log<W: io::Write>(
         first += revision.edit.splice_count();
     }
     Ok(())
+}
+
+/// The same, for an image that was checked.
+fn log_checked<W: io::Write>(
+    alloc: Global,
+    texts: LogTexts,
+    image: &Checked,
+    writer: &mut W,
+) -> Result<(), LogFault>
+    requires { EachRevision image.now (λ k. StandsInside (length image.now.pool) (command_at image.now k)) }
+    ensures { WritesLog texts (W.contents writer.old) (W.contents writer.new) (Ok image.now) result }
+{
+    match write_log(alloc, texts, image, writer) {
+        Ok(()) => Ok(()),
+        Err(PieceFault::Memory) => Err(LogFault::Memory),
+        Err(PieceFault::Write) => Err(LogFault::Write),
+    }
 }
 
 /// Writes the script of an image, once it is checked with these sources, by so many looks at nodes at most, if there is a limit: a line
@@ -213,7 +246,7 @@ pub fn run_log<S: Sources, W: io::Write>(
         (W.contents writer.old) (W.contents writer.new) result }
 {
     match check_at_most(image, sources, at_most) {
-        Ok(checked) => write_log(alloc, texts, &checked, writer),
+        Ok(checked) => log_checked(alloc, texts, &checked, writer),
         Err(fault) => Err(LogFault::Check(fault)),
     }
 }

@@ -3,9 +3,9 @@
 ghost use Rattle.std.specs.Prelude.{◌≡◌, ◌∷◌, ◌++◌, [], OnOk};
 ghost use Rattle.std.specs.List.{flat_map};
 ghost use Rattle.edit_script.specs.Words.{Quoted, escaped, numbers_on};
-ghost use Rattle.script_tools.specs.Logged.{WritesText, dots, shown, shown_word};
+ghost use Rattle.script_tools.specs.Logged.{WritesText, dots, shown, shown_on};
 
-use crate::fault::LogFault;
+use crate::fault::PieceFault;
 use byte_output::write_bytes;
 use edit_script::{push_escaped, push_number};
 use std::alloc::AllocError;
@@ -53,7 +53,7 @@ fn quote_behind(texts: LogTexts, text: &[u8]) -> &'static [u8]
 }
 
 /// Writes bytes.
-pub(crate) fn write_piece<W: io::Write>(bytes: &[u8], writer: &mut W) -> Result<(), LogFault>
+pub(crate) fn write_piece<W: io::Write>(bytes: &[u8], writer: &mut W) -> Result<(), PieceFault>
     ensures { WritesText (W.contents writer.old) (W.contents writer.new) bytes.now result }
 {
     Ok(write_bytes(writer, bytes)?)
@@ -81,7 +81,7 @@ fn write_escaped<W: io::Write>(
     piece: &mut Vec<u8>,
     bytes: &[u8],
     writer: &mut W,
-) -> Result<(), LogFault>
+) -> Result<(), PieceFault>
     ensures { WritesText (W.contents writer.old) (W.contents writer.new) (flat_map escaped bytes.now) result }
 {
     let mut done = 0;
@@ -100,9 +100,9 @@ pub(crate) fn write_text<W: io::Write>(
     piece: &mut Vec<u8>,
     text: &[u8],
     writer: &mut W,
-) -> Result<(), LogFault>
+) -> Result<(), PieceFault>
     ensures { WritesText (W.contents writer.old) (W.contents writer.new)
-        (32 ∷ shown_word texts (Quoted text.now)) result }
+        (shown_on texts (Quoted text.now ∷ [])) result }
 {
     write_piece(b" \"", writer)?;
     write_escaped(piece, shown(texts, text), writer)?;
