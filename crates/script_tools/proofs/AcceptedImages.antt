@@ -1,6 +1,6 @@
 -- What is known of an accepted image's commands and texts.
-use Rattle.std.proofs.Common.{◌≡◌, ℕ, ◌+◌, ◌<◌, ◌≤◌, List, length, map, Option, Some, Result, Ok, refl, sym, subst, ◌∙◌, arith}
-use Rattle.std.specs.Prelude.{All, get_or, slice_get}
+use Rattle.std.proofs.Common.{◌≡◌, ℕ, ◌<◌, List, length, Option, Ok, refl, sym, subst, ◌∙◌, arith}
+use Rattle.std.specs.Prelude.{All}
 use Rattle.std.proofs.lemmas.List.{length-map, get_or-map}
 use Rattle.std.proofs.lemmas.Option.{slice_get-get_or, slice_get_within}
 use Rattle.lazy_file.specs.SourceTexts.{Stated}

@@ -1,6 +1,6 @@
 -- A text written in pieces, one behind the other.
 use Rattle.std.proofs.Common.{◌≡◌, ℕ, ◌+◌, List, [], ◌++◌, Option, Result, Ok, Err, take, drop, sym, ap, subst, ◌∙◌}
-use Rattle.std.specs.Prelude.{IsErr, OnOk, OnErr}
+use Rattle.std.specs.Prelude.{IsErr}
 use Rattle.std.specs.List.{flat_map}
 use Rattle.std.specs.Io.KnownBytes.{Appends}
 use Rattle.std.proofs.Math.Seq.{take-add}

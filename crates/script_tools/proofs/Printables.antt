@@ -1,6 +1,5 @@
 -- An image's commands have lines.
-use Rattle.std.proofs.Common.{◌≡◌, ℕ, zero, suc, ◌+◌, ◌<◌, ◌≤◌, ◌^◌, List, [], ◌∷◌, length, take, drop, Option, Some, None, refl, arith}
-use Rattle.std.specs.Prelude.{get_or}
+use Rattle.std.proofs.Common.{ℕ, zero, suc, ◌<◌, List, [], ◌∷◌, take, drop, Option, refl, arith}
 use Rattle.std.specs.List.{AllByRecursion}
 use Rattle.rope_node.specs.declared.node.NodeId.{NodeId}
 use Rattle.rope_node.specs.Table.{Table}
@@ -12,8 +11,7 @@ use Rattle.span_certificate.specs.Fields.{FitsRecord}
 use Rattle.span_certificate.specs.Parts.{IsInRange}
 use Rattle.image_reader.specs.Layout.{IsBytes}
 use Rattle.image_reader.specs.Value.{FitsSplice}
-use Rattle.edit_script.specs.Words.{Word}
-use Rattle.edit_script.specs.Commands.{Kind, Revision, Place, Byte, Text, Shape, only, splice_kinds, splice_words, words_of, HasKinds, HasBytes, IsPrintable}
+use Rattle.edit_script.specs.Commands.{Revision, Place, Byte, Text, only, splice_kinds, splice_words, words_of, HasKinds, HasBytes, IsPrintable}
 
 pub all_drop : {X : Type 0} (P : X → Type 0) (n : ℕ) (xs : List X) → AllByRecursion P xs → AllByRecursion P (drop n xs)
 all_drop P zero xs h = h

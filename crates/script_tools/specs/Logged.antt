@@ -1,5 +1,5 @@
 -- What logging an image writes.
-use Rattle.std.specs.Prelude.{◌≡◌, ℕ, ◌<◌, nat_lt, if◌then◌else◌, List, [], ◌∷◌, ◌++◌, length, take, Option, Result, Ok, Err, codes}
+use Rattle.std.specs.Prelude.{◌≡◌, ℕ, nat_lt, if◌then◌else◌, List, [], ◌∷◌, ◌++◌, length, take, Option, Result, Ok, Err, codes}
 use Rattle.std.specs.List.{flat_map, range_with_len}
 use Rattle.std.specs.Io.KnownBytes.{Appends, Keeps}
 use Rattle.byte_output.specs.Prefix.{AppendsPrefix}
@@ -17,7 +17,7 @@ use Rattle.script_tools.specs.declared.shown.TheConstants.{BRIEF_LEN}
 use Rattle.script_tools.specs.declared.shown.LogTexts.{LogTexts}
 use Rattle.script_tools.specs.declared.shown.LogTexts.TheVariants.{Whole, Brief}
 use Rattle.script_tools.specs.declared.fault.LogFault.{LogFault}
-use Rattle.script_tools.specs.declared.fault.LogFault.TheVariants.{Check, Memory, Write}
+use Rattle.script_tools.specs.declared.fault.LogFault.TheVariants.{Check}
 
 -- ---- a log
 
