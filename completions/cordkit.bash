@@ -3,7 +3,7 @@
 # What the words of a command are, in their order; `files` are all words from there on.
 _cordkit_kinds() {
     case $1 in
-        check | migrate | apply | cordkit-verify) echo file files ;;
+        check | migrate | log | apply | cordkit-verify) echo file files ;;
         show) echo file number files ;;
         cut) echo number number file ;;
         join) echo files ;;
@@ -17,6 +17,8 @@ _cordkit_options() {
     case $1 in
         cordkit-verify) echo --text --graph --at-most --help ;;
         check | show | migrate) echo --at-most --help ;;
+        log) echo --at-most --brief --help ;;
+        find) echo --all --help ;;
         edit) echo --keep --help ;;
         cordedit) echo -f --copy --text --continue --discard ;;
         help) ;;
@@ -48,7 +50,7 @@ _cordkit_read() {
 }
 
 _cordkit() {
-    local commands='check show cut join find cmp edit migrate apply help'
+    local commands='check show cut join find cmp edit migrate log apply help'
     local IFS=$' \t\n' command='' place=0 ended='' valued='' redirected='' kind kinds
     COMPREPLY=()
     [[ ${1##*/} == cordkit ]] || command=${1##*/}

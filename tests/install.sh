@@ -310,9 +310,11 @@ cordkit check --he*;|check|--help
 cordkit check -- ses*;|check|--|session.cord
 cordkit sh*ses*1* te*te*;|show|session.cord|1|text|text
 cordkit mi*ses*te*;|migrate|session.cord|text
+cordkit l*--b*ses*te*;|log|--brief|session.cord|text
 cordkit cu*1* 1* te*te*;|cut|1|1|text|te
 cordkit j*te*a*;|join|text|a file
 cordkit f*1* te* te*;|find|1|te|text
+cordkit find --al*1* te* te*;|find|--all|1|te|text
 cordkit cm*te*a*te*;|cmp|text|a file|te
 cordkit ed*ses*te*;|edit|session.cord|text
 cordkit help mi*mi*;|help|migrate|mi

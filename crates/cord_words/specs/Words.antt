@@ -1,16 +1,17 @@
 -- The program's command line, and what an action holds of it.
-use Rattle.std.specs.Prelude.{◌≡◌, ◌⊎◌, ◌∷◌, ⊤, ℕ, true, List, [], Option, Some, None, Ok, String}
+use Rattle.std.specs.Prelude.{◌≡◌, ◌⊎◌, ◌∷◌, ⊤, ℕ, Bool, true, false, List, [], Option, Some, None, Ok, String}
 use Rattle.std.specs.Prelude.{IfSome, codes, map, string_bytes, unwrap_or}
-use Rattle.std.specs.Option.{option_map}
+use Rattle.std.specs.Option.{option_map, option_map_or}
+use Rattle.std.specs.Str.{bytes_eq}
 use Rattle.std.specs.Str.Parse.{ParsesUnsigned}
 use Rattle.std.specs.declared.num.ParseIntError.{ParseIntError}
 use Rattle.clap.specs.Words.{App, Kinds, Row, Rule, Text, all_of, fault_of, first_of, new_app}
 use Rattle.clap.specs.Words.{new_rule, with_rule, with_subcommand}
 use Rattle.clap.specs.Kinds.{or_else}
-use Rattle.clap.specs.declared.builder.action.ArgAction.TheVariants.{Append}
+use Rattle.clap.specs.declared.builder.action.ArgAction.TheVariants.{Append, SetTrue}
 use Rattle.clap.specs.declared.error.kind.ErrorKind.TheVariants.{ValueValidation}
 use Rattle.cord_words.specs.declared.action.Action.{Action}
-use Rattle.cord_words.specs.declared.action.Action.TheVariants.{CheckInput, Check, Show, Cut, Join, Find, Cmp, Edit, Migrate, Apply}
+use Rattle.cord_words.specs.declared.action.Action.TheVariants.{CheckInput, Check, Show, Cut, Join, Find, Cmp, Edit, Migrate, Log, Apply}
 
 -- ---- the words that the program takes
 
@@ -41,6 +42,10 @@ files_rule = record file_rule { action = Some Append }
 abbrev pub limit_rule : Rule
 limit_rule = record (new_rule (codes "LOOKS")) { long = Some (codes "at-most") }
 
+-- an option of this name, which has no value
+abbrev pub flag_rule : Text → Rule
+flag_rule name = record (new_rule name) { long = Some name; action = Some SetTrue }
+
 -- `check [--at-most LOOKS] IMAGE [SOURCE]...`
 abbrev pub check_app : App
 check_app = with_rule (with_rule (with_rule (new_app (codes "check")) limit_rule) image_rule)
@@ -60,9 +65,9 @@ cut_app = with_rule (with_rule (with_rule (new_app (codes "cut")) start_rule)
 abbrev pub join_app : App
 join_app = with_rule (new_app (codes "join")) files_rule
 
--- `find START PATTERN FILE`
+-- `find [--all] START PATTERN FILE`
 abbrev pub find_app : App
-find_app = with_rule (with_rule (with_rule (new_app (codes "find")) start_rule)
+find_app = with_rule (with_rule (with_rule (with_rule (new_app (codes "find")) (flag_rule (codes "all"))) start_rule)
     (required_rule (codes "PATTERN"))) file_rule
 
 -- `cmp FIRST SECOND`
@@ -87,15 +92,21 @@ abbrev pub migrate_app : App
 migrate_app = with_rule (with_rule (with_rule (new_app (codes "migrate")) limit_rule) image_rule)
     sources_rule
 
+-- `log [--at-most LOOKS] [--brief] IMAGE [SOURCE]...`
+abbrev pub log_app : App
+log_app = with_rule (with_rule (with_rule (with_rule (new_app (codes "log")) limit_rule)
+    (flag_rule (codes "brief"))) image_rule) sources_rule
+
 -- `apply SCRIPT [SOURCE]...`
 abbrev pub apply_app : App
 apply_app = with_rule (with_rule (new_app (codes "apply")) (required_rule (codes "SCRIPT"))) sources_rule
 
 -- the program, as clap is told of it: all its subcommands
 unfoldable pub cordkit_app : App
-cordkit_app = with_subcommand (with_subcommand (with_subcommand (with_subcommand (with_subcommand (with_subcommand
+cordkit_app = with_subcommand (with_subcommand (with_subcommand (with_subcommand (with_subcommand (with_subcommand (with_subcommand
     (with_subcommand (with_subcommand (with_subcommand (new_app (codes "cordkit")) check_app.top) show_app.top)
-    cut_app.top) join_app.top) find_app.top) cmp_app.top) edit_app.top) migrate_app.top) apply_app.top
+    cut_app.top) join_app.top) find_app.top) cmp_app.top) edit_app.top) migrate_app.top) log_app.top)
+    apply_app.top
 
 -- ---- what was given
 
@@ -110,6 +121,10 @@ text_of rows id = unwrap_or (first_of id rows) []
 -- the texts of an argument in their order, and none where it was not given
 abbrev pub texts_of : List Row → Text → List Text
 texts_of rows id = unwrap_or (all_of id rows) []
+
+-- the flag was given
+abbrev pub is_set : List Row → Text → Bool
+is_set rows id = option_map_or (λ t. bytes_eq t (codes "true")) (first_of id rows) false
 
 -- the text reads as this `u64`
 abbrev pub ReadsAs : Text → ℕ → Type 0
@@ -144,9 +159,9 @@ Holds given (Cut start count file) = Gives given (codes "cut") (λ rows.
     × (file.now ≡ text_of rows (codes "FILE")))
 Holds given (Join files) = Gives given (codes "join") (λ rows.
     map (λ s. s.now) files.items ≡ texts_of rows (codes "FILE"))
-Holds given (Find start pattern file) = Gives given (codes "find") (λ rows.
-    ReadsAs (text_of rows (codes "START")) start × (pattern.now ≡ text_of rows (codes "PATTERN"))
-    × (file.now ≡ text_of rows (codes "FILE")))
+Holds given (Find all start pattern file) = Gives given (codes "find") (λ rows.
+    (all ≡ is_set rows (codes "all")) × ReadsAs (text_of rows (codes "START")) start
+    × (pattern.now ≡ text_of rows (codes "PATTERN")) × (file.now ≡ text_of rows (codes "FILE")))
 Holds given (Cmp first second) = Gives given (codes "cmp") (λ rows.
     (first.now ≡ text_of rows (codes "FIRST")) × (second.now ≡ text_of rows (codes "SECOND")))
 Holds given (Edit keys image file) = Gives given (codes "edit") (λ rows.
@@ -155,6 +170,10 @@ Holds given (Edit keys image file) = Gives given (codes "edit") (λ rows.
     × (option_map (λ f. f.now) file ≡ first_of (codes "FILE") rows))
 Holds given (Migrate at_most image sources) = Gives given (codes "migrate") (λ rows.
     MayReadAs (first_of (codes "LOOKS") rows) at_most
+    × (image.now ≡ text_of rows (codes "IMAGE"))
+    × (map (λ s. s.now) sources.items ≡ texts_of rows (codes "SOURCE")))
+Holds given (Log at_most brief image sources) = Gives given (codes "log") (λ rows.
+    MayReadAs (first_of (codes "LOOKS") rows) at_most × (brief ≡ is_set rows (codes "brief"))
     × (image.now ≡ text_of rows (codes "IMAGE"))
     × (map (λ s. s.now) sources.items ≡ texts_of rows (codes "SOURCE")))
 Holds given (Apply script sources) = Gives given (codes "apply") (λ rows.
@@ -167,7 +186,7 @@ IsOneOf (x ∷ xs) n = (n ≡ x) ⊎ IsOneOf xs n
 
 abbrev pub subcommand_names : List Text
 subcommand_names = codes "check" ∷ codes "show" ∷ codes "cut" ∷ codes "join" ∷ codes "find"
-    ∷ codes "cmp" ∷ codes "edit" ∷ codes "migrate" ∷ codes "apply" ∷ []
+    ∷ codes "cmp" ∷ codes "edit" ∷ codes "migrate" ∷ codes "log" ∷ codes "apply" ∷ []
 
 -- the subcommand that was given, if any, is one of the program's own, and not `help`
 abbrev pub IsKnown : Option (Text × List Row) → Type 0
@@ -187,6 +206,7 @@ pub record NumbersRead (given : Option (Text × List Row)) : Type 0 where
       IsNumber (text_of rows (codes "START")) × IsNumber (text_of rows (codes "COUNT")))
   pub find : WhereGiven given (codes "find") (λ rows. IsNumber (text_of rows (codes "START")))
   pub migrate : WhereGiven given (codes "migrate") (λ rows. IfSome (first_of (codes "LOOKS") rows) IsNumber)
+  pub log : WhereGiven given (codes "log") (λ rows. IfSome (first_of (codes "LOOKS") rows) IsNumber)
 
 -- the kinds of a refusal: that of clap's first fault, or that of a number that does not read
 abbrev pub refusal_kinds : List Text → Kinds

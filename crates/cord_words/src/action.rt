@@ -37,8 +37,10 @@ pub enum Action<'a> {
     Join {
         files: Vec<&'a str>,
     },
-    /// Write the place at which a pattern first occurs in a file, from its byte `start` on.
+    /// Write the place at which a pattern first occurs in a file, from its byte `start` on, or all such places, each behind the end of
+    /// the one before.
     Find {
+        all: bool,
         start: u64,
         pattern: &'a str,
         file: &'a str,
@@ -54,6 +56,14 @@ pub enum Action<'a> {
         keys: Option<&'a str>,
         image: &'a str,
         file: Option<&'a str>,
+    },
+    /// Write the script of the image of a file, whose session has these sources. So many looks may its check take. Where it is `brief`,
+    /// long texts are cut short.
+    Log {
+        at_most: Option<u64>,
+        brief: bool,
+        image: &'a str,
+        sources: Vec<&'a str>,
     },
     /// Write the image of the session that a script makes, over files of these lengths.
     Apply {

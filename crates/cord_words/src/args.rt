@@ -3,7 +3,7 @@
 ghost use Rattle.std.specs.Prelude.{◌≡◌, IfOk, false};
 ghost use Rattle.clap.specs.Words.{App, Rule, app_of, new_app, rule_of, with_rule};
 ghost use Rattle.clap.specs.declared.builder.command.Command.TheViews.{out-Command as fields_of};
-ghost use Rattle.cord_words.specs.Words.{file_rule, image_rule, keep_rule, limit_rule};
+ghost use Rattle.cord_words.specs.Words.{file_rule, flag_rule, image_rule, keep_rule, limit_rule};
 ghost use Rattle.cord_words.specs.Words.{optional_file_rule, required_rule, sources_rule, start_rule};
 
 use clap::{Arg, ArgAction, Command};
@@ -55,6 +55,17 @@ pub fn limit<'a>(alloc: Global) -> Arg<'a>
     Arg::new(alloc, "LOOKS")
         .help("The most looks at nodes that the check may take")
         .long("at-most")
+}
+
+/// `--NAME`, which has no value.
+pub fn flag<'a>(alloc: Global, name: &'a str, help: &'a str) -> Arg<'a>
+    ensures rule { rule_of result ≡ flag_rule name.now }
+    ensures local { result.global ≡ false }
+{
+    Arg::new(alloc, name)
+        .help(help)
+        .long(name)
+        .action(ArgAction::SetTrue)
 }
 
 /// `[SOURCE]...`

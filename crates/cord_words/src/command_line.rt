@@ -11,7 +11,7 @@ ghost use Rattle.cord_words.specs.Refusals.{FailsAs};
 
 use crate::action::Action;
 use crate::fault::WordsFault;
-use crate::{apply, args, check, cmp, cut, edit, find, join, migrate, show};
+use crate::{apply, args, check, cmp, cut, edit, find, join, log, migrate, show};
 use clap::{ArgMatches, Command};
 use std::alloc::{AllocError, Global};
 
@@ -75,6 +75,7 @@ fn action_of<'a>(
         Some(("cmp", given)) => Ok(cmp::action(given)),
         Some(("edit", given)) => Ok(edit::action(given)),
         Some(("migrate", given)) => migrate::action(alloc, command, given),
+        Some(("log", given)) => log::action(alloc, command, given),
         Some(("apply", given)) => Ok(apply::action(alloc, given)?),
         Some(_) => unreachable!(),
     }
@@ -118,5 +119,6 @@ fn cordkit<'a>(alloc: Global) -> Result<Command<'a>, AllocError>
     let command = add_subcommand(command, cmp::command(alloc));
     let command = add_subcommand(command, edit::command(alloc));
     let command = add_subcommand(command, migrate::command(alloc));
+    let command = add_subcommand(command, log::command(alloc));
     add_subcommand(command, apply::command(alloc))
 }

@@ -1,4 +1,4 @@
-//! `find START PATTERN FILE`
+//! `find [--all] START PATTERN FILE`
 
 ghost use Rattle.std.specs.Prelude.{◌≡◌, ◌∷◌, [], IfErr, IfOk, Some, codes, false};
 ghost use Rattle.clap.specs.Words.{app_of, found_of, rows_of};
@@ -20,9 +20,11 @@ pub fn command<'a>(alloc: Global) -> Result<Command<'a>, AllocError>
 {
     let about = "Print the place at which a pattern first occurs in a file";
     let command = args::command(alloc, "find", about);
+    let help = "Print each place, a line each, behind the end of the one before";
+    let command = args::with(Ok(command), args::flag(alloc, "all", help));
     let help = "The bytes to search for, at most 4096 of them";
     let pattern = args::required(alloc, "PATTERN", help);
-    let command = args::with(Ok(command), args::start(alloc));
+    let command = args::with(command, args::start(alloc));
     args::with(args::with(command, pattern), args::file(alloc))
 }
 
@@ -38,6 +40,7 @@ pub fn action<'a>(
     ensures kind { IfErr result (FailsAs (ValueValidation ∷ [])) }
 {
     Ok(Action::Find {
+        all: given::flag(given, "all"),
         start: given::number(alloc, command, given, "START")?,
         pattern: given::text(given, "PATTERN"),
         file: given::text(given, "FILE"),

@@ -4,7 +4,7 @@ ghost use Rattle.std.specs.Prelude.{◌≡◌, ◌∷◌, [], IfOk, IfErr, IfSom
 ghost use Rattle.std.specs.Option.{option_map};
 ghost use Rattle.clap.specs.Words.{first_of, found_of, rows_of};
 ghost use Rattle.clap.specs.declared.error.kind.ErrorKind.TheVariants.{ValueValidation};
-ghost use Rattle.cord_words.specs.Words.{IsNumber, MayReadAs, ReadsAs, text_of, texts_of};
+ghost use Rattle.cord_words.specs.Words.{IsNumber, MayReadAs, ReadsAs, is_set, text_of, texts_of};
 ghost use Rattle.cord_words.specs.Refusals.{FailsAs};
 
 use crate::fault::WordsFault;
@@ -24,6 +24,16 @@ pub fn optional_text<'a>(given: &ArgMatches<'a>, id: &str) -> Option<&'a str>
     ensures { option_map (λ text. text.now) result ≡ first_of id.now (rows_of (found_of given.now)) }
 {
     given.get_str(id)
+}
+
+/// Whether a flag was given.
+pub fn flag(given: &ArgMatches<'_>, id: &str) -> bool
+    ensures { result ≡ is_set (rows_of (found_of given.now)) id.now }
+{
+    match given.get_str(id) {
+        Some(text) => text == "true",
+        None => false,
+    }
 }
 
 /// The texts of an argument in their order, and none where it was not given.

@@ -13,6 +13,7 @@ mod fault;
 mod find;
 mod given;
 mod join;
+mod log;
 mod migrate;
 mod show;
 

@@ -61,10 +61,26 @@ fn words_are_read_or_refused(rt: HostRuntime) -> Result<(), Fail> {
             "cordkit cut 3 10 a.txt",
             r#"Cut { start: 3, count: 10, file: "a.txt" }"#,
         ),
+        (
+            "cordkit log a b",
+            r#"Log { at_most: None, brief: false, image: "a", sources: ["b"] }"#,
+        ),
+        (
+            "cordkit log a --brief --at-most=7",
+            r#"Log { at_most: Some(7), brief: true, image: "a", sources: [] }"#,
+        ),
         ("cordkit join c b c", r#"Join { files: ["c", "b", "c"] }"#),
         (
             "cordkit find 7 needle a.txt",
-            r#"Find { start: 7, pattern: "needle", file: "a.txt" }"#,
+            r#"Find { all: false, start: 7, pattern: "needle", file: "a.txt" }"#,
+        ),
+        (
+            "cordkit find --all 7 needle a.txt",
+            r#"Find { all: true, start: 7, pattern: "needle", file: "a.txt" }"#,
+        ),
+        (
+            "cordkit find 7 -- --all a.txt",
+            r#"Find { all: false, start: 7, pattern: "--all", file: "a.txt" }"#,
         ),
         ("cordkit cmp b a", r#"Cmp { first: "b", second: "a" }"#),
         (
@@ -89,6 +105,11 @@ fn words_are_read_or_refused(rt: HostRuntime) -> Result<(), Fail> {
         ("cordkit show a", "MissingRequiredArgument"),
         ("cordkit show a x", "ValueValidation"),
         ("cordkit check --at-most x a", "ValueValidation"),
+        ("cordkit log --at-most x a", "ValueValidation"),
+        ("cordkit find --all x b a", "ValueValidation"),
+        ("cordkit find --all --all 1 b a", "ArgumentConflict"),
+        ("cordkit log --brief=yes a", "TooManyValues"),
+        ("cordkit check --brief a", "UnknownArgument"),
         ("cordkit help show", "DisplayHelp"),
     ] {
         let read = told(&rt, text)?;

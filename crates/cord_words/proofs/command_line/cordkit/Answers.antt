@@ -12,4 +12,5 @@ returns c =
     let six = c.add_subcommand-command-6.ensures _ _ five c.command-6.ensures.app in
     let seven = c.add_subcommand-command-7.ensures _ _ six c.command-7.ensures.app in
     let eight = c.add_subcommand-command-8.ensures _ _ seven c.command-8.ensures.app in
-    c.add_subcommand.ensures _ _ eight c.command-9.ensures.app
+    let nine = c.add_subcommand-command-9.ensures _ _ eight c.command-9.ensures.app in
+    c.add_subcommand.ensures _ _ nine c.command-10.ensures.app

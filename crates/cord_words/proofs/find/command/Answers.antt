@@ -2,6 +2,7 @@ use Rattle.cord_words.proofs.find.command.Goals as goal
 
 pub returns-clause-app : goal.returns-clause-app
 returns-clause-app c =
-    let one = c.with-command.ensures.app _ _ c.command-command.ensures.app c.start.ensures.rule in
-    let two = c.with.ensures.app _ _ one c.required-pattern.ensures.rule in
-    c.with-2.ensures.app _ _ two c.file.ensures.rule
+    let one = c.with-command.ensures.app _ _ c.command-command.ensures.app c.flag.ensures.rule in
+    let two = c.with-command-2.ensures.app _ _ one c.start.ensures.rule in
+    let three = c.with.ensures.app _ _ two c.required-pattern.ensures.rule in
+    c.with-2.ensures.app _ _ three c.file.ensures.rule
