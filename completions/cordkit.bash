@@ -16,13 +16,14 @@ _cordkit_kinds() {
 _cordkit_options() {
     case $1 in
         cordkit-verify) echo --text --graph --at-most --help ;;
-        check | show | migrate) echo --at-most --help ;;
-        log) echo --at-most --brief --help ;;
-        find) echo --all --help ;;
-        edit) echo --keep --help ;;
+        check | show | migrate) echo --at-most --explain --help ;;
+        log) echo --at-most --brief --explain --help ;;
+        find) echo --all --explain --help ;;
+        edit) echo --keep --explain --help ;;
         cordedit) echo -f --copy --text --continue --discard ;;
         help) ;;
-        *) echo --help ;;
+        '') echo --explain --help --version ;;
+        *) echo --explain --help ;;
     esac
 }
 

@@ -319,6 +319,8 @@ cordkit cm*te*a*te*;|cmp|text|a file|te
 cordkit ed*ses*te*;|edit|session.cord|text
 cordkit help mi*mi*;|help|migrate|mi
 cordkit --h*;|--help
+cordkit --v*;|--version
+cordkit --ex*cm*te*te*;|--explain|cmp|text|text
 cordkit te*;|te
 cordedit ses*te*te*;|session.cord|text|te
 cordkit-verify --text 1* ses*te*;|--text|1|session.cord|text

@@ -54,6 +54,12 @@ printf 'open 0\njoin 0 0\npaste 1 1 0 0 2\nfill 2 0 45 3\nback 3\nbalance 4\ndel
 printf 'new\ninsert 0 0 abc\n' > script_without_quotes
 printf 'new\n\ninsert 0 1 "x"\n' > script_past_the_end
 printf 'new\n\nback 7\n' > script_of_no_revision
+printf 'new\ncut 0 1 2\n' > script_of_long_cuts
+sixty=$(yes a | head -n 60 | tr -d '\n')
+printf 'new\ninsert 0 0 "%sb"\n' "$sixty" > script_of_61
+printf 'new # 0: 0 bytes, depth 0, 0 rows\ninsert 0 0 "%s"... # 1: 61 bytes, depth 0, balanced, 1 rows\n' "$sixty" > brief_log
+printf 'abcdefg abcdefg abcdefg a' > weeks
+printf aaaaaaaa > eight
 printf 'new\nfill 0 0 0 1099511627776\n' > script_too_long
 # every command; the same two lines in other ways; what bytes may be; numbers; commands that are refused; as many bytes and changes as there may be
 cat > every_command << 'SCRIPT'
@@ -160,7 +166,14 @@ truncate -s 1099511627776 too_much || exit 1
 mkfifo pipe || exit 1
 cat one_insert > pipe &
 writer=$!
-trap 'kill "$writer" 2> /dev/null; rm -rf "$room"' EXIT
+# a file of keys that another one has, where there is flock
+: > keys_in_use
+holder=$writer
+if command -v flock > /dev/null; then
+    flock keys_in_use sleep 600 &
+    holder=$!
+fi
+trap 'kill "$writer" "$holder" 2> /dev/null; rm -rf "$room"' EXIT
 
 # What the program has to write: the text of a file of tests/data, or of a file of the cases behind an @, or what printf makes of the
 # column.
@@ -320,9 +333,24 @@ try_closed_pipe() {
     fi
 }
 
+# What `--version` writes: the version that CHANGELOG.md names first, and the toolchain that README.md says it was proved with.
+try_version() {
+    version=$(sed -n 's/^## \([0-9.]*\).*/\1/p' "$top/CHANGELOG.md" | head -n 1)
+    kit=$(grep -o 'rattle-kit-[0-9a-z]* logic [0-9a-f]*' "$top/README.md" | head -n 1)
+    try "the version is that of CHANGELOG.md, and the toolchain that of README.md" --version "" 0 "cordkit $version ($kit)\n" ""
+    try "the version by its letter" -V "" 0 "cordkit $version ($kit)\n" ""
+    try "the version on a full device" --version "" 3 /dev/full "write\n"
+}
+
 if [ "$cases" = all ]; then
     try_scripts
     try_closed_pipe 'an image into a closed pipe' apply script_of_5000
+    try_version
+    if command -v flock > /dev/null; then
+        try "keys that another session keeps" "edit --explain --keep keys_in_use kept" keys_saved 1 "" "refused J2\nJ2: another session keeps its keys in keys_in_use\n"
+    else
+        echo "LEFT OUT: keys that another session keeps: there is no flock here"
+    fi
     try_worked_images "$top/tests/vectors"
     try_worked_images "$top/tests/vectors/version2"
     try_prefixes one_insert
@@ -474,6 +502,18 @@ a change more;apply script_of_more_changes;;1;;refused E9(3)\n
 a text of a source twice that is too long;apply script_of_a_double half;;1;;refused E7(N1,2)\n
 a script that is a folder;apply folder;;3;;read\n
 a script's image on a full device;apply script_of_abc;;3;/dev/full;write\n
+an image is logged;log one_insert;;0;new # 0: 0 bytes, depth 0, 0 rows\ninsert 0 0 "abc" # 1: 3 bytes, depth 0, balanced, 1 rows\n;
+an image over a source is logged;log bytes_row_over_a_source abc;;0;open 0 # 0: 3 bytes, depth 0, 1 rows\n;
+its script makes the image again;apply $("$program" log one_insert > logged && echo logged);;0;@one_insert_in_two;
+an image is logged in brief;log --brief $("$program" apply script_of_61 > applied && echo applied);;0;@brief_log;
+a brief script is none;apply $("$program" log --brief applied > logged && echo logged);;1;;refused P(2)\n
+an image is logged within the limit;log --at-most 137 new_alone;;0;new # 0: 0 bytes, depth 0, 0 rows\n;
+an image is not logged past the limit;log --at-most 136 one_insert;;1;;refused looks 137\n
+a refused image is not logged;log child_not_earlier;;1;;refused C4(1)\n
+an image is not logged beside a source too many;log one_insert abc;;1;;refused C2\n
+an image is not logged beside 256 sources;log one_insert $(yes abc | head -n 256);;1;;refused S4\n
+an image to log that is not there;log missing;;3;;read\n
+a log on a full device;log one_insert;;3;/dev/full;write\n
 keys are shown and saved;edit saved;keys_saved;0;edit.txt;
 the saved image shows its last text;show saved 4;;0;ac;
 the saved image shows what undo gave;show saved 3;;0;a;
@@ -544,13 +584,13 @@ an order on a full device;cmp abc abc;;3;/dev/full;write\n
 help;--help;;2;;help.txt
 help by its word;help;;2;;help.txt
 help for a command;cut --help;;2;;cut_help.txt
-a command that is not known;frobnicate;;2;;error: unrecognized subcommand 'frobnicate'\n\nUsage: cordkit [COMMAND]\n\nFor more information, try '--help'.\n
-an option that is not known;--frobnicate;;2;;error: unexpected argument '--frobnicate' found\n\nUsage: cordkit [COMMAND]\n\nFor more information, try '--help'.\n
+a command that is not known;frobnicate;;2;;error: unrecognized subcommand 'frobnicate'\n\nUsage: cordkit [OPTIONS] [COMMAND]\n\nFor more information, try '--help'.\n
+an option that is not known;--frobnicate;;2;;error: unexpected argument '--frobnicate' found\n\nUsage: cordkit [OPTIONS] [COMMAND]\n\nFor more information, try '--help'.\n
 a word that is missing;show one_insert;;2;;error: the following required arguments were not provided:\n  <REV>\n\nUsage: cordkit show <IMAGE> <REV> [SOURCE]...\n\nFor more information, try '--help'.\n
-a word too many;cmp abc ab abcde;;2;;error: unexpected argument 'abcde' found\n\nUsage: cordkit cmp <FIRST> <SECOND>\n\nFor more information, try '--help'.\n
-a number of more than 64 bits;cut 18446744073709551616 1 abcde;;2;;error: invalid value '18446744073709551616' for '<START>': number too large to fit in target type\n\nUsage: cordkit [COMMAND]\n\nFor more information, try '--help'.\n
-a limit that is no number;check --at-most few one_insert;;2;;error: invalid value 'few' for '<LOOKS>': invalid digit found in string\n\nUsage: cordkit [COMMAND]\n\nFor more information, try '--help'.\n
-a word that is no number;show one_insert one;;2;;error: invalid value 'one' for '<REV>': invalid digit found in string\n\nUsage: cordkit [COMMAND]\n\nFor more information, try '--help'.\n
+a word too many;cmp abc ab abcde;;2;;error: unexpected argument 'abcde' found\n\nUsage: cordkit cmp [OPTIONS] <FIRST> <SECOND>\n\nFor more information, try '--help'.\n
+a number of more than 64 bits;cut 18446744073709551616 1 abcde;;2;;error: invalid value '18446744073709551616' for '<START>': number too large to fit in target type\n\nUsage: cordkit cut [OPTIONS] <START> <COUNT> <FILE>\n\nFor more information, try '--help'.\n
+a limit that is no number;check --at-most few one_insert;;2;;error: invalid value 'few' for '<LOOKS>': invalid digit found in string\n\nUsage: cordkit check [OPTIONS] <IMAGE> [SOURCE]...\n\nFor more information, try '--help'.\n
+a word that is no number;show one_insert one;;2;;error: invalid value 'one' for '<REV>': invalid digit found in string\n\nUsage: cordkit show [OPTIONS] <IMAGE> <REV> [SOURCE]...\n\nFor more information, try '--help'.\n
 
 an image cut short on standard input is refused;;cut_short_by_one;1;refused C1(I1)\n;
 a kind that is not known on standard input is refused;;unknown_node_kind;1;refused C1(I7)\n;
@@ -567,25 +607,71 @@ an empty file is joined;join ab nothing abcde;;0;ababcde;
 200 files are joined;join $(yes abc | head -n 200);;0;joined.txt;
 a pattern at the start of the search;find 2 cd abcde;;0;2\n;
 
+a number to find that is too large;find --all 18446744073709551616 b abcde;;2;;error: invalid value '18446744073709551616' for '<START>': number too large to fit in target type\n\nUsage: cordkit find [OPTIONS] <START> <PATTERN> <FILE>\n\nFor more information, try '--help'.\n
+a limit of a log that is no number;log --at-most few one_insert;;2;;error: invalid value 'few' for '<LOOKS>': invalid digit found in string\n\nUsage: cordkit log [OPTIONS] <IMAGE> [SOURCE]...\n\nFor more information, try '--help'.\n
+a flag twice;find --all --all 1 b abcde;;2;;error: the argument '--all' cannot be used multiple times\n\nUsage: cordkit find [OPTIONS] <START> <PATTERN> <FILE>\n\nFor more information, try '--help'.\n
+a word that is no UTF-8;check "$(printf '\377')";;2;;error: a word is no UTF-8\n\nUsage: cordkit [OPTIONS] [COMMAND]\n\nFor more information, try '--help'.\n
+a program's option behind its command;cmp --version abc abc;;2;;error: unexpected argument '--version' found\n\n  tip: to pass '--version' as a value, use '-- --version'\n\nUsage: cordkit cmp [OPTIONS] <FIRST> <SECOND>\n\nFor more information, try '--help'.\n
+each place of a pattern;find --all 0 abcdefg weeks;;0;0\n8\n16\n;
+each place behind the end of the one before;find --all 1 aa eight;;0;1\n3\n5\n;
+no place of a pattern;find --all 0 zz abcde;;1;;
+
+what is accepted needs no words;check --explain one_insert;;0;accepted 2 revisions 1 nodes 1 rows\n;
+nor does what is not found;find --explain 0 zz abcde;;1;;
+nor what is different;cmp --explain ab abc;;1;less\n;
+nor a usage fault;cmp --explain ab;;2;;error: the following required arguments were not provided:\n  <SECOND>\n\nUsage: cordkit cmp --explain <FIRST> <SECOND>\n\nFor more information, try '--help'.\n
+* a source of another length in words;check --explain one_source ab;;1;refused C3(0)\n;C3(0): source 0, ab, has 2 bytes, and the image was made over 3\n
+the flag before the command;--explain check one_source ab;;1;refused C3(0)\n;C3(0): source 0, ab, has 2 bytes, and the image was made over 3\n
+standard input of another length in words;check --explain one_source /dev/stdin;ab;1;refused C3(0)\n;C3(0): source 0, /dev/stdin, has 2 bytes, and the image was made over 3\n
+a source that is not given in words;check --explain one_source;;1;refused C2\n;C2: the sources of one_source are 1 in number, and 0 are given\n
+a source too many in words;migrate --explain one_insert abc;;1;;refused C2\nC2: the sources of one_insert are 0 in number, and 1 are given\n
+256 sources in words;check --explain one_source $(yes abc | head -n 256);;1;refused S4\n;S4: there are more than 255 files\n
+a damaged image in words;show --explain child_not_earlier 0;;1;;refused C4(1)\nC4(1): node 1 of child_not_earlier names one that is not earlier, or a source that is not there\n
+a row in words;check --explain text_left_uncovered;;1;refused C11(1,1)\n;C11(1,1): revision 1 of text_left_uncovered is not shown to be what its command gives: row 1 does not fit, or is missing\n
+a text in words;log --explain abcde;;1;;refused C1(I1)\nC1(I1): abcde ends too early to be an image\n
+standard input in words;--explain;cut_short_by_one;1;refused C1(I1)\n;C1(I1): standard input ends too early to be an image\n
+a limit of looks in words;check --explain --at-most 136 one_insert;;1;refused looks 137\n;looks 137: the check of one_insert may take 137 looks at nodes, more than --at-most allows\n
+a revision that is not there in words;show --explain one_insert 7;;1;;refused no revision\nno revision: one_insert is accepted, and has no such revision\n
+a file that is not there in words;cmp --explain abc missing;;3;;read\nread: there is no file missing\n
+an image that is not there in words;check --explain missing abc;;3;;read\nread: there is no file missing\n
+a folder in words;check --explain folder;;3;;read\nread: folder is a folder\n
+a file below a file in words;cut --explain 0 1 abc/abc;;3;;read\nread: abc/abc is below what is no folder\n
+a full device in words;join --explain abc;;3;/dev/full;write\nwrite: standard output could not be written\n
+an image on a full device in words;edit --explain /dev/full;keys_saved;3;edit.txt;write\nwrite: the image /dev/full, the file of keys or standard output could not be written\n
+keys that are a folder in words;edit --explain unsaved abc;folder;3;edit_abc.txt;read\nread: standard input, the file of keys or abc could not be read to its end\n
+standard input that is a folder in words;--explain;folder;3;;read\nread: standard input could not be read to its end\n
+a line that is no command in words;apply --explain script_without_quotes;;1;;refused P(2)\nP(2): line 2 of script_without_quotes is no command\n
+a place past the end in words;apply --explain script_past_the_end;;1;;refused E3(3)\nE3(3): line 3 of script_past_the_end names a place behind the end of revision 0\n
+bytes past the end in words;apply --explain script_of_long_cuts;;1;;refused E3(2)\nE3(2): line 2 of script_of_long_cuts names bytes behind the end of revision 0\n
+a script by a pipe in words;apply --explain /dev/stdin;script_past_the_end;1;;refused E3(3)\nE3(3): line 3 of /dev/stdin names a place behind the end of revision 0\n
+no such revision in words;apply --explain script_of_no_revision;;1;;refused E1(3)\nE1(3): line 3 of script_of_no_revision names a revision that is not there\n
+no such source in words;apply --explain script_over_a_source;;1;;refused E2(1)\nE2(1): line 1 of script_over_a_source names a source that is not there\n
+a text that is too long in words;apply --explain script_too_long;;1;;refused E7(N1,2)\nE7(N1,2): line 2 of script_too_long would make a text of 2^40 bytes or more\n
+a file that is too long in words;cut --explain 0 1 too_long;;1;;refused S5\nS5: too_long has more than 2^40 - 1 bytes\n
+files that are too long together in words;join --explain half half;;1;;refused N1\nN1: the files together would make a text of 2^40 bytes or more\n
+a pattern that is too long in words;find --explain 0 $(yes a | head -n 4097 | tr -d '\n') abcde;;1;;refused F1\nF1: the pattern has more than 4,096 bytes\n
+keys of another file in words;edit --explain --keep=abcde kept;keys_saved;1;;refused J1\nJ1: abcde has the keys of another file, or something else\n
+a file that is no image in words;edit --explain abc;keys_saved;1;;refused C1(I3)\nC1(I3): abc is no image: it does not begin with CORDSESS\n
+
 help to check;check --help;;2;;check_help.txt
 help to show;show --help;;2;;show_help.txt
 help to show by its word;help show;;2;;show_help.txt
-a file before its command;abcde check;;2;;error: unrecognized subcommand 'abcde'\n\nUsage: cordkit [COMMAND]\n\nFor more information, try '--help'.\n
+a file before its command;abcde check;;2;;error: unrecognized subcommand 'abcde'\n\nUsage: cordkit [OPTIONS] [COMMAND]\n\nFor more information, try '--help'.\n
 an image to check that is missing;check;;2;;error: the following required arguments were not provided:\n  <IMAGE>\n\nUsage: cordkit check <IMAGE> [SOURCE]...\n\nFor more information, try '--help'.\n
 an option of check that is not known;check --frobnicate one_insert;;2;;error: unexpected argument '--frobnicate' found\n\n  tip: to pass '--frobnicate' as a value, use '-- --frobnicate'\n\nUsage: cordkit check [OPTIONS] <IMAGE> [SOURCE]...\n\nFor more information, try '--help'.\n
 an image and a revision that are missing;show;;2;;error: the following required arguments were not provided:\n  <IMAGE>\n  <REV>\n\nUsage: cordkit show <IMAGE> <REV> [SOURCE]...\n\nFor more information, try '--help'.\n
-a source in the place of a revision;show one_insert abc 1;;2;;error: invalid value 'abc' for '<REV>': invalid digit found in string\n\nUsage: cordkit [COMMAND]\n\nFor more information, try '--help'.\n
-a revision with a fraction;show one_insert 1.0;;2;;error: invalid value '1.0' for '<REV>': invalid digit found in string\n\nUsage: cordkit [COMMAND]\n\nFor more information, try '--help'.\n
-a revision of more than 64 bits;show one_insert 18446744073709551616;;2;;error: invalid value '18446744073709551616' for '<REV>': number too large to fit in target type\n\nUsage: cordkit [COMMAND]\n\nFor more information, try '--help'.\n
+a source in the place of a revision;show one_insert abc 1;;2;;error: invalid value 'abc' for '<REV>': invalid digit found in string\n\nUsage: cordkit show [OPTIONS] <IMAGE> <REV> [SOURCE]...\n\nFor more information, try '--help'.\n
+a revision with a fraction;show one_insert 1.0;;2;;error: invalid value '1.0' for '<REV>': invalid digit found in string\n\nUsage: cordkit show [OPTIONS] <IMAGE> <REV> [SOURCE]...\n\nFor more information, try '--help'.\n
+a revision of more than 64 bits;show one_insert 18446744073709551616;;2;;error: invalid value '18446744073709551616' for '<REV>': number too large to fit in target type\n\nUsage: cordkit show [OPTIONS] <IMAGE> <REV> [SOURCE]...\n\nFor more information, try '--help'.\n
 a revision with a sign;show one_insert -1;;2;;error: unexpected argument '-1' found\n\n  tip: to pass '-1' as a value, use '-- -1'\n\nUsage: cordkit show [OPTIONS] <IMAGE> <REV> [SOURCE]...\n\nFor more information, try '--help'.\n
 all words of cut that are missing;cut;;2;;error: the following required arguments were not provided:\n  <START>\n  <COUNT>\n  <FILE>\n\nUsage: cordkit cut <START> <COUNT> <FILE>\n\nFor more information, try '--help'.\n
 a file to cut that is missing;cut 1 2;;2;;error: the following required arguments were not provided:\n  <FILE>\n\nUsage: cordkit cut <START> <COUNT> <FILE>\n\nFor more information, try '--help'.\n
-a start that is no number;cut x 2 abcde;;2;;error: invalid value 'x' for '<START>': invalid digit found in string\n\nUsage: cordkit [COMMAND]\n\nFor more information, try '--help'.\n
-a count that is no number;cut 1 x abcde;;2;;error: invalid value 'x' for '<COUNT>': invalid digit found in string\n\nUsage: cordkit [COMMAND]\n\nFor more information, try '--help'.\n
-a file too many to cut;cut 1 2 abcde ab;;2;;error: unexpected argument 'ab' found\n\nUsage: cordkit cut <START> <COUNT> <FILE>\n\nFor more information, try '--help'.\n
+a start that is no number;cut x 2 abcde;;2;;error: invalid value 'x' for '<START>': invalid digit found in string\n\nUsage: cordkit cut [OPTIONS] <START> <COUNT> <FILE>\n\nFor more information, try '--help'.\n
+a count that is no number;cut 1 x abcde;;2;;error: invalid value 'x' for '<COUNT>': invalid digit found in string\n\nUsage: cordkit cut [OPTIONS] <START> <COUNT> <FILE>\n\nFor more information, try '--help'.\n
+a file too many to cut;cut 1 2 abcde ab;;2;;error: unexpected argument 'ab' found\n\nUsage: cordkit cut [OPTIONS] <START> <COUNT> <FILE>\n\nFor more information, try '--help'.\n
 files to join that are missing;join;;2;;error: the following required arguments were not provided:\n  <FILE>...\n\nUsage: cordkit join <FILE>...\n\nFor more information, try '--help'.\n
 a file to look in that is missing;find 1 b;;2;;error: the following required arguments were not provided:\n  <FILE>\n\nUsage: cordkit find <START> <PATTERN> <FILE>\n\nFor more information, try '--help'.\n
-a place that is no number;find x b abcde;;2;;error: invalid value 'x' for '<START>': invalid digit found in string\n\nUsage: cordkit [COMMAND]\n\nFor more information, try '--help'.\n
+a place that is no number;find x b abcde;;2;;error: invalid value 'x' for '<START>': invalid digit found in string\n\nUsage: cordkit find [OPTIONS] <START> <PATTERN> <FILE>\n\nFor more information, try '--help'.\n
 a second file that is missing;cmp abc;;2;;error: the following required arguments were not provided:\n  <SECOND>\n\nUsage: cordkit cmp <FIRST> <SECOND>\n\nFor more information, try '--help'.\n
 an image to save that is missing;edit;;2;;error: the following required arguments were not provided:\n  <IMAGE>\n\nUsage: cordkit edit <IMAGE> [FILE]\n\nFor more information, try '--help'.\n
 a file too many to edit;edit unsaved abc ab;;2;;error: unexpected argument 'ab' found\n\nUsage: cordkit edit [OPTIONS] <IMAGE> [FILE]\n\nFor more information, try '--help'.\n

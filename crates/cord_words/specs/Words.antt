@@ -1,15 +1,17 @@
 -- The program's command line, and what an action holds of it.
-use Rattle.std.specs.Prelude.{◌≡◌, ◌⊎◌, ◌∷◌, ⊤, ℕ, Bool, true, false, List, [], Option, Some, None, Ok, String}
+use Rattle.std.specs.Prelude.{◌≡◌, ◌⊎◌, ◌∷◌, ◌||◌, ⊤, ℕ, Bool, true, false, List, [], Option, Some, None, Ok, String}
 use Rattle.std.specs.Prelude.{IfSome, codes, map, string_bytes, unwrap_or}
 use Rattle.std.specs.Option.{option_map, option_map_or}
 use Rattle.std.specs.Str.{bytes_eq}
 use Rattle.std.specs.Str.Parse.{ParsesUnsigned}
 use Rattle.std.specs.declared.num.ParseIntError.{ParseIntError}
-use Rattle.clap.specs.Words.{App, Kinds, Row, Rule, Text, all_of, fault_of, first_of, new_app}
-use Rattle.clap.specs.Words.{new_rule, with_rule, with_subcommand}
+use Rattle.clap.specs.Words.{App, Kinds, Row, Rule, Text, all_of, fault_of, first_of, matches_of, new_app}
+use Rattle.clap.specs.Words.{new_rule, subcommand_of, with_rule, with_subcommand}
+use Rattle.clap.specs.Simple.{on_top}
 use Rattle.clap.specs.Kinds.{or_else}
 use Rattle.clap.specs.declared.builder.action.ArgAction.TheVariants.{Append, SetTrue}
 use Rattle.clap.specs.declared.error.kind.ErrorKind.TheVariants.{ValueValidation}
+use Rattle.cord_words.specs.declared.request.Request.{Request}
 use Rattle.cord_words.specs.declared.action.Action.{Action}
 use Rattle.cord_words.specs.declared.action.Action.TheVariants.{CheckInput, Check, Show, Cut, Join, Find, Cmp, Edit, Migrate, Log, Apply}
 
@@ -45,6 +47,10 @@ limit_rule = record (new_rule (codes "LOOKS")) { long = Some (codes "at-most") }
 -- an option of this name, which has no value
 abbrev pub flag_rule : Text → Rule
 flag_rule name = record (new_rule name) { long = Some name; action = Some SetTrue }
+
+-- `--explain`, which the program has and each subcommand
+abbrev pub explain_rule : Rule
+explain_rule = flag_rule (codes "explain")
 
 -- `check [--at-most LOOKS] IMAGE [SOURCE]...`
 abbrev pub check_app : App
@@ -101,12 +107,19 @@ log_app = with_rule (with_rule (with_rule (with_rule (new_app (codes "log")) lim
 abbrev pub apply_app : App
 apply_app = with_rule (with_rule (new_app (codes "apply")) (required_rule (codes "SCRIPT"))) sources_rule
 
+-- the program's name, and that it has a version
+abbrev pub titled_app : App
+titled_app = on_top (λ s. record s { has_version = true }) (new_app (codes "cordkit"))
+
+-- the program with one more subcommand
+abbrev pub with_tool : App → App → App
+with_tool program tool = with_subcommand program (with_rule tool explain_rule).top
+
 -- the program, as clap is told of it: all its subcommands
 unfoldable pub cordkit_app : App
-cordkit_app = with_subcommand (with_subcommand (with_subcommand (with_subcommand (with_subcommand (with_subcommand (with_subcommand
-    (with_subcommand (with_subcommand (with_subcommand (new_app (codes "cordkit")) check_app.top) show_app.top)
-    cut_app.top) join_app.top) find_app.top) cmp_app.top) edit_app.top) migrate_app.top) log_app.top)
-    apply_app.top
+cordkit_app = with_tool (with_tool (with_tool (with_tool (with_tool (with_tool (with_tool (with_tool (with_tool
+    (with_tool (with_rule titled_app explain_rule) check_app) show_app) cut_app) join_app) find_app) cmp_app) edit_app) migrate_app) log_app)
+    apply_app
 
 -- ---- what was given
 
@@ -179,6 +192,20 @@ Holds given (Log at_most brief image sources) = Gives given (codes "log") (λ ro
 Holds given (Apply script sources) = Gives given (codes "apply") (λ rows.
     (script.now ≡ text_of rows (codes "SCRIPT"))
     × (map (λ s. s.now) sources.items ≡ texts_of rows (codes "SOURCE")))
+
+-- the matches of the program's own arguments
+abbrev pub own_rows : List Text → List Row
+own_rows = matches_of cordkit_app
+
+-- the flag `--explain` stands before the subcommand or behind it
+abbrev pub is_explained : List Row → Option (Text × List Row) → Bool
+is_explained own given =
+    is_set own (codes "explain") || option_map_or (λ rows. is_set rows (codes "explain")) (option_map (λ p. p.1) given) false
+
+-- a request is what the words say
+pub record Asks (words : List Text) (request : Request) : Type 0 where
+  pub action : Holds (subcommand_of cordkit_app words) request.action
+  pub explain : request.explain ≡ is_explained (own_rows words) (subcommand_of cordkit_app words)
 
 abbrev pub IsOneOf : List Text → Text → Type 0
 IsOneOf [] n = ⊥

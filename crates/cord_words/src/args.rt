@@ -3,7 +3,7 @@
 ghost use Rattle.std.specs.Prelude.{◌≡◌, IfOk, false};
 ghost use Rattle.clap.specs.Words.{App, Rule, app_of, new_app, rule_of, with_rule};
 ghost use Rattle.clap.specs.declared.builder.command.Command.TheViews.{out-Command as fields_of};
-ghost use Rattle.cord_words.specs.Words.{file_rule, flag_rule, image_rule, keep_rule, limit_rule};
+ghost use Rattle.cord_words.specs.Words.{explain_rule, file_rule, flag_rule, image_rule, keep_rule, limit_rule};
 ghost use Rattle.cord_words.specs.Words.{optional_file_rule, required_rule, sources_rule, start_rule};
 
 use clap::{Arg, ArgAction, Command};
@@ -29,6 +29,31 @@ pub fn with<'a>(
     ensures local { IfOk result (λ c. (fields_of c).has_globals ≡ false) }
 {
     command?.arg(argument)
+}
+
+/// The flag that each subcommand has, and the program before them.
+pub fn explain<'a>(alloc: Global) -> Arg<'a>
+    ensures rule { rule_of result ≡ explain_rule }
+    ensures local { result.global ≡ false }
+{
+    flag(
+        alloc,
+        "explain",
+        "Say on a second line what a refusal or a fault means",
+    )
+}
+
+/// The command with the flag `--explain`, where it could be made.
+pub fn explained<'a>(
+    alloc: Global,
+    command: Result<Command<'a>, AllocError>,
+) -> Result<Command<'a>, AllocError>
+    requires { IfOk command (λ c. (fields_of c).has_globals ≡ false) }
+    ensures app { (a : App) → IfOk command.entry (λ c. app_of c ≡ a)
+        → IfOk result (λ c. app_of c ≡ with_rule a explain_rule) }
+    ensures local { IfOk result (λ c. (fields_of c).has_globals ≡ false) }
+{
+    with(command, explain(alloc))
 }
 
 /// One value, which must be given.

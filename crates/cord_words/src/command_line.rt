@@ -1,30 +1,36 @@
 //! The command line.
 
-ghost use Rattle.std.specs.Prelude.{◌≡◌, ◌∷◌, [], IfOk, IfErr, OnOk, codes, false, true};
-ghost use Rattle.clap.specs.Words.{App, app_of, fault_of, new_app, subcommand_of};
+ghost use Rattle.std.specs.Prelude.{◌≡◌, ◌∷◌, [], IfOk, IfErr, OnOk, false, true};
+ghost use Rattle.clap.specs.Words.{App, app_of, fault_of, found_of, kind_of, rows_of, subcommand_of};
 ghost use Rattle.clap.specs.Words.{subcommand_rows_of, takes, with_subcommand};
 ghost use Rattle.clap.specs.declared.builder.command.Command.TheViews.{out-Command as fields_of};
 ghost use Rattle.clap.specs.declared.error.kind.ErrorKind.TheVariants.{ValueValidation};
-ghost use Rattle.cord_words.specs.Words.{Holds, IsKnown, NumbersRead, cordkit_app, line_of};
-ghost use Rattle.cord_words.specs.Words.{refusal_kinds};
+ghost use Rattle.cord_words.specs.Words.{Asks, Holds, IsKnown, NumbersRead, cordkit_app, is_explained};
+ghost use Rattle.cord_words.specs.Words.{line_of, own_rows, refusal_kinds, titled_app, with_tool};
 ghost use Rattle.cord_words.specs.Refusals.{FailsAs};
 
 use crate::action::Action;
 use crate::fault::WordsFault;
-use crate::{apply, args, check, cmp, cut, edit, find, join, log, migrate, show};
-use clap::{ArgMatches, Command};
+use crate::request::Request;
+use crate::{apply, args, check, cmp, cut, edit, find, given, join, log, migrate, show};
+use clap::error::ErrorKind;
+use clap::{ArgMatches, Command, Error};
 use std::alloc::{AllocError, Global};
 
+/// The version, with the toolchain that it was proved with.
+const VERSION: &str = "1.0.0 (rattle-kit-13f logic dac8208d650f15bf)";
+
 /// Reads the words of a command line, of which the first is the program's name, as `env::args`
-/// gives them. The action borrows its texts from the words.
+/// gives them. The request borrows its texts from the words.
 ///
 /// # Errors
 ///
-/// `Usage`, where `clap` does not take the words or a number does not read, with the text for the user. `Memory`.
-pub fn words<'a>(alloc: Global, words: &'a [String]) -> Result<Action<'a>, WordsFault>
-    ensures holds { IfOk result (Holds (subcommand_of cordkit_app (line_of words.entry.now))) }
+/// `Usage`, where `clap` does not take the words or a number does not read, with the text for the user. `Version`, with the text that
+/// was asked for. `Memory`.
+pub fn words<'a>(alloc: Global, words: &'a [String]) -> Result<Request<'a>, WordsFault>
+    ensures asks { IfOk result (Asks (line_of words.entry.now)) }
 
-    // An action is read only of words in which `clap` finds no fault, and where it takes them and
+    // A request is read only of words in which `clap` finds no fault, and where it takes them and
     // each number reads, nothing but memory is in the way.
     ensures faultless { OnOk result (fault_of cordkit_app (line_of words.entry.now) ≡ []) }
     ensures only_memory { IfErr result (λ f. takes cordkit_app (line_of words.entry.now) ≡ true
@@ -34,7 +40,11 @@ pub fn words<'a>(alloc: Global, words: &'a [String]) -> Result<Action<'a>, Words
 {
     let mut command = cordkit(alloc)?;
     let matches = matches_of(&mut command, words)?;
-    action_of(alloc, &mut command, &matches)
+    let action = asked(alloc, &matches)?;
+    Ok(Request {
+        explain: is_explained(&matches),
+        action,
+    })
 }
 
 // What `clap` makes of the words.
@@ -43,6 +53,7 @@ fn matches_of<'a>(
     words: &'a [String],
 ) -> Result<ArgMatches<'a>, WordsFault>
     requires { app_of command.old ≡ cordkit_app }
+    ensures own { IfOk result (λ m. rows_of (found_of m) ≡ own_rows (line_of words.entry.now)) }
     ensures rows { IfOk result (λ m.
         subcommand_rows_of m ≡ subcommand_of cordkit_app (line_of words.entry.now)) }
     ensures faultless { OnOk result (fault_of cordkit_app (line_of words.entry.now) ≡ []) }
@@ -53,7 +64,17 @@ fn matches_of<'a>(
     Ok(command.try_get_matches_from_mut(words)?)
 }
 
-// The action that the matches ask for.
+// Whether the flag `--explain` was given, before the subcommand or behind it.
+fn is_explained(matches: &ArgMatches<'_>) -> bool
+    ensures { result ≡ is_explained (rows_of (found_of matches.now)) (subcommand_rows_of matches.now) }
+{
+    match matches.subcommand() {
+        Some((_, given)) => given::flag(matches, "explain") || given::flag(given, "explain"),
+        None => given::flag(matches, "explain"),
+    }
+}
+
+// The action that the matches ask for. Where a number does not read, the fault is one of `command`.
 fn action_of<'a>(
     alloc: Global,
     command: &mut Command<'a>,
@@ -81,16 +102,42 @@ fn action_of<'a>(
     }
 }
 
-/// The program without its subcommands.
-fn program<'a>(alloc: Global) -> Command<'a>
-    ensures { app_of result ≡ new_app (codes "cordkit") }
+// The action that the matches ask for, with the usage of its own subcommand where a number does not read.
+fn asked<'a>(alloc: Global, matches: &ArgMatches<'a>) -> Result<Action<'a>, WordsFault>
+    requires { IsKnown (subcommand_rows_of matches.now) }
+    ensures holds { IfOk result (Holds (subcommand_rows_of matches.now)) }
+    ensures only_memory { IfErr result (λ f.
+        NumbersRead (subcommand_rows_of matches.now) → f ≡ WordsFault.Memory) }
+    ensures kind { IfErr result (FailsAs (ValueValidation ∷ [])) }
 {
-    args::command(
-        alloc,
-        "cordkit",
-        "a text workbench whose saved sessions can be checked",
-    )
-    .after_help("With no words, check the session on standard input.")
+    let mut command = alone(alloc, matches.subcommand_name().unwrap_or(""))?;
+    action_of(alloc, &mut command, matches)
+}
+
+// The subcommand of this name by itself, as the usage shows it, if it takes numbers.
+fn alone<'a>(alloc: Global, name: &str) -> Result<Command<'a>, AllocError> {
+    let command = match name {
+        "check" => check::command(alloc),
+        "show" => show::command(alloc),
+        "cut" => cut::command(alloc),
+        "find" => find::command(alloc),
+        "migrate" => migrate::command(alloc),
+        "log" => log::command(alloc),
+        _ => Ok(titled(alloc)),
+    };
+    let path = format!(in alloc; "cordkit {name}")?;
+    args::explained(alloc, command)?.bin_name(path.as_str())
+}
+
+/// The program's name, version and help.
+fn titled<'a>(alloc: Global) -> Command<'a>
+    ensures app { app_of result ≡ titled_app }
+    ensures local { (fields_of result).has_globals ≡ false }
+{
+    let about = "a text workbench whose saved sessions can be checked";
+    args::command(alloc, "cordkit", about)
+        .after_help("With no words, check the session on standard input.")
+        .version(VERSION)
 }
 
 /// The command with one more subcommand, where both could be made.
@@ -107,18 +154,50 @@ fn add_subcommand<'a>(
     command.subcommand(subcommand?)
 }
 
+/// The program with one more subcommand, which has the flag `--explain` too.
+fn add_tool<'a>(
+    alloc: Global,
+    command: Result<Command<'a>, AllocError>,
+    tool: Result<Command<'a>, AllocError>,
+) -> Result<Command<'a>, AllocError>
+    requires { IfOk tool (λ c. (fields_of c).has_globals ≡ false) }
+    ensures { (a s : App) → IfOk command.entry (λ c. app_of c ≡ a)
+        → IfOk tool.entry (λ c. app_of c ≡ s)
+        → IfOk result (λ c. app_of c ≡ with_tool a s) }
+{
+    add_subcommand(command, args::explained(alloc, tool))
+}
+
 /// The program, as `clap` is told of it.
 fn cordkit<'a>(alloc: Global) -> Result<Command<'a>, AllocError>
     ensures { IfOk result (λ c. app_of c ≡ cordkit_app) }
 {
-    let command = add_subcommand(Ok(program(alloc)), check::command(alloc));
-    let command = add_subcommand(command, show::command(alloc));
-    let command = add_subcommand(command, cut::command(alloc));
-    let command = add_subcommand(command, join::command(alloc));
-    let command = add_subcommand(command, find::command(alloc));
-    let command = add_subcommand(command, cmp::command(alloc));
-    let command = add_subcommand(command, edit::command(alloc));
-    let command = add_subcommand(command, migrate::command(alloc));
-    let command = add_subcommand(command, log::command(alloc));
-    add_subcommand(command, apply::command(alloc))
+    let command = args::explained(alloc, Ok(titled(alloc)));
+    let command = add_tool(alloc, command, check::command(alloc));
+    let command = add_tool(alloc, command, show::command(alloc));
+    let command = add_tool(alloc, command, cut::command(alloc));
+    let command = add_tool(alloc, command, join::command(alloc));
+    let command = add_tool(alloc, command, find::command(alloc));
+    let command = add_tool(alloc, command, cmp::command(alloc));
+    let command = add_tool(alloc, command, edit::command(alloc));
+    let command = add_tool(alloc, command, migrate::command(alloc));
+    let command = add_tool(alloc, command, log::command(alloc));
+    add_tool(alloc, command, apply::command(alloc))
+}
+
+/// The refusal of words that are no text, with the usage of the program. It is `Memory`, where there was none for it.
+pub fn no_text(alloc: Global) -> WordsFault
+    ensures { FailsAs (ValueValidation ∷ []) result }
+{
+    match unread(alloc) {
+        Ok(error) => WordsFault::Usage(error),
+        Err(_) => WordsFault::Memory,
+    }
+}
+
+/// The error of words that are no text.
+fn unread(alloc: Global) -> Result<Error, AllocError>
+    ensures { IfOk result (λ e. kind_of e ≡ ValueValidation) }
+{
+    cordkit(alloc)?.error(ErrorKind::ValueValidation, "a word is no UTF-8")
 }

@@ -15,6 +15,9 @@ pub enum WordsFault {
     /// error's `Display`.
     #[error("{0}")]
     Usage(clap::Error),
+    /// The words ask for the program's version, which is the error's `Display`.
+    #[error("{0}")]
+    Version(clap::Error),
     /// Memory ran out.
     #[error("memory")]
     Memory,
@@ -26,6 +29,7 @@ impl From<clap::Error> for WordsFault {
     fn from(error: clap::Error) -> WordsFault {
         match error.kind() {
             ErrorKind::OutOfMemory => WordsFault::Memory,
+            ErrorKind::DisplayVersion => WordsFault::Version(error),
             _ => WordsFault::Usage(error),
         }
     }

@@ -30,7 +30,7 @@ pub fn optional_text<'a>(given: &ArgMatches<'a>, id: &str) -> Option<&'a str>
 pub fn flag(given: &ArgMatches<'_>, id: &str) -> bool
     ensures { result ≡ is_set (rows_of (found_of given.now)) id.now }
 {
-    match given.get_str(id) {
+    match optional_text(given, id) {
         Some(text) => text == "true",
         None => false,
     }

@@ -15,8 +15,10 @@ mod given;
 mod join;
 mod log;
 mod migrate;
+mod request;
 mod show;
 
 pub use action::Action;
-pub use command_line::words;
+pub use command_line::{no_text, words};
 pub use fault::WordsFault;
+pub use request::Request;

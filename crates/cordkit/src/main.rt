@@ -1,109 +1,101 @@
 //! The program `cordkit`: it opens what its words name, and ends as its tool says.
 #![tactic(auto)]
 
+mod answer;
+mod explaining;
 mod image_file;
 mod journal;
+mod looking;
+mod meaning;
 mod opening;
 mod scripts;
 
 ghost use Rattle.std.specs.Prelude.{◌≡◌, ◌*◌, ◌-◌, ◌^◌, ◌<◌, length};
 
+use crate::answer::Answer;
+use crate::explaining::tell;
 use crate::image_file::ImageFile;
 use crate::journal::Journal;
-use crate::opening::{open, opened_sources, told_size};
-use crate::scripts::{lens_of, refuse_script};
+use crate::opening::{OpenedImage, open, opened_image, opened_sources};
+use crate::scripts::{lens_of, refuse_script, write_log};
 use cord_tools::{
-    Outcome, Status, ToolFault, exit_status, read_source, refuse_check, run_check, run_cmp,
-    run_cut, run_edit, run_find, run_join, run_migrate, run_show, run_stdin,
+    Outcome, Status, ToolFault, exit_status, read_image, read_source, refuse_check, run_check,
+    run_cmp, run_cut, run_edit, run_find, run_find_all, run_join, run_migrate, run_show, run_stdin,
 };
-use cord_words::{Action, WordsFault, words};
+use cord_words::{Action, Request, WordsFault, no_text, words};
 use lazy_file::Sources;
 use script_tools::{ApplyFault, run_apply};
+use std::io::ErrorKind;
 use std::marker::Brand;
 use std::process::ExitCode;
 use std::sync::ledger::{Blank, Ledger};
 use std::{env, io};
 
-/// Checks an image with its sources, by so many looks at most. Sources that are refused answer for it.
-fn check<L: Ledger>(
+/// Checks an image with its sources. Sources that are refused answer for it.
+fn check<L: Ledger, W: io::Write>(
     rt: &HostRuntime,
-    at_most: Option<u64>,
-    image: &str,
-    paths: &[&str],
-    blank: Blank,
-) -> Result<Status, ToolFault>
-    requires name { blank.name ≡ L.name }
-    requires parts { blank.parts ≡ L.parts }
-    requires many { 2 * length paths.now < blank.parts }
-{
-    let image = open(rt, image)?;
-    let expected = told_size(&image);
-    let mut writer = io::writer(rt);
-    match opened_sources::<L>(rt, paths, blank) {
-        Ok(mut sources) => run_check(
+    opened: Result<OpenedImage<L>, ToolFault>,
+    answer: &mut Answer<W>,
+) -> Result<Status, ToolFault> {
+    match opened {
+        Ok(mut image) => run_check(
             rt.alloc(),
-            image,
-            expected,
-            &mut sources,
-            at_most,
-            &mut writer,
+            image.file,
+            image.expected,
+            &mut image.sources,
+            image.at_most,
+            answer,
         ),
-        Err(ToolFault::Source(refusal)) => refuse_check(rt.alloc(), refusal, &mut writer),
+        Err(ToolFault::Source(refusal)) => refuse_check(rt.alloc(), refusal, answer),
         Err(fault) => Err(fault),
     }
 }
 
-/// Writes the text of a revision of an image, which is checked by so many looks at most.
+/// Writes the text of a revision of an image, which is checked.
 fn show<L: Ledger>(
     rt: &HostRuntime,
-    at_most: Option<u64>,
-    image: &str,
+    opened: Result<OpenedImage<L>, ToolFault>,
     revision: u64,
-    paths: &[&str],
-    blank: Blank,
-) -> Result<Status, ToolFault>
-    requires name { blank.name ≡ L.name }
-    requires parts { blank.parts ≡ L.parts }
-    requires many { 2 * length paths.now < blank.parts }
-{
-    let image = open(rt, image)?;
-    let expected = told_size(&image);
-    let mut sources = opened_sources::<L>(rt, paths, blank)?;
+) -> Result<Status, ToolFault> {
+    let mut image = opened?;
     run_show(
         rt.alloc(),
-        image,
-        expected,
-        &mut sources,
-        at_most,
+        image.file,
+        image.expected,
+        &mut image.sources,
+        image.at_most,
         revision,
         &mut io::writer(rt),
     )?;
     Ok(Status::Success)
 }
 
-/// Writes an image anew in version 2, which is checked by so many looks at most.
+/// Writes an image anew in version 2, which is checked.
 fn migrate<L: Ledger>(
     rt: &HostRuntime,
-    at_most: Option<u64>,
-    image: &str,
-    paths: &[&str],
-    blank: Blank,
-) -> Result<Status, ToolFault>
-    requires name { blank.name ≡ L.name }
-    requires parts { blank.parts ≡ L.parts }
-    requires many { 2 * length paths.now < blank.parts }
-{
-    let image = open(rt, image)?;
-    let expected = told_size(&image);
-    let mut sources = opened_sources::<L>(rt, paths, blank)?;
+    opened: Result<OpenedImage<L>, ToolFault>,
+) -> Result<Status, ToolFault> {
+    let mut image = opened?;
     run_migrate(
         rt.alloc(),
-        image,
-        expected,
-        &mut sources,
-        at_most,
+        image.file,
+        image.expected,
+        &mut image.sources,
+        image.at_most,
         &mut io::writer(rt),
     )?;
+    Ok(Status::Success)
+}
+
+/// Writes the script of an image, which is checked.
+fn log<L: Ledger>(
+    rt: &HostRuntime,
+    opened: Result<OpenedImage<L>, ToolFault>,
+    brief: bool,
+) -> Result<Status, ToolFault> {
+    let mut image = opened?;
+    let bytes = read_image(rt.alloc(), image.file, image.expected)?;
+    write_log(rt, &bytes, &mut image.sources, image.at_most, brief)?;
     Ok(Status::Success)
 }
 
@@ -135,9 +127,10 @@ fn join<L: Ledger>(rt: &HostRuntime, files: &[&str], blank: Blank) -> Result<Sta
     Ok(Status::Success)
 }
 
-/// Writes the first place of a pattern in a file.
+/// Writes the first place of a pattern in a file, or all of them.
 fn find<L: Ledger>(
     rt: &HostRuntime,
+    all: bool,
     start: u64,
     pattern: &[u8],
     file: &str,
@@ -148,13 +141,12 @@ fn find<L: Ledger>(
     requires many { 2 < blank.parts }
 {
     let mut sources = opened_sources::<L>(rt, &[file], blank)?;
-    run_find(
-        rt.alloc(),
-        &mut sources,
-        start,
-        pattern,
-        &mut io::writer(rt),
-    )
+    let mut writer = io::writer(rt);
+    if all {
+        run_find_all(rt.alloc(), &mut sources, start, pattern, &mut writer)
+    } else {
+        run_find(rt.alloc(), &mut sources, start, pattern, &mut writer)
+    }
 }
 
 /// Writes how a file compares with another.
@@ -234,10 +226,11 @@ fn edit<L: Ledger>(
 }
 
 /// Writes the image of the session that a script makes.
-fn apply<L: Ledger>(
+fn apply<L: Ledger, W>(
     rt: &HostRuntime,
     script: &str,
     paths: &[&str],
+    answer: &mut Answer<W>,
     blank: Blank,
 ) -> Result<Status, ToolFault>
     requires name { blank.name ≡ L.name }
@@ -249,7 +242,7 @@ fn apply<L: Ledger>(
     let lens = lens_of(rt.alloc(), &sources)?;
     match run_apply(rt.alloc(), &script, &lens, &mut io::writer(rt)) {
         Ok(()) => Ok(Status::Success),
-        Err(ApplyFault::Stop(stopped)) => refuse_script(rt, stopped),
+        Err(ApplyFault::Stop(stopped)) => refuse_script(rt, stopped, answer),
         Err(ApplyFault::Source(fault)) => Err(ToolFault::from(fault)),
         Err(ApplyFault::Write) => Err(ToolFault::Write),
     }
@@ -257,41 +250,66 @@ fn apply<L: Ledger>(
 
 /// Does what the words ask for. Files are opened in the order of the words before anything is written, the image of `edit` when it is
 /// saved.
-fn run<L: Ledger>(rt: &HostRuntime, action: &Action, blank: Blank) -> Result<Status, ToolFault>
+fn run<L: Ledger, W: io::Write>(
+    rt: &HostRuntime,
+    action: &Action<'_>,
+    answer: &mut Answer<W>,
+    blank: Blank,
+) -> Result<Status, ToolFault>
     requires name { blank.name ≡ L.name }
     requires parts { blank.parts ≡ L.parts }
     requires many { blank.parts ≡ 2 ^ 64 - 1 }
 {
     match action {
-        Action::CheckInput => run_stdin(rt.alloc(), rt.reader(), &mut io::writer(rt)),
+        Action::CheckInput => run_stdin(rt.alloc(), rt.reader(), answer),
         Action::Check {
             at_most,
             image,
             sources,
-        } => check::<L>(rt, *at_most, image, sources.as_slice(), blank),
+        } => check(
+            rt,
+            opened_image::<L>(rt, *at_most, image, sources, blank),
+            answer,
+        ),
         Action::Show {
             at_most,
             image,
             revision,
             sources,
-        } => show::<L>(rt, *at_most, image, *revision, sources.as_slice(), blank),
-        Action::Cut { start, count, file } => cut::<L>(rt, *start, *count, file, blank),
-        Action::Join { files } => join::<L>(rt, files.as_slice(), blank),
-        Action::Find {
-            start,
-            pattern,
-            file,
-        } => find::<L>(rt, *start, pattern.as_bytes(), file, blank),
-        Action::Cmp { first, second } => compare::<L>(rt, first, second, blank),
-        Action::Edit { keys, image, file } => edit::<L>(rt, *keys, image, *file, blank),
+        } => show(
+            rt,
+            opened_image::<L>(rt, *at_most, image, sources, blank),
+            *revision,
+        ),
         Action::Migrate {
             at_most,
             image,
             sources,
-        } => migrate::<L>(rt, *at_most, image, sources.as_slice(), blank),
-        Action::Apply { script, sources } => apply::<L>(rt, script, sources.as_slice(), blank),
+        } => migrate(rt, opened_image::<L>(rt, *at_most, image, sources, blank)),
+        Action::Log {
+            at_most,
+            brief,
+            image,
+            sources,
+        } => log(
+            rt,
+            opened_image::<L>(rt, *at_most, image, sources, blank),
+            *brief,
+        ),
+        Action::Cut { start, count, file } => cut::<L>(rt, *start, *count, file, blank),
+        Action::Join { files } => join::<L>(rt, files.as_slice(), blank),
+        Action::Find {
+            all,
+            start,
+            pattern,
+            file,
+        } => find::<L>(rt, *all, *start, pattern.as_bytes(), file, blank),
+        Action::Cmp { first, second } => compare::<L>(rt, first, second, blank),
+        Action::Edit { keys, image, file } => edit::<L>(rt, *keys, image, *file, blank),
+        Action::Apply { script, sources } => apply::<L, W>(rt, script, sources, answer, blank),
     }
 }
+
 /// How the program ended. What ended it without its answer goes to standard error.
 fn outcome(rt: &HostRuntime, answer: Result<Status, ToolFault>) -> Outcome {
     match answer {
@@ -304,21 +322,59 @@ fn outcome(rt: &HostRuntime, answer: Result<Status, ToolFault>) -> Outcome {
     }
 }
 
+/// Explains on standard error why the program ended without what was asked of it, if it did.
+fn explain<W>(rt: &HostRuntime, action: &Action<'_>, outcome: Outcome, answer: &Answer<W>) {
+    if let Outcome::Ended(fault) = outcome {
+        let Ok(told) = format!(in rt.alloc(); "{fault}") else {
+            return;
+        };
+        tell(rt, action, told.strip_prefix("refused ").unwrap_or(&told));
+    } else if let Some(code) = answer.refusal() {
+        tell(rt, action, code);
+    }
+}
+
+/// Does what is asked for, and explains how it ended.
+fn run_request(rt: &HostRuntime, request: &Request<'_>) -> Outcome {
+    let mut answer = Answer::new(rt.alloc(), io::writer(rt));
+    let ended = run::<Brand, _>(rt, &request.action, &mut answer, Blank::new(u64::MAX));
+    let outcome = outcome(rt, ended);
+    if request.explain {
+        explain(rt, &request.action, outcome, &answer);
+    }
+    outcome
+}
+
+/// What was asked for is not in the words.
+fn refused_words(rt: &HostRuntime, fault: WordsFault) -> Outcome {
+    match fault {
+        WordsFault::Memory => outcome(rt, Err(ToolFault::Memory)),
+        WordsFault::Version(version) => match rt.print(version) {
+            Ok(()) => Outcome::Answered(Status::Success),
+            Err(_) => outcome(rt, Err(ToolFault::Write)),
+        },
+        WordsFault::Usage(error) => {
+            let _ = rt.eprint(error);
+            Outcome::Misused
+        }
+    }
+}
+
 /// Does what the words of the command line ask for.
 fn run_words(rt: &HostRuntime) -> Outcome {
-    let Ok(given) = env::args(rt) else {
-        return outcome(rt, Err(ToolFault::Memory));
+    let given = match env::args(rt) {
+        Ok(given) => given,
+        Err(error) if error.kind() == ErrorKind::InvalidData => {
+            return refused_words(rt, no_text(rt.alloc()));
+        }
+        Err(_) => return outcome(rt, Err(ToolFault::Memory)),
     };
     let Ok(given) = given.collect::<Vec<String>>(rt.alloc()) else {
         return outcome(rt, Err(ToolFault::Memory));
     };
     match words(rt.alloc(), &given) {
-        Ok(action) => outcome(rt, run::<Brand>(rt, &action, Blank::new(u64::MAX))),
-        Err(WordsFault::Memory) => outcome(rt, Err(ToolFault::Memory)),
-        Err(WordsFault::Usage(error)) => {
-            let _ = rt.eprint(error);
-            Outcome::Misused
-        }
+        Ok(request) => run_request(rt, &request),
+        Err(fault) => refused_words(rt, fault),
     }
 }
 

@@ -38,6 +38,16 @@ pub fn told_size(file: &File) -> u64 {
     }
 }
 
+/// An image that is to be checked with its sources, by so many looks at most.
+#[derive(Drop)]
+pub struct OpenedImage<L: Ledger> {
+    pub file: File,
+    /// So many bytes it tells that it has.
+    pub expected: u64,
+    pub at_most: Option<u64>,
+    pub sources: OpenedSources<L>,
+}
+
 /// A file that tells its size is read where it lies, and its reads are counted by two parts of these. Another one is read now, to its
 /// end.
 fn opened_device<L: Ledger>(
@@ -81,4 +91,27 @@ pub fn opened_sources<L: Ledger>(
         sources.add(device).map_err(|refused| refused.fault)?;
     }
     Ok(sources)
+}
+
+/// An image and its sources, which are opened in their order.
+pub fn opened_image<L: Ledger>(
+    rt: &HostRuntime,
+    at_most: Option<u64>,
+    image: &str,
+    paths: &[&str],
+    blank: Blank,
+) -> Result<OpenedImage<L>, ToolFault>
+    requires name { blank.name ≡ L.name }
+    requires parts { blank.parts ≡ L.parts }
+    requires many { 2 * length paths.now < blank.parts }
+{
+    let file = open(rt, image)?;
+    let expected = told_size(&file);
+    let sources = opened_sources::<L>(rt, paths, blank)?;
+    Ok(OpenedImage {
+        file,
+        expected,
+        at_most,
+        sources,
+    })
 }

@@ -1,9 +1,16 @@
 //! Scripts as inputs.
 
+use crate::answer::Answer;
+use crate::opening::told;
 use cord_tools::{Status, ToolFault};
 use edit_script::{Stop, Stopped};
 use lazy_file::Sources;
+use script_tools::{LogFault, LogTexts, run_log};
 use std::alloc::{AllocError, Global};
+use std::io::{self, BufWriter, Write};
+
+/// A script is written by so many bytes.
+const PIECE: usize = 65_536;
 
 /// The lengths of all sources.
 pub fn lens_of<S: Sources>(alloc: Global, sources: &S) -> Result<Vec<u64>, AllocError> {
@@ -23,7 +30,11 @@ fn refusal_at(alloc: Global, code: &str, line: u64) -> Result<String, AllocError
 }
 
 /// Tells on standard error why a script was stopped, and at which line. Want of memory is no refusal.
-pub fn refuse_script(rt: &HostRuntime, stopped: Stopped) -> Result<Status, ToolFault> {
+pub fn refuse_script<W>(
+    rt: &HostRuntime,
+    stopped: Stopped,
+    answer: &mut Answer<W>,
+) -> Result<Status, ToolFault> {
     let alloc = rt.alloc();
     let told = match stopped.why {
         Stop::Memory => return Err(ToolFault::Memory),
@@ -33,7 +44,32 @@ pub fn refuse_script(rt: &HostRuntime, stopped: Stopped) -> Result<Status, ToolF
             refusal_at(alloc, &code, stopped.line)?
         }
     };
+    answer.keep(told.as_bytes());
     // There is no other place to tell that standard error is closed.
     let _ = rt.eprintln(told);
     Ok(Status::Failure)
+}
+
+/// Writes the script of an image that is accepted.
+pub fn write_log<S: Sources>(
+    rt: &HostRuntime,
+    image: &[u8],
+    sources: &mut S,
+    at_most: Option<u64>,
+    brief: bool,
+) -> Result<(), ToolFault> {
+    let texts = if brief {
+        LogTexts::Brief
+    } else {
+        LogTexts::Whole
+    };
+    let mut writer = BufWriter::with_capacity(rt.alloc(), PIECE, io::writer(rt)).map_err(told)?;
+    let written = run_log(rt.alloc(), image, sources, at_most, texts, &mut writer);
+    let flushed = writer.flush();
+    match written {
+        Ok(()) if flushed.is_ok() => Ok(()),
+        Ok(()) | Err(LogFault::Write) => Err(ToolFault::Write),
+        Err(LogFault::Memory) => Err(ToolFault::Memory),
+        Err(LogFault::Check(fault)) => Err(ToolFault::from(fault)),
+    }
 }

@@ -1,7 +1,7 @@
 //! Words and what is read of them. What the program prints of words that it refuses, its own table shows.
 
 use clap::error::ErrorKind;
-use cord_words::{WordsFault, words};
+use cord_words::{WordsFault, no_text, words};
 use std::alloc::AllocError;
 use std::test::Fail;
 
@@ -15,12 +15,18 @@ fn line(rt: &HostRuntime, text: &str) -> Result<Vec<String>, AllocError> {
     Ok(words)
 }
 
-/// What is read of a line, as it is written in Rust; the kind of the refusal alone.
+/// What is read of a line, as it is written in Rust, behind a word where it is to be explained; the kind of the refusal alone; the
+/// version.
 fn told(rt: &HostRuntime, text: &str) -> Result<String, AllocError> {
     let alloc = rt.alloc();
     let line = line(rt, text)?;
     match words(alloc, line.as_slice()) {
-        Ok(action) => format!(in alloc; "{action:?}"),
+        Ok(request) => {
+            let explained = if request.explain { "explained " } else { "" };
+            let action = request.action;
+            format!(in alloc; "{explained}{action:?}")
+        }
+        Err(WordsFault::Version(error)) => format!(in alloc; "{error}"),
         Err(WordsFault::Memory) => Err(AllocError),
         Err(WordsFault::Usage(error)) => {
             let kind: ErrorKind = error.kind();
@@ -111,9 +117,43 @@ fn words_are_read_or_refused(rt: HostRuntime) -> Result<(), Fail> {
         ("cordkit log --brief=yes a", "TooManyValues"),
         ("cordkit check --brief a", "UnknownArgument"),
         ("cordkit help show", "DisplayHelp"),
+        ("cordkit --explain", "explained CheckInput"),
+        (
+            "cordkit cmp b --explain a",
+            r#"explained Cmp { first: "b", second: "a" }"#,
+        ),
+        (
+            "cordkit --explain cmp b a",
+            r#"explained Cmp { first: "b", second: "a" }"#,
+        ),
+        (
+            "cordkit cmp b -- --explain",
+            r#"Cmp { first: "b", second: "--explain" }"#,
+        ),
+        ("cordkit check --explain", "MissingRequiredArgument"),
+        ("cordkit cmp --version", "UnknownArgument"),
+        (
+            "cordkit --version",
+            "cordkit 1.0.0 (rattle-kit-13f logic dac8208d650f15bf)\n",
+        ),
+        (
+            "cordkit -V",
+            "cordkit 1.0.0 (rattle-kit-13f logic dac8208d650f15bf)\n",
+        ),
     ] {
         let read = told(&rt, text)?;
         assert_eq!(rt; read.as_str(), wanted, "{text}");
     }
+    Ok(())
+}
+
+#[test]
+fn words_that_are_no_text_are_refused_with_the_usage(rt: HostRuntime) -> Result<(), Fail> {
+    let WordsFault::Usage(error) = no_text(rt.alloc()) else {
+        return Err(Fail::from(AllocError));
+    };
+    let told = format!(in rt.alloc(); "{error}")?;
+    let wanted = "error: a word is no UTF-8\n\nUsage: cordkit [OPTIONS] [COMMAND]\n\nFor more information, try '--help'.\n";
+    assert_eq!(rt; told.as_str(), wanted);
     Ok(())
 }

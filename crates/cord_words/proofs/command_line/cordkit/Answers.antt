@@ -4,13 +4,14 @@ use Rattle.cord_words.proofs.command_line.cordkit.Goals as goal
 pub returns : goal.returns
 unfolding cordkit_app
 returns c =
-    let one = c.add_subcommand-command.ensures _ _ c.program.ensures c.command.ensures.app in
-    let two = c.add_subcommand-command-2.ensures _ _ one c.command-2.ensures.app in
-    let three = c.add_subcommand-command-3.ensures _ _ two c.command-3.ensures.app in
-    let four = c.add_subcommand-command-4.ensures _ _ three c.command-4.ensures.app in
-    let five = c.add_subcommand-command-5.ensures _ _ four c.command-5.ensures.app in
-    let six = c.add_subcommand-command-6.ensures _ _ five c.command-6.ensures.app in
-    let seven = c.add_subcommand-command-7.ensures _ _ six c.command-7.ensures.app in
-    let eight = c.add_subcommand-command-8.ensures _ _ seven c.command-8.ensures.app in
-    let nine = c.add_subcommand-command-9.ensures _ _ eight c.command-9.ensures.app in
-    c.add_subcommand.ensures _ _ nine c.command-10.ensures.app
+    let none = c.explained-command.ensures.app _ c.titled.ensures.app in
+    let one = c.add_tool-command.ensures _ _ none c.command.ensures.app in
+    let two = c.add_tool-command-2.ensures _ _ one c.command-2.ensures.app in
+    let three = c.add_tool-command-3.ensures _ _ two c.command-3.ensures.app in
+    let four = c.add_tool-command-4.ensures _ _ three c.command-4.ensures.app in
+    let five = c.add_tool-command-5.ensures _ _ four c.command-5.ensures.app in
+    let six = c.add_tool-command-6.ensures _ _ five c.command-6.ensures.app in
+    let seven = c.add_tool-command-7.ensures _ _ six c.command-7.ensures.app in
+    let eight = c.add_tool-command-8.ensures _ _ seven c.command-8.ensures.app in
+    let nine = c.add_tool-command-9.ensures _ _ eight c.command-9.ensures.app in
+    c.add_tool.ensures _ _ nine c.command-10.ensures.app

@@ -1,6 +1,6 @@
 use Rattle.std.proofs.Common.{◌∙◌, ap, sym, subst}
 use Rattle.cord_words.specs.Words.{line_of}
-use Rattle.clap.specs.Words.{App, HasKind, fault_of, is_simple, is_simple_and_free, subcommand_of, takes}
+use Rattle.clap.specs.Words.{App, HasKind, fault_of, is_simple, is_simple_and_free, matches_of, subcommand_of, takes}
 use Rattle.clap.proofs.TakesLemmas.{passed_up}
 use Rattle.cord_words.proofs.RefusalLemmas.{memory_from, fails_from}
 use Rattle.cord_words.proofs.LineLemmas.{cordkit_is_simple, cordkit_is_free}
@@ -25,6 +25,11 @@ pub returns-clause-rows : goal.returns-clause-rows
 returns-clause-rows c =
     let words = line_of c.args.words.now in
     (c.in_ok-try_get_matches_from_mut.ensures.ok.2 (ap is_simple c.requires ∙ cordkit_is_simple)).1 ∙ ap (λ a. subcommand_of a words) c.requires
+
+pub returns-clause-own : goal.returns-clause-own
+returns-clause-own c =
+    let words = line_of c.args.words.now in
+    (c.in_ok-try_get_matches_from_mut.ensures.ok.2 (ap is_simple c.requires ∙ cordkit_is_simple)).0 ∙ ap (λ a. matches_of a words) c.requires
 
 pub returns-clause-faultless : goal.returns-clause-faultless
 returns-clause-faultless c =

@@ -1,0 +1,10 @@
+//! What a command line asks for.
+
+use crate::action::Action;
+
+/// What the program is to do, and whether it then explains a refusal or a fault.
+#[derive(Debug, Drop, PartialEq, Eq)]
+pub struct Request<'a> {
+    pub explain: bool,
+    pub action: Action<'a>,
+}
