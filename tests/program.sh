@@ -474,6 +474,7 @@ a script beside a source that is not there;apply script_of_abc missing;;3;;read\
 a script over a source that is not handed in;apply script_over_a_source;;1;;refused E2(1)\n
 a script beside 256 sources;apply script_of_abc $(yes abc | head -n 256);;1;;refused S4\n
 a script that is not there;apply missing;;3;;read\n
+a script of 2^40 bytes;apply too_long;;1;;refused S5\n
 every command, new;show $("$program" apply every_command abc > applied && echo applied) 0 abc;;0;;
 every command, open;show applied 1 abc;;0;abc;
 every command, insert;show applied 2 abc;;0;aXYbc;

@@ -16,11 +16,11 @@ use crate::answer::Answer;
 use crate::explaining::tell;
 use crate::image_file::ImageFile;
 use crate::journal::Journal;
-use crate::opening::{OpenedImage, open, opened_image, opened_sources};
-use crate::scripts::{lens_of, refuse_script, write_log};
+use crate::opening::{OpenedImage, opened_image, opened_sources};
+use crate::scripts::{lens_of, read_script, refuse_script, write_log};
 use cord_tools::{
-    Outcome, Status, ToolFault, exit_status, read_image, read_source, refuse_check, run_check,
-    run_cmp, run_cut, run_edit, run_find, run_find_all, run_join, run_migrate, run_show, run_stdin,
+    Outcome, Status, ToolFault, exit_status, read_image, refuse_check, run_check, run_cmp, run_cut,
+    run_edit, run_find, run_find_all, run_join, run_migrate, run_show, run_stdin,
 };
 use cord_words::{Action, Request, WordsFault, no_text, words};
 use lazy_file::Sources;
@@ -237,7 +237,7 @@ fn apply<L: Ledger, W>(
     requires parts { blank.parts ≡ L.parts }
     requires many { 2 * length paths.now < blank.parts }
 {
-    let script = read_source(rt.alloc(), open(rt, script)?)?;
+    let script = read_script(rt, script)?;
     let sources = opened_sources::<L>(rt, paths, blank)?;
     let lens = lens_of(rt.alloc(), &sources)?;
     match run_apply(rt.alloc(), &script, &lens, &mut io::writer(rt)) {

@@ -1,10 +1,10 @@
 //! Scripts as inputs.
 
 use crate::answer::Answer;
-use crate::opening::told;
-use cord_tools::{Status, ToolFault};
+use crate::opening::{open, told, told_size};
+use cord_tools::{Status, ToolFault, read_source};
 use edit_script::{Stop, Stopped};
-use lazy_file::Sources;
+use lazy_file::{AddFault, SOURCE_LIMIT, Sources};
 use script_tools::{LogFault, LogTexts, run_log};
 use std::alloc::{AllocError, Global};
 use std::io::{self, BufWriter, Write};
@@ -19,6 +19,20 @@ pub fn lens_of<S: Sources>(alloc: Global, sources: &S) -> Result<Vec<u64>, Alloc
         lens.push(sources.len(s))?;
     }
     Ok(lens)
+}
+
+/// The bytes of a script, which has no more of them than a source may have. One that tells more is not read.
+pub fn read_script(rt: &HostRuntime, path: &str) -> Result<Vec<u8>, ToolFault> {
+    let too_long = Err(ToolFault::Source(AddFault::SourceTooLong));
+    let file = open(rt, path)?;
+    if told_size(&file) > SOURCE_LIMIT {
+        return too_long;
+    }
+    let script = read_source(rt.alloc(), file)?;
+    if script.len() as u64 > SOURCE_LIMIT {
+        return too_long;
+    }
+    Ok(script)
 }
 
 /// What is told of a code at a line, as `refused P(7)` or `refused E7(N1,7)`.
