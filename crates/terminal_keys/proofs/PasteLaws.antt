@@ -5,7 +5,7 @@ use Rattle.std.proofs.lemmas.List.Elements.{All-head, All-nil, All-cons, All-tai
 use Rattle.terminal_keys.specs.declared.mode.Mode.{Mode}
 use Rattle.terminal_keys.specs.declared.mode.Mode.TheVariants.{Typed, Pasted, Returned}
 use Rattle.terminal_keys.specs.Keys.{is_text, keys_in, keys_of, mode_after, passed}
-use Rattle.terminal_keys.specs.Pastes.{pasted_text}
+use Rattle.terminal_keys.specs.Pastes.{pasted_text, PastesText}
 
 pub ended : (m : Mode) (rest : List ℕ) → keys_in m (0x1B ∷ 0x5B ∷ 0x32 ∷ 0x30 ∷ 0x31 ∷ 0x7E ∷ rest) ≡ keys_of rest
 ended Typed rest = refl
@@ -60,9 +60,8 @@ pasted_from before (b ∷ bs) rest h =
     ∙ ap (λ (l : List ℕ). (if test then b ∷ [] else []) ++ l) (pasted_from b bs rest (All-tail (λ x. x ≢ 0x1B) b bs h))
     ∙ put_before test b (pasted_text b bs) (keys_of rest)
 
-pub text_between_marks : (bytes rest : List ℕ) → All (λ b. b ≢ 0x1B) bytes
-    → keys_in Pasted (bytes ++ 0x1B ∷ 0x5B ∷ 0x32 ∷ 0x30 ∷ 0x31 ∷ 0x7E ∷ rest) ≡ pasted_text 0 bytes ++ keys_of rest
-text_between_marks bytes rest h = pasted_from 0 bytes rest h
+pub text_between_marks : (bytes : List ℕ) → All (λ b. b ≢ 0x1B) bytes → PastesText bytes
+text_between_marks bytes h = λ rest. pasted_from 0 bytes rest h
 
 -- what is put down is text
 abbrev IsText : ℕ → Type 0

@@ -1,36 +1,32 @@
 -- Laws of the keys of bytes, and of the sequences in them.
-use Rattle.std.proofs.Common.{◌≡◌, ◌≢◌, ℕ, suc, ◌-◌, ◌<◌, ◌≤◌, List, [], ◌∷◌, ◌++◌, length, take, get_or, Bool, true, false, ◌&&◌, ◌||◌, ◌==◌, if◌then◌else◌, IsTrue, ◌⊎◌, inl, inr, refl, sym, ap, subst, ◌∙◌, append_assoc, append-nil, arith}
+use Rattle.std.proofs.Common.{◌≡◌, ◌≢◌, ℕ, suc, ◌-◌, ◌<◌, ◌≤◌, List, [], ◌∷◌, ◌++◌, length, take, get_or, Bool, true, false, ◌&&◌, ◌||◌, ◌==◌, if◌then◌else◌, IsTrue, ◌⊎◌, inl, inr, Option, Some, None, option_map, refl, sym, ap, subst, ◌∙◌, append_assoc, append-nil, arith}
+use Rattle.std.specs.Option.{option_and_then}
 use Rattle.std.proofs.lemmas.List.{take_all, take-append-le, length-append}
+use Rattle.std.proofs.lemmas.Option.{none-some, same_Some, option_and_then_some}
 use Rattle.terminal_keys.specs.declared.mode.Mode.{Mode}
 use Rattle.terminal_keys.specs.declared.mode.Mode.TheVariants.{Typed, Pasted, Returned}
-use Rattle.terminal_keys.specs.Keys.{is_parameter, is_final, body, sequence_at, letter, numbered, by_last, last_byte, meaning, meant, is_mark, mode_behind, keys_behind, keys_in, keys_of}
-use Rattle.terminal_keys.specs.Held.{are_parameters, IsOpen}
+use Rattle.terminal_keys.specs.declared.stage.Stage.{Stage}
+use Rattle.terminal_keys.specs.declared.stage.Stage.TheVariants.{Text, Escape, Control, Single}
+use Rattle.terminal_keys.specs.Held.{IsOpen, stage_behind}
+use Rattle.terminal_keys.specs.Keys.{by_last, is_mark, is_number, keys_behind, keys_in, last_byte, letter, meaning, meant, mode_behind, numbered}
+use Rattle.terminal_keys.specs.Sequences.{ends_with, next_stage, is_parameter, sequence_at, sequence_from, taken}
 
 -- behind the bytes of a sequence, the keys are those of the rest
-pub behind_sequence : (m : Mode) (q rest : List ℕ) → keys_behind m (length q) (q ++ rest) ≡ keys_in m rest
+behind_sequence : (m : Mode) (q rest : List ℕ) → keys_behind m (length q) (q ++ rest) ≡ keys_in m rest
 behind_sequence m [] rest = refl
 behind_sequence m (b ∷ q) rest = behind_sequence m q rest
 
-pub both_true : (a b : Bool) → IsTrue (a && b) → (a ≡ true) × IsTrue b
-both_true true b h = (refl, h)
-both_true false b h = let e : true ≡ false = sym h in absurd cc
-
-choose_true : (t : Bool) (b : ℕ) (l other : List ℕ) → t ≡ true → (if t then b ∷ l else other) ≡ b ∷ l
-choose_true t b l other e = rw e refl
-
-pub body-parameters : (ps s : List ℕ) → IsTrue (are_parameters ps) → body (ps ++ s) ≡ ps ++ body s
-body-parameters [] s h = refl
-body-parameters (p ∷ ps) s h =
-    let at = both_true (is_parameter p) (are_parameters ps) h in
-    choose_true (is_parameter p) p (body (ps ++ s)) (if is_final p then p ∷ [] else []) at.0 ∙ ap (λ l. p ∷ l) (body-parameters ps s at.1)
-
-pub at_sequence : (m : Mode) (bs q : List ℕ) → sequence_at bs ≡ q
+at_sequence : (m : Mode) (bs q : List ℕ) → sequence_at bs ≡ q
     → keys_in m (0x1B ∷ bs) ≡ meant m (0x1B ∷ q) ++ keys_behind (mode_behind m (0x1B ∷ q)) (length q) bs
 at_sequence m bs q e = ap (λ (s : List ℕ). meant m (0x1B ∷ s) ++ keys_behind (mode_behind m (0x1B ∷ s)) (length s) bs) e
 
-pub at_whole : (m : Mode) (q rest : List ℕ) → sequence_at (q ++ rest) ≡ q
+at_whole : (m : Mode) (q rest : List ℕ) → sequence_at (q ++ rest) ≡ q
     → keys_in m (0x1B ∷ q ++ rest) ≡ meant m (0x1B ∷ q) ++ keys_in (mode_behind m (0x1B ∷ q)) rest
 at_whole m q rest e = at_sequence m (q ++ rest) q e ∙ ap (λ (r : List ℕ). meant m (0x1B ∷ q) ++ r) (behind_sequence (mode_behind m (0x1B ∷ q)) q rest)
+
+-- bytes that stand for no key, and begin and end no paste
+abbrev pub IsNothing : List ℕ → Type 0
+IsNothing bytes = (meaning bytes ≡ []) × ((m : Mode) → mode_behind m bytes ≡ m)
 
 -- what stands for no key when it is typed stands for none
 none_meant : (m : Mode) (bytes : List ℕ) → meaning bytes ≡ [] → meant m bytes ≡ []
@@ -38,31 +34,68 @@ none_meant Typed bytes h = h
 none_meant Pasted bytes h = refl
 none_meant Returned bytes h = refl
 
--- a sequence that stands for nothing, and begins and ends no paste
-pub passed_over : (m : Mode) (q rest : List ℕ) → sequence_at (q ++ rest) ≡ q → meaning (0x1B ∷ q) ≡ [] → mode_behind m (0x1B ∷ q) ≡ m
-    → keys_in m (0x1B ∷ q ++ rest) ≡ keys_in m rest
-passed_over m q rest e none same =
-    at_whole m q rest e ∙ ap (λ (l : List ℕ). l ++ keys_in (mode_behind m (0x1B ∷ q)) rest) (none_meant m (0x1B ∷ q) none) ∙ ap (λ (n : Mode). keys_in n rest) same
+pub nothing_meant : (m : Mode) (bytes rest : List ℕ) → IsNothing bytes → meant m bytes ++ keys_in (mode_behind m bytes) rest ≡ keys_in m rest
+nothing_meant m bytes rest h =
+    ap (λ (l : List ℕ). l ++ keys_in (mode_behind m bytes) rest) (none_meant m bytes h.0) ∙ ap (λ (n : Mode). keys_in n rest) (h.1 m)
 
-none_at : (b : ℕ) (x y : List ℕ) → b ≢ 0x5B → b ≢ 0x4F → (if b == 0x5B then b ∷ x else (if b == 0x4F then b ∷ y else [])) ≡ []
-none_at b x y p q = grind arith
+-- a sequence that stands for nothing
+pub passed_over : (m : Mode) (q rest : List ℕ) → sequence_at (q ++ rest) ≡ q → IsNothing (0x1B ∷ q) → keys_in m (0x1B ∷ q ++ rest) ≡ keys_in m rest
+passed_over m q rest e h = at_whole m q rest e ∙ nothing_meant m (0x1B ∷ q) rest h
 
--- an escape before any other byte is passed over
-pub passed_escape : (m : Mode) (b : ℕ) (bs : List ℕ) → b ≢ 0x5B → b ≢ 0x4F → keys_in m (0x1B ∷ b ∷ bs) ≡ keys_in m (b ∷ bs)
-passed_escape m b bs bracket o = passed_over m [] (b ∷ bs) (none_at b (take 30 (body bs)) (take 1 bs) bracket o) refl refl
+-- ---- how far a sequence goes
 
--- what ends no sequence
-abbrev pub IsQuiet : ℕ → Type 0
+-- a byte with which it goes on
+goes_by : (s t : Stage) (b : ℕ) (bs : List ℕ) → next_stage s b ≡ Some t → sequence_from s (b ∷ bs) ≡ b ∷ sequence_from t bs
+goes_by s t b bs e = ap (λ (o : Option Stage). taken b (option_map (λ u. sequence_from u bs) o) (ends_with s b)) e
+
+-- a byte with which it does not
+stops_by : (s : Stage) (b : ℕ) (bs : List ℕ) (ends : Bool) → next_stage s b ≡ None → ends_with s b ≡ ends
+    → sequence_from s (b ∷ bs) ≡ (if ends then b ∷ [] else [])
+stops_by s b bs ends e f =
+    ap (λ (o : Option Stage). taken b (option_map (λ u. sequence_from u bs) o) (ends_with s b)) e
+    ∙ ap (λ (t : Bool). if t then b ∷ [] else []) f
+
+-- bytes with which it goes on, at its front
+from_within : (q : List ℕ) (s t : Stage) (rest : List ℕ) → stage_behind s q ≡ Some t → sequence_from s (q ++ rest) ≡ q ++ sequence_from t rest
+from_within [] s t rest h = ap (λ (u : Stage). sequence_from u rest) (same_Some s t h)
+from_within (b ∷ q) s t rest h =
+    option_and_then_some (λ (u : Stage). stage_behind u q) (next_stage s b) t h
+    (λ u e k. goes_by s u b (q ++ rest) e ∙ ap (λ (l : List ℕ). b ∷ l) (from_within q u t rest k))
+
+at_front : (q : List ℕ) (s : Stage) (rest end : List ℕ) → stage_behind Escape q ≡ Some s → sequence_from s rest ≡ end → length (q ++ end) ≤ 1023
+    → sequence_at (q ++ rest) ≡ q ++ end
+at_front q s rest end h e fits =
+    ap (λ (l : List ℕ). take 1023 l) (from_within q Escape s rest h ∙ ap (λ (l : List ℕ). q ++ l) e) ∙ take_all 1023 (q ++ end) fits
+
+-- one byte more
+pub goes_further : (q : List ℕ) (s t u : Stage) (b : ℕ) → stage_behind s q ≡ Some t → next_stage t b ≡ Some u → stage_behind s (q ++ b ∷ []) ≡ Some u
+goes_further [] s t u b h e =
+    ap (λ (x : Stage). option_and_then (λ (y : Stage). stage_behind y []) (next_stage x b)) (same_Some s t h)
+    ∙ ap (λ (o : Option Stage). option_and_then (λ (y : Stage). stage_behind y []) o) e
+goes_further (c ∷ q) s t u b h e =
+    option_and_then_some (λ (x : Stage). stage_behind x q) (next_stage s c) t h
+    (λ x f k. ap (λ (o : Option Stage). option_and_then (λ (y : Stage). stage_behind y (q ++ b ∷ [])) o) f ∙ goes_further q x t u b k e)
+
+-- ---- a sequence that goes on stands for nothing yet
+
+-- what ends no control sequence
+abbrev IsQuiet : ℕ → Type 0
 IsQuiet b = (b ≡ 0x5B) ⊎ (b ≤ 0x3F)
 
 quiet_parameter : (b : ℕ) → is_parameter b ≡ true → IsQuiet b
 quiet_parameter b e = inr (grind (arith, e))
 
-quiet_last : (a : ℕ) (ps : List ℕ) → IsQuiet a → IsTrue (are_parameters ps) → IsQuiet (get_or (a ∷ ps) (length ps) 0)
-quiet_last a [] q h = q
-quiet_last a (p ∷ ps) q h =
-    let at = both_true (is_parameter p) (are_parameters ps) h in
-    quiet_last p ps (quiet_parameter p at.0) at.1
+chosen : (t : Bool) (s u : Stage) → (if t then Some s else None) ≡ Some u → (t ≡ true) × (s ≡ u)
+chosen true s u e = (refl, same_Some s u e)
+chosen false s u e = absurd (none-some u e)
+
+quiet_last : (a : ℕ) (ps : List ℕ) (s : Stage) → IsQuiet a → stage_behind Control ps ≡ Some s → IsQuiet (get_or (a ∷ ps) (length ps) 0)
+quiet_last a [] s q h = q
+quiet_last a (p ∷ ps) s q h =
+    option_and_then_some (λ (u : Stage). stage_behind u ps) (next_stage Control p) s h
+    (λ u e k.
+    let at = chosen (is_parameter p) Control u e in
+    quiet_last p ps s (quiet_parameter p at.0) (subst (λ (x : Stage). stage_behind x ps ≡ Some s) (sym at.1) k))
 
 small_none : (b : ℕ) (x : List ℕ) → b ≤ 0x3F → (if b == 0x7E then x else letter b) ≡ []
 small_none b x h = grind arith
@@ -71,95 +104,142 @@ quiet_none : (last : ℕ) (bytes : List ℕ) → IsQuiet last → by_last last b
 quiet_none last bytes (inl e) = rw e refl
 quiet_none last bytes (inr small) = small_none last (if get_or bytes 3 0 == 0x7E || get_or bytes 3 0 == 0x3B then numbered (get_or bytes 2 0) else []) small
 
-open_last : (ps : List ℕ) → IsTrue (are_parameters ps) → IsQuiet (last_byte (0x1B ∷ 0x5B ∷ ps))
-open_last ps h =
-    let place : length (0x1B ∷ 0x5B ∷ ps) - 1 ≡ suc (length ps) = omega arith in
-    subst (λ (i : ℕ). IsQuiet (get_or (0x1B ∷ 0x5B ∷ ps) i 0)) (sym place) (quiet_last 0x5B ps (inl refl) h)
-
-open_meaning : (ps : List ℕ) → IsTrue (are_parameters ps) → meaning (0x1B ∷ 0x5B ∷ ps) ≡ []
-open_meaning ps h = quiet_none (last_byte (0x1B ∷ 0x5B ∷ ps)) (0x1B ∷ 0x5B ∷ ps) (open_last ps h)
-
 quiet_mode : (m other : Mode) (last : ℕ) → IsQuiet last → (if last == 0x7E then other else m) ≡ m
 quiet_mode m other last (inl e) = rw e refl
 quiet_mode m other last (inr small) = grind arith
 
-open_mode : (m : Mode) (ps : List ℕ) → IsTrue (are_parameters ps) → mode_behind m (0x1B ∷ 0x5B ∷ ps) ≡ m
-open_mode m ps h =
-    let bytes = 0x1B ∷ 0x5B ∷ ps in
-    quiet_mode m (if is_mark 0x30 bytes then Pasted else (if is_mark 0x31 bytes then Typed else m)) (last_byte bytes) (open_last ps h)
+control_nothing : (ps : List ℕ) (s : Stage) → stage_behind Control ps ≡ Some s → IsNothing (0x1B ∷ 0x5B ∷ ps)
+control_nothing ps s h =
+    let bytes : List ℕ = 0x1B ∷ 0x5B ∷ ps in
+    let place : length (0x1B ∷ 0x5B ∷ ps) - 1 ≡ suc (length ps) = omega arith in
+    let last : IsQuiet (last_byte (0x1B ∷ 0x5B ∷ ps)) =
+    subst (λ (i : ℕ). IsQuiet (get_or (0x1B ∷ 0x5B ∷ ps) i 0)) (sym place) (quiet_last 0x5B ps s (inl refl) h) in (
+      quiet_none (last_byte bytes) bytes last,
+      λ m. quiet_mode m (if is_mark 0x30 bytes then Pasted else (if is_mark 0x31 bytes then Typed else m)) (last_byte bytes) last,
+    )
 
--- the sequence that begins with these parameters, where what follows them is body
-with_body : (ps s end : List ℕ) → IsTrue (are_parameters ps) → body s ≡ end → length (ps ++ end) ≤ 30
-    → sequence_at (0x5B ∷ ps ++ s) ≡ 0x5B ∷ ps ++ end
-with_body ps s end h e fits =
-    ap (λ (l : List ℕ). 0x5B ∷ take 30 l) (body-parameters ps s h ∙ ap (λ (l : List ℕ). ps ++ l) e)
-    ∙ ap (λ (l : List ℕ). 0x5B ∷ l) (take_all 30 (ps ++ end) fits)
+single_nothing : (ps : List ℕ) (s : Stage) → stage_behind Single ps ≡ Some s → IsNothing (0x1B ∷ 0x4F ∷ ps)
+single_nothing [] s h = (refl, λ m. refl)
+single_nothing (p ∷ ps) s h = absurd (none-some s h)
 
-ended_4 : (b : ℕ) (x : List ℕ) → 0x40 ≤ b → b ≤ 0x7E → (if is_parameter b then b ∷ x else (if is_final b then b ∷ [] else [])) ≡ b ∷ []
-ended_4 b x low high = grind arith
+no_key : (t u : Bool) (x : List ℕ) → t ≡ false → u ≡ false → (if t || u then x else []) ≡ []
+no_key t u x e f = rw (e, f) refl
 
--- parameters, and a byte that ends them
-pub final_whole : (m : Mode) (ps : List ℕ) (b : ℕ) (rest : List ℕ) → IsTrue (are_parameters ps) → length ps < 30 → 0x40 ≤ b → b ≤ 0x7E
-    → keys_in m (0x1B ∷ 0x5B ∷ ps ++ b ∷ rest) ≡ meant m (0x1B ∷ 0x5B ∷ ps ++ b ∷ []) ++ keys_in (mode_behind m (0x1B ∷ 0x5B ∷ ps ++ b ∷ [])) rest
-final_whole m ps b rest h few low high =
-    let ends : body (b ∷ rest) ≡ b ∷ [] = ended_4 b (body rest) low high in
-    let fits : length (ps ++ b ∷ []) ≤ 30 = rw length-append (omega arith) in
-    let all : (ps ++ b ∷ []) ++ rest ≡ ps ++ b ∷ rest = append_assoc ps (b ∷ []) rest in
-    ap (λ (l : List ℕ). keys_in m (0x1B ∷ 0x5B ∷ l)) (sym all)
-    ∙ at_whole m (0x5B ∷ ps ++ b ∷ []) rest (ap (λ (l : List ℕ). sequence_at (0x5B ∷ l)) all ∙ with_body ps (b ∷ rest) (b ∷ []) h ends fits)
+no_mark : (m : Mode) (last t x y : Bool) → t ≡ false → (if last then (if t && x then Pasted else (if t && y then Typed else m)) else m) ≡ m
+no_mark m true t x y e = rw e refl
+no_mark m false t x y e = refl
 
-ended_5 : (b : ℕ) (x : List ℕ) → (b < 0x20) ⊎ (0x7E < b) → (if is_parameter b then b ∷ x else (if is_final b then b ∷ [] else [])) ≡ []
-ended_5 b x (inl small) = grind arith
-ended_5 b x (inr large) = grind arith
+-- behind any other byte than [ and O
+pub other_nothing : (c : ℕ) (bs : List ℕ) → (c == 0x5B) ≡ false → (c == 0x4F) ≡ false → IsNothing (0x1B ∷ c ∷ bs)
+other_nothing c bs e f =
+    let bytes : List ℕ = 0x1B ∷ c ∷ bs in (
+      no_key (c == 0x5B) (c == 0x4F) (by_last (last_byte bytes) bytes) e f,
+      λ m. no_mark m (last_byte bytes == 0x7E) (c == 0x5B) (is_number 0x30 bytes) (is_number 0x31 bytes) e,
+    )
 
--- parameters, and a byte that breaks them off
-pub broken_off : (m : Mode) (ps : List ℕ) (b : ℕ) (rest : List ℕ) → IsTrue (are_parameters ps) → length ps < 30 → (b < 0x20) ⊎ (0x7E < b)
-    → keys_in m (0x1B ∷ 0x5B ∷ ps ++ b ∷ rest) ≡ keys_in m (b ∷ rest)
-broken_off m ps b rest h few out =
-    let ends : body (b ∷ rest) ≡ [] = ended_5 b (body rest) out in
-    let fits : length (ps ++ []) ≤ 30 = rw length-append (omega arith) in
-    passed_over m (0x5B ∷ ps) (b ∷ rest) (with_body ps (b ∷ rest) [] h ends fits ∙ ap (λ (l : List ℕ). 0x5B ∷ l) (append-nil ps)) (open_meaning ps h) (open_mode m ps h)
+same_byte : (a b : ℕ) → (a == b) ≡ true → a ≡ b
+same_byte a b h = grind arith
 
--- as many parameters as are taken
-pub cut_off : (m : Mode) (ps rest : List ℕ) → IsTrue (are_parameters ps) → length ps ≡ 30
-    → keys_in m (0x1B ∷ 0x5B ∷ ps ++ rest) ≡ keys_in m rest
-cut_off m ps rest h full =
-    let within : 30 ≤ length ps = omega arith in
-    let all : length ps ≤ 30 = omega arith in
-    passed_over m (0x5B ∷ ps) rest
-    (ap (λ (l : List ℕ). 0x5B ∷ take 30 l) (body-parameters ps rest h)
-    ∙ ap (λ (l : List ℕ). 0x5B ∷ l) (take-append-le 30 ps (body rest) within ∙ take_all 30 ps all)) (open_meaning ps h) (open_mode m ps h)
+by_second : (t u : Bool) (c : ℕ) (ps : List ℕ) (s : Stage) → (c == 0x5B) ≡ t → (c == 0x4F) ≡ u → stage_behind Escape (c ∷ ps) ≡ Some s
+    → IsNothing (0x1B ∷ c ∷ ps)
+by_second true u c ps s e f h =
+    subst (λ (x : ℕ). stage_behind Escape (x ∷ ps) ≡ Some s → IsNothing (0x1B ∷ x ∷ ps)) (sym (same_byte c 0x5B e)) (control_nothing ps s) h
+by_second false true c ps s e f h =
+    subst (λ (x : ℕ). stage_behind Escape (x ∷ ps) ≡ Some s → IsNothing (0x1B ∷ x ∷ ps)) (sym (same_byte c 0x4F f)) (single_nothing ps s) h
+by_second false false c ps s e f h = other_nothing c ps e f
 
--- a sequence that is not whole is let go, with no key
-pub open_dropped : (m : Mode) (ps : List ℕ) → IsTrue (are_parameters ps) → (meant m (0x1B ∷ 0x5B ∷ ps) ≡ []) × (mode_behind m (0x1B ∷ 0x5B ∷ ps) ≡ m)
-open_dropped m ps h = (none_meant m (0x1B ∷ 0x5B ∷ ps) (open_meaning ps h), open_mode m ps h)
+open_nothing : (q : List ℕ) (s : Stage) → stage_behind Escape q ≡ Some s → IsNothing (0x1B ∷ q)
+open_nothing [] s h = (refl, λ m. refl)
+open_nothing (c ∷ ps) s h = by_second (c == 0x5B) (c == 0x4F) c ps s refl refl h
+
+-- ---- the keys of bytes
+
+shorter : (q : List ℕ) → length q < 1023 → length (q ++ []) ≤ 1023
+shorter q few = rw length-append (omega arith)
+
+one_more : (q : List ℕ) (b : ℕ) → length q < 1023 → length (q ++ b ∷ []) ≤ 1023
+one_more q b few = rw length-append (omega arith)
+
+-- a byte that ends a sequence
+pub ended_whole : (m : Mode) (q : List ℕ) (s : Stage) (b : ℕ) (rest : List ℕ) → stage_behind Escape q ≡ Some s → length q < 1023
+    → next_stage s b ≡ None → ends_with s b ≡ true
+    → keys_in m (0x1B ∷ q ++ b ∷ rest) ≡ meant m (0x1B ∷ q ++ b ∷ []) ++ keys_in (mode_behind m (0x1B ∷ q ++ b ∷ [])) rest
+ended_whole m q s b rest h few goes ends =
+    let all : (q ++ b ∷ []) ++ rest ≡ q ++ b ∷ rest = append_assoc q (b ∷ []) rest in
+    ap (λ (l : List ℕ). keys_in m (0x1B ∷ l)) (sym all)
+    ∙ at_whole m (q ++ b ∷ []) rest (ap (λ (l : List ℕ). sequence_at l) all
+    ∙ at_front q s (b ∷ rest) (b ∷ []) h (stops_by s b rest true goes ends) (one_more q b few))
+
+-- a byte that breaks one off
+pub broken_off : (m : Mode) (q : List ℕ) (s : Stage) (b : ℕ) (rest : List ℕ) → stage_behind Escape q ≡ Some s → length q < 1023
+    → next_stage s b ≡ None → ends_with s b ≡ false → keys_in m (0x1B ∷ q ++ b ∷ rest) ≡ keys_in m (b ∷ rest)
+broken_off m q s b rest h few goes ends =
+    passed_over m q (b ∷ rest) (at_front q s (b ∷ rest) [] h (stops_by s b rest false goes ends) (shorter q few) ∙ append-nil q) (open_nothing q s h)
+
+-- as many bytes as are taken
+pub cut_off : (m : Mode) (q : List ℕ) (s : Stage) (rest : List ℕ) → stage_behind Escape q ≡ Some s → length q ≡ 1023
+    → keys_in m (0x1B ∷ q ++ rest) ≡ keys_in m rest
+cut_off m q s rest h full =
+    let within : 1023 ≤ length q = omega arith in
+    let all : length q ≤ 1023 = omega arith in
+    passed_over m q rest
+    (ap (λ (l : List ℕ). take 1023 l) (from_within q Escape s rest h) ∙ take-append-le 1023 q (sequence_from s rest) within ∙ take_all 1023 q all)
+    (open_nothing q s h)
+
+-- ---- from text on
+
+-- what leads on from text begins with an escape
+pub from_text : (e : ℕ) (q : List ℕ) (t : Stage) → stage_behind Text (e ∷ q) ≡ Some t → (e ≡ 0x1B) × (stage_behind Escape q ≡ Some t)
+from_text e q t h =
+    option_and_then_some (λ (u : Stage). stage_behind u q) (next_stage Text e) t h
+    (λ u f k.
+    let at = chosen (e == 0x1B) Escape u f in
+    (same_byte e 0x1B at.0, subst (λ (x : Stage). stage_behind x q ≡ Some t) (sym at.1) k))
+
+-- no bytes are text
+text_ends : (s : Stage) (b : ℕ) → stage_behind Text [] ≡ Some s → ends_with s b ≡ true → ⊥
+text_ends s b h ends =
+    let e : false ≡ true = subst (λ (x : Stage). ends_with x b ≡ true) (sym (same_Some Text s h)) ends in
+    absurd cc
 
 -- a sequence that the bytes end in gives nothing
-pub control_ends : (m : Mode) (ps : List ℕ) → IsTrue (are_parameters ps) → length ps < 30 → keys_in m (0x1B ∷ 0x5B ∷ ps) ≡ []
-control_ends m ps h few =
-    let fits : length (ps ++ []) ≤ 30 = rw length-append (omega arith) in
-    ap (λ (l : List ℕ). keys_in m (0x1B ∷ 0x5B ∷ l)) (sym (append-nil ps))
-    ∙ passed_over m (0x5B ∷ ps) [] (with_body ps [] [] h refl fits ∙ ap (λ (l : List ℕ). 0x5B ∷ l) (append-nil ps)) (open_meaning ps h) (open_mode m ps h)
+pub open_ends : (m : Mode) (s : Stage) (bytes : List ℕ) → IsOpen s bytes → keys_in m bytes ≡ []
+open_ends m s [] h = refl
+open_ends m s (e ∷ q) h =
+    let at = from_text e q s h.0 in
+    let l : length (e ∷ q) < 1024 = h.1 in
+    let few : length q < 1023 = omega (arith, l) in
+    ap (λ (x : ℕ). keys_in m (x ∷ q)) at.0
+    ∙ ap (λ (k : List ℕ). keys_in m (0x1B ∷ k)) (sym (append-nil q))
+    ∙ passed_over m q [] (at_front q s [] [] at.1 refl (shorter q few) ∙ append-nil q) (open_nothing q s at.1)
 
-pub more_parameters : (ps : List ℕ) (b : ℕ) → IsTrue (are_parameters ps) → 0x20 ≤ b → b ≤ 0x3F → IsTrue (are_parameters (ps ++ b ∷ []))
-more_parameters [] b h low high = grind arith
-more_parameters (p ∷ ps) b h low high =
-    let at = both_true (is_parameter p) (are_parameters ps) h in
-    let longer : IsTrue (are_parameters (ps ++ b ∷ [])) = more_parameters ps b at.1 low high in
-    subst (λ (t : Bool). IsTrue (t && are_parameters (ps ++ b ∷ []))) (sym at.0) longer
+-- one that this byte ends gives its keys
+pub open_ended : (m : Mode) (s : Stage) (bytes : List ℕ) (b : ℕ) (rest : List ℕ) → IsOpen s bytes → next_stage s b ≡ None → ends_with s b ≡ true
+    → keys_in m (bytes ++ b ∷ rest) ≡ meant m (bytes ++ b ∷ []) ++ keys_in (mode_behind m (bytes ++ b ∷ [])) rest
+open_ended m s [] b rest h goes ends = absurd (text_ends s b h.0 ends)
+open_ended m s (e ∷ q) b rest h goes ends =
+    let at = from_text e q s h.0 in
+    let l : length (e ∷ q) < 1024 = h.1 in
+    let few : length q < 1023 = omega (arith, l) in
+    subst (λ (x : ℕ). keys_in m (x ∷ q ++ b ∷ rest) ≡ meant m (x ∷ q ++ b ∷ []) ++ keys_in (mode_behind m (x ∷ q ++ b ∷ [])) rest) (sym at.0)
+    (ended_whole m q s b rest at.1 few goes ends)
 
-pub control_open : (ps : List ℕ) → IsTrue (are_parameters ps) → length ps < 30 → IsOpen (0x1B ∷ 0x5B ∷ ps)
-control_open ps h few = grind arith
+-- one that it breaks off gives nothing
+pub open_broken : (m : Mode) (s : Stage) (bytes : List ℕ) (b : ℕ) (rest : List ℕ) → IsOpen s bytes → next_stage s b ≡ None → ends_with s b ≡ false
+    → keys_in m (bytes ++ b ∷ rest) ≡ keys_in m (b ∷ rest)
+open_broken m s [] b rest h goes ends = refl
+open_broken m s (e ∷ q) b rest h goes ends =
+    let at = from_text e q s h.0 in
+    let l : length (e ∷ q) < 1024 = h.1 in
+    let few : length q < 1023 = omega (arith, l) in
+    ap (λ (x : ℕ). keys_in m (x ∷ q ++ b ∷ rest)) at.0 ∙ broken_off m q s b rest at.1 few goes ends
 
-quiet_tilde : (b : ℕ) → (if b == 0x7E then [] else letter b) ≡ letter b
-quiet_tilde b = grind arith
-
--- an escape, O and a byte begin and end no paste
-pub single_mode : (m : Mode) (b : ℕ) → mode_behind m (0x1B ∷ 0x4F ∷ b ∷ []) ≡ m
-single_mode m b = grind arith
-
-pub single_whole : (m : Mode) (b : ℕ) (rest : List ℕ) → keys_in m (0x1B ∷ 0x4F ∷ b ∷ rest) ≡ meant m (0x1B ∷ 0x4F ∷ b ∷ []) ++ keys_in m rest
-single_whole m b rest = at_whole m (0x4F ∷ b ∷ []) rest refl ∙ ap (λ (n : Mode). meant m (0x1B ∷ 0x4F ∷ b ∷ []) ++ keys_in n rest) (single_mode m b)
-
-pub single_typed : (b : ℕ) (rest : List ℕ) → keys_of (0x1B ∷ 0x4F ∷ b ∷ rest) ≡ letter b ++ keys_of rest
-single_typed b rest = single_whole Typed b rest ∙ ap (λ (l : List ℕ). l ++ keys_of rest) (quiet_tilde b)
+-- one that has its most bytes gives nothing
+pub full_falls : (m : Mode) (s : Stage) (bytes rest : List ℕ) → stage_behind Text bytes ≡ Some s → length bytes ≡ 1024
+    → keys_in m (bytes ++ rest) ≡ keys_in m rest
+full_falls m s [] rest h full = let l : 0 ≡ 1024 = full in absurd (omega (arith, l))
+full_falls m s (e ∷ q) rest h full =
+    let at = from_text e q s h in
+    let l : length (e ∷ q) ≡ 1024 = full in
+    let all : length q ≡ 1023 = omega (arith, l) in
+    ap (λ (x : ℕ). keys_in m (x ∷ q ++ rest)) at.0 ∙ cut_off m q s rest at.1 all

@@ -11,7 +11,7 @@ use std::process::Abort;
 use terminal_keys::TerminalKeys;
 
 /// Bytes that a terminal sends, and the keys that they are.
-const SEQUENCES: [(&[u8], &[u8]); 40] = [
+const SEQUENCES: [(&[u8], &[u8]); 67] = [
     (b"abc", b"abc"),
     (b"\x18\x03\x80\xff\0", b"\x18\x03\x80\xff\0"),
     // Arrows, Home and End.
@@ -49,16 +49,46 @@ const SEQUENCES: [(&[u8], &[u8]); 40] = [
     (b"\x1b[12;34Rz", b"z"),
     (b"\x1b[Zz", b"z"),
     (b"\x1b[33~z", b"z"),
-    // An escape before another byte, and another escape.
-    (b"\x1bxz", b"xz"),
+    // Escape sequences: Alt and x, a character set, a keypad's mode, a reset, an index, and one of two intermediate bytes.
+    (b"\x1bxz", b"z"),
+    (b"\x1b(Bz", b"z"),
+    (b"\x1b=z", b"z"),
+    (b"\x1bcz", b"z"),
+    (b"\x1bMz", b"z"),
+    (b"\x1b%/Gz", b"z"),
+    // An escape before a byte that is none of a sequence, and before another escape.
+    (b"\x1b\x18z", b"\x18z"),
+    (b"\x1b\x7fz", b"\x7fz"),
     (b"\x1b\x1b[Az", b"\x10z"),
-    // Sequences that a byte breaks off, that are too long, and that the bytes end in.
+    // Control strings: a colour that was asked for, by ST and by BEL, a title in UTF-8 with a tab and a line end, a terminal's name, its
+    // capabilities, and the three others.
+    (b"\x1b]11;rgb:0000/0000/0000\x1b\\z", b"z"),
+    (b"\x1b]11;rgb:0000/0000/0000\x07z", b"z"),
+    (b"\x1b]lcaf\xc3\xa9\t[201~\r\nA\x1b\\z", b"z"),
+    (b"\x1bP>|XTerm(388)\x1b\\z", b"z"),
+    (b"\x1bP1+r544e=787465726d\x1b\\z", b"z"),
+    (b"\x1bXabc\x1b\\z", b"z"),
+    (b"\x1b^abc\x1b\\z", b"z"),
+    (b"\x1b_Gi=31;OK\x1b\\z", b"z"),
+    (b"\x1b]\x1b\\z", b"z"),
+    // Strings that a byte breaks off: CAN, SUB, a key of the editor, Backspace, an arrow, and the mark that ends a paste.
+    (b"\x1b]0;a\x18z", b"\x18z"),
+    (b"\x1bPa\x1az", b"\x1az"),
+    (b"\x1b_a\x01z", b"\x01z"),
+    (b"\x1bXa\x7fz", b"\x7fz"),
+    (b"\x1b^a\x1b[Az", b"\x10z"),
+    (b"\x1b[200~a\x1b]b\x1b[201~\x18", b"a\x18"),
+    // Other sequences that a byte breaks off, and sequences that the bytes end in.
     (b"\x1b[1;\x18z", b"\x18z"),
     (b"\x1b[\x80z", b"\x80z"),
-    (b"\x1b[000000000000000000000000000000Az", b"Az"),
+    (b"\x1bO\x18z", b"\x18z"),
+    (b"\x1b(\x03z", b"\x03z"),
+    (b"\x1b[000000000000000000000000000000Az", b"\x10z"),
     (b"z\x1b", b"z"),
     (b"z\x1b[", b"z"),
     (b"z\x1bO", b"z"),
+    (b"z\x1b(", b"z"),
+    (b"z\x1b]0;a", b"z"),
     // Pastes: no command, the end of a line once, no sequence, and one without an end.
     (b"\x1b[200~a\x18\x03\0\x80\tb\x1b[201~\x18", b"a\tb\x18"),
     (
@@ -66,6 +96,7 @@ const SEQUENCES: [(&[u8], &[u8]); 40] = [
         b"a\rb\rc\nd\r\r\r\n",
     ),
     (b"\x1b[200~\x1b[A\x1bOAx\x1b[3~\x1b[201~\x1b[A", b"x\x10"),
+    (b"\x1b[200~\x1b]0;a\x07x\x1bPb\x1b\\y\x1b[201~z", b"xyz"),
     (b"\x1b[201~z", b"z"),
     (b"\x1b[200~a\x1b[200~b\x18", b"ab"),
 ];
@@ -110,6 +141,28 @@ fn a_sequence_goes_on_behind_a_failed_read(rt: HostRuntime) {
             assert_same(&rt, &failed, &1, &(bytes, cut));
         }
     }
+}
+
+/// A sequence that begins with these bytes and goes on with one, up to 1,024 bytes, and what is typed behind it.
+fn assert_cut_off<R: AllocGlobal + Abort>(rt: &R, front: &[u8], byte: u8) {
+    let mut typed = Vec::new(rt.alloc());
+    typed.extend_from_slice(front).expect(rt, "a front");
+    for _ in front.len()..1024 {
+        typed.push(byte).expect(rt, "a byte");
+    }
+    let (keys, _) = keys_of(rt, Giver::of(&typed));
+    assert_same(rt, &keys.as_slice(), &b"".as_slice(), &front);
+    typed.extend_from_slice(b"ab\x18").expect(rt, "keys");
+    let (keys, _) = keys_of(rt, Giver::of(&typed));
+    assert_same(rt, &keys.as_slice(), &b"ab\x18".as_slice(), &front);
+}
+
+#[test]
+fn a_sequence_without_an_end_takes_no_more_than_its_most_bytes(rt: HostRuntime) {
+    assert_cut_off(&rt, b"\x1b]0;", b'x');
+    assert_cut_off(&rt, b"\x1bP", b'\r');
+    assert_cut_off(&rt, b"\x1b[", b'0');
+    assert_cut_off(&rt, b"\x1b(", b' ');
 }
 
 /// `CORDKEYS`, the number 1, no source, size 0, and the SHA-256 of no bytes.

@@ -2,7 +2,8 @@ use Rattle.std.proofs.Common.{◌≡◌, ℕ, List, [], ◌∷◌, ◌++◌, tak
 use Rattle.std.specs.Io.KnownBytes.{Consumes, IsAtEnd}
 use Rattle.terminal_keys.specs.Held.{bytes_begun, owed}
 use Rattle.terminal_keys.specs.Keys.{keys_in}
-use Rattle.terminal_keys.proofs.Known.{known_end, known_step, open_ends, the_first}
+use Rattle.terminal_keys.proofs.Known.{known_end, known_step, the_first}
+use Rattle.terminal_keys.proofs.SequenceLaws.{open_ends}
 use Rattle.terminal_keys.proofs.reading.TerminalKeys.fill.Goals as goal
 
 pub returns-then-branch-eq0-clause-end : goal.returns-then-branch-eq0-clause-end
@@ -12,7 +13,7 @@ returns-then-branch-eq0-clause-end g c = λ is.
     let none : owed t.owed ≡ [] = ap (λ (n : ℕ). replicate n t.owed.key) c.requires in
     let over : IsAtEnd (g.R.Read.remaining c.read.new.self) = c.in_ok-read.ensures.bytes.1 (omega arith) (omega arith) in
     known_end f (g.R.Read.remaining c.read.new.self) over
-    (ap (λ (l : List ℕ). l ++ keys_in t.mode (bytes_begun t.sequence ++ [])) none ∙ ap (λ (l : List ℕ). keys_in t.mode l) (append-nil (bytes_begun t.sequence)) ∙ open_ends t.mode (bytes_begun t.sequence) t.open)
+    (ap (λ (l : List ℕ). l ++ keys_in t.mode (bytes_begun t.sequence ++ [])) none ∙ ap (λ (l : List ℕ). keys_in t.mode l) (append-nil (bytes_begun t.sequence)) ∙ open_ends t.mode t.sequence.stage (bytes_begun t.sequence) t.held)
 
 pub returns-clause-kept : goal.returns-clause-kept
 returns-clause-kept g c =
