@@ -72,7 +72,11 @@ basic() {
     start image; await shows 'rev 3 byte 3 of 3'; type_text d; await shows 'rev 4'; is 'goes on' "$(body)" abcd; keys C-x; ended; is 'saved' "$(text) $(echo image*)" 'abcd image'
     clean; ready image; keys C-c; ended; is 'no key, no journal' "$(echo image*)" 'image*'
     ready image; type_text abc; await shows 'rev 3'; keys C-c; ended; start --discard image; ended; is 'discarded' "$(cat status) $(echo image*)" '0 restored image*'
-    clean; printf 'prose' > image; wanted='1 refused C1(I3)'; refused 'prose' -f image; is 'as it was' "$(cat image) $(echo image*)" 'prose image'
+    clean; printf 'prose' > image; wanted='1 cordedit: image is no image, and stays as it is: move it away or remove it, and give the same command again
+refused C1(I3)'; refused 'prose' -f image; is 'as it was' "$(cat image) $(echo image*)" 'prose image'
+    wanted='1 cordedit: image.new is no image, and stays as it is: move it away or remove it, and give the same command again
+refused C1(I3)'; rm -f image; printf 'torn' > image.new; refused 'no image beside it' image; is 'as it was' "$(cat image.new) $(echo image*)" 'torn image.new'
+    : > image.new; ready image; type_text a; await shows 'rev 1'; keys C-x; ended; is 'an empty one is replaced' "$(text) $(echo image*)" 'a image'; printf 'prose' > image
     "$CORDKIT" edit image < /dev/null > out 2> err; is 'prose, without the option' "$? $(cat err) $(wc -c < out) $(cat image)" '1 refused C1(I3) 0 prose'
     rm -f image; echo mine > image.keys; wanted='1 refused J1
 cordedit: the keys in image.keys are of another text than none'; refused 'no journal' image; is 'as it was' "$(cat image.keys)" mine; clean
@@ -93,6 +97,9 @@ sequences() {
     # an escape and [, and no more, at a crash
     clean; ready image; type_text ab; await shows 'rev 2'; printf '\033[' > half; paste half; sleep 0.1; kill -9 "$(program_id)"; ended; is 'half a sequence is not kept' "$(body)" ab
     start image; await shows 'rev 2'; type_text Ac; await shows 'rev 4'; keys C-x; ended; is 'what follows is typed' "$(text)" abAc; clean
+    # answers of a terminal, Alt and a key, and a string without an end, which Ctrl-A ends
+    ready image; printf 'a\033]11;rgb:0000/0000/0000\033\\b\033]11;rgb:ffff/ffff/ffff\007c\033P>|XTerm(388)\033\\d\033(Be\033xf\033_Gi=1;OK' > answers; paste answers; await shows 'rev 6'
+    is 'no answer is typed' "$(body)" abcdef; keys C-a; type_text g; await shows 'rev 7'; keys C-x; ended; is 'a string without an end' "$(text)" gabcdef; clean
 }
 
 pastes() {

@@ -232,8 +232,8 @@ screen 'before keys of a terminal' 'rev 0 byte 0 of 0' '0 0'
 type_text abc
 press Left Left
 screen 'an arrow types nothing' 'rev 3 byte 1 of 3' '1 0' abc
-press Home DC End
-screen 'Home, Delete and End' 'rev 4 byte 2 of 2' '2 0' bc
+press Home DC End M-x
+screen 'Home, Delete, End, and Alt and a key' 'rev 4 byte 2 of 2' '2 0' bc
 printf 'x\030y' > pasted
 in_tmux load-buffer -b pasted pasted
 in_tmux paste-buffer -p -r -d -b pasted
