@@ -1,6 +1,6 @@
 //! The file of an image.
 
-use crate::opening::{open, told};
+use crate::opening::{open, sync_folder, told};
 use cord_tools::{ToolFault, may_replace};
 use std::fs::{File, Permissions};
 use std::io::{ErrorKind, Read};
@@ -124,6 +124,8 @@ impl<'a> ImageFile<'a> {
             if fs::rename(self.rt, part.as_str(), self.path.as_str()).is_err() {
                 return Err(ToolFault::Write);
             }
+            // The new name stands before the keys go.
+            sync_folder(self.rt, self.path.as_str());
         }
         Ok(true)
     }

@@ -1,7 +1,7 @@
 //! The file of keys.
 
 use crate::image_file::ImageFile;
-use crate::opening::told;
+use crate::opening::{sync_folder, told};
 use cord_tools::{Status, ToolFault, run_kept};
 use key_journal::{Found, HEADER_SIZE, Kept, find_keys, header_over};
 use lazy_file::Sources;
@@ -12,26 +12,42 @@ use std::time::{Duration, Instant};
 use std::{fs, io};
 use terminal_keys::TerminalKeys;
 
-/// A key that is typed so many milliseconds after the file was last synced has it synced.
-const SYNCED_EACH: u64 = 1000;
+/// A key is synced where the last sync is over for so many times as long as it took, and for so many milliseconds at most.
+const REST: u32 = 16;
 
-/// A file that is synced as keys come, once a second at most.
+const LONGEST_REST: u64 = 1000;
+
+/// A file that is synced as keys come: each one, where they come no faster than the device syncs them with rests between.
 #[derive(Drop)]
 struct SyncedFile<'a> {
     rt: &'a HostRuntime,
     file: &'a File,
+    /// When it was last synced, and how long it rests from then on.
     synced: Option<Instant>,
+    rest: Duration,
 }
 
 impl SyncedFile<'_> {
-    /// Whether it was synced within this second. Without a clock it never was.
-    fn is_synced(&self) -> bool {
+    /// Whether it rests. Without a clock it does not.
+    fn rests(&self) -> bool {
         match &self.synced {
             Some(synced) => match synced.elapsed(self.rt) {
-                Ok(elapsed) => elapsed < Duration::from_millis(SYNCED_EACH),
+                Ok(elapsed) => elapsed < self.rest,
                 Err(_) => false,
             },
             None => false,
+        }
+    }
+
+    /// Syncs it. What cannot be synced is kept as long as the system stands.
+    fn sync(&mut self) {
+        let begun = Instant::now(self.rt).ok();
+        let _ = self.file.sync_data();
+        self.synced = Instant::now(self.rt).ok();
+        if let (Some(begun), Some(synced)) = (&begun, &self.synced) {
+            let longest = Duration::from_millis(LONGEST_REST);
+            let rest = synced.duration_since(*begun).saturating_mul(REST);
+            self.rest = if rest < longest { rest } else { longest };
         }
     }
 }
@@ -40,10 +56,8 @@ impl io::Write for SyncedFile<'_> {
     fn write(&mut self, bytes: &[u8]) -> io::Result<usize> {
         let mut file = self.file;
         let n = file.write(bytes)?;
-        if !self.is_synced() {
-            // What cannot be synced is kept as long as the system stands.
-            let _ = self.file.sync_data();
-            self.synced = Instant::now(self.rt).ok();
+        if !self.rests() {
+            self.sync();
         }
         Ok(n)
     }
@@ -98,6 +112,7 @@ impl<'a> Journal<'a> {
                 if file.write_all(&header[bytes.len()..]).is_err() {
                     return Err(ToolFault::Write);
                 }
+                sync_folder(rt, path);
             }
             Found::Other => return Err(ToolFault::OtherKeys),
         }
@@ -124,6 +139,7 @@ impl<'a> Journal<'a> {
             rt: self.rt,
             file: &self.file,
             synced: None,
+            rest: Duration::from_millis(LONGEST_REST),
         };
         run_kept(
             self.rt.alloc(),
@@ -141,6 +157,11 @@ impl<'a> Journal<'a> {
             Ok(metadata) => metadata.len() == HEADER_SIZE as u64,
             Err(_) => false,
         }
+    }
+
+    /// Syncs it, where it stays. What cannot be synced is kept as long as the system stands.
+    pub fn sync(&self) {
+        let _ = self.file.sync_data();
     }
 
     /// Takes it away.

@@ -189,6 +189,8 @@ fn edit_kept<'a, S: Sources + Drop>(
     let saved = finish(status, image);
     if saved == Ok(true) || journal.is_empty() {
         journal.remove()?;
+    } else {
+        journal.sync();
     }
     saved?;
     Ok(Status::Success)

@@ -8,6 +8,7 @@ use source_device::SourceDevice;
 use std::fs::{self, File};
 use std::io::{self, ErrorKind};
 use std::num::NonZeroUsize;
+use std::path::Path;
 use std::sync::ledger::{Blank, Ledger, Share};
 
 /// So many blocks of the files are kept in memory.
@@ -114,4 +115,18 @@ pub fn opened_image<L: Ledger>(
         at_most,
         sources,
     })
+}
+
+/// Syncs the folder of a file, whose name stands then. What cannot be synced stands as long as the system does.
+pub fn sync_folder(rt: &HostRuntime, path: &str) {
+    if let Some(folder) = Path::new(path).parent() {
+        let name = if folder.as_str().is_empty() {
+            "."
+        } else {
+            folder.as_str()
+        };
+        if let Ok(folder) = File::open(rt, name) {
+            let _ = folder.sync_all();
+        }
+    }
 }
