@@ -1,6 +1,5 @@
 -- Laws of one byte more.
 use Rattle.std.proofs.Common.{◌≡◌, ℕ, ◌<◌, List, [], ◌∷◌, ◌++◌, length, Some, refl, sym, ap, subst, ◌∙◌, append_assoc, arith}
-use Rattle.std.proofs.lemmas.List.{length-append}
 use Rattle.terminal_keys.specs.declared.mode.Mode.{Mode}
 use Rattle.terminal_keys.specs.declared.stage.Stage.{Stage}
 use Rattle.terminal_keys.specs.declared.stage.Stage.TheVariants.{Text}
