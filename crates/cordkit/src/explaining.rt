@@ -157,26 +157,38 @@ fn out_of_range(rt: &HostRuntime, script: &str, number: &str) -> Option<Sentence
     Sentence::new(alloc, text, &about, &numbers)
 }
 
+/// The first of the files that cannot be read.
+fn unread(rt: &HostRuntime, action: &Action<'_>) -> Option<Sentence> {
+    let unread = first_unread(rt, &inputs(rt.alloc(), action).ok()?)?;
+    Sentence::new(rt.alloc(), failure(unread.why), unread.path, "")
+}
+
+/// The first of the files that is too long.
+fn too_long(rt: &HostRuntime, action: &Action<'_>) -> Option<Sentence> {
+    let path = first_too_long(rt, &inputs(rt.alloc(), action).ok()?)?;
+    Sentence::new(rt.alloc(), meaning("S5"), path, "")
+}
+
+/// What the files of a run over an image say of its sources.
+fn other_sources(rt: &HostRuntime, action: &Action<'_>, numbers: &str) -> Option<Sentence> {
+    let (image, sources) = image_of(action)?;
+    if numbers.is_empty() {
+        other_count(rt, image, sources)
+    } else {
+        other_len(rt, image, sources, numbers)
+    }
+}
+
 /// What the files say, where they say more than the code means.
 fn seen(rt: &HostRuntime, action: &Action<'_>, name: &str, numbers: &str) -> Option<Sentence> {
-    match (name, action) {
-        ("read", _) => {
-            let unread = first_unread(rt, &inputs(rt.alloc(), action).ok()?)?;
-            Sentence::new(rt.alloc(), failure(unread.why), unread.path, "")
-        }
-        ("C2", _) => {
-            let (image, sources) = image_of(action)?;
-            other_count(rt, image, sources)
-        }
-        ("C3", _) => {
-            let (image, sources) = image_of(action)?;
-            other_len(rt, image, sources, numbers)
-        }
-        ("E3", Action::Apply { script, .. }) => out_of_range(rt, script, numbers),
-        ("S5", _) => {
-            let path = first_too_long(rt, &inputs(rt.alloc(), action).ok()?)?;
-            Sentence::new(rt.alloc(), meaning(name), path, numbers)
-        }
+    match name {
+        "read" => unread(rt, action),
+        "S5" => too_long(rt, action),
+        "C2" | "C3" => other_sources(rt, action, numbers),
+        "E3" => match action {
+            Action::Apply { script, .. } => out_of_range(rt, script, numbers),
+            _ => None,
+        },
         _ => None,
     }
 }
