@@ -72,7 +72,7 @@ fi
 if has find --all 0 x text; then
     awk 'BEGIN { for (size = 0; size < 67108864; size += 64) printf "%057d%s\n", size, size % 8192 ? "needles" : "needle "; }' > words
     echo "each place of a word in $(wc -c < words) bytes, in milliseconds:"
-    for word in 'needle ' needle 00; do
+    for word in 'needle ' needle e; do
         echo "  find --all  $(best 3 "$program" find --all 0 "$word" words)"
         mv out ours
         usual() { grep -obaF "$word" words; }
