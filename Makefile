@@ -7,7 +7,7 @@
 # make fuzz MINUTES=60  has the program and the second checker answer images that are made from those that reached something new
 # make audit     the edits that must be refused and that the gate has no time for
 # make bench     times the program beside the usual tools, on data that it makes
-# make refuse    refuses each allocation of a run in turn, and fails its reads and writes by real devices
+# make refuse    refuses each allocation of the tests' runs and of the program's in turn, and fails its reads and writes by real devices
 # make crate NAME=.. DEPS=".."  makes the folders and files of a new crate, and its line in crates.txt
 # make callers IMAGES=2100  builds the C library and its callers in C, Rust and Python, and compares their answers with each other and the program's
 # make wasm      builds the C library as WebAssembly, for examples/check.html, and tries it in node and in chromium, where these are installed
@@ -38,7 +38,7 @@ library:
 	cd crates/cord_c && rt lib && sh shared.sh
 
 check:
-	rt ci && $(MAKE) library && sh tests/program.sh && sh tests/program.sh bin/cordkit launcher && sh tests/slice.sh && $(MAKE) installed
+	rt ci && $(MAKE) library && sh tests/program.sh && sh tests/program.sh bin/cordkit launcher && sh tests/slice.sh && sh tests/devices.sh && $(MAKE) installed
 
 long:
 	sh tests/long.sh
@@ -63,7 +63,8 @@ bench:
 	sh bench/edit.sh
 
 refuse:
-	sh bench/refuse.sh
+	python3 tests/refused.py
+	sh tests/devices.sh
 
 callers: library
 	sh crates/cord_c/callers/run.sh $(IMAGES) "$(PROGRAM)"

@@ -4,7 +4,7 @@
 # status is not 0 where one failed or none passed.
 #   100,000 damaged images, 1,000 sessions of keys    python3; both ask the second checker, bin/cordkit-verify
 #   1,000 scripts and those of a million lines; 3,000 images, their logs    python3; so does this one
-#   allocations, reads and writes that are refused    gcc
+#   reads and writes that devices refuse              nothing more
 #   the tests of ropes under memcheck                 valgrind, and rt where they are not built
 #   the editor in a terminal, keys that are kept      tmux
 #   refusals that come behind much work               nothing more
@@ -45,7 +45,7 @@ try() {
 try 'damaged images' python3 python3 tests/damaged_images.py 100000
 try 'sessions of keys' python3 python3 tests/random_keys.py 1000
 try 'scripts and logs' python3 python3 tests/random_scripts.py 1000
-try 'refused allocations, reads and writes' gcc sh bench/refuse.sh
+try 'refused reads and writes' '' sh tests/devices.sh
 try 'the tests of ropes under memcheck' valgrind sh tests/memcheck.sh
 try 'the editor in a terminal' tmux sh tests/terminal.sh
 try 'keys that are kept' tmux sh tests/kept_keys.sh

@@ -167,6 +167,7 @@ fn writers_that_fail_in_a_log(rt: HostRuntime) {
         let mut taken: Vec<u8> = Vec::new(rt.alloc());
         let mut writer = Taker {
             left,
+            fails: true,
             taken: &mut taken,
         };
         let mut sources = sources_of(&rt, &[SOURCE]);

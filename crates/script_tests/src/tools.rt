@@ -28,10 +28,11 @@ pub(crate) fn assert_same<A: Abort, T: PartialEq + Debug>(rt: &A, found: &T, wan
     assert_eq!(rt; found, wanted);
 }
 
-/// A writer that takes so many bytes, and then fails.
+/// A writer that takes so many bytes, and then fails or takes nothing.
 #[derive(Drop)]
 pub(crate) struct Taker<'a> {
     pub(crate) left: usize,
+    pub(crate) fails: bool,
     pub(crate) taken: &'a mut Vec<u8>,
 }
 
@@ -42,7 +43,7 @@ impl Write for Taker<'_> {
 
     fn write(&mut self, bytes: &[u8]) -> io::Result<usize> {
         let size = bytes.len().min(self.left);
-        if size == 0 && !bytes.is_empty() {
+        if size == 0 && !bytes.is_empty() && self.fails {
             return Err(Error::from(ErrorKind::BrokenPipe));
         }
         self.left -= size;
@@ -114,13 +115,16 @@ fn scripts_without_an_image(rt: HostRuntime) {
 #[test]
 fn writers_that_fail(rt: HostRuntime) {
     for left in 0..ONE_INSERT.len() {
-        let mut taken: Vec<u8> = Vec::new(rt.alloc());
-        let mut writer = Taker {
-            left,
-            taken: &mut taken,
-        };
-        let answer = run_apply(rt.alloc(), b"new\ninsert 0 0 \"abc\"", &[], &mut writer);
-        assert_same(&rt, &answer, &Err(ApplyFault::Write));
-        assert_same(&rt, &Some(taken.as_slice()), &ONE_INSERT.get(..left));
+        for fails in [true, false] {
+            let mut taken: Vec<u8> = Vec::new(rt.alloc());
+            let mut writer = Taker {
+                left,
+                fails,
+                taken: &mut taken,
+            };
+            let answer = run_apply(rt.alloc(), b"new\ninsert 0 0 \"abc\"", &[], &mut writer);
+            assert_same(&rt, &answer, &Err(ApplyFault::Write));
+            assert_same(&rt, &Some(taken.as_slice()), &ONE_INSERT.get(..left));
+        }
     }
 }

@@ -246,16 +246,10 @@ fn an_image_replaces_an_image_or_nothing(rt: HostRuntime) {
     }
 }
 
-/// The five frames of `a`, `b`, undo and `c`.
-fn five_frames<R: AllocGlobal + Abort>(rt: &R) -> Vec<u8> {
+/// Frames of one line: the line, and what follows the last of the 23 rows.
+fn frames<R: AllocGlobal + Abort>(rt: &R, shown: &[(&str, &str)]) -> Vec<u8> {
     let mut screen = Vec::new(rt.alloc());
-    for (line, status) in [
-        ("", "rev 0 byte 0 of 0\x1b[1;1H"),
-        ("a", "rev 1 byte 1 of 1\x1b[1;2H"),
-        ("ab", "rev 2 byte 2 of 2\x1b[1;3H"),
-        ("a", "rev 3 byte 1 of 1\x1b[1;2H"),
-        ("ac", "rev 4 byte 2 of 2\x1b[1;3H"),
-    ] {
+    for (line, status) in shown {
         let rows =
             "\r\n\r\n\r\n\r\n\r\n\r\n\r\n\r\n\r\n\r\n\r\n\r\n\r\n\r\n\r\n\r\n\r\n\r\n\r\n\r\n\r\n\r\n\r\n";
         let frame = format!(in rt.alloc(); "\x1b[2J\x1b[H{line}{rows}{status}").expect(
@@ -268,6 +262,15 @@ fn five_frames<R: AllocGlobal + Abort>(rt: &R) -> Vec<u8> {
     screen
 }
 
+/// The five frames of `a`, `b`, undo and `c`.
+const FIVE_FRAMES: [(&str, &str); 5] = [
+    ("", "rev 0 byte 0 of 0\x1b[1;1H"),
+    ("a", "rev 1 byte 1 of 1\x1b[1;2H"),
+    ("ab", "rev 2 byte 2 of 2\x1b[1;3H"),
+    ("a", "rev 3 byte 1 of 1\x1b[1;2H"),
+    ("ac", "rev 4 byte 2 of 2\x1b[1;3H"),
+];
+
 /// An editor of these texts, of which the first is edited.
 fn editor<S: Sources + Drop, R: AllocGlobal + Abort>(rt: &R, sources: S) -> Editor<S> {
     Editor::new(rt.alloc(), sources).expect(rt, "an editor")
@@ -275,14 +278,14 @@ fn editor<S: Sources + Drop, R: AllocGlobal + Abort>(rt: &R, sources: S) -> Edit
 
 #[test]
 fn a_run_is_shown_as_far_as_the_screen_takes_it(rt: HostRuntime) {
-    let whole = five_frames(&rt);
+    let whole = frames(&rt, &FIVE_FRAMES);
     for room in 0..=whole.len() {
-        for (keys, end) in [
-            (b"ab\x15c\x18z".as_slice(), End::Save),
-            (b"ab\x15c\x03z", End::Leave),
-            (b"ab\x15c", End::Leave),
+        for (keys, end, full) in [
+            (b"ab\x15c\x18z".as_slice(), End::Save, Full::Fails),
+            (b"ab\x15c\x03z", End::Leave, Full::Fails),
+            (b"ab\x15c", End::Leave, Full::TakesNothing),
         ] {
-            let mut screen = Taker::with_room(room, Full::Fails);
+            let mut screen = Taker::with_room(room, full);
             let mut editor = editor(&rt, texts_in(&rt, &[]));
             let found = editor.run(&mut Giver::of(keys), &mut screen);
             let wanted = if room < whole.len() {
@@ -296,32 +299,100 @@ fn a_run_is_shown_as_far_as_the_screen_takes_it(rt: HostRuntime) {
     }
 }
 
-/// Edits no file by keys that fail behind so many, on a screen and an image with this room.
-fn edited<R: AllocGlobal + Abort>(
-    rt: &R,
-    cut: Option<usize>,
-    screen: usize,
-    image: &mut Taker,
-) -> Result<Status, ToolFault> {
-    let mut keys = Giver {
-        cut,
-        ..Giver::of(b"ab\x15c\x18")
-    };
-    let mut screen = Taker::with_room(screen, Full::TakesNothing);
-    run_edit(rt.alloc(), texts_in(rt, &[]), &mut keys, &mut screen, image)
+/// The key `a`, typed, and the key Save.
+const ONE_LETTER: &[u8] = b"a\x18";
+
+/// The image of that: its header, node, two revisions, row and pool.
+const ONE_LETTER_IMAGE: &[u8] = b"CORDSESS\0\0\0\x02\0\0\0\0\0\0\0\x01\0\0\0\x02\
+    \0\0\0\x01\0\0\0\0\0\0\0\0\0\0\0\x01\
+    \x01\0\0\0\0\0\0\0\0\0\0\0\0\0\0\x01\0\0\0\0\0\0\0\0\
+    \0\0\0\0\0\0\0\0\
+    \x01\0\0\0\xff\xff\xff\xff\0\0\0\0\0\0\0\0\0\0\0\0\0\0\0\0\
+    \0\0\0\0\0\0\0\0\0\0\0\0\0\0\0\0\0\0\0\0\0\0\0\0\
+    \0\0\0\0\0\0\0\0\
+    \x03\x01\0\0\0\0\0\0\0\0\0\0\0\0\0\0\0\0\0\0\0\0\0\0\
+    \0\0\0\0\0\0\0\0\0\0\0\0\0\0\0\0\0\0\0\0\0\0\0\x01\
+    \0\0\0\x01\0\0\0\0\
+    \x02\0\0\0\0\0\0\0\0\0\0\0\0\0\0\x01\0\0\0\0\0\0\0\0\
+    a";
+
+/// An edit of no file: its keys, its screen and where its image goes.
+#[derive(Drop)]
+struct Edited<'a> {
+    keys: Giver<'a>,
+    screen: Taker,
+    image: Taker,
+}
+
+impl<'a> Edited<'a> {
+    /// One that has room for all.
+    fn by(keys: &'a [u8]) -> Edited<'a> {
+        Edited {
+            keys: Giver::of(keys),
+            screen: Taker::with_room(512, Full::Fails),
+            image: Taker::with_room(512, Full::Fails),
+        }
+    }
+
+    /// Edits, and asserts how it ends, and what of the frames and of the image is written.
+    fn assert_ends<R: AllocGlobal + Abort>(
+        &mut self,
+        rt: &R,
+        wanted: Result<Status, ToolFault>,
+        frames: Option<&[u8]>,
+        image: Option<&[u8]>,
+    ) {
+        let sources = texts_in(rt, &[]);
+        let found = run_edit(
+            rt.alloc(),
+            sources,
+            &mut self.keys,
+            &mut self.screen,
+            &mut self.image,
+        );
+        assert_same(rt, &found, &wanted, &frames);
+        assert_same(rt, &Some(self.screen.taken()), &frames, &"frames");
+        assert_same(rt, &Some(self.image.taken()), &image, &"image");
+    }
 }
 
 #[test]
 fn an_image_is_written_behind_all_frames_alone(rt: HostRuntime) {
-    for (cut, screen, image, wanted, written) in [
-        (None, 385, 512, ToolFault::Write, b"".as_slice()),
-        (Some(4), 512, 512, ToolFault::Read, b""),
-        (None, 512, 8, ToolFault::Write, b"CORDSESS"),
-    ] {
-        let mut taker = Taker::with_room(image, Full::Fails);
-        let found = edited(&rt, cut, screen, &mut taker);
-        assert_same(&rt, &found, &Err(wanted), &(cut, screen, image));
-        assert_same(&rt, &taker.taken(), &written, &(cut, screen, image));
+    let whole = frames(&rt, &FIVE_FRAMES[..2]);
+    let none = Some(b"".as_slice());
+    let write = Err(ToolFault::Write);
+    for full in [Full::Fails, Full::TakesNothing] {
+        for room in 0..whole.len() {
+            let mut edited = Edited::by(ONE_LETTER);
+            edited.screen = Taker::with_room(room, full);
+            edited.assert_ends(&rt, write, whole.get(..room), none);
+        }
+        for room in 0..ONE_LETTER_IMAGE.len() {
+            let mut edited = Edited::by(ONE_LETTER);
+            edited.image = Taker::with_room(room, full);
+            let image = ONE_LETTER_IMAGE.get(..room);
+            edited.assert_ends(&rt, write, Some(whole.as_slice()), image);
+        }
+    }
+    let saved = Ok(Status::Success);
+    let image = Some(ONE_LETTER_IMAGE);
+    Edited::by(ONE_LETTER).assert_ends(&rt, saved, Some(whole.as_slice()), image);
+}
+
+#[test]
+fn keys_that_fail_or_end_leave_no_image(rt: HostRuntime) {
+    let none = Some(b"".as_slice());
+    let keys = b"ab\x15c\x18".as_slice();
+    for n in 0..keys.len() {
+        let shown = frames(
+            &rt,
+            FIVE_FRAMES.get(..n.saturating_add(1)).unwrap_or_default(),
+        );
+        let mut failing = Edited::by(keys);
+        failing.keys.cut = Some(n);
+        failing.assert_ends(&rt, Err(ToolFault::Read), Some(shown.as_slice()), none);
+        let mut ending = Edited::by(keys.get(..n).unwrap_or_default());
+        ending.assert_ends(&rt, Ok(Status::Success), Some(shown.as_slice()), none);
     }
 }
 

@@ -249,22 +249,56 @@ fn assert_unread<R: AllocGlobal + Abort>(rt: &R, tool: Tool<'_>, texts: &[&[u8]]
     assert_same(rt, &writer.taken().len(), &0, &(tool, cut));
 }
 
+/// An image of which no more than so many bytes are read.
+fn failing(bytes: &[u8], cut: usize) -> Giver<'_> {
+    Giver {
+        cut: Some(cut),
+        ..Giver::of(bytes)
+    }
+}
+
 #[test]
 fn nothing_is_written_where_an_input_fails(rt: HostRuntime) {
-    for cut in [0, 1, 40, 159] {
-        let one_insert = Giver {
-            cut: Some(cut),
-            ..Giver::of(ONE_INSERT)
-        };
-        let open_source = Giver {
-            cut: Some(cut),
-            ..Giver::of(OPEN_SOURCE)
-        };
-        assert_unread(&rt, Tool::Stdin(one_insert), &[], cut);
-        assert_unread(&rt, Tool::Check(open_source), &[b"abc"], cut);
-        assert_unread(&rt, Tool::Show(open_source, 0), &[b"abc"], cut);
-        let fault = read_source(rt.alloc(), open_source).err();
+    for cut in 0..ONE_INSERT.len() {
+        let image = failing(ONE_INSERT, cut);
+        assert_unread(&rt, Tool::Stdin(image), &[], cut);
+        assert_unread(&rt, Tool::Check(image), &[], cut);
+        assert_unread(&rt, Tool::Show(image, 1), &[], cut);
+        assert_unread(&rt, Tool::Migrate(image), &[], cut);
+        let fault = read_source(rt.alloc(), image).err();
         assert_same(&rt, &fault, &Some(ToolFault::Read), &cut);
+    }
+    for cut in 0..OPEN_SOURCE.len() {
+        let image = failing(OPEN_SOURCE, cut);
+        assert_unread(&rt, Tool::Check(image), &[b"abc"], cut);
+        assert_unread(&rt, Tool::Show(image, 0), &[b"abc"], cut);
+    }
+}
+
+/// Asserts what the tool answers and writes.
+fn assert_answers<R: AllocGlobal + Abort>(
+    rt: &R,
+    tool: Tool<'_>,
+    wanted: Result<Status, ToolFault>,
+    line: &[u8],
+) {
+    let mut writer = Taker::with_room(64, Full::Fails);
+    let mut sources = texts_in(rt, &[]);
+    let found = run(rt, tool, &mut sources, &mut writer);
+    assert_same(rt, &found, &wanted, &tool);
+    assert_same(rt, &writer.taken(), &line, &tool);
+}
+
+#[test]
+fn an_image_that_ends_too_early_is_refused(rt: HostRuntime) {
+    let refused = Err(ToolFault::Refused(CheckFault::Read(ReadFault::Truncated)));
+    for n in 0..ONE_INSERT.len() {
+        let image = Giver::of(ONE_INSERT.get(..n).unwrap_or_default());
+        let line = b"refused C1(I1)\n";
+        assert_answers(&rt, Tool::Stdin(image), Ok(Status::Failure), line);
+        assert_answers(&rt, Tool::Check(image), Ok(Status::Failure), line);
+        assert_answers(&rt, Tool::Show(image, 1), refused, b"");
+        assert_answers(&rt, Tool::Migrate(image), refused, b"");
     }
 }
 

@@ -211,20 +211,22 @@ fn bytes_have_a_first_and_a_last_place(rt: HostRuntime) {
     }
 }
 
-/// Takes `room` bytes, one a write.
+/// Takes `room` bytes, one a write, and then fails or takes nothing.
 #[derive(Drop)]
 struct Sink {
     held: [u8; 8],
     count: usize,
     room: usize,
+    fails: bool,
 }
 
 impl Sink {
-    fn with_room(room: usize) -> Sink {
+    fn with_room(room: usize, fails: bool) -> Sink {
         Sink {
             held: [0; 8],
             count: 0,
             room,
+            fails,
         }
     }
 
@@ -241,6 +243,7 @@ impl io::Write for Sink {
                 self.count += 1;
                 Ok(1)
             }
+            _ if self.fails => Err(io::Error::from(io::ErrorKind::StorageFull)),
             _ => Ok(0),
         }
     }
@@ -255,15 +258,21 @@ fn text_is_written_up_to_where_no_more_is_taken(rt: HostRuntime) {
     let mut store: Store<Coded> = Store::new(rt.alloc());
     let mut sources = MemSources::new(rt.alloc());
     let text = three_leaves(&rt, &mut store, &mut sources);
-    for (room, outcome, taken) in [
-        (8, Ok(()), b"abcde".as_slice()),
-        (3, Err(PutFault::Write), b"abc"),
-    ] {
-        let mut sink = Sink::with_room(room);
-        let written = put_to(&rt, &store, &mut sources, text, &mut sink);
-        assert_same_at(&rt, &written, &outcome, &room);
-        assert_same_at(&rt, &sink.taken(), &taken, &room);
+    for room in 0..5 {
+        for fails in [true, false] {
+            let mut sink = Sink::with_room(room, fails);
+            let written = put_to(&rt, &store, &mut sources, text, &mut sink);
+            assert_same_at(&rt, &written, &Err(PutFault::Write), &(room, fails));
+            assert_same_at(&rt, &Some(sink.taken()), &b"abcde".get(..room), &room);
+        }
     }
+    let mut sink = Sink::with_room(5, true);
+    let written = put_to(&rt, &store, &mut sources, text, &mut sink);
+    assert_same(
+        &rt,
+        &(written, sink.taken()),
+        &(Ok(()), b"abcde".as_slice()),
+    );
     let mut bytes: Vec<u8> = Vec::new(rt.alloc());
     let written = put_to(&rt, &store, &mut sources, text, &mut bytes);
     assert_same(&rt, &written, &Ok(()));

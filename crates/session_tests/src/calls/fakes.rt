@@ -117,18 +117,19 @@ impl Device for CutShort {
     }
 }
 
-/// Takes so many bytes, and then fails.
+/// Takes so many bytes, and then fails or takes nothing.
 #[derive(Drop)]
 pub struct Short<'a> {
     pub taken: &'a mut Vec<u8>,
     pub room: usize,
+    pub fails: bool,
 }
 
 impl io::Write for Short<'_> {
     fn write(&mut self, bytes: &[u8]) -> io::Result<usize> {
         let n = bytes.len().min(self.room);
         let part = bytes.get(..n).unwrap_or_default();
-        if n == 0 || self.taken.extend_from_slice(part).is_err() {
+        if (n == 0 && self.fails) || self.taken.extend_from_slice(part).is_err() {
             return Err(io::Error::from(io::ErrorKind::StorageFull));
         }
         self.room -= n;

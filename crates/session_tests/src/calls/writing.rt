@@ -134,23 +134,26 @@ fn image_of_version_1_is_written_anew_in_version_2(rt: HostRuntime) {
     assert_same(&rt, &restated(&rt, &second), &second);
 }
 
-/// What a writer takes that has room for so many bytes, of a session or of an image written anew.
+/// What a writer takes that has room for so many bytes, and then fails or takes nothing, of a session or of an image written anew.
 fn prefixes<A: AllocGlobal + Abort>(
     rt: &A,
     session: &Session,
     image: &Image<'_>,
     room: usize,
+    fails: bool,
 ) -> (Vec<u8>, Vec<u8>) {
     let mut taken: Vec<u8> = Vec::new(rt.alloc());
     let mut anew: Vec<u8> = Vec::new(rt.alloc());
     let mut short = Short {
         taken: &mut taken,
         room,
+        fails,
     };
     assert_same(rt, &write(session, &mut short), &Err(WriteFault));
     let mut short = Short {
         taken: &mut anew,
         room,
+        fails,
     };
     assert_same(rt, &restate(image, &mut short), &Err(WriteFault));
     (taken, anew)
@@ -163,9 +166,11 @@ fn prefix_is_written_where_no_more_is_taken(rt: HostRuntime) {
     let image = Image::read(&first).expect(&rt, "an image");
     let wanted = one_insert(&rt, 2);
     for room in 0..wanted.len() {
-        let (taken, anew) = prefixes(&rt, &session, &image, room);
-        assert_same_at(&rt, &Some(taken.as_slice()), &wanted.get(..room), &room);
-        assert_same_at(&rt, &anew, &taken, &room);
+        for fails in [true, false] {
+            let (taken, anew) = prefixes(&rt, &session, &image, room, fails);
+            assert_same_at(&rt, &Some(taken.as_slice()), &wanted.get(..room), &room);
+            assert_same_at(&rt, &anew, &taken, &room);
+        }
     }
 }
 

@@ -1,0 +1,31 @@
+//! Runs of calls of which one may be refused memory. It is made again then, and what was there before it still is.
+#![tactic(auto)]
+
+#[cfg(test)]
+mod ample;
+#[cfg(test)]
+mod editors;
+#[cfg(test)]
+mod fakes;
+#[cfg(test)]
+mod files;
+#[cfg(test)]
+mod kept;
+#[cfg(test)]
+mod pools;
+#[cfg(test)]
+mod refusals;
+#[cfg(test)]
+mod ropes;
+#[cfg(test)]
+mod scripts;
+#[cfg(test)]
+mod searches;
+#[cfg(test)]
+mod sessions;
+#[cfg(test)]
+mod stores;
+#[cfg(test)]
+mod tools;
+#[cfg(test)]
+mod words;

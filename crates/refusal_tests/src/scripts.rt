@@ -1,0 +1,91 @@
+//! Scripts that are applied, and the image of one.
+
+use crate::fakes::{ONE_INSERT_IN_TWO, Taker};
+use crate::kept::{Reach, session_digest};
+use crate::refusals::{Refusals, TRIES, assert_same};
+use crate::sessions::{assert_text, session_of};
+use edit_commands::{EditFault, Session};
+use edit_script::{Room, Stop, Stopped, apply_script};
+use lazy_file::MemSources;
+use script_tools::{ApplyFault, run_apply};
+use std::alloc::AllocGlobal;
+use std::process::Abort;
+
+/// Its lines, each of which makes the revision before which it stands here.
+const LINES: [&[u8]; 4] = [
+    b"new",
+    b"insert 0 0 \"abcdef\"",
+    b"many 1 1 2 \"X\" 4 0 \"YZ\" 5 1 \"\"",
+    b"paste 1 1 1 0 3",
+];
+
+/// The texts of its revisions.
+const TEXTS: [&[u8]; 4] = [b"", b"abcdef", b"aXdYZe", b"aabcbcdef"];
+
+/// Whether a script was stopped for want of memory.
+fn wants_memory(why: Stop) -> bool {
+    matches!(why, Stop::Memory | Stop::Refused(EditFault::Memory))
+}
+
+/// Applies a line, once more where that was refused memory.
+fn applied<A: AllocGlobal + Abort>(
+    rt: &A,
+    session: &mut Session,
+    line: &[u8],
+    refusals: &mut Refusals,
+) {
+    let mut none = MemSources::new(rt.alloc());
+    let reach = Reach::of(session.space());
+    let before = session_digest(rt, session, &mut none, reach);
+    for _ in 0..TRIES {
+        match apply_script(session, line, &mut Room::new(rt.alloc())) {
+            Ok(()) => return,
+            Err(Stopped { line, why }) => {
+                assert!(rt; wants_memory(why), "{why:?}");
+                assert_same(rt, &line, &1, &"the line");
+                let now = session_digest(rt, session, &mut none, reach);
+                refusals.met(rt, &now, &before);
+            }
+        }
+    }
+    panic!(rt; "refused each time")
+}
+
+pub(crate) fn lines<A: AllocGlobal + Abort>(rt: &A, refusals: &mut Refusals) {
+    let mut session = session_of(rt, &[], refusals);
+    for line in LINES {
+        applied(rt, &mut session, line, refusals);
+    }
+    for (k, text) in (0u32..).zip(TEXTS.iter()) {
+        assert_text(rt, &session, k, *text);
+    }
+    assert_same(rt, &session.count(), &4, &"revisions");
+}
+
+/// Whether no image was made for want of memory.
+fn has_no_memory(fault: ApplyFault) -> bool {
+    match fault {
+        ApplyFault::Stop(stopped) => wants_memory(stopped.why),
+        ApplyFault::Source(fault) => fault == EditFault::Memory,
+        ApplyFault::Write => false,
+    }
+}
+
+/// The image of a script over a source, which is written at once or not at all.
+pub(crate) fn image<A: AllocGlobal + Abort>(rt: &A, refusals: &mut Refusals) {
+    let script = b"new\ninsert 0 0 \"abc\"".as_slice();
+    for _ in 0..TRIES {
+        let mut writer = Taker::new();
+        match run_apply(rt.alloc(), script, &[], &mut writer) {
+            Ok(()) => {
+                assert_same(rt, &writer.taken(), &ONE_INSERT_IN_TWO, &"the image");
+                return;
+            }
+            Err(fault) => {
+                assert!(rt; has_no_memory(fault), "{fault:?}");
+                refusals.met(rt, &writer.taken().len(), &0);
+            }
+        }
+    }
+    panic!(rt; "refused each time")
+}

@@ -1,0 +1,130 @@
+/* Stands before the allocator of a program, and refuses it an allocation: malloc, calloc, realloc and the aligned ones, counted from 1 on.
+
+   With REFUSE_AT=N the allocation N is refused, and with REFUSE_ALSO=M the allocation M too. How many there were goes to the file
+   REFUSE_COUNTED.
+   With REFUSE_EACH=FIRST the program is run again and again, each time in a process that is forked before its main, with the allocation
+   FIRST refused, then the next one and so on, until a run meets none; with REFUSE_PAIRS=FIRST, with each two of them refused. Each run has
+   to end with status 0; what one that does not has written is shown. The last line says how many runs there were. */
+#define _GNU_SOURCE
+#include <fcntl.h>
+#include <stdio.h>
+#include <stdlib.h>
+#include <string.h>
+#include <sys/mman.h>
+#include <sys/wait.h>
+#include <unistd.h>
+
+extern void *__libc_malloc(size_t);
+extern void *__libc_calloc(size_t, size_t);
+extern void *__libc_realloc(void *, size_t);
+extern void *__libc_memalign(size_t, size_t);
+
+enum { SECONDS = 60, MOST_SHOWN = 20 };
+
+/* How many allocations there were; a run of its own tells its parent by the shared place. */
+static long own_count;
+static long *seen = &own_count;
+static long first_refused, second_refused;
+
+static int is_refused(void) {
+    long number = ++*seen;
+    return number == first_refused || number == second_refused;
+}
+
+void *malloc(size_t size) { return is_refused() ? NULL : __libc_malloc(size); }
+
+void *calloc(size_t count, size_t size) { return is_refused() ? NULL : __libc_calloc(count, size); }
+
+void *realloc(void *old, size_t size) { return is_refused() ? NULL : __libc_realloc(old, size); }
+
+void *aligned_alloc(size_t alignment, size_t size) { return is_refused() ? NULL : __libc_memalign(alignment, size); }
+
+int posix_memalign(void **place, size_t alignment, size_t size) {
+    void *found = is_refused() ? NULL : __libc_memalign(alignment, size);
+    if (found) *place = found;
+    return found ? 0 : 12;
+}
+
+static long number_of(const char *name) {
+    const char *text = getenv(name);
+    return text ? atol(text) : 0;
+}
+
+/* Where a run writes, in memory, so that it is shown only where it failed. */
+static int written;
+
+static void show(long first, long second) {
+    static char bytes[4096];
+    ssize_t count = pread(written, bytes, sizeof bytes, 0);
+    dprintf(2, "FAILED: with allocation %ld refused", first);
+    if (second) dprintf(2, ", and %ld", second);
+    dprintf(2, "\n%.*s\n", (int)(count > 0 ? count : 0), bytes);
+}
+
+/* One run with these refused: 1 where it ended well, and 0 where it did not. In the run itself it answers -1. */
+static int run(long first, long second) {
+    *seen = 0;
+    if (ftruncate(written, 0) || lseek(written, 0, SEEK_SET) < 0) _exit(2);
+    pid_t child = fork();
+    if (child < 0) _exit(2);
+    if (!child) {
+        first_refused = first;
+        second_refused = second;
+        dup2(written, 1);
+        dup2(written, 2);
+        alarm(SECONDS);
+        return -1;
+    }
+    int status;
+    if (waitpid(child, &status, 0) != child) _exit(2);
+    if (WIFEXITED(status) && !WEXITSTATUS(status)) return 1;
+    show(first, second);
+    return 0;
+}
+
+/* Behind each run with `first` refused, one for each allocation behind it: whether this is such a run. */
+static int run_pairs(long first, long *runs, long *failed) {
+    for (long second = first + 1;; second++) {
+        int well = run(first, second);
+        if (well < 0) return 1;
+        *runs += 1;
+        *failed += !well;
+        if (*seen < second || *failed > MOST_SHOWN) return 0;
+    }
+}
+
+static void run_each(long first, int pairs) {
+    long number = first, runs = 0, failed = 0;
+    void *shared = mmap(NULL, sizeof *seen, PROT_READ | PROT_WRITE, MAP_SHARED | MAP_ANONYMOUS, -1, 0);
+    written = memfd_create("written", 0);
+    if (shared == MAP_FAILED || written < 0) _exit(2);
+    seen = shared;
+    for (;; number++) {
+        int well = run(number, 0);
+        if (well < 0) return;
+        failed += !well;
+        if (*seen < number || failed > MOST_SHOWN) break;
+        if (pairs && run_pairs(number, &runs, &failed)) return;
+    }
+    if (pairs)
+        dprintf(1, "%ld pairs of %ld allocations refused, %ld runs failed\n", runs, number - first, failed);
+    else
+        dprintf(1, "%ld allocations refused, %ld runs failed\n", number - first, failed);
+    _exit(failed ? 1 : 0);
+}
+
+__attribute__((constructor)) static void begin(void) {
+    first_refused = number_of("REFUSE_AT");
+    second_refused = number_of("REFUSE_ALSO");
+    if (getenv("REFUSE_EACH")) run_each(number_of("REFUSE_EACH"), 0);
+    if (getenv("REFUSE_PAIRS")) run_each(number_of("REFUSE_PAIRS"), 1);
+}
+
+__attribute__((destructor)) static void report(void) {
+    const char *path = getenv("REFUSE_COUNTED");
+    int file = path ? open(path, O_WRONLY | O_CREAT | O_TRUNC, 0600) : -1;
+    if (file >= 0) {
+        dprintf(file, "%ld\n", *seen);
+        close(file);
+    }
+}

@@ -1,0 +1,219 @@
+#!/usr/bin/env python3
+"""Refuses each allocation in turn, by a C library that stands before the allocator (tests/refuse.c):
+
+- in each run of refusal_tests, which makes the call that was refused once more and looks at what it left; in the runs whose names begin with
+  `twice_` each two of them;
+- in runs of the built cordkit, each a row of the table of tests/program.sh. A run gives what the row says, or ends with `memory` and the status 3
+  behind a front of that; the editor may also refuse a key, which a frame tells, and then saves an image of the other keys.
+
+Usage: tests/refused.py [PROGRAM [TESTS]], the built program and the built tests. Where there is no gcc nothing is tried, which is told. The last
+line says how many allocations were refused; the status is not 0 where a run failed.
+"""
+
+import os
+import shutil
+import subprocess
+import sys
+import tempfile
+
+sys.dont_write_bytecode = True
+from second_checker import PROGRAM, TOP
+
+TESTS = f"{TOP}/crates/refusal_tests/out/refusal_tests_tests"
+
+# Rows of the table of tests/program.sh.
+ROWS = """
+* no words check standard input
+* an insertion is accepted
+a child that is not earlier is refused
+a source is accepted
+a row of bytes over a source is accepted
+a look more than the limit
+a revision is shown
+a text of a source is shown
+a revision that is not there
+an image is written in version 2
+an image over a source is written in version 2
+a script makes the image of its session
+a refused command is told with its line
+a part past the end ends with the file
+a part of standard input
+files are joined in their order
+a pattern is found
+a pattern that does not occur
+a prefix is less
+equal files
+keys are shown and saved
+a file is shown where no key comes
+"""
+
+MEMORY = b"memory\n"
+
+
+def image_of(name):
+    with open(f"{TOP}/tests/vectors/{name}.hex") as file:
+        return bytes.fromhex("".join(file.read().split()))
+
+
+def in_version_two(image):
+    return image[:11] + b"\x02" + image[12:]
+
+
+def files():
+    """The files that the rows name, as tests/program.sh makes them."""
+    made = {name: image_of(name) for name in ("one_insert", "one_source", "child_not_earlier", "bytes_row_over_a_source")}
+    for name in ("one_insert", "bytes_row_over_a_source"):
+        made[f"{name}_in_two"] = in_version_two(made[name])
+    made |= {"abcde": b"abcde", "abc": b"abc", "ab": b"ab", "highest": b"\xff", "nothing": b"", "keys_saved": b"ab\x15c\x18"}
+    made["script_of_abc"] = b'new\n\n# the fox\ninsert 0 0 "abc" # revision 1\r\n'
+    made["script_past_the_end"] = b'new\n\ninsert 0 1 "x"\n'
+    return made
+
+
+def text_of(column, made):
+    """What a column says of what is written."""
+    if column.endswith(".txt"):
+        with open(f"{TOP}/tests/data/{column}", "rb") as file:
+            return file.read()
+    if column.startswith("@"):
+        return made[column[1:]]
+    return subprocess.run(["printf", "%b", column], stdout=subprocess.PIPE, check=True).stdout
+
+
+def rows(made):
+    """The rows that are tried: the name, words, standard input, status, and what is written."""
+    with open(f"{TOP}/tests/program.sh") as file:
+        table = file.read().split("<< 'TABLE'\n")[1].split("\nTABLE")[0]
+    listed = {line.split(";")[0]: line.split(";") for line in table.split("\n") if line}
+    for name in ROWS.strip().split("\n"):
+        _, words, given, status, out, err = listed[name]
+        yield name, words.split(), given, int(status), text_of(out, made), text_of(err, made)
+
+
+class Room:
+    """A folder with the files of the rows and the library, in which the program is run."""
+
+    def __init__(self, program, library, folder):
+        self.program, self.library, self.folder = program, library, folder
+        self.made = files()
+        self.failed = 0
+        for name, content in self.made.items():
+            with open(f"{folder}/{name}", "wb") as file:
+                file.write(content)
+
+    def run(self, words, given="", refused=0):
+        """The status, what was written, and how many allocations there were."""
+        counted = f"{self.folder}/counted"
+        env = {"LD_PRELOAD": self.library, "REFUSE_AT": str(refused), "REFUSE_COUNTED": counted}
+        with open(f"{self.folder}/{given}" if given else "/dev/null", "rb") as file:
+            how = {"stdin": file, "stdout": subprocess.PIPE, "stderr": subprocess.PIPE, "cwd": self.folder, "env": env, "timeout": 60}
+            ran = subprocess.run([self.program, *words], **how)
+        with open(counted) as file:
+            return ran.returncode, ran.stdout, ran.stderr, int(file.read())
+
+    def fail(self, name, refused, found):
+        self.failed += 1
+        print(f"FAILED: {name}, with allocation {refused} refused: {found[:3]}")
+
+    def image(self, name):
+        """What stands there as an image, which is taken away."""
+        path = f"{self.folder}/{name}"
+        if not os.path.exists(path):
+            return None
+        with open(path, "rb") as file:
+            image = file.read()
+        os.remove(path)
+        return image
+
+    def has_refused_a_key(self, found, image):
+        """Whether a frame tells that a key was refused memory, and the image of the others is accepted."""
+        with open(f"{self.folder}/others", "wb") as file:
+            file.write(image or b"")
+        return found[0] == 0 and b" Memory\x1b[" in found[1] and image is not None and self.run(["check", "others"])[0] == 0
+
+    def is_well(self, row, found, saved):
+        """Whether a run of which an allocation was refused did what it may."""
+        _, words, _, status, out, err = row
+        is_edit = words[0:1] == ["edit"]
+        image = self.image(words[1]) if is_edit else None
+        if found[:3] == (status, out, err) and image == saved:
+            return True
+        if found[0] == 3 and found[2] == MEMORY and out.startswith(found[1]) and image is None:
+            return True
+        if is_edit and found[0] == 3 and found[2] == MEMORY and b" Memory\x1b[" in found[1] and image is None:
+            return True
+        return is_edit and self.has_refused_a_key(found, image)
+
+    def try_row(self, row):
+        """How many allocations of the row's run were refused, and in how many of these runs it could live without."""
+        name, words, given, status, out, err = row
+        found = self.run(words, given)
+        saved = self.image(words[1]) if words[0:1] == ["edit"] else None
+        if found[:3] != (status, out, err):
+            self.fail(name, 0, found)
+            return 0, 0
+        spared, refused = 0, 0
+        while True:
+            found = self.run(words, given, refused + 1)
+            if not self.is_well(row, found, saved):
+                self.fail(name, refused + 1, found)
+            if found[3] <= refused:
+                return refused, spared
+            refused += 1
+            spared += found[0] == status and found[2] == err
+
+
+def tests_of(tests):
+    ran = subprocess.run([tests, "--list"], stdout=subprocess.PIPE, text=True, check=True)
+    return [line.removesuffix(": test") for line in ran.stdout.split("\n") if line.endswith(": test")]
+
+
+def try_tests(tests, library):
+    """How many allocations of all runs were refused, and how many runs failed."""
+    names = tests_of(tests)
+    first = own_allocations(tests, library, next(name for name in names if name.endswith("nothing_is_called"))) + 1
+    refused, failed = 0, 0
+    for name in names:
+        short = name.rpartition(":")[2]
+        if short in ("nothing_is_called", "no_call_is_refused"):
+            continue
+        way = "REFUSE_PAIRS" if short.startswith("twice_") else "REFUSE_EACH"
+        env = {"LD_PRELOAD": library, way: str(first)}
+        ran = subprocess.run([tests, name], stdout=subprocess.PIPE, stderr=subprocess.STDOUT, text=True, env=env)
+        last = ran.stdout.rstrip().rpartition("\n")[2]
+        print(f"{short}: {last}" if ran.returncode == 0 else f"FAILED: {short}\n{ran.stdout}")
+        failed += ran.returncode != 0
+        refused += int(last.split()[0]) if last[:1].isdigit() else 0
+    return refused, failed
+
+
+def own_allocations(tests, library, name):
+    """How many allocations a test takes that calls nothing."""
+    with tempfile.NamedTemporaryFile("r") as counted:
+        env = {"LD_PRELOAD": library, "REFUSE_COUNTED": counted.name}
+        subprocess.run([tests, name], stdout=subprocess.DEVNULL, stderr=subprocess.DEVNULL, env=env, check=True)
+        return int(counted.read())
+
+
+def main():
+    program = os.path.abspath(sys.argv[1]) if len(sys.argv) > 1 else PROGRAM
+    tests = os.path.abspath(sys.argv[2]) if len(sys.argv) > 2 else TESTS
+    if not shutil.which("gcc"):
+        print("LEFT OUT: refused allocations: there is no gcc here")
+        return 0
+    with tempfile.TemporaryDirectory() as folder:
+        library = f"{folder}/refuse.so"
+        subprocess.run(["gcc", "-O2", "-shared", "-fPIC", "-o", library, f"{TOP}/tests/refuse.c"], check=True)
+        os.mkdir(f"{folder}/room")
+        refused, failed = try_tests(tests, library)
+        room = Room(program, library, f"{folder}/room")
+        for row in rows(room.made):
+            count, spared = room.try_row(row)
+            print(f"{row[0]}: {count} allocations refused, {spared} of them spared")
+            refused += count
+    failed += room.failed
+    print(f"{refused} refused, {failed} runs failed")
+    return 1 if failed else 0
+
+
+sys.exit(main())
