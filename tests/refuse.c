@@ -2,9 +2,9 @@
 
    With REFUSE_AT=N the allocation N is refused, and with REFUSE_ALSO=M the allocation M too. How many there were goes to the file
    REFUSE_COUNTED.
-   With REFUSE_EACH=FIRST the program is run again and again, each time in a process that is forked before its main, with the allocation
-   FIRST refused, then the next one and so on, until a run meets none; with REFUSE_PAIRS=FIRST, with each two of them refused. Each run has
-   to end with status 0; what one that does not has written is shown. The last line says how many runs there were. */
+   With REFUSE_EACH the program is run again and again, each time in a process that is forked before its main, with its first allocation
+   refused, then the next one and so on, until a run meets none; with REFUSE_PAIRS, with each two of them refused too. Each run has to end
+   with status 0; what one that does not has written is shown. The last line says how many allocations there were. */
 #define _GNU_SOURCE
 #include <fcntl.h>
 #include <stdio.h>
@@ -82,7 +82,7 @@ static int run(long first, long second) {
     return 0;
 }
 
-/* Behind each run with `first` refused, one for each allocation behind it: whether this is such a run. */
+/* Runs with `first` refused and each allocation behind it: whether this is such a run. */
 static int run_pairs(long first, long *runs, long *failed) {
     for (long second = first + 1;; second++) {
         int well = run(first, second);
@@ -93,8 +93,8 @@ static int run_pairs(long first, long *runs, long *failed) {
     }
 }
 
-static void run_each(long first, int pairs) {
-    long number = first, runs = 0, failed = 0;
+static void run_each(int pairs) {
+    long number = 1, runs = 0, failed = 0;
     void *shared = mmap(NULL, sizeof *seen, PROT_READ | PROT_WRITE, MAP_SHARED | MAP_ANONYMOUS, -1, 0);
     written = memfd_create("written", 0);
     if (shared == MAP_FAILED || written < 0) _exit(2);
@@ -107,17 +107,17 @@ static void run_each(long first, int pairs) {
         if (pairs && run_pairs(number, &runs, &failed)) return;
     }
     if (pairs)
-        dprintf(1, "%ld pairs of %ld allocations refused, %ld runs failed\n", runs, number - first, failed);
+        dprintf(1, "%ld allocations refused and %ld pairs of them, %ld runs failed\n", number - 1, runs, failed);
     else
-        dprintf(1, "%ld allocations refused, %ld runs failed\n", number - first, failed);
+        dprintf(1, "%ld allocations refused, %ld runs failed\n", number - 1, failed);
     _exit(failed ? 1 : 0);
 }
 
 __attribute__((constructor)) static void begin(void) {
     first_refused = number_of("REFUSE_AT");
     second_refused = number_of("REFUSE_ALSO");
-    if (getenv("REFUSE_EACH")) run_each(number_of("REFUSE_EACH"), 0);
-    if (getenv("REFUSE_PAIRS")) run_each(number_of("REFUSE_PAIRS"), 1);
+    if (getenv("REFUSE_EACH")) run_each(0);
+    if (getenv("REFUSE_PAIRS")) run_each(1);
 }
 
 __attribute__((destructor)) static void report(void) {

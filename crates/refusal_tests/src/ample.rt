@@ -6,13 +6,6 @@ use crate::{editors, files, pools, ropes, scripts, searches, sessions, tools, wo
 use std::alloc::AllocGlobal;
 use std::process::Abort;
 
-/// What the tests themselves take: the driver counts an allocation of a run from here on.
-#[test]
-fn nothing_is_called(rt: HostRuntime) {
-    let refusals = Refusals::at_most(0);
-    assert!(&rt; refusals.are_none());
-}
-
 /// Each run: no call is refused.
 fn all_runs<A: AllocGlobal + Abort>(rt: &A, refusals: &mut Refusals) {
     pools::worked_pool(rt, refusals);
