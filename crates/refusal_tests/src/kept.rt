@@ -92,10 +92,18 @@ fn put_pool<A: Abort>(rt: &A, digest: &mut Digest, store: &Store<Coded>, end: u6
     }
 }
 
+/// Puts in the lengths of a store's sources.
+fn put_sources<A: Abort>(rt: &A, digest: &mut Digest, store: &Store<Coded>) {
+    for s in 0..store.source_count() {
+        assert!(rt; s < store.source_count());
+        digest.put(store.source_len(s));
+    }
+}
+
 /// The first nodes and pool bytes of a store, and its sources.
 pub(crate) fn store_digest<A: Abort>(rt: &A, store: &Store<Coded>, reach: Reach) -> Digest {
     let mut digest = Digest::new();
-    digest.put(u64::from(store.source_count()));
+    put_sources(rt, &mut digest, store);
     assert!(rt; reach.nodes <= store.count() && reach.pool <= store.pool_len());
     for k in 0..reach.nodes {
         put_node(rt, &mut digest, store, NodeId(k));
