@@ -207,16 +207,6 @@ fn twice_worked_pool(rt: HostRuntime) {
 }
 
 #[test]
-fn twice_short_literals(rt: HostRuntime) {
-    ropes::short_literals(&rt, &mut Refusals::at_most(2));
-}
-
-#[test]
-fn twice_merged_last_literals(rt: HostRuntime) {
-    ropes::merged_last_literals(&rt, &mut Refusals::at_most(2));
-}
-
-#[test]
 fn twice_parts_of_five_bytes(rt: HostRuntime) {
     ropes::parts_of_five_bytes(&rt, &mut Refusals::at_most(2));
 }
@@ -224,11 +214,6 @@ fn twice_parts_of_five_bytes(rt: HostRuntime) {
 #[test]
 fn twice_last_literals_grow(rt: HostRuntime) {
     ropes::last_literals_grow(&rt, &mut Refusals::at_most(2));
-}
-
-#[test]
-fn twice_three_leaves(rt: HostRuntime) {
-    searches::three_leaves(&rt, &mut Refusals::at_most(2));
 }
 
 #[test]
@@ -252,43 +237,8 @@ fn twice_three_inserts(rt: HostRuntime) {
 }
 
 #[test]
-fn twice_paste_into_itself(rt: HostRuntime) {
-    sessions::paste_into_itself(&rt, &mut Refusals::at_most(2));
-}
-
-#[test]
-fn twice_fill_of_the_limit(rt: HostRuntime) {
-    sessions::fill_of_the_limit(&rt, &mut Refusals::at_most(2));
-}
-
-#[test]
-fn twice_three_changes(rt: HostRuntime) {
-    sessions::three_changes(&rt, &mut Refusals::at_most(2));
-}
-
-#[test]
-fn twice_added_source(rt: HostRuntime) {
-    sessions::added_source(&rt, &mut Refusals::at_most(2));
-}
-
-#[test]
-fn twice_image(rt: HostRuntime) {
-    scripts::image(&rt, &mut Refusals::at_most(2));
-}
-
-#[test]
 fn twice_run_again(rt: HostRuntime) {
     editors::run_again(&rt, &mut Refusals::at_most(2));
-}
-
-#[test]
-fn twice_lines_of_a_file(rt: HostRuntime) {
-    editors::lines_of_a_file(&rt, &mut Refusals::at_most(2));
-}
-
-#[test]
-fn twice_checked(rt: HostRuntime) {
-    tools::checked(&rt, &mut Refusals::at_most(2));
 }
 
 #[test]

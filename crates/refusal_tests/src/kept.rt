@@ -163,7 +163,7 @@ fn put_revision<A: Abort, T: Sources>(
         edit: session.edit(k).expect(rt, "a command"),
         mark: session.mark(k).expect(rt, "a mark"),
         root,
-        rows: rows.len() as u32,
+        rows: u32::try_from(rows.len()).expect(rt, "a number"),
     }));
     for row in rows {
         digest.put_record(&row_record(*row));
