@@ -6,8 +6,8 @@
 - in runs of the built cordkit, each a row of the table of tests/program.sh. A run gives what the row says, or ends with `memory` and the status 3
   behind a front of that; the editor may also refuse a key, which a frame tells, and then saves an image of the other keys.
 
-Usage: tests/refused.py [PROGRAM [TESTS]], the built program and the built tests. Where there is no gcc nothing is tried, which is told. The last
-line says how many allocations were refused; the status is not 0 where a run failed.
+Usage: tests/refused.py [PROGRAM [TESTS]], the built program and the built tests, which `rt test` builds where they are not there. Where there is no
+gcc nothing is tried, which is told. The last line says how many allocations were refused; the status is not 0 where a run failed.
 """
 
 import os
@@ -190,6 +190,8 @@ def main():
     if not shutil.which("gcc"):
         print("LEFT OUT: refused allocations: there is no gcc here")
         return 0
+    if tests == TESTS and not os.path.exists(tests):
+        subprocess.run(["rt", "test"], cwd=f"{TOP}/crates/refusal_tests", stdout=subprocess.DEVNULL, stderr=subprocess.DEVNULL)
     with tempfile.TemporaryDirectory() as folder:
         library = f"{folder}/refuse.so"
         subprocess.run(["gcc", "-O2", "-shared", "-fPIC", "-o", library, f"{TOP}/tests/refuse.c"], check=True)
