@@ -26,7 +26,7 @@ pub struct Typed<'a> {
     cursor: &'a [u8],
 }
 
-fn typed<'a>(key: u8, line: &'a [u8], status: &'a [u8], cursor: &'a [u8]) -> Typed<'a> {
+fn after_key<'a>(key: u8, line: &'a [u8], status: &'a [u8], cursor: &'a [u8]) -> Typed<'a> {
     Typed {
         key,
         line,
@@ -163,7 +163,7 @@ fn typed_into<A: AllocGlobal + Abort>(
     refusals: &mut Refusals,
 ) {
     let mut editor = editor(rt, refusals);
-    let mut before = typed(0, b"", b"rev 0 byte 0 of 0", b"\x1b[1;1H");
+    let mut before = after_key(0, b"", b"rev 0 byte 0 of 0", b"\x1b[1;1H");
     assert_shown(rt, &mut editor, &before, b"", refusals);
     for after in keys {
         pressed(rt, &mut editor, &before, after, refusals);
@@ -178,10 +178,10 @@ fn typed_into<A: AllocGlobal + Abort>(
 
 pub(crate) fn undo_then_type<A: AllocGlobal + Abort>(rt: &A, refusals: &mut Refusals) {
     let keys = [
-        typed(b'a', b"a", b"rev 1 byte 1 of 1", b"\x1b[1;2H"),
-        typed(b'b', b"ab", b"rev 2 byte 2 of 2", b"\x1b[1;3H"),
-        typed(0x15, b"a", b"rev 3 byte 1 of 1", b"\x1b[1;2H"),
-        typed(b'c', b"ac", b"rev 4 byte 2 of 2", b"\x1b[1;3H"),
+        after_key(b'a', b"a", b"rev 1 byte 1 of 1", b"\x1b[1;2H"),
+        after_key(b'b', b"ab", b"rev 2 byte 2 of 2", b"\x1b[1;3H"),
+        after_key(0x15, b"a", b"rev 3 byte 1 of 1", b"\x1b[1;2H"),
+        after_key(b'c', b"ac", b"rev 4 byte 2 of 2", b"\x1b[1;3H"),
     ];
     let texts = [b"".as_slice(), b"a", b"ab", b"a", b"ac"];
     typed_into(rt, &keys, &texts, refusals);
@@ -269,7 +269,7 @@ pub(crate) fn cut_and_pasted<A: AllocGlobal + Abort>(rt: &A, refusals: &mut Refu
 
 /// Fails the test where a screen has other frames than those before the first key and behind each, or does not end at one.
 fn are_frames(screen: &[u8], count: usize) -> bool {
-    let first = typed(0, b"", b"rev 0 byte 0 of 0", b"\x1b[1;1H");
+    let first = after_key(0, b"", b"rev 0 byte 0 of 0", b"\x1b[1;1H");
     let mut rest = Some(screen);
     for k in 0..count {
         let shown = if k == 0 {

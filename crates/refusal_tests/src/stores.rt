@@ -10,7 +10,7 @@ use rope_store::Store;
 use std::process::Abort;
 
 /// A call of a store.
-#[derive(Clone, Copy, Debug)]
+#[derive(Clone, Copy)]
 pub enum Call<'a> {
     AddSource(u64),
     Bytes(&'a [u8]),
@@ -36,7 +36,7 @@ pub struct Made {
 
 type Answer = Result<Made, BalanceFault>;
 
-fn made(answer: Result<Rope, NodeFault>) -> Answer {
+fn plain(answer: Result<Rope, NodeFault>) -> Answer {
     match answer {
         Ok(rope) => Ok(Made { rope, number: 0 }),
         Err(fault) => Err(BalanceFault::Node(fault)),
@@ -61,39 +61,39 @@ fn add_source(store: &mut Store<Coded>, len: u64) -> Answer {
 }
 
 fn from_bytes(store: &mut Store<Coded>, bytes: &[u8]) -> Answer {
-    made(store.from_bytes(bytes))
+    plain(store.from_bytes(bytes))
 }
 
 fn from_source(store: &mut Store<Coded>, s: u32, a: u64, n: u64) -> Answer {
-    made(store.from_source(s, a, n))
+    plain(store.from_source(s, a, n))
 }
 
 fn from_fn(store: &mut Store<Coded>, f: Coded, n: u64) -> Answer {
-    made(store.from_fn(f, n))
+    plain(store.from_fn(f, n))
 }
 
 fn chars(store: &mut Store<Coded>, c: u8, n: u64) -> Answer {
-    made(store.chars(c, n))
+    plain(store.chars(c, n))
 }
 
 fn cat<A: Abort>(rt: &A, store: &mut Store<Coded>, l: Rope, r: Rope) -> Answer {
     assert!(rt; store.has(l) && store.has(r));
-    made(store.cat(l, r))
+    plain(store.cat(l, r))
 }
 
 fn cat_plain<A: Abort>(rt: &A, store: &mut Store<Coded>, l: NodeId, r: NodeId) -> Answer {
     assert!(rt; store.has(Some(l)) && store.has(Some(r)));
-    made(store.cat_plain(l, r))
+    plain(store.cat_plain(l, r))
 }
 
 fn substr<A: Abort>(rt: &A, store: &mut Store<Coded>, x: Rope, i: u64, n: u64) -> Answer {
     assert!(rt; store.has(x));
-    made(store.substr(x, i, n))
+    plain(store.substr(x, i, n))
 }
 
 fn append<A: Abort>(rt: &A, store: &mut Store<Coded>, x: Rope, bytes: &[u8]) -> Answer {
     assert!(rt; store.has(x));
-    made(store.append(x, bytes))
+    plain(store.append(x, bytes))
 }
 
 fn balanced<A: Abort>(rt: &A, store: &mut Store<Coded>, x: Rope) -> Answer {
@@ -119,7 +119,7 @@ fn any_appended<A: Abort>(rt: &A, store: &mut Store<Coded>, x: Rope, bytes: &[u8
     }
 }
 
-fn answer<A: Abort>(rt: &A, store: &mut Store<Coded>, call: Call<'_>) -> Answer {
+fn ask<A: Abort>(rt: &A, store: &mut Store<Coded>, call: Call<'_>) -> Answer {
     match call {
         Call::AddSource(len) => add_source(store, len),
         Call::Bytes(bytes) => from_bytes(store, bytes),
@@ -170,14 +170,14 @@ pub(crate) fn answered<A: Abort>(
     let reach = Reach::of(store);
     let before = kept(rt, store, call, reach);
     for _ in 0..TRIES {
-        match answer(rt, store, call) {
+        match ask(rt, store, call) {
             Err(BalanceFault::Node(NodeFault::Memory)) => {
                 refusals.met(rt, &kept(rt, store, call, reach), &before);
             }
             answer => return answer,
         }
     }
-    panic!(rt; "refused each time: {call:?}")
+    panic!(rt; "refused each time")
 }
 
 /// The rope that a call makes.
