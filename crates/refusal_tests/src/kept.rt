@@ -11,7 +11,7 @@ use session_image::{Record, node_record, revision_record, row_record, splice_rec
 use std::process::Abort;
 
 /// How many bytes of a text are fetched from its start on. The last one is too.
-const FETCHED: u64 = 80;
+const FETCHED: u64 = 24;
 
 /// A number of the bytes that were put in, one behind the other.
 #[derive(Clone, Copy, Debug, PartialEq, Eq)]
