@@ -267,7 +267,7 @@ pub(crate) fn cut_and_pasted<A: AllocGlobal + Abort>(rt: &A, refusals: &mut Refu
     typed_into(rt, &CUT_AND_PASTED, &TEXTS, refusals);
 }
 
-/// Fails the test where a screen has other frames than those before the first key and behind each, or does not end at one.
+/// Whether a screen has so many frames, the first before all keys and one behind each, and no more.
 fn are_frames(screen: &[u8], count: usize) -> bool {
     let first = after_key(0, b"", b"rev 0 byte 0 of 0", b"\x1b[1;1H");
     let mut rest = Some(screen);
@@ -362,7 +362,7 @@ pub(crate) fn edited<A: AllocGlobal + Abort>(rt: &A, refusals: &mut Refusals) {
     panic!(rt; "refused each time")
 }
 
-/// Whether these bytes stand somewhere in a screen.
+/// Whether a frame of the screen has the message `Memory`.
 fn has_message(screen: &[u8]) -> bool {
     let mut told = false;
     for window in screen.windows(7) {

@@ -44,7 +44,7 @@ pub(crate) fn eight_leaves<A: AllocGlobal + Abort>(rt: &A, refusals: &mut Refusa
     }
 }
 
-/// The leaves and joints of 65 leaves, joined with one more.
+/// A chain of 65 leaves and one more: too deep for one node, so they are put together anew.
 pub(crate) fn deepest_joined<A: AllocGlobal + Abort>(rt: &A, refusals: &mut Refusals) {
     let mut store = one_byte(rt, refusals);
     let rope = chain(rt, &mut store, 65, refusals);

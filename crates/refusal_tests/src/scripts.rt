@@ -11,7 +11,7 @@ use script_tools::{ApplyFault, run_apply};
 use std::alloc::AllocGlobal;
 use std::process::Abort;
 
-/// Its lines, each of which makes the revision before which it stands here.
+/// The lines of a script, of which each makes a revision.
 const LINES: [&[u8]; 4] = [
     b"new",
     b"insert 0 0 \"abcdef\"",

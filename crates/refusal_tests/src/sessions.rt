@@ -109,7 +109,7 @@ fn size<A: Abort>(rt: &A, session: &Session, k: u32) -> (u64, u8) {
     size_of(rt, session.space(), root)
 }
 
-/// Fails the test where a session's image is not accepted, or has other numbers of revisions and rows.
+/// Fails the test where a session's image is not accepted with its numbers of revisions and rows, or has more than 100 rows.
 fn assert_accepted<A: AllocGlobal + Abort>(rt: &A, session: &Session) {
     let taker = image_of(rt, session);
     let mut none = MemSources::new(rt.alloc());
@@ -123,7 +123,7 @@ fn assert_accepted<A: AllocGlobal + Abort>(rt: &A, session: &Session) {
     assert!(rt; rows <= 100, "{rows} rows");
 }
 
-/// The insertion of `abc`. What it takes is what the second command takes: its image in version 2 is the one that version 1 becomes.
+/// The insertion of `abc`, and its image, which is also what its image of version 1 becomes.
 pub(crate) fn one_insert<A: AllocGlobal + Abort>(rt: &A, refusals: &mut Refusals) {
     let commands = [
         Command::New,
