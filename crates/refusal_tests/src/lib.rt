@@ -2,8 +2,6 @@
 #![tactic(auto)]
 
 #[cfg(test)]
-mod ample;
-#[cfg(test)]
 mod editors;
 #[cfg(test)]
 mod fakes;
@@ -17,6 +15,8 @@ mod pools;
 mod refusals;
 #[cfg(test)]
 mod ropes;
+#[cfg(test)]
+mod runs;
 #[cfg(test)]
 mod scripts;
 #[cfg(test)]
