@@ -1,7 +1,7 @@
 //! Words that are read.
 
 use crate::refusals::{Refusals, TRIES, assert_same};
-use cord_words::{Action, WordsFault, words};
+use cord_words::{Action, Request, WordsFault, words};
 use std::alloc::{AllocError, AllocGlobal};
 use std::process::Abort;
 
@@ -26,9 +26,9 @@ fn line<A: AllocGlobal + Abort>(rt: &A, text: &str, refusals: &mut Refusals) -> 
     panic!(rt; "refused each time")
 }
 
-/// Whether an action asks for this; the number tells which it is.
-fn is_asked(action: &Action<'_>, number: usize) -> bool {
-    match (action, number) {
+/// Whether a request asks for this; the number tells which it is.
+fn is_asked(request: &Request<'_>, number: usize) -> bool {
+    match (&request.action, number) {
         (Action::CheckInput, 0) => true,
         (
             Action::Show {
@@ -69,8 +69,8 @@ fn read<A: AllocGlobal + Abort>(rt: &A, text: &str, number: usize, refusals: &mu
     let line = line(rt, text, refusals);
     for _ in 0..TRIES {
         match words(rt.alloc(), line.as_slice()) {
-            Ok(action) => {
-                assert!(rt; is_asked(&action, number), "{text}");
+            Ok(request) => {
+                assert!(rt; is_asked(&request, number), "{text}");
                 return;
             }
             Err(fault) => {

@@ -153,7 +153,8 @@ fn words_that_are_no_text_are_refused_with_the_usage(rt: HostRuntime) -> Result<
         return Err(Fail::from(AllocError));
     };
     let told = format!(in rt.alloc(); "{error}")?;
-    let wanted = "error: a word is no UTF-8\n\nUsage: cordkit [OPTIONS] [COMMAND]\n\nFor more information, try '--help'.\n";
+    let wanted =
+        "error: a word is no UTF-8\n\nUsage: cordkit [OPTIONS] [COMMAND]\n\nFor more information, try '--help'.\n";
     assert_eq!(rt; told.as_str(), wanted);
     Ok(())
 }
