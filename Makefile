@@ -38,7 +38,12 @@ library:
 	cd crates/cord_c && rt lib && sh shared.sh
 
 check:
-	rt ci && $(MAKE) library && sh tests/program.sh && sh tests/program.sh bin/cordkit launcher && sh tests/slice.sh && sh tests/devices.sh && $(MAKE) installed
+	rt ci
+	sh tests/program.sh
+	sh tests/program.sh bin/cordkit launcher
+	sh tests/slice.sh
+	sh tests/devices.sh
+	$(MAKE) installed
 
 long:
 	sh tests/long.sh
