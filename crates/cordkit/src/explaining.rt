@@ -138,23 +138,33 @@ fn other_len(rt: &HostRuntime, image: &str, sources: &[&str], source: &str) -> O
     Sentence::new(rt.alloc(), text, path, &numbers)
 }
 
-/// Which revision the line of a script goes past.
-fn out_of_range(rt: &HostRuntime, script: &str, number: &str) -> Option<Sentence> {
-    let alloc = rt.alloc();
-    let line = line(rt, script, number.parse::<usize>().ok()?)?;
+/// What a line of a script goes past, and which revisions it names: `insert 4 9 "x"` is behind the end of 4.
+fn past_end(line: &str) -> Option<(&'static str, &str, &str)> {
     let mut words = line.split_whitespace();
-    let text = match words.next()? {
+    let name = words.next()?;
+    let revision = words.next()?;
+    let other = words.nth(1).unwrap_or("");
+    let text = match name {
         "insert" | "fill" => "% names a place behind the end of revision #",
         "delete" | "replace" | "cut" => "% names bytes behind the end of revision #",
         "paste" => "% names a place or bytes behind the end of revision # or #",
         "many" => "% has changes that are out of order, or behind the end of revision #",
-        _ => return None,
+        _ => meaning("E3"),
     };
-    let revision = words.next()?;
-    let other = words.nth(1).unwrap_or("");
-    let about = format!(in alloc; "line {number} of {script}").ok()?;
-    let numbers = format!(in alloc; "{revision},{other}").ok()?;
-    Sentence::new(alloc, text, &about, &numbers)
+    Some((text, revision, other))
+}
+
+/// What the line of a script goes past.
+fn out_of_range(rt: &HostRuntime, script: &str, number: &str) -> Option<Sentence> {
+    let line = line(rt, script, number)?;
+    let (text, revision, other) = past_end(&line)?;
+    let numbers = format!(in rt.alloc(); "{revision},{other}").ok()?;
+    let about = format!(in rt.alloc(); "line {number} of {script}").ok()?;
+    Some(Sentence {
+        text,
+        about,
+        numbers,
+    })
 }
 
 /// The first of the files that cannot be read.

@@ -90,10 +90,15 @@ pub fn source_len(rt: &HostRuntime, image: &str, source: u8) -> Option<u64> {
     ]))
 }
 
+/// A line of a text, the first being line 1.
+fn line_at<'a>(text: &'a str, number: &str) -> Option<&'a str> {
+    let number = number.parse::<usize>().ok()?;
+    text.lines().nth(number.checked_sub(1)?)
+}
+
 /// A line of a script, the first being line 1.
-pub fn line(rt: &HostRuntime, script: &str, number: usize) -> Option<String> {
-    let bytes = front(rt, script, u64::MAX)?;
-    let text = String::from_utf8(bytes).ok()?;
-    let line = text.lines().nth(number.checked_sub(1)?)?;
+pub fn line(rt: &HostRuntime, script: &str, number: &str) -> Option<String> {
+    let text = String::from_utf8(front(rt, script, u64::MAX)?).ok()?;
+    let line = line_at(&text, number)?;
     String::from_str(rt.alloc(), line).ok()
 }
