@@ -1,4 +1,4 @@
-use Rattle.cordkit.proofs.run_words.Given as goal
+use Rattle.cordkit.proofs.run_request.Given as goal
 
 abbrev pub ghosts-run : goal.ghosts-run
 ghosts-run a = record { name = a.blank.name; parts = a.blank.parts }
