@@ -2,11 +2,12 @@
 
 use clap::error::ErrorKind;
 use cord_words::{WordsFault, no_text, words};
-use std::alloc::AllocError;
+use std::alloc::{AllocError, AllocGlobal};
+use std::process::Abort;
 use std::test::Fail;
 
 /// The words of a line, which stand one space apart.
-fn line(rt: &HostRuntime, text: &str) -> Result<Vec<String>, AllocError> {
+fn line<A: AllocGlobal>(rt: &A, text: &str) -> Result<Vec<String>, AllocError> {
     let alloc = rt.alloc();
     let mut words = Vec::new(alloc);
     for word in text.split(' ') {
@@ -17,7 +18,7 @@ fn line(rt: &HostRuntime, text: &str) -> Result<Vec<String>, AllocError> {
 
 /// What is read of a line, as it is written in Rust, behind a word where it is to be explained; the kind of the refusal alone; the
 /// version.
-fn told(rt: &HostRuntime, text: &str) -> Result<String, AllocError> {
+fn told<A: AllocGlobal>(rt: &A, text: &str) -> Result<String, AllocError> {
     let alloc = rt.alloc();
     let line = line(rt, text)?;
     match words(alloc, line.as_slice()) {
@@ -35,116 +36,151 @@ fn told(rt: &HostRuntime, text: &str) -> Result<String, AllocError> {
     }
 }
 
-#[test]
-fn words_are_read_or_refused(rt: HostRuntime) -> Result<(), Fail> {
-    for (text, wanted) in [
-        ("cordkit", "CheckInput"),
-        (
-            "cordkit check a.cord",
-            r#"Check { at_most: None, image: "a.cord", sources: [] }"#,
-        ),
-        (
-            "cordkit check a -- b -c",
-            r#"Check { at_most: None, image: "a", sources: ["b", "-c"] }"#,
-        ),
-        (
-            "cordkit show a 18446744073709551615 c b",
-            r#"Show { at_most: None, image: "a", revision: 18446744073709551615, sources: ["c", "b"] }"#,
-        ),
-        (
-            "cordkit show a 2 --at-most 137",
-            r#"Show { at_most: Some(137), image: "a", revision: 2, sources: [] }"#,
-        ),
-        (
-            "cordkit apply s.txt b a",
-            r#"Apply { script: "s.txt", sources: ["b", "a"] }"#,
-        ),
-        (
-            "cordkit migrate --at-most 0 a b",
-            r#"Migrate { at_most: Some(0), image: "a", sources: ["b"] }"#,
-        ),
-        (
-            "cordkit cut 3 10 a.txt",
-            r#"Cut { start: 3, count: 10, file: "a.txt" }"#,
-        ),
-        (
-            "cordkit log a b",
-            r#"Log { at_most: None, brief: false, image: "a", sources: ["b"] }"#,
-        ),
-        (
-            "cordkit log a --brief --at-most=7",
-            r#"Log { at_most: Some(7), brief: true, image: "a", sources: [] }"#,
-        ),
-        ("cordkit join c b c", r#"Join { files: ["c", "b", "c"] }"#),
-        (
-            "cordkit find 7 needle a.txt",
-            r#"Find { all: false, start: 7, pattern: "needle", file: "a.txt" }"#,
-        ),
-        (
-            "cordkit find --all 7 needle a.txt",
-            r#"Find { all: true, start: 7, pattern: "needle", file: "a.txt" }"#,
-        ),
-        (
-            "cordkit find 7 -- --all a.txt",
-            r#"Find { all: false, start: 7, pattern: "--all", file: "a.txt" }"#,
-        ),
-        ("cordkit cmp b a", r#"Cmp { first: "b", second: "a" }"#),
-        (
-            "cordkit edit a.cord",
-            r#"Edit { keys: None, image: "a.cord", file: None }"#,
-        ),
-        (
-            "cordkit edit a.cord b.txt",
-            r#"Edit { keys: None, image: "a.cord", file: Some("b.txt") }"#,
-        ),
-        (
-            "cordkit edit --keep k a.cord b.txt",
-            r#"Edit { keys: Some("k"), image: "a.cord", file: Some("b.txt") }"#,
-        ),
-        (
-            "cordkit edit --keep=k -- -a.cord",
-            r#"Edit { keys: Some("k"), image: "-a.cord", file: None }"#,
-        ),
-        ("cordkit edit --keep", "InvalidValue"),
-        ("cordkit frob", "InvalidSubcommand"),
-        ("cordkit show a -1", "UnknownArgument"),
-        ("cordkit show a", "MissingRequiredArgument"),
-        ("cordkit show a x", "ValueValidation"),
-        ("cordkit check --at-most x a", "ValueValidation"),
-        ("cordkit log --at-most x a", "ValueValidation"),
-        ("cordkit find --all x b a", "ValueValidation"),
-        ("cordkit find --all --all 1 b a", "ArgumentConflict"),
-        ("cordkit log --brief=yes a", "TooManyValues"),
-        ("cordkit check --brief a", "UnknownArgument"),
-        ("cordkit help show", "DisplayHelp"),
-        ("cordkit --explain", "explained CheckInput"),
-        (
-            "cordkit cmp b --explain a",
-            r#"explained Cmp { first: "b", second: "a" }"#,
-        ),
-        (
-            "cordkit --explain cmp b a",
-            r#"explained Cmp { first: "b", second: "a" }"#,
-        ),
-        (
-            "cordkit cmp b -- --explain",
-            r#"Cmp { first: "b", second: "--explain" }"#,
-        ),
-        ("cordkit check --explain", "MissingRequiredArgument"),
-        ("cordkit cmp --version", "UnknownArgument"),
-        (
-            "cordkit --version",
-            "cordkit 1.0.0 (rattle-kit-13f logic dac8208d650f15bf)\n",
-        ),
-        (
-            "cordkit -V",
-            "cordkit 1.0.0 (rattle-kit-13f logic dac8208d650f15bf)\n",
-        ),
-    ] {
-        let read = told(&rt, text)?;
-        assert_eq!(rt; read.as_str(), wanted, "{text}");
+/// Each line is told so.
+fn assert_told<A: AllocGlobal + Abort>(rt: &A, rows: &[(&str, &str)]) -> Result<(), Fail> {
+    for (text, wanted) in rows {
+        let read = told(rt, text)?;
+        assert_eq!(rt; read.as_str(), *wanted, "{text}");
     }
     Ok(())
+}
+
+#[test]
+fn words_over_images_and_scripts_are_read(rt: HostRuntime) -> Result<(), Fail> {
+    assert_told(
+        &rt,
+        &[
+            ("cordkit", "CheckInput"),
+            (
+                "cordkit check a.cord",
+                r#"Check { at_most: None, image: "a.cord", sources: [] }"#,
+            ),
+            (
+                "cordkit check a -- b -c",
+                r#"Check { at_most: None, image: "a", sources: ["b", "-c"] }"#,
+            ),
+            (
+                "cordkit show a 18446744073709551615 c b",
+                r#"Show { at_most: None, image: "a", revision: 18446744073709551615, sources: ["c", "b"] }"#,
+            ),
+            (
+                "cordkit show a 2 --at-most 137",
+                r#"Show { at_most: Some(137), image: "a", revision: 2, sources: [] }"#,
+            ),
+            (
+                "cordkit apply s.txt b a",
+                r#"Apply { script: "s.txt", sources: ["b", "a"] }"#,
+            ),
+            (
+                "cordkit migrate --at-most 0 a b",
+                r#"Migrate { at_most: Some(0), image: "a", sources: ["b"] }"#,
+            ),
+            (
+                "cordkit log a b",
+                r#"Log { at_most: None, brief: false, image: "a", sources: ["b"] }"#,
+            ),
+            (
+                "cordkit log a --brief --at-most=7",
+                r#"Log { at_most: Some(7), brief: true, image: "a", sources: [] }"#,
+            ),
+        ],
+    )
+}
+
+#[test]
+fn words_over_files_are_read(rt: HostRuntime) -> Result<(), Fail> {
+    assert_told(
+        &rt,
+        &[
+            (
+                "cordkit cut 3 10 a.txt",
+                r#"Cut { start: 3, count: 10, file: "a.txt" }"#,
+            ),
+            ("cordkit join c b c", r#"Join { files: ["c", "b", "c"] }"#),
+            (
+                "cordkit find 7 needle a.txt",
+                r#"Find { all: false, start: 7, pattern: "needle", file: "a.txt" }"#,
+            ),
+            (
+                "cordkit find --all 7 needle a.txt",
+                r#"Find { all: true, start: 7, pattern: "needle", file: "a.txt" }"#,
+            ),
+            (
+                "cordkit find 7 -- --all a.txt",
+                r#"Find { all: false, start: 7, pattern: "--all", file: "a.txt" }"#,
+            ),
+            ("cordkit cmp b a", r#"Cmp { first: "b", second: "a" }"#),
+            (
+                "cordkit edit a.cord",
+                r#"Edit { keys: None, image: "a.cord", file: None }"#,
+            ),
+            (
+                "cordkit edit a.cord b.txt",
+                r#"Edit { keys: None, image: "a.cord", file: Some("b.txt") }"#,
+            ),
+            (
+                "cordkit edit --keep k a.cord b.txt",
+                r#"Edit { keys: Some("k"), image: "a.cord", file: Some("b.txt") }"#,
+            ),
+            (
+                "cordkit edit --keep=k -- -a.cord",
+                r#"Edit { keys: Some("k"), image: "-a.cord", file: None }"#,
+            ),
+        ],
+    )
+}
+
+#[test]
+fn words_are_refused_by_their_kinds(rt: HostRuntime) -> Result<(), Fail> {
+    assert_told(
+        &rt,
+        &[
+            ("cordkit edit --keep", "InvalidValue"),
+            ("cordkit frob", "InvalidSubcommand"),
+            ("cordkit show a -1", "UnknownArgument"),
+            ("cordkit show a", "MissingRequiredArgument"),
+            ("cordkit show a x", "ValueValidation"),
+            ("cordkit check --at-most x a", "ValueValidation"),
+            ("cordkit log --at-most x a", "ValueValidation"),
+            ("cordkit find --all x b a", "ValueValidation"),
+            ("cordkit find --all --all 1 b a", "ArgumentConflict"),
+            ("cordkit log --brief=yes a", "TooManyValues"),
+            ("cordkit check --brief a", "UnknownArgument"),
+            ("cordkit help show", "DisplayHelp"),
+        ],
+    )
+}
+
+#[test]
+fn explanations_and_the_version_are_asked_for(rt: HostRuntime) -> Result<(), Fail> {
+    assert_told(
+        &rt,
+        &[
+            ("cordkit --explain", "explained CheckInput"),
+            (
+                "cordkit cmp b --explain a",
+                r#"explained Cmp { first: "b", second: "a" }"#,
+            ),
+            (
+                "cordkit --explain cmp b a",
+                r#"explained Cmp { first: "b", second: "a" }"#,
+            ),
+            (
+                "cordkit cmp b -- --explain",
+                r#"Cmp { first: "b", second: "--explain" }"#,
+            ),
+            ("cordkit check --explain", "MissingRequiredArgument"),
+            ("cordkit cmp --version", "UnknownArgument"),
+            (
+                "cordkit --version",
+                "cordkit 1.0.0 (rattle-kit-13f logic dac8208d650f15bf)\n",
+            ),
+            (
+                "cordkit -V",
+                "cordkit 1.0.0 (rattle-kit-13f logic dac8208d650f15bf)\n",
+            ),
+        ],
+    )
 }
 
 #[test]
