@@ -170,7 +170,7 @@ writer=$!
 : > keys_in_use
 holder=$writer
 if command -v flock > /dev/null; then
-    flock keys_in_use sleep 600 &
+    (flock 9 && exec sleep 600) 9> keys_in_use > /dev/null 2>&1 &
     holder=$!
 fi
 trap 'kill "$writer" "$holder" 2> /dev/null; rm -rf "$room"' EXIT
