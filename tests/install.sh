@@ -209,9 +209,9 @@ commands() {
     "$prefix/bin/cordkit" --help 2>&1 | awk '/^Commands:/ { on = 1; next } /^$/ { on = 0 } on { print $1 }' | sort
 }
 
-# The options that the help of a command names.
+# The options that the help of a command names, or the program's own help.
 options() {
-    "$prefix/bin/cordkit" help "$1" 2>&1 | sed '1,/^Options:/d' | grep -o '^  *\(-., \)\{0,1\}--[a-z-]*' | grep -o -e '--.*' | sort
+    "$prefix/bin/cordkit" help "$@" 2>&1 | sed '1,/^Options:/d' | grep -o '^  *\(-., \)\{0,1\}--[a-z-]*' | grep -o -e '--.*' | sort
 }
 
 # ---- The manual pages
@@ -261,7 +261,7 @@ try_pages() {
         "$(sed -n 's/^\.It Cm \([a-z]*\).*/\1/p' "$prefix/share/man/man1/cordkit.1" | sort)" "$(commands)"
     is_same 'the options of the manual page' \
         "$(sed -n 's/^\.It Fl \(. , \)\{0,1\}-\([a-z-][a-z-]*\).*/--\2/p' "$prefix/share/man/man1/cordkit.1" | sort)" \
-        "$(for command in $(commands); do options "$command"; done | sort -u)"
+        "$({ options && for command in $(commands); do options "$command"; done; } | sort -u)"
     if has mandoc 'the faults of the manual pages'; then
         is_same 'the manual pages have no fault' \
             "$(mandoc -T lint -W style "$prefix"/share/man/man*/* 2> /dev/null | grep -v ': referenced manual not found: ')" ''
