@@ -53,16 +53,16 @@ fn leaves<'a, A: Abort>(
     for text in texts {
         let len = text.len() as u64;
         let s = added(rt, sources, *text, refusals);
-        let stated = answered(rt, store, Call::AddSource(len), refusals);
+        let stated = answered(rt, store, &Call::AddSource(len), refusals);
         assert_same(
             rt,
             &stated.expect(rt, "a source").number,
             &u64::from(s),
             text,
         );
-        let call = Call::Source(u32::from(s), 0, len);
+        let call = &Call::Source(u32::from(s), 0, len);
         let leaf = rope_of(rt, store, call, refusals);
-        rope = rope_of(rt, store, Call::Cat(rope, leaf), refusals);
+        rope = rope_of(rt, store, &Call::Cat(rope, leaf), refusals);
     }
     rope
 }

@@ -119,26 +119,26 @@ fn any_appended<A: Abort>(rt: &A, store: &mut Store<Coded>, x: Rope, bytes: &[u8
     }
 }
 
-fn ask<A: Abort>(rt: &A, store: &mut Store<Coded>, call: Call<'_>) -> Answer {
+fn ask<A: Abort>(rt: &A, store: &mut Store<Coded>, call: &Call<'_>) -> Answer {
     match call {
-        Call::AddSource(len) => add_source(store, len),
+        Call::AddSource(len) => add_source(store, *len),
         Call::Bytes(bytes) => from_bytes(store, bytes),
-        Call::Source(s, a, n) => from_source(store, s, a, n),
-        Call::Function(f, n) => from_fn(store, f, n),
-        Call::Chars(c, n) => chars(store, c, n),
-        Call::Cat(l, r) => cat(rt, store, l, r),
-        Call::CatPlain(l, r) => cat_plain(rt, store, l, r),
-        Call::Substr(x, i, n) => substr(rt, store, x, i, n),
-        Call::Append(x, bytes) => append(rt, store, x, bytes),
-        Call::Balance(x) => balanced(rt, store, x),
-        Call::CatAny(l, r) => any_joined(rt, store, l, r),
-        Call::SubstrAny(x, i, n) => any_part(rt, store, x, i, n),
-        Call::AppendAny(x, bytes) => any_appended(rt, store, x, bytes),
+        Call::Source(s, a, n) => from_source(store, *s, *a, *n),
+        Call::Function(f, n) => from_fn(store, *f, *n),
+        Call::Chars(c, n) => chars(store, *c, *n),
+        Call::Cat(l, r) => cat(rt, store, *l, *r),
+        Call::CatPlain(l, r) => cat_plain(rt, store, *l, *r),
+        Call::Substr(x, i, n) => substr(rt, store, *x, *i, *n),
+        Call::Append(x, bytes) => append(rt, store, *x, bytes),
+        Call::Balance(x) => balanced(rt, store, *x),
+        Call::CatAny(l, r) => any_joined(rt, store, *l, *r),
+        Call::SubstrAny(x, i, n) => any_part(rt, store, *x, *i, *n),
+        Call::AppendAny(x, bytes) => any_appended(rt, store, *x, bytes),
     }
 }
 
 /// Whether a refused call may leave nodes and pool bytes to which nothing refers.
-fn may_leave_more(call: Call<'_>) -> bool {
+fn may_leave_more(call: &Call<'_>) -> bool {
     matches!(
         call,
         Call::Balance(_) | Call::CatAny(..) | Call::SubstrAny(..) | Call::AppendAny(..)
@@ -149,7 +149,7 @@ fn may_leave_more(call: Call<'_>) -> bool {
 fn kept<A: Abort>(
     rt: &A,
     store: &Store<Coded>,
-    call: Call<'_>,
+    call: &Call<'_>,
     reach: Reach,
 ) -> (Digest, Option<Reach>) {
     let now = if may_leave_more(call) {
@@ -164,7 +164,7 @@ fn kept<A: Abort>(
 pub(crate) fn answered<A: Abort>(
     rt: &A,
     store: &mut Store<Coded>,
-    call: Call<'_>,
+    call: &Call<'_>,
     refusals: &mut Refusals,
 ) -> Answer {
     let reach = Reach::of(store);
@@ -184,7 +184,7 @@ pub(crate) fn answered<A: Abort>(
 pub(crate) fn rope_of<A: Abort>(
     rt: &A,
     store: &mut Store<Coded>,
-    call: Call<'_>,
+    call: &Call<'_>,
     refusals: &mut Refusals,
 ) -> Rope {
     answered(rt, store, call, refusals)
