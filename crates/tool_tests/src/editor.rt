@@ -326,9 +326,9 @@ struct Edited<'a> {
 
 impl<'a> Edited<'a> {
     /// One that has room for all.
-    fn by(keys: &'a [u8]) -> Edited<'a> {
+    fn by(keys: Giver<'a>) -> Edited<'a> {
         Edited {
-            keys: Giver::of(keys),
+            keys,
             screen: Taker::with_room(512, Full::Fails),
             image: Taker::with_room(512, Full::Fails),
         }
@@ -363,12 +363,12 @@ fn an_image_is_written_behind_all_frames_alone(rt: HostRuntime) {
     let write = Err(ToolFault::Write);
     for full in [Full::Fails, Full::TakesNothing] {
         for room in 0..whole.len() {
-            let mut edited = Edited::by(ONE_LETTER);
+            let mut edited = Edited::by(Giver::of(ONE_LETTER));
             edited.screen = Taker::with_room(room, full);
             edited.assert_ends(&rt, write, whole.get(..room), none);
         }
         for room in 0..ONE_LETTER_IMAGE.len() {
-            let mut edited = Edited::by(ONE_LETTER);
+            let mut edited = Edited::by(Giver::of(ONE_LETTER));
             edited.image = Taker::with_room(room, full);
             let image = ONE_LETTER_IMAGE.get(..room);
             edited.assert_ends(&rt, write, Some(whole.as_slice()), image);
@@ -376,7 +376,7 @@ fn an_image_is_written_behind_all_frames_alone(rt: HostRuntime) {
     }
     let saved = Ok(Status::Success);
     let image = Some(ONE_LETTER_IMAGE);
-    Edited::by(ONE_LETTER).assert_ends(&rt, saved, Some(whole.as_slice()), image);
+    Edited::by(Giver::of(ONE_LETTER)).assert_ends(&rt, saved, Some(whole.as_slice()), image);
 }
 
 #[test]
@@ -388,10 +388,9 @@ fn keys_that_fail_or_end_leave_no_image(rt: HostRuntime) {
             &rt,
             FIVE_FRAMES.get(..n.saturating_add(1)).unwrap_or_default(),
         );
-        let mut failing = Edited::by(keys);
-        failing.keys.cut = Some(n);
+        let mut failing = Edited::by(Giver::cut_at(keys, n));
         failing.assert_ends(&rt, Err(ToolFault::Read), Some(shown.as_slice()), none);
-        let mut ending = Edited::by(keys.get(..n).unwrap_or_default());
+        let mut ending = Edited::by(Giver::of(keys.get(..n).unwrap_or_default()));
         ending.assert_ends(&rt, Ok(Status::Success), Some(shown.as_slice()), none);
     }
 }

@@ -21,6 +21,15 @@ impl<'a> Giver<'a> {
             kind: ErrorKind::BrokenPipe,
         }
     }
+
+    /// One that fails behind so many bytes.
+    pub(crate) fn cut_at(bytes: &'a [u8], cut: usize) -> Giver<'a> {
+        Giver {
+            bytes,
+            cut: Some(cut),
+            kind: ErrorKind::BrokenPipe,
+        }
+    }
 }
 
 impl<'a> Read for Giver<'a> {

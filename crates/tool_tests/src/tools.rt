@@ -249,18 +249,10 @@ fn assert_unread<R: AllocGlobal + Abort>(rt: &R, tool: Tool<'_>, texts: &[&[u8]]
     assert_same(rt, &writer.taken().len(), &0, &(tool, cut));
 }
 
-/// An image of which no more than so many bytes are read.
-fn failing(bytes: &[u8], cut: usize) -> Giver<'_> {
-    Giver {
-        cut: Some(cut),
-        ..Giver::of(bytes)
-    }
-}
-
 #[test]
 fn nothing_is_written_where_an_input_fails(rt: HostRuntime) {
     for cut in 0..ONE_INSERT.len() {
-        let image = failing(ONE_INSERT, cut);
+        let image = Giver::cut_at(ONE_INSERT, cut);
         assert_unread(&rt, Tool::Stdin(image), &[], cut);
         assert_unread(&rt, Tool::Check(image), &[], cut);
         assert_unread(&rt, Tool::Show(image, 1), &[], cut);
@@ -269,7 +261,7 @@ fn nothing_is_written_where_an_input_fails(rt: HostRuntime) {
         assert_same(&rt, &fault, &Some(ToolFault::Read), &cut);
     }
     for cut in 0..OPEN_SOURCE.len() {
-        let image = failing(OPEN_SOURCE, cut);
+        let image = Giver::cut_at(OPEN_SOURCE, cut);
         assert_unread(&rt, Tool::Check(image), &[b"abc"], cut);
         assert_unread(&rt, Tool::Show(image, 0), &[b"abc"], cut);
     }
