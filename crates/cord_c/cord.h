@@ -148,9 +148,9 @@ struct cord_run {
 /* Where the byte at a place of the text of a revision stands, and how many bytes of the text follow it there. It needs no source.
  *   true:  *run is where: len bytes of the text, from that place on, up to the end of its leaf's span.
  *   false: place is the text's length or more, or there is no such revision; *run stays.
- * Proved: all of this; the run has these very bytes, and what is told of a source is of that place of it. Tested: that bytes of the pool are
- * told by the place of their leaf, where the pool has the same bytes twice or a function gives them too; that the start of a fill and
- * of a ramp is 0, and that of a cycle inside its pattern. */
+ * Proved: all of this; the run has these very bytes, and is told by the leaf that holds them: bytes of the pool and of a source by their
+ * place there, also where the pool has the same bytes twice or a function gives them too; what a function gives by that function, a fill
+ * and a ramp from 0 on, the ramp's pattern being the run's first byte, and a cycle from a place inside its pattern on. */
 bool cord_locate(const struct cord_image *image, uint32_t revision, uint64_t place, struct cord_run *run);
 
 /* Writes bytes of that text from a place on into out, as read(2) does: as many as cord_locate tells there, or len where that is less; none

@@ -5,7 +5,7 @@ use Rattle.lazy_file.specs.SourceTexts.{Stated}
 use Rattle.lazy_file.specs.declared.faults.SourceFault.{SourceFault}
 use Rattle.rope_node.specs.declared.node.LeafSpan.{LeafSpan}
 use Rattle.rope_node.specs.declared.node.NodeId.{NodeId}
-use Rattle.rope_node.specs.Table.{Table, len_at, IsSound, HasTrueRecords}
+use Rattle.rope_node.specs.Table.{Table, len_at, view_at, IsSound, HasTrueRecords}
 use Rattle.rope_node.specs.Path.{span_at}
 use Rattle.rope_node.proofs.LeafSpans.{begins}
 use Rattle.cord_position.specs.Fetched.{EachCell, IsReadable, ReadsSpan}
@@ -15,13 +15,13 @@ use Rattle.cord_position.proofs.Spans.{span_read}
 use Rattle.span_certificate.specs.declared.describe.Description.{Description}
 use Rattle.span_certificate.specs.declared.describe.Description.TheVariants.{Pooled, Sourced, Computed}
 use Rattle.function_leaf.specs.declared.coded.Coded.TheVariants.{Fill, Ramp, Cycle}
-use Rattle.span_certificate.specs.Leads.{Describes}
-use Rattle.image_reader.specs.Value.{ImageValue, image_table}
+use Rattle.span_certificate.specs.Leads.{leaf_description, Describes}
+use Rattle.image_reader.specs.Value.{ImageValue, coded_at, image_table}
 use Rattle.session_checker.specs.Faithful.{fetched_cell}
 use Rattle.cord_c.specs.declared.run.CordRun.{CordRun}
 use Rattle.cord_c.specs.declared.text.TheConstants.{NOT_HELD}
 use Rattle.cord_c.specs.HeldTexts.{reading_of}
-use Rattle.cord_c.specs.Runs.{IsLocated, ReadsRun, left_of, text_root, run_told}
+use Rattle.cord_c.specs.Runs.{IsLocated, ReadsRun, left_of, span_description, text_root, run_told}
 
 -- the leaf span at a place of a rope is its run
 pub span_run : (t : Table) → IsSound t → HasTrueRecords t → (rope : Option NodeId) (node : NodeId) (i : ℕ) (x : LeafSpan) → rope ≡ Some node → node.0 < length t.nodes → i < len_at t node.0 → x ≡ span_at t node.0 i → IsRun t rope i x
@@ -46,14 +46,16 @@ told_len (Computed (Cycle pattern) i) n = refl
 
 -- where a run stands that was found and described
 pub located : (v w : ImageValue) (k place : ℕ) (x : LeafSpan) (what : Description) (run : CordRun) → w ≡ v → Some x ≡ rope_span (image_table w) (text_root w k) place
-    → IsRun (image_table w) (text_root w k) place x → Describes (image_table w) x.leaf.0 x.start what → run ≡ run_told what x.len → IsLocated v k place run
-located v w k place x what run of is found describes told =
+    → IsRun (image_table w) (text_root w k) place x → leaf_description (coded_at w x.leaf.0) x.start (view_at (image_table w) x.leaf.0) ≡ Some what
+    → Describes (image_table w) x.leaf.0 x.start what → run ≡ run_told what x.len → IsLocated v k place run
+located v w k place x what run of is found value describes told =
     let len : run.len ≡ x.len = ap (λ (r : CordRun). r.len) told ∙ told_len what x.len in
     subst (λ (y : ImageValue). IsLocated y k place run) of (record {
       longest = len ∙ ap span_len is;
       some = omega (arith, len, found.some);
       inside = omega (arith, len, found.in_rope);
       what = what;
+      stands = ap (span_description w) (sym is) ∙ value;
       cells = λ m le.
           let few : m ≤ x.len = omega (arith, le, len) in
           run_part (image_table w) (text_root w k) place m x found few ∙ describes.cells m (omega (arith, few, found.in_leaf));

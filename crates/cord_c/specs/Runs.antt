@@ -1,18 +1,20 @@
 -- Where the bytes of a revision's text stand.
-use Rattle.std.specs.Prelude.{◌≡◌, ◌≢◌, ◌⊎◌, ℕ, ◌+◌, ◌<◌, ◌≤◌, min, List, [], ◌∷◌, length, replicate, take, drop, Option, Some}
+use Rattle.std.specs.Prelude.{◌≡◌, ◌≢◌, ◌⊎◌, ℕ, ◌+◌, ◌<◌, ◌≤◌, min, List, [], ◌∷◌, length, replicate, take, drop, Option, Some, None}
 use Rattle.function_leaf.specs.declared.coded.Coded.TheVariants.{Fill, Ramp, Cycle}
 use Rattle.function_leaf.specs.declared.pattern.TheConstants.{PATTERN_LIMIT}
 use Rattle.function_leaf.specs.Pattern.{padded}
+use Rattle.rope_node.specs.declared.node.LeafSpan.{LeafSpan}
 use Rattle.rope_node.specs.declared.node.NodeId.{NodeId}
+use Rattle.rope_node.specs.Table.{view_at}
 use Rattle.rope_node.specs.Denotes.{Cell, rope_len}
 use Rattle.lazy_file.specs.SourceTexts.{AreSizes, Stated}
 use Rattle.cord_position.specs.Fetched.{EachCell, IsReadable, rope_part}
-use Rattle.cord_position.specs.Runs.{AreBytesOf, run_left}
+use Rattle.cord_position.specs.Runs.{AreBytesOf, rope_span, run_left}
 use Rattle.span_certificate.specs.declared.describe.Description.{Description}
 use Rattle.span_certificate.specs.declared.describe.Description.TheVariants.{Pooled, Sourced, Computed}
-use Rattle.span_certificate.specs.Leads.{described_cells}
+use Rattle.span_certificate.specs.Leads.{described_cells, leaf_description}
 use Rattle.image_reader.specs.declared.codes.TheConstants.{CYCLE, FILL, RAMP}
-use Rattle.image_reader.specs.Value.{ImageValue, image_table}
+use Rattle.image_reader.specs.Value.{ImageValue, coded_at, image_table}
 use Rattle.image_reader.specs.Accepted.{revision_at}
 use Rattle.session_checker.specs.Faithful.{IsFetchedOf, fetched_cell}
 use Rattle.cord_c.specs.declared.run.CordRun.{CordRun}
@@ -34,6 +36,16 @@ text_part v k place n = rope_part (image_table v) (text_root v k) place n
 -- how many bytes there are from a place of it to the end of its leaf's span; at the end, 0
 abbrev pub left_of : ImageValue → ℕ → ℕ → ℕ
 left_of v k place = run_left (image_table v) (text_root v k) place
+
+-- what a span of a leaf is: the pool or a source from the leaf's place there and the span's in the leaf on, or the
+-- leaf's function from there on
+abbrev pub span_description : ImageValue → Option LeafSpan → Option Description
+span_description v None = None
+span_description v (Some x) = leaf_description (coded_at v x.leaf.0) x.start (view_at (image_table v) x.leaf.0)
+
+-- what the leaf span is that holds the byte at a place of the text
+abbrev pub description_at : ImageValue → ℕ → ℕ → Option Description
+description_at v k place = span_description v (rope_span (image_table v) (text_root v k) place)
 
 -- the numbers of a run of n bytes of the pool or of a source
 abbrev pub placed_run : ℕ → ℕ → ℕ → ℕ → CordRun
@@ -67,13 +79,14 @@ run_told (Computed (Fill c) i) n = computed_run FILL (c ∷ []) i n
 run_told (Computed (Ramp c) i) n = computed_run RAMP (c ∷ []) i n
 run_told (Computed (Cycle pattern) i) n = computed_run CYCLE pattern i n
 
--- The numbers are those of the run that the text has from this place on: bytes of one description, up to the end of the
--- leaf's span.
+-- The numbers are those of the run that the text has from this place on: bytes of one description, which is that of the
+-- leaf span that holds them, up to its end.
 pub record IsLocated (v : ImageValue) (k place : ℕ) (x : CordRun) : Type 0 where
   pub longest : x.len ≡ left_of v k place
   pub some : 1 ≤ x.len
   pub inside : place + x.len ≤ revision_len v k
   pub what : Description
+  pub stands : description_at v k place ≡ Some what
   pub cells : (m : ℕ) → m ≤ x.len → text_part v k place m ≡ described_cells (image_table v) m what
   pub told : x ≡ run_told what x.len
 

@@ -1,11 +1,11 @@
 //! The leaf span that a text's bytes from a place on begin with.
 
-ghost use Rattle.std.specs.Prelude.{◌≡◌, ◌↔◌, ◌<◌, ◌≤◌, ◌+◌, None, length, IfSome};
+ghost use Rattle.std.specs.Prelude.{◌≡◌, ◌↔◌, ◌<◌, ◌≤◌, ◌+◌, None, Some, length, IfSome};
 ghost use Rattle.rope_node.specs.Table.{len_at, view_at, IsLeaf};
 ghost use Rattle.rope_node.specs.Path.{span_at};
 ghost use Rattle.cord_position.specs.Runs.{rope_span, IsRun};
-ghost use Rattle.image_reader.specs.Value.{image_table};
-ghost use Rattle.span_certificate.specs.Leads.{Describes};
+ghost use Rattle.image_reader.specs.Value.{coded_at, image_table};
+ghost use Rattle.span_certificate.specs.Leads.{leaf_description, Describes};
 ghost use Rattle.cord_c.specs.Runs.{text_root, revision_len};
 
 use rope_node::{LeafSpan, NodeId, NodeSpace, NodeView};
@@ -63,7 +63,9 @@ pub fn described(image: &Checked, span: LeafSpan) -> Description
     requires there { span.leaf.0 < length (image_table image.now).nodes }
     requires leaf { IsLeaf (view_at (image_table image.now) span.leaf.0) }
     requires inside { span.start + span.len ≤ len_at (image_table image.now) span.leaf.0 }
-    ensures { Describes (image_table image.now) span.leaf.0 span.start result }
+    ensures value { leaf_description (coded_at image.now span.leaf.0) span.start
+        (view_at (image_table image.now) span.leaf.0) ≡ Some result }
+    ensures describes { Describes (image_table image.now) span.leaf.0 span.start result }
 {
     let view = image.node(span.leaf);
     match describe_leaf(image, span.leaf, view, span.start) {
