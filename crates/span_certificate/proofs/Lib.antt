@@ -7,6 +7,7 @@ pub mod Steps
 pub mod FirstLeaves
 pub mod Walks
 pub mod RowEnds
+pub mod Stops
 pub mod NextRows
 pub mod ComparedCells
 pub mod RunLaws

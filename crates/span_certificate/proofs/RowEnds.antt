@@ -42,7 +42,7 @@ module _ (t : Table) (s : IsSound t) (h : HasTrueRecords t) where
       omega (arith, c.0, not_higher (omega (arith, c.0, there)) lead)
 
   -- of two nodes that a span leads to, the higher leads to the other
-  leads_on : {n k o y q x p : ℕ} → 1 ≤ n → x < length t.nodes → k ≤ y → Leads t n y q x p → Leads t n k o x p → Leads t n k o y q
+  pub leads_on : {n k o y q x p : ℕ} → 1 ≤ n → x < length t.nodes → k ≤ y → Leads t n y q x p → Leads t n k o x p → Leads t n k o y q
   leads_on {n} {k} {o} {y} {q} {x} {p} some there le (here e f) lead = rw (← e, ← f) lead
   leads_on {n} {k} {o} {y} {q} {x} {p} some there le (in_left l r e fits on) lead =
       let c = children_of_cat t s h x there l r e in

@@ -10,3 +10,4 @@ pub mod Descents
 pub mod Runs
 pub mod Verdicts
 pub mod Looks
+pub mod Trails

@@ -6,12 +6,15 @@ ghost use Rattle.cord_position.specs.Runs.{AreBytesOf};
 ghost use Rattle.span_certificate.specs.Parts.{part_len, part_cells, IsPart};
 ghost use Rattle.span_certificate.specs.Leads.{described_cells, HasRoom};
 ghost use Rattle.span_certificate.specs.Runs.{IsRunOf, ReadsCells, TellsSame};
+ghost use Rattle.span_certificate.specs.Trails.{AreTrails, IsTrail};
 ghost use Rattle.span_certificate.specs.declared.looks.TheConstants.{LOOKS_LIMIT};
 
+use crate::descent::first_leaf;
 use crate::describe::{Description, describe};
 use crate::looks::{Count, CountedSpace};
 use crate::part::Part;
-use crate::walk::{Span, leaf_of};
+use crate::trail::{Trail, Trails};
+use crate::walk::Span;
 use cord_position::fill_source;
 use function_leaf::{Coded, fill};
 use lazy_file::{SourceFault, Sources};
@@ -30,6 +33,7 @@ pub struct Run {
 /// The run that the next `left` bytes of a part begin with.
 fn run_of<S: CountedSpace<L>, L: Ledger>(
     space: &S,
+    trail: &mut Trail,
     part: Part,
     off: u64,
     left: u64,
@@ -37,18 +41,21 @@ fn run_of<S: CountedSpace<L>, L: Ledger>(
 ) -> Run
     requires sound { IsSound (S.table space.now) }
     requires true_records { HasTrueRecords (S.table space.now) }
+    requires trail { IsTrail (S.table space.now) trail.old }
     requires part { IsPart (S.table space.now) part }
     requires some { 1 ≤ left }
     requires inside { off + left ≤ part_len part }
     ensures run { IsRunOf (S.table space.now) part off left result }
+    ensures trail { IsTrail (S.table space.now) trail.new }
     ensures few { count.new ≤ count.old + 66 }
 {
     match part {
         Part::Old { rope, i, n: _ } => match rope {
             None => unreachable!(),
             Some(node) => {
-                let z = leaf_of(
+                let z = first_leaf(
                     space,
+                    trail,
                     Span {
                         node,
                         start: i + off,
@@ -158,9 +165,10 @@ fn same_described<S: CountedSpace<L>, T: Sources, L: Ledger>(
     Ok(is_same(bytes, others))
 }
 
-/// Whether `len` bytes of two parts are the same: in turns, one descent at each side.
+/// Whether `len` bytes of two parts are the same: in turns, one run at each side.
 pub fn same_bytes<S: CountedSpace<L>, T: Sources, L: Ledger>(
     space: &S,
+    trails: &mut Trails,
     sources: &mut T,
     part: Part,
     off: u64,
@@ -171,6 +179,7 @@ pub fn same_bytes<S: CountedSpace<L>, T: Sources, L: Ledger>(
 ) -> Result<bool, SourceFault>
     requires sound { IsSound (S.table space.now) }
     requires true_records { HasTrueRecords (S.table space.now) }
+    requires trails { AreTrails (S.table space.now) trails.old }
     requires part { IsPart (S.table space.now) part }
     requires other { IsPart (S.table space.now) other }
     requires inside { off + len ≤ part_len part }
@@ -181,14 +190,16 @@ pub fn same_bytes<S: CountedSpace<L>, T: Sources, L: Ledger>(
     ensures reads { ReadsCells (T.reading sources.old) (T.reading sources.new)
         (take len (drop off (part_cells (S.table space.now) part))
         ++ take len (drop place (part_cells (S.table space.now) other))) result }
+    ensures trails { AreTrails (S.table space.now) trails.new }
     ensures few { count.new ≤ count.old + LOOKS_LIMIT * len }
 {
     let mut bytes = [0; BUFFER];
     let mut others = [0; BUFFER];
     let mut done = 0;
     while done < len {
-        let a = run_of(space, part, off + done, len - done, count);
-        let b = run_of(space, other, place + done, len - done, count);
+        let left = len - done;
+        let a = run_of(space, &mut trails.of_part, part, off + done, left, count);
+        let b = run_of(space, &mut trails.of_root, other, place + done, left, count);
         let n = a.len.min(b.len).min(BUFFER as u64) as usize;
         match same_described::<S, T, L>(
             space,

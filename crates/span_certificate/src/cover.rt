@@ -9,6 +9,7 @@ ghost use Rattle.span_certificate.specs.Parts.{part_at, part_len, IsPart, ArePar
 ghost use Rattle.span_certificate.specs.Places.{held, len_here};
 ghost use Rattle.span_certificate.specs.Covers.{HaveOneDescription, kind_compares, row_compares};
 ghost use Rattle.span_certificate.specs.Runs.{ReadsCells};
+ghost use Rattle.span_certificate.specs.Trails.{AreTrails};
 ghost use Rattle.span_certificate.specs.Looks.{BeginsCount, row_bytes, most_looks};
 ghost use Rattle.span_certificate.specs.Verdicts.{IsAskedFor, MayBeRead, ShowsSame, TellsKind, TellsRow, TellsRows};
 ghost use Rattle.lazy_file.specs.Readings.{fault_in, Reads};
@@ -24,6 +25,7 @@ use crate::part_iter::PartIter;
 use crate::place::PartPlace;
 use crate::row::{Row, RowKind, Rows};
 use crate::splices::Splices;
+use crate::trail::Trails;
 use crate::walk::BYTES_LIMIT;
 use lazy_file::{SourceFault, Sources};
 use rope_node::{CodedSpace, Rope};
@@ -43,6 +45,7 @@ pub enum Verdict {
 /// Whether two spans of parts have one description.
 fn same_leaf<S: CountedSpace<L>, L: Ledger>(
     space: &S,
+    trails: &mut Trails,
     part: Part,
     off: u64,
     other: Part,
@@ -51,6 +54,8 @@ fn same_leaf<S: CountedSpace<L>, L: Ledger>(
     count: &mut Count<L>,
 ) -> bool
     requires sound { IsSound (S.table space.now) }
+    requires true_records { HasTrueRecords (S.table space.now) }
+    requires trails { AreTrails (S.table space.now) trails.old }
     requires part { IsPart (S.table space.now) part }
     requires other { IsPart (S.table space.now) other }
     requires not_empty { 1 ≤ len }
@@ -58,11 +63,12 @@ fn same_leaf<S: CountedSpace<L>, L: Ledger>(
     requires other_inside { place + len ≤ part_len other }
     ensures same { IsTrue result ↔ HaveOneDescription
         (S.table space.now) (S.coded space.now) len part off other place }
+    ensures trails { AreTrails (S.table space.now) trails.new }
     ensures few { count.new ≤ count.old + LOOKS_LIMIT }
 {
     match (
-        describe_span(space, part, off, len, count),
-        describe_span(space, other, place, len, count),
+        describe_span(space, &mut trails.of_part, part, off, len, count),
+        describe_span(space, &mut trails.of_root, other, place, len, count),
     ) {
         (Some(d), Some(e)) => d.is_same(e),
         _ => false,
@@ -73,6 +79,7 @@ fn same_leaf<S: CountedSpace<L>, L: Ledger>(
 /// `root` from `place` on.
 fn kind_fits<S: CountedSpace<L>, T: Sources, L: Ledger>(
     space: &S,
+    trails: &mut Trails,
     sources: &mut T,
     part: Part,
     off: u64,
@@ -83,6 +90,7 @@ fn kind_fits<S: CountedSpace<L>, T: Sources, L: Ledger>(
 ) -> Result<bool, SourceFault>
     requires sound { IsSound (S.table space.now) }
     requires true_records { HasTrueRecords (S.table space.now) }
+    requires trails { AreTrails (S.table space.now) trails.old }
     requires part { IsPart (S.table space.now) part }
     requires inside_part { off + row.len ≤ part_len part }
     requires root { IsRope (S.table space.now) root }
@@ -93,6 +101,7 @@ fn kind_fits<S: CountedSpace<L>, T: Sources, L: Ledger>(
     ensures reads { ReadsCells (T.reading sources.old) (T.reading sources.new)
         (kind_compares (S.table space.now) part off root place row) result }
     ensures few { IfErr result (λ _. (row.kind ≡ Bytes) × (row.len ≤ BYTES_LIMIT)) }
+    ensures trails { AreTrails (S.table space.now) trails.new }
     ensures looks { count.new ≤ count.old + LOOKS_LIMIT + LOOKS_LIMIT * row_bytes row }
 {
     let other = Part::Old {
@@ -100,17 +109,21 @@ fn kind_fits<S: CountedSpace<L>, T: Sources, L: Ledger>(
         i: 0,
         n: space.length(root),
     };
+    let n = row.len;
     match row.kind {
-        RowKind::Shared(node, at) => Ok(
-            part_leads(space, part, off, row.len, node, at, count)
-                && part_leads(space, other, place, row.len, node, at, count),
-        ),
-        RowKind::Leaf => Ok(same_leaf(space, part, off, other, place, row.len, count)),
+        RowKind::Shared(node, at) => {
+            let Trails { of_part, of_root } = trails;
+            Ok(
+                part_leads(space, of_part, part, off, n, node, at, count)
+                    && part_leads(space, of_root, other, place, n, node, at, count),
+            )
+        }
+        RowKind::Leaf => Ok(same_leaf(space, trails, part, off, other, place, n, count)),
         RowKind::Bytes => {
             if row.len > BYTES_LIMIT {
                 return Ok(false);
             }
-            same_bytes(space, sources, part, off, other, place, row.len, count)
+            same_bytes(space, trails, sources, part, off, other, place, n, count)
         }
     }
 }
@@ -118,6 +131,7 @@ fn kind_fits<S: CountedSpace<L>, T: Sources, L: Ledger>(
 /// Whether a row fits that stands at `place`, where `part` holds it, or none does.
 fn row_fits<S: CountedSpace<L>, T: Sources, L: Ledger>(
     space: &S,
+    trails: &mut Trails,
     sources: &mut T,
     part: Option<Part>,
     off: u64,
@@ -128,6 +142,7 @@ fn row_fits<S: CountedSpace<L>, T: Sources, L: Ledger>(
 ) -> Result<bool, SourceFault>
     requires sound { IsSound (S.table space.now) }
     requires true_records { HasTrueRecords (S.table space.now) }
+    requires trails { AreTrails (S.table space.now) trails.old }
     requires part { ForSome part (λ p. IsPart (S.table space.now) p × (off < part_len p)) }
     requires root { IsRope (S.table space.now) root }
     requires place { place ≤ rope_len (S.table space.now) root }
@@ -144,6 +159,7 @@ fn row_fits<S: CountedSpace<L>, T: Sources, L: Ledger>(
         (row_compares (S.table space.now) parts root place row) result }
     ensures may_be_read { (parts : List Part) → part_at parts place ≡ held part off
         → IfErr result (λ _. MayBeRead (S.table space.now) parts root place row) }
+    ensures trails { AreTrails (S.table space.now) trails.new }
     ensures looks { count.new ≤ count.old + LOOKS_LIMIT + LOOKS_LIMIT * row_bytes row }
 {
     match part {
@@ -154,7 +170,7 @@ fn row_fits<S: CountedSpace<L>, T: Sources, L: Ledger>(
             if row.len == 0 || row.len > part_left || row.len > root_left {
                 return Ok(false);
             }
-            kind_fits(space, sources, part, off, root, place, row, count)
+            kind_fits(space, trails, sources, part, off, root, place, row, count)
         }
     }
 }
@@ -194,11 +210,22 @@ fn verify_rows<S: CountedSpace<L>, T: Sources, P: Splices, R: Rows, L: Ledger>(
 {
     // The space is sound, as each of its calls says.
     let _nodes = space.node_count();
+    let mut trails = Trails::new();
     let mut at = PartPlace::start(parts);
     let mut place = 0;
     for j in 0..rows.count() {
         let row = rows.row(j);
-        match row_fits(space, sources, at.part, at.off, root, place, row, count) {
+        match row_fits(
+            space,
+            &mut trails,
+            sources,
+            at.part,
+            at.off,
+            root,
+            place,
+            row,
+            count,
+        ) {
             Err(fault) => return Err(fault),
             Ok(false) => return Ok(Verdict::Bad(j)),
             Ok(true) => {

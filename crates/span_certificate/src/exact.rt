@@ -1,57 +1,66 @@
 //! Whether spans lead to one node, and what the leaf spans are that they lead to.
 
 ghost use Rattle.std.specs.Prelude.{◌≡◌, ◌↔◌, ◌+◌, ◌<◌, ◌≤◌, length, Some, IsTrue};
-ghost use Rattle.rope_node.specs.Table.{len_at, IsSound};
+ghost use Rattle.rope_node.specs.Table.{len_at, IsSound, HasTrueRecords};
 ghost use Rattle.span_certificate.specs.Parts.{part_len, IsPart};
 ghost use Rattle.span_certificate.specs.Leads.{Leads, PartLeads, HasDescription, PartHasDescription};
 ghost use Rattle.span_certificate.specs.Looks.{BeginsCount};
 ghost use Rattle.span_certificate.specs.Steps.{IsSpan};
+ghost use Rattle.span_certificate.specs.Trails.{IsTrail};
 ghost use Rattle.span_certificate.specs.declared.describe.Description.{Description};
 
 use crate::descent::leaf_span;
 use crate::describe::{Description, describe};
 use crate::looks::{Count, CountedSpace};
 use crate::part::Part;
+use crate::trail::Trail;
 use crate::walk::Span;
 use function_leaf::Coded;
 use rope_node::{CodedSpace, NodeId, NodeView};
 use std::marker::Brand;
 use std::sync::ledger::{Blank, Ledger};
 
-/// Whether a span leads to the bytes of a node from a place on.
+/// Whether a span leads to the bytes of a node from a place on. It is looked for from the last stop of the trail that holds the span and
+/// is no lower than the node.
 fn leads_to<S: CountedSpace<L>, L: Ledger>(
     space: &S,
+    trail: &mut Trail,
     x: Span,
     node: NodeId,
     at: u64,
     count: &mut Count<L>,
 ) -> bool
     requires sound { IsSound (S.table space.now) }
+    requires true_records { HasTrueRecords (S.table space.now) }
+    requires trail { IsTrail (S.table space.now) trail.old }
     requires span { IsSpan (S.table space.now) x }
     ensures leads { IsTrue result ↔ Leads (S.table space.now) x.len node.0 at x.node.0 x.start }
+    ensures trail { IsTrail (S.table space.now) trail.new }
     ensures few { count.new ≤ count.old + 65 }
 {
-    let mut here = x.node;
-    let mut start = x.start;
+    trail.begin(space, x.node);
+    let mut stop = trail.back_to(space, x.node, x.start, x.len, node.0);
     'down: loop {
-        if here.0 == node.0 && start == at {
+        let start = stop.place_in(x.start);
+        if stop.node.0 == node.0 && start == at {
             return true;
         }
-        match space.look(here, count) {
+        match space.look(stop.node, count) {
             NodeView::Cat { l, r } => {
                 let left = space.node_len(l);
                 if left <= start {
-                    here = r;
-                    start -= left;
+                    stop = stop.in_right(r, left);
+                    trail.push(space, x.node, stop);
                 } else if x.len <= left - start {
-                    here = l;
+                    stop = stop.in_left(l, left);
+                    trail.push(space, x.node, stop);
                 } else {
                     return false;
                 }
             }
             NodeView::Sub { b, i } => {
-                here = b;
-                start += i;
+                stop = stop.in_base(b, i);
+                trail.push(space, x.node, stop);
             }
             NodeView::Lit { .. } | NodeView::Src { .. } | NodeView::Fun => return false,
         }
@@ -61,6 +70,7 @@ fn leads_to<S: CountedSpace<L>, L: Ledger>(
 /// Whether the `len` bytes of a part from `off` on lead to the place `at` of a node.
 pub fn part_leads<S: CountedSpace<L>, L: Ledger>(
     space: &S,
+    trail: &mut Trail,
     part: Part,
     off: u64,
     len: u64,
@@ -69,16 +79,20 @@ pub fn part_leads<S: CountedSpace<L>, L: Ledger>(
     count: &mut Count<L>,
 ) -> bool
     requires sound { IsSound (S.table space.now) }
+    requires true_records { HasTrueRecords (S.table space.now) }
+    requires trail { IsTrail (S.table space.now) trail.old }
     requires part { IsPart (S.table space.now) part }
     requires some { 1 ≤ len }
     requires inside { off + len ≤ part_len part }
     ensures leads { IsTrue result ↔ PartLeads (S.table space.now) len node.0 at part off }
+    ensures trail { IsTrail (S.table space.now) trail.new }
     ensures few { count.new ≤ count.old + 65 }
 {
     match part {
         Part::Old { rope, i, n: _ } => match rope {
             Some(of) => leads_to(
                 space,
+                trail,
                 Span {
                     node: of,
                     start: i + off,
@@ -99,20 +113,24 @@ pub fn part_leads<S: CountedSpace<L>, L: Ledger>(
 #[inline(always)]
 fn describe_node<S: CountedSpace<L>, L: Ledger>(
     space: &S,
+    trail: &mut Trail,
     node: NodeId,
     place: u64,
     len: u64,
     count: &mut Count<L>,
 ) -> Option<Description>
     requires sound { IsSound (S.table space.now) }
+    requires true_records { HasTrueRecords (S.table space.now) }
+    requires trail { IsTrail (S.table space.now) trail.old }
     requires there { node.0 < length (S.table space.now).nodes }
     requires not_empty { 1 ≤ len }
     requires inside { place + len ≤ len_at (S.table space.now) node.0 }
     ensures value { (d : Description) → (result ≡ Some d) ↔ HasDescription
         (S.table space.now) (S.coded space.now) len node.0 place d }
+    ensures trail { IsTrail (S.table space.now) trail.new }
     ensures few { count.new ≤ count.old + 66 }
 {
-    match leaf_span(space, node, place, len, count) {
+    match leaf_span(space, trail, node, place, len, count) {
         None => None,
         Some(span) => describe(space, span.leaf, span.view, span.start, count),
     }
@@ -122,23 +140,27 @@ fn describe_node<S: CountedSpace<L>, L: Ledger>(
 #[inline(always)]
 pub fn describe_span<S: CountedSpace<L>, L: Ledger>(
     space: &S,
+    trail: &mut Trail,
     part: Part,
     off: u64,
     len: u64,
     count: &mut Count<L>,
 ) -> Option<Description>
     requires sound { IsSound (S.table space.now) }
+    requires true_records { HasTrueRecords (S.table space.now) }
+    requires trail { IsTrail (S.table space.now) trail.old }
     requires part { IsPart (S.table space.now) part }
     requires not_empty { 1 ≤ len }
     requires inside { off + len ≤ part_len part }
     ensures value { (d : Description) → (result ≡ Some d) ↔ PartHasDescription
         (S.table space.now) (S.coded space.now) len part off d }
+    ensures trail { IsTrail (S.table space.now) trail.new }
     ensures few { count.new ≤ count.old + 66 }
 {
     match part {
         Part::Old { rope, i, n: _ } => match rope {
             None => None,
-            Some(node) => describe_node(space, node, i + off, len, count),
+            Some(node) => describe_node(space, trail, node, i + off, len, count),
         },
         Part::Pool { a, n: _ } => Some(Description::Pooled { a: a + off }),
         Part::Source { s, n: _ } => Some(Description::Sourced { s, a: off }),
@@ -165,7 +187,11 @@ fn describe_part_with<S: CodedSpace, L: Ledger>(
     ensures { (d : Description) → (result ≡ Some d) ↔ PartHasDescription
         (S.NodeSpace.table space.now) (S.coded space.now) len part off d }
 {
-    describe_span(space, part, off, len, &mut Count::<L>::new(blank))
+    // The space's records are true, as its count says.
+    let _nodes = space.count();
+    let mut trail = Trail::new();
+    let mut count = Count::<L>::new(blank);
+    describe_span(space, &mut trail, part, off, len, &mut count)
 }
 
 /// What the leaf span is that the `len` bytes of a part from `off` on lead to, where they lie in one.

@@ -17,6 +17,7 @@ mod place;
 mod roots;
 mod row;
 mod splices;
+mod trail;
 mod walk;
 
 pub use cover::{Verdict, verify, verify_counted};

@@ -1,0 +1,65 @@
+-- The way down to a place of a rope, as it is kept.
+use Rattle.std.specs.Prelude.{◌≡◌, ℕ, ◌+◌, ◌-◌, ◌<◌, ◌≤◌, length, get_or, min}
+use Rattle.rope_node.specs.declared.limits.TheConstants.{MOST_DEPTH}
+use Rattle.rope_node.specs.declared.node.NodeId.{NodeId}
+use Rattle.rope_node.specs.Table.{Table, len_at, depth_at}
+use Rattle.span_certificate.specs.declared.trail.Stop.{Stop}
+use Rattle.span_certificate.specs.declared.trail.Trail.{Trail}
+use Rattle.span_certificate.specs.declared.trail.Trails.{Trails}
+use Rattle.span_certificate.specs.declared.trail.TheConstants.{MOST_STOPS}
+use Rattle.span_certificate.specs.Leads.{Leads}
+
+-- where the rope's byte at p stands in a stop's node
+abbrev pub place_in : Stop → ℕ → ℕ
+place_in stop p = stop.start + (p - stop.from)
+
+-- The root's bytes from `from` up to `end` lead to the stop's node, which is the ith below the root.
+pub record IsTrailStop (t : Table) (root i : ℕ) (stop : Stop) : Type 0 where
+  pub there : stop.node.0 < length t.nodes
+  pub some : stop.from < stop.end
+  pub inside : stop.start + (stop.end - stop.from) ≤ len_at t stop.node.0
+  pub within : stop.end ≤ len_at t root
+  pub shallow : depth_at t stop.node.0 + i ≤ MOST_DEPTH
+  pub leads : (n p : ℕ) → stop.from ≤ p → p + n ≤ stop.end → Leads t n stop.node.0 (place_in stop p) root p
+
+-- the n bytes from p on lie in the stop
+pub record Holds (stop : Stop) (p n : ℕ) : Type 0 where
+  pub behind : stop.from ≤ p
+  pub before : p + n ≤ stop.end
+
+abbrev pub no_stop : Stop
+no_stop = record { node = record { 0 = 0 }; from = 0; end = 0; start = 0 }
+
+-- all of a node, as the first stop of its own trail
+abbrev pub first_stop : Table → NodeId → Stop
+first_stop t root = record { node = root; from = 0; end = len_at t root.0; start = 0 }
+
+abbrev pub stop_at : Trail → ℕ → Stop
+stop_at trail i = get_or trail.stops i no_stop
+
+-- stops one below the other, of any rope, or none
+pub record IsTrail (t : Table) (trail : Trail) : Type 0 where
+  pub room : length trail.stops ≡ MOST_STOPS
+  pub few : trail.count ≤ MOST_STOPS
+  pub first : 1 ≤ trail.count → stop_at trail 0 ≡ first_stop t (stop_at trail 0).node
+  pub stops : (i : ℕ) → i < trail.count → IsTrailStop t (stop_at trail 0).node.0 i (stop_at trail i)
+
+-- the same below this root
+pub record IsTrailOf (t : Table) (root : NodeId) (trail : Trail) : Type 0 where
+  pub is_trail : IsTrail t trail
+  pub some : 1 ≤ trail.count
+  pub of_root : (stop_at trail 0).node ≡ root
+
+-- What of a stop lies in the left child of its node, in the right one beside a left one of so many bytes, and in its base.
+abbrev pub left_stop : Stop → NodeId → ℕ → Stop
+left_stop stop l left = record { node = l; from = stop.from; end = min stop.end (stop.from + (left - stop.start)); start = stop.start }
+
+abbrev pub right_stop : Stop → NodeId → ℕ → Stop
+right_stop stop r left = record { node = r; from = stop.from + (left - stop.start); end = stop.end; start = stop.start - left }
+
+abbrev pub base_stop : Stop → NodeId → ℕ → Stop
+base_stop stop b i = record { node = b; from = stop.from; end = stop.end; start = stop.start + i }
+
+pub record AreTrails (t : Table) (trails : Trails) : Type 0 where
+  pub part : IsTrail t trails.of_part
+  pub root : IsTrail t trails.of_root

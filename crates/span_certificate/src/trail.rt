@@ -1,0 +1,182 @@
+//! The way down to a place of a rope, kept for the next place: what lies beside it is found from the last node that holds both.
+
+ghost use Rattle.std.specs.Prelude.{◌≡◌, ◌↔◌, ℕ, ◌+◌, ◌-◌, ◌<◌, ◌≤◌, ◌⊎◌, ◌^◌, length};
+ghost use Rattle.rope_node.specs.Table.{Table, len_at, IsSound};
+ghost use Rattle.span_certificate.specs.Trails.{AreTrails, Holds, IsTrailStop, IsTrail, IsTrailOf, base_stop, first_stop, left_stop, place_in, right_stop};
+
+use crate::looks::CountedSpace;
+use rope_node::{MOST_DEPTH, NodeId};
+use std::sync::ledger::Ledger;
+
+/// The most nodes of a way down.
+pub const MOST_STOPS: usize = MOST_DEPTH as usize + 1;
+
+/// A node on the way down from a root. The root's bytes from `from` up to `end` are the node's from `start` on.
+#[derive(Clone, Copy, Debug, PartialEq, Eq)]
+pub struct Stop {
+    pub node: NodeId,
+    pub from: u64,
+    pub end: u64,
+    pub start: u64,
+}
+
+/// No node.
+const NO_STOP: Stop = Stop {
+    node: NodeId(0),
+    from: 0,
+    end: 0,
+    start: 0,
+};
+
+impl Stop {
+    /// Where the root's byte at `place` stands in the node.
+    #[inline(always)]
+    pub fn place_in(self, place: u64) -> u64
+        requires behind { self.from ≤ place }
+        requires fits { place_in self place < 2 ^ 64 }
+        ensures { result ≡ place_in self place }
+    {
+        self.start + (place - self.from)
+    }
+
+    /// What of it lies in the left child `l`, which has `left` bytes.
+    #[inline(always)]
+    pub fn in_left(self, l: NodeId, left: u64) -> Stop
+        requires some { self.start < left }
+        requires fits { self.from + left < 2 ^ 64 }
+        ensures { result ≡ left_stop self l left }
+    {
+        Stop {
+            node: l,
+            from: self.from,
+            end: self.end.min(self.from + (left - self.start)),
+            start: self.start,
+        }
+    }
+
+    /// What of it lies in the right child `r`, beside a left one of `left` bytes.
+    #[inline(always)]
+    pub fn in_right(self, r: NodeId, left: u64) -> Stop
+        requires fits { self.from + left < 2 ^ 64 }
+        ensures { result ≡ right_stop self r left }
+    {
+        Stop {
+            node: r,
+            from: self.from + left.saturating_sub(self.start),
+            end: self.end,
+            start: self.start.saturating_sub(left),
+        }
+    }
+
+    /// All of it, in the base `b` of which it is the bytes from `i` on.
+    #[inline(always)]
+    pub fn in_base(self, b: NodeId, i: u64) -> Stop
+        requires { self.start + i < 2 ^ 64 }
+        ensures { result ≡ base_stop self b i }
+    {
+        Stop {
+            node: b,
+            from: self.from,
+            end: self.end,
+            start: self.start + i,
+        }
+    }
+}
+
+/// The nodes on the way down to a place, each below the one before.
+#[derive(Clone, Copy, Debug)]
+pub struct Trail {
+    stops: [Stop; MOST_STOPS],
+    count: usize,
+}
+
+impl Trail {
+    /// A trail of no rope.
+    pub fn new() -> Trail
+        ensures { (t : Table) → IsTrail t result }
+    {
+        Trail {
+            stops: [NO_STOP; MOST_STOPS],
+            count: 0,
+        }
+    }
+
+    /// Begins at this root, where the trail is of another one.
+    #[inline(always)]
+    pub fn begin<S: CountedSpace<L>, L: Ledger>(&mut self, space: &S, root: NodeId)
+        requires sound { IsSound (S.table space.now) }
+        requires there { root.0 < length (S.table space.now).nodes }
+        requires trail { IsTrail (S.table space.now) self.old }
+        ensures { IsTrailOf (S.table space.now) root self.new }
+    {
+        if self.count == 0 || self.stops[0].node.0 != root.0 {
+            self.stops[0] = Stop {
+                node: root,
+                from: 0,
+                end: space.node_len(root),
+                start: 0,
+            };
+            self.count = 1;
+        }
+    }
+
+    /// The last stop that holds the `len` bytes from `place` on and is the root or no lower than `low`; those behind it are forgotten.
+    #[inline(always)]
+    pub fn back_to<S: CountedSpace<L>, L: Ledger>(
+        &mut self,
+        space: &S,
+        root: NodeId,
+        place: u64,
+        len: u64,
+        low: u32,
+    ) -> Stop
+        requires trail { IsTrailOf (S.table space.now) root self.old }
+        requires fits { place + len ≤ len_at (S.table space.now) root.0 }
+        requires short { place + len < 2 ^ 64 }
+        ensures trail { IsTrailOf (S.table space.now) root self.new }
+        ensures stop { IsTrailStop (S.table space.now) root.0 (self.new.count - 1) result }
+        ensures holds { Holds result place len }
+        ensures low { (low ≤ result.node.0) ⊎ (result ≡ first_stop (S.table space.now) root) }
+    {
+        let end = place + len;
+        while self.count > 1 {
+            let stop = self.stops[self.count - 1];
+            if stop.from <= place && end <= stop.end && low <= stop.node.0 {
+                return stop;
+            }
+            self.count -= 1;
+        }
+        self.stops[0]
+    }
+
+    /// One stop more.
+    #[inline(always)]
+    pub fn push<S: CountedSpace<L>, L: Ledger>(&mut self, space: &S, root: NodeId, stop: Stop)
+        requires trail { IsTrailOf (S.table space.now) root self.old }
+        requires stop { IsTrailStop (S.table space.now) root.0 self.old.count stop }
+        ensures trail { IsTrailOf (S.table space.now) root self.new }
+        ensures count { self.new.count ≡ self.old.count + 1 }
+    {
+        self.stops[self.count] = stop;
+        self.count += 1;
+    }
+}
+
+/// The trails of the part and of the root that a row stands at.
+#[derive(Clone, Copy, Debug)]
+pub struct Trails {
+    pub of_part: Trail,
+    pub of_root: Trail,
+}
+
+impl Trails {
+    /// Trails of no ropes.
+    pub fn new() -> Trails
+        ensures { (t : Table) → AreTrails t result }
+    {
+        Trails {
+            of_part: Trail::new(),
+            of_root: Trail::new(),
+        }
+    }
+}
