@@ -4,7 +4,7 @@ ghost use Rattle.std.specs.Prelude.{◌≡◌, ℕ, ◌+◌, ◌<◌, ◌≤◌,
 ghost use Rattle.rope_node.specs.Table.{view_at, IsLeaf, IsSound, HasTrueRecords};
 ghost use Rattle.span_certificate.specs.Descents.{IsLeafOf, first_of};
 ghost use Rattle.span_certificate.specs.Longest.{GoesToLeafEnd, SpansStayWithin};
-ghost use Rattle.span_certificate.specs.Steps.{IsSpan, IsBelow, span_cells, child_span, CellsAs, IsRowOf, IsDescribedRow};
+ghost use Rattle.span_certificate.specs.Steps.{IsSpan, IsBelow, span_cells, child_span, CellsAs, GoesDown, IsRowOf, IsDescribedRow};
 ghost use Rattle.span_certificate.specs.declared.walk.TheConstants.{BYTES_LIMIT};
 ghost use Rattle.rope_node.specs.declared.node.NodeId.{NodeId};
 
@@ -149,8 +149,55 @@ fn described_row(d: Description, e: Description, len: u64) -> Row
     }
 }
 
+/// Where a walk down two sides goes on.
+#[derive(Clone, Copy, Debug, PartialEq, Eq)]
+pub enum Descent {
+    /// To this span below the first one.
+    First(Span),
+    /// To this span below the second one.
+    Second(Span),
+    /// Nowhere: both are leaves.
+    Neither,
+}
+
+/// The side that goes down: the one of the greater number, or the other where that is a leaf.
+#[inline(always)]
+fn next_step<S: CountedSpace<L>, L: Ledger>(
+    space: &S,
+    a: Span,
+    of_a: NodeView,
+    b: Span,
+    of_b: NodeView,
+) -> Descent
+    requires sound { IsSound (S.table space.now) }
+    requires true_records { HasTrueRecords (S.table space.now) }
+    requires a { IsSpan (S.table space.now) a }
+    requires of_a { of_a ≡ view_at (S.table space.now) a.node.0 }
+    requires b { IsSpan (S.table space.now) b }
+    requires of_b { of_b ≡ view_at (S.table space.now) b.node.0 }
+    ensures { GoesDown (S.table space.now) a of_a b of_b result }
+{
+    if a.node.0 >= b.node.0 {
+        match down::<S, L>(space, a, of_a) {
+            Some(z) => Descent::First(z),
+            None => match down::<S, L>(space, b, of_b) {
+                Some(w) => Descent::Second(w),
+                None => Descent::Neither,
+            },
+        }
+    } else {
+        match down::<S, L>(space, b, of_b) {
+            Some(w) => Descent::Second(w),
+            None => match down::<S, L>(space, a, of_a) {
+                Some(z) => Descent::First(z),
+                None => Descent::Neither,
+            },
+        }
+    }
+}
+
 /// A row for the first bytes of two spans of the same cells: over the first node that both lead to at
-/// one place, or over two leaf spans.
+/// one place, or over two leaf spans. Each node on the way is looked at once.
 pub fn next_old<S: CountedSpace<L>, L: Ledger>(
     space: &S,
     x: Span,
@@ -170,6 +217,8 @@ pub fn next_old<S: CountedSpace<L>, L: Ledger>(
 {
     let mut a = x;
     let mut b = y;
+    let mut of_a = space.look(a.node, count);
+    let mut of_b = space.look(b.node, count);
     'down: loop {
         if a.node.0 == b.node.0 && a.start == b.start {
             return Row {
@@ -177,27 +226,18 @@ pub fn next_old<S: CountedSpace<L>, L: Ledger>(
                 kind: RowKind::Shared(a.node, a.start),
             };
         }
-        let of_a = space.look(a.node, count);
-        let of_b = space.look(b.node, count);
-        match (down::<S, L>(space, a, of_a), down::<S, L>(space, b, of_b)) {
-            (None, None) => return leaf_row(space, a, of_a, b, of_b, count),
-            (Some(z), None) => {
+        match next_step::<S, L>(space, a, of_a, b, of_b) {
+            Descent::First(z) => {
                 a = z;
                 b = b.shortened(z.len);
+                of_a = space.look(z.node, count);
             }
-            (None, Some(z)) => {
-                a = a.shortened(z.len);
-                b = z;
+            Descent::Second(w) => {
+                a = a.shortened(w.len);
+                b = w;
+                of_b = space.look(w.node, count);
             }
-            (Some(z), Some(w)) => {
-                if a.node.0 >= b.node.0 {
-                    a = z;
-                    b = b.shortened(z.len);
-                } else {
-                    a = a.shortened(w.len);
-                    b = w;
-                }
-            }
+            Descent::Neither => return leaf_row(space, a, of_a, b, of_b, count),
         }
     }
 }
