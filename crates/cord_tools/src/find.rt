@@ -12,18 +12,21 @@ use crate::files::{part, store_of};
 use crate::status::Status;
 use byte_output::write_bytes;
 use cord_search::{PATTERN_LIMIT, find};
-use itoa::Buffer;
+use itoa::write_digits;
 use lazy_file::Sources;
 use std::alloc::{AllocError, Global};
 use std::io;
+
+/// A place has up to so many digits.
+const DIGITS: usize = 20;
 
 /// Puts the line that tells a place behind the others.
 pub fn push_line(lines: &mut Vec<u8>, place: u64) -> Result<(), AllocError>
     ensures { OnOk result (lines.new.items ≡ lines.old.items ++ place_line place) }
 {
-    let mut digits = Buffer::new();
-    lines.extend_from_slice(digits.format(place).as_bytes())?;
-    lines.extend_from_slice(b"\n")
+    let mut line = [b'\n'; DIGITS + 1];
+    let start = write_digits(place, &mut line, DIGITS);
+    lines.extend_from_slice(&line[start..])
 }
 
 /// The first place of the pattern in the first source, from its byte `start` on. The fault is `PatternTooLong`, `Read` or `Memory`.

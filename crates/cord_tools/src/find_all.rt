@@ -1,6 +1,6 @@
 //! All the places of a pattern in a file.
 
-ghost use Rattle.std.specs.Prelude.{◌≡◌, ◌+◌, ◌<◌, ◌≤◌, ◌^◌, [], length, drop, slice_index, OnOk, IfOk, IfErr};
+ghost use Rattle.std.specs.Prelude.{◌≡◌, ◌+◌, ◌<◌, ◌≤◌, ◌^◌, [], ◌∷◌, length, drop, slice_index, OnOk, IfOk, IfErr};
 ghost use Rattle.memchr.specs.Find.{FindsNeedle};
 ghost use Rattle.cord_search.specs.Places.{StandsAt};
 ghost use Rattle.cord_tools.specs.AllPlaces.{FindsAll, FindsIn, FindsOn};
@@ -14,19 +14,13 @@ use crate::status::Status;
 use byte_output::write_bytes;
 use cord_search::PATTERN_LIMIT;
 use lazy_file::Sources;
+use memchr::memchr_iter;
 use memchr::memmem::Finder;
 use std::alloc::{AllocError, Global};
 use std::io;
 
 /// Bytes are searched by so many.
 const WINDOW: usize = 65_536;
-
-/// What was found in a window: the lines of the places, and the place from which on to go on.
-#[derive(Drop)]
-struct Found {
-    lines: Vec<u8>,
-    next: u64,
-}
 
 /// The first place of the pattern in these bytes from `at` on.
 fn next_in(finder: &Finder<'_>, bytes: &[u8], at: usize) -> Option<usize>
@@ -41,30 +35,62 @@ fn next_in(finder: &Finder<'_>, bytes: &[u8], at: usize) -> Option<usize>
     }
 }
 
-/// The places of the pattern in these bytes, which are those of a text from its place `first` on.
+/// Puts down the lines of the pattern's places in these bytes, which are those of a text from its place `first` on, and answers
+/// the place from which on to go on.
 fn found_in(
-    alloc: Global,
+    lines: &mut Vec<u8>,
     finder: &Finder<'_>,
     bytes: &[u8],
     first: u64,
-) -> Result<Found, AllocError>
+) -> Result<u64, AllocError>
+    requires empty { lines.old.items ≡ [] }
     requires limit { first + length bytes.now < 2 ^ 41 }
     requires short { length finder.now ≤ length bytes.now }
-    ensures found { IfOk result (λ found. FindsIn finder.now bytes.now first found.next found.lines.items) }
-    ensures next { IfOk result (λ found. first < found.next) }
+    ensures found { IfOk result (λ next. FindsIn finder.now bytes.now first next lines.new.items) }
+    ensures next { IfOk result (λ next. first < next) }
 {
     let need = finder.needle().len();
-    let mut lines = Vec::new(alloc);
     let mut at = 0;
     'places: while let Some(k) = next_in(finder, bytes, at) {
-        push_line(&mut lines, first + k as u64)?;
+        push_line(lines, first + k as u64)?;
         at = k + need.max(1);
     }
     let clear = bytes.len() + 1 - need;
-    Ok(Found {
-        lines,
-        next: first + at.max(clear) as u64,
-    })
+    Ok(first + at.max(clear) as u64)
+}
+
+/// The same of a pattern of one byte.
+fn found_byte(lines: &mut Vec<u8>, byte: u8, bytes: &[u8], first: u64) -> Result<u64, AllocError>
+    requires empty { lines.old.items ≡ [] }
+    requires limit { first + length bytes.now < 2 ^ 41 }
+    requires some { 0 < length bytes.now }
+    ensures found { IfOk result (λ next. FindsIn (byte ∷ []) bytes.now first next lines.new.items) }
+    ensures next { IfOk result (λ next. first < next) }
+{
+    let mut places = memchr_iter(byte, bytes);
+    'places: while let Some(place) = places.next() {
+        push_line(lines, first + place as u64)?;
+    }
+    Ok(first + bytes.len() as u64)
+}
+
+/// The same of each pattern, by the search that is fast for it, and in place of other lines.
+fn found_places(
+    lines: &mut Vec<u8>,
+    finder: &Finder<'_>,
+    bytes: &[u8],
+    first: u64,
+) -> Result<u64, AllocError>
+    requires limit { first + length bytes.now < 2 ^ 41 }
+    requires short { length finder.now ≤ length bytes.now }
+    ensures found { IfOk result (λ next. FindsIn finder.now bytes.now first next lines.new.items) }
+    ensures next { IfOk result (λ next. first < next) }
+{
+    lines.clear();
+    match finder.needle() {
+        [byte] => found_byte(lines, *byte, bytes, first),
+        _ => found_in(lines, finder, bytes, first),
+    }
 }
 
 /// Reads bytes of the first source, from its byte `from` on. No bytes are read without the source.
@@ -81,26 +107,27 @@ fn read_part<T: Sources>(sources: &mut T, from: u64, part: &mut [u8]) -> Result<
     Ok(sources.read(0, from, part)?)
 }
 
-/// The places of the pattern in the first source from its byte `from` on, as far as the window takes its bytes.
+/// Puts down the lines of the pattern's places in the first source from its byte `from` on, as far as the window takes its bytes, in
+/// place of other lines, and answers the place from which on to go on.
 fn found_from<T: Sources>(
-    alloc: Global,
+    lines: &mut Vec<u8>,
     finder: &Finder<'_>,
     sources: &mut T,
     from: u64,
     window: &mut [u8],
-) -> Result<Found, ToolFault>
+) -> Result<u64, ToolFault>
     requires size { slice_index (T.reading sources.old).stated.sizes 0 < 2 ^ 40 }
     requires inside { from + length window.old ≤ slice_index (T.reading sources.old).stated.sizes 0 }
     requires short { length finder.now ≤ length window.old }
-    ensures found { IfOk result (λ found.
-        FindsOn (T.reading sources.old).stated finder.now from found.next found.lines.items) }
-    ensures next { IfOk result (λ found. from < found.next) }
+    ensures found { IfOk result (λ next.
+        FindsOn (T.reading sources.old).stated finder.now from next lines.new.items) }
+    ensures next { IfOk result (λ next. from < next) }
     ensures fault { IfErr result IsUnread }
     ensures reads { ReadsCells (T.reading sources.old) (T.reading sources.new)
         (drop from (file_cells (T.reading sources.old).stated.sizes 0)) result }
 {
     read_part(sources, from, window)?;
-    Ok(found_in(alloc, finder, window, from)?)
+    Ok(found_places(lines, finder, window, from)?)
 }
 
 /// Whether there was a place, where there was one before or these lines are of some.
@@ -141,14 +168,15 @@ pub fn run_find_all<T: Sources, W: io::Write>(
     let size = sources.len(0);
     let end = (size + 1).saturating_sub(pattern.len() as u64);
     let mut buffer = [0; WINDOW];
+    let mut lines = Vec::new(alloc);
     let mut status = Status::Failure;
     let mut from = start;
     while from < end {
         let n = (size - from).min(WINDOW as u64) as usize;
-        let found = found_from(alloc, &finder, sources, from, &mut buffer[..n])?;
-        write_bytes(writer, &found.lines)?;
-        status = status_with(status, &found.lines);
-        from = found.next;
+        let next = found_from(&mut lines, &finder, sources, from, &mut buffer[..n])?;
+        write_bytes(writer, &lines)?;
+        status = status_with(status, &lines);
+        from = next;
     }
     Ok(status)
 }
