@@ -5,6 +5,7 @@ pub mod RowLists
 pub mod SpliceLists
 pub mod SameTables
 pub mod Sections
+pub mod Gathering
 pub mod SameSections
 pub mod WholeSpelling
 pub mod Trusted

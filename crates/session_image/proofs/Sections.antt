@@ -121,9 +121,6 @@ pub failed : (old new : Option (List ℕ)) (bytes : List ℕ) (result : Result (
 failed old new bytes (Ok x) is prefix = absurd cc
 failed old new bytes (Err e) is prefix = record { ok = tt; err = prefix }
 
-pub succeeded : (old new : Option (List ℕ)) (bytes : List ℕ) (x : Unit {0}) → Appends old new bytes → Writes old new bytes (Ok x)
-succeeded old new bytes x all = record { ok = all; err = tt }
-
 -- a slice is taken for what it holds
 pub of_slice : (old new : Option (List ℕ)) (xs ys : List ℕ) → xs ≡ ys → AppendsPrefix old new xs → AppendsPrefix old new ys
 of_slice old new xs ys e h = subst (λ (v : List ℕ). AppendsPrefix old new v) e h

@@ -1,6 +1,7 @@
 //! Session images, written: what a session writes is accepted.
 #![tactic(auto)]
 
+mod gathered;
 mod nodes;
 mod record;
 mod records;

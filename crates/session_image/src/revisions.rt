@@ -5,10 +5,12 @@ ghost use Rattle.edit_commands.specs.Session.{rows_of, splices_of};
 ghost use Rattle.std.specs.List.{flat_map, AllByRecursion};
 ghost use Rattle.image_reader.specs.Spelling.{revision_spelling, row_spelling, splice_spelling};
 ghost use Rattle.image_reader.specs.Value.{FitsRow, FitsSplice};
-ghost use Rattle.session_image.specs.Written.{Writes, EditsFit, recorded_revision, rows_in, rows_or_none, splices_in, splices_or_none};
+ghost use Rattle.session_image.specs.Gathering.{WritesGathered, output};
+ghost use Rattle.session_image.specs.Written.{EditsFit, recorded_revision, rows_in, rows_or_none, splices_in, splices_or_none};
 
+use crate::gathered::Gathered;
 use crate::records::{revision_record, row_record, splice_record};
-use byte_output::{WriteFault, write_bytes};
+use byte_output::WriteFault;
 use edit_commands::Session;
 use image_reader::Revision;
 use span_certificate::{Row, Splice};
@@ -51,16 +53,16 @@ fn recorded(session: &Session, k: u32) -> Option<Revision>
 /// Writes the revisions.
 pub(crate) fn write_revisions<W: io::Write>(
     session: &Session,
-    writer: &mut W,
+    writer: &mut Gathered<'_, W>,
 ) -> Result<(), WriteFault>
-    ensures bytes { Writes (W.contents writer.old) (W.contents writer.new)
+    ensures bytes { WritesGathered (output W.contents writer.old) (output W.contents writer.new)
         (flat_map revision_spelling (map recorded_revision session.now.revisions)) result }
     ensures fits { OnOk result (EditsFit session.now.revisions (length session.now.revisions)) }
 {
     for k in 0..session.count() {
         if let Some(revision) = recorded(session, k) {
             let record = revision_record(revision);
-            write_bytes(writer, record.as_slice())?;
+            writer.put(record.as_slice())?;
         }
     }
     Ok(())
@@ -88,14 +90,17 @@ pub(crate) fn count_splices(session: &Session) -> u32
 }
 
 /// Writes the splices of one revision.
-fn write_each_splice<W: io::Write>(splices: &[Splice], writer: &mut W) -> Result<(), WriteFault>
-    ensures bytes { Writes (W.contents writer.old) (W.contents writer.new)
+fn write_each_splice<W: io::Write>(
+    splices: &[Splice],
+    writer: &mut Gathered<'_, W>,
+) -> Result<(), WriteFault>
+    ensures bytes { WritesGathered (output W.contents writer.old) (output W.contents writer.new)
         (flat_map splice_spelling splices.now) result }
     ensures fits { OnOk result (AllByRecursion FitsSplice splices.now) }
 {
     for splice in splices {
         let record = splice_record(*splice);
-        write_bytes(writer, record.as_slice())?;
+        writer.put(record.as_slice())?;
     }
     Ok(())
 }
@@ -103,9 +108,9 @@ fn write_each_splice<W: io::Write>(splices: &[Splice], writer: &mut W) -> Result
 /// Writes the splices of all revisions.
 pub(crate) fn write_splices<W: io::Write>(
     session: &Session,
-    writer: &mut W,
+    writer: &mut Gathered<'_, W>,
 ) -> Result<(), WriteFault>
-    ensures bytes { Writes (W.contents writer.old) (W.contents writer.new)
+    ensures bytes { WritesGathered (output W.contents writer.old) (output W.contents writer.new)
         (flat_map splice_spelling (splices_in session.now.revisions)) result }
     ensures fits { OnOk result (AllByRecursion FitsSplice (splices_in session.now.revisions)) }
 {
@@ -116,21 +121,27 @@ pub(crate) fn write_splices<W: io::Write>(
 }
 
 /// Writes the rows of one revision.
-fn write_each_row<W: io::Write>(rows: &[Row], writer: &mut W) -> Result<(), WriteFault>
-    ensures bytes { Writes (W.contents writer.old) (W.contents writer.new)
+fn write_each_row<W: io::Write>(
+    rows: &[Row],
+    writer: &mut Gathered<'_, W>,
+) -> Result<(), WriteFault>
+    ensures bytes { WritesGathered (output W.contents writer.old) (output W.contents writer.new)
         (flat_map row_spelling rows.now) result }
     ensures fits { OnOk result (AllByRecursion FitsRow rows.now) }
 {
     for row in rows {
         let record = row_record(*row);
-        write_bytes(writer, record.as_slice())?;
+        writer.put(record.as_slice())?;
     }
     Ok(())
 }
 
 /// Writes the rows of all revisions.
-pub(crate) fn write_rows<W: io::Write>(session: &Session, writer: &mut W) -> Result<(), WriteFault>
-    ensures bytes { Writes (W.contents writer.old) (W.contents writer.new)
+pub(crate) fn write_rows<W: io::Write>(
+    session: &Session,
+    writer: &mut Gathered<'_, W>,
+) -> Result<(), WriteFault>
+    ensures bytes { WritesGathered (output W.contents writer.old) (output W.contents writer.new)
         (flat_map row_spelling (rows_in session.now.revisions)) result }
     ensures fits { OnOk result (AllByRecursion FitsRow (rows_in session.now.revisions)) }
 {

@@ -24,4 +24,4 @@ written_image v (Err e) kept session fits = tt
 
 pub returns-clause-image : goal.returns-clause-image
 returns-clause-image g c =
-    written_image c.args.session.now c.write_sections.result (subst (λ (h : Held Coded). IsKept coded_byte h) c.space.ensures.store c.count-nodes.ensures.kept) c.count-count.ensures.session c.write_sections.ensures.fits
+    written_image c.args.session.now c.write_gathered.result (subst (λ (h : Held Coded). IsKept coded_byte h) c.space.ensures.store c.count-nodes.ensures.kept) c.count-count.ensures.session c.write_gathered.ensures.fits
