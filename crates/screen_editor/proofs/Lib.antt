@@ -10,6 +10,7 @@ pub mod NewTexts
 pub mod LineLaws
 pub mod LineSearches
 pub mod LineTurns
+pub mod NearLaws
 pub mod Revising
 pub mod KeyPlans
 pub mod KeyCommands

@@ -1,36 +1,17 @@
 -- What is shown of a text's lines, one behind the other.
-use Rattle.std.proofs.Common.{◌≡◌, ℕ, ◌+◌, ◌-◌, ◌<◌, ◌≤◌, min, List, [], ◌∷◌, ◌++◌, length, map, take, drop, get_or, Option, Some, None, inl, inr, refl, sym, ap, ◌∙◌, append_assoc, arith}
-use Rattle.std.specs.Prelude.{slice_get, IsSome}
-use Rattle.std.specs.Option.{unwrap_or}
+use Rattle.std.proofs.Common.{◌≡◌, ℕ, ◌+◌, ◌-◌, ◌<◌, ◌≤◌, min, List, [], ◌∷◌, ◌++◌, length, map, take, drop, get_or, Some, None, not, inl, inr, refl, sym, ap, ◌∙◌, append_assoc, arith}
 use Rattle.std.specs.List.{slice_split, position_or_len, flat_map, range_with_len}
 use Rattle.std.proofs.lemmas.Bool.{cases_lt}
-use Rattle.std.proofs.lemmas.List.{get_or-drop, length-drop, length-take, take_all, take-take, drop-drop, drop-take, drop_all, map-append, append-nil, map-id}
+use Rattle.std.proofs.lemmas.List.{get_or-drop, length-drop, length-take, take_all, take-take, drop-drop, drop-take, drop_all, append-nil, map-id}
 use Rattle.std.proofs.lemmas.List.FromFn.{map-range_with_len_more}
 use Rattle.std.proofs.lemmas.List.Splits.{slice_split_none, slice_split_first}
-use Rattle.std.proofs.lemmas.List.Sums.{fails_before_first}
-use Rattle.std.proofs.lemmas.Option.{slice_get_within, unwrap_or-slice_get}
-use Rattle.std.proofs.lemmas.Grind.{take_at_read, flat_map-append}
+use Rattle.std.proofs.lemmas.List.Sums.{fails_before_first, prefix_len-le-length}
+use Rattle.std.proofs.lemmas.Grind.{flat_map-append}
+use Rattle.screen_editor.specs.declared.near.TheConstants.{NEAR}
 use Rattle.screen_editor.specs.declared.rows.TheConstants.{SCREEN_COLUMNS}
 use Rattle.screen_editor.specs.Lines.{is_break, line_end}
 use Rattle.screen_editor.specs.Frame.{glyph}
 use Rattle.screen_editor.specs.Rows.{shown_of, lines_from, row_in, PushesLine}
-
--- a byte that was found stands inside the text
-pub found_inside : (t : List ℕ) (place : ℕ) (found : Option ℕ) → found ≡ slice_get t place → IsSome found → place < length t
-found_inside t place None at some = absurd cc
-found_inside t place (Some b) at some = slice_get_within t place b (sym at)
-
--- one byte more is shown
-pub glyph_more : (t old now : List ℕ) (start place : ℕ) (found : Option ℕ) → found ≡ slice_get t place → place < length t → start ≤ place
-    → now ≡ old ++ map glyph (take (place - start) (drop start t))
-    → now ++ glyph (unwrap_or found 0) ∷ [] ≡ old ++ map glyph (take (place + 1 - start) (drop start t))
-glyph_more t old now start place found at inside from is =
-    let j = place - start in
-    let rest : j < length (drop start t) = omega (arith, inside, from, length-drop start t) in
-    let back : start + j ≡ place = omega (arith, from) in
-    let more : place + 1 - start ≡ j + 1 = omega (arith, from) in
-    let byte : unwrap_or found 0 ≡ get_or (drop start t) j 0 = ap (λ o. unwrap_or o 0) at ∙ unwrap_or-slice_get t place 0 ∙ ap (λ (n : ℕ). get_or t n 0) (sym back) ∙ sym (get_or-drop start t j 0) in
-    rw (is, byte, more, (take_at_read (drop start t) j 0 rest).1, map-append glyph (take j (drop start t)) (get_or (drop start t) j 0 ∷ []), append_assoc) refl
 
 -- of what is taken, the first ones
 take_least : {X : Type 0} (m n : ℕ) (xs : List X) → take m (take n xs) ≡ take (min n m) xs
@@ -41,6 +22,26 @@ take_least m n xs =
       | inr enough ↦ let least : min n m ≡ m = omega (arith, enough) in
           rw least (take-take m n xs enough)
     ]
+
+-- the part of a line that is shown, taken from its bytes
+pub shown_part : (line : List ℕ) (left from count : ℕ) → from ≡ min left (length line) → count ≡ min (length line - from) SCREEN_COLUMNS
+    → take (from + count - from) (drop from line) ≡ take SCREEN_COLUMNS (drop left line)
+shown_part line left from count at few =
+    let all : from + count - from ≡ count = omega arith in
+    ap (λ (n : ℕ). take n (drop from line)) all
+    ∙ elim (cases_lt left (length line)) [
+      | inl short ↦
+          let same : from ≡ left = omega (arith, at, short) in
+          let least : count ≡ min (length (drop left line)) SCREEN_COLUMNS = omega (arith, few, same, length-drop left line) in
+          ap (λ (k : ℕ). take count (drop k line)) same ∙ ap (λ (k : ℕ). take k (drop left line)) least ∙ take_few SCREEN_COLUMNS (drop left line)
+      | inr past ↦
+          let none : count ≡ 0 = omega (arith, few, at, past) in
+          let gone : drop left line ≡ [] = drop_all left line past in
+          rw (none, gone) refl
+    ]
+  where
+    take_few : (n : ℕ) (xs : List ℕ) → take (min (length xs) n) xs ≡ take n xs
+    take_few n xs = sym (take_least n (length xs) xs) ∙ ap (take n) (take_all (length xs) xs (omega arith))
 
 -- the part of a line that is shown, taken from the text
 part_shown : (t : List ℕ) (start left end n : ℕ) → start ≤ end → end ≤ length t → n ≡ end - start - left
@@ -101,6 +102,42 @@ line_last t old new start left end n from whole is rest pushed =
     let past : length xs ≤ position_or_len is_break xs = omega (arith, is, whole, from, length-drop start t) in
     record {
       pushed = line_shown t old new start left end n from (omega (arith, whole)) is rest pushed;
+      rest = rw (only_line xs past) refl;
+    }
+
+-- a line that ends among the bytes that were looked at
+near_end : (t : List ℕ) (start m width : ℕ) → start ≤ length t → m ≡ min (length t - start) NEAR → width ≡ min m (position_or_len is_break (drop start t)) → width < NEAR
+    → width ≡ position_or_len is_break (drop start t)
+near_end t start m width from all at short = omega (arith, all, at, short, prefix_len-le-length (λ b. not (is_break b)) (drop start t), length-drop start t)
+
+near_shown : (t near old new : List ℕ) (start left width : ℕ) → take width near ≡ take width (drop start t) → width ≡ position_or_len is_break (drop start t)
+    → new ≡ old ++ shown_of left (take width near) → new ≡ old ++ shown_of left (get_or (lines_from t (Some start)) 0 [])
+near_shown t near old new start left width is at pushed =
+    let xs = drop start t in
+    pushed ∙ ap (λ (ys : List ℕ). old ++ shown_of left ys) (is ∙ ap (λ (k : ℕ). take k xs) at ∙ sym (first_of xs))
+
+pub near_then : (t near old new : List ℕ) (start left m width : ℕ) → start ≤ length t → m ≡ min (length t - start) NEAR → take width near ≡ take width (drop start t)
+    → width ≡ min m (position_or_len is_break (drop start t)) → width < NEAR → start + width < length t → new ≡ old ++ shown_of left (take width near)
+    → PushesLine t (Some start) left (Some (start + width + 1)) old new
+near_then t near old new start left m width from all is at short inside pushed =
+    let xs = drop start t in
+    let end = near_end t start m width from all at short in
+    let broken : position_or_len is_break xs < length xs = omega (arith, end, inside, length-drop start t) in
+    let next : start + (position_or_len is_break xs + 1) ≡ start + width + 1 = omega (arith, end) in
+    record {
+      pushed = near_shown t near old new start left width is end pushed;
+      rest = rw (slice_split_first is_break xs 0 broken, drop-drop (position_or_len is_break xs + 1) start t, next) refl;
+    }
+
+pub near_last : (t near old new : List ℕ) (start left m width : ℕ) → start ≤ length t → m ≡ min (length t - start) NEAR → take width near ≡ take width (drop start t)
+    → width ≡ min m (position_or_len is_break (drop start t)) → width < NEAR → length t ≤ start + width → new ≡ old ++ shown_of left (take width near)
+    → PushesLine t (Some start) left None old new
+near_last t near old new start left m width from all is at short whole pushed =
+    let xs = drop start t in
+    let end = near_end t start m width from all at short in
+    let past : length xs ≤ position_or_len is_break xs = omega (arith, end, whole, length-drop start t) in
+    record {
+      pushed = near_shown t near old new start left width is end pushed;
       rest = rw (only_line xs past) refl;
     }
 

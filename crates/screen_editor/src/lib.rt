@@ -10,6 +10,7 @@ mod keeping;
 mod key;
 pub mod laws;
 mod lines;
+mod near;
 mod opening;
 mod rows;
 mod running;

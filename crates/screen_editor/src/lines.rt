@@ -11,7 +11,8 @@ use lazy_file::{SourceFault, Sources};
 use rope_node::{NodeSpace, Rope, rope_len};
 use std::alloc::Global;
 
-const LINE_BREAK: u8 = 0x0A;
+/// The byte that ends a line.
+pub const LINE_BREAK: u8 = 0x0A;
 
 /// One behind the last line break below a place, or the text's start.
 ///

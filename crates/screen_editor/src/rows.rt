@@ -1,20 +1,19 @@
 //! The rows of the screen.
 
-ghost use Rattle.std.specs.Prelude.{◌≡◌, ◌≤◌, ◌-◌, ◌++◌, map, take, drop, IfOk, IfSome, OnOk};
+ghost use Rattle.std.specs.Prelude.{◌≡◌, ◌≤◌, ◌+◌, ◌-◌, ◌++◌, map, take, drop, IfOk, IfSome, OnOk};
 ghost use Rattle.rope_node.specs.Denotes.{IsRope, rope_len};
 ghost use Rattle.cord_position.specs.Fetched.{rope_cell};
 ghost use Rattle.cord_search.specs.Stated.{OfText};
 ghost use Rattle.screen_editor.specs.Frame.{glyph};
 ghost use Rattle.screen_editor.specs.Refusals.{ReadsToShow};
-ghost use Rattle.screen_editor.specs.Rows.{lines_from, rows_in, PushesLine};
+ghost use Rattle.screen_editor.specs.Rows.{lines_from, rows_in, shown_of, PushesLine};
 
 use crate::fault::FrameFault;
 use crate::lines::line_end;
-use cord_position::Pos;
-use cord_search::byte_at;
+use crate::near::{NEAR, read_line, read_near};
 use lazy_file::Sources;
 use rope_node::{NodeSpace, Rope, rope_len};
-use std::alloc::Global;
+use std::alloc::{AllocError, Global};
 
 /// So many lines of the text are shown.
 const SCREEN_ROWS: u32 = 23;
@@ -32,8 +31,27 @@ fn glyph(byte: u8) -> u8
     }
 }
 
-/// Appends the bytes from `start` up to `end`, as they are shown.
-fn push_glyphs<S: NodeSpace, T: Sources>(
+/// Appends these bytes, as they are shown.
+fn push_glyphs(bytes: &[u8], out: &mut Vec<u8>) -> Result<(), AllocError>
+    ensures { OnOk result (out.new.items ≡ out.old.items ++ map glyph bytes.now) }
+{
+    for byte in bytes {
+        out.push(glyph(*byte))?;
+    }
+    Ok(())
+}
+
+/// Appends what is shown of a line of these bytes, from the column `left` on.
+fn push_shown(line: &[u8], left: u64, out: &mut Vec<u8>) -> Result<(), AllocError>
+    ensures { OnOk result (out.new.items ≡ out.old.items ++ shown_of left line.now) }
+{
+    let from = left.min(line.len() as u64) as usize;
+    let count = (line.len() - from).min(SCREEN_COLUMNS as usize);
+    push_glyphs(&line[from..from + count], out)
+}
+
+/// Appends the bytes from `start` up to `end`, at most a row of them, as they are shown.
+fn push_part<S: NodeSpace, T: Sources>(
     alloc: Global,
     space: &S,
     sources: &mut T,
@@ -45,23 +63,22 @@ fn push_glyphs<S: NodeSpace, T: Sources>(
     requires rope { IsRope (S.table space.now) rope }
     requires start { start ≤ end }
     requires end { end ≤ rope_len (S.table space.now) rope }
+    requires row { end ≤ start + SCREEN_COLUMNS }
     ensures bytes { OnOk result (OfText (S.table space.now) (T.reading sources.old).stated rope
         (λ t. out.new.items ≡ out.old.items ++ map glyph (take (end - start) (drop start t)))) }
     ensures reads { ReadsToShow (T.reading sources.old) (T.reading sources.new)
         (rope_cell (S.table space.now) rope) (rope_len (S.table space.now) rope) result }
 {
-    let mut pos = Pos::set(alloc, space, rope, start);
-    for place in start..end {
-        let byte = byte_at(&pos, space, sources, rope, place)?;
-        out.push(glyph(byte.unwrap_or(0)))?;
-        pos.next();
-    }
+    let mut buffer = [0; SCREEN_COLUMNS as usize];
+    let row = &mut buffer[..(end - start) as usize];
+    read_near(alloc, space, sources, rope, start, row)?;
+    push_glyphs(row, out)?;
     Ok(())
 }
 
 /// Appends what is shown of the line that begins at `start`, from the column `left` on. It answers where the next
-/// line begins, or that there is none.
-fn push_line<S: NodeSpace, T: Sources>(
+/// line begins, or that there is none. It looks for the line's end through the text.
+fn push_long_line<S: NodeSpace, T: Sources>(
     alloc: Global,
     space: &S,
     sources: &mut T,
@@ -81,7 +98,7 @@ fn push_line<S: NodeSpace, T: Sources>(
     let end = line_end(alloc, space, sources, rope, start)?;
     let rest = (end - start).saturating_sub(left);
     let from = end - rest;
-    push_glyphs(
+    push_part(
         alloc,
         space,
         sources,
@@ -96,6 +113,36 @@ fn push_line<S: NodeSpace, T: Sources>(
         None
     };
     Ok(next)
+}
+
+/// Appends the same. Where the line ends near its start, its bytes and its end are had by one look.
+fn push_line<S: NodeSpace, T: Sources>(
+    alloc: Global,
+    space: &S,
+    sources: &mut T,
+    rope: Rope,
+    start: u64,
+    left: u64,
+    out: &mut Vec<u8>,
+) -> Result<Option<u64>, FrameFault>
+    requires rope { IsRope (S.table space.now) rope }
+    requires start { start ≤ rope_len (S.table space.now) rope }
+    ensures inside { IfOk result (λ next. IfSome next (λ s. s ≤ rope_len (S.table space.now) rope)) }
+    ensures line { IfOk result (λ next. OfText (S.table space.now) (T.reading sources.old).stated rope
+        (λ t. PushesLine t (Some start) left next out.old.items out.new.items)) }
+    ensures reads { ReadsToShow (T.reading sources.old) (T.reading sources.new)
+        (rope_cell (S.table space.now) rope) (rope_len (S.table space.now) rope) result }
+{
+    let len = rope_len(space, rope);
+    let mut buffer = [0; NEAR];
+    let near = &mut buffer[..(len - start).min(NEAR as u64) as usize];
+    let width = read_line(alloc, space, sources, rope, start, near)?;
+    if width == NEAR {
+        return push_long_line(alloc, space, sources, rope, start, left, out);
+    }
+    push_shown(&near[..width], left, out)?;
+    let end = start + width as u64;
+    Ok(if end < len { Some(end + 1) } else { None })
 }
 
 /// Appends the same of the line that begins at `start`, or nothing behind the last line.

@@ -1,14 +1,9 @@
-use Rattle.std.proofs.Common.{◌≡◌, ◌-◌, ◌++◌, take, drop, map}
-use Rattle.cord_search.specs.Reached.{StandsAtPlace}
-use Rattle.cord_search.specs.Stated.{OfText}
+use Rattle.std.proofs.Common.{◌≡◌, ◌++◌, map, take}
 use Rattle.screen_editor.specs.Frame.{glyph}
 use Rattle.screen_editor.proofs.rows.push_glyphs.Given as goal
 
--- the sources are as they were, and no read of them has failed, and the position stands at the place
-abbrev pub invariant-loop-place : goal.invariant-loop-place
-invariant-loop-place g l = record {
-  reads : g.T.Sources.reading l.sources ≡ g.T.Sources.reading l.initial.sources;
-  at : StandsAtPlace g.S.NodeSpace.table l.pos l.space l.rope l.place;
-  told : OfText (g.S.NodeSpace.table l.space) (g.T.Sources.reading l.initial.sources).stated l.rope
-      (λ t. l.out.items ≡ l.initial.out.items ++ map glyph (take (l.place - l.start) (drop l.start t)));
+-- so many bytes were appended
+abbrev pub invariant-loop-byte : goal.invariant-loop-byte
+invariant-loop-byte l = record {
+  told : l.out.items ≡ l.initial.out.items ++ map glyph (take l.byte-index l.bytes);
 }

@@ -1,39 +1,41 @@
-use Rattle.std.proofs.Common.{◌≡◌, ◌+◌, ◌-◌, ◌++◌, ℕ, length, map, take, drop, sym, subst, ◌∙◌, arith}
-use Rattle.std.proofs.lemmas.Result.{err_from_is_err_and}
+use Rattle.std.proofs.Common.{◌≡◌, ◌-◌, ◌<◌, ◌≤◌, ℕ, List, length, min, take, sym, ◌∙◌, arith, replicate}
+use Rattle.std.proofs.lemmas.List.{length-take, length-replicate}
 use Rattle.lazy_file.proofs.LaterReads.{same_stated}
-use Rattle.rope_node.specs.Denotes.{rope_cells, rope_len, text}
-use Rattle.cord_position.specs.Fetched.{rope_cell}
-use Rattle.cord_search.proofs.Fetches.{told_before, text_length}
-use Rattle.screen_editor.specs.Frame.{glyph}
-use Rattle.screen_editor.proofs.RowLaws.{line_then, line_last}
-use Rattle.screen_editor.proofs.Showing.{failed_part}
+use Rattle.rope_node.specs.Denotes.{rope_cells, text}
+use Rattle.cord_search.proofs.Fetches.{text_length}
+use Rattle.screen_editor.specs.declared.near.TheConstants.{NEAR}
+use Rattle.screen_editor.proofs.RowLaws.{near_then, near_last}
 use Rattle.screen_editor.proofs.rows.push_line.Goals as goal
 
-pub returns-in_err-push_glyphs-clause-reads : goal.returns-in_err-push_glyphs-clause-reads
-returns-in_err-push_glyphs-clause-reads g c =
-    let p = err_from_is_err_and c.from_residual-in_err-push_glyphs.result c.from_residual-in_err-push_glyphs.ensures.1 in
-    let t = g.S.NodeSpace.table c.args.space.now in
-    rw (p.1, p.2) (failed_part (g.T.Sources.reading c.args.sources.now) (g.T.Sources.reading c.line_end.new.sources) (g.T.Sources.reading c.push_glyphs.new.sources) (rope_cell t c.args.rope) (rope_len t c.args.rope) _
-    c.in_ok-end.ensures.reads c.in_err-push_glyphs.ensures.reads)
+pub returns-then-width-eq-NEAR-clause-line : goal.returns-then-width-eq-NEAR-clause-line
+returns-then-width-eq-NEAR-clause-line g c = rw (same_stated c.in_ok-width.ensures.reads) at c.push_long_line.ensures.line
 
-pub returns-then-end-rope_len-clause-line : goal.returns-then-end-rope_len-clause-line
-returns-then-end-rope_len-clause-line g c source agrees stated =
+pub returns-then-end-len-clause-line : goal.returns-then-end-len-clause-line
+returns-then-end-len-clause-line g c source agrees stated =
     let t = g.S.NodeSpace.table c.args.space.now in
     let u = text source (rope_cells t c.args.rope) in
-    let end = c.in_ok-end.end in
-    let n = c.saturating_sub-rest.result in
-    let long : length u ≡ c.rope_len.result = text_length t c.args.rope source ∙ sym c.rope_len.ensures.cells in
-    let bytes = told_before t (g.T.Sources.reading c.args.sources.now).stated (g.T.Sources.reading c.line_end.new.sources).stated c.args.rope 0 (rope_len t c.args.rope) (λ v. c.push_glyphs.new.out.items ≡ c.args.out.now.items ++ map glyph (take (end - n + c.min.result - (end - n)) (drop (end - n) v))) (same_stated c.in_ok-end.ensures.reads) c.in_ok-push_glyphs.ensures.bytes source agrees stated in
-    let pushed = subst (λ (m : ℕ). c.push_glyphs.new.out.items ≡ c.args.out.now.items ++ map glyph (take (end - n + m - (end - n)) (drop (end - n) u))) c.min.ensures bytes in
-    line_then u c.args.out.now.items c.push_glyphs.new.out.items c.args.start c.args.left end n c.in_ok-end.ensures.from (omega (arith, long, c.if-end-rope_len.true)) (c.in_ok-end.ensures.is source agrees stated) c.saturating_sub-rest.ensures pushed
+    let near = c.read_line.new.buffer in
+    let width = c.in_ok-width.width in
+    let long : length u ≡ c.rope_len-len.result = text_length t c.args.rope source ∙ sym c.rope_len-len.ensures.cells in
+    let zeros : List ℕ = replicate NEAR 0 in
+    let room : length zeros ≡ NEAR = length-replicate {A = ℕ} NEAR 0 in
+    let all : length (take c.min.result zeros) ≡ min (length u - c.args.start) NEAR = omega (arith, long, room, c.min.ensures, length-take c.min.result zeros) in
+    let most : width ≤ length (take c.min.result zeros) = c.in_ok-width.ensures.most in
+    let short : width < NEAR = omega (arith, c.if-width-eq-NEAR.false, all, most) in
+    near_then u near c.args.out.now.items c.push_shown.new.out.items c.args.start c.args.left (length (take c.min.result zeros)) width (omega (arith, long, c.rope_len-len.ensures.exact, c.requires.start)) all
+    (c.in_ok-width.ensures.bytes source agrees stated) (c.in_ok-width.ensures.is source agrees stated) short (omega (arith, long, c.if-end-len.true)) c.in_ok-push_shown.ensures
 
-pub returns-else-end-rope_len-clause-line : goal.returns-else-end-rope_len-clause-line
-returns-else-end-rope_len-clause-line g c source agrees stated =
+pub returns-else-end-len-clause-line : goal.returns-else-end-len-clause-line
+returns-else-end-len-clause-line g c source agrees stated =
     let t = g.S.NodeSpace.table c.args.space.now in
     let u = text source (rope_cells t c.args.rope) in
-    let end = c.in_ok-end.end in
-    let n = c.saturating_sub-rest.result in
-    let long : length u ≡ c.rope_len.result = text_length t c.args.rope source ∙ sym c.rope_len.ensures.cells in
-    let bytes = told_before t (g.T.Sources.reading c.args.sources.now).stated (g.T.Sources.reading c.line_end.new.sources).stated c.args.rope 0 (rope_len t c.args.rope) (λ v. c.push_glyphs.new.out.items ≡ c.args.out.now.items ++ map glyph (take (end - n + c.min.result - (end - n)) (drop (end - n) v))) (same_stated c.in_ok-end.ensures.reads) c.in_ok-push_glyphs.ensures.bytes source agrees stated in
-    let pushed = subst (λ (m : ℕ). c.push_glyphs.new.out.items ≡ c.args.out.now.items ++ map glyph (take (end - n + m - (end - n)) (drop (end - n) u))) c.min.ensures bytes in
-    line_last u c.args.out.now.items c.push_glyphs.new.out.items c.args.start c.args.left end n c.in_ok-end.ensures.from (omega (arith, long, c.if-end-rope_len.false, c.in_ok-end.ensures.inside, c.rope_len.ensures.exact)) (c.in_ok-end.ensures.is source agrees stated) c.saturating_sub-rest.ensures pushed
+    let near = c.read_line.new.buffer in
+    let width = c.in_ok-width.width in
+    let long : length u ≡ c.rope_len-len.result = text_length t c.args.rope source ∙ sym c.rope_len-len.ensures.cells in
+    let zeros : List ℕ = replicate NEAR 0 in
+    let room : length zeros ≡ NEAR = length-replicate {A = ℕ} NEAR 0 in
+    let all : length (take c.min.result zeros) ≡ min (length u - c.args.start) NEAR = omega (arith, long, room, c.min.ensures, length-take c.min.result zeros) in
+    let most : width ≤ length (take c.min.result zeros) = c.in_ok-width.ensures.most in
+    let short : width < NEAR = omega (arith, c.if-width-eq-NEAR.false, all, most) in
+    near_last u near c.args.out.now.items c.push_shown.new.out.items c.args.start c.args.left (length (take c.min.result zeros)) width (omega (arith, long, c.rope_len-len.ensures.exact, c.requires.start)) all
+    (c.in_ok-width.ensures.bytes source agrees stated) (c.in_ok-width.ensures.is source agrees stated) short (omega (arith, long, c.if-end-len.false)) c.in_ok-push_shown.ensures

@@ -13,7 +13,7 @@ pub returns-in_err-top-clause-reads : goal.returns-in_err-top-clause-reads
 returns-in_err-top-clause-reads g c =
     let p = err_from_is_err_and c.from_residual.result c.from_residual.ensures.1 in
     let t = g.S.NodeSpace.table c.args.space.now in
-    rw (p.1, p.2) (failed_in {X = Unit {0}} (g.T.Sources.reading c.args.sources.now) (g.T.Sources.reading c.loop-row.sources) (g.T.Sources.reading c.line_start.new.sources) (rope_cell t c.args.rope) 0 (rope_len t c.args.rope) 0 (rope_len t c.args.rope) (Err c.in_err-top.field-0.0)
+    rw (p.1, p.2) (failed_in {X = Unit {0}} (g.T.Sources.reading c.args.sources.now) (g.T.Sources.reading c.loop-row.sources) (g.T.Sources.reading c.near_start.new.sources) (rope_cell t c.args.rope) 0 (rope_len t c.args.rope) 0 (rope_len t c.args.rope) (Err c.in_err-top.field-0.0)
     c.loop-row.invariant.reads c.in_err-top.ensures.reads (omega arith) (omega arith))
 
 pub loop-row-preserved : goal.loop-row-preserved

@@ -13,7 +13,7 @@ pub returns-in_err-top-clause-reads : goal.returns-in_err-top-clause-reads
 returns-in_err-top-clause-reads g c =
     let p = err_from_is_err_and c.from_residual-in_err-top.result c.from_residual-in_err-top.ensures.1 in
     let t = g.S.NodeSpace.table c.args.space.now in
-    rw (p.1, p.2) (failed_in {X = Unit {0}} (g.T.Sources.reading c.args.sources.now) (g.T.Sources.reading c.line_start.new.sources) (g.T.Sources.reading c.go_back.new.sources) (rope_cell t c.args.rope) 0 (rope_len t c.args.rope) 0 (rope_len t c.args.rope) (Err c.in_err-top.field-0.0)
+    rw (p.1, p.2) (failed_in {X = Unit {0}} (g.T.Sources.reading c.args.sources.now) (g.T.Sources.reading c.near_start.new.sources) (g.T.Sources.reading c.go_back.new.sources) (rope_cell t c.args.rope) 0 (rope_len t c.args.rope) 0 (rope_len t c.args.rope) (Err c.in_err-top.field-0.0)
     c.in_ok-start.ensures.reads c.in_err-top.ensures.reads (omega arith) (omega arith))
 
 pub returns-clause-is : goal.returns-clause-is
@@ -22,5 +22,5 @@ returns-clause-is g c source agrees stated =
     let u = text source (rope_cells t c.args.rope) in
     let long : length u ≡ c.rope_len.result = text_length t c.args.rope source ∙ sym c.rope_len.ensures.cells in
     let held : c.args.place ≤ length u = omega (arith, long, c.rope_len.ensures.exact, c.requires.place) in
-    let above = told_before t (g.T.Sources.reading c.args.sources.now).stated (g.T.Sources.reading c.line_start.new.sources).stated c.args.rope 0 (rope_len t c.args.rope) (λ v. IsAbove v c.in_ok-start.start c.in_ok-top.top c.in_ok-top.row) (same_stated c.in_ok-start.ensures.reads) c.in_ok-top.ensures.back source agrees stated in
+    let above = told_before t (g.T.Sources.reading c.args.sources.now).stated (g.T.Sources.reading c.near_start.new.sources).stated c.args.rope 0 (rope_len t c.args.rope) (λ v. IsAbove v c.in_ok-start.start c.in_ok-top.top c.in_ok-top.row) (same_stated c.in_ok-start.ensures.reads) c.in_ok-top.ensures.back source agrees stated in
     window_is u c.args.place c.in_ok-start.start c.in_ok-top.top c.in_ok-top.row held (c.in_ok-start.ensures.is source agrees stated) (omega (arith, c.in_ok-top.ensures.inside, c.in_ok-start.ensures.inside)) c.in_ok-top.ensures.few c.in_ok-top.ensures.all above

@@ -1,0 +1,44 @@
+use Rattle.std.proofs.Common.{◌≡◌, ◌+◌, ◌-◌, ◌≤◌, ℕ, length, take, drop, sym, ap, subst, ◌∙◌, arith}
+use Rattle.std.proofs.lemmas.List.{length-take, length-drop, take_all}
+use Rattle.lazy_file.proofs.LaterReads.{same_stated}
+use Rattle.rope_node.specs.Denotes.{rope_cells, rope_len, text}
+use Rattle.cord_search.specs.Reached.{StandsAtPlace}
+use Rattle.cord_search.proofs.Fetches.{told_before}
+use Rattle.cord_search.proofs.Reaching.{later_place}
+use borrow.Rule.Slice.PartMut.{same_len_mid}
+use Rattle.screen_editor.proofs.NearLaws.{near_more}
+use Rattle.screen_editor.proofs.near.read_near.Goals as goal
+
+after : (start done n : ℕ) → start + done + n ≡ start + (done + n)
+after start done n = omega arith
+
+pub loop-done-preserved : goal.loop-done-preserved
+loop-done-preserved g c =
+    let here = c.loop-done.pos in
+    let done = c.loop-done.done in
+    let n = c.in_ok-count.count in
+    let buffer = c.loop-done.buffer in
+    let part = c.fill_there.new.buffer in
+    let t = g.S.NodeSpace.table c.args.space.now in
+    let filled = c.in_ok-count.ensures.length in
+    let few : n ≤ length part = omega (arith, c.in_ok-count.ensures.most, filled) in
+    let long = same_len_mid done (length buffer - done) buffer part filled in
+    let inside : done + n ≤ length buffer = omega (arith, few, filled, length-take (length buffer - done) (drop done buffer), length-drop done buffer, c.loop-done.invariant.inside) in
+    record {
+      reads = c.in_ok-count.ensures.reads ∙ c.loop-done.invariant.reads;
+      inside = omega (arith, long, inside);
+      length = long ∙ c.loop-done.invariant.length;
+      at = subst (λ (p : ℕ). StandsAtPlace g.S.NodeSpace.table c.skip.new.self c.args.space.now c.args.rope p) (after c.args.start done n)
+          (later_place g.S.NodeSpace.table here c.skip.new.self c.args.space.now c.args.rope (c.args.start + done) n c.skip.ensures.space c.skip.ensures.rope c.skip.ensures.index c.loop-done.invariant.at);
+      told = λ source agrees stated.
+          let u = text source (rope_cells t c.args.rope) in
+          let read = told_before t (g.T.Sources.reading c.args.sources.now).stated (g.T.Sources.reading c.loop-done.sources).stated c.args.rope 0 (rope_len t c.args.rope) (λ v. take n part ≡ take n (drop (c.args.start + done) v)) (same_stated c.loop-done.invariant.reads) c.in_ok-count.ensures.bytes source agrees stated in
+          near_more u buffer part c.args.start done n c.loop-done.invariant.inside few (c.loop-done.invariant.told source agrees stated) read;
+    }
+
+pub returns-clause-bytes : goal.returns-clause-bytes
+returns-clause-bytes g c source agrees stated =
+    let u = text source (rope_cells (g.S.NodeSpace.table c.args.space.now) c.args.rope) in
+    let buffer = c.loop-done.buffer in
+    let all : c.loop-done.done ≡ length c.args.buffer.now = omega (arith, c.loop-done-test.false, c.loop-done.invariant.inside, c.loop-done.invariant.length) in
+    sym (take_all c.loop-done.done buffer (omega (arith, all, c.loop-done.invariant.length))) ∙ c.loop-done.invariant.told source agrees stated ∙ ap (λ (m : ℕ). take m (drop c.args.start u)) all
