@@ -2,7 +2,7 @@
 use Rattle.std.specs.Prelude.{◌≡◌, ℕ, ◌+◌, ◌-◌, ◌<◌, ◌≤◌, min, nat_lt, if◌then◌else◌, List, length, map, take, drop, Option, Some, None}
 use Rattle.std.specs.List.{range_with_len}
 use Rattle.function_leaf.specs.declared.coded.Coded.{Coded}
-use Rattle.rope_node.specs.Table.{Table, len_at, depth_at, IsLeaf}
+use Rattle.rope_node.specs.Table.{Table, len_at, depth_at}
 use Rattle.rope_node.specs.Denotes.{Cell, Byte, Place, cells}
 use Rattle.rope_node.specs.declared.node.NodeId.{NodeId}
 use Rattle.rope_node.specs.declared.node.NodeView.{NodeView}
@@ -13,8 +13,6 @@ use Rattle.span_certificate.specs.declared.part.Part.{Part}
 use Rattle.span_certificate.specs.declared.row.Row.{Row}
 use Rattle.span_certificate.specs.declared.row.RowKind.{RowKind}
 use Rattle.span_certificate.specs.declared.row.RowKind.TheVariants.{Shared, Leaf, Bytes}
-use Rattle.span_certificate.specs.declared.walk.Descent.{Descent}
-use Rattle.span_certificate.specs.declared.walk.Descent.TheVariants.{First, Second, Neither}
 use Rattle.span_certificate.specs.declared.walk.Span.{Span}
 use Rattle.span_certificate.specs.Leads.{Leads, HasDescription}
 use Rattle.span_certificate.specs.Covers.{KindFits}
@@ -99,9 +97,3 @@ pub record IsNext (t : Table) (coded : ℕ → Coded) (part : Part) (off : ℕ) 
   pub few : row.len ≤ left
   pub fits : (source : ℕ → ℕ → ℕ) → KindFits t coded source row.len part off (Some root) place row.kind
   pub bytes : row.kind ≡ Bytes → AreBytes (take row.len (drop place (cells t root.0)))
-
--- a walk goes down one side by a step, or both are leaves
-abbrev pub GoesDown : Table → Span → NodeView → Span → NodeView → Descent → Type 0
-GoesDown t a of_a b of_b (First z) = (Some z ≡ child_span t a of_a) × IsBelow t a z
-GoesDown t a of_a b of_b (Second w) = (Some w ≡ child_span t b of_b) × IsBelow t b w
-GoesDown t a of_a b of_b Neither = IsLeaf of_a × IsLeaf of_b

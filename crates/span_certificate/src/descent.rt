@@ -1,9 +1,9 @@
 //! The way from a span of a node down to the leaf that it lies in.
 
 ghost use Rattle.std.specs.Prelude.{◌≡◌, ◌+◌, ◌<◌, ◌≤◌, ◌↔◌, length, Some, IfSome};
-ghost use Rattle.rope_node.specs.Table.{view_at, len_at, IsLeaf, IsSound, HasTrueRecords};
-ghost use Rattle.span_certificate.specs.Descents.{IsSpanPlace, LeadsToSpan};
-ghost use Rattle.span_certificate.specs.Steps.{IsReached, IsSpan};
+ghost use Rattle.rope_node.specs.Table.{len_at, IsSound, HasTrueRecords};
+ghost use Rattle.span_certificate.specs.Descents.{IsLeafOf, IsSpanPlace, LeadsToSpan};
+ghost use Rattle.span_certificate.specs.Steps.{IsSpan};
 ghost use Rattle.span_certificate.specs.Trails.{IsTrail};
 ghost use Rattle.span_certificate.specs.declared.descent.SpanPlace.{SpanPlace};
 
@@ -89,9 +89,7 @@ pub fn first_leaf<S: CountedSpace<L>, L: Ledger>(
     requires true_records { HasTrueRecords (S.table space.now) }
     requires trail { IsTrail (S.table space.now) trail.old }
     requires span { IsSpan (S.table space.now) x }
-    ensures reached { IsReached (S.table space.now) x result.span }
-    ensures view { result.view ≡ view_at (S.table space.now) result.span.node.0 }
-    ensures leaf { IsLeaf result.view }
+    ensures leaf { IsLeafOf (S.table space.now) x result }
     ensures trail { IsTrail (S.table space.now) trail.new }
     ensures few { count.new ≤ count.old + 65 }
 {

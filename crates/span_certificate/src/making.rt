@@ -9,6 +9,7 @@ ghost use Rattle.span_certificate.specs.Longest.{AreLongest, IsCutShort, StayWit
 ghost use Rattle.span_certificate.specs.declared.making.TheConstants.{ROWS_LIMIT};
 ghost use Rattle.span_certificate.specs.Looks.{BeginsCount};
 ghost use Rattle.span_certificate.specs.Steps.{IsNext};
+ghost use Rattle.span_certificate.specs.Trails.{AreTrails};
 
 use crate::describe::Description;
 use crate::looks::{Count, CountedSpace};
@@ -17,6 +18,7 @@ use crate::part_iter::PartIter;
 use crate::place::PartPlace;
 use crate::row::Row;
 use crate::splices::Splices;
+use crate::trail::Trails;
 use crate::walk::{Span, next_leaf, next_old};
 use function_leaf::Coded;
 use rope_node::{CodedSpace, NodeId, NodeSpace, Rope};
@@ -39,6 +41,7 @@ pub enum MakeFault {
 /// The longest row for the first of the next `left` bytes, where they have the same cells on both sides.
 fn next_row<S: CountedSpace<L>, L: Ledger>(
     space: &S,
+    trails: &mut Trails,
     part: Part,
     off: u64,
     root: NodeId,
@@ -48,6 +51,7 @@ fn next_row<S: CountedSpace<L>, L: Ledger>(
 ) -> Row
     requires sound { IsSound (S.table space.now) }
     requires true_records { HasTrueRecords (S.table space.now) }
+    requires trails { AreTrails (S.table space.now) trails.old }
     requires part { IsPart (S.table space.now) part }
     requires some { 1 ≤ left }
     requires inside_part { off + left ≤ part_len part }
@@ -59,12 +63,14 @@ fn next_row<S: CountedSpace<L>, L: Ledger>(
         part off root place left result }
     ensures longest { result.len < left
         → ¬ StayWithin (S.table space.now) (result.len + 1) part off (Some root) place result.kind }
+    ensures trails { AreTrails (S.table space.now) trails.new }
 {
     let y = Span {
         node: root,
         start: place,
         len: left,
     };
+    let of_root = &mut trails.of_root;
     match part {
         Part::Old { rope, i, n: _ } => match rope {
             Some(node) => {
@@ -73,14 +79,27 @@ fn next_row<S: CountedSpace<L>, L: Ledger>(
                     start: i + off,
                     len: left,
                 };
-                next_old(space, x, y, count)
+                next_old(space, trails, x, y, count)
             }
             None => unreachable!(),
         },
-        Part::Pool { a, n: _ } => next_leaf(space, Description::Pooled { a: a + off }, y, count),
-        Part::Source { s, n: _ } => next_leaf(space, Description::Sourced { s, a: off }, y, count),
+        Part::Pool { a, n: _ } => next_leaf(
+            space,
+            of_root,
+            Description::Pooled { a: a + off },
+            y,
+            count,
+        ),
+        Part::Source { s, n: _ } => next_leaf(
+            space,
+            of_root,
+            Description::Sourced { s, a: off },
+            y,
+            count,
+        ),
         Part::Fill { c, n: _ } => next_leaf(
             space,
+            of_root,
             Description::Computed {
                 f: Coded::Fill(c),
                 i: 0,
@@ -118,6 +137,7 @@ fn make_for<S: CodedSpace, P: Splices, L: Ledger>(
 {
     let mut rows = Vec::new(alloc);
     let mut count = Count::<L>::new(blank);
+    let mut trails = Trails::new();
     let mut at = PartPlace::start(parts);
     let mut place = 0;
     let end = space.len(root);
@@ -130,6 +150,7 @@ fn make_for<S: CodedSpace, P: Splices, L: Ledger>(
             Some(part) => {
                 let row = next_row(
                     space,
+                    &mut trails,
                     part,
                     at.off,
                     root,
@@ -140,6 +161,8 @@ fn make_for<S: CodedSpace, P: Splices, L: Ledger>(
                 rows.push(row).map_err(|_| MakeFault::Memory)?;
                 place += row.len;
                 at.skip(row.len);
+                // Where another part begins, what both sides have in common is looked for anew.
+                trails.of_part.keep(at.off > 0);
             }
         }
     }

@@ -1,8 +1,8 @@
 //! The way down to a place of a rope, kept for the next place: what lies beside it is found from the last node that holds both.
 
-ghost use Rattle.std.specs.Prelude.{◌≡◌, ◌↔◌, ℕ, ◌+◌, ◌-◌, ◌<◌, ◌≤◌, ◌⊎◌, ◌^◌, length};
+ghost use Rattle.std.specs.Prelude.{◌≡◌, ◌↔◌, ℕ, ◌+◌, ◌-◌, ◌<◌, ◌≤◌, ◌⊎◌, ◌^◌, IfSome, length};
 ghost use Rattle.rope_node.specs.Table.{Table, len_at, IsSound};
-ghost use Rattle.span_certificate.specs.Trails.{AreTrails, Holds, IsTrailStop, IsTrail, IsTrailOf, base_stop, first_stop, left_stop, place_in, right_stop};
+ghost use Rattle.span_certificate.specs.Trails.{AreTrails, Holds, IsFound, StandsAt, IsTrailStop, IsTrail, IsTrailOf, base_stop, first_stop, left_stop, place_in, right_stop};
 
 use crate::looks::CountedSpace;
 use rope_node::{MOST_DEPTH, NodeId};
@@ -65,6 +65,23 @@ impl Stop {
             from: self.from + left.saturating_sub(self.start),
             end: self.end,
             start: self.start.saturating_sub(left),
+        }
+    }
+
+    /// This stop, if the root's byte at `place` is the byte `start` of this node in it.
+    #[inline(always)]
+    pub fn found(self, place: u64, node: NodeId, start: u64) -> Option<Stop>
+        ensures { IfSome result (StandsAt self place node start) }
+    {
+        if self.node.0 == node.0
+            && self.from <= place
+            && place < self.end
+            && self.start <= start
+            && start - self.start == place - self.from
+        {
+            Some(self)
+        } else {
+            None
         }
     }
 
@@ -159,6 +176,44 @@ impl Trail {
     {
         self.stops[self.count] = stop;
         self.count += 1;
+    }
+
+    /// The stop at which the root's byte at `place` is the byte `start` of this node, where there is one.
+    #[inline(always)]
+    pub fn find<S: CountedSpace<L>, L: Ledger>(
+        &self,
+        space: &S,
+        root: NodeId,
+        place: u64,
+        node: NodeId,
+        start: u64,
+    ) -> Option<Stop>
+        requires { IsTrailOf (S.table space.now) root self.now }
+        ensures { IfSome result (IsFound (S.table space.now) root.0 place node start) }
+    {
+        // Their numbers fall from the root on, so the lowest stop that is no lower than the node tells.
+        if node.0 > self.stops[0].node.0 {
+            return None;
+        }
+        let mut i = self.count;
+        while i > 0 {
+            i -= 1;
+            let stop = self.stops[i];
+            if stop.node.0 >= node.0 {
+                return stop.found(place, node, start);
+            }
+        }
+        None
+    }
+
+    /// This trail, or no rope's where it is not to be kept.
+    #[inline(always)]
+    pub fn keep(&mut self, kept: bool)
+        ensures { (t : Table) → IsTrail t self.old → IsTrail t self.new }
+    {
+        if !kept {
+            self.count = 0;
+        }
     }
 }
 

@@ -1,16 +1,19 @@
 //! The longest row that fits at a place.
 
-ghost use Rattle.std.specs.Prelude.{◌≡◌, ℕ, ◌+◌, ◌<◌, ◌≤◌, min, None, IfSome};
+ghost use Rattle.std.specs.Prelude.{◌≡◌, ℕ, ◌+◌, ◌-◌, ◌<◌, ◌≤◌, min, None, IfSome};
 ghost use Rattle.rope_node.specs.Table.{view_at, IsLeaf, IsSound, HasTrueRecords};
-ghost use Rattle.span_certificate.specs.Descents.{IsLeafOf, first_of};
+ghost use Rattle.span_certificate.specs.Descents.{first_of};
 ghost use Rattle.span_certificate.specs.Longest.{GoesToLeafEnd, SpansStayWithin};
-ghost use Rattle.span_certificate.specs.Steps.{IsSpan, IsBelow, span_cells, child_span, CellsAs, GoesDown, IsRowOf, IsDescribedRow};
+ghost use Rattle.span_certificate.specs.Steps.{IsSpan, span_cells, CellsAs, IsRowOf, IsDescribedRow};
+ghost use Rattle.span_certificate.specs.Trails.{AreTrails, GoesDown, Holds, IsStopBelow, IsTrail, IsTrailStop, place_in};
 ghost use Rattle.span_certificate.specs.declared.walk.TheConstants.{BYTES_LIMIT};
 ghost use Rattle.rope_node.specs.declared.node.NodeId.{NodeId};
 
+use crate::descent::first_leaf;
 use crate::describe::{Description, describe};
 use crate::looks::{Count, CountedSpace};
 use crate::row::{Row, RowKind};
+use crate::trail::{Stop, Trail, Trails};
 use rope_node::{NodeId, NodeView};
 use std::sync::ledger::Ledger;
 
@@ -26,77 +29,11 @@ pub struct Span {
     pub len: u64,
 }
 
-impl Span {
-    /// Its first `n` bytes.
-    pub fn shortened(self, n: u64) -> Span
-        ensures { result ≡ record self { len = n } }
-    {
-        Span {
-            node: self.node,
-            start: self.start,
-            len: n,
-        }
-    }
-}
-
 /// A leaf span that is the first bytes of another span, and what its leaf is.
 #[derive(Clone, Copy, Debug, PartialEq, Eq)]
 pub struct Reached {
     pub span: Span,
     pub view: NodeView,
-}
-
-/// Where the first bytes of a span lie in a child or a base of its node, which is `view`: as many of
-/// them as lie in one. A leaf has none.
-pub fn down<S: CountedSpace<L>, L: Ledger>(space: &S, x: Span, view: NodeView) -> Option<Span>
-    requires sound { IsSound (S.table space.now) }
-    requires true_records { HasTrueRecords (S.table space.now) }
-    requires span { IsSpan (S.table space.now) x }
-    requires view { view ≡ view_at (S.table space.now) x.node.0 }
-    ensures exact { result ≡ child_span (S.table space.now) x view }
-    ensures leaf { result ≡ None → IsLeaf view }
-    ensures below { IfSome result (IsBelow (S.table space.now) x) }
-{
-    match view {
-        NodeView::Cat { l, r } => {
-            let left = space.node_len(l);
-            if left <= x.start {
-                Some(Span {
-                    node: r,
-                    start: x.start - left,
-                    len: x.len,
-                })
-            } else {
-                Some(Span {
-                    node: l,
-                    start: x.start,
-                    len: x.len.min(left - x.start),
-                })
-            }
-        }
-        NodeView::Sub { b, i } => Some(Span {
-            node: b,
-            start: x.start + i,
-            len: x.len,
-        }),
-        NodeView::Lit { .. } | NodeView::Src { .. } | NodeView::Fun => None,
-    }
-}
-
-/// The leaf span that a span begins with, as far as it goes.
-pub fn leaf_of<S: CountedSpace<L>, L: Ledger>(space: &S, x: Span, count: &mut Count<L>) -> Reached
-    requires { IsSpan (S.table space.now) x }
-    ensures leaf { IsLeafOf (S.table space.now) x result }
-    ensures few { count.new ≤ count.old + 65 }
-{
-    let mut at = x;
-    'down: loop {
-        let view = space.look(at.node, count);
-        match down::<S, L>(space, at, view) {
-            None => return Reached { span: at, view },
-            Some(below) => at = below,
-        }
-    }
 }
 
 /// The row for two leaf spans of one length and the same cells.
@@ -149,13 +86,44 @@ fn described_row(d: Description, e: Description, len: u64) -> Row
     }
 }
 
+/// The stop below another that holds the byte at `place`, where its node, which is `view`, is no leaf.
+#[inline(always)]
+fn stop_below<S: CountedSpace<L>, L: Ledger>(
+    space: &S,
+    root: NodeId,
+    stop: Stop,
+    view: NodeView,
+    place: u64,
+) -> Option<Stop>
+    requires sound { IsSound (S.table space.now) }
+    requires true_records { HasTrueRecords (S.table space.now) }
+    requires stop { (i : ℕ) × IsTrailStop (S.table space.now) root.0 i stop }
+    requires holds { Holds stop place 1 }
+    requires view { view ≡ view_at (S.table space.now) stop.node.0 }
+    ensures below { IfSome result (IsStopBelow (S.table space.now) place stop) }
+    ensures leaf { result ≡ None → IsLeaf view }
+{
+    match view {
+        NodeView::Cat { l, r } => {
+            let left = space.node_len(l);
+            if left <= stop.place_in(place) {
+                Some(stop.in_right(r, left))
+            } else {
+                Some(stop.in_left(l, left))
+            }
+        }
+        NodeView::Sub { b, i } => Some(stop.in_base(b, i)),
+        NodeView::Lit { .. } | NodeView::Src { .. } | NodeView::Fun => None,
+    }
+}
+
 /// Where a walk down two sides goes on.
 #[derive(Clone, Copy, Debug, PartialEq, Eq)]
 pub enum Descent {
-    /// To this span below the first one.
-    First(Span),
-    /// To this span below the second one.
-    Second(Span),
+    /// To this stop below the first one.
+    First(Stop),
+    /// To this stop below the second one.
+    Second(Stop),
     /// Nowhere: both are leaves.
     Neither,
 }
@@ -164,31 +132,35 @@ pub enum Descent {
 #[inline(always)]
 fn next_step<S: CountedSpace<L>, L: Ledger>(
     space: &S,
-    a: Span,
+    x: Span,
+    a: Stop,
     of_a: NodeView,
-    b: Span,
+    y: Span,
+    b: Stop,
     of_b: NodeView,
 ) -> Descent
     requires sound { IsSound (S.table space.now) }
     requires true_records { HasTrueRecords (S.table space.now) }
-    requires a { IsSpan (S.table space.now) a }
+    requires a { (i : ℕ) × IsTrailStop (S.table space.now) x.node.0 i a }
+    requires in_a { Holds a x.start 1 }
     requires of_a { of_a ≡ view_at (S.table space.now) a.node.0 }
-    requires b { IsSpan (S.table space.now) b }
+    requires b { (i : ℕ) × IsTrailStop (S.table space.now) y.node.0 i b }
+    requires in_b { Holds b y.start 1 }
     requires of_b { of_b ≡ view_at (S.table space.now) b.node.0 }
-    ensures { GoesDown (S.table space.now) a of_a b of_b result }
+    ensures { GoesDown (S.table space.now) x.start a of_a y.start b of_b result }
 {
     if a.node.0 >= b.node.0 {
-        match down::<S, L>(space, a, of_a) {
+        match stop_below::<S, L>(space, x.node, a, of_a, x.start) {
             Some(z) => Descent::First(z),
-            None => match down::<S, L>(space, b, of_b) {
+            None => match stop_below::<S, L>(space, y.node, b, of_b, y.start) {
                 Some(w) => Descent::Second(w),
                 None => Descent::Neither,
             },
         }
     } else {
-        match down::<S, L>(space, b, of_b) {
+        match stop_below::<S, L>(space, y.node, b, of_b, y.start) {
             Some(w) => Descent::Second(w),
-            None => match down::<S, L>(space, a, of_a) {
+            None => match stop_below::<S, L>(space, x.node, a, of_a, x.start) {
                 Some(z) => Descent::First(z),
                 None => Descent::Neither,
             },
@@ -196,16 +168,54 @@ fn next_step<S: CountedSpace<L>, L: Ledger>(
     }
 }
 
+/// How many of the first bytes of two spans of one length lie in both stops.
+#[inline(always)]
+fn len_in(x: Span, a: Stop, y: Span, b: Stop) -> u64
+    requires in_a { x.start ≤ a.end }
+    requires in_b { y.start ≤ b.end }
+    ensures { result ≡ min (min x.len (a.end - x.start)) (b.end - y.start) }
+{
+    x.len.min(a.end - x.start).min(b.end - y.start)
+}
+
+/// The row over the node of two stops, where the first bytes of two spans stand at one place of it.
+#[inline(always)]
+fn shared_row<S: CountedSpace<L>, L: Ledger>(space: &S, x: Span, a: Stop, y: Span, b: Stop) -> Row
+    requires sound { IsSound (S.table space.now) }
+    requires true_records { HasTrueRecords (S.table space.now) }
+    requires x { IsSpan (S.table space.now) x }
+    requires y { IsSpan (S.table space.now) y }
+    requires len { y.len ≡ x.len }
+    requires a { (i : ℕ) × IsTrailStop (S.table space.now) x.node.0 i a }
+    requires in_a { Holds a x.start 1 }
+    requires b { (i : ℕ) × IsTrailStop (S.table space.now) y.node.0 i b }
+    requires in_b { Holds b y.start 1 }
+    requires same_node { a.node ≡ b.node }
+    requires same_place { place_in a x.start ≡ place_in b y.start }
+    ensures row { IsRowOf (S.table space.now) (S.coded space.now) x y result }
+    ensures longest { result.len < x.len
+        → ¬ SpansStayWithin (S.table space.now) (result.len + 1) x y result.kind }
+{
+    Row {
+        len: len_in(x, a, y, b),
+        kind: RowKind::Shared(a.node, a.place_in(x.start)),
+    }
+}
+
 /// A row for the first bytes of two spans of the same cells: over the first node that both lead to at
-/// one place, or over two leaf spans. Each node on the way is looked at once.
+/// one place, or over two leaf spans. Each side goes on from the last stop of its trail that holds its first byte. What both trails
+/// kept is at one place of both only where the row before it was over that node to its end, so the first node of both is met where one
+/// side comes to a stop that is new.
 pub fn next_old<S: CountedSpace<L>, L: Ledger>(
     space: &S,
+    trails: &mut Trails,
     x: Span,
     y: Span,
     count: &mut Count<L>,
 ) -> Row
     requires sound { IsSound (S.table space.now) }
     requires true_records { HasTrueRecords (S.table space.now) }
+    requires trails { AreTrails (S.table space.now) trails.old }
     requires x { IsSpan (S.table space.now) x }
     requires y { IsSpan (S.table space.now) y }
     requires len { y.len ≡ x.len }
@@ -214,30 +224,60 @@ pub fn next_old<S: CountedSpace<L>, L: Ledger>(
     ensures row { IsRowOf (S.table space.now) (S.coded space.now) x y result }
     ensures longest { result.len < x.len
         → ¬ SpansStayWithin (S.table space.now) (result.len + 1) x y result.kind }
+    ensures trails { AreTrails (S.table space.now) trails.new }
 {
-    let mut a = x;
-    let mut b = y;
+    trails.of_part.begin(space, x.node);
+    trails.of_root.begin(space, y.node);
+    let mut a = trails.of_part.back_to(space, x.node, x.start, 1, 0);
+    let mut b = trails.of_root.back_to(space, y.node, y.start, 1, 0);
+    if let Some(stop) = trails
+        .of_root
+        .find(space, y.node, y.start, a.node, a.place_in(x.start))
+    {
+        return shared_row(space, x, a, y, stop);
+    }
+    if let Some(stop) = trails
+        .of_part
+        .find(space, x.node, x.start, b.node, b.place_in(y.start))
+    {
+        return shared_row(space, x, stop, y, b);
+    }
     let mut of_a = space.look(a.node, count);
     let mut of_b = space.look(b.node, count);
     'down: loop {
-        if a.node.0 == b.node.0 && a.start == b.start {
-            return Row {
-                len: a.len,
-                kind: RowKind::Shared(a.node, a.start),
-            };
-        }
-        match next_step::<S, L>(space, a, of_a, b, of_b) {
+        match next_step::<S, L>(space, x, a, of_a, y, b, of_b) {
             Descent::First(z) => {
-                a = z;
-                b = b.shortened(z.len);
+                trails.of_part.push(space, x.node, z);
+                let start = z.place_in(x.start);
+                if let Some(stop) = trails.of_root.find(space, y.node, y.start, z.node, start) {
+                    return shared_row(space, x, z, y, stop);
+                }
                 of_a = space.look(z.node, count);
+                a = z;
             }
             Descent::Second(w) => {
-                a = a.shortened(w.len);
-                b = w;
+                trails.of_root.push(space, y.node, w);
+                let start = w.place_in(y.start);
+                if let Some(stop) = trails.of_part.find(space, x.node, x.start, w.node, start) {
+                    return shared_row(space, x, stop, y, w);
+                }
                 of_b = space.look(w.node, count);
+                b = w;
             }
-            Descent::Neither => return leaf_row(space, a, of_a, b, of_b, count),
+            Descent::Neither => {
+                let len = len_in(x, a, y, b);
+                let first = Span {
+                    node: a.node,
+                    start: a.place_in(x.start),
+                    len,
+                };
+                let second = Span {
+                    node: b.node,
+                    start: b.place_in(y.start),
+                    len,
+                };
+                return leaf_row(space, first, of_a, second, of_b, count);
+            }
         }
     }
 }
@@ -245,18 +285,21 @@ pub fn next_old<S: CountedSpace<L>, L: Ledger>(
 /// A row for the first bytes of a leaf span of this description and of a span of the same cells.
 pub fn next_leaf<S: CountedSpace<L>, L: Ledger>(
     space: &S,
+    trail: &mut Trail,
     d: Description,
     y: Span,
     count: &mut Count<L>,
 ) -> Row
     requires sound { IsSound (S.table space.now) }
     requires true_records { HasTrueRecords (S.table space.now) }
+    requires trail { IsTrail (S.table space.now) trail.old }
     requires y { IsSpan (S.table space.now) y }
     requires same { CellsAs y.len d (span_cells (S.table space.now) y) }
     ensures row { IsDescribedRow (S.table space.now) (S.coded space.now) d y result }
     ensures ends { GoesToLeafEnd (first_of (S.table space.now) y).len result.len result.kind }
+    ensures trail { IsTrail (S.table space.now) trail.new }
 {
-    let z = leaf_of(space, y, count);
+    let z = first_leaf(space, trail, y, count);
     match describe(space, z.span.node, z.view, z.span.start, count) {
         Some(e) => described_row(d, e, z.span.len),
         None => unreachable!(),

@@ -1,9 +1,9 @@
-use Rattle.std.proofs.Common.{◌≡◌, ◌+◌, ◌<◌, length, Option, Some, sym, subst, ◌∙◌, arith}
+use Rattle.std.proofs.Common.{◌≡◌, ◌+◌, ◌<◌, length, Option, Some, refl, sym, subst, ◌∙◌, arith}
 use Rattle.span_certificate.specs.declared.part.Part.{Part}
 use Rattle.span_certificate.specs.Places.{IsAt}
 use Rattle.span_certificate.proofs.RowLooks.{looks_more, looks_within}
 use Rattle.span_certificate.proofs.PartPlaces.{at_part, at_is_part, at_inside_parts, at_whole}
-use Rattle.span_certificate.proofs.Verdicts.{verifying_more, answers_unfit, answers_whole, answers_left, row_asks}
+use Rattle.span_certificate.proofs.Verdicts.{verifying_more, verifying_none, answers_unfit, answers_whole, answers_left, row_asks}
 use Rattle.span_certificate.proofs.MadeRows.{shows_same}
 use Rattle.span_certificate.proofs.cover.verify_rows.Goals as goal
 
@@ -103,3 +103,12 @@ returns-else-is_whole-clause-looks g c =
     let rows = g.R.Rows.listed c.args.rows.now in
     let end : c.loop-j.j ≡ length rows = omega (arith, c.count-j-end.ensures, c.loop-j-test.false, c.loop-j.auto.j-end) in
     omega (arith, c.loop-j.invariant.looks, looks_within rows c.loop-j.j (omega (arith, end)))
+
+pub loop-j-init : goal.loop-j-init
+loop-j-init g c = record {
+  verifying = verifying_none (g.S.CountedSpace.table c.args.space.now) (g.S.CountedSpace.coded c.args.space.now) (g.T.Sources.reading c.args.sources.now).stated c.args.parts c.args.root (g.R.Rows.listed c.args.rows.now);
+  at = c.start-at.ensures;
+  looks = omega arith;
+  trails = c.new-trails.ensures (g.S.CountedSpace.table c.args.space.now);
+  reads = refl;
+}

@@ -1,5 +1,6 @@
-use Rattle.std.proofs.Common.{◌≡◌, ◌+◌, ◌-◌, sym, ◌∙◌, arith}
-use Rattle.span_certificate.proofs.Stops.{base_step, left_step, right_step}
+use Rattle.std.proofs.Common.{◌≡◌, ◌-◌, sym, ◌∙◌, arith}
+use Rattle.rope_node.proofs.Paths.{is_leaf_of}
+use Rattle.span_certificate.proofs.Stops.{base_step, leaf_of_stop, left_step, right_step}
 use Rattle.span_certificate.proofs.descent.first_leaf.Goals as goal
 
 pub push-requires-clause-stop : goal.push-requires-clause-stop
@@ -69,4 +70,14 @@ down-preserved g c =
       stop = rw last step.stops;
       holds = step.holds;
       looks = omega (arith, c.look-view.ensures.count, i.looks, step.shallower);
+    }
+
+pub returns-in-Lit : goal.returns-in-Lit
+returns-in-Lit g c =
+    let i = c.down.invariant in
+    record {
+      leaf = leaf_of_stop (g.S.CountedSpace.table c.args.space.now) c.look-view.ensures.sound (c.down.trail.count - 1) c.args.x c.down.at c.requires.span i.stop i.holds c.look-view.result c.look-view.ensures.view
+          (is_leaf_of c.look-view.result c.in-Lit.is) c.place_in-start.result c.min.result c.place_in-start.ensures c.min.ensures;
+      trail = i.trail.is_trail;
+      few = omega (arith, c.look-view.ensures.count, i.looks);
     }

@@ -1,11 +1,11 @@
-use Rattle.std.proofs.Common.{◌≡◌, ◌+◌, ◌-◌, ◌≤◌, Some, refl, sym, ap, subst, ◌∙◌, arith}
+use Rattle.std.proofs.Common.{◌≡◌, ◌+◌, ◌-◌, Some, refl, sym, ap, subst, ◌∙◌, arith}
 use Rattle.rope_node.specs.Table.{IsLeaf, len_at}
 use Rattle.rope_node.proofs.Paths.{is_leaf_of}
 use Rattle.span_certificate.specs.Leads.{here}
 use Rattle.span_certificate.specs.Descents.{LeadsToSpan}
 use Rattle.span_certificate.specs.Trails.{place_in}
 use Rattle.span_certificate.proofs.Descents.{IsOnTheWay, goes_left, goes_right, goes_down, over_border, same_span}
-use Rattle.span_certificate.proofs.Stops.{at_step, base_step, leaf_way_from_stop, left_step, right_step, within_node}
+use Rattle.span_certificate.proofs.Stops.{at_step, base_step, leaf_way_from_stop, left_step, right_step}
 use Rattle.span_certificate.proofs.descent.leaf_span.Goals as goal
 
 pub down-init : goal.down-init

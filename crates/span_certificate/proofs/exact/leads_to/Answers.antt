@@ -1,6 +1,7 @@
-use Rattle.std.proofs.Common.{◌≡◌, ◌+◌, ◌-◌, ◌≤◌, sym, subst, arith}
+use Rattle.std.proofs.Common.{◌≡◌, ◌+◌, ◌-◌, refl, sym, subst, arith}
 use Rattle.rope_node.specs.Table.{IsLeaf, len_at}
 use Rattle.rope_node.proofs.Paths.{is_leaf_of}
+use Rattle.span_certificate.specs.Leads.{here}
 use Rattle.span_certificate.specs.Trails.{place_in}
 use Rattle.span_certificate.proofs.Stops.{at_step, base_step, left_step, right_step, way_from_stop}
 use Rattle.span_certificate.proofs.Ways.{IsOnWayTo, away_of, ends_at_leaf, over_border_to, way_down, way_left, way_right}
@@ -115,3 +116,9 @@ returns-in-Lit g c = record {
   trail = c.down.invariant.trail.is_trail;
   few = omega (arith, c.look.ensures.count, c.down.invariant.looks);
 }
+
+pub returns-then-start-at-clause-leads : goal.returns-then-start-at-clause-leads
+returns-then-start-at-clause-leads g c = (
+  λ _. c.down.invariant.way.back (here c.if-stop-node.true (rw c.place_in-start.ensures at c.if-start-at.true)),
+  λ _. refl,
+)

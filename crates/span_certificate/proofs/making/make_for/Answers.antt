@@ -8,7 +8,7 @@ use Rattle.span_certificate.specs.Longest.{IsLongest, StayWithin}
 use Rattle.span_certificate.specs.Parts.{part_len, part_at, parts_cells, AreParts}
 use Rattle.span_certificate.specs.Places.{held, IsAt}
 use Rattle.span_certificate.proofs.PartPlaces.{at_part, at_whole}
-use Rattle.span_certificate.proofs.Made.{IsStep, step_of, whole_parts, making_more, covers_at_end}
+use Rattle.span_certificate.proofs.Made.{IsStep, step_of, whole_parts, making_more, making_none, covers_at_end}
 use Rattle.span_certificate.proofs.making.make_for.Goals as goal
 
 part_here : (parts : List Part) (place : ℕ) (here : Option Part) (off : ℕ) (rest : List Part) (part : Part) → IsAt parts place here off rest → here ≡ Some part → part_at parts place ≡ Some (part, off)
@@ -64,6 +64,7 @@ loop-place-preserved g c =
       making = rw pushed
           (making_more t c.requires.sound c.requires.true_records (g.S.CodedSpace.coded c.args.space.now) c.args.parts c.args.root c.loop-place.rows.items c.loop-place.place c.loop-place.at.off (c.len-in-Some.result - c.loop-place.at.off) c.in-Some.part c.next_row-row.result
           c.requires.parts c.requires.same here s c.next_row-row.ensures.next (longest_here t c.args.parts c.args.root c.loop-place.place c.loop-place.at.off c.in-Some.part c.len-in-Some.result c.next_row-row.result here c.len-in-Some.ensures c.next_row-row.ensures.longest) (search rules) c.loop-place.invariant.making);
+      trails = record { part = c.keep.ensures t c.next_row-row.ensures.trails.part; root = c.next_row-row.ensures.trails.root };
       at = c.skip.ensures c.args.parts c.loop-place.place c.loop-place.invariant.at;
     }
 
@@ -71,3 +72,10 @@ pub returns-clause-covers : goal.returns-clause-covers
 returns-clause-covers g c =
     covers_at_end (g.S.NodeSpace.table c.args.space.now) c.requires.sound c.requires.true_records (g.S.CodedSpace.coded c.args.space.now) c.args.parts (Some c.args.root) c.loop-place.rows.items c.loop-place.place
     c.requires.parts c.requires.root c.requires.same c.loop-place.invariant.making (omega (arith, c.len-end.ensures.value, c.loop-place-test.false))
+
+pub loop-place-init : goal.loop-place-init
+loop-place-init g c = record {
+  making = rw c.new-rows.ensures.items (making_none (g.S.NodeSpace.table c.args.space.now) (g.S.CodedSpace.coded c.args.space.now) c.args.parts (Some c.args.root));
+  trails = c.new-trails.ensures (g.S.NodeSpace.table c.args.space.now);
+  at = c.start-at.ensures;
+}

@@ -1,12 +1,17 @@
-use Rattle.std.proofs.Common.{◌≡◌, ◌+◌}
+use Rattle.std.proofs.Common.{◌≡◌, ◌+◌, ◌-◌}
 use Rattle.rope_node.specs.Table.{view_at}
-use Rattle.span_certificate.proofs.RowEnds.{AreWalked}
+use Rattle.span_certificate.specs.Trails.{Holds, IsTrailOf, IsTrailStop}
 use Rattle.span_certificate.proofs.walk.next_old.Given as goal
 
 abbrev pub invariant-down : goal.invariant-down
 invariant-down g l = record {
-  walked : AreWalked (g.S.CountedSpace.table l.space) l.fn.x l.fn.y l.a l.b;
+  part : IsTrailOf (g.S.CountedSpace.table l.space) l.x.node l.trails.of_part;
+  root : IsTrailOf (g.S.CountedSpace.table l.space) l.y.node l.trails.of_root;
+  a : IsTrailStop (g.S.CountedSpace.table l.space) l.x.node.0 (l.trails.of_part.count - 1) l.a;
+  in_a : Holds l.a l.x.start 1;
   of_a : l.of_a ≡ view_at (g.S.CountedSpace.table l.space) l.a.node.0;
+  b : IsTrailStop (g.S.CountedSpace.table l.space) l.y.node.0 (l.trails.of_root.count - 1) l.b;
+  in_b : Holds l.b l.y.start 1;
   of_b : l.of_b ≡ view_at (g.S.CountedSpace.table l.space) l.b.node.0;
 }
 
