@@ -8,7 +8,7 @@ use std::alloc::AllocGlobal;
 use std::process::Abort;
 
 /// The next of some numbers without a pattern that matters.
-fn next(seed: &mut u64) -> u64 {
+pub(crate) fn next(seed: &mut u64) -> u64 {
     *seed = seed
         .wrapping_mul(6_364_136_223_846_793_005)
         .wrapping_add(1_442_695_040_888_963_407);
@@ -16,7 +16,7 @@ fn next(seed: &mut u64) -> u64 {
 }
 
 /// A number from 0 to `most`.
-fn up_to(seed: &mut u64, most: usize) -> usize {
+pub(crate) fn up_to(seed: &mut u64, most: usize) -> usize {
     (next(seed) as usize) % most.saturating_add(1).max(1)
 }
 
