@@ -22,7 +22,7 @@ use function_leaf::Coded;
 use rebalance::is_balanced;
 use rope_node::{NodeSpace, Rope};
 use rope_store::Store;
-use span_certificate::{Edit, MakeFault, Row, SPLICES_LIMIT, Splice, make, parts};
+use span_certificate::{Edit, MakeFault, Row, SPLICES_LIMIT, Splice, Trails, make_by, parts};
 use std::alloc::{AllocError, Global};
 
 /// The first of the places, 0 where there is none.
@@ -137,6 +137,7 @@ fn rows_for(
     places: &[u64],
     splices: &[Splice],
     root: Rope,
+    trails: &mut Trails,
 ) -> Result<Vec<Row>, MakeFault>
     requires ropes { AreRopes (table_of coded_byte store.now) (roots_of revisions.now) }
     requires splices { splices.now ≡ splices_with places.now command.now }
@@ -154,7 +155,7 @@ fn rows_for(
     let edit = command.recorded(places, 0);
     let earlier = EarlierRoots { revisions };
     let parts = parts(store, &earlier, &splices, &edit);
-    make(alloc, store, parts, root)
+    make_by(alloc, store, parts, root, trails)
 }
 
 /// Whether a root is not nil and balanced.
@@ -175,6 +176,7 @@ fn revise_at(
     room: usize,
     command: &Command<'_>,
     places: &mut [u64],
+    trails: &mut Trails,
 ) -> Result<Revision, EditFault>
     requires revisions { AreRevisions store.old revisions.now }
     requires accepted { refusal_of (record { held = store.old; revisions = revisions.now }) command.now ≡ None }
@@ -198,6 +200,7 @@ fn revise_at(
         places,
         splices.as_slice(),
         root,
+        trails,
     )?;
     if rows.len() > room {
         return Err(EditFault::TooManyRows);
@@ -221,6 +224,7 @@ pub fn revise(
     splice_count: usize,
     room: usize,
     command: &Command<'_>,
+    trails: &mut Trails,
 ) -> Result<Revision, EditFault>
     requires revisions { AreRevisions store.old revisions.now }
     requires accepted { refusal_of (record { held = store.old; revisions = revisions.now }) command.now ≡ None }
@@ -240,5 +244,6 @@ pub fn revise(
         room,
         command,
         &mut places,
+        trails,
     )
 }

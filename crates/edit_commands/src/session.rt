@@ -16,7 +16,7 @@ use crate::revision::Revision;
 use function_leaf::Coded;
 use rope_node::{NodeSpace, Rope};
 use rope_store::Store;
-use span_certificate::{Edit, ROWS_LIMIT, Roots, Row, Splice};
+use span_certificate::{Edit, ROWS_LIMIT, Roots, Row, Splice, Trails};
 use std::alloc::Global;
 use std::marker::Model;
 
@@ -30,6 +30,8 @@ pub struct Session {
     /// How many rows they have together, and how many splices.
     row_count: usize,
     splice_count: usize,
+    /// The ways down of the command that is taken, in a place that is set up once.
+    trails: Trails,
 }
 
 impl Model for Session {
@@ -58,6 +60,7 @@ impl Session {
             revisions: Vec::new(alloc),
             row_count: 0,
             splice_count: 0,
+            trails: Trails::new(),
         }
     }
 
@@ -98,6 +101,7 @@ impl Session {
             self.splice_count,
             room,
             &command,
+            &mut self.trails,
         )?;
         let number = self.revisions.len() as u32;
         let (rows, splices) = (revision.rows.len(), revision.splices.len());

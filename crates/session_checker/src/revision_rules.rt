@@ -17,7 +17,7 @@ use image_reader::{Revision, Revisions};
 use lazy_file::Sources;
 use rebalance::is_balanced;
 use rope_node::Rope;
-use span_certificate::{Looks, PartIter, Splices, Verdict, verify_counted};
+use span_certificate::{Looks, PartIter, Splices, Trails, Verdict, verify_by};
 use std::sync::ledger::Ledger;
 
 /// Whether a root is nil or one of the nodes, with a text of this length.
@@ -98,6 +98,7 @@ fn check_rules<L: Ledger>(
 /// Tests whether the rows of revision `k`, which is this one and whose rows begin at row `from`, cover its command's parts and its root.
 fn check_rows<S: Sources, P: Splices, L: Ledger>(
     looks: &mut Looks<'_, '_, Tables<'_>, L>,
+    trails: &mut Trails,
     revisions: &Revisions,
     sources: &mut S,
     parts: PartIter<'_, P>,
@@ -124,7 +125,7 @@ fn check_rows<S: Sources, P: Splices, L: Ledger>(
 {
     let _count = revisions.count();
     let rows = revisions.rows(from, revision.rows);
-    match verify_counted(looks, sources, parts, revision.root, &rows) {
+    match verify_by(looks, trails, sources, parts, revision.root, &rows) {
         Ok(Verdict::Good) => Ok(()),
         Ok(Verdict::Bad(row)) => Err(CheckFault::Rows(k, row)),
         Err(fault) => Err(CheckFault::Source(fault)),
@@ -134,6 +135,7 @@ fn check_rows<S: Sources, P: Splices, L: Ledger>(
 /// Tests the rules of revision `k`, which is this one and whose rows begin at row `from`, in their order.
 fn check_revision<S: Sources, L: Ledger>(
     looks: &mut Looks<'_, '_, Tables<'_>, L>,
+    trails: &mut Trails,
     revisions: &Revisions,
     sources: &mut S,
     k: u32,
@@ -158,7 +160,7 @@ fn check_revision<S: Sources, L: Ledger>(
 {
     check_rules(looks, revisions, k, revision)?;
     let parts = command_parts(looks, revisions, k, revision);
-    check_rows(looks, revisions, sources, parts, k, revision, from)
+    check_rows(looks, trails, revisions, sources, parts, k, revision, from)
 }
 
 /// Tests revision by revision, by looks at the nodes of the image that the revisions are of. They are at most two
@@ -184,11 +186,12 @@ pub fn revisions_counted<S: Sources, L: Ledger>(
     ensures same_reference { looks.new.count.ghost_name ≡ looks.old.count.ghost_name }
 {
     let count = revisions.count();
+    let mut trails = Trails::new();
     let mut from = 0;
     let mut first = 0;
     for k in 0..count {
         let revision = revisions.revision(k, first);
-        check_revision(looks, revisions, sources, k, revision, from)?;
+        check_revision(looks, &mut trails, revisions, sources, k, revision, from)?;
         from += revision.rows;
         first += revision.edit.splice_count();
     }

@@ -7,14 +7,13 @@ use Rattle.rope_node.specs.declared.node.NodeView.TheVariants.{Cat, Sub}
 use Rattle.rope_node.specs.declared.node.NodeView.{NodeView}
 use Rattle.rope_node.specs.Path.{shortened, span_at}
 use Rattle.rope_node.specs.Table.{Table, view_at, len_at, depth_at, IsLeaf, IsSound, HasTrueRecords}
-use Rattle.span_certificate.specs.declared.trail.Stop.{Stop}
-use Rattle.span_certificate.specs.declared.trail.Trail.{Trail}
-use Rattle.span_certificate.specs.declared.trail.TheConstants.{MOST_STOPS}
+use Rattle.span_certificate.specs.declared.stop.Stop.{Stop}
+use Rattle.span_certificate.specs.declared.stop.TheConstants.{MOST_STOPS}
 use Rattle.span_certificate.specs.Leads.{Leads, LeadsToLeaf, here, in_left, in_right, in_base}
 use Rattle.span_certificate.specs.declared.walk.Span.{Span}
 use Rattle.span_certificate.specs.Descents.{IsLeafOf, as_leaf_span, first_of}
 use Rattle.span_certificate.specs.Steps.{IsBelow, IsReached, IsSpan, child_span}
-use Rattle.span_certificate.specs.Trails.{Holds, IsFound, IsStopBelow, StandsAt, IsTrailStop, IsTrailOf, base_stop, first_stop, left_stop, no_stop, place_in, rest_span, right_stop, stop_at, stop_span}
+use Rattle.span_certificate.specs.Trails.{AreStopsOf, Holds, IsFound, IsStopBelow, StandsAt, IsTrailStop, base_stop, first_stop, left_stop, no_stop, place_in, rest_span, right_stop, stop_at, stop_span}
 use Rattle.span_certificate.proofs.Depths.{depths_of_cat, depth_of_base}
 use Rattle.span_certificate.proofs.Descents.{IsOnTheWay, at_leaf, base_of_sub, children_of_cat}
 use Rattle.span_certificate.proofs.FirstLeaves.{first_of_child, first_of_leaf, span_in_left, span_in_right}
@@ -38,7 +37,7 @@ first_is_stop t s root there = record {
 }
 
 pub trail_begins : (t : Table) → IsSound t → (root : NodeId) → root.0 < length t.nodes → (stops : List Stop) → length stops ≡ MOST_STOPS
-    → IsTrailOf t root (record { stops = set stops 0 (first_stop t root); count = 1 })
+    → AreStopsOf t root (set stops 0 (first_stop t root)) 1
 trail_begins t s root there stops room =
     let lt : 0 < length stops = omega (arith, room) in
     let is : get_or (set stops 0 (first_stop t root)) 0 no_stop ≡ first_stop t root = rw get_or-set_same refl in
@@ -53,21 +52,21 @@ trail_begins t s root there stops room =
       of_root = rw is refl;
     }
 
-pub trail_goes_on : (t : Table) (root : NodeId) (trail : Trail) (stop : Stop) → IsTrailOf t root trail → IsTrailStop t root.0 trail.count stop
-    → IsTrailOf t root (record { stops = set trail.stops trail.count stop; count = trail.count + 1 })
-trail_goes_on t root trail stop is new =
+pub trail_goes_on : (t : Table) (root : NodeId) (stops : List Stop) (count : ℕ) (stop : Stop) → AreStopsOf t root stops count → IsTrailStop t root.0 count stop
+    → AreStopsOf t root (set stops count stop) (count + 1)
+trail_goes_on t root stops count stop is new =
     let old = is.is_trail in
-    let lt : trail.count < length trail.stops = omega (arith, old.room, new.shallow) in
-    let ne : 0 ≢ trail.count = omega (arith, is.some) in
-    let first : get_or (set trail.stops trail.count stop) 0 no_stop ≡ stop_at trail 0 = rw get_or-set_other refl in
+    let lt : count < length stops = omega (arith, old.room, new.shallow) in
+    let ne : 0 ≢ count = omega (arith, is.some) in
+    let first : get_or (set stops count stop) 0 no_stop ≡ stop_at stops 0 = rw get_or-set_other refl in
     record {
       is_trail = record {
         room = rw length-set old.room;
         few = omega (arith, new.shallow);
         first = λ _. rw first (old.first is.some);
-        stops = λ i below. rw first (elim (cases_lt i trail.count) [
-          | inl lower ↦ let other : i ≢ trail.count = omega (arith, lower) in rw get_or-set_other (old.stops i lower)
-          | inr le ↦ let at : i ≡ trail.count = omega (arith, le, below) in rw (at, get_or-set_same, is.of_root) new
+        stops = λ i below. rw first (elim (cases_lt i count) [
+          | inl lower ↦ let other : i ≢ count = omega (arith, lower) in rw get_or-set_other (old.stops i lower)
+          | inr le ↦ let at : i ≡ count = omega (arith, le, below) in rw (at, get_or-set_same, is.of_root) new
         ]);
       };
       some = omega arith;
@@ -287,17 +286,17 @@ module _ (t : Table) (s : IsSound t) (h : HasTrueRecords t) (root : NodeId) (the
   }
 
 -- the first stop is all of the root
-pub begins_with_root : (t : Table) (root : NodeId) (trail : Trail) → IsTrailOf t root trail → stop_at trail 0 ≡ first_stop t root
-begins_with_root t root trail is = is.is_trail.first is.some ∙ ap (first_stop t) is.of_root
+pub begins_with_root : (t : Table) (root : NodeId) (stops : List Stop) (count : ℕ) → AreStopsOf t root stops count → stop_at stops 0 ≡ first_stop t root
+begins_with_root t root stops count is = is.is_trail.first is.some ∙ ap (first_stop t) is.of_root
 
-pub root_holds : (t : Table) (root : NodeId) (trail : Trail) → IsTrailOf t root trail → (p n : ℕ) → p + n ≤ len_at t root.0 → Holds (stop_at trail 0) p n
-root_holds t root trail is p n fits = rw (begins_with_root t root trail is) (record { behind = omega arith; before = omega (arith, fits) })
+pub root_holds : (t : Table) (root : NodeId) (stops : List Stop) (count : ℕ) → AreStopsOf t root stops count → (p n : ℕ) → p + n ≤ len_at t root.0 → Holds (stop_at stops 0) p n
+root_holds t root stops count is p n fits = rw (begins_with_root t root stops count is) (record { behind = omega arith; before = omega (arith, fits) })
 
 -- a stop that is found is one of the trail's root
-pub found_stop : (t : Table) (root : NodeId) (trail : Trail) → IsTrailOf t root trail → (i : ℕ) → i < trail.count → (p : ℕ) (node : NodeId) (start : ℕ) (r : Option Stop)
-    → IfSome r (StandsAt (stop_at trail i) p node start) → IfSome r (IsFound t root.0 p node start)
-found_stop t root trail is i below p node start None found = found
-found_stop t root trail is i below p node start (Some z) found = record {
+pub found_stop : (t : Table) (root : NodeId) (stops : List Stop) (count : ℕ) → AreStopsOf t root stops count → (i : ℕ) → i < count → (p : ℕ) (node : NodeId) (start : ℕ) (r : Option Stop)
+    → IfSome r (StandsAt (stop_at stops i) p node start) → IfSome r (IsFound t root.0 p node start)
+found_stop t root stops count is i below p node start None found = found
+found_stop t root stops count is i below p node start (Some z) found = record {
   is_stop = (i, rw found.same (rw is.of_root at (is.is_trail.stops i below)));
   here = found.here;
   holds = found.holds;

@@ -1,13 +1,13 @@
 -- The way down to a place of a rope, as it is kept.
-use Rattle.std.specs.Prelude.{◌≡◌, ℕ, ◌+◌, ◌-◌, ◌<◌, ◌≤◌, length, get_or, min}
+use Rattle.std.specs.Prelude.{◌≡◌, ℕ, ◌+◌, ◌-◌, ◌<◌, ◌≤◌, List, length, get_or, min}
 use Rattle.rope_node.specs.declared.limits.TheConstants.{MOST_DEPTH}
 use Rattle.rope_node.specs.declared.node.NodeId.{NodeId}
 use Rattle.rope_node.specs.declared.node.NodeView.{NodeView}
 use Rattle.rope_node.specs.Table.{Table, len_at, depth_at, IsLeaf}
-use Rattle.span_certificate.specs.declared.trail.Stop.{Stop}
+use Rattle.span_certificate.specs.declared.stop.Stop.{Stop}
 use Rattle.span_certificate.specs.declared.trail.Trail.{Trail}
 use Rattle.span_certificate.specs.declared.trail.Trails.{Trails}
-use Rattle.span_certificate.specs.declared.trail.TheConstants.{MOST_STOPS}
+use Rattle.span_certificate.specs.declared.stop.TheConstants.{MOST_STOPS}
 use Rattle.span_certificate.specs.declared.walk.Descent.{Descent}
 use Rattle.span_certificate.specs.declared.walk.Descent.TheVariants.{First, Second, Neither}
 use Rattle.span_certificate.specs.declared.walk.Span.{Span}
@@ -54,21 +54,27 @@ no_stop = record { node = record { 0 = 0 }; from = 0; end = 0; start = 0 }
 abbrev pub first_stop : Table → NodeId → Stop
 first_stop t root = record { node = root; from = 0; end = len_at t root.0; start = 0 }
 
-abbrev pub stop_at : Trail → ℕ → Stop
-stop_at trail i = get_or trail.stops i no_stop
+abbrev pub stop_at : List Stop → ℕ → Stop
+stop_at stops i = get_or stops i no_stop
 
--- stops one below the other, of any rope, or none
-pub record IsTrail (t : Table) (trail : Trail) : Type 0 where
-  pub room : length trail.stops ≡ MOST_STOPS
-  pub few : trail.count ≤ MOST_STOPS
-  pub first : 1 ≤ trail.count → stop_at trail 0 ≡ first_stop t (stop_at trail 0).node
-  pub stops : (i : ℕ) → i < trail.count → IsTrailStop t (stop_at trail 0).node.0 i (stop_at trail i)
+-- the first `count` of these are stops one below the other, of any root
+pub record AreStops (t : Table) (listed : List Stop) (count : ℕ) : Type 0 where
+  pub room : length listed ≡ MOST_STOPS
+  pub few : count ≤ MOST_STOPS
+  pub first : 1 ≤ count → stop_at listed 0 ≡ first_stop t (stop_at listed 0).node
+  pub stops : (i : ℕ) → i < count → IsTrailStop t (stop_at listed 0).node.0 i (stop_at listed i)
 
--- the same below this root
-pub record IsTrailOf (t : Table) (root : NodeId) (trail : Trail) : Type 0 where
-  pub is_trail : IsTrail t trail
-  pub some : 1 ≤ trail.count
-  pub of_root : (stop_at trail 0).node ≡ root
+-- the same below this root, and there is one
+pub record AreStopsOf (t : Table) (root : NodeId) (listed : List Stop) (count : ℕ) : Type 0 where
+  pub is_trail : AreStops t listed count
+  pub some : 1 ≤ count
+  pub of_root : (stop_at listed 0).node ≡ root
+
+abbrev pub IsTrail : Table → Trail → Type 0
+IsTrail t trail = AreStops t trail.stops trail.count
+
+abbrev pub IsTrailOf : Table → NodeId → Trail → Type 0
+IsTrailOf t root trail = AreStopsOf t root trail.stops trail.count
 
 -- What of a stop lies in the left child of its node, in the right one beside a left one of so many bytes, and in its base.
 abbrev pub left_stop : Stop → NodeId → ℕ → Stop

@@ -191,6 +191,7 @@ fn is_whole<S: CountedSpace<L>, L: Ledger>(
 /// The same, with each look counted.
 fn verify_rows<S: CountedSpace<L>, T: Sources, P: Splices, R: Rows, L: Ledger>(
     space: &S,
+    trails: &mut Trails,
     sources: &mut T,
     parts: PartIter<'_, P>,
     root: Rope,
@@ -210,21 +211,13 @@ fn verify_rows<S: CountedSpace<L>, T: Sources, P: Splices, R: Rows, L: Ledger>(
 {
     // The space is sound, as each of its calls says.
     let _nodes = space.node_count();
-    let mut trails = Trails::new();
+    trails.forget();
     let mut at = PartPlace::start(parts);
     let mut place = 0;
     for j in 0..rows.count() {
         let row = rows.row(j);
         match row_fits(
-            space,
-            &mut trails,
-            sources,
-            at.part,
-            at.off,
-            root,
-            place,
-            row,
-            count,
+            space, trails, sources, at.part, at.off, root, place, row, count,
         ) {
             Err(fault) => return Err(fault),
             Ok(false) => return Ok(Verdict::Bad(j)),
@@ -239,6 +232,44 @@ fn verify_rows<S: CountedSpace<L>, T: Sources, P: Splices, R: Rows, L: Ledger>(
     } else {
         Ok(Verdict::Bad(rows.count()))
     }
+}
+
+/// What `verify_counted` tells, by trails that a caller keeps from call to call, so that no call sets them up anew. What they hold before does
+/// not matter.
+///
+/// # Errors
+///
+/// As those of `verify`.
+pub fn verify_by<S: CountedSpace<L>, T: Sources, P: Splices, R: Rows, L: Ledger>(
+    looks: &mut Looks<'_, '_, S, L>,
+    trails: &mut Trails,
+    sources: &mut T,
+    parts: PartIter<'_, P>,
+    root: Rope,
+    rows: &R,
+) -> Result<Verdict, SourceFault>
+    requires parts { AreParts (S.table looks.old.space.now) parts }
+    requires root { IsRope (S.table looks.old.space.now) root }
+    ensures exact { IfOk result (TellsRows (S.table looks.old.space.now)
+        (S.coded looks.old.space.now) (T.reading sources.old).stated parts.entry root (R.listed rows.now)) }
+    ensures shows { result ≡ Ok Verdict.Good → ShowsSame
+        (S.table looks.old.space.now) parts.entry root (R.listed rows.now) }
+    ensures reads { Reads (T.reading sources.old) (T.reading sources.new)
+        (IsAskedFor (S.table looks.old.space.now) (S.coded looks.old.space.now)
+        (T.reading sources.old).stated parts.entry root (R.listed rows.now)) (fault_in result) }
+    ensures looks { looks.new.count.now ≤ looks.old.count.now + most_looks (R.listed rows.now) }
+    ensures space { looks.new.space.now ≡ looks.old.space.now }
+    ensures same_reference { looks.new.count.ghost_name ≡ looks.old.count.ghost_name }
+{
+    verify_rows(
+        looks.space,
+        trails,
+        sources,
+        parts,
+        root,
+        rows,
+        &mut *looks.count,
+    )
 }
 
 /// Whether the rows cover the parts of a command and a root, as `verify` tells it, by looks at the space.
@@ -268,7 +299,7 @@ pub fn verify_counted<S: CountedSpace<L>, T: Sources, P: Splices, R: Rows, L: Le
     ensures space { looks.new.space.now ≡ looks.old.space.now }
     ensures same_reference { looks.new.count.ghost_name ≡ looks.old.count.ghost_name }
 {
-    verify_rows(looks.space, sources, parts, root, rows, &mut *looks.count)
+    verify_by(looks, &mut Trails::new(), sources, parts, root, rows)
 }
 
 /// The same over a space, with a count that begins here.

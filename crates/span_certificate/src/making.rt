@@ -116,6 +116,7 @@ fn make_for<S: CodedSpace, P: Splices, L: Ledger>(
     space: &S,
     parts: PartIter<'_, P>,
     root: NodeId,
+    trails: &mut Trails,
     blank: Blank,
 ) -> Result<Vec<Row>, MakeFault>
     requires sound { IsSound (S.NodeSpace.table space.now) }
@@ -137,7 +138,7 @@ fn make_for<S: CodedSpace, P: Splices, L: Ledger>(
 {
     let mut rows = Vec::new(alloc);
     let mut count = Count::<L>::new(blank);
-    let mut trails = Trails::new();
+    trails.forget();
     let mut at = PartPlace::start(parts);
     let mut place = 0;
     let end = space.len(root);
@@ -150,7 +151,7 @@ fn make_for<S: CodedSpace, P: Splices, L: Ledger>(
             Some(part) => {
                 let row = next_row(
                     space,
-                    &mut trails,
+                    trails,
                     part,
                     at.off,
                     root,
@@ -167,6 +168,41 @@ fn make_for<S: CodedSpace, P: Splices, L: Ledger>(
         }
     }
     Ok(rows)
+}
+
+/// The rows that `make` gives, by trails that a caller keeps from call to call, so that no call sets them up anew. What they hold before does
+/// not matter.
+///
+/// # Errors
+///
+/// Those of `make`.
+pub fn make_by<S: CodedSpace, P: Splices>(
+    alloc: Global,
+    space: &S,
+    parts: PartIter<'_, P>,
+    root: Rope,
+    trails: &mut Trails,
+) -> Result<Vec<Row>, MakeFault>
+    requires parts { AreParts (S.NodeSpace.table space.now) parts }
+    requires root { IsRope (S.NodeSpace.table space.now) root }
+    requires same { parts_cells (S.NodeSpace.table space.now) parts
+        ≡ rope_cells (S.NodeSpace.table space.now) root }
+    ensures covers { IfOk result (λ rows. CoversAlways
+        (S.NodeSpace.table space.now) (S.coded space.now) parts.entry root rows.items) }
+    ensures no_source { IfOk result (λ rows. MeetsNoSource
+        (S.NodeSpace.table space.now) parts.entry root rows.items) }
+    ensures longest { IfOk result (λ rows. AreLongest
+        (S.NodeSpace.table space.now) parts.entry root rows.items) }
+    ensures few { IfOk result (λ rows. length rows.items ≤ ROWS_LIMIT) }
+    ensures too_many { IsErrOf result MakeFault.TooManyRows → IsCutShort
+        (S.NodeSpace.table space.now) (S.coded space.now) parts.entry root }
+{
+    // The space is sound, as each of its calls says.
+    let _nodes = space.count();
+    match root {
+        None => Ok(Vec::new(alloc)),
+        Some(node) => make_for::<S, P, Brand>(alloc, space, parts, node, trails, Blank::new(1)),
+    }
 }
 
 /// Rows that show that the parts and the root have one text, whatever the sources hold, each as long as it can be: to
@@ -196,10 +232,5 @@ pub fn make<S: CodedSpace, P: Splices>(
     ensures too_many { IsErrOf result MakeFault.TooManyRows → IsCutShort
         (S.NodeSpace.table space.now) (S.coded space.now) parts.entry root }
 {
-    // The space is sound, as each of its calls says.
-    let _nodes = space.count();
-    match root {
-        None => Ok(Vec::new(alloc)),
-        Some(node) => make_for::<S, P, Brand>(alloc, space, parts, node, Blank::new(1)),
-    }
+    make_by(alloc, space, parts, root, &mut Trails::new())
 }

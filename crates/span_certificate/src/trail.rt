@@ -1,113 +1,26 @@
 //! The way down to a place of a rope, kept for the next place: what lies beside it is found from the last node that holds both.
 
-ghost use Rattle.std.specs.Prelude.{◌≡◌, ◌↔◌, ℕ, ◌+◌, ◌-◌, ◌<◌, ◌≤◌, ◌⊎◌, ◌^◌, IfSome, length};
-ghost use Rattle.rope_node.specs.Table.{Table, len_at, IsSound};
-ghost use Rattle.span_certificate.specs.Trails.{AreTrails, Holds, IsFound, StandsAt, IsTrailStop, IsTrail, IsTrailOf, base_stop, first_stop, left_stop, place_in, right_stop};
+ghost use Rattle.std.specs.Prelude.{◌≡◌, length};
+ghost use Rattle.span_certificate.specs.declared.stop.TheConstants.{MOST_STOPS};
 
 use crate::looks::CountedSpace;
-use rope_node::{MOST_DEPTH, NodeId};
+use crate::stop::{MOST_STOPS, NO_STOP, Stop};
+use rope_node::NodeId;
 use std::sync::ledger::Ledger;
-
-/// The most nodes of a way down.
-pub const MOST_STOPS: usize = MOST_DEPTH as usize + 1;
-
-/// A node on the way down from a root. The root's bytes from `from` up to `end` are the node's from `start` on.
-#[derive(Clone, Copy, Debug, PartialEq, Eq)]
-pub struct Stop {
-    pub node: NodeId,
-    pub from: u64,
-    pub end: u64,
-    pub start: u64,
-}
-
-/// No node.
-const NO_STOP: Stop = Stop {
-    node: NodeId(0),
-    from: 0,
-    end: 0,
-    start: 0,
-};
-
-impl Stop {
-    /// Where the root's byte at `place` stands in the node.
-    #[inline(always)]
-    pub fn place_in(self, place: u64) -> u64
-        requires behind { self.from ≤ place }
-        requires fits { place_in self place < 2 ^ 64 }
-        ensures { result ≡ place_in self place }
-    {
-        self.start + (place - self.from)
-    }
-
-    /// What of it lies in the left child `l`, which has `left` bytes.
-    #[inline(always)]
-    pub fn in_left(self, l: NodeId, left: u64) -> Stop
-        requires some { self.start < left }
-        requires fits { self.from + left < 2 ^ 64 }
-        ensures { result ≡ left_stop self l left }
-    {
-        Stop {
-            node: l,
-            from: self.from,
-            end: self.end.min(self.from + (left - self.start)),
-            start: self.start,
-        }
-    }
-
-    /// What of it lies in the right child `r`, beside a left one of `left` bytes.
-    #[inline(always)]
-    pub fn in_right(self, r: NodeId, left: u64) -> Stop
-        requires fits { self.from + left < 2 ^ 64 }
-        ensures { result ≡ right_stop self r left }
-    {
-        Stop {
-            node: r,
-            from: self.from + left.saturating_sub(self.start),
-            end: self.end,
-            start: self.start.saturating_sub(left),
-        }
-    }
-
-    /// This stop, if the root's byte at `place` is the byte `start` of this node in it.
-    #[inline(always)]
-    pub fn found(self, place: u64, node: NodeId, start: u64) -> Option<Stop>
-        ensures { IfSome result (StandsAt self place node start) }
-    {
-        if self.node.0 == node.0
-            && self.from <= place
-            && place < self.end
-            && self.start <= start
-            && start - self.start == place - self.from
-        {
-            Some(self)
-        } else {
-            None
-        }
-    }
-
-    /// All of it, in the base `b` of which it is the bytes from `i` on.
-    #[inline(always)]
-    pub fn in_base(self, b: NodeId, i: u64) -> Stop
-        requires { self.start + i < 2 ^ 64 }
-        ensures { result ≡ base_stop self b i }
-    {
-        Stop {
-            node: b,
-            from: self.from,
-            end: self.end,
-            start: self.start + i,
-        }
-    }
-}
 
 /// The nodes on the way down to a place, each below the one before.
 #[derive(Clone, Copy, Debug)]
 pub struct Trail {
     stops: [Stop; MOST_STOPS],
     count: usize,
+    ghost room: { length stops ≡ MOST_STOPS },
 }
 
 impl Trail {
+    ghost use Rattle.std.specs.Prelude.{◌≡◌, ◌+◌, ◌-◌, ◌<◌, ◌≤◌, ◌⊎◌, ◌^◌, IfSome, length};
+    ghost use Rattle.rope_node.specs.Table.{Table, len_at, IsSound};
+    ghost use Rattle.span_certificate.specs.Trails.{Holds, IsFound, IsTrail, IsTrailOf, IsTrailStop, first_stop};
+
     /// A trail of no rope.
     pub fn new() -> Trail
         ensures { (t : Table) → IsTrail t result }
@@ -206,6 +119,14 @@ impl Trail {
         None
     }
 
+    /// No rope's any more.
+    #[inline(always)]
+    pub fn forget(&mut self)
+        ensures { (t : Table) → IsTrail t self.new }
+    {
+        self.count = 0;
+    }
+
     /// This trail, or no rope's where it is not to be kept.
     #[inline(always)]
     pub fn keep(&mut self, kept: bool)
@@ -225,6 +146,9 @@ pub struct Trails {
 }
 
 impl Trails {
+    ghost use Rattle.rope_node.specs.Table.{Table};
+    ghost use Rattle.span_certificate.specs.Trails.{AreTrails};
+
     /// Trails of no ropes.
     pub fn new() -> Trails
         ensures { (t : Table) → AreTrails t result }
@@ -233,5 +157,14 @@ impl Trails {
             of_part: Trail::new(),
             of_root: Trail::new(),
         }
+    }
+
+    /// Of no ropes any more. What they were of may have changed meanwhile.
+    #[inline(always)]
+    pub fn forget(&mut self)
+        ensures { (t : Table) → AreTrails t self.new }
+    {
+        self.of_part.forget();
+        self.of_root.forget();
     }
 }

@@ -13,7 +13,8 @@ use crate::descent::first_leaf;
 use crate::describe::{Description, describe};
 use crate::looks::{Count, CountedSpace};
 use crate::row::{Row, RowKind};
-use crate::trail::{Stop, Trail, Trails};
+use crate::stop::Stop;
+use crate::trail::{Trail, Trails};
 use rope_node::{NodeId, NodeView};
 use std::sync::ledger::Ledger;
 

@@ -21,5 +21,5 @@ returns c =
     ∙ ap (λ (ss : List Splice). full_edit ss (edit_with places 0 command)) c.requires.splices
     ∙ own_edit places command (c.requires.many ∙ ap length c.requires.splices) in
     let same = c.parts-parts.ensures.exact ∙ ap (parts_of t (roots_of c.args.revisions.now)) says in
-    subst (λ (ps : List Part). MakesRows (coded_at c.args.store.now) t ps c.args.root c.make.result) same
-    (record { covers = c.make.ensures.covers; no_source = c.make.ensures.no_source; longest = c.make.ensures.longest; few = c.make.ensures.few; too_many = c.make.ensures.too_many })
+    subst (λ (ps : List Part). MakesRows (coded_at c.args.store.now) t ps c.args.root c.make_by.result) same
+    (record { covers = c.make_by.ensures.covers; no_source = c.make_by.ensures.no_source; longest = c.make_by.ensures.longest; few = c.make_by.ensures.few; too_many = c.make_by.ensures.too_many })

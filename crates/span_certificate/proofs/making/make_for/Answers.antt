@@ -76,6 +76,6 @@ returns-clause-covers g c =
 pub loop-place-init : goal.loop-place-init
 loop-place-init g c = record {
   making = rw c.new-rows.ensures.items (making_none (g.S.NodeSpace.table c.args.space.now) (g.S.CodedSpace.coded c.args.space.now) c.args.parts (Some c.args.root));
-  trails = c.new-trails.ensures (g.S.NodeSpace.table c.args.space.now);
+  trails = c.forget.ensures (g.S.NodeSpace.table c.args.space.now);
   at = c.start-at.ensures;
 }
