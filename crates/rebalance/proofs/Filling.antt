@@ -129,7 +129,7 @@ whole_text t s h node n there all =
     ap (λ (k : ℕ). take k (cells t node)) len ∙ take-length (cells t node)
 
 -- no rope in any slot
-none_at : (n m : ℕ) → get_or {A = Option NodeId} (replicate n None) m None ≡ None
+pub none_at : (n m : ℕ) → get_or {A = Option NodeId} (replicate n None) m None ≡ None
 none_at zero m = refl
 none_at (suc n) zero = refl
 none_at (suc n) (suc m) = none_at n m

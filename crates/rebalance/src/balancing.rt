@@ -8,7 +8,7 @@ ghost use Rattle.node_table.specs.Held.{table_of};
 ghost use Rattle.rebalance.specs.Balancing.{text_with, Fills, FillsSpan, IsNearlyBalanced, IsPart, Rebalances, RebuildsPart, RebuildsRope, StepsThrough};
 ghost use Rattle.rebalance.specs.Pieces.{all_pieces, span_cells, span_pieces, IsPieceSpan, IsSpan};
 ghost use Rattle.rebalance.specs.declared.pieces.TheConstants.{MOST_PIECES};
-ghost use Rattle.rebalance.specs.Slots.{AreSlots};
+ghost use Rattle.rebalance.specs.Slots.{AreEmptyBelow, AreSlots};
 
 use crate::fault::BalanceFault;
 use crate::pieces::{Span, Split, has_few_pieces, piece, step_down, whole};
@@ -119,51 +119,61 @@ fn rebuild<F: LeafFn>(store: &mut Store<F>, keep: bool, span: Span) -> Result<Ro
 {
     let _count = store.count();
     let mut slots = [None; SLOTS as usize];
-    fill(store, &mut slots, keep, span)?;
+    let low = fill(store, &mut slots, SLOTS, keep, span)?;
     let _count = store.count();
-    join_below(store, &mut slots, SLOTS)
+    join_below(store, &mut slots, low, SLOTS)
 }
 
-/// Puts a span's pieces behind the text of the slots. It goes to each node on the way once, and calls itself as deep as the node is,
-/// which is at most 64.
+/// Puts a span's pieces behind the text of the slots, of which those below `low` are empty. Answers which slots are then. It goes to each
+/// node on the way once, and calls itself as deep as the node is, which is at most 64.
 fn fill<F: LeafFn>(
     store: &mut Store<F>,
     slots: &mut [Rope],
+    low: u8,
     keep: bool,
     span: Span,
-) -> Result<(), NodeFault>
+) -> Result<u8, NodeFault>
     requires span { IsSpan (table_of F.meaning store.old) span }
     requires slots { AreSlots (table_of F.meaning store.old) slots.old }
+    requires empty { AreEmptyBelow low slots.old }
     requires short { length (text_with (table_of F.meaning store.old) slots.old span) < TEXT_LIMIT }
-    ensures { FillsSpan F.meaning store.old keep slots.old span result slots.new store.new }
+    ensures fills { FillsSpan F.meaning store.old keep slots.old span result slots.new store.new }
+    ensures empty { IfOk result (λ low. AreEmptyBelow low slots.new) }
 {
     let _count = store.count();
     if span.len == 0 {
-        return Ok(());
+        return Ok(low);
     }
     match step_down(store, keep, span) {
-        Split::Piece => put(store, slots, span),
-        Split::Base(base) => fill(store, slots, keep, base),
+        Split::Piece => put(store, slots, low, span),
+        Split::Base(base) => fill(store, slots, low, keep, base),
         Split::Children(left, right) => {
-            fill(store, slots, keep, left)?;
+            let between = fill(store, slots, low, keep, left)?;
             let _count = store.count();
-            fill(store, slots, keep, right)
+            fill(store, slots, between, keep, right)
         }
     }
 }
 
-/// Puts a span that is one piece behind the text of the slots.
-fn put<F: LeafFn>(store: &mut Store<F>, slots: &mut [Rope], span: Span) -> Result<(), NodeFault>
+/// Puts a span that is one piece behind the text of the slots, of which those below `low` are empty. Answers which slots are then.
+fn put<F: LeafFn>(
+    store: &mut Store<F>,
+    slots: &mut [Rope],
+    low: u8,
+    span: Span,
+) -> Result<u8, NodeFault>
     requires span { IsSpan (table_of F.meaning store.old) span }
     requires piece { IsPieceSpan (table_of F.meaning store.old) span }
     requires some { 1 ≤ span.len }
     requires slots { AreSlots (table_of F.meaning store.old) slots.old }
+    requires empty { AreEmptyBelow low slots.old }
     requires short { length (text_with (table_of F.meaning store.old) slots.old span) < TEXT_LIMIT }
-    ensures { Fills F.meaning store.old slots.old 1
+    ensures fills { Fills F.meaning store.old slots.old 1
         (span_cells (table_of F.meaning store.old) span) result slots.new store.new }
+    ensures empty { IfOk result (λ low. AreEmptyBelow low slots.new) }
 {
     let _count = store.count();
     let rope = piece(store, span)?;
     let _count = store.count();
-    insert(store, slots, rope)
+    insert(store, slots, low, rope)
 }

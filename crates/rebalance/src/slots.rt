@@ -18,6 +18,21 @@ use rope_store::Store;
 /// How many slots there are: a rope shorter than 2^40 bytes has its own among them.
 pub const SLOTS: u8 = 60;
 
+/// A slot that is not above that of a rope of this length, and mostly just below it: Fibonacci numbers double after some 23 / 16 steps.
+fn slot_near(len: u64) -> u8
+    requires { 1 ≤ len }
+    ensures some { 2 ≤ result }
+    ensures last { result < SLOTS }
+    ensures long { fibonacci result ≤ len }
+{
+    let near = ((64 - len.leading_zeros()) * 23 / 16) as u8;
+    if 2 <= near && near < SLOTS && fibonacci(near) <= len {
+        near
+    } else {
+        2
+    }
+}
+
 /// The slot of a rope of this length, in bytes: the Fibonacci number at the slot is the last that is not above it.
 fn slot_for(len: u64) -> u8
     requires some { 1 ≤ len }
@@ -27,7 +42,7 @@ fn slot_for(len: u64) -> u8
     ensures long { fibonacci result ≤ len }
     ensures short { len < fibonacci (result + 1) }
 {
-    let mut slot = 2;
+    let mut slot = slot_near(len);
     while fibonacci(slot + 1) <= len {
         slot += 1;
     }
@@ -52,13 +67,15 @@ fn join<F: LeafFn>(store: &mut Store<F>, l: Rope, r: Rope) -> Result<Rope, NodeF
     }
 }
 
-/// Empties the slots below `end`, and joins their ropes from the smallest up.
+/// Empties the slots below `end`, and joins their ropes from the smallest up. Those below `low` are empty.
 pub(crate) fn join_below<F: LeafFn>(
     store: &mut Store<F>,
     slots: &mut [Rope],
+    low: u8,
     end: u8,
 ) -> Result<Rope, NodeFault>
     requires end { end ≤ SLOTS }
+    requires empty { AreEmptyBelow low slots.old }
     requires slots { AreSlots (table_of F.meaning store.old) slots.old }
     requires short { length (slots_cells (table_of F.meaning store.old) slots.old) < TEXT_LIMIT }
     ensures steps { AddsNodes F.meaning store.old (full_slots slots.old) result store.new }
@@ -66,7 +83,7 @@ pub(crate) fn join_below<F: LeafFn>(
     ensures spread { IfOk result (Gathers F.meaning store.old slots.old end slots.new store.new) }
 {
     let mut rope = None;
-    for m in 0..end {
+    for m in low.min(end)..end {
         let _count = store.count();
         rope = join(store, slots[usize::from(m)], rope)?;
         slots[usize::from(m)] = None;
@@ -74,13 +91,14 @@ pub(crate) fn join_below<F: LeafFn>(
     Ok(rope)
 }
 
-/// Puts a rope into the first slot from `first` on that is empty and fits it, behind the ropes of the full ones before that.
+/// Puts a rope into the first slot from `first` on that is empty and fits it, behind the ropes of the full ones before that. Answers that
+/// slot.
 fn settle<F: LeafFn>(
     store: &mut Store<F>,
     slots: &mut [Rope],
     first: u8,
     carried: Rope,
-) -> Result<(), NodeFault>
+) -> Result<u8, NodeFault>
     requires slots { AreSlots (table_of F.meaning store.old) slots.old }
     requires empty { AreEmptyBelow first slots.old }
     requires there { IsRope (table_of F.meaning store.old) carried }
@@ -88,6 +106,7 @@ fn settle<F: LeafFn>(
     requires short { length (cells_with (table_of F.meaning store.old) slots.old carried) < TEXT_LIMIT }
     ensures steps { AddsNodes F.meaning store.old (full_slots slots.old + ropes_in carried) result store.new }
     ensures spread { IfOk result (λ _. Settles F.meaning store.old slots.old carried slots.new store.new) }
+    ensures empty { IfOk result (λ low. AreEmptyBelow low slots.new) }
 {
     let mut slot = first;
     let mut rope = carried;
@@ -96,7 +115,7 @@ fn settle<F: LeafFn>(
         let left = slots[usize::from(slot)];
         if left.is_none() && store.len(rope) < fibonacci(slot + 1) {
             slots[usize::from(slot)] = rope;
-            return Ok(());
+            return Ok(slot);
         }
         rope = join(store, left, rope)?;
         slots[usize::from(slot)] = None;
@@ -104,21 +123,24 @@ fn settle<F: LeafFn>(
     }
 }
 
-/// Puts a piece behind the text of the slots.
+/// Puts a piece behind the text of the slots, of which those below `low` are empty. Answers which slots are then.
 pub(crate) fn insert<F: LeafFn>(
     store: &mut Store<F>,
     slots: &mut [Rope],
+    low: u8,
     piece: Rope,
-) -> Result<(), NodeFault>
+) -> Result<u8, NodeFault>
     requires slots { AreSlots (table_of F.meaning store.old) slots.old }
+    requires empty { AreEmptyBelow low slots.old }
     requires piece { IsPiece (table_of F.meaning store.old) piece }
     requires short { length (cells_with (table_of F.meaning store.old) slots.old piece) < TEXT_LIMIT }
     ensures steps { AddsNodes F.meaning store.old (full_slots slots.old + 1) result store.new }
     ensures spread { IfOk result (λ _. Inserts F.meaning store.old slots.old piece slots.new store.new) }
+    ensures empty { IfOk result (λ low. AreEmptyBelow low slots.new) }
 {
     let _count = store.count();
     let first = slot_for(store.len(piece));
-    let lower = join_below(store, slots, first)?;
+    let lower = join_below(store, slots, low, first)?;
     let _count = store.count();
     let rope = join(store, lower, piece)?;
     let _count = store.count();

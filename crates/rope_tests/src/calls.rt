@@ -13,6 +13,7 @@ mod positions;
 mod repeats;
 mod ropes;
 mod searches;
+mod slots;
 mod stores;
 mod tables;
 mod walks;

@@ -9,8 +9,8 @@ insert-requires-clause-short g c =
     let p = c.in_ok-rope.ensures in
     rw (piece_text meaning c.args.store.now c.piece.new.store c.args.slots.now c.in_ok-rope.rope (span_cells (table_of meaning c.args.store.now) c.args.span) _ _ c.count-count.ensures.sound c.requires.slots p.steps.grows p.text) c.requires.short
 
-pub returns : goal.returns
-returns g c =
+pub returns-clause-fills : goal.returns-clause-fills
+returns-clause-fills g c =
     let meaning = g.F.LeafFn.meaning in
     let p = c.in_ok-rope.ensures in
     fills_piece meaning c.args.store.now c.piece.new.store c.insert.new.store c.args.slots.now c.insert.new.slots c.in_ok-rope.rope (span_cells (table_of meaning c.args.store.now) c.args.span) c.insert.result c.count-count.ensures.sound c.requires.slots

@@ -12,7 +12,7 @@ use Rattle.rebalance.specs.declared.slots.TheConstants.{SLOTS}
 pub loop-m-init : goal.loop-m-init
 loop-m-init g c = record {
   gathered = tt;
-  spread = record { are = c.requires.slots; empty = λ i lt. absurd (omega (arith, lt)); is_rope = tt; whole = append-nil _; nodes = omega arith };
+  spread = record { are = c.requires.slots; empty = λ i lt. c.requires.empty i (omega (arith, lt, c.min-m.ensures)); is_rope = tt; whole = append-nil _; nodes = omega arith };
   grows = grows_itself g.F.LeafFn.meaning c.args.store.now _ _ (omega arith) (omega arith);
 }
 
