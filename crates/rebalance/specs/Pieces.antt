@@ -11,6 +11,8 @@ use Rattle.rope_node.specs.Denotes.{Cell, cells, rope_len}
 use Rattle.rebalance.specs.declared.pieces.Span.{Span}
 use Rattle.rebalance.specs.declared.pieces.Split.{Split}
 use Rattle.rebalance.specs.declared.pieces.Split.TheVariants.{Piece, Base, Children}
+use Rattle.rebalance.specs.declared.pieces.Tally.{Tally}
+use Rattle.rebalance.specs.declared.pieces.Tally.TheVariants.{So, Few, Many}
 use Rattle.rebalance.specs.declared.pieces.TheConstants.{MOST_PIECES}
 
 -- whether the n bytes of a node from i on are a piece: where nodes are kept, all of one whose length is at least the
@@ -109,6 +111,12 @@ abbrev pub IsSplit : Bool → Table → Span → Split → Type 0
 IsSplit keep t p Piece = IsPieceSpan t p × (span_pieces keep t p ≡ 1)
 IsSplit keep t p (Base base) = IsOfBase keep t p base
 IsSplit keep t p (Children left right) = IsOfChildren keep t p left right
+
+-- what is told of a span's p pieces behind `count` others, where `behind` bytes more are to be counted
+abbrev pub Tallies : ℕ → ℕ → ℕ → Tally → Type 0
+Tallies p count behind (So c) = (c ≡ count + p) × (c ≤ MOST_PIECES)
+Tallies p count behind Few = count + p + behind ≤ MOST_PIECES
+Tallies p count behind Many = MOST_PIECES < count + p
 
 -- the n bytes from i on of a node of this view lie in one child of it
 abbrev pub LiesInChild : Table → ℕ → ℕ → NodeView → Type 0

@@ -1,9 +1,9 @@
 //! The pieces that a rope's text is put together from.
 
-ghost use Rattle.std.specs.Prelude.{◌≡◌, ◌↔◌, ◌+◌, ◌<◌, ◌≤◌, min, length, take, IsTrue, IfOk};
+ghost use Rattle.std.specs.Prelude.{◌≡◌, ◌↔◌, ◌+◌, ◌<◌, ◌≤◌, length, take, IsTrue, IfOk};
 ghost use Rattle.rope_node.specs.Table.{view_at, len_at, IsLeaf, IsFunction};
 ghost use Rattle.node_table.specs.Held.{table_of};
-ghost use Rattle.rebalance.specs.Pieces.{answered_bytes, is_kept, span_pieces, IsPieceSpan, IsSpan, IsSplit};
+ghost use Rattle.rebalance.specs.Pieces.{answered_bytes, is_kept, span_pieces, IsBelow, IsOfChildren, IsPieceSpan, IsSpan, IsSplit, Tallies};
 ghost use Rattle.rebalance.specs.declared.pieces.TheConstants.{MOST_PIECES};
 ghost use Rattle.rebalance.specs.Balancing.{IsPart};
 ghost use Rattle.rebalance.specs.Slots.{IsPiece};
@@ -102,33 +102,83 @@ pub(crate) fn step_down<F: LeafFn>(store: &Store<F>, keep: bool, span: Span) -> 
     }
 }
 
-/// How many pieces a span goes through, or `most` where they are more. It goes past no more than those.
-fn count_pieces<F: LeafFn>(store: &Store<F>, keep: bool, span: Span, most: u32) -> u32
-    requires { IsSpan (table_of F.meaning store.now) span }
-    ensures { result ≡ min most (span_pieces keep (table_of F.meaning store.now) span) }
+/// What is told of pieces that are counted one behind the other.
+#[derive(Clone, Copy)]
+pub(crate) enum Tally {
+    /// So many, and a rope is put together from as many.
+    So(u32),
+    /// With those behind them they are as many at most.
+    Few,
+    /// They are more.
+    Many,
+}
+
+/// The spans that a span has in its children, the longer one first.
+fn longer_first<F: LeafFn>(
+    store: &Store<F>,
+    keep: bool,
+    span: Span,
+    left: Span,
+    right: Span,
+) -> (Span, Span)
+    requires { IsOfChildren keep (table_of F.meaning store.now) span left right }
+    ensures first { IsBelow (table_of F.meaning store.now) span result.0 }
+    ensures second { IsBelow (table_of F.meaning store.now) span result.1 }
+    ensures count { span_pieces keep (table_of F.meaning store.now) span
+        ≡ span_pieces keep (table_of F.meaning store.now) result.0
+        + span_pieces keep (table_of F.meaning store.now) result.1 }
+{
+    if left.len < right.len {
+        (right, left)
+    } else {
+        (left, right)
+    }
+}
+
+/// Counts a span's pieces behind `count` others, where `behind` bytes more are to be counted. Each piece has a byte, so it ends where the bytes
+/// that are left can be no pieces too many: early, as it goes to the longer child first. It goes past no more pieces than a rope is put
+/// together from, and calls itself as deep as the node is.
+fn count_on<F: LeafFn>(store: &Store<F>, keep: bool, span: Span, count: u32, behind: u64) -> Tally
+    requires span { IsSpan (table_of F.meaning store.now) span }
+    requires few { count ≤ MOST_PIECES }
+    ensures { Tallies (span_pieces keep (table_of F.meaning store.now) span) count behind result }
 {
     let _count = store.count();
-    if most == 0 || span.len == 0 {
-        return 0;
+    if span.len.saturating_add(behind) <= u64::from(MOST_PIECES - count) {
+        return Tally::Few;
+    }
+    if span.len == 0 {
+        return Tally::So(count);
     }
     match step_down(store, keep, span) {
-        Split::Piece => 1,
-        Split::Base(base) => count_pieces(store, keep, base, most),
+        Split::Piece => {
+            if count < MOST_PIECES {
+                Tally::So(count + 1)
+            } else {
+                Tally::Many
+            }
+        }
+        Split::Base(base) => count_on(store, keep, base, count, behind),
         Split::Children(left, right) => {
-            let count = count_pieces(store, keep, left, most);
-            count + count_pieces(store, keep, right, most - count)
+            let (first, second) = longer_first(store, keep, span, left, right);
+            match count_on(store, keep, first, count, behind.saturating_add(second.len)) {
+                Tally::So(more) => count_on(store, keep, second, more, behind),
+                Tally::Few => Tally::Few,
+                Tally::Many => Tally::Many,
+            }
         }
     }
 }
 
-/// Whether a span goes through at most as many pieces as a rope is put together from. Each piece has a byte, so few bytes are not
-/// walked.
+/// Whether a span goes through at most as many pieces as a rope is put together from.
 pub(crate) fn has_few_pieces<F: LeafFn>(store: &Store<F>, keep: bool, span: Span) -> bool
     requires { IsSpan (table_of F.meaning store.now) span }
     ensures { IsTrue result ↔ (span_pieces keep (table_of F.meaning store.now) span ≤ MOST_PIECES) }
 {
-    span.len <= u64::from(MOST_PIECES)
-        || count_pieces(store, keep, span, MOST_PIECES + 1) <= MOST_PIECES
+    match count_on(store, keep, span, 0, 0) {
+        Tally::So(_) | Tally::Few => true,
+        Tally::Many => false,
+    }
 }
 
 /// A piece as a rope: the node where it is all of it, else a part of a leaf that holds no leaf for a few bytes.
