@@ -9,7 +9,7 @@ ghost use Rattle.span_certificate.specs.Runs.{IsRunOf, ReadsCells, TellsSame};
 ghost use Rattle.span_certificate.specs.Trails.{AreTrails, IsTrail};
 ghost use Rattle.span_certificate.specs.declared.looks.TheConstants.{LOOKS_LIMIT};
 
-use crate::descent::first_leaf;
+use crate::descent::first_leaf_by;
 use crate::describe::{Description, describe};
 use crate::looks::{Count, CountedSpace};
 use crate::part::Part;
@@ -53,7 +53,7 @@ fn run_of<S: CountedSpace<L>, L: Ledger>(
         Part::Old { rope, i, n: _ } => match rope {
             None => unreachable!(),
             Some(node) => {
-                let z = first_leaf(
+                let z = first_leaf_by(
                     space,
                     trail,
                     Span {

@@ -13,6 +13,7 @@ use crate::descent::leaf_span;
 use crate::describe::{Description, describe};
 use crate::looks::{Count, CountedSpace};
 use crate::part::Part;
+use crate::shallow::leads_below;
 use crate::trail::Trail;
 use crate::walk::Span;
 use function_leaf::Coded;
@@ -20,9 +21,33 @@ use rope_node::{CodedSpace, NodeId, NodeView};
 use std::marker::Brand;
 use std::sync::ledger::{Blank, Ledger};
 
-/// Whether a span leads to the bytes of a node from a place on. It is looked for from the last stop of the trail that holds the span and
-/// is no lower than the node.
+/// Whether a span leads to the bytes of a node from a place on.
+#[inline(always)]
 fn leads_to<S: CountedSpace<L>, L: Ledger>(
+    space: &S,
+    trail: &mut Trail,
+    x: Span,
+    node: NodeId,
+    at: u64,
+    count: &mut Count<L>,
+) -> bool
+    requires sound { IsSound (S.table space.now) }
+    requires true_records { HasTrueRecords (S.table space.now) }
+    requires trail { IsTrail (S.table space.now) trail.old }
+    requires span { IsSpan (S.table space.now) x }
+    ensures leads { IsTrue result ↔ Leads (S.table space.now) x.len node.0 at x.node.0 x.start }
+    ensures trail { IsTrail (S.table space.now) trail.new }
+    ensures few { count.new ≤ count.old + 65 }
+{
+    if space.is_shallow(x.node) {
+        return leads_below(space, x, node, at, count);
+    }
+    leads_by(space, trail, x, node, at, count)
+}
+
+/// The same. It is looked for from the last stop of the trail that holds the span and
+/// is no lower than the node.
+fn leads_by<S: CountedSpace<L>, L: Ledger>(
     space: &S,
     trail: &mut Trail,
     x: Span,

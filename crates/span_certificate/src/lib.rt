@@ -16,6 +16,7 @@ mod pieces;
 mod place;
 mod roots;
 mod row;
+mod shallow;
 mod splices;
 mod stop;
 mod trail;

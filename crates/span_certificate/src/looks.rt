@@ -1,10 +1,11 @@
 //! Looks at the nodes of a space, counted.
 
-ghost use Rattle.std.specs.Prelude.{◌≡◌, ◌+◌, ◌<◌, ◌≤◌, length, take, drop, get_or};
+ghost use Rattle.std.specs.Prelude.{◌≡◌, ◌+◌, ◌<◌, ◌≤◌, length, take, drop, get_or, IsTrue};
 ghost use Rattle.rope_node.specs.declared.limits.TheConstants.{MOST_DEPTH, TEXT_LIMIT};
 ghost use Rattle.span_certificate.specs.Commands.{full_edit, NamesSplices};
 ghost use Rattle.span_certificate.specs.Parts.{parts_of, IsInRange, AreRopes, AreParts};
 ghost use Rattle.span_certificate.specs.Looks.{BeginsCount};
+ghost use Rattle.span_certificate.specs.declared.looks.TheConstants.{SHALLOW};
 ghost use Rattle.rope_node.specs.Denotes.{rope_len, IsRope};
 ghost use Rattle.rope_node.specs.Table.{view_at, len_at, depth_at, IsSound, HasTrueRecords, IsLiteral, IsFunction, literal_from};
 
@@ -19,6 +20,9 @@ use std::sync::ledger::{Blank, Book, Ledger, Share};
 
 /// The most looks that a row takes; for each byte that it compares, it takes at most as many more.
 pub const LOOKS_LIMIT: u64 = 132;
+
+/// Ways down from a node of at most this depth are not kept.
+pub const SHALLOW: u8 = 6;
 
 /// How many looks were taken. It has no bytes, and no call lowers it.
 #[derive(Drop)]
@@ -84,6 +88,15 @@ pub trait CountedSpace<L: Ledger> {
         ensures value { result ≡ coded self.now id.0 }
         ensures count { count.new ≡ count.old + 1 };
 
+    /// Whether ways down from a node are so short that each begins there. Where it answers `false`, they lead to the same, and what is on them is
+    /// kept for the next.
+    fn is_shallow(&self, _id: NodeId) -> bool
+        requires { _id.0 < length (table self.now).nodes }
+        ensures { IsTrue result → depth_at (table self.now) _id.0 ≤ SHALLOW }
+    {
+        false
+    }
+
     /// How many nodes there are.
     fn node_count(&self) -> u32
         ensures count { result ≡ length (table self.now).nodes }
@@ -133,6 +146,10 @@ impl<S: CodedSpace, L: Ledger> CountedSpace<L> for S {
     fn look_coded(&self, id: NodeId, count: &mut Count<L>) -> Coded {
         count.raise();
         self.coded(id)
+    }
+
+    fn is_shallow(&self, id: NodeId) -> bool {
+        self.depth(id) <= SHALLOW
     }
 
     fn node_count(&self) -> u32 {

@@ -13,6 +13,7 @@ use crate::descent::first_leaf;
 use crate::describe::{Description, describe};
 use crate::looks::{Count, CountedSpace};
 use crate::row::{Row, RowKind};
+use crate::shallow::next_below;
 use crate::stop::Stop;
 use crate::trail::{Trail, Trails};
 use rope_node::{NodeId, NodeView};
@@ -38,7 +39,7 @@ pub struct Reached {
 }
 
 /// The row for two leaf spans of one length and the same cells.
-fn leaf_row<S: CountedSpace<L>, L: Ledger>(
+pub fn leaf_row<S: CountedSpace<L>, L: Ledger>(
     space: &S,
     x: Span,
     of_x: NodeView,
@@ -204,10 +205,38 @@ fn shared_row<S: CountedSpace<L>, L: Ledger>(space: &S, x: Span, a: Stop, y: Spa
 }
 
 /// A row for the first bytes of two spans of the same cells: over the first node that both lead to at
-/// one place, or over two leaf spans. Each side goes on from the last stop of its trail that holds its first byte. What both trails
+/// one place, or over two leaf spans.
+#[inline(always)]
+pub fn next_old<S: CountedSpace<L>, L: Ledger>(
+    space: &S,
+    trails: &mut Trails,
+    x: Span,
+    y: Span,
+    count: &mut Count<L>,
+) -> Row
+    requires sound { IsSound (S.table space.now) }
+    requires true_records { HasTrueRecords (S.table space.now) }
+    requires trails { AreTrails (S.table space.now) trails.old }
+    requires x { IsSpan (S.table space.now) x }
+    requires y { IsSpan (S.table space.now) y }
+    requires len { y.len ≡ x.len }
+    requires same { span_cells (S.table space.now) x
+        ≡ span_cells (S.table space.now) y }
+    ensures row { IsRowOf (S.table space.now) (S.coded space.now) x y result }
+    ensures longest { result.len < x.len
+        → ¬ SpansStayWithin (S.table space.now) (result.len + 1) x y result.kind }
+    ensures trails { AreTrails (S.table space.now) trails.new }
+{
+    if space.is_shallow(x.node) && space.is_shallow(y.node) {
+        return next_below(space, x, y, count);
+    }
+    next_by(space, trails, x, y, count)
+}
+
+/// The same. Each side goes on from the last stop of its trail that holds its first byte. What both trails
 /// kept is at one place of both only where the row before it was over that node to its end, so the first node of both is met where one
 /// side comes to a stop that is new.
-pub fn next_old<S: CountedSpace<L>, L: Ledger>(
+fn next_by<S: CountedSpace<L>, L: Ledger>(
     space: &S,
     trails: &mut Trails,
     x: Span,

@@ -5,7 +5,7 @@ use Rattle.span_certificate.specs.declared.walk.Span.{Span}
 use Rattle.span_certificate.proofs.RowEnds.{leaves_end}
 use Rattle.span_certificate.proofs.Stops.{walked_to_stops}
 use Rattle.span_certificate.proofs.Walks.{reached_same, row_through}
-use Rattle.span_certificate.proofs.walk.next_old.Goals as goal
+use Rattle.span_certificate.proofs.walk.next_by.Goals as goal
 
 pub push-requires-clause-stop : goal.push-requires-clause-stop
 push-requires-clause-stop g c =

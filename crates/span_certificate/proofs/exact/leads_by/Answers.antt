@@ -5,7 +5,7 @@ use Rattle.span_certificate.specs.Leads.{here}
 use Rattle.span_certificate.specs.Trails.{place_in}
 use Rattle.span_certificate.proofs.Stops.{at_step, base_step, left_step, right_step, way_from_stop}
 use Rattle.span_certificate.proofs.Ways.{IsOnWayTo, away_of, ends_at_leaf, over_border_to, way_down, way_left, way_right}
-use Rattle.span_certificate.proofs.exact.leads_to.Goals as goal
+use Rattle.span_certificate.proofs.exact.leads_by.Goals as goal
 
 pub down-init : goal.down-init
 down-init g c =

@@ -6,7 +6,7 @@ use Rattle.span_certificate.specs.Descents.{LeadsToSpan}
 use Rattle.span_certificate.specs.Trails.{place_in}
 use Rattle.span_certificate.proofs.Descents.{IsOnTheWay, goes_left, goes_right, goes_down, over_border, same_span}
 use Rattle.span_certificate.proofs.Stops.{at_step, base_step, leaf_way_from_stop, left_step, right_step}
-use Rattle.span_certificate.proofs.descent.leaf_span.Goals as goal
+use Rattle.span_certificate.proofs.descent.leaf_span_by.Goals as goal
 
 pub down-init : goal.down-init
 down-init g c =

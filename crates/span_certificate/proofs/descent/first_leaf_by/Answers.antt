@@ -1,7 +1,7 @@
 use Rattle.std.proofs.Common.{◌≡◌, ◌-◌, sym, ◌∙◌, arith}
 use Rattle.rope_node.proofs.Paths.{is_leaf_of}
 use Rattle.span_certificate.proofs.Stops.{base_step, leaf_of_stop, left_step, right_step}
-use Rattle.span_certificate.proofs.descent.first_leaf.Goals as goal
+use Rattle.span_certificate.proofs.descent.first_leaf_by.Goals as goal
 
 pub push-requires-clause-stop : goal.push-requires-clause-stop
 push-requires-clause-stop g c =

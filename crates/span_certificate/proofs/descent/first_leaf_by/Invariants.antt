@@ -2,7 +2,7 @@ use Rattle.std.proofs.Common.{◌+◌, ◌-◌, ◌≤◌}
 use Rattle.rope_node.specs.declared.limits.TheConstants.{MOST_DEPTH}
 use Rattle.rope_node.specs.Table.{depth_at}
 use Rattle.span_certificate.specs.Trails.{Holds, IsTrailStop, IsTrailOf}
-use Rattle.span_certificate.proofs.descent.first_leaf.Given as goal
+use Rattle.span_certificate.proofs.descent.first_leaf_by.Given as goal
 
 abbrev pub invariant-down : goal.invariant-down
 invariant-down g l = record {

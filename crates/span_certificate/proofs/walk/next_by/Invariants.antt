@@ -1,7 +1,7 @@
 use Rattle.std.proofs.Common.{◌≡◌, ◌+◌, ◌-◌}
 use Rattle.rope_node.specs.Table.{view_at}
 use Rattle.span_certificate.specs.Trails.{Holds, IsTrailOf, IsTrailStop}
-use Rattle.span_certificate.proofs.walk.next_old.Given as goal
+use Rattle.span_certificate.proofs.walk.next_by.Given as goal
 
 abbrev pub invariant-down : goal.invariant-down
 invariant-down g l = record {
