@@ -235,6 +235,21 @@ pub fn revise(
     ensures { Revises store.old revisions.now command.now result store.new }
 {
     let _nodes = store.count();
+    let times = times_handed(command);
+    if times <= 1 {
+        // Most commands hand in bytes once, and take no memory for their place.
+        let mut place = [0];
+        return revise_at(
+            alloc,
+            store,
+            revisions,
+            splice_count,
+            room,
+            command,
+            &mut place[..times],
+            trails,
+        );
+    }
     let mut places = room_for(alloc, command)?;
     revise_at(
         alloc,
