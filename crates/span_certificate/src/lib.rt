@@ -26,7 +26,7 @@ pub use cover::{Verdict, verify, verify_by, verify_counted};
 pub use describe::{Description, describe_leaf};
 pub use edit::{Edit, MOST_REVISIONS, MOST_SPLICES, SPLICES_LIMIT, Splice};
 pub use exact::describe_part;
-pub use looks::{Count, CountedSpace, LOOKS_LIMIT, Looks};
+pub use looks::{Count, CountedSpace, LOOKS_LIMIT, Looks, SHALLOW_DEPTH};
 pub use making::{MakeFault, ROWS_LIMIT, make, make_by};
 pub use part::Part;
 pub use part_iter::{PartIter, parts};

@@ -5,7 +5,7 @@ ghost use Rattle.rope_node.specs.declared.limits.TheConstants.{MOST_DEPTH, TEXT_
 ghost use Rattle.span_certificate.specs.Commands.{full_edit, NamesSplices};
 ghost use Rattle.span_certificate.specs.Parts.{parts_of, IsInRange, AreRopes, AreParts};
 ghost use Rattle.span_certificate.specs.Looks.{BeginsCount};
-ghost use Rattle.span_certificate.specs.declared.looks.TheConstants.{SHALLOW};
+ghost use Rattle.span_certificate.specs.declared.looks.TheConstants.{SHALLOW_DEPTH};
 ghost use Rattle.rope_node.specs.Denotes.{rope_len, IsRope};
 ghost use Rattle.rope_node.specs.Table.{view_at, len_at, depth_at, IsSound, HasTrueRecords, IsLiteral, IsFunction, literal_from};
 
@@ -21,8 +21,8 @@ use std::sync::ledger::{Blank, Book, Ledger, Share};
 /// The most looks that a row takes; for each byte that it compares, it takes at most as many more.
 pub const LOOKS_LIMIT: u64 = 132;
 
-/// Ways down from a node of at most this depth are not kept.
-pub const SHALLOW: u8 = 6;
+/// A rope of at most this depth is shallow: a way down from its root costs less than what is kept of it.
+pub const SHALLOW_DEPTH: u8 = 6;
 
 /// How many looks were taken. It has no bytes, and no call lowers it.
 #[derive(Drop)]
@@ -59,7 +59,7 @@ impl<L: Ledger> Count<L> {
     }
 }
 
-/// A space of which each look is counted by `L`. It tells lengths and bytes of the pool without one.
+/// A space of which each look is counted by `L`. It tells lengths, bytes of the pool and what is shallow without one.
 pub trait CountedSpace<L: Ledger> {
     ghost use Rattle.std.specs.Prelude.{ℕ};
     ghost use Rattle.function_leaf.specs.declared.coded.Coded.{Coded};
@@ -88,11 +88,10 @@ pub trait CountedSpace<L: Ledger> {
         ensures value { result ≡ coded self.now id.0 }
         ensures count { count.new ≡ count.old + 1 };
 
-    /// Whether ways down from a node are so short that each begins there. Where it answers `false`, they lead to the same, and what is on them is
-    /// kept for the next.
+    /// Whether a way down from a node is so short that it is not worth keeping for the next one. Both lead to the same.
     fn is_shallow(&self, _id: NodeId) -> bool
         requires { _id.0 < length (table self.now).nodes }
-        ensures { IsTrue result → depth_at (table self.now) _id.0 ≤ SHALLOW }
+        ensures { IsTrue result → depth_at (table self.now) _id.0 ≤ SHALLOW_DEPTH }
     {
         false
     }
@@ -149,7 +148,7 @@ impl<S: CodedSpace, L: Ledger> CountedSpace<L> for S {
     }
 
     fn is_shallow(&self, id: NodeId) -> bool {
-        self.depth(id) <= SHALLOW
+        self.depth(id) <= SHALLOW_DEPTH
     }
 
     fn node_count(&self) -> u32 {

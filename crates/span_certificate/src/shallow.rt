@@ -1,4 +1,4 @@
-//! Ways down of shallow ropes. Each begins at its root, since a short way costs less than what is kept of it.
+//! Ways down that are not kept: each begins at its root. For shallow ropes that costs less.
 
 ghost use Rattle.std.specs.Prelude.{◌≡◌, ◌↔◌, ◌+◌, ◌<◌, ◌≤◌, None, IfSome, IsTrue};
 ghost use Rattle.rope_node.specs.Table.{view_at, IsLeaf, IsSound, HasTrueRecords};
@@ -201,6 +201,33 @@ fn step_down<S: CountedSpace<L>, L: Ledger>(
 
 /// A row for the first bytes of two spans of the same cells: over the first node that both lead to at one place, or over two leaf spans.
 pub fn next_below<S: CountedSpace<L>, L: Ledger>(
+    space: &S,
+    x: Span,
+    y: Span,
+    count: &mut Count<L>,
+) -> Row
+    requires sound { IsSound (S.table space.now) }
+    requires true_records { HasTrueRecords (S.table space.now) }
+    requires x { IsSpan (S.table space.now) x }
+    requires y { IsSpan (S.table space.now) y }
+    requires len { y.len ≡ x.len }
+    requires same { span_cells (S.table space.now) x
+        ≡ span_cells (S.table space.now) y }
+    ensures row { IsRowOf (S.table space.now) (S.coded space.now) x y result }
+    ensures longest { result.len < x.len
+        → ¬ SpansStayWithin (S.table space.now) (result.len + 1) x y result.kind }
+{
+    if x.node.0 == y.node.0 && x.start == y.start {
+        return Row {
+            len: x.len,
+            kind: RowKind::Shared(x.node, x.start),
+        };
+    }
+    next_apart(space, x, y, count)
+}
+
+/// The same, behind a look at both.
+fn next_apart<S: CountedSpace<L>, L: Ledger>(
     space: &S,
     x: Span,
     y: Span,

@@ -6,6 +6,7 @@ use super::lists::{next, up_to};
 use super::plain_rows::{plain_rows, root, rope_len};
 use super::texts::applied;
 use edit_commands::{Change, Command, Session};
+use span_certificate::SHALLOW_DEPTH;
 use std::alloc::AllocGlobal;
 use std::process::Abort;
 
@@ -231,11 +232,24 @@ fn assert_rows<A: AllocGlobal + Abort>(rt: &A, session: &Session, k: u32) {
     }
 }
 
-/// The same of each revision of a session.
+/// Whether the root of revision `k` is deeper than a shallow rope.
+fn is_deep<A: Abort>(rt: &A, session: &Session, k: u32) -> bool {
+    let rope = root(rt, session, k);
+    let space = session.space();
+    assert!(rt; space.has(rope));
+    space.depth(rope) > SHALLOW_DEPTH
+}
+
+/// The same of each revision of a session, whose ropes are shallow and deep.
 fn assert_all_rows<A: AllocGlobal + Abort>(rt: &A, session: &Session) {
+    let (mut has_shallow, mut has_deep) = (false, false);
     for k in 0..session.count() {
         assert_rows(rt, session, k);
+        let deep = is_deep(rt, session, k);
+        has_shallow = has_shallow || !deep;
+        has_deep = has_deep || deep;
     }
+    assert!(rt; has_shallow && has_deep);
 }
 
 #[test]

@@ -1,7 +1,7 @@
 use Rattle.std.proofs.Common.{◌≡◌, ◌+◌}
 use Rattle.rope_node.specs.Table.{view_at}
 use Rattle.span_certificate.proofs.RowEnds.{AreWalked}
-use Rattle.span_certificate.proofs.shallow.next_below.Given as goal
+use Rattle.span_certificate.proofs.shallow.next_apart.Given as goal
 
 abbrev pub invariant-down : goal.invariant-down
 invariant-down g l = record {
