@@ -25,7 +25,7 @@ fn leaf_span<S: NodeSpace>(space: &S, node: NodeId, place: u64) -> LeafSpan
         let view = space.node(leaf);
         match view {
             NodeView::Cat { l, r } => {
-                let left = space.len(l);
+                let left = space.left_len(leaf, l);
                 if start < left {
                     leaf = l;
                     len = len.min(left - start);

@@ -132,7 +132,7 @@ fn descend<S: NodeSpace>(space: &S, root: NodeId, path: &mut Path, from: Step, p
     'down: loop {
         match space.node(step.node) {
             NodeView::Cat { l, r } => {
-                let left = space.len(l);
+                let left = space.left_len(step.node, l);
                 let fork = Fork { step, l, r, left };
                 step = side_of(fork, place);
                 if step.len < fork.step.len {

@@ -84,7 +84,7 @@ pub fn look_in<S: NodeSpace, T: Sources>(
 {
     match space.node(node) {
         NodeView::Cat { l, r } => {
-            let left = space.len(l);
+            let left = space.left_len(node, l);
             if start >= left {
                 return look_in(space, sources, r, start - left, len, seeker, buffer);
             }

@@ -85,7 +85,7 @@ fn gather<S: NodeSpace, T: Sources>(
 {
     match space.node(node) {
         NodeView::Cat { l, r } => {
-            let left = space.len(l);
+            let left = space.left_len(node, l);
             if start >= left {
                 return gather(space, sources, r, start - left, buffer);
             }

@@ -1,3 +1,4 @@
 pub mod Filling
 pub mod Growing
+pub mod LeftLengths
 pub mod LiteralRest

@@ -11,21 +11,21 @@ abbrev pub stored_view : {F : Type 0} → EntryKind F → NodeView
 stored_view (Literal a) = Lit a
 stored_view (Source s a) = Src s a
 stored_view (Function f) = Fun
-stored_view (Concatenation l d r) = Cat l r
+stored_view (Concatenation l d r n) = Cat l r
 stored_view (Part b d i) = Sub b i
 
 abbrev pub stored_depth : {F : Type 0} → EntryKind F → ℕ
 stored_depth (Literal a) = 0
 stored_depth (Source s a) = 0
 stored_depth (Function f) = 0
-stored_depth (Concatenation l d r) = d
+stored_depth (Concatenation l d r n) = d
 stored_depth (Part b d i) = d
 
 abbrev pub stored_function : {F : Type 0} → EntryKind F → Option F
 stored_function (Literal a) = None
 stored_function (Source s a) = None
 stored_function (Function f) = Some f
-stored_function (Concatenation l d r) = None
+stored_function (Concatenation l d r n) = None
 stored_function (Part b d i) = None
 
 abbrev pub record_of : {F : Type 0} → Entry F → Record F
@@ -35,6 +35,14 @@ record_of e = record {
   depth = stored_depth e.kind;
   function = stored_function e.kind;
 }
+
+-- what is stored of a concatenation names this length as its left part's
+abbrev pub StoresLeft : {F : Type 0} → EntryKind F → ℕ → Type 0
+StoresLeft (Literal a) left = Unit {0}
+StoresLeft (Source s a) left = Unit {0}
+StoresLeft (Function f) left = Unit {0}
+StoresLeft (Concatenation l d r n) left = n ≡ left
+StoresLeft (Part b d i) left = Unit {0}
 
 -- a node that can be stored: a leaf has depth 0, a function is there, and nothing else holds one
 abbrev pub CanStore : {F : Type 0} → NodeView → ℕ → Option F → Type 0

@@ -1,7 +1,7 @@
 //! One node as a table stores it.
 
 ghost use Rattle.std.specs.Prelude.{◌≡◌};
-ghost use Rattle.node_table.specs.Entries.{record_of, stored_view, stored_depth, stored_function, CanStore, IsStorable};
+ghost use Rattle.node_table.specs.Entries.{record_of, stored_view, stored_depth, stored_function, CanStore, IsStorable, StoresLeft};
 
 use crate::record::Record;
 use function_leaf::{Coded, LeafFn};
@@ -10,11 +10,26 @@ use rope_node::{NodeId, NodeView};
 /// What a node is, with the function of one that is a function, and with the depth of one that is no leaf.
 #[derive(Clone, Copy)]
 pub(crate) enum EntryKind<F: LeafFn> {
-    Literal { a: u64 },
-    Source { s: u32, a: u64 },
+    Literal {
+        a: u64,
+    },
+    Source {
+        s: u32,
+        a: u64,
+    },
     Function(F),
-    Concatenation { l: NodeId, depth: u8, r: NodeId },
-    Part { b: NodeId, depth: u8, i: u64 },
+    /// With the length of `l`, so that a way down need not ask that node for it.
+    Concatenation {
+        l: NodeId,
+        depth: u8,
+        r: NodeId,
+        left: u64,
+    },
+    Part {
+        b: NodeId,
+        depth: u8,
+        i: u64,
+    },
 }
 
 /// A node's record in less space.
@@ -28,12 +43,13 @@ pub(crate) struct Entry<F: LeafFn> {
 // A table of coded functions takes 32 bytes for a node.
 const _: () = prove!(size_of::<Entry<Coded>>() <= 32);
 
-/// What is stored of a node of this view and depth.
-fn kind_of<F: LeafFn>(view: NodeView, depth: u8, function: Option<F>) -> EntryKind<F>
+/// What is stored of a node of this view and depth, whose left part, if it is a concatenation, has `left` bytes.
+fn kind_of<F: LeafFn>(view: NodeView, depth: u8, function: Option<F>, left: u64) -> EntryKind<F>
     requires { CanStore view depth function }
     ensures view { stored_view result ≡ view }
     ensures depth { stored_depth result ≡ depth }
     ensures function { stored_function result ≡ function }
+    ensures left { StoresLeft result left }
 {
     match view {
         NodeView::Lit { a } => EntryKind::Literal { a },
@@ -42,19 +58,20 @@ fn kind_of<F: LeafFn>(view: NodeView, depth: u8, function: Option<F>) -> EntryKi
             Some(function) => EntryKind::Function(function),
             None => unreachable!(),
         },
-        NodeView::Cat { l, r } => EntryKind::Concatenation { l, depth, r },
+        NodeView::Cat { l, r } => EntryKind::Concatenation { l, depth, r, left },
         NodeView::Sub { b, i } => EntryKind::Part { b, depth, i },
     }
 }
 
 impl<F: LeafFn> Entry<F> {
-    /// What is stored of this node.
-    pub(crate) fn of(node: Record<F>) -> Entry<F>
+    /// What is stored of this node, whose left part, if it is a concatenation, has `left` bytes.
+    pub(crate) fn of(node: Record<F>, left: u64) -> Entry<F>
         requires { IsStorable node }
-        ensures { record_of result ≡ node }
+        ensures record { record_of result ≡ node }
+        ensures left { StoresLeft result.kind left }
     {
         Entry {
-            kind: kind_of(node.view, node.depth, node.function),
+            kind: kind_of(node.view, node.depth, node.function, left),
             len: node.len,
         }
     }

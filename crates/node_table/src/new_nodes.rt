@@ -2,12 +2,14 @@
 
 ghost use Rattle.std.specs.Prelude.{◌≡◌, ◌+◌, ◌^◌, ◌<◌, ◌≤◌, ◌++◌, ◌∷◌, [], All, length, map};
 ghost use Rattle.node_table.specs.Entries.{record_of, IsStorable};
+ghost use Rattle.node_table.specs.Lefts.{nodes_in, HasLeftBelow, HaveLeftsBefore, IsLeftLen, KeepLefts};
 ghost use Rattle.node_table.specs.NodeLists.{listed};
 
 use crate::blocks::Blocks;
 use crate::entry::Entry;
 use crate::record::Record;
 use function_leaf::LeafFn;
+use rope_node::NodeView;
 
 /// One to three nodes, in the order of their numbers.
 #[derive(Clone, Copy)]
@@ -32,17 +34,33 @@ impl<F: LeafFn> NewNodes<F> {
     }
 }
 
+/// The length of the left part of a concatenation, 0 for any other node.
+#[inline(always)]
+fn left_len<F: LeafFn>(entries: &Blocks<Entry<F>>, view: NodeView) -> u64
+    requires { HasLeftBelow (length entries.now.items) view }
+    ensures { IsLeftLen (nodes_in entries.now.items) view result }
+{
+    match view {
+        NodeView::Cat { l, .. } => entries.at(l.0 as usize).len,
+        _ => 0,
+    }
+}
+
 /// Stores this node behind the others, where there is room for it.
 #[inline(always)]
 fn put_one<F: LeafFn>(entries: &mut Blocks<Entry<F>>, node: Record<F>)
     requires storable { IsStorable node }
+    requires left { HasLeftBelow (length entries.old.items) node.view }
+    requires lefts { KeepLefts entries.old.items }
     requires room { 1 ≤ entries.old.room }
     requires limit { length entries.old.items + 1 < 2 ^ 32 }
     ensures items { map record_of entries.new.items ≡ map record_of entries.old.items ++ node ∷ [] }
     ensures room { entries.old.room ≡ entries.new.room + 1 }
     ensures len { length entries.new.items ≡ length entries.old.items + 1 }
+    ensures lefts { KeepLefts entries.new.items }
 {
-    entries.push(Entry::of(node));
+    let left = left_len(entries, node.view);
+    entries.push(Entry::of(node, left));
 }
 
 /// Stores these nodes behind the others, where there is room for them.
@@ -51,7 +69,10 @@ pub(crate) fn put_behind<F: LeafFn>(entries: &mut Blocks<Entry<F>>, nodes: NewNo
     requires storable { All IsStorable (listed nodes) }
     requires room { length (listed nodes) ≤ entries.old.room }
     requires limit { length entries.old.items + length (listed nodes) < 2 ^ 32 }
-    ensures { map record_of entries.new.items ≡ map record_of entries.old.items ++ listed nodes }
+    requires before { HaveLeftsBefore (length entries.old.items) (listed nodes) }
+    requires lefts { KeepLefts entries.old.items }
+    ensures items { map record_of entries.new.items ≡ map record_of entries.old.items ++ listed nodes }
+    ensures lefts { KeepLefts entries.new.items }
 {
     match nodes {
         NewNodes::One(a) => put_one(entries, a),

@@ -5,6 +5,7 @@ ghost use Rattle.leaf_buffer.specs.Contents.{appended, extended, CanExtend, Keep
 ghost use Rattle.rope_node.specs.Table.{no_node};
 ghost use Rattle.node_table.specs.Entries.{record_of, stored_function};
 ghost use Rattle.node_table.specs.Held.{Held, held_of, node_of, CanHold, IsKept};
+ghost use Rattle.node_table.specs.Lefts.{KeepsLeft};
 ghost use Rattle.node_table.specs.NodeLists.{listed};
 ghost use Rattle.node_table.specs.Puts.{AddsSource, Puts, PutsGrown};
 
@@ -30,12 +31,14 @@ impl<F: LeafFn> Model for NodeTable<F> {
     ghost use Rattle.std.specs.Prelude.{map};
     ghost use Rattle.node_table.specs.Entries.{record_of};
     ghost use Rattle.node_table.specs.Held.{Held, held_of, IsKept};
+    ghost use Rattle.node_table.specs.Lefts.{KeepLefts};
 
     ghost Value = { Held F };
 
     ghost view = { λ a. held_of (map record_of a.entries.items) a.pool a.sources.items };
 
-    ghost invariant = { λ a. IsKept F.meaning (held_of (map record_of a.entries.items) a.pool a.sources.items) };
+    ghost invariant = { λ a. IsKept F.meaning (held_of (map record_of a.entries.items) a.pool a.sources.items)
+        × KeepLefts a.entries.items };
 }
 
 /// Puts these bytes at the pool's end, in one block.
@@ -98,6 +101,7 @@ impl<F: LeafFn> NodeTable<F> {
         requires { id.0 < length self.now.nodes }
         ensures node { get_or self.now.nodes id.0 no_node ≡ node_of (record_of result.now) }
         ensures function { get_or self.now.functions id.0 None ≡ stored_function result.now.kind }
+        ensures left { KeepsLeft self.now.nodes result.now.kind }
         ensures held { IsKept F.meaning self.now }
     {
         self.entries.at(id.0 as usize)

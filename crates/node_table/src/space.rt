@@ -23,6 +23,13 @@ impl<F: LeafFn> NodeSpace for NodeTable<F> {
         self.entry(id).len
     }
 
+    fn left_len(&self, id: NodeId, _: NodeId) -> u64 {
+        match self.entry(id).kind {
+            EntryKind::Concatenation { left, .. } => left,
+            _ => unreachable!(),
+        }
+    }
+
     fn depth(&self, id: NodeId) -> u8 {
         self.entry(id).depth()
     }

@@ -157,7 +157,7 @@ fn lowest<F: LeafFn>(store: &Store<F>, node: NodeId, start: u64, len: u64) -> Sp
         }
         match store.node(below) {
             NodeView::Cat { l, r } => {
-                let left = NodeSpace::len(store, l);
+                let left = NodeSpace::left_len(store, below, l);
                 if left <= place {
                     below = r;
                     place -= left;

@@ -78,7 +78,7 @@ pub(crate) fn step_down<F: LeafFn>(store: &Store<F>, keep: bool, span: Span) -> 
     }
     match store.node(node) {
         NodeView::Cat { l, r } => {
-            let left = NodeSpace::len(store, l);
+            let left = NodeSpace::left_len(store, node, l);
             let skipped = start.min(left);
             let count = len.min(left - skipped);
             let first = Span {

@@ -2,6 +2,7 @@
 use Rattle.std.specs.Prelude.{◌≡◌, ℕ, ◌+◌, ◌<◌, ◌≤◌, max, List, [], length, get_or, slice_range}
 use Rattle.leaf_buffer.specs.declared.pool.TheConstants.{POOL_LIMIT}
 use Rattle.rope_node.specs.declared.limits.TheConstants.{MOST_DEPTH, TEXT_LIMIT}
+use Rattle.rope_node.specs.declared.node.NodeId.{NodeId}
 use Rattle.rope_node.specs.declared.node.NodeView.{NodeView}
 use Rattle.rope_node.specs.declared.node.NodeView.TheVariants.{Lit, Src, Fun, Cat, Sub}
 
@@ -90,6 +91,14 @@ depth_of t (Sub b i) = 1 + depth_at t b.0
 pub record IsTrueNode (t : Table) (n : Node) : Type 0 where
   pub len : HasTrueLength t n.len n.view
   pub depth : n.depth ≡ depth_of t n.view
+
+-- the left part of a concatenation
+abbrev pub IsLeftPart : NodeView → NodeId → Type 0
+IsLeftPart (Lit a) part = ⊥
+IsLeftPart (Src s a) part = ⊥
+IsLeftPart Fun part = ⊥
+IsLeftPart (Cat l r) part = part ≡ l
+IsLeftPart (Sub b i) part = ⊥
 
 -- a table whose records are all true
 pub record HasTrueRecords (t : Table) : Type 0 where

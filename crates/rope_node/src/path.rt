@@ -38,7 +38,7 @@ pub fn find_leaf<S: NodeSpace>(space: &S, node: NodeId, place: u64) -> LeafPlace
         visits += 1;
         match view {
             NodeView::Cat { l, r } => {
-                let left = space.len(l);
+                let left = space.left_len(leaf, l);
                 if start < left {
                     leaf = l;
                 } else {

@@ -4,7 +4,7 @@ ghost use Rattle.std.specs.Prelude.{◌≡◌, ◌<◌, ◌≤◌, ℕ, length, 
 ghost use Rattle.leaf_buffer.specs.declared.pool.TheConstants.{POOL_LIMIT};
 ghost use Rattle.rope_node.specs.declared.limits.TheConstants.{MOST_DEPTH, TEXT_LIMIT};
 ghost use Rattle.rope_node.specs.Denotes.{rope_cells, rope_len, IsRope};
-ghost use Rattle.rope_node.specs.Table.{Table, view_at, len_at, depth_at, IsSound, HasTrueRecords, IsLiteral, IsFunction, literal_from};
+ghost use Rattle.rope_node.specs.Table.{Table, view_at, len_at, depth_at, IsSound, HasTrueRecords, IsLeftPart, IsLiteral, IsFunction, literal_from};
 ghost use Rattle.rope_node.specs.Coded.{AnswersCoded};
 ghost use Rattle.function_leaf.specs.declared.coded.Coded.{Coded};
 ghost use Rattle.function_leaf.specs.Repeating.{Repeats};
@@ -36,6 +36,20 @@ pub trait NodeSpace {
         ensures limit { result < TEXT_LIMIT }
         ensures sound { IsSound (table self.now) }
         ensures true_records { HasTrueRecords (table self.now) };
+
+    /// The recorded length of the left part `l` of a concatenation, in bytes. A table may keep it with the concatenation.
+    fn left_len(&self, id: NodeId, l: NodeId) -> u64
+        requires there { id.0 < length (table self.now).nodes }
+        requires left { IsLeftPart (view_at (table self.now) id.0) l }
+        requires left_there { l.0 < length (table self.now).nodes }
+        ensures value { result ≡ len_at (table self.now) l.0 }
+        ensures limit { result < TEXT_LIMIT }
+        ensures sound { IsSound (table self.now) }
+        ensures true_records { HasTrueRecords (table self.now) }
+    {
+        let _ = id;
+        self.len(l)
+    }
 
     /// The recorded depth.
     fn depth(&self, id: NodeId) -> u8

@@ -28,6 +28,10 @@ impl<F: LeafFn> NodeSpace for Store<F> {
         self.table.len(id)
     }
 
+    fn left_len(&self, id: NodeId, l: NodeId) -> u64 {
+        self.table.left_len(id, l)
+    }
+
     fn depth(&self, id: NodeId) -> u8 {
         self.table.depth(id)
     }

@@ -82,7 +82,7 @@ fn leaf_span_by<S: CountedSpace<L>, L: Ledger>(
         let view = space.look(stop.node, count);
         match view {
             NodeView::Cat { l, r } => {
-                let left = space.node_len(l);
+                let left = space.left_length(stop.node, l);
                 if left <= start {
                     stop = stop.in_right(r, left);
                     trail.push(space, node, stop);
@@ -152,7 +152,7 @@ pub fn first_leaf_by<S: CountedSpace<L>, L: Ledger>(
         let view = space.look(at.node, count);
         match view {
             NodeView::Cat { l, r } => {
-                let left = space.node_len(l);
+                let left = space.left_length(at.node, l);
                 if left <= start {
                     at = at.in_right(r, left);
                     trail.push(space, x.node, at);

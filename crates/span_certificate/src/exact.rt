@@ -72,7 +72,7 @@ fn leads_by<S: CountedSpace<L>, L: Ledger>(
         }
         match space.look(stop.node, count) {
             NodeView::Cat { l, r } => {
-                let left = space.node_len(l);
+                let left = space.left_length(stop.node, l);
                 if left <= start {
                     stop = stop.in_right(r, left);
                     trail.push(space, x.node, stop);

@@ -7,7 +7,7 @@ ghost use Rattle.span_certificate.specs.Parts.{parts_of, IsInRange, AreRopes, Ar
 ghost use Rattle.span_certificate.specs.Looks.{BeginsCount};
 ghost use Rattle.span_certificate.specs.declared.looks.TheConstants.{SHALLOW_DEPTH};
 ghost use Rattle.rope_node.specs.Denotes.{rope_len, IsRope};
-ghost use Rattle.rope_node.specs.Table.{view_at, len_at, depth_at, IsSound, HasTrueRecords, IsLiteral, IsFunction, literal_from};
+ghost use Rattle.rope_node.specs.Table.{view_at, len_at, depth_at, IsSound, HasTrueRecords, IsLeftPart, IsLiteral, IsFunction, literal_from};
 
 use crate::edit::Edit;
 use crate::part_iter::{PartIter, parts};
@@ -89,10 +89,11 @@ pub trait CountedSpace<L: Ledger> {
         ensures count { count.new ≡ count.old + 1 };
 
     /// Whether a way down from a node is so short that it is not worth keeping for the next one. Both lead to the same.
-    fn is_shallow(&self, _id: NodeId) -> bool
-        requires { _id.0 < length (table self.now).nodes }
-        ensures { IsTrue result → depth_at (table self.now) _id.0 ≤ SHALLOW_DEPTH }
+    fn is_shallow(&self, id: NodeId) -> bool
+        requires { id.0 < length (table self.now).nodes }
+        ensures { IsTrue result → depth_at (table self.now) id.0 ≤ SHALLOW_DEPTH }
     {
+        let _ = id;
         false
     }
 
@@ -109,6 +110,20 @@ pub trait CountedSpace<L: Ledger> {
         ensures limit { result < TEXT_LIMIT }
         ensures sound { IsSound (table self.now) }
         ensures true_records { HasTrueRecords (table self.now) };
+
+    /// The recorded length of the left part `l` of a concatenation, in bytes.
+    fn left_length(&self, id: NodeId, l: NodeId) -> u64
+        requires there { id.0 < length (table self.now).nodes }
+        requires left { IsLeftPart (view_at (table self.now) id.0) l }
+        requires left_there { l.0 < length (table self.now).nodes }
+        ensures value { result ≡ len_at (table self.now) l.0 }
+        ensures limit { result < TEXT_LIMIT }
+        ensures sound { IsSound (table self.now) }
+        ensures true_records { HasTrueRecords (table self.now) }
+    {
+        let _ = id;
+        self.node_len(l)
+    }
 
     /// The length of a rope's text in bytes, 0 for nil.
     fn length(&self, rope: Rope) -> u64
@@ -157,6 +172,10 @@ impl<S: CodedSpace, L: Ledger> CountedSpace<L> for S {
 
     fn node_len(&self, id: NodeId) -> u64 {
         self.len(id)
+    }
+
+    fn left_length(&self, id: NodeId, l: NodeId) -> u64 {
+        self.left_len(id, l)
     }
 
     fn length(&self, rope: Rope) -> u64 {

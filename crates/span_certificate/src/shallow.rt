@@ -29,7 +29,7 @@ fn down<S: CountedSpace<L>, L: Ledger>(space: &S, x: Span, view: NodeView) -> Op
 {
     match view {
         NodeView::Cat { l, r } => {
-            let left = space.node_len(l);
+            let left = space.left_length(x.node, l);
             if left <= x.start {
                 Some(Span {
                     node: r,
@@ -91,7 +91,7 @@ pub fn leaf_span_below<S: CountedSpace<L>, L: Ledger>(
         let view = space.look(leaf, count);
         match view {
             NodeView::Cat { l, r } => {
-                let left = space.node_len(l);
+                let left = space.left_length(leaf, l);
                 if left <= start {
                     leaf = r;
                     start -= left;
@@ -133,7 +133,7 @@ pub fn leads_below<S: CountedSpace<L>, L: Ledger>(
         }
         match space.look(here, count) {
             NodeView::Cat { l, r } => {
-                let left = space.node_len(l);
+                let left = space.left_length(here, l);
                 if left <= start {
                     here = r;
                     start -= left;
@@ -226,7 +226,7 @@ pub fn next_below<S: CountedSpace<L>, L: Ledger>(
     next_apart(space, x, y, count)
 }
 
-/// The same, behind a look at both.
+/// The same, of two spans that are not one.
 fn next_apart<S: CountedSpace<L>, L: Ledger>(
     space: &S,
     x: Span,

@@ -107,7 +107,7 @@ fn stop_below<S: CountedSpace<L>, L: Ledger>(
 {
     match view {
         NodeView::Cat { l, r } => {
-            let left = space.node_len(l);
+            let left = space.left_length(stop.node, l);
             if left <= stop.place_in(place) {
                 Some(stop.in_right(r, left))
             } else {

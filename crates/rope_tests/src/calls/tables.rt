@@ -1,7 +1,7 @@
 //! What a table refuses by itself. Its nodes are put by the store above, whose tests put them.
 
-use super::assert_same;
-use super::stores::{add_source, size_of, source_leaf};
+use super::stores::{add_source, joined, size_of, source_leaf, substr};
+use super::{assert_same, assert_same_at};
 use function_leaf::Coded;
 use leaf_buffer::Piece;
 use node_table::{NodeFault, NodeTable};
@@ -34,6 +34,34 @@ fn nine_thousand_nodes_are_each_what_was_put(rt: HostRuntime) {
         assert_same(&rt, &store.node(NodeId(k)), &leaf);
         assert_same(&rt, &size_of(&rt, &store, Some(NodeId(k))), &(n, 0));
     }
+}
+
+// A call puts up to three nodes, of which the last may stand over the others.
+#[test]
+fn a_concatenation_tells_the_length_of_its_left_part(rt: HostRuntime) {
+    let mut store = Store::<Coded>::new(rt.alloc());
+    let s = add_source(&rt, &mut store, 20_000);
+    let mut text = None;
+    for n in 1..200 {
+        if n % 15 == 0 {
+            text = None;
+        }
+        let leaf = source_leaf(&rt, &mut store, s, n, 10 * n);
+        text = joined(&rt, &mut store, leaf, text);
+        assert!(rt; store.has(text));
+        text = store.append(text, b"as many bytes").expect(&rt, "a rope");
+        text = substr(&rt, &mut store, text, 1, 30 * n);
+    }
+    let mut met: u32 = 0;
+    for k in 0..store.count() {
+        if let NodeView::Cat { l, .. } = store.node(NodeId(k)) {
+            assert!(rt; store.has(Some(l)));
+            let wanted = store.len(Some(l));
+            assert_same_at(&rt, &store.left_len(NodeId(k), l), &wanted, &u64::from(k));
+            met = met.saturating_add(1);
+        }
+    }
+    assert!(rt; 300 < met);
 }
 
 #[test]

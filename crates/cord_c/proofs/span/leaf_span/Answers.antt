@@ -8,13 +8,13 @@ down-init g c =
 
 pub down-preserved-then-start-left : goal.down-preserved-then-start-left
 down-preserved-then-start-left g c =
-    rw (c.min-len.ensures, c.len-left.ensures.value)
+    rw (c.min-len.ensures, c.left_len-left.ensures.value)
     (way_left (g.S.NodeSpace.table c.args.space.now) c.node-view.ensures.sound c.node-view.ensures.true_records c.args.node.0 c.args.place c.down.leaf.0 c.down.start c.down.len c.in-Cat.l c.in-Cat.r
     (sym c.in-Cat.ensures.view) (omega arith) c.down.invariant)
 
 pub down-preserved-else-start-left : goal.down-preserved-else-start-left
 down-preserved-else-start-left g c =
-    rw c.len-left.ensures.value
+    rw c.left_len-left.ensures.value
     (way_right (g.S.NodeSpace.table c.args.space.now) c.node-view.ensures.sound c.node-view.ensures.true_records c.args.node.0 c.args.place c.down.leaf.0 c.down.start c.down.len c.in-Cat.l c.in-Cat.r
     (sym c.in-Cat.ensures.view) (omega arith) c.down.invariant)
 

@@ -6,18 +6,18 @@ use Rattle.cord_position.proofs.path.descend.Goals as goal
 pub down-preserved-then-step-fork : goal.down-preserved-then-step-fork
 down-preserved-then-step-fork g c =
     let way = c.down.invariant in
-    let fork : Fork = record { step = c.down.step; l = c.in-Cat.l; r = c.in-Cat.r; left = c.len-left.result } in
+    let fork : Fork = record { step = c.down.step; l = c.in-Cat.l; r = c.in-Cat.r; left = c.left_len-left.result } in
     way_to_side (g.S.NodeSpace.table c.args.space.now) c.node.ensures.sound c.node.ensures.true_records (Some c.args.root) c.down.path c.push_reserved.new.self fork c.side_of-step.result c.args.place
     c.push_reserved.ensures.items c.push_reserved.ensures.capacity c.side_of-step.ensures.left c.side_of-step.ensures.right way.way
-    (record { at = way.at; view = sym c.in-Cat.ensures.view; left = c.len-left.ensures.value }) way.held
+    (record { at = way.at; view = sym c.in-Cat.ensures.view; left = c.left_len-left.ensures.value }) way.held
 
 pub down-preserved-else-step-fork : goal.down-preserved-else-step-fork
 down-preserved-else-step-fork g c =
     let way = c.down.invariant in
-    let fork : Fork = record { step = c.down.step; l = c.in-Cat.l; r = c.in-Cat.r; left = c.len-left.result } in
+    let fork : Fork = record { step = c.down.step; l = c.in-Cat.l; r = c.in-Cat.r; left = c.left_len-left.result } in
     way_past_fork (g.S.NodeSpace.table c.args.space.now) c.node.ensures.sound c.node.ensures.true_records (Some c.args.root) c.down.path fork c.side_of-step.result c.args.place
     c.side_of-step.ensures.left c.side_of-step.ensures.right way.way
-    (record { at = way.at; view = sym c.in-Cat.ensures.view; left = c.len-left.ensures.value }) way.held
+    (record { at = way.at; view = sym c.in-Cat.ensures.view; left = c.left_len-left.ensures.value }) way.held
 
 pub down-preserved : goal.down-preserved
 down-preserved g c =

@@ -20,18 +20,18 @@ returns-then-start-left-clause-sought g t c x begin whole seeking =
     let s = g.S.NodeSpace.table c.args.space.now in
     let n = c.args.len in
     let place = c.args.seeker.now.place in
-    let i = c.args.start - c.len-left.result in
+    let i = c.args.start - c.left_len-left.result in
     let child = right_cells s c.node.ensures.sound c.node.ensures.true_records c.args.node c.in-Cat.l c.in-Cat.r c.args.start i n c.requires.there (sym c.in-Cat.ensures.view)
-    (omega (arith, c.len-left.ensures.value, c.if-start-left.true)) c.requires.inside in
+    (omega (arith, c.left_len-left.ensures.value, c.if-start-left.true)) c.requires.inside in
     c.look_in.ensures.sought x begin (same_part s x c.args.node c.in-Cat.r place c.args.start i n 0 n place c.args.start whole (omega arith) (omega arith) (omega arith) child) seeking
 
 pub returns-then-start-left-clause-reads : goal.returns-then-start-left-clause-reads
 returns-then-start-left-clause-reads g t c =
     let s = g.S.NodeSpace.table c.args.space.now in
     let n = c.args.len in
-    let i = c.args.start - c.len-left.result in
+    let i = c.args.start - c.left_len-left.result in
     let child = right_cells s c.node.ensures.sound c.node.ensures.true_records c.args.node c.in-Cat.l c.in-Cat.r c.args.start i n c.requires.there (sym c.in-Cat.ensures.view)
-    (omega (arith, c.len-left.ensures.value, c.if-start-left.true)) c.requires.inside in
+    (omega (arith, c.left_len-left.ensures.value, c.if-start-left.true)) c.requires.inside in
     reads_of_same (g.T.Sources.reading c.args.sources.now) (g.T.Sources.reading c.look_in.new.sources) s c.args.node c.in-Cat.r c.args.start i n c.look_in.result child c.look_in.ensures.reads
 
 pub returns-then-len-left-clause-sought : goal.returns-then-len-left-clause-sought
@@ -40,7 +40,7 @@ returns-then-len-left-clause-sought g t c x begin whole seeking =
     let n = c.args.len in
     let place = c.args.seeker.now.place in
     let child = left_cells s c.node.ensures.sound c.node.ensures.true_records c.args.node c.in-Cat.l c.in-Cat.r c.args.start n c.requires.there (sym c.in-Cat.ensures.view)
-    (omega (arith, c.len-left.ensures.value, c.if-start-left.false, c.if-len-left.true)) in
+    (omega (arith, c.left_len-left.ensures.value, c.if-start-left.false, c.if-len-left.true)) in
     c.look_in-then-len-left.ensures.sought x begin (same_part s x c.args.node c.in-Cat.l place c.args.start c.args.start n 0 n place c.args.start whole (omega arith) (omega arith) (omega arith) child) seeking
 
 pub returns-then-len-left-clause-reads : goal.returns-then-len-left-clause-reads
@@ -48,7 +48,7 @@ returns-then-len-left-clause-reads g t c =
     let s = g.S.NodeSpace.table c.args.space.now in
     let n = c.args.len in
     let child = left_cells s c.node.ensures.sound c.node.ensures.true_records c.args.node c.in-Cat.l c.in-Cat.r c.args.start n c.requires.there (sym c.in-Cat.ensures.view)
-    (omega (arith, c.len-left.ensures.value, c.if-start-left.false, c.if-len-left.true)) in
+    (omega (arith, c.left_len-left.ensures.value, c.if-start-left.false, c.if-len-left.true)) in
     let look = c.look_in-then-len-left in
     reads_of_same (g.T.Sources.reading c.args.sources.now) (g.T.Sources.reading look.new.sources) s c.args.node c.in-Cat.l c.args.start c.args.start n look.result child look.ensures.reads
 
@@ -56,9 +56,9 @@ pub returns-in_err-found-in-Cat-clause-reads : goal.returns-in_err-found-in-Cat-
 returns-in_err-found-in-Cat-clause-reads g t c =
     let p = err_from_is_err_and c.from_residual.result c.from_residual.ensures.1 in
     let s = g.S.NodeSpace.table c.args.space.now in
-    let cut = c.len-left.result - c.args.start in
+    let cut = c.left_len-left.result - c.args.start in
     let child = left_cells s c.node.ensures.sound c.node.ensures.true_records c.args.node c.in-Cat.l c.in-Cat.r c.args.start cut c.requires.there (sym c.in-Cat.ensures.view)
-    (omega (arith, c.len-left.ensures.value, c.if-start-left.false)) in
+    (omega (arith, c.left_len-left.ensures.value, c.if-start-left.false)) in
     let here = reads_of_same {X = Option ℕ} (g.T.Sources.reading c.args.sources.now) (g.T.Sources.reading c.look_in-in-Cat.new.sources) s c.args.node c.in-Cat.l c.args.start c.args.start cut (Err c.in_err-found-in-Cat.field-0.0) child c.in_err-found-in-Cat.ensures.reads in
     rw (p.1, p.2) (failed_in {X = Option ℕ} (g.T.Sources.reading c.args.sources.now) (g.T.Sources.reading c.args.sources.now) (g.T.Sources.reading c.look_in-in-Cat.new.sources) (cell_at s c.args.node.0) c.args.start (c.args.start + c.args.len)
     c.args.start (c.args.start + cut) (Err c.in_err-found-in-Cat.field-0.0) refl here (omega arith) (omega (arith, c.if-len-left.false)))
@@ -67,9 +67,9 @@ pub returns-in-Some-clause-sought : goal.returns-in-Some-clause-sought
 returns-in-Some-clause-sought g t c x begin whole seeking =
     let s = g.S.NodeSpace.table c.args.space.now in
     let place = c.args.seeker.now.place in
-    let cut = c.len-left.result - c.args.start in
+    let cut = c.left_len-left.result - c.args.start in
     let child = left_cells s c.node.ensures.sound c.node.ensures.true_records c.args.node c.in-Cat.l c.in-Cat.r c.args.start cut c.requires.there (sym c.in-Cat.ensures.view)
-    (omega (arith, c.len-left.ensures.value, c.if-start-left.false)) in
+    (omega (arith, c.left_len-left.ensures.value, c.if-start-left.false)) in
     let first = same_part s x c.args.node c.in-Cat.l place c.args.start c.args.start c.args.len 0 cut place c.args.start whole (omega (arith, c.if-len-left.false)) (omega arith) (omega arith) child in
     subst (λ (f : Option ℕ). IsSought s (g.T.Sources.reading c.args.sources.now).stated (Some x) begin c.look_in-in-Cat.new.seeker f) c.in-Some.is (c.in_ok-found-in-Cat.ensures.sought x begin first seeking)
 
@@ -82,9 +82,9 @@ returns-in_default-clause-sought g t c x begin whole seeking =
     let s = g.S.NodeSpace.table c.args.space.now in
     let st = (g.T.Sources.reading c.args.sources.now).stated in
     let place = c.args.seeker.now.place in
-    let cut = c.len-left.result - c.args.start in
+    let cut = c.left_len-left.result - c.args.start in
     let n : ℕ = c.args.len - cut in
-    let value = c.len-left.ensures.value in
+    let value = c.left_len-left.ensures.value in
     let left = left_cells s c.node.ensures.sound c.node.ensures.true_records c.args.node c.in-Cat.l c.in-Cat.r c.args.start cut c.requires.there (sym c.in-Cat.ensures.view)
     (omega (arith, value, c.if-start-left.false)) in
     let first = same_part s x c.args.node c.in-Cat.l place c.args.start c.args.start c.args.len 0 cut place c.args.start whole (omega (arith, c.if-len-left.false)) (omega arith) (omega arith) left in
@@ -100,11 +100,11 @@ returns-in_default-clause-sought g t c x begin whole seeking =
 pub returns-in_default-clause-reads : goal.returns-in_default-clause-reads
 returns-in_default-clause-reads g t c =
     let s = g.S.NodeSpace.table c.args.space.now in
-    let cut = c.len-left.result - c.args.start in
+    let cut = c.left_len-left.result - c.args.start in
     let n : ℕ = c.args.len - cut in
     let first = c.in_ok-found-in-Cat.ensures.reads in
     let right = right_cells s c.node.ensures.sound c.node.ensures.true_records c.args.node c.in-Cat.l c.in-Cat.r (c.args.start + cut) 0 n c.requires.there (sym c.in-Cat.ensures.view)
-    (omega (arith, c.len-left.ensures.value, c.if-start-left.false)) (omega (arith, c.requires.inside, c.if-len-left.false)) in
+    (omega (arith, c.left_len-left.ensures.value, c.if-start-left.false)) (omega (arith, c.requires.inside, c.if-len-left.false)) in
     let last = c.look_in-in-Cat-2 in
     failed_in (g.T.Sources.reading c.args.sources.now) (g.T.Sources.reading c.look_in-in-Cat.new.sources) (g.T.Sources.reading last.new.sources) (cell_at s c.args.node.0) c.args.start (c.args.start + c.args.len)
     (c.args.start + cut) (c.args.start + cut + n) last.result first

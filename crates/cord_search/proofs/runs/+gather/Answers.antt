@@ -14,9 +14,9 @@ pub returns-then-start-left : goal.returns-then-start-left
 returns-then-start-left g t c =
     let s = g.S.NodeSpace.table c.args.space.now in
     let n = length c.args.buffer.now in
-    let i = c.args.start - c.len-left.result in
+    let i = c.args.start - c.left_len-left.result in
     let same = right_cells s c.node.ensures.sound c.node.ensures.true_records c.args.node c.in-Cat.l c.in-Cat.r c.args.start i n c.requires.there (sym c.in-Cat.ensures.view)
-    (omega (arith, c.len-left.ensures.value, c.if-start-left.true)) c.requires.inside in
+    (omega (arith, c.left_len-left.ensures.value, c.if-start-left.true)) c.requires.inside in
     record {
       length = c.gather.ensures.length;
       bytes = answered_of_same c.gather.result s (g.T.Sources.reading c.args.sources.now).stated c.args.node c.in-Cat.r c.args.start i n c.gather.new.buffer same c.gather.ensures.length c.gather.ensures.bytes;
@@ -29,7 +29,7 @@ returns-then-buffer-left g t c =
     let n = length c.args.buffer.now in
     let left = c.gather-then-buffer-left in
     let same = left_cells s c.node.ensures.sound c.node.ensures.true_records c.args.node c.in-Cat.l c.in-Cat.r c.args.start n c.requires.there (sym c.in-Cat.ensures.view)
-    (omega (arith, c.len-left.ensures.value, c.if-start-left.false, c.if-buffer-left.true)) in
+    (omega (arith, c.left_len-left.ensures.value, c.if-start-left.false, c.if-buffer-left.true)) in
     record {
       length = left.ensures.length;
       bytes = answered_of_same left.result s (g.T.Sources.reading c.args.sources.now).stated c.args.node c.in-Cat.l c.args.start c.args.start n left.new.buffer same left.ensures.length left.ensures.bytes;
@@ -41,11 +41,11 @@ returns-in_err-gather-in-Cat-clause-reads g t c =
     let p = err_from_is_err_and c.from_residual.result c.from_residual.ensures.1 in
     let s = g.S.NodeSpace.table c.args.space.now in
     let n = length c.args.buffer.now in
-    let cut = c.len-left.result - c.args.start in
+    let cut = c.left_len-left.result - c.args.start in
     let part = take cut c.args.buffer.now in
     let few : length part ≤ n = omega (arith, length-take cut c.args.buffer.now) in
     let same = left_cells s c.node.ensures.sound c.node.ensures.true_records c.args.node c.in-Cat.l c.in-Cat.r c.args.start (length part) c.requires.there (sym c.in-Cat.ensures.view)
-    (omega (arith, c.len-left.ensures.value, c.if-start-left.false, length-take cut c.args.buffer.now)) in
+    (omega (arith, c.left_len-left.ensures.value, c.if-start-left.false, length-take cut c.args.buffer.now)) in
     let here = reads_of_same {X = Unit {0}} (g.T.Sources.reading c.args.sources.now) (g.T.Sources.reading c.gather-in-Cat.new.sources) s c.args.node c.in-Cat.l c.args.start c.args.start (length part) (Err c.in_err-gather-in-Cat.field-0.0) same c.in_err-gather-in-Cat.ensures.reads in
     rw (p.1, p.2) (failed_in {X = Unit {0}} (g.T.Sources.reading c.args.sources.now) (g.T.Sources.reading c.args.sources.now) (g.T.Sources.reading c.gather-in-Cat.new.sources) (cell_at s c.args.node.0) c.args.start (c.args.start + n)
     c.args.start (c.args.start + length part) (Err c.in_err-gather-in-Cat.field-0.0) refl here (omega arith) (omega (arith, few)))
@@ -54,11 +54,11 @@ pub returns-in_ok-gather-in-Cat-clause-bytes : goal.returns-in_ok-gather-in-Cat-
 returns-in_ok-gather-in-Cat-clause-bytes g t c =
     let s = g.S.NodeSpace.table c.args.space.now in
     let buffer = c.args.buffer.now in
-    let cut = c.len-left.result - c.args.start in
+    let cut = c.left_len-left.result - c.args.start in
     let rest = drop cut buffer in
     let front = c.gather-in-Cat.new.buffer in
     let back = c.gather-in-Cat-2.new.buffer in
-    let value = c.len-left.ensures.value in
+    let value = c.left_len-left.ensures.value in
     let long : length front ≡ cut = omega (arith, c.in_ok-gather-in-Cat.ensures.length, length-take cut buffer, c.if-buffer-left.false) in
     let left = left_cells s c.node.ensures.sound c.node.ensures.true_records c.args.node c.in-Cat.l c.in-Cat.r c.args.start cut c.requires.there (sym c.in-Cat.ensures.view)
     (omega (arith, value, c.if-start-left.false)) in
@@ -73,7 +73,7 @@ pub returns-in_ok-gather-in-Cat-clause-reads : goal.returns-in_ok-gather-in-Cat-
 returns-in_ok-gather-in-Cat-clause-reads g t c =
     let s = g.S.NodeSpace.table c.args.space.now in
     let buffer = c.args.buffer.now in
-    let cut = c.len-left.result - c.args.start in
+    let cut = c.left_len-left.result - c.args.start in
     let front = c.gather-in-Cat.new.buffer in
     let whole = front ++ drop cut buffer in
     let part = take (length whole - cut) (drop cut whole) in
@@ -89,7 +89,7 @@ returns-in_ok-gather-in-Cat-clause-reads g t c =
       length-append front (drop cut buffer),
     ) in
     let right = right_cells s c.node.ensures.sound c.node.ensures.true_records c.args.node c.in-Cat.l c.in-Cat.r (c.args.start + cut) 0 (length part) c.requires.there (sym c.in-Cat.ensures.view)
-    (omega (arith, c.len-left.ensures.value, c.if-start-left.false)) (omega (arith, c.requires.inside, inside)) in
+    (omega (arith, c.left_len-left.ensures.value, c.if-start-left.false)) (omega (arith, c.requires.inside, inside)) in
     failed_in (g.T.Sources.reading c.args.sources.now) (g.T.Sources.reading c.gather-in-Cat.new.sources) (g.T.Sources.reading c.gather-in-Cat-2.new.sources) (cell_at s c.args.node.0) c.args.start (c.args.start + length buffer)
     (c.args.start + cut) (c.args.start + cut + length part) c.gather-in-Cat-2.result first (reads_of_same (g.T.Sources.reading c.gather-in-Cat.new.sources) (g.T.Sources.reading c.gather-in-Cat-2.new.sources) s c.args.node c.in-Cat.r (c.args.start + cut) 0 (length part) c.gather-in-Cat-2.result right c.gather-in-Cat-2.ensures.reads) (omega arith) (omega (arith, inside))
 

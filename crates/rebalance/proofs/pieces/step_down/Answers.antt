@@ -11,7 +11,7 @@ returns-in-Cat g c =
     let k = c.count-count.ensures in
     let free : is_kept c.args.keep t p.node.0 p.start p.len ≡ false = sym c.if-is_kept.ensures in
     rw (c.min-count.ensures, c.min-skipped.ensures)
-    (split_children c.args.keep t k.sound k.true_records p c.in-Cat.l c.in-Cat.r c.len-left.result c.requires.span (sym c.in-Cat.ensures.view) free c.len-left.ensures.value)
+    (split_children c.args.keep t k.sound k.true_records p c.in-Cat.l c.in-Cat.r c.left_len-left.result c.requires.span (sym c.in-Cat.ensures.view) free c.left_len-left.ensures.value)
 
 pub returns-in-Sub : goal.returns-in-Sub
 returns-in-Sub g c =

@@ -19,7 +19,7 @@ down-preserved-then-start-left g c =
 
 pub down-preserved-else-start-left : goal.down-preserved-else-start-left
 down-preserved-else-start-left g c =
-    rw c.len-left.ensures.value
+    rw c.left_len-left.ensures.value
     (goes_right (g.S.NodeSpace.table c.args.space.now) c.node-view.ensures.sound c.node-view.ensures.true_records c.args.node.0 c.args.place c.down.leaf.0 c.down.start c.down.visits c.in-Cat.l c.in-Cat.r
     (sym c.in-Cat.ensures.view) (omega arith) c.down.invariant)
 

@@ -9,7 +9,7 @@ push-requires-clause-stop g c =
     let i = c.down.invariant in
     let e = sym c.look-view.ensures.view ∙ c.in-Cat.is in
     (right_step t c.look-view.ensures.sound c.look-view.ensures.true_records c.args.x.node.0 c.down.trail.count c.down.at c.in_right-at.result i.trail.some i.stop c.args.x.start 1 (omega arith) i.holds
-    c.in-Cat.l c.in-Cat.r c.node_len-left.result c.in_right-at.ensures c.node_len-left.ensures.value e (omega (arith, c.place_in-start.ensures))).stops
+    c.in-Cat.l c.in-Cat.r c.left_length-left.result c.in_right-at.ensures c.left_length-left.ensures.value e (omega (arith, c.place_in-start.ensures))).stops
 
 pub down-preserved-then-left-start : goal.down-preserved-then-left-start
 down-preserved-then-left-start g c =
@@ -17,7 +17,7 @@ down-preserved-then-left-start g c =
     let i = c.down.invariant in
     let e = sym c.look-view.ensures.view ∙ c.in-Cat.is in
     let step = right_step t c.look-view.ensures.sound c.look-view.ensures.true_records c.args.x.node.0 c.down.trail.count c.down.at c.in_right-at.result i.trail.some i.stop c.args.x.start 1 (omega arith) i.holds
-    c.in-Cat.l c.in-Cat.r c.node_len-left.result c.in_right-at.ensures c.node_len-left.ensures.value e (omega (arith, c.place_in-start.ensures)) in
+    c.in-Cat.l c.in-Cat.r c.left_length-left.result c.in_right-at.ensures c.left_length-left.ensures.value e (omega (arith, c.place_in-start.ensures)) in
     let last : c.push.new.self.count - 1 ≡ c.down.trail.count = omega (arith, c.push.ensures.count) in
     record {
       trail = c.push.ensures.trail;
@@ -32,7 +32,7 @@ push-requires-else-left-start-clause-stop g c =
     let i = c.down.invariant in
     let e = sym c.look-view.ensures.view ∙ c.in-Cat.is in
     (left_step t c.look-view.ensures.sound c.look-view.ensures.true_records c.args.x.node.0 c.down.trail.count c.down.at c.in_left-at.result i.trail.some i.stop c.args.x.start 1 (omega arith) i.holds
-    c.in-Cat.l c.in-Cat.r c.node_len-left.result c.in_left-at.ensures c.node_len-left.ensures.value e (omega (arith, c.place_in-start.ensures))).stops
+    c.in-Cat.l c.in-Cat.r c.left_length-left.result c.in_left-at.ensures c.left_length-left.ensures.value e (omega (arith, c.place_in-start.ensures))).stops
 
 pub down-preserved-else-left-start : goal.down-preserved-else-left-start
 down-preserved-else-left-start g c =
@@ -40,7 +40,7 @@ down-preserved-else-left-start g c =
     let i = c.down.invariant in
     let e = sym c.look-view.ensures.view ∙ c.in-Cat.is in
     let step = left_step t c.look-view.ensures.sound c.look-view.ensures.true_records c.args.x.node.0 c.down.trail.count c.down.at c.in_left-at.result i.trail.some i.stop c.args.x.start 1 (omega arith) i.holds
-    c.in-Cat.l c.in-Cat.r c.node_len-left.result c.in_left-at.ensures c.node_len-left.ensures.value e (omega (arith, c.place_in-start.ensures)) in
+    c.in-Cat.l c.in-Cat.r c.left_length-left.result c.in_left-at.ensures c.left_length-left.ensures.value e (omega (arith, c.place_in-start.ensures)) in
     let last : c.push-else-left-start.new.self.count - 1 ≡ c.down.trail.count = omega (arith, c.push-else-left-start.ensures.count) in
     record {
       trail = c.push-else-left-start.ensures.trail;

@@ -25,7 +25,7 @@ push-requires-clause-stop g c =
     let i = c.down.invariant in
     let e = sym c.look-view.ensures.view ∙ c.in-Cat.is in
     (right_step t c.look-view.ensures.sound c.look-view.ensures.true_records c.args.node.0 c.down.trail.count c.down.stop c.in_right-stop.result i.trail.some i.stop c.args.place c.args.len c.requires.not_empty i.holds
-    c.in-Cat.l c.in-Cat.r c.node_len-left.result c.in_right-stop.ensures c.node_len-left.ensures.value e (omega (arith, c.place_in-start.ensures))).stops
+    c.in-Cat.l c.in-Cat.r c.left_length-left.result c.in_right-stop.ensures c.left_length-left.ensures.value e (omega (arith, c.place_in-start.ensures))).stops
 
 pub down-preserved-then-left-start : goal.down-preserved-then-left-start
 down-preserved-then-left-start g c =
@@ -33,11 +33,11 @@ down-preserved-then-left-start g c =
     let i = c.down.invariant in
     let e = sym c.look-view.ensures.view ∙ c.in-Cat.is in
     let step = right_step t c.look-view.ensures.sound c.look-view.ensures.true_records c.args.node.0 c.down.trail.count c.down.stop c.in_right-stop.result i.trail.some i.stop c.args.place c.args.len c.requires.not_empty i.holds
-    c.in-Cat.l c.in-Cat.r c.node_len-left.result c.in_right-stop.ensures c.node_len-left.ensures.value e (omega (arith, c.place_in-start.ensures)) in
+    c.in-Cat.l c.in-Cat.r c.left_length-left.result c.in_right-stop.ensures c.left_length-left.ensures.value e (omega (arith, c.place_in-start.ensures)) in
     let last : c.push.new.self.count - 1 ≡ c.down.trail.count = omega (arith, c.push.ensures.count) in
     record {
       way = at_step (IsOnTheWay t c.args.len c.args.node.0 c.args.place) t c.args.node.0 c.down.trail.count c.down.stop c.args.place c.args.len c.in-Cat.r (place_in c.down.stop c.args.place - len_at t c.in-Cat.l.0) c.in_right-stop.result step
-          (goes_right t c.look-view.ensures.sound c.look-view.ensures.true_records c.args.len c.args.node.0 c.args.place c.down.stop.node.0 (place_in c.down.stop c.args.place) c.in-Cat.l c.in-Cat.r c.requires.not_empty e (omega (arith, c.place_in-start.ensures, c.node_len-left.ensures.value)) i.way);
+          (goes_right t c.look-view.ensures.sound c.look-view.ensures.true_records c.args.len c.args.node.0 c.args.place c.down.stop.node.0 (place_in c.down.stop c.args.place) c.in-Cat.l c.in-Cat.r c.requires.not_empty e (omega (arith, c.place_in-start.ensures, c.left_length-left.ensures.value)) i.way);
       trail = c.push.ensures.trail;
       stop = rw last step.stops;
       holds = step.holds;
@@ -50,7 +50,7 @@ push-requires-then-len-left-clause-stop g c =
     let i = c.down.invariant in
     let e = sym c.look-view.ensures.view ∙ c.in-Cat.is in
     (left_step t c.look-view.ensures.sound c.look-view.ensures.true_records c.args.node.0 c.down.trail.count c.down.stop c.in_left-stop.result i.trail.some i.stop c.args.place c.args.len c.requires.not_empty i.holds
-    c.in-Cat.l c.in-Cat.r c.node_len-left.result c.in_left-stop.ensures c.node_len-left.ensures.value e (omega (arith, c.place_in-start.ensures))).stops
+    c.in-Cat.l c.in-Cat.r c.left_length-left.result c.in_left-stop.ensures c.left_length-left.ensures.value e (omega (arith, c.place_in-start.ensures))).stops
 
 pub down-preserved-then-len-left : goal.down-preserved-then-len-left
 down-preserved-then-len-left g c =
@@ -58,11 +58,11 @@ down-preserved-then-len-left g c =
     let i = c.down.invariant in
     let e = sym c.look-view.ensures.view ∙ c.in-Cat.is in
     let step = left_step t c.look-view.ensures.sound c.look-view.ensures.true_records c.args.node.0 c.down.trail.count c.down.stop c.in_left-stop.result i.trail.some i.stop c.args.place c.args.len c.requires.not_empty i.holds
-    c.in-Cat.l c.in-Cat.r c.node_len-left.result c.in_left-stop.ensures c.node_len-left.ensures.value e (omega (arith, c.place_in-start.ensures)) in
+    c.in-Cat.l c.in-Cat.r c.left_length-left.result c.in_left-stop.ensures c.left_length-left.ensures.value e (omega (arith, c.place_in-start.ensures)) in
     let last : c.push-then-len-left.new.self.count - 1 ≡ c.down.trail.count = omega (arith, c.push-then-len-left.ensures.count) in
     record {
       way = at_step (IsOnTheWay t c.args.len c.args.node.0 c.args.place) t c.args.node.0 c.down.trail.count c.down.stop c.args.place c.args.len c.in-Cat.l (place_in c.down.stop c.args.place) c.in_left-stop.result step
-          (goes_left t c.look-view.ensures.sound c.look-view.ensures.true_records c.args.len c.args.node.0 c.args.place c.down.stop.node.0 (place_in c.down.stop c.args.place) c.in-Cat.l c.in-Cat.r c.requires.not_empty e (omega (arith, c.place_in-start.ensures, c.node_len-left.ensures.value)) i.way);
+          (goes_left t c.look-view.ensures.sound c.look-view.ensures.true_records c.args.len c.args.node.0 c.args.place c.down.stop.node.0 (place_in c.down.stop c.args.place) c.in-Cat.l c.in-Cat.r c.requires.not_empty e (omega (arith, c.place_in-start.ensures, c.left_length-left.ensures.value)) i.way);
       trail = c.push-then-len-left.ensures.trail;
       stop = rw last step.stops;
       holds = step.holds;
@@ -98,7 +98,7 @@ pub returns-else-len-left-clause-leads : goal.returns-else-len-left-clause-leads
 returns-else-len-left-clause-leads g c = λ s. (
   λ e. absurd cc,
   λ lead. absurd (over_border (g.S.CountedSpace.table c.args.space.now) c.args.len c.args.node.0 c.args.place c.down.stop.node.0 (place_in c.down.stop c.args.place) s.leaf.0 s.start c.in-Cat.l c.in-Cat.r (sym c.look-view.ensures.view ∙ c.in-Cat.is)
-      (omega (arith, c.place_in-start.ensures, c.node_len-left.ensures.value)) (omega (arith, c.place_in-start.ensures, c.node_len-left.ensures.value)) c.down.invariant.way lead.leads),
+      (omega (arith, c.place_in-start.ensures, c.left_length-left.ensures.value)) (omega (arith, c.place_in-start.ensures, c.left_length-left.ensures.value)) c.down.invariant.way lead.leads),
 )
 
 pub returns-in-Lit : goal.returns-in-Lit

@@ -25,7 +25,7 @@ push-requires-clause-stop g c =
     let i = c.down.invariant in
     let e = sym c.in-Cat.ensures.view in
     (right_step t c.look.ensures.sound c.look.ensures.true_records c.args.x.node.0 c.down.trail.count c.down.stop c.in_right-stop.result i.trail.some i.stop c.args.x.start c.args.x.len c.requires.span.some i.holds
-    c.in-Cat.l c.in-Cat.r c.node_len-left.result c.in_right-stop.ensures c.node_len-left.ensures.value e (omega (arith, c.place_in-start.ensures))).stops
+    c.in-Cat.l c.in-Cat.r c.left_length-left.result c.in_right-stop.ensures c.left_length-left.ensures.value e (omega (arith, c.place_in-start.ensures))).stops
 
 pub down-preserved-then-left-start : goal.down-preserved-then-left-start
 down-preserved-then-left-start g c =
@@ -33,12 +33,12 @@ down-preserved-then-left-start g c =
     let i = c.down.invariant in
     let e = sym c.in-Cat.ensures.view in
     let step = right_step t c.look.ensures.sound c.look.ensures.true_records c.args.x.node.0 c.down.trail.count c.down.stop c.in_right-stop.result i.trail.some i.stop c.args.x.start c.args.x.len c.requires.span.some i.holds
-    c.in-Cat.l c.in-Cat.r c.node_len-left.result c.in_right-stop.ensures c.node_len-left.ensures.value e (omega (arith, c.place_in-start.ensures)) in
+    c.in-Cat.l c.in-Cat.r c.left_length-left.result c.in_right-stop.ensures c.left_length-left.ensures.value e (omega (arith, c.place_in-start.ensures)) in
     let last : c.push.new.self.count - 1 ≡ c.down.trail.count = omega (arith, c.push.ensures.count) in
     record {
       way = at_step (IsOnWayTo t c.args.x.len c.args.node.0 c.args.at c.args.x.node.0 c.args.x.start) t c.args.x.node.0 c.down.trail.count c.down.stop c.args.x.start c.args.x.len c.in-Cat.r (place_in c.down.stop c.args.x.start - len_at t c.in-Cat.l.0) c.in_right-stop.result step
           (way_right t c.look.ensures.sound c.look.ensures.true_records c.args.x.len c.args.node.0 c.args.at c.args.x.node.0 c.args.x.start c.down.stop.node.0 (place_in c.down.stop c.args.x.start) c.in-Cat.l c.in-Cat.r c.requires.span.some
-          (away_of c.down.stop.node.0 c.args.node.0 (place_in c.down.stop c.args.x.start) c.args.at (rw c.place_in-start.ensures at c.else-stop-node.either)) e (omega (arith, c.place_in-start.ensures, c.node_len-left.ensures.value)) i.way);
+          (away_of c.down.stop.node.0 c.args.node.0 (place_in c.down.stop c.args.x.start) c.args.at (rw c.place_in-start.ensures at c.else-stop-node.either)) e (omega (arith, c.place_in-start.ensures, c.left_length-left.ensures.value)) i.way);
       trail = c.push.ensures.trail;
       stop = rw last step.stops;
       holds = step.holds;
@@ -51,7 +51,7 @@ push-requires-then-x-left-clause-stop g c =
     let i = c.down.invariant in
     let e = sym c.in-Cat.ensures.view in
     (left_step t c.look.ensures.sound c.look.ensures.true_records c.args.x.node.0 c.down.trail.count c.down.stop c.in_left-stop.result i.trail.some i.stop c.args.x.start c.args.x.len c.requires.span.some i.holds
-    c.in-Cat.l c.in-Cat.r c.node_len-left.result c.in_left-stop.ensures c.node_len-left.ensures.value e (omega (arith, c.place_in-start.ensures))).stops
+    c.in-Cat.l c.in-Cat.r c.left_length-left.result c.in_left-stop.ensures c.left_length-left.ensures.value e (omega (arith, c.place_in-start.ensures))).stops
 
 pub down-preserved-then-x-left : goal.down-preserved-then-x-left
 down-preserved-then-x-left g c =
@@ -59,12 +59,12 @@ down-preserved-then-x-left g c =
     let i = c.down.invariant in
     let e = sym c.in-Cat.ensures.view in
     let step = left_step t c.look.ensures.sound c.look.ensures.true_records c.args.x.node.0 c.down.trail.count c.down.stop c.in_left-stop.result i.trail.some i.stop c.args.x.start c.args.x.len c.requires.span.some i.holds
-    c.in-Cat.l c.in-Cat.r c.node_len-left.result c.in_left-stop.ensures c.node_len-left.ensures.value e (omega (arith, c.place_in-start.ensures)) in
+    c.in-Cat.l c.in-Cat.r c.left_length-left.result c.in_left-stop.ensures c.left_length-left.ensures.value e (omega (arith, c.place_in-start.ensures)) in
     let last : c.push-then-x-left.new.self.count - 1 ≡ c.down.trail.count = omega (arith, c.push-then-x-left.ensures.count) in
     record {
       way = at_step (IsOnWayTo t c.args.x.len c.args.node.0 c.args.at c.args.x.node.0 c.args.x.start) t c.args.x.node.0 c.down.trail.count c.down.stop c.args.x.start c.args.x.len c.in-Cat.l (place_in c.down.stop c.args.x.start) c.in_left-stop.result step
           (way_left t c.look.ensures.sound c.look.ensures.true_records c.args.x.len c.args.node.0 c.args.at c.args.x.node.0 c.args.x.start c.down.stop.node.0 (place_in c.down.stop c.args.x.start) c.in-Cat.l c.in-Cat.r c.requires.span.some
-          (away_of c.down.stop.node.0 c.args.node.0 (place_in c.down.stop c.args.x.start) c.args.at (rw c.place_in-start.ensures at c.else-stop-node.either)) e (omega (arith, c.place_in-start.ensures, c.node_len-left.ensures.value)) i.way);
+          (away_of c.down.stop.node.0 c.args.node.0 (place_in c.down.stop c.args.x.start) c.args.at (rw c.place_in-start.ensures at c.else-stop-node.either)) e (omega (arith, c.place_in-start.ensures, c.left_length-left.ensures.value)) i.way);
       trail = c.push-then-x-left.ensures.trail;
       stop = rw last step.stops;
       holds = step.holds;
@@ -103,7 +103,7 @@ returns-else-x-left-clause-leads g c =
       λ e. absurd cc,
       λ lead. absurd (over_border_to t c.args.x.len c.args.node.0 c.args.at c.args.x.node.0 c.args.x.start c.down.stop.node.0 (place_in c.down.stop c.args.x.start) c.in-Cat.l c.in-Cat.r
           (away_of c.down.stop.node.0 c.args.node.0 (place_in c.down.stop c.args.x.start) c.args.at (rw c.place_in-start.ensures at c.else-stop-node.either)) (sym c.in-Cat.ensures.view)
-          (omega (arith, c.place_in-start.ensures, c.node_len-left.ensures.value)) (omega (arith, c.place_in-start.ensures, c.node_len-left.ensures.value)) c.down.invariant.way lead),
+          (omega (arith, c.place_in-start.ensures, c.left_length-left.ensures.value)) (omega (arith, c.place_in-start.ensures, c.left_length-left.ensures.value)) c.down.invariant.way lead),
     )
 
 pub returns-in-Lit : goal.returns-in-Lit

@@ -10,16 +10,16 @@ returns-then-start-at-clause-leads g c = (λ _. c.down.invariant.way.back (here 
 pub down-preserved-then-left-start : goal.down-preserved-then-left-start
 down-preserved-then-left-start g c = record {
   looks = omega (arith, c.look.ensures.count, c.down.invariant.looks, (depths_of_cat (g.S.CountedSpace.table c.args.space.now) c.look.ensures.true_records c.down.here.0 c.down.invariant.way.there c.in-Cat.l c.in-Cat.r (sym c.in-Cat.ensures.view)).1);
-  way = rw c.node_len-left.ensures.value
+  way = rw c.left_length-left.ensures.value
       (way_right (g.S.CountedSpace.table c.args.space.now) c.look.ensures.sound c.look.ensures.true_records c.args.x.len c.args.node.0 c.args.at c.args.x.node.0 c.args.x.start c.down.here.0 c.down.start c.in-Cat.l c.in-Cat.r
-      c.requires.span.some (away_of c.down.here.0 c.args.node.0 c.down.start c.args.at c.else-here-node.either) (sym c.in-Cat.ensures.view) (rw c.node_len-left.ensures.value at c.if-left-start.true) c.down.invariant.way);
+      c.requires.span.some (away_of c.down.here.0 c.args.node.0 c.down.start c.args.at c.else-here-node.either) (sym c.in-Cat.ensures.view) (rw c.left_length-left.ensures.value at c.if-left-start.true) c.down.invariant.way);
 }
 
 pub down-preserved-then-x-left : goal.down-preserved-then-x-left
 down-preserved-then-x-left g c = record {
   looks = omega (arith, c.look.ensures.count, c.down.invariant.looks, (depths_of_cat (g.S.CountedSpace.table c.args.space.now) c.look.ensures.true_records c.down.here.0 c.down.invariant.way.there c.in-Cat.l c.in-Cat.r (sym c.in-Cat.ensures.view)).0);
   way = way_left (g.S.CountedSpace.table c.args.space.now) c.look.ensures.sound c.look.ensures.true_records c.args.x.len c.args.node.0 c.args.at c.args.x.node.0 c.args.x.start c.down.here.0 c.down.start c.in-Cat.l c.in-Cat.r
-      c.requires.span.some (away_of c.down.here.0 c.args.node.0 c.down.start c.args.at c.else-here-node.either) (sym c.in-Cat.ensures.view) (omega (arith, c.node_len-left.ensures.value)) c.down.invariant.way;
+      c.requires.span.some (away_of c.down.here.0 c.args.node.0 c.down.start c.args.at c.else-here-node.either) (sym c.in-Cat.ensures.view) (omega (arith, c.left_length-left.ensures.value)) c.down.invariant.way;
 }
 
 pub down-preserved : goal.down-preserved

@@ -10,7 +10,7 @@ use Rattle.span_certificate.proofs.shallow.leaf_span_below.Goals as goal
 pub down-preserved-then-left-start : goal.down-preserved-then-left-start
 down-preserved-then-left-start g c = record {
   looks = omega (arith, c.look-view.ensures.count, c.down.invariant.looks, (depths_of_cat (g.S.CountedSpace.table c.args.space.now) c.look-view.ensures.true_records c.down.leaf.0 c.down.invariant.way.there c.in-Cat.l c.in-Cat.r (sym c.look-view.ensures.view ∙ c.in-Cat.is)).1);
-  way = rw c.node_len-left.ensures.value
+  way = rw c.left_length-left.ensures.value
       (goes_right (g.S.CountedSpace.table c.args.space.now) c.look-view.ensures.sound c.look-view.ensures.true_records c.args.x.len c.args.x.node.0 c.args.x.start c.down.leaf.0 c.down.start c.in-Cat.l c.in-Cat.r
       c.requires.some (sym c.look-view.ensures.view ∙ c.in-Cat.is) (omega arith) c.down.invariant.way);
 }

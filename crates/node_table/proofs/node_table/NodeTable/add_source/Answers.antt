@@ -8,8 +8,10 @@ use Rattle.node_table.proofs.node_table.NodeTable.add_source.Goals as goal
 
 pub invariant_of-self-2 : goal.invariant_of-self-2
 invariant_of-self-2 g c =
-    let few : length c.self.inside.sources.items < MOST_SOURCES = omega (arith, c.len-number.ensures) in
-    kept_push g.F.LeafFn.meaning (map record_of c.self.inside.entries.items) c.self.inside.pool c.self.inside.sources.items c.args.len (is_ok c.push.result) c.push.new.self.items c.self.invariant few (omega arith) c.push.ensures.items
+    let few : length c.self.inside.sources.items < MOST_SOURCES = omega (arith, c.len-number.ensures) in (
+      kept_push g.F.LeafFn.meaning (map record_of c.self.inside.entries.items) c.self.inside.pool c.self.inside.sources.items c.args.len (is_ok c.push.result) c.push.new.self.items c.self.invariant.0 few (omega arith) c.push.ensures.items,
+      c.self.invariant.1,
+    )
 
 pub returns : goal.returns
 returns g c =
@@ -20,7 +22,7 @@ returns g c =
       number = number;
       ok = ok;
       kept = source_extends g.F.LeafFn.meaning h c.args.len (Ok c.len-number.result) _ ok tt;
-      held = invariant_of-self-2 g c;
+      held = (invariant_of-self-2 g c).0;
       too_many = (λ e. absurd cc, λ full. absurd (omega (arith, full, number, c.if-number.false)));
       too_long = (λ e. absurd cc, λ long. absurd (omega (arith, long.1, c.if-len-ge-TEXT_LIMIT.false)));
       faults = tt;

@@ -3,6 +3,7 @@ use Rattle.std.proofs.lemmas.List.{length-map}
 use Rattle.node_table.specs.Entries.{record_of}
 use Rattle.node_table.specs.Held.{Held, node_of}
 use Rattle.node_table.proofs.Growing.{node_of_entry, function_of_entry}
+use Rattle.node_table.proofs.LeftLengths.{left_of_entry}
 use Rattle.node_table.proofs.node_table.NodeTable.entry.Goals as goal
 
 pub returns : goal.returns
@@ -13,5 +14,6 @@ returns g c =
     rw (← c.self.view_is) (record {
       node = node_of_entry entries c.args.id.0 c.at.result.now there c.at.ensures;
       function = function_of_entry entries c.args.id.0 c.at.result.now there c.at.ensures;
-      held = c.self.invariant;
+      left = left_of_entry entries c.args.id.0 c.at.result.now there c.at.ensures c.self.invariant.1;
+      held = c.self.invariant.0;
     })
