@@ -8,6 +8,8 @@ use Rattle.std.proofs.lemmas.List.Folds.{prefix_len-append}
 use Rattle.std.proofs.lemmas.List.Sums.{fails_before_first, passes_at_first, position_or_len_is, prefix_len-le-length}
 use Rattle.std.proofs.Math.Seq.{drop-append_seam, take-add, take-append-add}
 use Rattle.screen_editor.specs.declared.near.TheConstants.{NEAR}
+use Rattle.screen_editor.specs.declared.behind.Behind.{Behind}
+use Rattle.screen_editor.specs.Behind.{AreHeld}
 use Rattle.screen_editor.specs.Lines.{is_break, column, line_start}
 use borrow.Rule.Slice.PartMut.{post_of, put_mid}
 
@@ -126,7 +128,7 @@ break_met t buffer part start done n width inside few within clear read at short
     )
 
 -- where a break stands among the last bytes below a place, or these are all, they tell the place's column
-near_column : (t near : List ℕ) (place n width : ℕ) → place ≤ length t → n ≡ min place NEAR → near ≡ take n (drop (place - n) t) → width ≡ suffix_len (λ b. not (is_break b)) near → width < NEAR
+near_column : (t near : List ℕ) (place n width : ℕ) → place ≤ length t → n ≤ place → near ≡ take n (drop (place - n) t) → width ≡ suffix_len (λ b. not (is_break b)) near → (n < place → width < n)
     → column t place ≡ width
 near_column t near place n width inside few is at short =
     let plain = λ (b : ℕ). not (is_break b) in
@@ -136,7 +138,7 @@ near_column t near place n width inside few is at short =
           let sum : place ≡ place - n + n = omega (arith, below) in
           let whole : take place t ≡ front ++ near = ap (λ (k : ℕ). take k t) sum ∙ take-add (place - n) n t ∙ ap (λ (xs : List ℕ). front ++ xs) (sym is) in
           let long : length near ≡ n = omega (arith, ap length is, length-take n (drop (place - n) t), length-drop (place - n) t, inside, below) in
-          let fewer : prefix_len plain (reverse near) ≡ length (reverse near) → ⊥ = λ e. absurd (omega (arith, e, at, short, few, below, long, length-reverse near)) in
+          let fewer : prefix_len plain (reverse near) ≡ length (reverse near) → ⊥ = λ e. absurd (omega (arith, e, at, short below, long, length-reverse near)) in
           ap (suffix_len plain) whole ∙ ap (prefix_len plain) (reverse-append front near) ∙ prefix_len-append plain (reverse near) (reverse front)
           ∙ ap (λ (b : Bool). cond b (length (reverse near) + prefix_len plain (reverse front)) (prefix_len plain (reverse near))) (ne_eqb (prefix_len plain (reverse near)) (length (reverse near)) fewer) ∙ sym at
       | inr past ↦
@@ -148,4 +150,22 @@ near_column t near place n width inside few is at short =
 
 pub near_start_is : (t near : List ℕ) (place n width : ℕ) → place ≤ length t → n ≡ min place NEAR → near ≡ take n (drop (place - n) t) → width ≡ suffix_len (λ b. not (is_break b)) near → width < NEAR
     → place - width ≡ line_start t place
-near_start_is t near place n width inside few is at short = ap (λ (k : ℕ). place - k) (sym (near_column t near place n width inside few is at short))
+near_start_is t near place n width inside few is at short = ap (λ (k : ℕ). place - k) (sym (near_column t near place n width inside (omega (arith, few)) is at (λ below. omega (arith, few, below, short))))
+
+-- the same of bytes that are held, where a break stands among those before the place
+pub held_start_is : (t : List ℕ) (b : Behind) (place n width : ℕ) → AreHeld b t → n ≤ b.count → b.from + n ≡ place → width ≡ suffix_len (λ b. not (is_break b)) (take n b.bytes) → width < n
+    → place - width ≡ line_start t place
+held_start_is t b place n width held few there at short =
+    let from : place - n ≡ b.from = omega (arith, there) in
+    let bytes : take n b.bytes ≡ take n (drop (place - n) t) =
+    sym (take-take n b.count b.bytes few) ∙ ap (take n) held.bytes ∙ take-take n b.count (drop b.from t) few ∙ ap (λ (k : ℕ). take n (drop k t)) (sym from) in
+    ap (λ (k : ℕ). place - k) (sym (near_column t (take n b.bytes) place n width (omega (arith, there, few, held.inside)) (omega (arith, there)) bytes at (λ below. short)))
+
+-- bytes that were read in front of an array are held
+pub held_when_read : (t near rest : List ℕ) (place n : ℕ) → place ≤ length t → n ≤ place → near ≡ take n (drop (place - n) t) → AreHeld (record { from = place - n; count = n; bytes = near ++ rest }) t
+held_when_read t near rest place n inside few is =
+    let long : length near ≡ n = omega (arith, ap length is, length-take n (drop (place - n) t), length-drop (place - n) t, inside, few) in
+    record {
+      inside = omega (arith, inside, few);
+      bytes = take-append-le n near rest (omega (arith, long)) ∙ ap (take n) is ∙ take-take n n (drop (place - n) t) (omega arith);
+    }

@@ -76,15 +76,15 @@ pub fn read_near<S: NodeSpace, T: Sources>(
     Ok(())
 }
 
-/// Reads the bytes of a text from `start` on into the front of the buffer, leaf by leaf, and no leaf behind that of the
+/// Reads the bytes of a text from a position on into the front of the buffer, leaf by leaf, and no leaf behind that of the
 /// first line break. It answers how many bytes stand before that break, or the buffer's length where they are no
-/// fewer.
+/// fewer. The position goes behind them.
 ///
 /// # Errors
 ///
 /// A source's fault, where a byte is one of that source and the read of it failed.
 pub fn read_line<S: NodeSpace, T: Sources>(
-    alloc: Global,
+    pos: &mut Pos<'_, S>,
     space: &S,
     sources: &mut T,
     rope: Rope,
@@ -92,9 +92,11 @@ pub fn read_line<S: NodeSpace, T: Sources>(
     buffer: &mut [u8],
 ) -> Result<usize, SourceFault>
     requires rope { IsRope (S.table space.now) rope }
+    requires here { StandsAtPlace S.table pos.old space.now rope start }
     requires inside { start + length buffer.old ≤ rope_len (S.table space.now) rope }
     ensures length { length buffer.new ≡ length buffer.old }
     ensures most { IfOk result (λ n. n ≤ length buffer.old) }
+    ensures here { IfOk result (λ n. StandsAtPlace S.table pos.new space.now rope (start + n)) }
     ensures bytes { IfOk result (λ n. OfText (S.table space.now) (T.reading sources.old).stated rope
         (λ t. take n buffer.new ≡ take n (drop start t))) }
     ensures is { IfOk result (λ n. OfText (S.table space.now) (T.reading sources.old).stated rope
@@ -103,13 +105,13 @@ pub fn read_line<S: NodeSpace, T: Sources>(
         (rope_cell (S.table space.now) rope) 0 (rope_len (S.table space.now) rope) result }
 {
     let _len = rope_len(space, rope);
-    let mut pos = Pos::set(alloc, space, rope, start);
     let mut done = 0;
     while done < buffer.len() {
         let place = start + done as u64;
-        let count = fill_there(&pos, space, sources, rope, place, &mut buffer[done..])?;
+        let count = fill_there(pos, space, sources, rope, place, &mut buffer[done..])?;
         let width = width_ahead(&buffer[done..done + count]);
         if width < count {
+            pos.skip(width as u64);
             return Ok(done + width);
         }
         pos.skip(count as u64);

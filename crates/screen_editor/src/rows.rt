@@ -3,6 +3,7 @@
 ghost use Rattle.std.specs.Prelude.{◌≡◌, ◌≤◌, ◌+◌, ◌-◌, ◌++◌, map, take, drop, IfOk, IfSome, OnOk};
 ghost use Rattle.rope_node.specs.Denotes.{IsRope, rope_len};
 ghost use Rattle.cord_position.specs.Fetched.{rope_cell};
+ghost use Rattle.cord_search.specs.Reached.{StandsAtPlace};
 ghost use Rattle.cord_search.specs.Stated.{OfText};
 ghost use Rattle.screen_editor.specs.Frame.{glyph};
 ghost use Rattle.screen_editor.specs.Refusals.{ReadsToShow};
@@ -11,6 +12,7 @@ ghost use Rattle.screen_editor.specs.Rows.{lines_from, rows_in, shown_of, Pushes
 use crate::fault::FrameFault;
 use crate::lines::line_end;
 use crate::near::{NEAR, read_line, read_near};
+use cord_position::Pos;
 use lazy_file::Sources;
 use rope_node::{NodeSpace, Rope, rope_len};
 use std::alloc::{AllocError, Global};
@@ -115,10 +117,12 @@ fn push_long_line<S: NodeSpace, T: Sources>(
     Ok(next)
 }
 
-/// Appends the same. Where the line ends near its start, its bytes and its end are had by one look.
-fn push_line<S: NodeSpace, T: Sources>(
+/// Appends the same. Where the line ends near its start, its bytes and its end are had by one look. The position goes from its start to the
+/// next line's, which mostly lies in the same leaf or the one behind.
+fn push_line<'a, S: NodeSpace, T: Sources>(
     alloc: Global,
-    space: &S,
+    pos: &mut Pos<'a, S>,
+    space: &'a S,
     sources: &mut T,
     rope: Rope,
     start: u64,
@@ -126,8 +130,10 @@ fn push_line<S: NodeSpace, T: Sources>(
     out: &mut Vec<u8>,
 ) -> Result<Option<u64>, FrameFault>
     requires rope { IsRope (S.table space.now) rope }
+    requires here { StandsAtPlace S.table pos.old space.now rope start }
     requires start { start ≤ rope_len (S.table space.now) rope }
     ensures inside { IfOk result (λ next. IfSome next (λ s. s ≤ rope_len (S.table space.now) rope)) }
+    ensures here { IfOk result (λ next. IfSome next (StandsAtPlace S.table pos.new space.now rope)) }
     ensures line { IfOk result (λ next. OfText (S.table space.now) (T.reading sources.old).stated rope
         (λ t. PushesLine t (Some start) left next out.old.items out.new.items)) }
     ensures reads { ReadsToShow (T.reading sources.old) (T.reading sources.new)
@@ -136,19 +142,25 @@ fn push_line<S: NodeSpace, T: Sources>(
     let len = rope_len(space, rope);
     let mut buffer = [0; NEAR];
     let near = &mut buffer[..(len - start).min(NEAR as u64) as usize];
-    let width = read_line(alloc, space, sources, rope, start, near)?;
+    let width = read_line(pos, space, sources, rope, start, near)?;
     if width == NEAR {
-        return push_long_line(alloc, space, sources, rope, start, left, out);
+        let next = push_long_line(alloc, space, sources, rope, start, left, out)?;
+        if let Some(place) = next {
+            *pos = Pos::set(alloc, space, rope, place);
+        }
+        return Ok(next);
     }
     push_shown(&near[..width], left, out)?;
     let end = start + width as u64;
+    pos.skip(1);
     Ok(if end < len { Some(end + 1) } else { None })
 }
 
 /// Appends the same of the line that begins at `start`, or nothing behind the last line.
-fn push_line_at<S: NodeSpace, T: Sources>(
+fn push_line_at<'a, S: NodeSpace, T: Sources>(
     alloc: Global,
-    space: &S,
+    pos: &mut Pos<'a, S>,
+    space: &'a S,
     sources: &mut T,
     rope: Rope,
     start: Option<u64>,
@@ -157,14 +169,16 @@ fn push_line_at<S: NodeSpace, T: Sources>(
 ) -> Result<Option<u64>, FrameFault>
     requires rope { IsRope (S.table space.now) rope }
     requires start { IfSome start (λ s. s ≤ rope_len (S.table space.now) rope) }
+    requires here { IfSome start (StandsAtPlace S.table pos.old space.now rope) }
     ensures inside { IfOk result (λ next. IfSome next (λ s. s ≤ rope_len (S.table space.now) rope)) }
+    ensures here { IfOk result (λ next. IfSome next (StandsAtPlace S.table pos.new space.now rope)) }
     ensures line { IfOk result (λ next. OfText (S.table space.now) (T.reading sources.old).stated rope
         (λ t. PushesLine t start left next out.old.items out.new.items)) }
     ensures reads { ReadsToShow (T.reading sources.old) (T.reading sources.new)
         (rope_cell (S.table space.now) rope) (rope_len (S.table space.now) rope) result }
 {
     match start {
-        Some(start) => push_line(alloc, space, sources, rope, start, left, out),
+        Some(start) => push_line(alloc, pos, space, sources, rope, start, left, out),
         None => Ok(None),
     }
 }
@@ -190,9 +204,10 @@ pub fn push_rows<S: NodeSpace, T: Sources>(
     ensures reads { ReadsToShow (T.reading sources.old) (T.reading sources.new)
         (rope_cell (S.table space.now) rope) (rope_len (S.table space.now) rope) result }
 {
+    let mut pos = Pos::set(alloc, space, rope, top);
     let mut next = Some(top);
     for row in 0..SCREEN_ROWS {
-        next = push_line_at(alloc, space, sources, rope, next, left, out)?;
+        next = push_line_at(alloc, &mut pos, space, sources, rope, next, left, out)?;
         out.extend_from_slice(b"\r\n")?;
     }
     Ok(())

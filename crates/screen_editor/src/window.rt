@@ -5,11 +5,10 @@ ghost use Rattle.rope_node.specs.Denotes.{IsRope, rope_len};
 ghost use Rattle.cord_position.specs.Fetched.{ReadsSpan, rope_cell};
 ghost use Rattle.cord_search.specs.Stated.{OfText};
 ghost use Rattle.screen_editor.specs.declared.window.TheConstants.{LINES_ABOVE};
-ghost use Rattle.screen_editor.specs.Lines.{line_start};
+ghost use Rattle.screen_editor.specs.Behind.{AreHeld};
 ghost use Rattle.screen_editor.specs.Rows.{IsAbove, IsWindow};
 
-use crate::lines::line_start;
-use crate::near::{NEAR, read_near, width_behind};
+use crate::behind::{Behind, NONE_HELD, near_start};
 use lazy_file::{SourceFault, Sources};
 use rope_node::{NodeSpace, Rope, rope_len};
 use std::alloc::Global;
@@ -27,38 +26,11 @@ pub struct Window {
     pub column: u64,
 }
 
-/// One behind the last line break below a place, or the text's start. It looks near the place first.
-fn near_start<S: NodeSpace, T: Sources>(
-    alloc: Global,
-    space: &S,
-    sources: &mut T,
-    rope: Rope,
-    place: u64,
-) -> Result<u64, SourceFault>
-    requires rope { IsRope (S.table space.now) rope }
-    requires place { place ≤ rope_len (S.table space.now) rope }
-    ensures inside { IfOk result (λ p. p ≤ place) }
-    ensures is { IfOk result (λ p.
-        OfText (S.table space.now) (T.reading sources.old).stated rope (λ t. p ≡ line_start t place)) }
-    ensures reads { ReadsSpan (T.reading sources.old) (T.reading sources.new)
-        (rope_cell (S.table space.now) rope) 0 (rope_len (S.table space.now) rope) result }
-{
-    prove!(place <= rope_len(space, rope));
-    let mut buffer = [0; NEAR];
-    let count = place.min(NEAR as u64);
-    let near = &mut buffer[..count as usize];
-    read_near(alloc, space, sources, rope, place - count, near)?;
-    let width = width_behind(near);
-    if width == NEAR {
-        return line_start(alloc, space, sources, rope, place);
-    }
-    Ok(place - width as u64)
-}
-
 /// Goes back from a line's start by 11 lines, or to the text's start. It answers where the line begins that it came
 /// to, and how many lines it went.
 fn go_back<S: NodeSpace, T: Sources>(
     alloc: Global,
+    behind: &mut Behind,
     space: &S,
     sources: &mut T,
     rope: Rope,
@@ -66,6 +38,7 @@ fn go_back<S: NodeSpace, T: Sources>(
 ) -> Result<(u64, u64), SourceFault>
     requires rope { IsRope (S.table space.now) rope }
     requires start { start ≤ rope_len (S.table space.now) rope }
+    requires held { OfText (S.table space.now) (T.reading sources.old).stated rope (AreHeld behind.old) }
     ensures inside { IfOk result (λ x. x.0 ≤ start) }
     ensures few { IfOk result (λ x. x.1 ≤ LINES_ABOVE) }
     ensures all { IfOk result (λ x. x.1 < LINES_ABOVE → x.0 ≡ 0) }
@@ -78,7 +51,7 @@ fn go_back<S: NodeSpace, T: Sources>(
     let mut top = start;
     let mut row = 0;
     while row < LINES_ABOVE && top > 0 {
-        top = near_start(alloc, space, sources, rope, top - 1)?;
+        top = near_start(alloc, behind, space, sources, rope, top - 1)?;
         row += 1;
     }
     Ok((top, row))
@@ -107,8 +80,9 @@ pub fn window_about<S: NodeSpace, T: Sources>(
         (rope_cell (S.table space.now) rope) 0 (rope_len (S.table space.now) rope) result }
 {
     prove!(place <= rope_len(space, rope));
-    let start = near_start(alloc, space, sources, rope, place)?;
-    let (top, row) = go_back(alloc, space, sources, rope, start)?;
+    let mut behind = NONE_HELD;
+    let start = near_start(alloc, &mut behind, space, sources, rope, place)?;
+    let (top, row) = go_back(alloc, &mut behind, space, sources, rope, start)?;
     Ok(Window {
         top,
         row,

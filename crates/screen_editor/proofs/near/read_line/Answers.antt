@@ -30,8 +30,8 @@ loop-done-preserved g c =
       reads = c.in_ok-count.ensures.reads ∙ c.loop-done.invariant.reads;
       inside = omega (arith, long, inside);
       length = long ∙ c.loop-done.invariant.length;
-      at = subst (λ (p : ℕ). StandsAtPlace g.S.NodeSpace.table c.skip.new.self c.args.space.now c.args.rope p) (after c.args.start done n)
-          (later_place g.S.NodeSpace.table here c.skip.new.self c.args.space.now c.args.rope (c.args.start + done) n c.skip.ensures.space c.skip.ensures.rope c.skip.ensures.index c.loop-done.invariant.at);
+      at = subst (λ (p : ℕ). StandsAtPlace g.S.NodeSpace.table c.skip-in-loop-done.new.self c.args.space.now c.args.rope p) (after c.args.start done n)
+          (later_place g.S.NodeSpace.table here c.skip-in-loop-done.new.self c.args.space.now c.args.rope (c.args.start + done) n c.skip-in-loop-done.ensures.space c.skip-in-loop-done.ensures.rope c.skip-in-loop-done.ensures.index c.loop-done.invariant.at);
       told = λ source agrees stated.
           let u = text source (rope_cells t c.args.rope) in
           let read = told_before t (g.T.Sources.reading c.args.sources.now).stated (g.T.Sources.reading c.loop-done.sources).stated c.args.rope 0 (rope_len t c.args.rope) (λ v. take n part ≡ take n (drop (c.args.start + done) v)) (same_stated c.loop-done.invariant.reads) c.in_ok-count.ensures.bytes source agrees stated in
@@ -73,6 +73,13 @@ returns-then-width-count-clause-is g c source agrees stated =
     let met = break_met u buffer part c.args.start done n c.width_ahead-width.result c.loop-done.invariant.inside few (omega (arith, long_text, c.rope_len-len.ensures.exact, inside, c.loop-done.invariant.length, c.requires.inside))
     (c.loop-done.invariant.told source agrees stated) read (c.width_ahead-width.ensures.is ∙ ap (position_or_len is_break) (written done n buffer part c.loop-done.invariant.inside few)) c.if-width-count.true in
     omega (arith, met.1, inside, c.loop-done.invariant.length, c.if-width-count.true)
+
+pub returns-then-width-count-clause-here : goal.returns-then-width-count-clause-here
+returns-then-width-count-clause-here g c =
+    let here = c.loop-done.pos in
+    let width = c.width_ahead-width.result in
+    subst (λ (p : ℕ). StandsAtPlace g.S.NodeSpace.table c.skip.new.self c.args.space.now c.args.rope p) (after c.args.start c.loop-done.done width)
+    (later_place g.S.NodeSpace.table here c.skip.new.self c.args.space.now c.args.rope (c.args.start + c.loop-done.done) width c.skip.ensures.space c.skip.ensures.rope c.skip.ensures.index c.loop-done.invariant.at)
 
 pub returns-clause-bytes : goal.returns-clause-bytes
 returns-clause-bytes g c source agrees stated = (c.loop-done.invariant.told source agrees stated).bytes

@@ -7,8 +7,11 @@ use Rattle.screen_editor.specs.declared.near.TheConstants.{NEAR}
 use Rattle.screen_editor.proofs.RowLaws.{near_then, near_last}
 use Rattle.screen_editor.proofs.rows.push_line.Goals as goal
 
-pub returns-then-width-eq-NEAR-clause-line : goal.returns-then-width-eq-NEAR-clause-line
-returns-then-width-eq-NEAR-clause-line g c = rw (same_stated c.in_ok-width.ensures.reads) at c.push_long_line.ensures.line
+pub returns-in-Some-clause-line : goal.returns-in-Some-clause-line
+returns-in-Some-clause-line g c = rw (same_stated c.in_ok-width.ensures.reads, c.in-Some.is) at c.in_ok-next.ensures.line
+
+pub returns-in_default-clause-line : goal.returns-in_default-clause-line
+returns-in_default-clause-line g c = rw (same_stated c.in_ok-width.ensures.reads) at c.in_ok-next.ensures.line
 
 pub returns-then-end-len-clause-line : goal.returns-then-end-len-clause-line
 returns-then-end-len-clause-line g c source agrees stated =

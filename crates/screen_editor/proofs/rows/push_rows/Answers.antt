@@ -20,6 +20,7 @@ pub loop-row-preserved : goal.loop-row-preserved
 loop-row-preserved g c = record {
   reads = c.in_ok-next.ensures.reads ∙ c.loop-row.invariant.reads;
   inside = c.in_ok-next.ensures.inside;
+  here = c.in_ok-next.ensures.here;
   told = λ source agrees stated.
       let t = g.S.NodeSpace.table c.args.space.now in
       let u = text source (rope_cells t c.args.rope) in
