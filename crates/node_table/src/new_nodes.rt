@@ -34,7 +34,7 @@ impl<F: LeafFn> NewNodes<F> {
     }
 }
 
-/// The length of the left part of a concatenation, 0 for any other node.
+/// The length of the left part of a concatenation. Any other node stores none, whatever this says.
 #[inline(always)]
 fn left_len<F: LeafFn>(entries: &Blocks<Entry<F>>, view: NodeView) -> u64
     requires { HasLeftBelow (length entries.now.items) view }

@@ -8,8 +8,8 @@ use Rattle.std.proofs.lemmas.List.Folds.{prefix_len-append}
 use Rattle.std.proofs.lemmas.List.Sums.{fails_before_first, passes_at_first, position_or_len_is, prefix_len-le-length}
 use Rattle.std.proofs.Math.Seq.{drop-append_seam, take-add, take-append-add}
 use Rattle.screen_editor.specs.declared.near.TheConstants.{NEAR}
-use Rattle.screen_editor.specs.declared.behind.Behind.{Behind}
-use Rattle.screen_editor.specs.Behind.{AreHeld}
+use Rattle.screen_editor.specs.declared.before.HeldBytes.{HeldBytes}
+use Rattle.screen_editor.specs.HeldBytes.{AreHeld}
 use Rattle.screen_editor.specs.Lines.{is_break, column, line_start}
 use borrow.Rule.Slice.PartMut.{post_of, put_mid}
 
@@ -153,7 +153,7 @@ pub near_start_is : (t near : List ℕ) (place n width : ℕ) → place ≤ leng
 near_start_is t near place n width inside few is at short = ap (λ (k : ℕ). place - k) (sym (near_column t near place n width inside (omega (arith, few)) is at (λ below. omega (arith, few, below, short))))
 
 -- the same of bytes that are held, where a break stands among those before the place
-pub held_start_is : (t : List ℕ) (b : Behind) (place n width : ℕ) → AreHeld b t → n ≤ b.count → b.from + n ≡ place → width ≡ suffix_len (λ b. not (is_break b)) (take n b.bytes) → width < n
+pub held_start_is : (t : List ℕ) (b : HeldBytes) (place n width : ℕ) → AreHeld b t → n ≤ b.count → b.from + n ≡ place → width ≡ suffix_len (λ b. not (is_break b)) (take n b.bytes) → width < n
     → place - width ≡ line_start t place
 held_start_is t b place n width held few there at short =
     let from : place - n ≡ b.from = omega (arith, there) in

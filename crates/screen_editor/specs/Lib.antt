@@ -1,7 +1,7 @@
 pub mod Recorded
 pub mod Keys
 pub mod Lines
-pub mod Behind
+pub mod HeldBytes
 pub mod State
 pub mod Machine
 pub mod Frame

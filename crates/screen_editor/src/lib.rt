@@ -1,7 +1,7 @@
 //! The screen editor: keys in, frames of a terminal out, over a session that keeps every text.
 #![tactic(auto)]
 
-mod behind;
+mod before;
 mod cut_span;
 mod editor;
 mod edits;

@@ -76,9 +76,9 @@ pub fn read_near<S: NodeSpace, T: Sources>(
     Ok(())
 }
 
-/// Reads the bytes of a text from a position on into the front of the buffer, leaf by leaf, and no leaf behind that of the
-/// first line break. It answers how many bytes stand before that break, or the buffer's length where they are no
-/// fewer. The position goes behind them.
+/// Reads the bytes of a text from a position, which stands at `start`, into the front of the buffer, leaf by leaf, and no leaf behind
+/// that of the first line break. It answers how many bytes stand before that break, or the buffer's length where they
+/// are no fewer. The position goes behind them.
 ///
 /// # Errors
 ///

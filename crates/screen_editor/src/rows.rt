@@ -118,7 +118,7 @@ fn push_long_line<S: NodeSpace, T: Sources>(
 }
 
 /// Appends the same. Where the line ends near its start, its bytes and its end are had by one look. The position goes from its start to the
-/// next line's, which mostly lies in the same leaf or the one behind.
+/// next line's, which mostly lies in the same leaf or the next one.
 fn push_line<'a, S: NodeSpace, T: Sources>(
     alloc: Global,
     pos: &mut Pos<'a, S>,

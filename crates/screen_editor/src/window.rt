@@ -5,10 +5,10 @@ ghost use Rattle.rope_node.specs.Denotes.{IsRope, rope_len};
 ghost use Rattle.cord_position.specs.Fetched.{ReadsSpan, rope_cell};
 ghost use Rattle.cord_search.specs.Stated.{OfText};
 ghost use Rattle.screen_editor.specs.declared.window.TheConstants.{LINES_ABOVE};
-ghost use Rattle.screen_editor.specs.Behind.{AreHeld};
+ghost use Rattle.screen_editor.specs.HeldBytes.{AreHeld};
 ghost use Rattle.screen_editor.specs.Rows.{IsAbove, IsWindow};
 
-use crate::behind::{Behind, NONE_HELD, near_start};
+use crate::before::{HeldBytes, NONE_HELD, near_start};
 use lazy_file::{SourceFault, Sources};
 use rope_node::{NodeSpace, Rope, rope_len};
 use std::alloc::Global;
@@ -30,7 +30,7 @@ pub struct Window {
 /// to, and how many lines it went.
 fn go_back<S: NodeSpace, T: Sources>(
     alloc: Global,
-    behind: &mut Behind,
+    held: &mut HeldBytes,
     space: &S,
     sources: &mut T,
     rope: Rope,
@@ -38,7 +38,7 @@ fn go_back<S: NodeSpace, T: Sources>(
 ) -> Result<(u64, u64), SourceFault>
     requires rope { IsRope (S.table space.now) rope }
     requires start { start ≤ rope_len (S.table space.now) rope }
-    requires held { OfText (S.table space.now) (T.reading sources.old).stated rope (AreHeld behind.old) }
+    requires held { OfText (S.table space.now) (T.reading sources.old).stated rope (AreHeld held.old) }
     ensures inside { IfOk result (λ x. x.0 ≤ start) }
     ensures few { IfOk result (λ x. x.1 ≤ LINES_ABOVE) }
     ensures all { IfOk result (λ x. x.1 < LINES_ABOVE → x.0 ≡ 0) }
@@ -51,7 +51,7 @@ fn go_back<S: NodeSpace, T: Sources>(
     let mut top = start;
     let mut row = 0;
     while row < LINES_ABOVE && top > 0 {
-        top = near_start(alloc, behind, space, sources, rope, top - 1)?;
+        top = near_start(alloc, held, space, sources, rope, top - 1)?;
         row += 1;
     }
     Ok((top, row))
@@ -80,9 +80,9 @@ pub fn window_about<S: NodeSpace, T: Sources>(
         (rope_cell (S.table space.now) rope) 0 (rope_len (S.table space.now) rope) result }
 {
     prove!(place <= rope_len(space, rope));
-    let mut behind = NONE_HELD;
-    let start = near_start(alloc, &mut behind, space, sources, rope, place)?;
-    let (top, row) = go_back(alloc, &mut behind, space, sources, rope, start)?;
+    let mut held = NONE_HELD;
+    let start = near_start(alloc, &mut held, space, sources, rope, place)?;
+    let (top, row) = go_back(alloc, &mut held, space, sources, rope, start)?;
     Ok(Window {
         top,
         row,

@@ -111,7 +111,7 @@ pub trait CountedSpace<L: Ledger> {
         ensures sound { IsSound (table self.now) }
         ensures true_records { HasTrueRecords (table self.now) };
 
-    /// The recorded length of the left part `l` of a concatenation, in bytes.
+    /// The recorded length of the left part `l` of the concatenation `id`, in bytes.
     fn left_length(&self, id: NodeId, l: NodeId) -> u64
         requires there { id.0 < length (table self.now).nodes }
         requires left { IsLeftPart (view_at (table self.now) id.0) l }

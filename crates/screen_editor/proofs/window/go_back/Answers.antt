@@ -5,7 +5,7 @@ use Rattle.rope_node.specs.Denotes.{rope_cells, rope_len, text}
 use Rattle.cord_position.specs.Fetched.{rope_cell}
 use Rattle.cord_position.proofs.Spans.{failed_in}
 use Rattle.cord_search.proofs.Fetches.{told_before, text_length}
-use Rattle.screen_editor.specs.Behind.{AreHeld}
+use Rattle.screen_editor.specs.HeldBytes.{AreHeld}
 use Rattle.screen_editor.specs.Lines.{line_start}
 use Rattle.screen_editor.proofs.WindowLaws.{above_more}
 use Rattle.screen_editor.proofs.window.go_back.Goals as goal
@@ -24,7 +24,7 @@ loop-row-preserved g c = record {
   few = omega (arith, c.loop-row-test.true);
   held = λ source agrees stated.
       let t = g.S.NodeSpace.table c.args.space.now in
-      told_before t (g.T.Sources.reading c.args.sources.now).stated (g.T.Sources.reading c.loop-row.sources).stated c.args.rope 0 (rope_len t c.args.rope) (AreHeld c.near_start.new.behind) (same_stated c.loop-row.invariant.reads) c.in_ok-top.ensures.held source agrees stated;
+      told_before t (g.T.Sources.reading c.args.sources.now).stated (g.T.Sources.reading c.loop-row.sources).stated c.args.rope 0 (rope_len t c.args.rope) (AreHeld c.near_start.new.held) (same_stated c.loop-row.invariant.reads) c.in_ok-top.ensures.held source agrees stated;
   told = λ source agrees stated.
       let t = g.S.NodeSpace.table c.args.space.now in
       let u = text source (rope_cells t c.args.rope) in

@@ -1,7 +1,7 @@
 use Rattle.std.proofs.Common.{◌≡◌, ◌-◌, ◌≤◌}
 use Rattle.cord_search.specs.Stated.{OfText}
 use Rattle.screen_editor.specs.declared.window.TheConstants.{LINES_ABOVE}
-use Rattle.screen_editor.specs.Behind.{AreHeld}
+use Rattle.screen_editor.specs.HeldBytes.{AreHeld}
 use Rattle.screen_editor.specs.Rows.{IsAbove}
 use Rattle.screen_editor.proofs.window.go_back.Given as goal
 
@@ -11,7 +11,7 @@ invariant-loop-row g l = record {
   reads : g.T.Sources.reading l.sources ≡ g.T.Sources.reading l.initial.sources;
   inside : l.top ≤ l.start;
   few : l.row ≤ LINES_ABOVE;
-  held : OfText (g.S.NodeSpace.table l.space) (g.T.Sources.reading l.initial.sources).stated l.rope (AreHeld l.behind);
+  held : OfText (g.S.NodeSpace.table l.space) (g.T.Sources.reading l.initial.sources).stated l.rope (AreHeld l.held);
   told : OfText (g.S.NodeSpace.table l.space) (g.T.Sources.reading l.initial.sources).stated l.rope (λ t. IsAbove t l.start l.top l.row);
 }
 

@@ -6,7 +6,7 @@ use Rattle.rope_node.specs.Denotes.{rope_cells, text}
 use Rattle.cord_search.proofs.Fetches.{text_length}
 use Rattle.screen_editor.specs.declared.near.TheConstants.{NEAR}
 use Rattle.screen_editor.proofs.NearLaws.{held_when_read, near_start_is}
-use Rattle.screen_editor.proofs.behind.look_behind.Goals as goal
+use Rattle.screen_editor.proofs.before.look_before.Goals as goal
 
 pub returns-then-width-eq-NEAR-clause-is : goal.returns-then-width-eq-NEAR-clause-is
 returns-then-width-eq-NEAR-clause-is g c = rw (same_stated c.in_ok-read_near.ensures.reads) at c.line_start.ensures.is
