@@ -1,11 +1,11 @@
 -- What a line's digits write.
-use Rattle.std.proofs.Common.{◌≡◌, ℕ, zero, suc, ◌+◌, ◌*◌, ◌^◌, ◌<◌, ◌≤◌, Bool, true, false, ltb, eqb, ◌&&◌, List, [], ◌∷◌, length, take, get_or, Some, None, refl, sym, ap, arith}
+use Rattle.std.proofs.Common.{◌≡◌, ℕ, zero, suc, ◌+◌, ◌*◌, ◌-◌, ◌^◌, ◌<◌, ◌≤◌, Bool, true, false, ltb, eqb, ◌&&◌, List, [], ◌∷◌, length, take, get_or, Some, None, refl, sym, ap, arith, inl, inr}
 use Rattle.std.specs.List.{list_all}
 use Rattle.std.specs.Char.{is_ascii_digit}
 use Rattle.std.specs.Int.{IsInRange}
 use Rattle.std.specs.Str.{all_ascii_digits}
 use Rattle.std.specs.Str.Parse.{digits_value}
-use Rattle.std.proofs.lemmas.Bool.{eqb-false, and_parts, lt-ltb, le-ltb}
+use Rattle.std.proofs.lemmas.Bool.{cases_lt, eqb-false, and_parts, lt-ltb, le-ltb}
 use Rattle.std.proofs.lemmas.Int.Digits.{digits_value_more}
 use Rattle.std.proofs.lemmas.List.Recursion.{same_from_clauses}
 use Rattle.std.proofs.lemmas.Str.{digit_value_digit}
@@ -38,10 +38,20 @@ numeral_small text n is e small =
     rw (is, short) (ap Some e)
 
 -- digits whose first ones write too large a number
-pub numeral_large : (text : List ℕ) (k : ℕ) → is_numeral text ≡ true → 2 ^ 64 ≤ digits_value 10 (take k text) → None ≡ numeral text
+numeral_large : (text : List ℕ) (k : ℕ) → is_numeral text ≡ true → 2 ^ 64 ≤ digits_value 10 (take k text) → None ≡ numeral text
 numeral_large text k is large =
     let long : ltb (digits_value 10 text) (2 ^ 64) ≡ false = le-ltb _ _ (omega (arith, large, digits_value-take-le 10 text k (omega arith))) in
     rw (is, long) refl
+
+-- with the next digit they write too large a number
+pub numeral_over : (text : List ℕ) (i n : ℕ) → is_numeral text ≡ true → i < length text → n ≡ digits_value 10 (take i text) → (n * 10 + (get_or text i 0 - 48) < 2 ^ 64 → ⊥) → None ≡ numeral text
+numeral_over text i n is lt e over =
+    let digit = get_or text i 0 - 48 in
+    let more : n * 10 + digit ≡ digits_value 10 (take (i + 1) text) = one_digit_more text i n digit is lt e (omega (arith, a_digit text i is lt)) in
+    elim (cases_lt (n * 10 + digit) (2 ^ 64)) [
+      | inl small ↦ absurd (over small)
+      | inr large ↦ numeral_large text (i + 1) is (omega (arith, large, more))
+    ]
 
 pub numeral_none : (text : List ℕ) → is_numeral text ≡ false → None ≡ numeral text
 numeral_none text e = rw e refl

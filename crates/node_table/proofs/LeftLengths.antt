@@ -11,15 +11,21 @@ use Rattle.node_table.specs.declared.entry.Entry.{Entry}
 use Rattle.node_table.specs.declared.entry.EntryKind.{EntryKind}
 use Rattle.node_table.specs.declared.entry.EntryKind.TheVariants.{Literal, Source, Function, Concatenation, Part}
 use Rattle.node_table.specs.declared.record.Record.{Record}
-use Rattle.node_table.specs.Entries.{record_of, stored_view, StoresLeft}
+use Rattle.node_table.specs.Entries.{record_of, stored_view, stored_left, StoresLeft}
 use Rattle.node_table.specs.Held.{Held, IsGoodNode, CanHold, table_of, with_records, node_of}
-use Rattle.node_table.specs.Lefts.{nodes_in, KeepsLeft, KeepLefts, HasLeftBelow, HaveLeftsBefore, IsLeftLen}
+use Rattle.node_table.specs.Lefts.{nodes_in, HasLeft, KeepsLeft, KeepLefts, HasLeftBelow, HaveLeftsBefore}
 use Rattle.node_table.proofs.Growing.{node_of_entry}
 
 -- ---- what is stored
 
-pub len_of_entry : {F : Type 0} (entries : List (Entry F)) (id : ℕ) (e : Entry F) → id < length entries → e ≡ get_or entries id e → e.len ≡ (get_or (nodes_in entries) id no_node).len
-len_of_entry {F} entries id e inside is = ap (λ (n : Node). n.len) (sym (node_of_entry entries id e inside is))
+count_of : {F : Type 0} (entries : List (Entry F)) → length (nodes_in entries) ≡ length entries
+count_of entries = length-map (map record_of entries) node_of ∙ length-map entries record_of
+
+pub len_of_entry : {F : Type 0} (entries : List (Entry F)) (id : ℕ) (e : Entry F) → id < length entries → e ≡ get_or entries id e → (id < length (nodes_in entries)) × (e.len ≡ (get_or (nodes_in entries) id no_node).len)
+len_of_entry {F} entries id e inside is = (
+  rw (count_of entries) inside,
+  ap (λ (n : Node). n.len) (sym (node_of_entry entries id e inside is)),
+)
 
 pub left_of_entry : {F : Type 0} (entries : List (Entry F)) (id : ℕ) (e : Entry F) → id < length entries → e ≡ get_or entries id e → KeepLefts entries → KeepsLeft (nodes_in entries) e.kind
 left_of_entry {F} entries id e inside is lefts =
@@ -27,32 +33,31 @@ left_of_entry {F} entries id e inside is lefts =
 
 -- ---- one node more
 
-left_kept : {F : Type 0} (nodes more : List Node) (k : EntryKind F) → KeepsLeft nodes k → KeepsLeft (nodes ++ more) k
-left_kept nodes more (Literal a) keeps = tt
-left_kept nodes more (Source s a) keeps = tt
-left_kept nodes more (Function f) keeps = tt
-left_kept nodes more (Concatenation l d r n) keeps = (omega (arith, keeps.0, length-append nodes more), keeps.1 ∙ ap (λ (x : Node). x.len) (sym (get_or_append_left nodes more no_node l.0 keeps.0)))
-left_kept nodes more (Part b d i) keeps = tt
+left_kept : (nodes more : List Node) (v : NodeView) (left : ℕ) → HasLeft nodes v left → HasLeft (nodes ++ more) v left
+left_kept nodes more (Lit a) left has = tt
+left_kept nodes more (Src s a) left has = tt
+left_kept nodes more Fun left has = tt
+left_kept nodes more (Cat l r) left has = (omega (arith, has.0, length-append nodes more), has.1 ∙ ap (λ (x : Node). x.len) (sym (get_or_append_left nodes more no_node l.0 has.0)))
+left_kept nodes more (Sub b i) left has = tt
 
-left_stored : {F : Type 0} (nodes : List Node) (k : EntryKind F) (left : ℕ) → StoresLeft k left → HasLeftBelow (length nodes) (stored_view k) → IsLeftLen nodes (stored_view k) left → KeepsLeft nodes k
-left_stored nodes (Literal a) left stores below is = tt
-left_stored nodes (Source s a) left stores below is = tt
-left_stored nodes (Function f) left stores below is = tt
-left_stored nodes (Concatenation l d r n) left stores below is = (below, stores ∙ is)
-left_stored nodes (Part b d i) left stores below is = tt
+left_stored : {F : Type 0} (nodes : List Node) (k : EntryKind F) (left : ℕ) → StoresLeft k left → HasLeft nodes (stored_view k) left → KeepsLeft nodes k
+left_stored nodes (Literal a) left stores has = tt
+left_stored nodes (Source s a) left stores has = tt
+left_stored nodes (Function f) left stores has = tt
+left_stored nodes (Concatenation l d r n) left stores has = (has.0, stores ∙ has.1)
+left_stored nodes (Part b d i) left stores has = tt
 
-pub lefts_pushed : {F : Type 0} (entries : List (Entry F)) (e : Entry F) (r : Record F) (left : ℕ) → KeepLefts entries → record_of e ≡ r → StoresLeft e.kind left → HasLeftBelow (length entries) r.view → IsLeftLen (nodes_in entries) r.view left → KeepLefts (entries ++ e ∷ [])
-lefts_pushed {F} entries e r left lefts is stores below len =
+pub lefts_pushed : {F : Type 0} (entries : List (Entry F)) (e : Entry F) (r : Record F) (left : ℕ) → KeepLefts entries → record_of e ≡ r → StoresLeft e.kind left → HasLeft (nodes_in entries) r.view left → KeepLefts (entries ++ e ∷ [])
+lefts_pushed {F} entries e r left lefts is stores has =
     let old : List Node = nodes_in entries in
     let more : List Node = node_of (record_of e) ∷ [] in
     let whole : nodes_in (entries ++ e ∷ []) ≡ old ++ more = ap (map node_of) (map-append record_of entries (e ∷ [])) ∙ map-append node_of (map record_of entries) (record_of e ∷ []) in
-    let count : length old ≡ length entries = length-map (map record_of entries) node_of ∙ length-map entries record_of in
     let view : r.view ≡ stored_view e.kind = ap (λ (x : Record F). x.view) (sym is) in
-    let there : HasLeftBelow (length old) (stored_view e.kind) = rw count (subst (HasLeftBelow (length entries)) view below) in
-    let kept : KeepsLeft old e.kind = left_stored old e.kind left stores there (subst (λ v. IsLeftLen old v left) view len) in
+    let kept : KeepsLeft old e.kind = left_stored old e.kind left stores (subst (λ v. HasLeft old v left) view has) in
+    let stays : (x : Entry F) → KeepsLeft old x.kind → KeepsLeft (old ++ more) x.kind = λ x k. left_kept old more (stored_view x.kind) (stored_left x.kind) k in
     let P : Entry F → Type 0 = λ x. KeepsLeft (old ++ more) x.kind in
-    let older : All P entries = All-weaker (λ x. KeepsLeft old x.kind) P (λ x k. left_kept old more x.kind k) entries lefts in
-    rw whole (All-push P entries e older (left_kept old more e.kind kept))
+    let older : All P entries = All-weaker (λ x. KeepsLeft old x.kind) P stays entries lefts in
+    rw whole (All-push P entries e older (stays e kept))
 
 -- ---- the nodes of a call
 
@@ -81,6 +86,8 @@ left_of_record {F} meaning h pool records can d i inside =
     ∙ get_or-map node_of records i d no_node inside in
     left_below (table_of meaning (with_records h pool records)) id (get_or records i d).view (subst (λ (n : Node). HasGoodReferences (table_of meaning (with_records h pool records)) id n.view) node g.sound.references)
 
-pub lefts_before : {F : Type 0} (meaning : F → ℕ → ℕ) (h : Held F) (pool : Contents) (records : List (Record F)) (count : ℕ) → length h.nodes ≡ count → CanHold meaning h pool records → HaveLeftsBefore count records
-lefts_before {F} meaning h pool [] count same can = tt
-lefts_before {F} meaning h pool (r ∷ rs) count same can = subst (λ k. HaveLeftsBefore k (r ∷ rs)) same (lefts_from (length h.nodes) (r ∷ rs) r (left_of_record meaning h pool (r ∷ rs) can r))
+pub lefts_before : {F : Type 0} (meaning : F → ℕ → ℕ) (h : Held F) (pool : Contents) (records : List (Record F)) (entries : List (Entry F)) → nodes_in entries ≡ h.nodes → CanHold meaning h pool records → HaveLeftsBefore (length entries) records
+lefts_before {F} meaning h pool [] entries same can = tt
+lefts_before {F} meaning h pool (r ∷ rs) entries same can =
+    let count : length h.nodes ≡ length entries = sym (ap (λ xs. length xs) same) ∙ count_of entries in
+    subst (λ k. HaveLeftsBefore k (r ∷ rs)) count (lefts_from (length h.nodes) (r ∷ rs) r (left_of_record meaning h pool (r ∷ rs) can r))

@@ -28,6 +28,14 @@ stored_function (Function f) = Some f
 stored_function (Concatenation l d r n) = None
 stored_function (Part b d i) = None
 
+-- the length of a concatenation's left part; no other node stores one
+abbrev pub stored_left : {F : Type 0} → EntryKind F → ℕ
+stored_left (Literal a) = 0
+stored_left (Source s a) = 0
+stored_left (Function f) = 0
+stored_left (Concatenation l d r n) = n
+stored_left (Part b d i) = 0
+
 abbrev pub record_of : {F : Type 0} → Entry F → Record F
 record_of e = record {
   view = stored_view e.kind;

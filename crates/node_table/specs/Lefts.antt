@@ -5,22 +5,25 @@ use Rattle.rope_node.specs.declared.node.NodeView.TheVariants.{Lit, Src, Fun, Ca
 use Rattle.rope_node.specs.Table.{Node, no_node}
 use Rattle.node_table.specs.declared.entry.Entry.{Entry}
 use Rattle.node_table.specs.declared.entry.EntryKind.{EntryKind}
-use Rattle.node_table.specs.declared.entry.EntryKind.TheVariants.{Literal, Source, Function, Concatenation, Part}
 use Rattle.node_table.specs.declared.record.Record.{Record}
-use Rattle.node_table.specs.Entries.{record_of}
+use Rattle.node_table.specs.Entries.{record_of, stored_view, stored_left}
 use Rattle.node_table.specs.Held.{node_of}
 
 -- the nodes that are stored
 abbrev pub nodes_in : {F : Type 0} → List (Entry F) → List Node
 nodes_in entries = map node_of (map record_of entries)
 
--- a concatenation's left part is one of these nodes, and its length is stored with it
+-- the left part of such a node, where it is a concatenation, is one of these nodes, of this length
+abbrev pub HasLeft : List Node → NodeView → ℕ → Type 0
+HasLeft nodes (Lit a) left = Unit {0}
+HasLeft nodes (Src s a) left = Unit {0}
+HasLeft nodes Fun left = Unit {0}
+HasLeft nodes (Cat l r) left = (l.0 < length nodes) × (left ≡ (get_or nodes l.0 no_node).len)
+HasLeft nodes (Sub b i) left = Unit {0}
+
+-- the length that is stored as the left part's is that of one of these nodes
 abbrev pub KeepsLeft : {F : Type 0} → List Node → EntryKind F → Type 0
-KeepsLeft nodes (Literal a) = Unit {0}
-KeepsLeft nodes (Source s a) = Unit {0}
-KeepsLeft nodes (Function f) = Unit {0}
-KeepsLeft nodes (Concatenation l d r n) = (l.0 < length nodes) × (n ≡ (get_or nodes l.0 no_node).len)
-KeepsLeft nodes (Part b d i) = Unit {0}
+KeepsLeft nodes kind = HasLeft nodes (stored_view kind) (stored_left kind)
 
 -- so it is for all that is stored
 abbrev pub KeepLefts : {F : Type 0} → List (Entry F) → Type 0
@@ -33,14 +36,6 @@ HasLeftBelow count (Src s a) = Unit {0}
 HasLeftBelow count Fun = Unit {0}
 HasLeftBelow count (Cat l r) = l.0 < count
 HasLeftBelow count (Sub b i) = Unit {0}
-
--- this is the length of its left part, where it is a concatenation
-abbrev pub IsLeftLen : List Node → NodeView → ℕ → Type 0
-IsLeftLen nodes (Lit a) left = Unit {0}
-IsLeftLen nodes (Src s a) left = Unit {0}
-IsLeftLen nodes Fun left = Unit {0}
-IsLeftLen nodes (Cat l r) left = left ≡ (get_or nodes l.0 no_node).len
-IsLeftLen nodes (Sub b i) left = Unit {0}
 
 -- the left part of each concatenation among these nodes, the first of which has this number, is a node before it
 abbrev pub HaveLeftsBefore : {F : Type 0} → ℕ → List (Record F) → Type 0

@@ -2,7 +2,7 @@
 
 ghost use Rattle.std.specs.Prelude.{◌≡◌, ◌+◌, ◌^◌, ◌<◌, ◌≤◌, ◌++◌, ◌∷◌, [], All, length, map};
 ghost use Rattle.node_table.specs.Entries.{record_of, IsStorable};
-ghost use Rattle.node_table.specs.Lefts.{nodes_in, HasLeftBelow, HaveLeftsBefore, IsLeftLen, KeepLefts};
+ghost use Rattle.node_table.specs.Lefts.{nodes_in, HasLeft, HasLeftBelow, HaveLeftsBefore, KeepLefts};
 ghost use Rattle.node_table.specs.NodeLists.{listed};
 
 use crate::blocks::Blocks;
@@ -38,7 +38,7 @@ impl<F: LeafFn> NewNodes<F> {
 #[inline(always)]
 fn left_len<F: LeafFn>(entries: &Blocks<Entry<F>>, view: NodeView) -> u64
     requires { HasLeftBelow (length entries.now.items) view }
-    ensures { IsLeftLen (nodes_in entries.now.items) view result }
+    ensures { HasLeft (nodes_in entries.now.items) view result }
 {
     match view {
         NodeView::Cat { l, .. } => entries.at(l.0 as usize).len,

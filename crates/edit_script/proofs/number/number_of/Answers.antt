@@ -1,8 +1,7 @@
-use Rattle.std.proofs.Common.{◌≡◌, ◌+◌, ◌*◌, ◌-◌, ◌^◌, ◌≤◌, length, get_or, inl, inr, ap, ◌∙◌, arith}
+use Rattle.std.proofs.Common.{◌≡◌, ◌-◌, length, get_or, ap, ◌∙◌, arith}
 use Rattle.std.specs.Str.Parse.{digits_value}
-use Rattle.std.proofs.lemmas.Bool.{cases_lt}
 use Rattle.std.proofs.lemmas.List.{take_all}
-use Rattle.edit_script.proofs.Numbers.{a_digit, numeral_large, numeral_small, one_digit_more}
+use Rattle.edit_script.proofs.Numbers.{a_digit, numeral_over, numeral_small, one_digit_more}
 use Rattle.edit_script.proofs.number.number_of.Goals as goal
 
 pub overflow_sub-digit : goal.overflow_sub-digit
@@ -10,27 +9,13 @@ overflow_sub-digit c = omega (arith, a_digit c.args.digits.now c.loop-i.i c.requ
 
 pub returns-in_err-checked_mul : goal.returns-in_err-checked_mul
 returns-in_err-checked_mul c =
-    let text = c.args.digits.now in
-    let i = c.loop-i.i in
-    let digit = a_digit text i c.requires c.loop-i-test.true in
-    let more = one_digit_more text i c.loop-i.n (get_or text i 0 - 48) c.requires c.loop-i-test.true c.loop-i.invariant.0 (omega (arith, digit)) in
-    let large : 2 ^ 64 ≤ c.loop-i.n * 10 = elim (cases_lt (c.loop-i.n * 10) (2 ^ 64)) [
-      | inl lt ↦ absurd (c.in_err-checked_mul.ensures lt)
-      | inr le ↦ le
-    ] in
-    c.from_residual.ensures ∙ numeral_large text (i + 1) c.requires (omega (arith, large, more))
+    c.from_residual.ensures
+    ∙ numeral_over c.args.digits.now c.loop-i.i c.loop-i.n c.requires c.loop-i-test.true c.loop-i.invariant.0 (λ small. c.in_err-checked_mul.ensures (omega (arith, small)))
 
 pub returns-in_err-n : goal.returns-in_err-n
 returns-in_err-n c =
-    let text = c.args.digits.now in
-    let i = c.loop-i.i in
-    let digit = a_digit text i c.requires c.loop-i-test.true in
-    let more = one_digit_more text i c.loop-i.n (get_or text i 0 - 48) c.requires c.loop-i-test.true c.loop-i.invariant.0 (omega (arith, digit)) in
-    let large : 2 ^ 64 ≤ c.in_ok-checked_mul.field-0 + c.from.result = elim (cases_lt (c.in_ok-checked_mul.field-0 + c.from.result) (2 ^ 64)) [
-      | inl lt ↦ absurd (c.in_err-n.ensures lt)
-      | inr le ↦ le
-    ] in
-    c.from_residual-in_err-n.ensures ∙ numeral_large text (i + 1) c.requires (omega (arith, large, more, c.in_ok-checked_mul.ensures, c.from.ensures))
+    c.from_residual-in_err-n.ensures
+    ∙ numeral_over c.args.digits.now c.loop-i.i c.loop-i.n c.requires c.loop-i-test.true c.loop-i.invariant.0 (λ small. c.in_err-n.ensures (omega (arith, small, c.in_ok-checked_mul.ensures, c.from.ensures)))
 
 pub loop-i-preserved : goal.loop-i-preserved
 loop-i-preserved c =

@@ -58,6 +58,4 @@ put_behind-requires-clause-storable g c = all_storable g.F.LeafFn.meaning c.args
 pub put_behind-requires-clause-before : goal.put_behind-requires-clause-before
 put_behind-requires-clause-before g c =
     let h = c.args.self.now in
-    let entries = c.self.inside.entries.items in
-    let count : length h.nodes ≡ length c.reserve.new.self.items = sym (ap (λ (k : Held _). length k.nodes) c.self.view_is) ∙ length-map (map record_of entries) node_of ∙ length-map entries record_of ∙ sym (ap (λ xs. length xs) c.reserve.ensures.items) in
-    lefts_before g.F.LeafFn.meaning h (appended h.pool c.args.bytes.now) (listed c.args.nodes) (length c.reserve.new.self.items) count c.requires.nodes
+    rw c.reserve.ensures.items (lefts_before g.F.LeafFn.meaning h (appended h.pool c.args.bytes.now) (listed c.args.nodes) c.self.inside.entries.items (ap (λ (k : Held _). k.nodes) c.self.view_is) c.requires.nodes)
