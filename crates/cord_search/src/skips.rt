@@ -45,6 +45,10 @@ pub fn clear_behind<S: NodeSpace>(
         pos.now.index (pos.now.index + count) result (pos.now.index + count) }
 {
     let _len = rope_len(space, x);
+    if pos.run_period().is_none() {
+        // Most leaves do not repeat, and one that does not here does not at its first byte either.
+        return pos.index();
+    }
     let first = pos.run_start();
     let start = Pos::set(alloc, space, x, first);
     match start.run_period() {
