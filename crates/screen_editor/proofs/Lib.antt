@@ -11,6 +11,7 @@ pub mod LineLaws
 pub mod LineSearches
 pub mod LineTurns
 pub mod NearLaws
+pub mod HeldLaws
 pub mod Revising
 pub mod KeyPlans
 pub mod KeyCommands

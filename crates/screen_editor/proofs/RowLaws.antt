@@ -1,13 +1,12 @@
 -- What is shown of a text's lines, one behind the other.
-use Rattle.std.proofs.Common.{◌≡◌, ℕ, ◌+◌, ◌-◌, ◌<◌, ◌≤◌, min, List, [], ◌∷◌, ◌++◌, length, map, take, drop, get_or, Some, None, not, inl, inr, refl, sym, ap, ◌∙◌, append_assoc, arith}
+use Rattle.std.proofs.Common.{◌≡◌, ℕ, ◌+◌, ◌-◌, ◌<◌, ◌≤◌, min, List, [], ◌∷◌, ◌++◌, length, map, take, drop, get_or, Some, None, inl, inr, refl, sym, ap, ◌∙◌, append_assoc, arith}
 use Rattle.std.specs.List.{slice_split, position_or_len, flat_map, range_with_len}
 use Rattle.std.proofs.lemmas.Bool.{cases_lt}
 use Rattle.std.proofs.lemmas.List.{get_or-drop, length-drop, length-take, take_all, take-take, drop-drop, drop-take, drop_all, append-nil, map-id}
 use Rattle.std.proofs.lemmas.List.FromFn.{map-range_with_len_more}
 use Rattle.std.proofs.lemmas.List.Splits.{slice_split_none, slice_split_first}
-use Rattle.std.proofs.lemmas.List.Sums.{fails_before_first, prefix_len-le-length}
+use Rattle.std.proofs.lemmas.List.Sums.{fails_before_first}
 use Rattle.std.proofs.lemmas.Grind.{flat_map-append}
-use Rattle.screen_editor.specs.declared.near.TheConstants.{NEAR}
 use Rattle.screen_editor.specs.declared.rows.TheConstants.{SCREEN_COLUMNS}
 use Rattle.screen_editor.specs.Lines.{is_break, line_end}
 use Rattle.screen_editor.specs.Frame.{glyph}
@@ -105,39 +104,31 @@ line_last t old new start left end n from whole is rest pushed =
       rest = rw (only_line xs past) refl;
     }
 
--- a line that ends among the bytes that were looked at
-near_end : (t : List ℕ) (start m width : ℕ) → start ≤ length t → m ≡ min (length t - start) NEAR → width ≡ min m (position_or_len is_break (drop start t)) → width < NEAR
-    → width ≡ position_or_len is_break (drop start t)
-near_end t start m width from all at short = omega (arith, all, at, short, prefix_len-le-length (λ b. not (is_break b)) (drop start t), length-drop start t)
-
-near_shown : (t near old new : List ℕ) (start left width : ℕ) → take width near ≡ take width (drop start t) → width ≡ position_or_len is_break (drop start t)
-    → new ≡ old ++ shown_of left (take width near) → new ≡ old ++ shown_of left (get_or (lines_from t (Some start)) 0 [])
-near_shown t near old new start left width is at pushed =
+-- a line that ends among the bytes that are held
+held_shown : (t old new : List ℕ) (start left width : ℕ) → width ≡ position_or_len is_break (drop start t)
+    → new ≡ old ++ shown_of left (take width (drop start t)) → new ≡ old ++ shown_of left (get_or (lines_from t (Some start)) 0 [])
+held_shown t old new start left width at pushed =
     let xs = drop start t in
-    pushed ∙ ap (λ (ys : List ℕ). old ++ shown_of left ys) (is ∙ ap (λ (k : ℕ). take k xs) at ∙ sym (first_of xs))
+    pushed ∙ ap (λ (ys : List ℕ). old ++ shown_of left ys) (ap (λ (k : ℕ). take k xs) at ∙ sym (first_of xs))
 
-pub near_then : (t near old new : List ℕ) (start left m width : ℕ) → start ≤ length t → m ≡ min (length t - start) NEAR → take width near ≡ take width (drop start t)
-    → width ≡ min m (position_or_len is_break (drop start t)) → width < NEAR → start + width < length t → new ≡ old ++ shown_of left (take width near)
-    → PushesLine t (Some start) left (Some (start + width + 1)) old new
-near_then t near old new start left m width from all is at short inside pushed =
+pub held_then : (t old new : List ℕ) (start left width : ℕ) → width ≡ position_or_len is_break (drop start t) → start + width < length t
+    → new ≡ old ++ shown_of left (take width (drop start t)) → PushesLine t (Some start) left (Some (start + width + 1)) old new
+held_then t old new start left width at inside pushed =
     let xs = drop start t in
-    let end = near_end t start m width from all at short in
-    let broken : position_or_len is_break xs < length xs = omega (arith, end, inside, length-drop start t) in
-    let next : start + (position_or_len is_break xs + 1) ≡ start + width + 1 = omega (arith, end) in
+    let broken : position_or_len is_break xs < length xs = omega (arith, at, inside, length-drop start t) in
+    let next : start + (position_or_len is_break xs + 1) ≡ start + width + 1 = omega (arith, at) in
     record {
-      pushed = near_shown t near old new start left width is end pushed;
+      pushed = held_shown t old new start left width at pushed;
       rest = rw (slice_split_first is_break xs 0 broken, drop-drop (position_or_len is_break xs + 1) start t, next) refl;
     }
 
-pub near_last : (t near old new : List ℕ) (start left m width : ℕ) → start ≤ length t → m ≡ min (length t - start) NEAR → take width near ≡ take width (drop start t)
-    → width ≡ min m (position_or_len is_break (drop start t)) → width < NEAR → length t ≤ start + width → new ≡ old ++ shown_of left (take width near)
-    → PushesLine t (Some start) left None old new
-near_last t near old new start left m width from all is at short whole pushed =
+pub held_last : (t old new : List ℕ) (start left width : ℕ) → width ≡ position_or_len is_break (drop start t) → length t ≤ start + width
+    → new ≡ old ++ shown_of left (take width (drop start t)) → PushesLine t (Some start) left None old new
+held_last t old new start left width at whole pushed =
     let xs = drop start t in
-    let end = near_end t start m width from all at short in
-    let past : length xs ≤ position_or_len is_break xs = omega (arith, end, whole, length-drop start t) in
+    let past : length xs ≤ position_or_len is_break xs = omega (arith, at, whole, length-drop start t) in
     record {
-      pushed = near_shown t near old new start left width is end pushed;
+      pushed = held_shown t old new start left width at pushed;
       rest = rw (only_line xs past) refl;
     }
 

@@ -1,8 +1,20 @@
 -- Bytes of a text that are held, to look for line breaks among them.
-use Rattle.std.specs.Prelude.{◌≡◌, ℕ, ◌+◌, ◌≤◌, List, length, take, drop}
-use Rattle.screen_editor.specs.declared.before.HeldBytes.{HeldBytes}
+use Rattle.std.specs.Prelude.{◌≡◌, ℕ, ◌+◌, ◌-◌, ◌≤◌, nat_lt, if◌then◌else◌, List, [], length, take, drop}
 
--- the first so many bytes of the array are those of the text from a place on
-pub record AreHeld (held : HeldBytes) (t : List ℕ) : Type 0 where
-  pub inside : held.from + held.count ≤ length t
-  pub bytes : take held.count held.bytes ≡ take held.count (drop held.from t)
+-- bytes from a place on
+pub record HeldPart : Type 0 where
+  pub from : ℕ
+  pub bytes : List ℕ
+
+-- those before a place, or none where it is further than right behind the last one
+abbrev pub held_up_to : HeldPart → ℕ → List ℕ
+held_up_to held place = if nat_lt (held.from + length held.bytes) place then [] else take (place - held.from) held.bytes
+
+-- those from a place on, or none where it is before the first one
+abbrev pub held_starting_at : HeldPart → ℕ → List ℕ
+held_starting_at held place = if nat_lt place held.from then [] else drop (place - held.from) held.bytes
+
+-- they are bytes of this text
+pub record AreHeld (held : HeldPart) (t : List ℕ) : Type 0 where
+  pub inside : held.from + length held.bytes ≤ length t
+  pub bytes : held.bytes ≡ take (length held.bytes) (drop held.from t)

@@ -11,11 +11,15 @@ ghost use Rattle.screen_editor.specs.Refusals.{ReadsToShow};
 ghost use Rattle.screen_editor.specs.Rows.{cursor_at};
 
 use crate::fault::{FrameFault, KeyFault};
+use crate::held::HeldBytes;
 use crate::rows::{SCREEN_COLUMNS, push_rows};
 use crate::window::window_about;
 use lazy_file::Sources;
 use rope_node::{NodeSpace, Rope, rope_len};
 use std::alloc::{AllocError, Global};
+
+/// Room for the bytes of a frame behind the first ones: 23 rows of 80 columns and line ends, and some for what stands below them.
+const FRAME_ROOM: usize = 2_048;
 
 /// Clears the screen, and goes to its first row and column.
 const CLEAR: &[u8] = b"\x1B[2J\x1B[H";
@@ -47,8 +51,8 @@ fn cursor(alloc: Global, row: u64, column: u64) -> Result<String, AllocError>
 }
 
 /// What the screen shows of a rope's text about a place of it: 23 rows of 80 columns with the lines about that of the
-/// place, then the revision, the place, the text's length and the message, and the cursor at the place. It looks no
-/// further than from 12 line breaks above the place to the break behind the last row.
+/// place, then the revision, the place, the text's length and the message, and the cursor at the place. It looks for
+/// no line break further than the twelfth above the place and the one behind the last row.
 ///
 /// # Errors
 ///
@@ -69,10 +73,14 @@ pub fn frame_about<S: NodeSpace, T: Sources>(
     ensures reads { ReadsToShow (T.reading sources.old) (T.reading sources.new)
         (rope_cell (S.table space.now) rope) (rope_len (S.table space.now) rope) result }
 {
-    let window = window_about(alloc, space, sources, rope, place)?;
+    let mut held = HeldBytes::new();
+    let window = window_about(alloc, &mut held, space, sources, rope, place)?;
     let left = SCREEN_COLUMNS * (window.column / SCREEN_COLUMNS);
     let mut out = Vec::from_slice(alloc, CLEAR)?;
-    push_rows(alloc, space, sources, rope, window.top, left, &mut out)?;
+    out.reserve(FRAME_ROOM)?;
+    push_rows(
+        alloc, &mut held, space, sources, rope, window.top, left, &mut out,
+    )?;
     let line = status(alloc, revision, place, rope_len(space, rope), message)?;
     out.extend_from_slice(line.as_bytes())?;
     let end = cursor(alloc, window.row + 1, window.column - left + 1)?;

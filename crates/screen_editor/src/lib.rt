@@ -7,6 +7,7 @@ mod editor;
 mod edits;
 mod fault;
 mod frame;
+mod held;
 mod keeping;
 mod key;
 pub mod laws;

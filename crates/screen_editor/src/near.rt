@@ -1,7 +1,7 @@
 //! The bytes of a text near a place, taken leaf by leaf into an array, and the line break among them.
 
-ghost use Rattle.std.specs.Prelude.{◌≡◌, ◌≤◌, ◌+◌, not, min, length, take, drop, reverse, IfOk, OnOk};
-ghost use Rattle.std.specs.List.{position, position_or_len, suffix_len};
+ghost use Rattle.std.specs.Prelude.{◌≡◌, ◌≤◌, ◌+◌, not, length, take, drop, IfOk, OnOk};
+ghost use Rattle.std.specs.List.{position_or_len, suffix_len};
 ghost use Rattle.rope_node.specs.Denotes.{IsRope, rope_len};
 ghost use Rattle.cord_position.specs.Fetched.{ReadsSpan, rope_cell};
 ghost use Rattle.cord_search.specs.Reached.{StandsAtPlace};
@@ -11,11 +11,9 @@ ghost use Rattle.screen_editor.specs.Lines.{is_break};
 use crate::lines::LINE_BREAK;
 use cord_position::Pos;
 use lazy_file::{SourceFault, Sources};
+use memchr::{memchr, memrchr};
 use rope_node::{NodeSpace, Rope, rope_len};
 use std::alloc::Global;
-
-/// So many bytes near a place are looked at first: more than a row has, so that most lines end among them.
-pub const NEAR: usize = 128;
 
 /// Reads the bytes of the leaf at a place into the front of the buffer, as many as it takes, and answers how many.
 fn fill_there<S: NodeSpace, T: Sources>(
@@ -76,15 +74,14 @@ pub fn read_near<S: NodeSpace, T: Sources>(
     Ok(())
 }
 
-/// Reads the bytes of a text from a position, which stands at `start`, into the front of the buffer, leaf by leaf, and no leaf behind
-/// that of the first line break. It answers how many bytes stand before that break, or the buffer's length where they
-/// are no fewer. The position goes behind them.
+/// Reads the bytes of a text from `start` on into the front of the buffer, leaf by leaf, and of no leaf behind that of the first line
+/// break. It answers how many they are.
 ///
 /// # Errors
 ///
 /// A source's fault, where a byte is one of that source and the read of it failed.
-pub fn read_line<S: NodeSpace, T: Sources>(
-    pos: &mut Pos<'_, S>,
+pub fn read_to_break<S: NodeSpace, T: Sources>(
+    alloc: Global,
     space: &S,
     sources: &mut T,
     rope: Rope,
@@ -92,46 +89,26 @@ pub fn read_line<S: NodeSpace, T: Sources>(
     buffer: &mut [u8],
 ) -> Result<usize, SourceFault>
     requires rope { IsRope (S.table space.now) rope }
-    requires here { StandsAtPlace S.table pos.old space.now rope start }
     requires inside { start + length buffer.old ≤ rope_len (S.table space.now) rope }
     ensures length { length buffer.new ≡ length buffer.old }
     ensures most { IfOk result (λ n. n ≤ length buffer.old) }
-    ensures here { IfOk result (λ n. StandsAtPlace S.table pos.new space.now rope (start + n)) }
     ensures bytes { IfOk result (λ n. OfText (S.table space.now) (T.reading sources.old).stated rope
         (λ t. take n buffer.new ≡ take n (drop start t))) }
-    ensures is { IfOk result (λ n. OfText (S.table space.now) (T.reading sources.old).stated rope
-        (λ t. n ≡ min (length buffer.old) (position_or_len is_break (drop start t)))) }
     ensures reads { ReadsSpan (T.reading sources.old) (T.reading sources.new)
         (rope_cell (S.table space.now) rope) 0 (rope_len (S.table space.now) rope) result }
 {
     let _len = rope_len(space, rope);
+    let mut pos = Pos::set(alloc, space, rope, start);
     let mut done = 0;
-    while done < buffer.len() {
+    let mut ended = false;
+    while !ended && done < buffer.len() {
         let place = start + done as u64;
-        let count = fill_there(pos, space, sources, rope, place, &mut buffer[done..])?;
-        let width = width_ahead(&buffer[done..done + count]);
-        if width < count {
-            pos.skip(width as u64);
-            return Ok(done + width);
-        }
+        let count = fill_there(&pos, space, sources, rope, place, &mut buffer[done..])?;
+        ended = width_ahead(&buffer[done..done + count]) < count;
         pos.skip(count as u64);
         done += count;
     }
     Ok(done)
-}
-
-/// The place of the first line break among these bytes, if there is one.
-fn first_break(bytes: &[u8]) -> Option<usize>
-    ensures { result ≡ position is_break bytes.now }
-{
-    bytes.iter().position(|byte| *byte == LINE_BREAK)
-}
-
-/// The same, counted from the last byte back.
-fn last_break(bytes: &[u8]) -> Option<usize>
-    ensures { result ≡ position is_break (reverse bytes.now) }
-{
-    bytes.iter().rev().position(|byte| *byte == LINE_BREAK)
 }
 
 /// How many bytes stand before the first line break, or all.
@@ -139,7 +116,10 @@ pub fn width_ahead(bytes: &[u8]) -> usize
     ensures is { result ≡ position_or_len is_break bytes.now }
     ensures most { result ≤ length bytes.now }
 {
-    first_break(bytes).unwrap_or(bytes.len())
+    match memchr(LINE_BREAK, bytes) {
+        Some(at) => at,
+        None => bytes.len(),
+    }
 }
 
 /// How many bytes stand behind the last line break, or all.
@@ -147,5 +127,8 @@ pub fn width_behind(bytes: &[u8]) -> usize
     ensures is { result ≡ suffix_len (λ b. not (is_break b)) bytes.now }
     ensures most { result ≤ length bytes.now }
 {
-    last_break(bytes).unwrap_or(bytes.len())
+    match memrchr(LINE_BREAK, bytes) {
+        Some(at) => bytes.len() - (at + 1),
+        None => bytes.len(),
+    }
 }

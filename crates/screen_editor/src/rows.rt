@@ -1,19 +1,21 @@
 //! The rows of the screen.
 
-ghost use Rattle.std.specs.Prelude.{◌≡◌, ◌≤◌, ◌+◌, ◌-◌, ◌++◌, map, take, drop, IfOk, IfSome, OnOk};
+ghost use Rattle.std.specs.Prelude.{◌≡◌, ◌≤◌, ◌+◌, ◌-◌, ◌++◌, length, map, take, drop, IfOk, IfSome, OnOk};
+ghost use Rattle.std.specs.List.{position_or_len};
 ghost use Rattle.rope_node.specs.Denotes.{IsRope, rope_len};
-ghost use Rattle.cord_position.specs.Fetched.{rope_cell};
-ghost use Rattle.cord_search.specs.Reached.{StandsAtPlace};
+ghost use Rattle.cord_position.specs.Fetched.{ReadsSpan, rope_cell};
 ghost use Rattle.cord_search.specs.Stated.{OfText};
 ghost use Rattle.screen_editor.specs.Frame.{glyph};
+ghost use Rattle.screen_editor.specs.HeldBytes.{held_starting_at, AreHeld};
+ghost use Rattle.screen_editor.specs.Lines.{is_break};
 ghost use Rattle.screen_editor.specs.Refusals.{ReadsToShow};
 ghost use Rattle.screen_editor.specs.Rows.{lines_from, rows_in, shown_of, PushesLine};
 
 use crate::fault::FrameFault;
+use crate::held::HeldBytes;
 use crate::lines::line_end;
-use crate::near::{NEAR, read_line, read_near};
-use cord_position::Pos;
-use lazy_file::Sources;
+use crate::near::{read_near, width_ahead};
+use lazy_file::{SourceFault, Sources};
 use rope_node::{NodeSpace, Rope, rope_len};
 use std::alloc::{AllocError, Global};
 
@@ -33,14 +35,17 @@ fn glyph(byte: u8) -> u8
     }
 }
 
-/// Appends these bytes, as they are shown.
+/// Appends these bytes, at most a row of them, as they are shown.
 fn push_glyphs(bytes: &[u8], out: &mut Vec<u8>) -> Result<(), AllocError>
+    requires { length bytes.now ≤ SCREEN_COLUMNS }
     ensures { OnOk result (out.new.items ≡ out.old.items ++ map glyph bytes.now) }
 {
-    for byte in bytes {
-        out.push(glyph(*byte))?;
+    // An array takes them without a question of room for each.
+    let mut shown = [0; SCREEN_COLUMNS as usize];
+    for k in 0..bytes.len() {
+        shown[k] = glyph(bytes[k]);
     }
-    Ok(())
+    out.extend_from_slice(&shown[..bytes.len()])
 }
 
 /// Appends what is shown of a line of these bytes, from the column `left` on.
@@ -117,12 +122,47 @@ fn push_long_line<S: NodeSpace, T: Sources>(
     Ok(next)
 }
 
-/// Appends the same. Where the line ends near its start, its bytes and its end are had by one look. The position goes from its start to the
-/// next line's, which mostly lies in the same leaf or the next one.
-fn push_line<'a, S: NodeSpace, T: Sources>(
+/// How many bytes the line has that begins at `start`, where all of them are held then. It reads more only where the bytes that are held don't tell.
+fn hold_line<S: NodeSpace, T: Sources>(
     alloc: Global,
-    pos: &mut Pos<'a, S>,
-    space: &'a S,
+    held: &mut HeldBytes,
+    space: &S,
+    sources: &mut T,
+    rope: Rope,
+    start: u64,
+) -> Result<Option<usize>, SourceFault>
+    requires rope { IsRope (S.table space.now) rope }
+    requires start { start ≤ rope_len (S.table space.now) rope }
+    requires held { OfText (S.table space.now) (T.reading sources.old).stated rope (AreHeld held.old) }
+    ensures held { IfOk result (λ _.
+        OfText (S.table space.now) (T.reading sources.old).stated rope (AreHeld held.new)) }
+    ensures there { IfOk result (λ width. IfSome width (λ n. n ≤ length (held_starting_at held.new start))) }
+    ensures is { IfOk result (λ width. IfSome width (λ n.
+        OfText (S.table space.now) (T.reading sources.old).stated rope
+        (λ t. n ≡ position_or_len is_break (drop start t)))) }
+    ensures reads { ReadsSpan (T.reading sources.old) (T.reading sources.new)
+        (rope_cell (S.table space.now) rope) 0 (rope_len (S.table space.now) rope) result }
+{
+    let near = held.starting_at(start);
+    let width = width_ahead(near);
+    if width < near.len() {
+        return Ok(Some(width));
+    }
+    held.read_behind(alloc, space, sources, rope, start)?;
+    let near = held.starting_at(start);
+    let width = width_ahead(near);
+    if width < near.len() || rope_len(space, rope) - start == width as u64 {
+        Ok(Some(width))
+    } else {
+        Ok(None)
+    }
+}
+
+/// Appends what `push_long_line` does. Where the line ends near its start, its bytes and its end are among those that are held.
+fn push_line<S: NodeSpace, T: Sources>(
+    alloc: Global,
+    held: &mut HeldBytes,
+    space: &S,
     sources: &mut T,
     rope: Rope,
     start: u64,
@@ -130,37 +170,31 @@ fn push_line<'a, S: NodeSpace, T: Sources>(
     out: &mut Vec<u8>,
 ) -> Result<Option<u64>, FrameFault>
     requires rope { IsRope (S.table space.now) rope }
-    requires here { StandsAtPlace S.table pos.old space.now rope start }
     requires start { start ≤ rope_len (S.table space.now) rope }
+    requires held { OfText (S.table space.now) (T.reading sources.old).stated rope (AreHeld held.old) }
     ensures inside { IfOk result (λ next. IfSome next (λ s. s ≤ rope_len (S.table space.now) rope)) }
-    ensures here { IfOk result (λ next. IfSome next (StandsAtPlace S.table pos.new space.now rope)) }
+    ensures held { IfOk result (λ _.
+        OfText (S.table space.now) (T.reading sources.old).stated rope (AreHeld held.new)) }
     ensures line { IfOk result (λ next. OfText (S.table space.now) (T.reading sources.old).stated rope
         (λ t. PushesLine t (Some start) left next out.old.items out.new.items)) }
     ensures reads { ReadsToShow (T.reading sources.old) (T.reading sources.new)
         (rope_cell (S.table space.now) rope) (rope_len (S.table space.now) rope) result }
 {
     let len = rope_len(space, rope);
-    let mut buffer = [0; NEAR];
-    let near = &mut buffer[..(len - start).min(NEAR as u64) as usize];
-    let width = read_line(pos, space, sources, rope, start, near)?;
-    if width == NEAR {
-        let next = push_long_line(alloc, space, sources, rope, start, left, out)?;
-        if let Some(place) = next {
-            *pos = Pos::set(alloc, space, rope, place);
-        }
-        return Ok(next);
-    }
-    push_shown(&near[..width], left, out)?;
+    let Some(width) = hold_line(alloc, held, space, sources, rope, start)? else {
+        return push_long_line(alloc, space, sources, rope, start, left, out);
+    };
+    let line = &held.starting_at(start)[..width];
+    push_shown(line, left, out)?;
     let end = start + width as u64;
-    pos.skip(1);
     Ok(if end < len { Some(end + 1) } else { None })
 }
 
 /// Appends the same of the line that begins at `start`, or nothing behind the last line.
-fn push_line_at<'a, S: NodeSpace, T: Sources>(
+fn push_line_at<S: NodeSpace, T: Sources>(
     alloc: Global,
-    pos: &mut Pos<'a, S>,
-    space: &'a S,
+    held: &mut HeldBytes,
+    space: &S,
     sources: &mut T,
     rope: Rope,
     start: Option<u64>,
@@ -169,27 +203,29 @@ fn push_line_at<'a, S: NodeSpace, T: Sources>(
 ) -> Result<Option<u64>, FrameFault>
     requires rope { IsRope (S.table space.now) rope }
     requires start { IfSome start (λ s. s ≤ rope_len (S.table space.now) rope) }
-    requires here { IfSome start (StandsAtPlace S.table pos.old space.now rope) }
+    requires held { OfText (S.table space.now) (T.reading sources.old).stated rope (AreHeld held.old) }
     ensures inside { IfOk result (λ next. IfSome next (λ s. s ≤ rope_len (S.table space.now) rope)) }
-    ensures here { IfOk result (λ next. IfSome next (StandsAtPlace S.table pos.new space.now rope)) }
+    ensures held { IfOk result (λ _.
+        OfText (S.table space.now) (T.reading sources.old).stated rope (AreHeld held.new)) }
     ensures line { IfOk result (λ next. OfText (S.table space.now) (T.reading sources.old).stated rope
         (λ t. PushesLine t start left next out.old.items out.new.items)) }
     ensures reads { ReadsToShow (T.reading sources.old) (T.reading sources.new)
         (rope_cell (S.table space.now) rope) (rope_len (S.table space.now) rope) result }
 {
     match start {
-        Some(start) => push_line(alloc, pos, space, sources, rope, start, left, out),
+        Some(start) => push_line(alloc, held, space, sources, rope, start, left, out),
         None => Ok(None),
     }
 }
 
-/// Appends the rows of the screen: its first line begins at `top`, and its first column is `left`.
+/// Appends the rows of the screen: its first line begins at `top`, and its first column is `left`. It looks among the bytes that are held first.
 ///
 /// # Errors
 ///
 /// `Source`, where a byte or a line break could not be read. `Memory`, where memory was refused.
 pub fn push_rows<S: NodeSpace, T: Sources>(
     alloc: Global,
+    held: &mut HeldBytes,
     space: &S,
     sources: &mut T,
     rope: Rope,
@@ -199,15 +235,15 @@ pub fn push_rows<S: NodeSpace, T: Sources>(
 ) -> Result<(), FrameFault>
     requires rope { IsRope (S.table space.now) rope }
     requires top { top ≤ rope_len (S.table space.now) rope }
+    requires held { OfText (S.table space.now) (T.reading sources.old).stated rope (AreHeld held.old) }
     ensures rows { OnOk result (OfText (S.table space.now) (T.reading sources.old).stated rope
         (λ t. out.new.items ≡ out.old.items ++ rows_in (lines_from t (Some top)) left)) }
     ensures reads { ReadsToShow (T.reading sources.old) (T.reading sources.new)
         (rope_cell (S.table space.now) rope) (rope_len (S.table space.now) rope) result }
 {
-    let mut pos = Pos::set(alloc, space, rope, top);
     let mut next = Some(top);
     for row in 0..SCREEN_ROWS {
-        next = push_line_at(alloc, &mut pos, space, sources, rope, next, left, out)?;
+        next = push_line_at(alloc, held, space, sources, rope, next, left, out)?;
         out.extend_from_slice(b"\r\n")?;
     }
     Ok(())

@@ -8,7 +8,8 @@ ghost use Rattle.screen_editor.specs.declared.window.TheConstants.{LINES_ABOVE};
 ghost use Rattle.screen_editor.specs.HeldBytes.{AreHeld};
 ghost use Rattle.screen_editor.specs.Rows.{IsAbove, IsWindow};
 
-use crate::before::{HeldBytes, NONE_HELD, near_start};
+use crate::before::near_start;
+use crate::held::HeldBytes;
 use lazy_file::{SourceFault, Sources};
 use rope_node::{NodeSpace, Rope, rope_len};
 use std::alloc::Global;
@@ -44,6 +45,8 @@ fn go_back<S: NodeSpace, T: Sources>(
     ensures all { IfOk result (λ x. x.1 < LINES_ABOVE → x.0 ≡ 0) }
     ensures back { IfOk result (λ x. OfText (S.table space.now) (T.reading sources.old).stated rope
         (λ t. IsAbove t start x.0 x.1)) }
+    ensures held { IfOk result (λ _.
+        OfText (S.table space.now) (T.reading sources.old).stated rope (AreHeld held.new)) }
     ensures reads { ReadsSpan (T.reading sources.old) (T.reading sources.new)
         (rope_cell (S.table space.now) rope) 0 (rope_len (S.table space.now) rope) result }
 {
@@ -57,13 +60,14 @@ fn go_back<S: NodeSpace, T: Sources>(
     Ok((top, row))
 }
 
-/// What the screen shows about a place.
+/// What the screen shows about a place. It looks among the bytes that are held first.
 ///
 /// # Errors
 ///
 /// A source's fault, where a byte is one of that source and the read of it failed.
 pub fn window_about<S: NodeSpace, T: Sources>(
     alloc: Global,
+    held: &mut HeldBytes,
     space: &S,
     sources: &mut T,
     rope: Rope,
@@ -71,18 +75,20 @@ pub fn window_about<S: NodeSpace, T: Sources>(
 ) -> Result<Window, SourceFault>
     requires rope { IsRope (S.table space.now) rope }
     requires place { place ≤ rope_len (S.table space.now) rope }
+    requires held { OfText (S.table space.now) (T.reading sources.old).stated rope (AreHeld held.old) }
     ensures top { IfOk result (λ w. w.top ≤ rope_len (S.table space.now) rope) }
     ensures row { IfOk result (λ w. w.row ≤ LINES_ABOVE) }
     ensures column { IfOk result (λ w. w.column ≤ place) }
     ensures is { IfOk result (λ w. OfText (S.table space.now) (T.reading sources.old).stated rope
         (λ t. IsWindow t place w.top w.row w.column)) }
+    ensures held { IfOk result (λ _.
+        OfText (S.table space.now) (T.reading sources.old).stated rope (AreHeld held.new)) }
     ensures reads { ReadsSpan (T.reading sources.old) (T.reading sources.new)
         (rope_cell (S.table space.now) rope) 0 (rope_len (S.table space.now) rope) result }
 {
     prove!(place <= rope_len(space, rope));
-    let mut held = NONE_HELD;
-    let start = near_start(alloc, &mut held, space, sources, rope, place)?;
-    let (top, row) = go_back(alloc, &mut held, space, sources, rope, start)?;
+    let start = near_start(alloc, held, space, sources, rope, place)?;
+    let (top, row) = go_back(alloc, held, space, sources, rope, start)?;
     Ok(Window {
         top,
         row,

@@ -23,6 +23,9 @@ struct Keys<'a> {
     screen_end: &'a [u8],
 }
 
+/// The key Left.
+const LEFT: u8 = 0x02;
+
 /// The key Up.
 const UP: u8 = 0x10;
 
@@ -508,4 +511,22 @@ fn a_key_or_a_frame_tells_the_read_that_failed(rt: HostRuntime) {
         assert!(&rt; refusals(&rt, 0, left) <= 1, "{left}");
     }
     assert_same(&rt, &refusals(&rt, 1, 0), &0, &"the other file");
+}
+
+/// Behind the 23 lines that are typed the file's first one is no row, so that a frame of them reads no byte of it.
+#[test]
+fn a_frame_reads_no_leaf_behind_that_of_its_last_line_break(rt: HostRuntime) {
+    let files = Flaky {
+        texts: texts_in(&rt, &[b"behind the screen"]),
+        broken: 0,
+        left: 0,
+        failed: 0,
+    };
+    let mut editor = editor(&rt, files);
+    for byte in [b'\n', LEFT] {
+        for _ in 0..23 {
+            assert_same(&rt, &press(&mut editor, byte), &Ok(Step::Going), &byte);
+        }
+    }
+    assert_shown(&rt, &mut editor, b"\r\nrev 23 byte 0 of 40\x1b[1;1H");
 }

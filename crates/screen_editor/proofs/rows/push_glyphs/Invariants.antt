@@ -1,9 +1,11 @@
-use Rattle.std.proofs.Common.{◌≡◌, ◌++◌, map, take}
+use Rattle.std.proofs.Common.{◌≡◌, map, take, length}
+use Rattle.screen_editor.specs.declared.rows.TheConstants.{SCREEN_COLUMNS}
 use Rattle.screen_editor.specs.Frame.{glyph}
 use Rattle.screen_editor.proofs.rows.push_glyphs.Given as goal
 
--- so many bytes were appended
-abbrev pub invariant-loop-byte : goal.invariant-loop-byte
-invariant-loop-byte l = record {
-  told : l.out.items ≡ l.initial.out.items ++ map glyph (take l.byte-index l.bytes);
+-- so many bytes stand in the array, as they are shown
+abbrev pub invariant-loop-k : goal.invariant-loop-k
+invariant-loop-k l = record {
+  room : length l.shown ≡ SCREEN_COLUMNS;
+  told : take l.k l.shown ≡ map glyph (take l.k l.bytes);
 }

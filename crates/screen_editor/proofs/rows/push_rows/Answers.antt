@@ -4,6 +4,7 @@ use Rattle.lazy_file.proofs.LaterReads.{same_stated}
 use Rattle.rope_node.specs.Denotes.{rope_cells, rope_len, text}
 use Rattle.cord_position.specs.Fetched.{rope_cell}
 use Rattle.cord_search.proofs.Fetches.{told_before}
+use Rattle.screen_editor.specs.HeldBytes.{AreHeld}
 use Rattle.screen_editor.specs.Rows.{PushesLine}
 use Rattle.screen_editor.proofs.RowWalk.{IsAtRow, row_more}
 use Rattle.screen_editor.proofs.Showing.{failed_part}
@@ -20,7 +21,9 @@ pub loop-row-preserved : goal.loop-row-preserved
 loop-row-preserved g c = record {
   reads = c.in_ok-next.ensures.reads ∙ c.loop-row.invariant.reads;
   inside = c.in_ok-next.ensures.inside;
-  here = c.in_ok-next.ensures.here;
+  held = λ source agrees stated.
+      let t = g.S.NodeSpace.table c.args.space.now in
+      told_before t (g.T.Sources.reading c.args.sources.now).stated (g.T.Sources.reading c.loop-row.sources).stated c.args.rope 0 (rope_len t c.args.rope) (AreHeld c.push_line_at.new.held) (same_stated c.loop-row.invariant.reads) c.in_ok-next.ensures.held source agrees stated;
   told = λ source agrees stated.
       let t = g.S.NodeSpace.table c.args.space.now in
       let u = text source (rope_cells t c.args.rope) in
@@ -29,3 +32,6 @@ loop-row-preserved g c = record {
       subst (IsAtRow u c.args.top c.args.left (c.loop-row.row + 1) c.in_ok-next.next c.args.out.now.items) (sym c.in_ok-extend_from_slice.ensures.items)
       (row_more u c.args.top c.args.left c.loop-row.row c.loop-row.next c.in_ok-next.next c.args.out.now.items c.loop-row.out.items shown (c.loop-row.invariant.told source agrees stated) line);
 }
+
+pub push_line_at-requires-clause-held : goal.push_line_at-requires-clause-held
+push_line_at-requires-clause-held g c = rw (same_stated c.loop-row.invariant.reads) c.loop-row.invariant.held

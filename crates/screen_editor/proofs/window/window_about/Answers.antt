@@ -5,6 +5,7 @@ use Rattle.rope_node.specs.Denotes.{rope_cells, rope_len, text}
 use Rattle.cord_position.specs.Fetched.{rope_cell}
 use Rattle.cord_position.proofs.Spans.{failed_in}
 use Rattle.cord_search.proofs.Fetches.{told_before, text_length}
+use Rattle.screen_editor.specs.HeldBytes.{AreHeld}
 use Rattle.screen_editor.specs.Rows.{IsAbove}
 use Rattle.screen_editor.proofs.WindowLaws.{window_is}
 use Rattle.screen_editor.proofs.window.window_about.Goals as goal
@@ -24,3 +25,8 @@ returns-clause-is g c source agrees stated =
     let held : c.args.place ≤ length u = omega (arith, long, c.rope_len.ensures.exact, c.requires.place) in
     let above = told_before t (g.T.Sources.reading c.args.sources.now).stated (g.T.Sources.reading c.near_start.new.sources).stated c.args.rope 0 (rope_len t c.args.rope) (λ v. IsAbove v c.in_ok-start.start c.in_ok-top.top c.in_ok-top.row) (same_stated c.in_ok-start.ensures.reads) c.in_ok-top.ensures.back source agrees stated in
     window_is u c.args.place c.in_ok-start.start c.in_ok-top.top c.in_ok-top.row held (c.in_ok-start.ensures.is source agrees stated) (omega (arith, c.in_ok-top.ensures.inside, c.in_ok-start.ensures.inside)) c.in_ok-top.ensures.few c.in_ok-top.ensures.all above
+
+pub returns-clause-held : goal.returns-clause-held
+returns-clause-held g c source agrees stated =
+    let t = g.S.NodeSpace.table c.args.space.now in
+    told_before t (g.T.Sources.reading c.args.sources.now).stated (g.T.Sources.reading c.near_start.new.sources).stated c.args.rope 0 (rope_len t c.args.rope) (AreHeld c.go_back.new.held) (same_stated c.in_ok-start.ensures.reads) c.in_ok-top.ensures.held source agrees stated
