@@ -30,6 +30,15 @@ fn told(digest: &mut Digest, found: Option<u64>) {
     digest.number(found.unwrap_or(u64::MAX));
 }
 
+/// A rope, by its number, its length and its depth, digested.
+fn tell_rope(digest: &mut Digest, store: &Store<Coded>, rope: Rope)
+    requires { IsRope (table_of coded_byte store.now) rope }
+{
+    let number = rope.map_or(u32::MAX, |node| node.0);
+    digest.number(u64::from(number) | (u64::from(store.depth(rope)) << 32));
+    digest.number(store.len(rope));
+}
+
 /// The text with bytes put in at a place.
 fn insert(
     store: &mut Store<Coded>,
@@ -184,34 +193,39 @@ fn walk(
     Ok(())
 }
 
-/// A text to which so many bytes are appended one by one.
+/// A text to which so many bytes are appended one by one, each rope of it told.
 fn append_bytes(
     store: &mut Store<Coded>,
     chance: &mut Chance,
     count: u64,
+    digest: &mut Digest,
 ) -> Result<Rope, NodeFault>
     ensures { IfOk result (IsRope (table_of coded_byte store.new)) }
 {
     let mut text = None;
     for _ in 0..count {
         text = store.append(text, &[chance.letter()])?;
+        tell_rope(digest, store, text);
     }
     Ok(text)
 }
 
-/// So many parts of a text, each joined with itself.
+/// So many parts of a text, each joined with itself, and all of these ropes told.
 fn take_parts(
     store: &mut Store<Coded>,
     chance: &mut Chance,
     text: Rope,
     count: u64,
+    digest: &mut Digest,
 ) -> Result<(), NodeFault>
     requires { IsRope (table_of coded_byte store.old) text }
 {
     let len = store.len(text);
     for _ in 0..count {
         let part = store.substr(text, chance.up_to(len), 1000)?;
-        store.cat(part, part)?;
+        tell_rope(digest, store, part);
+        let twice = store.cat(part, part)?;
+        tell_rope(digest, store, twice);
     }
     Ok(())
 }
@@ -219,8 +233,8 @@ fn take_parts(
 /// The store's operations: bytes appended, parts taken and joined.
 fn use_store(alloc: Global, chance: &mut Chance, count: u64, digest: &mut Digest) -> Result<()> {
     let mut store = Store::new(alloc);
-    let text = append_bytes(&mut store, chance, count)?;
-    take_parts(&mut store, chance, text, count)?;
+    let text = append_bytes(&mut store, chance, count, digest)?;
+    take_parts(&mut store, chance, text, count, digest)?;
     digest.number(u64::from(store.count()));
     digest.number(store.pool_len());
     Ok(())
