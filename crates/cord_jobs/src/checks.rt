@@ -64,7 +64,7 @@ pub fn check_bytes(
     digest: &mut Digest,
 ) -> Result<()> {
     let doublings = if scale < 10 { 8 } else { 16 };
-    let times = scale / 3 + 1;
+    let times = scale.saturating_mul(2) / 5 + 1;
     let image = deepest(alloc, chance, doublings, times)?;
     check(alloc, &image, digest)?;
     let image = two_shapes(alloc, chance, doublings, times)?;

@@ -139,12 +139,7 @@ fn edit(alloc: Global, text: Vec<u8>, keys: &[u8], digest: &mut Digest) -> Resul
 }
 
 /// Keys in a text of lines, and fewer in one of a single line.
-pub fn press_keys(
-    alloc: Global,
-    chance: &mut Chance,
-    scale: u64,
-    digest: &mut Digest,
-) -> Result<()> {
+fn press_some(alloc: Global, chance: &mut Chance, scale: u64, digest: &mut Digest) -> Result<()> {
     let text = prose(alloc, chance, scale.saturating_mul(160_000), true)?;
     let down = scale.saturating_mul(10);
     let pressed = keys(alloc, chance, down, scale.saturating_mul(100))?;
@@ -152,4 +147,17 @@ pub fn press_keys(
     let text = prose(alloc, chance, scale.saturating_mul(20_000), false)?;
     let pressed = keys(alloc, chance, 0, scale.saturating_mul(2))?;
     edit(alloc, text, &pressed, digest)
+}
+
+/// The same for two pairs of texts, and of small ones for one pair.
+pub fn press_keys(
+    alloc: Global,
+    chance: &mut Chance,
+    scale: u64,
+    digest: &mut Digest,
+) -> Result<()> {
+    for _ in 0..scale / 100 + 1 {
+        press_some(alloc, chance, scale, digest)?;
+    }
+    Ok(())
 }
