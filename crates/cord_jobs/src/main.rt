@@ -1,10 +1,11 @@
-//! The jobs that people wait for, each on inputs that it makes of a number: `cord_jobs JOB SEED`. It prints how many bytes came of a job and a
-//! digest of them, and no times; with no words it runs each job on small inputs. bench/workloads.txt has the jobs, docs/PERF.md what they take.
+//! The jobs that people wait for, each on inputs that it makes of a number: `cord_jobs JOB SEED`. It prints how many bytes came of a job and a digest of them, and no times; with no words it runs each job on small inputs.
+//! bench/workloads.txt has the jobs, docs/PERF.md what they take.
 #![tactic(auto)]
 
 mod chance;
 mod checks;
 mod digest;
+mod finds;
 mod image;
 mod images;
 mod keys;
@@ -15,6 +16,7 @@ mod sessions;
 use crate::chance::Chance;
 use crate::checks::{check_bytes, check_texts};
 use crate::digest::Digest;
+use crate::finds::find_texts;
 use crate::keys::press_keys;
 use crate::searches::search_texts;
 use crate::sessions::{change_anywhere, type_keys};
@@ -28,7 +30,9 @@ const FULL: u64 = 100;
 const SMALL: u64 = 1;
 
 /// All jobs.
-const JOBS: [&str; 6] = ["type", "anywhere", "check", "bytes", "keys", "search"];
+const JOBS: [&str; 7] = [
+    "type", "anywhere", "check", "bytes", "keys", "search", "finds",
+];
 
 /// Does a job, and digests what comes of it.
 fn work(alloc: Global, job: &str, seed: u32, scale: u64, digest: &mut Digest) -> Result<()> {
@@ -40,6 +44,7 @@ fn work(alloc: Global, job: &str, seed: u32, scale: u64, digest: &mut Digest) ->
         "bytes" => check_bytes(alloc, &mut chance, scale, digest),
         "keys" => press_keys(alloc, &mut chance, scale, digest),
         "search" => search_texts(alloc, &mut chance, scale, digest),
+        "finds" => find_texts(alloc, &mut chance, scale, digest),
         _ => bail!("there is no such job"),
     }
 }

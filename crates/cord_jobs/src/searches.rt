@@ -25,8 +25,11 @@ const ABSENT: u8 = b'#';
 
 const NEEDLE: &[u8] = b"the very # end";
 
+/// What an insertion puts in.
+pub const PUT_IN: &[u8] = b"0123456789";
+
 /// A number or none, digested.
-fn told(digest: &mut Digest, found: Option<u64>) {
+pub fn told(digest: &mut Digest, found: Option<u64>) {
     digest.number(found.unwrap_or(u64::MAX));
 }
 
@@ -56,7 +59,7 @@ fn insert(
 }
 
 /// So many insertions into a text, at places that chance picks.
-fn insert_often(
+pub fn insert_often(
     store: &mut Store<Coded>,
     chance: &mut Chance,
     text: Rope,
@@ -68,13 +71,13 @@ fn insert_often(
     let mut text = text;
     for _ in 0..edits {
         let place = chance.up_to(store.len(text));
-        text = insert(store, text, place, b"0123456789")?;
+        text = insert(store, text, place, PUT_IN)?;
     }
     Ok(text)
 }
 
 /// The text of source 0.
-fn source_text(store: &mut Store<Coded>, len: u64) -> Result<Rope, NodeFault>
+pub fn source_text(store: &mut Store<Coded>, len: u64) -> Result<Rope, NodeFault>
     ensures { IfOk result (IsRope (table_of coded_byte store.new)) }
 {
     let source = store.add_source(len)?;
@@ -82,7 +85,7 @@ fn source_text(store: &mut Store<Coded>, len: u64) -> Result<Rope, NodeFault>
 }
 
 /// Bytes in literals of so many, one behind the other.
-fn in_literals(store: &mut Store<Coded>, bytes: &[u8], len: usize) -> Result<Rope, BalanceFault>
+pub fn in_literals(store: &mut Store<Coded>, bytes: &[u8], len: usize) -> Result<Rope, BalanceFault>
     requires { 0 < len }
     ensures { IfOk result (IsRope (table_of coded_byte store.new)) }
 {
