@@ -10,29 +10,42 @@ use script_tools::{LogTexts, run_log};
 use std::alloc::Global;
 
 /// Checks an image, which is accepted.
-fn check(alloc: Global, image: &[u8], digest: &mut Digest) -> Result<()> {
-    let mut sources = MemSources::new(alloc);
+pub fn check(
+    alloc: Global,
+    image: &[u8],
+    sources: &mut MemSources<'_>,
+    digest: &mut Digest,
+) -> Result<()> {
     let expected = image.len() as u64;
-    match run_check(alloc, image, expected, &mut sources, None, digest) {
+    match run_check(alloc, image, expected, sources, None, digest) {
         Ok(Status::Success) => Ok(()),
         _ => bail!("an image was not accepted"),
     }
 }
 
-/// Writes the text of the last of so many revisions.
-fn show(alloc: Global, image: &[u8], revision: u64, digest: &mut Digest) -> Result<()> {
-    let mut sources = MemSources::new(alloc);
+/// Writes the text of a revision.
+pub fn show(
+    alloc: Global,
+    image: &[u8],
+    sources: &mut MemSources<'_>,
+    revision: u64,
+    digest: &mut Digest,
+) -> Result<()> {
     let expected = image.len() as u64;
-    if run_show(alloc, image, expected, &mut sources, None, revision, digest).is_err() {
+    if run_show(alloc, image, expected, sources, None, revision, digest).is_err() {
         bail!("a revision was not shown");
     }
     Ok(())
 }
 
 /// Writes the script of an image.
-fn log(alloc: Global, image: &[u8], digest: &mut Digest) -> Result<()> {
-    let mut sources = MemSources::new(alloc);
-    if run_log(alloc, image, &mut sources, None, LogTexts::Whole, digest).is_err() {
+pub fn log(
+    alloc: Global,
+    image: &[u8],
+    sources: &mut MemSources<'_>,
+    digest: &mut Digest,
+) -> Result<()> {
+    if run_log(alloc, image, sources, None, LogTexts::Whole, digest).is_err() {
         bail!("an image was not logged");
     }
     Ok(())
@@ -49,9 +62,10 @@ pub fn check_texts(
     let times = scale.saturating_mul(150);
     for _ in 0..scale / 7 + 1 {
         let image = changed(alloc, chance, levels, times)?;
-        check(alloc, &image, digest)?;
-        show(alloc, &image, times.saturating_add(1), digest)?;
-        log(alloc, &image, digest)?;
+        let none = &mut MemSources::new(alloc);
+        check(alloc, &image, none, digest)?;
+        show(alloc, &image, none, times.saturating_add(1), digest)?;
+        log(alloc, &image, none, digest)?;
     }
     Ok(())
 }
@@ -65,8 +79,9 @@ pub fn check_bytes(
 ) -> Result<()> {
     let doublings = if scale < 10 { 8 } else { 16 };
     let times = scale.saturating_mul(2) / 5 + 1;
+    let none = &mut MemSources::new(alloc);
     let image = deepest(alloc, chance, doublings, times)?;
-    check(alloc, &image, digest)?;
+    check(alloc, &image, none, digest)?;
     let image = two_shapes(alloc, chance, doublings, times)?;
-    check(alloc, &image, digest)
+    check(alloc, &image, none, digest)
 }

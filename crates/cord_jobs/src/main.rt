@@ -8,6 +8,7 @@ mod digest;
 mod finds;
 mod image;
 mod images;
+mod kept;
 mod keys;
 mod script;
 mod searches;
@@ -17,6 +18,7 @@ use crate::chance::Chance;
 use crate::checks::{check_bytes, check_texts};
 use crate::digest::Digest;
 use crate::finds::find_texts;
+use crate::kept::keep_sessions;
 use crate::keys::press_keys;
 use crate::searches::search_texts;
 use crate::sessions::{change_anywhere, type_keys};
@@ -30,8 +32,8 @@ const FULL: u64 = 100;
 const SMALL: u64 = 1;
 
 /// All jobs.
-const JOBS: [&str; 7] = [
-    "type", "anywhere", "check", "bytes", "keys", "search", "finds",
+const JOBS: [&str; 8] = [
+    "type", "anywhere", "check", "bytes", "keys", "search", "finds", "kept",
 ];
 
 /// Does a job, and digests what comes of it.
@@ -45,6 +47,7 @@ fn work(alloc: Global, job: &str, seed: u32, scale: u64, digest: &mut Digest) ->
         "keys" => press_keys(alloc, &mut chance, scale, digest),
         "search" => search_texts(alloc, &mut chance, scale, digest),
         "finds" => find_texts(alloc, &mut chance, scale, digest),
+        "kept" => keep_sessions(alloc, &mut chance, scale, digest),
         _ => bail!("there is no such job"),
     }
 }

@@ -8,7 +8,7 @@ use script_tools::run_apply;
 use std::alloc::Global;
 
 /// How long the source is that a session opens.
-const MEGABYTE: u64 = 1 << 20;
+pub const MEGABYTE: u64 = 1 << 20;
 
 /// The image of a script over a source of a megabyte, digested.
 fn apply(alloc: Global, script: &Script, digest: &mut Digest) -> Result<()> {
@@ -18,10 +18,15 @@ fn apply(alloc: Global, script: &Script, digest: &mut Digest) -> Result<()> {
     Ok(())
 }
 
-/// So many keys, from one place on.
-fn typed(alloc: Global, chance: &mut Chance, keys: u64) -> Result<Script> {
-    let mut script = Script::over(alloc, MEGABYTE)?;
-    let place = chance.below(MEGABYTE);
+/// So many keys, from one place of a text on.
+pub fn typed(
+    alloc: Global,
+    chance: &mut Chance,
+    len: u64,
+    place: u64,
+    keys: u64,
+) -> Result<Script> {
+    let mut script = Script::over(alloc, len)?;
     for k in 0..keys {
         script.insert(chance, place.saturating_add(k), 1)?;
     }
@@ -96,7 +101,7 @@ fn day(alloc: Global, chance: &mut Chance, commands: u64) -> Result<Script> {
 }
 
 /// So many times ten bytes anywhere, and at the end the text balanced.
-fn anywhere(alloc: Global, chance: &mut Chance, times: u64) -> Result<Script> {
+pub fn anywhere(alloc: Global, chance: &mut Chance, times: u64) -> Result<Script> {
     let mut script = Script::over(alloc, MEGABYTE)?;
     for _ in 0..times {
         let len = script.len(script.last());
@@ -108,7 +113,7 @@ fn anywhere(alloc: Global, chance: &mut Chance, times: u64) -> Result<Script> {
 }
 
 /// Many places of a text changed at once: 200 places, so many times, and for each four of these once 4,096.
-fn many(alloc: Global, chance: &mut Chance, times: u64) -> Result<Script> {
+pub fn many(alloc: Global, chance: &mut Chance, times: u64) -> Result<Script> {
     let mut script = Script::over(alloc, MEGABYTE)?;
     for k in 0..times {
         script.many(chance, 200, MEGABYTE / 200, 7)?;
@@ -126,7 +131,8 @@ pub fn type_keys(
     scale: u64,
     digest: &mut Digest,
 ) -> Result<()> {
-    let script = typed(alloc, chance, scale.saturating_mul(6000))?;
+    let place = chance.below(MEGABYTE);
+    let script = typed(alloc, chance, MEGABYTE, place, scale.saturating_mul(6000))?;
     apply(alloc, &script, digest)?;
     let script = day(alloc, chance, scale.saturating_mul(3000))?;
     apply(alloc, &script, digest)
