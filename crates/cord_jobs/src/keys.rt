@@ -6,7 +6,7 @@ use crate::chance::Chance;
 use crate::digest::Digest;
 use anyhow::{Result, bail};
 use cord_tools::run_edit;
-use lazy_file::{Device, DeviceError, FileSources};
+use lazy_file::{Device, DeviceError, FileSources, Sources};
 use std::alloc::Global;
 use std::num::NonZeroUsize;
 
@@ -16,25 +16,31 @@ const BLOCKS: usize = 256;
 /// So many letters are picked from.
 const LETTERS: u64 = 65_536;
 
-const LINE_START: u8 = 0x01;
+pub const MARK: u8 = 0x00;
 
-const LEFT: u8 = 0x02;
+pub const LINE_START: u8 = 0x01;
 
-const ERASE_AT: u8 = 0x04;
+pub const LEFT: u8 = 0x02;
 
-const LINE_END: u8 = 0x05;
+pub const ERASE_AT: u8 = 0x04;
+
+pub const LINE_END: u8 = 0x05;
 
 const RIGHT: u8 = 0x06;
 
 const ERASE_BEFORE: u8 = 0x08;
 
-const DOWN: u8 = 0x0E;
+pub const DOWN: u8 = 0x0E;
 
-const UP: u8 = 0x10;
+pub const UP: u8 = 0x10;
 
 const UNDO: u8 = 0x15;
 
-const SAVE: u8 = 0x18;
+pub const CUT: u8 = 0x17;
+
+pub const SAVE: u8 = 0x18;
+
+pub const PASTE: u8 = 0x19;
 
 /// A file in memory, which states none of its bytes.
 #[derive(Drop)]
@@ -127,8 +133,12 @@ fn keys(alloc: Global, chance: &mut Chance, down: u64, count: u64) -> Result<Vec
 }
 
 /// Edits a text by these keys: the frames and the image that is saved are digested.
-fn edit(alloc: Global, text: Vec<u8>, keys: &[u8], digest: &mut Digest) -> Result<()> {
-    let sources = opened(alloc, text)?;
+pub fn edit<S: Sources + Drop>(
+    alloc: Global,
+    sources: S,
+    keys: &[u8],
+    digest: &mut Digest,
+) -> Result<()> {
     let mut keys = keys;
     let mut image = Digest::new();
     if run_edit(alloc, sources, &mut keys, digest, &mut image).is_err() {
@@ -143,10 +153,10 @@ fn press_some(alloc: Global, chance: &mut Chance, scale: u64, digest: &mut Diges
     let text = prose(alloc, chance, scale.saturating_mul(160_000), true)?;
     let down = scale.saturating_mul(10);
     let pressed = keys(alloc, chance, down, scale.saturating_mul(100))?;
-    edit(alloc, text, &pressed, digest)?;
+    edit(alloc, opened(alloc, text)?, &pressed, digest)?;
     let text = prose(alloc, chance, scale.saturating_mul(20_000), false)?;
     let pressed = keys(alloc, chance, 0, scale.saturating_mul(2))?;
-    edit(alloc, text, &pressed, digest)
+    edit(alloc, opened(alloc, text)?, &pressed, digest)
 }
 
 /// The same for two pairs of texts, and of small ones for one pair.

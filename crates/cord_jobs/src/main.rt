@@ -10,6 +10,7 @@ mod image;
 mod images;
 mod kept;
 mod keys;
+mod lines;
 mod script;
 mod searches;
 mod sessions;
@@ -20,6 +21,7 @@ use crate::digest::Digest;
 use crate::finds::find_texts;
 use crate::kept::keep_sessions;
 use crate::keys::press_keys;
+use crate::lines::press_in_lines;
 use crate::searches::search_texts;
 use crate::sessions::{change_anywhere, type_keys};
 use anyhow::{Result, bail};
@@ -32,8 +34,8 @@ const FULL: u64 = 100;
 const SMALL: u64 = 1;
 
 /// All jobs.
-const JOBS: [&str; 8] = [
-    "type", "anywhere", "check", "bytes", "keys", "search", "finds", "kept",
+const JOBS: [&str; 9] = [
+    "type", "anywhere", "check", "bytes", "keys", "search", "finds", "kept", "lines",
 ];
 
 /// Does a job, and digests what comes of it.
@@ -48,6 +50,7 @@ fn work(alloc: Global, job: &str, seed: u32, scale: u64, digest: &mut Digest) ->
         "search" => search_texts(alloc, &mut chance, scale, digest),
         "finds" => find_texts(alloc, &mut chance, scale, digest),
         "kept" => keep_sessions(alloc, &mut chance, scale, digest),
+        "lines" => press_in_lines(alloc, &mut chance, scale, digest),
         _ => bail!("there is no such job"),
     }
 }
