@@ -35,6 +35,8 @@ echo "cordkit, many replacements in a megabyte, every revision kept with its row
 "$program" many
 echo "libstdc++ ext/rope, the same, no earlier text kept:"
 "$peer" many
+echo "cordkit, small calls that sessions and checks make again and again:"
+"$program" calls
 if pkg-config --exists absl_cord 2> /dev/null; then
     g++ -O2 -std=c++17 -o "$peer" bench/absl.cc $(pkg-config --cflags --libs absl_cord)
     echo "absl::Cord:"

@@ -1,10 +1,11 @@
 //! Times what runs often. The numbers differ from run to run, so they go to standard error.
-//! With the word `image` it writes an image to standard output instead, with `keys` it times the editor, and with `store` a million of each
-//! of the store's operations, with `many` many replacements by one command. With `limits` it fills a store and a pool, and tells on standard
-//! output how each refuses more.
+//! With the word `image` it writes an image to standard output instead, with `keys` it times the editor, with `store` a million of each of the
+//! store's operations, with `many` many replacements by one command, and with `calls` small calls that are made again and again. With `limits`
+//! it fills a store and a pool, and tells on standard output how each refuses more.
 #![tactic(auto)]
 
 mod balancing;
+mod calls;
 mod images;
 mod keys;
 mod limits;
@@ -23,6 +24,7 @@ fn main(rt: HostRuntime) -> Result<()> {
         Some(word) if word.as_str() == "keys" => keys::time(&rt),
         Some(word) if word.as_str() == "store" => time_store(&rt),
         Some(word) if word.as_str() == "many" => replacing::time(&rt),
+        Some(word) if word.as_str() == "calls" => calls::time(&rt),
         Some(word) if word.as_str() == "limits" => limits::tell(&rt),
         _ => time(&rt),
     }
