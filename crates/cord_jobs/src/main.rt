@@ -1,4 +1,5 @@
-//! The jobs that people wait for, each on inputs that it makes of a number: `cord_jobs JOB SEED`. It prints how many bytes came of a job and a digest of them, and no times; with no words it runs each job on small inputs.
+//! The jobs that people wait for, each on inputs that it makes of a number: `cord_jobs JOB SEED [SCALE]`, where the last word says how large they
+//! are (100). It prints how many bytes came of a job and a digest of them, and no times; with no words it runs each job on small inputs.
 //! bench/workloads.txt has the jobs, docs/PERF.md what they take.
 #![tactic(auto)]
 
@@ -66,11 +67,15 @@ fn run(rt: &HostRuntime, job: &str, seed: u32, scale: u64) -> Result<()> {
 
 fn main(rt: HostRuntime) -> Result<()> {
     let mut words = env::args(&rt)?;
-    let (job, seed) = (words.nth(1), words.next());
+    let (job, seed, scale) = (words.nth(1), words.next(), words.next());
     match (job, seed) {
         (Some(job), Some(seed)) => {
             let seed: u32 = seed.as_str().parse()?;
-            run(&rt, job.as_str(), seed, FULL)
+            let scale = match scale {
+                Some(scale) => scale.as_str().parse()?,
+                None => FULL,
+            };
+            run(&rt, job.as_str(), seed, scale)
         }
         _ => {
             for job in JOBS {
