@@ -7,6 +7,8 @@
 # make fuzz MINUTES=60  has the program and the second checker answer images that are made from those that reached something new
 # make audit     the edits that must be refused and that the gate has no time for
 # make bench     times the program beside the usual tools, on data that it makes
+# make speed OLD=..  times the jobs and the tools over files beside those of another built checkout; an error names what lost a twentieth in two runs
+# make instructions  counts the instructions of each job, where valgrind is installed, and compares them with bench/instructions.txt
 # make refuse    refuses each allocation of the tests' runs and of the program's in turn, and fails its reads and writes by real devices
 # make crate NAME=.. DEPS=".."  makes the folders and files of a new crate, and its line in crates.txt
 # make callers IMAGES=2100  builds the C library and its callers in C, Rust and Python, and compares their answers with each other and the program's
@@ -18,7 +20,7 @@
 # make deb       makes a package for Debian of what `make run` and `make library` built, or of PROGRAM=.. and LIBRARY=.., in the folder out
 # make installed tries all three in folders of their own, over what is built, or PROGRAM=.. and LIBRARY=..
 
-.PHONY: try run library check long hostile fuzz audit bench refuse callers wasm memcheck crate install uninstall deb installed
+.PHONY: try run library check long hostile fuzz audit bench speed instructions refuse callers wasm memcheck crate install uninstall deb installed
 
 IMAGE = crates/cordkit/stdin
 MINUTES = 10
@@ -27,6 +29,7 @@ DESTDIR =
 PROGRAM = crates/cordkit/out/cordkit
 LIBRARY = crates/cord_c/out/libcord_c.a
 IMAGES = 2100
+OLD =
 
 try:
 	(cd crates/cordkit && rt try) < "$(IMAGE)"
@@ -66,6 +69,13 @@ bench:
 	sh bench/tools.sh
 	sh bench/scripts.sh
 	sh bench/edit.sh
+
+speed:
+	@[ -d "$(OLD)" ] || { echo "make speed OLD=CHECKOUT: CONTRIBUTING.md tells how one is built" >&2; exit 2; }
+	status=0; bench/run --lost "$(OLD)" . || status=1; bench/files --lost "$(OLD)" . || status=1; exit $$status
+
+instructions:
+	bench/instructions
 
 refuse:
 	python3 tests/refused.py
