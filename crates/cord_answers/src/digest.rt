@@ -1,0 +1,57 @@
+//! A digest of all that is written, in place of the bytes.
+
+use std::io;
+
+/// How many bytes were written, and what they come to: FNV-1a of 64 bits.
+#[derive(Clone, Copy)]
+pub struct Digest {
+    count: u64,
+    sum: u64,
+}
+
+impl Digest {
+    pub fn new() -> Digest {
+        Digest {
+            count: 0,
+            sum: 0xCBF2_9CE4_8422_2325,
+        }
+    }
+
+    /// These bytes more.
+    pub fn take(&mut self, bytes: &[u8]) {
+        for byte in bytes {
+            self.sum = (self.sum ^ u64::from(*byte)).wrapping_mul(0x0000_0100_0000_01B3);
+        }
+        self.count = self.count.wrapping_add(bytes.len() as u64);
+    }
+
+    /// A number more.
+    pub fn number(&mut self, n: u64) {
+        self.take(&n.to_be_bytes());
+    }
+
+    /// What all of it comes to.
+    pub fn value(&self) -> u64 {
+        self.sum
+    }
+
+    /// How many bytes were written.
+    pub fn count(&self) -> u64 {
+        self.count
+    }
+}
+
+impl io::Write for Digest {
+    ghost use Rattle.std.specs.Prelude.{None};
+
+    ghost contents = { λ _. None };
+
+    fn write(&mut self, bytes: &[u8]) -> io::Result<usize> {
+        self.take(bytes);
+        Ok(bytes.len())
+    }
+
+    fn flush(&mut self) -> io::Result<()> {
+        Ok(())
+    }
+}

@@ -1,0 +1,161 @@
+#!/usr/bin/env python3
+"""Compares what cord_answers answers with what it answered at the start (c89b5a8), the state before the pass for speed:
+
+- with one program, the cases of tests/data/start_answers.txt, which the start's build printed;
+- with a second one, built at the start, so many seeds of each group, or of the groups that are named.
+
+An answer has to be the start's, but for frames: of a frame or a key its reads of the file have to be some of the start's, whole and in their order;
+a frame is the start's where the start showed one; where the start told a fault, a frame may be shown, or the same fault told. A run is compared up
+to the start's first fault of a frame. A case of the data that is known to be otherwise has the word DIFFERS on its first line, and fails once it is
+as at the start.
+
+Usage: tests/start_answers.py PROGRAM [OLD_PROGRAM SEEDS [GROUP]...]
+       tests/start_answers.py record OLD_PROGRAM PROGRAM    writes the data anew, by the start's build, and marks where PROGRAM answers otherwise
+The last line says how many cases were compared; the status is not 0 where one failed.
+"""
+
+import re
+import subprocess
+import sys
+
+sys.dont_write_bytecode = True
+from second_checker import TOP
+
+DATA = f"{TOP}/tests/data/start_answers.txt"
+# The groups, with how many cases of each stand in the data.
+GROUPS = {"joins": 60, "rows": 60, "images": 40, "numbers": 60, "places": 60, "frames": 120}
+MARK = "DIFFERS "
+FIRST_LINE = "# What cord_answers printed, built at c89b5a840511846e1a8afc02840af187766f6ca8 with this crate laid over it: tests/start_answers.py record"
+HEAD = re.compile(r"(DIFFERS )?(%s) (\d+):" % "|".join(GROUPS))
+TURN = re.compile(r"(frame|key [0-9a-f]{2}(?: times \d+)?)((?: \d\S*)*) -> (.*)")
+FRAME = re.compile(r"[0-9a-f]{16}")
+CHUNK = 50
+
+
+def cases_in(text):
+    """The cases of what was printed: the group, the seed, whether it is marked, and the lines without the mark."""
+    cases = []
+    for line in text.splitlines():
+        head = HEAD.match(line)
+        if head:
+            cases.append((head[2], int(head[3]), bool(head[1]), [line.removeprefix(MARK)]))
+        elif cases:
+            cases[-1][3].append(line)
+    return cases
+
+
+def printed(program, group, seed, count):
+    """The cases of a group that a program prints, by their seeds, and how it ended if it failed."""
+    ran = subprocess.run([program, group, str(seed), str(count)], stdout=subprocess.PIPE, stderr=subprocess.PIPE, text=True)
+    fault = f"status {ran.returncode}: {ran.stderr.strip()}" if ran.returncode else ""
+    return {case[1]: case[3] for case in cases_in(ran.stdout)}, fault
+
+
+def is_part(few, all_of_them):
+    """Whether these are some of those, in their order."""
+    left = iter(all_of_them)
+    return all(one in left for one in few)
+
+
+def turn_fault(old, new):
+    """What is wrong with a line of a run, beside the start's."""
+    was, now = TURN.fullmatch(old), TURN.fullmatch(new)
+    if not was or not now or was[1] != now[1]:
+        return "another line"
+    if not is_part(now[2].split(), was[2].split()):
+        return "a read that the start did not make"
+    if was[3] != now[3] and not (was[1] == "frame" and not FRAME.fullmatch(was[3]) and FRAME.fullmatch(now[3])):
+        return f"{now[3]} in place of {was[3]}"
+    return ""
+
+
+def run_fault(old, new):
+    """What is wrong with a run of frames and keys, beside the start's."""
+    if old[:1] != new[:1]:
+        return "another input"
+    for k, was in enumerate(old[1:], 1):
+        fault = turn_fault(was, new[k]) if k < len(new) else "the run ends early"
+        if fault:
+            return f"turn {k}: {fault}\n  start: {was}\n  now:   {new[k] if k < len(new) else ''}"
+    return ""
+
+
+def fault_of(group, old, new):
+    """What is wrong with a case, beside the start's."""
+    if group == "frames":
+        return run_fault(old, new)
+    if old == new:
+        return ""
+    k = next((k for k, (a, b) in enumerate(zip(old, new)) if a != b), min(len(old), len(new)))
+    return f"line {k}\n  start: {''.join(old[k:k + 1])}\n  now:   {''.join(new[k:k + 1])}"
+
+
+class Tally:
+    def __init__(self):
+        self.same, self.marked, self.failed = 0, 0, 0
+
+    def compare(self, group, seed, is_marked, old, new, ended):
+        fault = fault_of(group, old, new) if new is not None else f"no answer, {ended}"
+        if fault and is_marked:
+            self.marked += 1
+            print(f"known to be other: {group} {seed}")
+        elif fault or is_marked:
+            self.failed += 1
+            print(f"FAILED: {group} {seed}: {fault or 'it is as at the start: take the mark away'}")
+        else:
+            self.same += 1
+
+    def end(self):
+        print(f"{self.same} as at the start, {self.marked} known to be other, {self.failed} failed")
+        return 1 if self.failed or not self.same else 0
+
+
+def compare_data(program):
+    with open(DATA) as file:
+        cases = cases_in(file.read())
+    tally = Tally()
+    for group in GROUPS:
+        kept = [case for case in cases if case[0] == group]
+        found, ended = printed(program, group, 0, len(kept)) if kept else ({}, "")
+        for _, seed, is_marked, old in kept:
+            tally.compare(group, seed, is_marked, old, found.get(seed), ended)
+    return tally.end()
+
+
+def compare_builds(program, old_program, seeds, groups):
+    tally = Tally()
+    for group in groups:
+        for first in range(0, seeds, CHUNK):
+            count = min(CHUNK, seeds - first)
+            was, old_end = printed(old_program, group, first, count)
+            now, ended = printed(program, group, first, count)
+            for seed in range(first, first + count):
+                tally.compare(group, seed, False, was.get(seed, [old_end]), now.get(seed), ended)
+    return tally.end()
+
+
+def record(old_program, program):
+    with open(DATA, "w") as file:
+        file.write(f"{FIRST_LINE}\n")
+        for group, count in GROUPS.items():
+            was, ended = printed(old_program, group, 0, count)
+            now, _ = printed(program, group, 0, count)
+            if ended or len(was) != count:
+                sys.exit(f"{group}: {len(was)} cases, {ended}")
+            for seed in range(count):
+                mark = MARK if fault_of(group, was[seed], now.get(seed, [])) else ""
+                file.write(mark + "\n".join(was[seed]) + "\n")
+    return 0
+
+
+def main(words):
+    if words[:1] == ["record"] and len(words) == 3:
+        return record(*words[1:])
+    if len(words) == 1:
+        return compare_data(words[0])
+    if len(words) >= 3:
+        return compare_builds(words[0], words[1], int(words[2]), words[3:] or list(GROUPS))
+    sys.exit(__doc__)
+
+
+sys.exit(main(sys.argv[1:]))
