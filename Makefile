@@ -2,7 +2,9 @@
 # make run       proves and builds the program, and runs it on the stored image
 # make library   proves and builds the C library, and, where there is a C compiler, a shared one of it for Python
 # make check     the merge gate: every proof and test, an edit of each public function that must be refused, and the built program
-# make long      what takes more than a minute and is no proof, over the built program: random images and keys, failing devices, dear refusals
+# make long [OLD=..]  what takes more than a minute and is no proof, over the built program: random images and keys, failing devices, dear refusals;
+#                and, where OLD names a clone at c89b5a8 over which crates/cord_answers and its line of crates.txt were laid, in which
+#                `rt run` built that crate: more answers of both builds, compared
 # make hostile   has the program check images at the format's limits: ten minutes, 5 GB of memory and of disk
 # make fuzz MINUTES=60  has the program and the second checker answer images that are made from those that reached something new
 # make audit     the edits that must be refused and that the gate has no time for
@@ -49,7 +51,7 @@ check:
 	$(MAKE) installed
 
 long:
-	sh tests/long.sh
+	OLD="$(OLD)" sh tests/long.sh
 
 hostile:
 	python3 tests/hostile.py

@@ -10,6 +10,7 @@
 #   refusals that come behind much work               nothing more
 #   21,000 images by the callers of the C library     the library (make library); gcc, g++, rustc and python3, each for its own
 #   420 images by the page in a browser               the module (make wasm), chromium and python3
+#   4,000 answers of each group, as at the start      python3; the program cord_answers, and a clone at c89b5a8 with it, which OLD names
 #   every case of tests/program.sh, installed         nothing more; mandoc, file, bash, zsh and fish for what is installed beside
 set -u
 cd "$(dirname "$0")/.." || exit 1
@@ -59,6 +60,12 @@ if [ -f crates/cord_c/out/cord_c.wasm ]; then
     try 'the page in a browser' 'python3 chromium' python3 tests/browser.py 420
 else
     echo "NOT TRIED: the page in a browser: there is no crates/cord_c/out/cord_c.wasm: make wasm builds it"
+fi
+if [ -z "${OLD:-}" ]; then
+    echo "NOT TRIED: the answers of the start: OLD names no clone of it: make long OLD=.."
+else
+    answers=crates/cord_answers/out/cord_answers
+    try 'the answers of the start' python3 python3 tests/start_answers.py "$answers" "$OLD/$answers" 4000
 fi
 try 'what is installed' '' sh tests/install.sh crates/cordkit/out/cordkit all
 echo "$passed passed, $failed failed"

@@ -1,7 +1,8 @@
 #!/bin/sh
 # A slice of what `make long` and `make fuzz` run with python, with fixed seeds, in some seconds: the second checker on the worked images, damaged
 # images, keys, scripts, the inputs that the fuzzer kept, and sources of any size, over the program that `make run` built or the one that $1 names; the
-# history of README.md as a session, and what docs/SCRIPTS.md shows; images by the C library, through its Python module, where `make library` built it;
+# history of README.md as a session, and what docs/SCRIPTS.md shows; what the build before the pass for speed answered, beside the program
+# cord_answers, as the gate built it; images by the C library, through its Python module, where `make library` built it;
 # where there is gcc, each allocation of that program's runs refused, and of those of refusal_tests, as the gate built them; and whether docs/HEADLINE.md
 # is what specs/ say, each new name there one thing, and each call and clause there that a crate's README.md or docs/PROVED.md names. Where there is no
 # python3 nothing of it is tried, which is told. What a test left out is told too. The last line is 'N passed, M failed'; the status is not 0 where one
@@ -10,7 +11,7 @@ set -u
 top=$(cd "$(dirname "$0")/.." && pwd)
 program=${1:-$top/crates/cordkit/out/cordkit}
 if ! command -v python3 > /dev/null; then
-    echo "LEFT OUT: the second checker, damaged images, keys, scripts, the history of README.md, the inputs of the fuzzer, large sources, refused allocations, docs/HEADLINE.md, names, README.md and docs/PROVED.md: there is no python3 here"
+    echo "LEFT OUT: the second checker, damaged images, keys, scripts, the history of README.md, the inputs of the fuzzer, large sources, the answers of the start, refused allocations, docs/HEADLINE.md, names, README.md and docs/PROVED.md: there is no python3 here"
     echo "0 passed, 0 failed"
     exit 0
 fi
@@ -46,6 +47,12 @@ if [ -f "$top/crates/cord_c/out/libcord_c.so" ]; then
     try 'the C library' -B "$top/crates/cord_c/callers/compare.py" 420 "$program"
 else
     echo "LEFT OUT: the C library: there is no crates/cord_c/out/libcord_c.so: make library builds it"
+fi
+answers=$top/crates/cord_answers/out/cord_answers
+if [ -x "$answers" ]; then
+    try 'the answers of the start' "$top/tests/start_answers.py" "$answers"
+else
+    echo "LEFT OUT: the answers of the start: there is no crates/cord_answers/out/cord_answers: make check builds it"
 fi
 try 'each allocation refused' "$top/tests/refused.py" "$program"
 try 'the page of definitions' "$top/tests/headline.py"

@@ -25,9 +25,18 @@ impl Digest {
         self.count = self.count.wrapping_add(bytes.len() as u64);
     }
 
-    /// A number more.
-    pub fn number(&mut self, n: u64) {
-        self.take(&n.to_be_bytes());
+    /// A number more, in one step.
+    pub fn word(&mut self, n: u64) {
+        self.sum = (self.sum ^ n)
+            .wrapping_mul(0x9E37_79B9_7F4A_7C15)
+            .rotate_left(31);
+    }
+
+    /// Three numbers more.
+    pub fn words(&mut self, a: u64, b: u64, c: u64) {
+        self.word(a);
+        self.word(b);
+        self.word(c);
     }
 
     /// What all of it comes to.

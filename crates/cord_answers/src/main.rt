@@ -3,24 +3,41 @@
 #![tactic(auto)]
 
 mod chance;
+mod commands;
 mod device;
 mod digest;
 mod frames;
+mod images;
+mod joins;
+mod numbers;
+mod places;
 mod plans;
 mod report;
+mod rows;
 mod texts;
 mod turns;
 
 use crate::chance::Chance;
 use crate::frames::frames;
+use crate::images::images;
+use crate::joins::joins;
+use crate::numbers::numbers;
+use crate::places::places;
 use crate::report::Report;
+use crate::rows::rows;
 use anyhow::{Result, bail};
 use byte_output::write_bytes;
 use std::alloc::Global;
 use std::{env, io};
 
-/// The groups but frames, each with how many cases of it are printed where there are no words.
-const FIXED: [(&str, u64); 0] = [];
+/// The groups but frames, each with the first seed and how many cases are printed where there are no words.
+const FIXED: [(&str, u64, u64); 5] = [
+    ("joins", 1, 10),
+    ("rows", 0, 6),
+    ("images", 0, 4),
+    ("numbers", 20, 4),
+    ("places", 0, 12),
+];
 
 /// A case of a group.
 fn answer(alloc: Global, group: &str, seed: u64, report: &mut Report) -> Result<()> {
@@ -28,6 +45,11 @@ fn answer(alloc: Global, group: &str, seed: u64, report: &mut Report) -> Result<
     report.entry(" ", seed)?;
     match group {
         "frames" => frames(alloc, &mut Chance::new(1, seed), seed, report),
+        "joins" => joins(alloc, &mut Chance::new(2, seed), seed, report),
+        "rows" => rows(alloc, &mut Chance::new(3, seed), report),
+        "images" => images(alloc, &mut Chance::new(4, seed), report),
+        "numbers" => numbers(alloc, &mut Chance::new(5, seed), seed, report),
+        "places" => places(alloc, &mut Chance::new(6, seed), report),
         _ => bail!("there is no such group"),
     }
 }
@@ -53,8 +75,8 @@ fn main(rt: HostRuntime) -> Result<()> {
             run(&rt, group.as_str(), seed, cases)
         }
         _ => {
-            for (group, cases) in FIXED {
-                run(&rt, group, 0, cases)?;
+            for (group, seed, cases) in FIXED {
+                run(&rt, group, seed, cases)?;
             }
             Ok(())
         }

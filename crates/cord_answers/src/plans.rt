@@ -67,7 +67,9 @@ fn byte_near(chance: &mut Chance, place: u64, len: u64) -> u64 {
     let border = near / BLOCK * BLOCK;
     match chance.below(10) {
         0..3 => border.saturating_add(chance.below(5)).saturating_sub(2),
-        3..6 => border.saturating_add(chance.below(1200)).saturating_sub(600),
+        3..6 => border
+            .saturating_add(chance.below(1200))
+            .saturating_sub(600),
         6..8 => near,
         8 => place.saturating_sub(chance.below(2 * BLOCK)),
         _ => chance.below(len),
@@ -146,7 +148,11 @@ fn by_chance(alloc: Global, chance: &mut Chance) -> Result<Plan> {
         text,
         turns,
         since,
-        most: if chance.below(12) == 0 { 1000 } else { usize::MAX },
+        most: if chance.below(12) == 0 {
+            1000
+        } else {
+            usize::MAX
+        },
         is_shown: chance.below(3) == 0,
     })
 }

@@ -29,6 +29,18 @@ impl Report {
         Ok(())
     }
 
+    /// These bytes.
+    pub fn append(&mut self, bytes: &[u8]) -> Result<()> {
+        self.bytes.extend_from_slice(bytes)?;
+        Ok(())
+    }
+
+    /// One byte.
+    pub fn byte(&mut self, byte: u8) -> Result<()> {
+        self.bytes.push(byte)?;
+        Ok(())
+    }
+
     /// A number.
     pub fn number(&mut self, n: u64) -> Result<()> {
         let mut digits = Buffer::new();
