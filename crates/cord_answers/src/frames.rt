@@ -7,7 +7,7 @@ use crate::device::{File, Trouble, Watch};
 use crate::digest::Digest;
 use crate::plans::{Plan, plan_of};
 use crate::report::Report;
-use crate::turns::Turn;
+use crate::turns::{BREAK, Turn};
 use anyhow::{Result, bail};
 use lazy_file::{FileSources, SourceFault};
 use screen_editor::{Editor, FrameFault};
@@ -79,11 +79,15 @@ fn press(editor: &mut Screen<'_>, key: u8, times: u64) -> Option<&'static str> {
     refusal
 }
 
-/// A turn, and whether the run goes on behind it.
-fn take(editor: &mut Screen<'_>, watch: &Watch, turn: Turn, report: &mut Report) -> Result<bool> {
+/// What a turn's keys read, where there was one key, and the last refusal.
+fn tell_turn(
+    watch: &Watch,
+    turn: Turn,
+    refusal: Option<&'static str>,
+    report: &mut Report,
+) -> Result<()> {
     report.words("key ")?;
     report.hex(u64::from(turn.key), 2)?;
-    let refusal = press(editor, turn.key, turn.times);
     if turn.times == 1 {
         watch.tell(report)?;
     } else {
@@ -92,7 +96,16 @@ fn take(editor: &mut Screen<'_>, watch: &Watch, turn: Turn, report: &mut Report)
     }
     report.words(" -> ")?;
     report.words(refusal.unwrap_or("ok"))?;
-    report.end()?;
+    report.end()
+}
+
+/// A turn, and whether the run goes on behind it. Typed bytes that are taken are told only where a frame is made.
+fn take(editor: &mut Screen<'_>, watch: &Watch, turn: Turn, report: &mut Report) -> Result<bool> {
+    let refusal = press(editor, turn.key, turn.times);
+    let is_typed = turn.key >= b' ' || turn.key == BREAK;
+    if turn.is_shown || refusal.is_some() || !is_typed {
+        tell_turn(watch, turn, refusal, report)?;
+    }
     if turn.is_shown {
         show(editor, watch, report)
     } else {
