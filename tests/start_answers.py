@@ -7,16 +7,20 @@
 An answer has to be the start's, but for frames: of a frame or a key its reads of the file have to be some of the start's, whole and in their order;
 a frame is the start's where the start showed one; where the start told a fault, a frame may be shown, or the same fault told. A run is compared up
 to the start's first fault of a frame. A case of the data that is known to be otherwise has the word DIFFERS on its first line, and fails once it is
-as at the start.
+as at the start. Behind these cases each allocation of some runs of frames is refused, by tests/refuse.c, where there is gcc: what is told is then the
+same up to a line that tells `memory`, or the program ends without an answer. (The start's allocations are others, so no two builds are compared there.)
 
 Usage: tests/start_answers.py PROGRAM [OLD_PROGRAM SEEDS [GROUP]...]
        tests/start_answers.py record OLD_PROGRAM PROGRAM    writes the data anew, by the start's build, and marks where PROGRAM answers otherwise
 The last line says how many cases were compared; the status is not 0 where one failed.
 """
 
+import os
 import re
+import shutil
 import subprocess
 import sys
+import tempfile
 
 sys.dont_write_bytecode = True
 from second_checker import TOP
@@ -29,7 +33,10 @@ FIRST_LINE = "# What cord_answers printed, built at c89b5a840511846e1a8afc02840a
 HEAD = re.compile(r"(DIFFERS )?(%s) (\d+):" % "|".join(GROUPS))
 TURN = re.compile(r"(frame|key [0-9a-f]{2}(?: times \d+)?)((?: \d\S*)*) -> (.*)")
 FRAME = re.compile(r"[0-9a-f]{16}")
+MEMORY = re.compile(r".* -> (memory|source memory|Memory)")
 CHUNK = 50
+# Runs of frames of which each allocation is refused.
+REFUSED = (8, 14, 20)
 
 
 def cases_in(text):
@@ -119,7 +126,44 @@ def compare_data(program):
         found, ended = printed(program, group, 0, len(kept)) if kept else ({}, "")
         for _, seed, is_marked, old in kept:
             tally.compare(group, seed, is_marked, old, found.get(seed), ended)
+    refuse_each(program, tally)
     return tally.end()
+
+
+def refused_run(program, library, seed, number, counted):
+    """The lines of a run of frames of which an allocation is refused, whether it ended well, and how many allocations there were."""
+    env = {"LD_PRELOAD": library, "REFUSE_AT": str(number), "REFUSE_COUNTED": counted}
+    ran = subprocess.run([program, "frames", str(seed), "1"], stdout=subprocess.PIPE, stderr=subprocess.DEVNULL, text=True, env=env)
+    with open(counted) as file:
+        return ran.stdout.splitlines(), ran.returncode == 0, int(file.read())
+
+
+def is_refused_well(told, is_well, whole):
+    """Whether a run of which an allocation was refused told the same up to a line that tells `memory`, or nothing and failed."""
+    if told == whole:
+        return True
+    if not told:
+        return not is_well
+    k = next((k for k, (a, b) in enumerate(zip(told, whole)) if a != b), min(len(told), len(whole)))
+    return k < len(told) and MEMORY.fullmatch(told[k]) is not None
+
+
+def refuse_each(program, tally):
+    """Refuses each allocation of some runs of frames."""
+    if not shutil.which("gcc"):
+        print("LEFT OUT: refused allocations of frames: there is no gcc here")
+        return
+    with tempfile.TemporaryDirectory() as folder:
+        library, counted = f"{folder}/refuse.so", f"{folder}/counted"
+        subprocess.run(["gcc", "-O2", "-shared", "-fPIC", "-o", library, f"{TOP}/tests/refuse.c"], check=True)
+        for seed in REFUSED:
+            whole, _, count = refused_run(program, library, seed, 0, counted)
+            for number in range(1, count + 1):
+                told, is_well, _ = refused_run(program, library, seed, number, counted)
+                if not is_refused_well(told, is_well, whole):
+                    tally.failed += 1
+                    print(f"FAILED: frames {seed}, with allocation {number} refused: {told}")
+            print(f"frames {seed}: {count} allocations refused")
 
 
 def compare_builds(program, old_program, seeds, groups):
@@ -150,11 +194,11 @@ def record(old_program, program):
 
 def main(words):
     if words[:1] == ["record"] and len(words) == 3:
-        return record(*words[1:])
+        return record(*map(os.path.abspath, words[1:]))
     if len(words) == 1:
-        return compare_data(words[0])
+        return compare_data(os.path.abspath(words[0]))
     if len(words) >= 3:
-        return compare_builds(words[0], words[1], int(words[2]), words[3:] or list(GROUPS))
+        return compare_builds(*map(os.path.abspath, words[:2]), int(words[2]), words[3:] or list(GROUPS))
     sys.exit(__doc__)
 
 

@@ -5,27 +5,16 @@ use crate::report::Report;
 use anyhow::Result;
 use edit_commands::Session;
 use edit_script::{Room, Stop, Stopped, apply_script};
-use rope_node::Rope;
 use std::alloc::Global;
 
 /// How many bytes are put in, filled, taken away or cut.
 const COUNTS: [u64; 14] = [0, 1, 2, 5, 10, 30, 31, 32, 33, 100, 1000, 4095, 4097, 9000];
 
-/// A command in the making: its first words, and the line.
+/// A command in the making: its first word, and the line.
 #[derive(Drop)]
 pub struct Line {
     pub name: &'static str,
     pub text: Report,
-}
-
-/// The root of a revision, where it is a rope of the session.
-pub fn root_of(session: &Session, r: u32) -> Rope {
-    let root = session.root(r).unwrap_or(None);
-    if session.space().has(root) {
-        root
-    } else {
-        None
-    }
 }
 
 /// How long the text of a revision is.
@@ -108,104 +97,80 @@ fn push_changes(line: &mut Line, chance: &mut Chance, len: u64, count: u64) -> R
     Ok(())
 }
 
-/// A command of a revision on others: whole texts joined, cut, pasted, gone back to.
+/// A command that has numbers alone.
+pub fn numbered(alloc: Global, name: &'static str, numbers: &[u64]) -> Result<Line> {
+    let mut line = Line::new(alloc, name)?;
+    line.numbers(numbers)?;
+    Ok(line)
+}
+
+/// A command that has numbers and then so many letters.
+pub fn lettered(
+    alloc: Global,
+    name: &'static str,
+    numbers: &[u64],
+    chance: &mut Chance,
+    n: u64,
+) -> Result<Line> {
+    let mut line = numbered(alloc, name, numbers)?;
+    line.letters(chance, n)?;
+    Ok(line)
+}
+
+/// A command that takes all or parts of a revision's text, or opens a source.
 fn whole_command(
     alloc: Global,
     session: &Session,
     chance: &mut Chance,
-    r: u32,
-    len: u64,
+    r: u64,
+    p: u64,
 ) -> Result<Line> {
     let q = pick_revision(session, chance);
-    let i = pick_place(chance, text_len(session, q));
-    let n = pick_count(chance, text_len(session, q).saturating_sub(i));
-    let p = pick_place(chance, len);
-    let (first, second) = (u64::from(r), u64::from(q));
+    let len = text_len(session, q);
+    let i = pick_place(chance, len);
+    let n = pick_count(chance, len.saturating_sub(i));
+    let q = u64::from(q);
     match chance.below(12) {
-        0..4 => {
-            let mut line = Line::new(alloc, "paste")?;
-            line.numbers(&[first, p, second, i, n])?;
-            Ok(line)
-        }
-        4 => {
-            let mut line = Line::new(alloc, "join")?;
-            line.numbers(&[first, second])?;
-            Ok(line)
-        }
-        5 | 6 => {
-            let mut line = Line::new(alloc, "cut")?;
-            line.numbers(&[second, i, n])?;
-            Ok(line)
-        }
-        7 | 8 => {
-            let mut line = Line::new(alloc, "back")?;
-            line.numbers(&[second])?;
-            Ok(line)
-        }
-        9 => {
-            let mut line = Line::new(alloc, "open")?;
-            line.numbers(&[chance.below(3)])?;
-            Ok(line)
-        }
-        _ => {
-            let mut line = Line::new(alloc, "balance")?;
-            line.numbers(&[second])?;
-            Ok(line)
-        }
+        0..4 => numbered(alloc, "paste", &[r, p, q, i, n]),
+        4 => numbered(alloc, "join", &[r, q]),
+        5 | 6 => numbered(alloc, "cut", &[q, i, n]),
+        7 | 8 => numbered(alloc, "back", &[q]),
+        9 => numbered(alloc, "open", &[chance.below(3)]),
+        _ => numbered(alloc, "balance", &[q]),
     }
+}
+
+/// A command of many changes.
+fn many_command(alloc: Global, chance: &mut Chance, r: u64, len: u64) -> Result<Line> {
+    let mut line = numbered(alloc, "many", &[r])?;
+    let count = chance.pick(&[1, 2, 3, 20, 200]);
+    push_changes(&mut line, chance, len, count)?;
+    Ok(line)
 }
 
 /// A command by chance.
 pub fn any_command(alloc: Global, session: &Session, chance: &mut Chance) -> Result<Line> {
     if session.count() == 0 {
-        let mut line = Line::new(
-            alloc,
-            if chance.below(3) == 0 {
-                "new"
-            } else {
-                "open 0"
-            },
-        )?;
-        line.numbers(&[])?;
-        return Ok(line);
+        let first = if chance.below(3) == 0 {
+            "new"
+        } else {
+            "open 0"
+        };
+        return Line::new(alloc, first);
     }
     let r = pick_revision(session, chance);
     let len = text_len(session, r);
     let p = pick_place(chance, len);
     let m = pick_count(chance, len.saturating_sub(p));
     let n = chance.pick(&COUNTS);
-    let first = u64::from(r);
+    let r = u64::from(r);
     match chance.below(20) {
-        0..6 => {
-            let mut line = Line::new(alloc, "insert")?;
-            line.numbers(&[first, p])?;
-            line.letters(chance, n)?;
-            Ok(line)
-        }
-        6 | 7 => {
-            let mut line = Line::new(alloc, "delete")?;
-            line.numbers(&[first, p, m])?;
-            Ok(line)
-        }
-        8 | 9 => {
-            let mut line = Line::new(alloc, "replace")?;
-            line.numbers(&[first, p, m])?;
-            line.letters(chance, n)?;
-            Ok(line)
-        }
-        10 | 11 => {
-            let mut line = Line::new(alloc, "fill")?;
-            line.numbers(&[first, p, chance.below(256), n])?;
-            Ok(line)
-        }
-        12 => {
-            let mut line = Line::new(alloc, "many")?;
-            line.numbers(&[first])?;
-            let count = chance.pick(&[1, 2, 3, 20, 200]);
-            push_changes(&mut line, chance, len, count)?;
-            Ok(line)
-        }
-        _ => whole_command(alloc, session, chance, r, len),
+        0..6 => lettered(alloc, "insert", &[r, p], chance, n),
+        6 | 7 => numbered(alloc, "delete", &[r, p, m]),
+        8 | 9 => lettered(alloc, "replace", &[r, p, m], chance, n),
+        10 | 11 => numbered(alloc, "fill", &[r, p, chance.below(256), n]),
+        12 => many_command(alloc, chance, r, len),
+        _ => whole_command(alloc, session, chance, r, p),
     }
 }
 

@@ -6,7 +6,7 @@ ghost use Rattle.rope_node.specs.Denotes.{IsRope};
 ghost use Rattle.node_table.specs.Held.{table_of};
 
 use crate::chance::Chance;
-use crate::commands::{Line, any_command, apply_line, tell_stop};
+use crate::commands::{Line, any_command, apply_line, lettered, numbered, tell_stop};
 use crate::digest::Digest;
 use crate::report::Report;
 use crate::texts::even;
@@ -56,35 +56,26 @@ fn tell_rows(session: &Session, report: &mut Report) -> Result<()> {
 }
 
 /// Applies a line and tells what came of it.
-pub fn tell_command(
+fn tell_command(
     alloc: Global,
     session: &mut Session,
     line: &Line,
     report: &mut Report,
-) -> Result<bool> {
+) -> Result<()> {
     report.words(line.name)?;
     report.words(" -> ")?;
-    let is_taken = match apply_line(alloc, session, line.text.bytes()) {
-        Ok(()) => {
-            tell_rows(session, report)?;
-            true
-        }
-        Err(stopped) => {
-            tell_stop(alloc, stopped, report)?;
-            false
-        }
-    };
-    report.end()?;
-    Ok(is_taken)
+    match apply_line(alloc, session, line.text.bytes()) {
+        Ok(()) => tell_rows(session, report)?,
+        Err(stopped) => tell_stop(alloc, stopped, report)?,
+    }
+    report.end()
 }
 
 /// A line that puts some bytes in, where many of them make a rope deep.
 fn deepening(alloc: Global, session: &Session, chance: &mut Chance, place: u64) -> Result<Line> {
-    let mut line = Line::new(alloc, "insert")?;
-    line.numbers(&[u64::from(session.count().saturating_sub(1)), place])?;
+    let last = u64::from(session.count().saturating_sub(1));
     let n = chance.between(1, 40);
-    line.letters(chance, n)?;
-    Ok(line)
+    lettered(alloc, "insert", &[last, place], chance, n)
 }
 
 /// The last text joined with itself so often, and balanced: two roots of one text.
@@ -96,14 +87,12 @@ fn double_and_balance(
 ) -> Result<()> {
     for _ in 0..chance.below(8) {
         let last = u64::from(session.count().saturating_sub(1));
-        let mut line = Line::new(alloc, "join")?;
-        line.numbers(&[last, last])?;
+        let line = numbered(alloc, "join", &[last, last])?;
         tell_command(alloc, session, &line, report)?;
     }
-    let mut line = Line::new(alloc, "balance")?;
-    line.numbers(&[u64::from(session.count().saturating_sub(1))])?;
-    tell_command(alloc, session, &line, report)?;
-    Ok(())
+    let last = u64::from(session.count().saturating_sub(1));
+    let line = numbered(alloc, "balance", &[last])?;
+    tell_command(alloc, session, &line, report)
 }
 
 /// A session that commands by chance make.

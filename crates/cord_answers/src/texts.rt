@@ -51,7 +51,7 @@ impl Lines {
 /// Lines of one length up to so many bytes, where the last may be cut.
 pub fn even(alloc: Global, size: u64, len: u64) -> Result<Vec<u8>> {
     let mut lines = Lines::new(alloc, len);
-    for _ in 0..size / 2 + 1 {
+    for _ in 0..size {
         if lines.bytes.len() as u64 >= size {
             break;
         }
