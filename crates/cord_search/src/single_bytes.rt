@@ -34,12 +34,35 @@ pub fn chr<S: NodeSpace, T: Sources>(
     ensures reads { ReadsSpan (T.reading sources.old) (T.reading sources.new)
         (rope_cell (S.table space.now) x) i (rope_len (S.table space.now) x) result }
 {
+    chr_with(alloc, space, sources, x, i, c, &mut [0; PIECE])
+}
+
+/// The same, by the same reads, with a buffer that is handed in. What it holds then is not said.
+///
+/// # Errors
+///
+/// A source's fault, where a byte is one of that source and the read of it failed.
+pub fn chr_with<S: NodeSpace, T: Sources>(
+    alloc: Global,
+    space: &S,
+    sources: &mut T,
+    x: Rope,
+    i: u64,
+    c: u8,
+    buffer: &mut [u8; PIECE],
+) -> Result<Option<u64>, SourceFault>
+    requires { IsRope (S.table space.now) x }
+    ensures inside { IfOk result (IsFromOn (c ∷ []) i (rope_len (S.table space.now) x)) }
+    ensures found { IfOk result
+        (FindsFirst (S.table space.now) (T.reading sources.old).stated x (c ∷ []) i) }
+    ensures reads { ReadsSpan (T.reading sources.old) (T.reading sources.new)
+        (rope_cell (S.table space.now) x) i (rope_len (S.table space.now) x) result }
+{
     let len = rope_len(space, x);
     let mut pos = Pos::set(alloc, space, x, i);
-    let mut buffer = [0; PIECE];
     let mut place = i;
     while place < len {
-        let run = next_run(&pos, sources, len - place, &mut buffer)?;
+        let run = next_run(&pos, sources, len - place, buffer)?;
         if let Some(k) = memchr(c, run) {
             return Ok(Some(place + k as u64));
         }

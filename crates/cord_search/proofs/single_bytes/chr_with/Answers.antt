@@ -9,7 +9,7 @@ use Rattle.cord_search.proofs.Fetches.{text_length}
 use Rattle.cord_search.proofs.Reaching.{byte_there, failed_there, later_place, there_len}
 use Rattle.cord_search.proofs.Repeats.{clear_there}
 use Rattle.cord_search.proofs.Standing.{none_past}
-use Rattle.cord_search.proofs.single_bytes.chr.Goals as goal
+use Rattle.cord_search.proofs.single_bytes.chr_with.Goals as goal
 
 pub returns-in_err-run-clause-reads : goal.returns-in_err-run-clause-reads
 returns-in_err-run-clause-reads g c =

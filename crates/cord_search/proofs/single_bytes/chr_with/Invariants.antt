@@ -3,7 +3,7 @@ use Rattle.rope_node.specs.Denotes.{rope_len}
 use Rattle.cord_search.specs.Stated.{OfSpan}
 use Rattle.cord_search.specs.Reached.{StandsAtPlace}
 use Rattle.cord_search.specs.Places.{StandsAt}
-use Rattle.cord_search.proofs.single_bytes.chr.Given as goal
+use Rattle.cord_search.proofs.single_bytes.chr_with.Given as goal
 
 -- the sources are as they were, and no read of them has failed
 abbrev pub invariant-loop-place : goal.invariant-loop-place
