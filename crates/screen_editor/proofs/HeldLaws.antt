@@ -1,13 +1,16 @@
 -- Bytes of a text that are held, and the line breaks among them.
-use Rattle.std.proofs.Common.{◌≡◌, ℕ, ◌+◌, ◌-◌, ◌<◌, ◌≤◌, Bool, not, cond, List, [], ◌++◌, length, take, drop, reverse, inl, inr, refl, sym, ap, subst, ◌∙◌, arith}
+use Rattle.std.proofs.Common.{◌≡◌, ℕ, zero, suc, ◌+◌, ◌-◌, ◌<◌, ◌≤◌, Bool, true, not, cond, List, [], ◌∷◌, ◌++◌, length, take, drop, get_or, reverse, inl, inr, refl, sym, ap, subst, ◌∙◌, add-one, arith}
 use Rattle.std.specs.List.{position_or_len, prefix_len, suffix_len}
-use Rattle.std.proofs.lemmas.Bool.{cases_lt, lt-ltb, le-ltb, ne_eqb}
-use Rattle.std.proofs.lemmas.List.{take-take, drop_all, take-append-drop, take_all, take-append-le, drop-append-le, drop-take, drop-drop, length-take, length-drop, length-append, length-take-le, length-reverse, reverse-append}
+use Rattle.std.proofs.lemmas.Bool.{cases_Bool, cases_lt, lt-ltb, le-ltb, ne_eqb, eq-eqb}
+use Rattle.std.proofs.lemmas.List.{take-take, drop_all, take-append-drop, take_all, drop-take, drop-drop, get_or-drop, get_or-take, length-take, length-drop, length-append, length-take-le, length-reverse, reverse-append}
 use Rattle.std.proofs.lemmas.List.Folds.{prefix_len-append}
-use Rattle.std.proofs.Math.Seq.{drop-append_seam, take-add, take-append-add}
+use Rattle.std.proofs.lemmas.List.Sums.{prefix_len-le-length, suffix_len-take_yes, suffix_len-take_no}
+use Rattle.std.proofs.Math.Seq.{drop-append_seam, take-add}
 use Rattle.screen_editor.specs.HeldBytes.{HeldPart, held_up_to, held_starting_at, AreHeld}
-use Rattle.screen_editor.specs.Lines.{is_break, column, line_start}
-use borrow.Rule.Slice.PartMut.{Post-is, post_of, put_mid}
+use Rattle.screen_editor.specs.Lines.{is_break, column, line_start, line_end}
+use Rattle.screen_editor.proofs.LineLaws.{stands_tells}
+use Rattle.cord_search.specs.Places.{StandsAt}
+use borrow.Rule.Slice.PartMut.{Post-is, put_mid}
 
 -- ---- more bytes
 
@@ -25,59 +28,23 @@ held_together t a b from front back =
     }
 
 -- what is written before those in the array is held with them
-written_before : (arr near : List ℕ) (first start end : ℕ) → first ≤ start → start ≤ end → end ≤ length arr → length near ≡ start - first
-    → take (end - first) (drop first (put_mid first (start - first) arr near)) ≡ near ++ take (end - start) (drop start arr)
-written_before arr near first start end before inside all long =
+written_before : (arr near : List ℕ) (first start : ℕ) → first ≤ start → start ≤ length arr → drop first (put_mid first (start - first) arr near) ≡ near ++ drop start arr
+written_before arr near first start before inside =
     let pre = take first arr in
     let rest = drop start arr in
-    let front : length pre ≡ first = length-take-le first arr (omega (arith, before, inside, all)) in
-    let sum : end - first ≡ length near + (end - start) = omega (arith, long, before, inside) in
-    ap (λ (xs : List ℕ). take (end - first) (drop first (pre ++ (near ++ xs)))) (Post-is first start arr before)
-    ∙ ap (λ (k : ℕ). take (end - first) (drop k (pre ++ (near ++ rest)))) (sym front) ∙ ap (take (end - first)) (drop-append_seam pre (near ++ rest))
-    ∙ ap (λ (k : ℕ). take k (near ++ rest)) sum ∙ take-append-add near rest (end - start)
+    let front : length pre ≡ first = length-take-le first arr (omega (arith, before, inside)) in
+    ap (λ (xs : List ℕ). drop first (pre ++ (near ++ xs))) (Post-is first start arr before)
+    ∙ ap (λ (k : ℕ). drop k (pre ++ (near ++ rest))) (sym front) ∙ drop-append_seam pre (near ++ rest)
 
-pub more_before : (t near arr : List ℕ) (from first start end : ℕ) → first ≤ start → start ≤ end → end ≤ length arr → start - first ≤ from → length near ≡ start - first
-    → AreHeld (record { from = from; bytes = take (end - start) (drop start arr) }) t → near ≡ take (length near) (drop (from - (start - first)) t)
-    → AreHeld (record { from = from - (start - first); bytes = take (end - first) (drop first (put_mid first (start - first) arr near)) }) t
-more_before t near arr from first start end before inside all few long held is =
+pub more_before : (t near arr : List ℕ) (from first start : ℕ) → first ≤ start → start ≤ length arr → start - first ≤ from → length near ≡ start - first
+    → AreHeld (record { from = from; bytes = drop start arr }) t → near ≡ take (length near) (drop (from - (start - first)) t)
+    → AreHeld (record { from = from - (start - first); bytes = drop first (put_mid first (start - first) arr near) }) t
+more_before t near arr from first start before inside few long held is =
     let n = start - first in
     let at : from - n + length near ≡ from = omega (arith, few, long) in
-    let old : List ℕ = take (end - start) (drop start arr) in
+    let old : List ℕ = drop start arr in
     let front : AreHeld (record { from = from - n; bytes = near }) t = record { inside = omega (arith, held.inside, at); bytes = is } in
-    rw (written_before arr near first start end before inside all long) (held_together t near old (from - n) front (subst (λ (p : ℕ). AreHeld (record { from = p; bytes = old }) t) (sym at) held))
-
--- the same of the first n that are written behind them
-written_behind : (arr near : List ℕ) (start end last n : ℕ) → start ≤ end → end ≤ length arr → n ≤ length near
-    → take (end + n - start) (drop start (put_mid end (last - end) arr near)) ≡ take (end - start) (drop start arr) ++ take n near
-written_behind arr near start end last n inside all few =
-    let held = take (end - start) (drop start arr) in
-    let rest = post_of end (last - end) arr in
-    let pre : length (take end arr) ≡ end = length-take-le end arr all in
-    let ends : end ≡ start + (end - start) = omega (arith, inside) in
-    let old : drop start (take end arr) ≡ held = ap (λ (k : ℕ). drop start (take k arr)) ends ∙ drop-take start (end - start) arr in
-    let many : length held ≡ end - start = length-take-le (end - start) (drop start arr) (omega (arith, length-drop start arr, inside, all)) in
-    let sum : end + n - start ≡ length held + n = omega (arith, many, inside) in
-    ap (take (end + n - start)) (drop-append-le start (take end arr) (near ++ rest) (omega (arith, pre, inside)) ∙ ap (λ (xs : List ℕ). xs ++ (near ++ rest)) old)
-    ∙ ap (λ (k : ℕ). take k (held ++ (near ++ rest))) sum ∙ take-append-add held (near ++ rest) n ∙ ap (λ (xs : List ℕ). held ++ xs) (take-append-le n near rest few)
-
-pub more_behind : (t near arr : List ℕ) (from start end last n : ℕ) → start ≤ end → end ≤ length arr → n ≤ length near
-    → AreHeld (record { from = from; bytes = take (end - start) (drop start arr) }) t → from + (end - start) + n ≤ length t → take n near ≡ take n (drop (from + (end - start)) t)
-    → AreHeld (record { from = from; bytes = take (end + n - start) (drop start (put_mid end (last - end) arr near)) }) t
-more_behind t near arr from start end last n inside all few held short is =
-    let old : List ℕ = take (end - start) (drop start arr) in
-    let many : length old ≡ end - start = length-take-le (end - start) (drop start arr) (omega (arith, length-drop start arr, inside, all)) in
-    let long : length (take n near) ≡ n = length-take-le n near few in
-    let back : AreHeld (record { from = from + (end - start); bytes = take n near }) t = record {
-      inside = omega (arith, short, long);
-      bytes = is ∙ ap (λ (k : ℕ). take k (drop (from + (end - start)) t)) (sym long);
-    } in
-    rw (written_behind arr near start end last n inside all few) (held_together t old (take n near) from held (subst (λ (k : ℕ). AreHeld (record { from = from + k; bytes = take n near }) t) (sym many) back))
-
--- the last of those in the array
-pub last_held : (arr : List ℕ) (start end k : ℕ) → start + k ≤ end → take (end - (start + k)) (drop (start + k) arr) ≡ drop k (take (end - start) (drop start arr))
-last_held arr start end k inside =
-    let sum : end - start ≡ k + (end - (start + k)) = omega (arith, inside) in
-    sym (ap (λ (n : ℕ). drop k (take n (drop start arr))) sum ∙ drop-take k (end - (start + k)) (drop start arr) ∙ ap (take (end - (start + k))) (drop-drop k start arr))
+    rw (written_before arr near first start before inside) (held_together t near old (from - n) front (subst (λ (p : ℕ). AreHeld (record { from = p; bytes = old }) t) (sym at) held))
 
 -- ---- the first break behind a place
 
@@ -117,8 +84,17 @@ held_from t h place held =
           ])
     ]
 
-pub first_held : (t : List ℕ) (h : HeldPart) (place width : ℕ) → AreHeld h t → width ≤ length (held_starting_at h place) → take width (held_starting_at h place) ≡ take width (drop place t)
-first_held t h place width held few = ap (take width) (held_from t h place held) ∙ take-take width (length (held_starting_at h place)) (drop place t) few
+-- where none of the first n bytes from a place on is one, the line ends where it ends from behind them on
+pub end_behind : (t near : List ℕ) (place n : ℕ) → near ≡ take (length near) (drop place t) → length near ≡ n → length near ≤ position_or_len is_break near → line_end t place ≡ line_end t (place + n)
+end_behind t near place n front long none =
+    let width = position_or_len is_break near in
+    let rest = drop (length near) (drop place t) in
+    let whole : near ++ rest ≡ drop place t = ap (λ (ys : List ℕ). ys ++ rest) front ∙ take-append-drop (length near) (drop place t) in
+    let all : width ≡ length near = omega (arith, none, prefix_len-le-length (λ b. not (is_break b)) near) in
+    let far : position_or_len is_break (drop place t) ≡ length near + position_or_len is_break rest =
+    sym (ap (position_or_len is_break) whole) ∙ prefix_len-append (λ b. not (is_break b)) near rest ∙ ap (λ (b : Bool). cond b (length near + position_or_len is_break rest) width) (eq-eqb width (length near) all) in
+    let same : position_or_len is_break rest ≡ position_or_len is_break (drop (place + n) t) = ap (position_or_len is_break) (drop-drop (length near) place t ∙ ap (λ (k : ℕ). drop (place + k) t) long) in
+    omega (arith, far, same, long)
 
 -- ---- the last break before a place
 
@@ -173,3 +149,47 @@ start_is t h place width inside held at short =
     let near = held_up_to h place in
     let there = before_place t h place held in
     ap (λ (k : ℕ). place - k) (sym (near_column t near place (length near) width inside there.0 there.1 at short))
+
+-- where all elements are at the end of the list that pass, each of them does
+all_more : (p : ℕ → Bool) (xs : List ℕ) (m k : ℕ) → ((k : ℕ) → m ≤ length xs → suffix_len p (take m xs) ≡ m → k < m → p (get_or xs k 0) ≡ true)
+    → m + 1 ≤ length xs → suffix_len p (take (m + 1) xs) ≡ m + 1 → k < m + 1 → p (get_or xs k 0) ≡ true
+all_more p xs m k before inside all lt =
+    let at : m + 1 - 1 ≡ m = omega arith in
+    elim (cases_Bool (p (get_or xs (m + 1 - 1) 0))) [
+      | inl passes ↦
+          let more = suffix_len-take_yes p xs (m + 1) 0 (omega arith) inside passes in
+          let same : suffix_len p (take (m + 1 - 1) xs) ≡ suffix_len p (take m xs) = ap (λ (n : ℕ). suffix_len p (take n xs)) at in
+          elim (cases_lt k m) [
+            | inl below ↦ before k (omega (arith, inside)) (omega (arith, more, same, all)) below
+            | inr past ↦
+                let last : k ≡ m + 1 - 1 = omega (arith, past, lt) in
+                rw last passes
+          ]
+      | inr fails ↦
+          let none = suffix_len-take_no p xs (m + 1) 0 (omega arith) inside fails in
+          absurd (omega (arith, none, all))
+    ]
+
+all_pass : (p : ℕ → Bool) (xs : List ℕ) (n k : ℕ) → n ≤ length xs → suffix_len p (take n xs) ≡ n → k < n → p (get_or xs k 0) ≡ true
+all_pass p xs zero k inside all lt = absurd (omega (arith, lt))
+all_pass p xs (suc m) k inside all lt = all_more p xs m k (all_pass p xs m) (omega (arith, inside)) (rw (add-one m) all) (omega (arith, lt))
+
+-- where no break is among the bytes that are held before a place, none stands from the first of them up to there
+pub none_before : (t : List ℕ) (h : HeldPart) (place from : ℕ) → AreHeld h t → h.from ≤ from → place ≤ h.from + length h.bytes
+    → suffix_len (λ b. not (is_break b)) (held_up_to h place) ≡ length (held_up_to h place) → (k : ℕ) → from ≤ k → k < place → ¬ StandsAt (0x0A ∷ []) t k
+none_before t h place from held first last all k above below stands =
+    let plain = λ (b : ℕ). not (is_break b) in
+    let n = place - h.from in
+    let near = take n h.bytes in
+    let long : length near ≡ n = length-take-le n h.bytes (omega (arith, last)) in
+    let here : held_up_to h place ≡ near = rw (le-ltb (h.from + length h.bytes) place last) refl in
+    let j = k - h.from in
+    let inside : j < n = omega (arith, above, below, first) in
+    let whole : suffix_len plain (take n near) ≡ n = ap (suffix_len plain) (take_all n near (omega (arith, long)) ∙ sym here) ∙ all ∙ ap length here ∙ long in
+    let passes : plain (get_or near j 0) ≡ true = all_pass plain near n j (omega (arith, long)) whole inside in
+    let at : h.from + j ≡ k = omega (arith, above, first) in
+    let same : get_or near j 0 ≡ get_or t k 0 =
+    get_or-take n h.bytes j 0 inside ∙ ap (λ (xs : List ℕ). get_or xs j 0) held.bytes ∙ get_or-take (length h.bytes) (drop h.from t) j 0 (omega (arith, inside, last)) ∙ get_or-drop h.from t j 0 ∙ ap (λ (i : ℕ). get_or t i 0) at in
+    let byte : get_or t k 0 ≡ 10 = stands_tells t k 10 stands in
+    let passes : plain (get_or t k 0) ≡ true = ap plain (sym same) ∙ passes in
+    absurd (let told : plain 10 ≡ true = ap plain (sym byte) ∙ passes in cc)

@@ -1,9 +1,12 @@
 -- What a search for a line break tells of the lines of a text.
-use Rattle.std.proofs.Common.{◌≡◌, ℕ, zero, suc, ◌+◌, ◌-◌, ◌<◌, ◌≤◌, List, [], ◌∷◌, length, take, drop, get_or, Option, Some, None, true, false, Bool, refl, sym, ap, arith, ◌∙◌, not, min, nat_lt}
-use Rattle.std.proofs.lemmas.List.{get_or-drop, get_or-take, length-take, length-drop}
+use Rattle.std.proofs.Common.{◌≡◌, ℕ, zero, suc, ◌+◌, ◌-◌, ◌<◌, ◌≤◌, List, [], ◌∷◌, length, take, drop, get_or, ◌++◌, reverse, Option, Some, None, true, false, Bool, cond, refl, sym, ap, arith, ◌∙◌, not, min, nat_lt}
+use Rattle.std.proofs.lemmas.List.{get_or-drop, get_or-take, length-take, length-drop, length-reverse, reverse-append}
+use Rattle.std.proofs.lemmas.List.Folds.{prefix_len-append}
 use Rattle.std.proofs.lemmas.List.Sums.{position_or_len_is, suffix_len_is, suffix_len-le-length}
 use Rattle.std.proofs.lemmas.Bool.{ne_eqb, eq-eqb, lt-ltb}
+use Rattle.std.proofs.Math.Seq.{take-add}
 use Rattle.std.specs.Option.{unwrap_or}
+use Rattle.std.specs.List.{prefix_len, suffix_len}
 use Rattle.screen_editor.specs.Lines.{is_break, column, line_start, line_end, place_down}
 use Rattle.cord_search.specs.Places.{StandsAt, IsFirst, IsLast}
 
@@ -15,7 +18,7 @@ stands_here (x ∷ xs) (suc k) b lt e =
     let inside = h.inside in
     record { inside = omega (arith, inside); same = h.same }
 
-stands_tells : (t : List ℕ) (k b : ℕ) → StandsAt (b ∷ []) t k → get_or t k 0 ≡ b
+pub stands_tells : (t : List ℕ) (k b : ℕ) → StandsAt (b ∷ []) t k → get_or t k 0 ≡ b
 stands_tells [] k b h = let inside = h.inside in absurd (omega (arith, inside))
 stands_tells (x ∷ xs) zero b h = ap (λ (l : List ℕ). get_or l 0 0) h.same
 stands_tells (x ∷ xs) (suc k) b h = let inside = h.inside in stands_tells xs k b (record { inside = omega (arith, inside); same = h.same })
@@ -83,3 +86,24 @@ pub below_is : (t : List ℕ) (p start end below : ℕ) → start ≡ line_start
 below_is t p start end below s e lt b =
     let far : nat_lt (line_end t p) (length t) ≡ true = ap (λ (n : ℕ). nat_lt n (length t)) (sym e) ∙ lt-ltb end (length t) lt in
     rw (far, s, b, e, column_is t p) refl
+
+-- where no break stands from one place up to another, both are in one line
+pub same_start : (t : List ℕ) (back place : ℕ) → back ≤ place → place ≤ length t → ((k : ℕ) → back ≤ k → k < place → ¬ StandsAt (10 ∷ []) t k) → line_start t back ≡ line_start t place
+same_start t back place before inside none =
+    let plain = λ (b : ℕ). not (is_break b) in
+    let n = place - back in
+    let front = take back t in
+    let near = take n (drop back t) in
+    let sum : place ≡ back + n = omega (arith, before) in
+    let whole : take place t ≡ front ++ near = ap (λ (k : ℕ). take k t) sum ∙ take-add back n t in
+    let long : length near ≡ n = omega (arith, length-take n (drop back t), length-drop back t, inside) in
+    let passes : (j : ℕ) → 0 ≤ j → j < length near → plain (get_or near j 0) ≡ true = λ j _ lt.
+    let k = back + j in
+    let same : get_or near j 0 ≡ get_or t k 0 = get_or-take n (drop back t) j 0 (omega (arith, lt, long)) ∙ get_or-drop back t j 0 in
+    rw same (not_false (is_break (get_or t k 0)) (no_break (get_or t k 0) (λ e. none k (omega arith) (omega (arith, lt, long, sum)) (stands_here t k 10 (omega (arith, lt, long, sum, inside)) e)))) in
+    let all : suffix_len plain near ≡ length near = suffix_len_is plain near 0 0 (omega arith) passes (λ lt. absurd (omega (arith, lt))) ∙ omega arith in
+    let both : column t place ≡ length near + column t back =
+    ap (suffix_len plain) whole ∙ ap (prefix_len plain) (reverse-append front near) ∙ prefix_len-append plain (reverse near) (reverse front)
+    ∙ ap (λ (b : Bool). cond b (length (reverse near) + prefix_len plain (reverse front)) (prefix_len plain (reverse near))) (eq-eqb (prefix_len plain (reverse near)) (length (reverse near)) (all ∙ sym (length-reverse near)))
+    ∙ ap (λ (m : ℕ). m + column t back) (length-reverse near) in
+    omega (arith, both, long, before)

@@ -2,7 +2,8 @@
 use Rattle.std.proofs.Common.{◌≡◌, ℕ, ◌+◌, ◌-◌, ◌<◌, ◌≤◌, min, List, [], ◌∷◌, ◌++◌, length, map, take, drop, get_or, Some, None, inl, inr, refl, sym, ap, ◌∙◌, append_assoc, arith}
 use Rattle.std.specs.List.{slice_split, position_or_len, flat_map, range_with_len}
 use Rattle.std.proofs.lemmas.Bool.{cases_lt}
-use Rattle.std.proofs.lemmas.List.{get_or-drop, length-drop, length-take, take_all, take-take, drop-drop, drop-take, drop_all, append-nil, map-id}
+use Rattle.std.proofs.lemmas.List.{get_or-drop, length-drop, length-take, take_all, take-take, drop-drop, drop-take, drop_all, append-nil, map-append, map-id}
+use Rattle.std.proofs.Math.Seq.{take-add}
 use Rattle.std.proofs.lemmas.List.FromFn.{map-range_with_len_more}
 use Rattle.std.proofs.lemmas.List.Splits.{slice_split_none, slice_split_first}
 use Rattle.std.proofs.lemmas.List.Sums.{fails_before_first}
@@ -22,25 +23,18 @@ take_least m n xs =
           rw least (take-take m n xs enough)
     ]
 
--- the part of a line that is shown, taken from its bytes
-pub shown_part : (line : List ℕ) (left from count : ℕ) → from ≡ min left (length line) → count ≡ min (length line - from) SCREEN_COLUMNS
-    → take (from + count - from) (drop from line) ≡ take SCREEN_COLUMNS (drop left line)
-shown_part line left from count at few =
-    let all : from + count - from ≡ count = omega arith in
-    ap (λ (n : ℕ). take n (drop from line)) all
-    ∙ elim (cases_lt left (length line)) [
-      | inl short ↦
-          let same : from ≡ left = omega (arith, at, short) in
-          let least : count ≡ min (length (drop left line)) SCREEN_COLUMNS = omega (arith, few, same, length-drop left line) in
-          ap (λ (k : ℕ). take count (drop k line)) same ∙ ap (λ (k : ℕ). take k (drop left line)) least ∙ take_few SCREEN_COLUMNS (drop left line)
-      | inr past ↦
-          let none : count ≡ 0 = omega (arith, few, at, past) in
-          let gone : drop left line ≡ [] = drop_all left line past in
-          rw (none, gone) refl
-    ]
-  where
-    take_few : (n : ℕ) (xs : List ℕ) → take (min (length xs) n) xs ≡ take n xs
-    take_few n xs = sym (take_least n (length xs) xs) ∙ ap (take n) (take_all (length xs) xs (omega arith))
+-- more bytes are shown, behind those that were
+pub glyphs_more : (t old now new : List ℕ) (start place to : ℕ) → start ≤ place → place ≤ to → now ≡ old ++ map glyph (take (place - start) (drop start t))
+    → new ≡ now ++ map glyph (take (to - place) (drop place t)) → new ≡ old ++ map glyph (take (to - start) (drop start t))
+glyphs_more t old now new start place to from until had more =
+    let a = take (place - start) (drop start t) in
+    let b = take (to - place) (drop place t) in
+    let sum : to - start ≡ place - start + (to - place) = omega (arith, from, until) in
+    let back : start + (place - start) ≡ place = omega (arith, from) in
+    let rest : take (to - place) (drop (place - start) (drop start t)) ≡ b = ap (take (to - place)) (drop-drop (place - start) start t ∙ ap (λ (k : ℕ). drop k t) back) in
+    let both : take (to - start) (drop start t) ≡ a ++ b = ap (λ (k : ℕ). take k (drop start t)) sum ∙ take-add (place - start) (to - place) (drop start t) ∙ ap (λ (xs : List ℕ). a ++ xs) rest in
+    more ∙ ap (λ (xs : List ℕ). xs ++ map glyph b) had ∙ append_assoc old (map glyph a) (map glyph b)
+    ∙ ap (λ (xs : List ℕ). old ++ xs) (sym (ap (map glyph) both ∙ map-append glyph a b))
 
 -- the part of a line that is shown, taken from the text
 part_shown : (t : List ℕ) (start left end n : ℕ) → start ≤ end → end ≤ length t → n ≡ end - start - left
@@ -101,34 +95,6 @@ line_last t old new start left end n from whole is rest pushed =
     let past : length xs ≤ position_or_len is_break xs = omega (arith, is, whole, from, length-drop start t) in
     record {
       pushed = line_shown t old new start left end n from (omega (arith, whole)) is rest pushed;
-      rest = rw (only_line xs past) refl;
-    }
-
--- a line that ends among the bytes that are held
-held_shown : (t old new : List ℕ) (start left width : ℕ) → width ≡ position_or_len is_break (drop start t)
-    → new ≡ old ++ shown_of left (take width (drop start t)) → new ≡ old ++ shown_of left (get_or (lines_from t (Some start)) 0 [])
-held_shown t old new start left width at pushed =
-    let xs = drop start t in
-    pushed ∙ ap (λ (ys : List ℕ). old ++ shown_of left ys) (ap (λ (k : ℕ). take k xs) at ∙ sym (first_of xs))
-
-pub held_then : (t old new : List ℕ) (start left width : ℕ) → width ≡ position_or_len is_break (drop start t) → start + width < length t
-    → new ≡ old ++ shown_of left (take width (drop start t)) → PushesLine t (Some start) left (Some (start + width + 1)) old new
-held_then t old new start left width at inside pushed =
-    let xs = drop start t in
-    let broken : position_or_len is_break xs < length xs = omega (arith, at, inside, length-drop start t) in
-    let next : start + (position_or_len is_break xs + 1) ≡ start + width + 1 = omega (arith, at) in
-    record {
-      pushed = held_shown t old new start left width at pushed;
-      rest = rw (slice_split_first is_break xs 0 broken, drop-drop (position_or_len is_break xs + 1) start t, next) refl;
-    }
-
-pub held_last : (t old new : List ℕ) (start left width : ℕ) → width ≡ position_or_len is_break (drop start t) → length t ≤ start + width
-    → new ≡ old ++ shown_of left (take width (drop start t)) → PushesLine t (Some start) left None old new
-held_last t old new start left width at whole pushed =
-    let xs = drop start t in
-    let past : length xs ≤ position_or_len is_break xs = omega (arith, at, whole, length-drop start t) in
-    record {
-      pushed = held_shown t old new start left width at pushed;
       rest = rw (only_line xs past) refl;
     }
 

@@ -6,15 +6,13 @@ use Rattle.edit_commands.specs.Session.{texts_of}
 use Rattle.screen_editor.specs.declared.fault.KeyFault.{KeyFault}
 use Rattle.screen_editor.specs.declared.fault.KeyFault.TheVariants as Fault
 use Rattle.screen_editor.specs.declared.fault.End.{End}
-use Rattle.screen_editor.specs.declared.fault.End.TheVariants as End
 use Rattle.screen_editor.specs.declared.key.Key.{Key}
 use Rattle.screen_editor.specs.declared.key.Key.TheVariants.{Save, Leave}
 use Rattle.screen_editor.specs.declared.key.Step.{Step}
-use Rattle.screen_editor.specs.Editing.{Editing, EditorValue, over, state_of}
+use Rattle.screen_editor.specs.Editing.{Editing, EditorValue, state_of}
 use Rattle.screen_editor.specs.Keys.{answer_to, key_of, looks_for_lines}
 use Rattle.screen_editor.specs.Machine.{done}
 use Rattle.screen_editor.specs.Refusals.{IsPlainFault, KeyAsks, key_source_fault}
-use Rattle.screen_editor.specs.Revising.{TakesKey}
 use Rattle.screen_editor.specs.Runs.{Passes, Shows}
 use Rattle.screen_editor.specs.Turns.{IsTurn, Presses, TakesOne}
 use Rattle.screen_editor.proofs.KeyPlans.{makes_none, no_source}

@@ -18,9 +18,6 @@ use lazy_file::Sources;
 use rope_node::{NodeSpace, Rope, rope_len};
 use std::alloc::{AllocError, Global};
 
-/// Room for the bytes of a frame behind the first ones: 23 rows of 80 columns and line ends, and some for what stands below them.
-const FRAME_ROOM: usize = 2_048;
-
 /// Clears the screen, and goes to its first row and column.
 const CLEAR: &[u8] = b"\x1B[2J\x1B[H";
 
@@ -77,7 +74,6 @@ pub fn frame_about<S: NodeSpace, T: Sources>(
     let window = window_about(alloc, &mut held, space, sources, rope, place)?;
     let left = SCREEN_COLUMNS * (window.column / SCREEN_COLUMNS);
     let mut out = Vec::from_slice(alloc, CLEAR)?;
-    out.reserve(FRAME_ROOM)?;
     push_rows(
         alloc, &mut held, space, sources, rope, window.top, left, &mut out,
     )?;

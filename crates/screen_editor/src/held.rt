@@ -1,43 +1,50 @@
 //! Bytes of a text about a place that are held, so that the lines about it are read once.
 
-ghost use Rattle.std.specs.Prelude.{◌≡◌, ◌↔◌, ◌≤◌, ◌+◌, [], length, IsTrue, OnOk};
+ghost use Rattle.std.specs.Prelude.{◌≡◌, ◌↔◌, ◌≤◌, ◌+◌, ◌-◌, [], length, IsTrue, IfOk, OnOk};
 ghost use Rattle.rope_node.specs.Denotes.{IsRope, rope_len};
 ghost use Rattle.cord_position.specs.Fetched.{ReadsSpan, rope_cell};
+ghost use Rattle.cord_search.specs.declared.runs.TheConstants.{PIECE};
 ghost use Rattle.cord_search.specs.Stated.{OfText};
 ghost use Rattle.screen_editor.specs.HeldBytes.{held_up_to, held_starting_at, AreHeld};
+ghost use Rattle.screen_editor.specs.Lines.{line_end};
 
-use crate::near::{read_near, read_to_break};
+use crate::lines::line_end_with;
+use crate::near::{leaves_in, read_near};
+use cord_search::PIECE;
 use lazy_file::{SourceFault, Sources};
 use rope_node::{NodeSpace, Rope, rope_len};
 use std::alloc::Global;
 use std::marker::Model;
 
-/// Room for so many bytes on both sides of the place that is asked for first: more than the lines on one side of it mostly have.
-const ROOM: usize = 1_024;
+/// So many bytes are held at most: those that a search looks at at once, and the lines before them.
+const ROOM: usize = PIECE + 1_024;
 
-/// So many bytes are read at once, where there is room for them: some ten lines. A search for one line break reads eight times as many.
-const PART: usize = 512;
+/// Bytes before those that are held are read alone only where all of these lie in fewer leaves. The blocks of so many leaves, two of each at most, are kept.
+const MOST_LEAVES: usize = 120;
 
 /// Bytes of a text from a place on.
 #[derive(Drop)]
 pub struct HeldBytes {
     from: u64,
-    /// They stand in the array from here up to `end`.
+    /// They stand in the array from here on.
     start: usize,
-    end: usize,
-    bytes: [u8; 2 * ROOM],
+    /// They were read from so many leaves, or from more than are counted, or not by blocks that are kept.
+    leaves: usize,
+    bytes: [u8; ROOM],
+    /// Room for a search through the text.
+    searched: [u8; PIECE],
 }
 
 impl Model for HeldBytes {
-    ghost use Rattle.std.specs.Prelude.{◌+◌, ◌-◌, ◌*◌, ◌≤◌, take, drop};
+    ghost use Rattle.std.specs.Prelude.{◌≤◌, drop};
     ghost use Rattle.screen_editor.specs.declared.held.TheConstants.{ROOM};
     ghost use Rattle.screen_editor.specs.HeldBytes.{HeldPart};
 
     ghost Value = { HeldPart };
 
-    ghost view = { λ h. record { from = h.from; bytes = take (h.end - h.start) (drop h.start h.bytes) } };
+    ghost view = { λ h. record { from = h.from; bytes = drop h.start h.bytes } };
 
-    ghost invariant = { λ h. (h.start ≤ h.end) × (h.end ≤ 2 * ROOM) };
+    ghost invariant = { λ h. h.start ≤ ROOM };
 }
 
 impl HeldBytes {
@@ -48,8 +55,9 @@ impl HeldBytes {
         HeldBytes {
             from: 0,
             start: ROOM,
-            end: ROOM,
-            bytes: [0; 2 * ROOM],
+            leaves: 0,
+            bytes: [0; ROOM],
+            searched: [0; PIECE],
         }
     }
 
@@ -57,7 +65,7 @@ impl HeldBytes {
     fn reaches(&self, place: u64) -> bool
         ensures { IsTrue result ↔ (self.now.from ≤ place × place ≤ self.now.from + length self.now.bytes) }
     {
-        self.from <= place && place - self.from <= (self.end - self.start) as u64
+        self.from <= place && place - self.from <= (ROOM - self.start) as u64
     }
 
     /// The bytes that are held before a place: none where that place is further than right behind the last of them.
@@ -76,49 +84,44 @@ impl HeldBytes {
         ensures { result.now ≡ held_starting_at self.now place }
     {
         if self.reaches(place) {
-            &self.bytes[self.start + (place - self.from) as usize..self.end]
+            &self.bytes[self.start + (place - self.from) as usize..]
         } else {
             &self.bytes[..0]
         }
     }
 
-    /// Holds no bytes, but is ready for those about a place.
+    /// Holds no bytes, but is ready for those before a place.
     fn begin_at(&mut self, place: u64)
         ensures { self.new ≡ record { from = place; bytes = [] } }
     {
         self.from = place;
         self.start = ROOM;
-        self.end = ROOM;
+        self.leaves = 0;
     }
 
-    /// Reads bytes before those that are held, and holds them too. Where a place lies apart from these, or there is no room before them, it holds the bytes
-    /// before that place alone.
-    ///
-    /// # Errors
-    ///
-    /// A source's fault, where a byte is one of that source and the read of it failed.
-    pub fn read_before<S: NodeSpace, T: Sources>(
+    /// Reads the bytes from `from` on before those that are held, leaf by leaf, and holds them too.
+    fn read_before<S: NodeSpace, T: Sources>(
         &mut self,
         alloc: Global,
         space: &S,
         sources: &mut T,
         rope: Rope,
-        place: u64,
+        from: u64,
     ) -> Result<(), SourceFault>
         requires rope { IsRope (S.table space.now) rope }
-        requires place { place ≤ rope_len (S.table space.now) rope }
+        requires inside { self.old.from ≤ rope_len (S.table space.now) rope }
+        requires room { self.old.from - from + length self.old.bytes ≤ ROOM }
         requires held { OfText (S.table space.now) (T.reading sources.old).stated rope (AreHeld self.old) }
+        ensures span { OnOk result ((self.new.from + (self.old.from - from) ≡ self.old.from)
+            × (length self.new.bytes ≡ self.old.from - from + length self.old.bytes)) }
         ensures held { OnOk result (OfText (S.table space.now) (T.reading sources.old).stated rope (AreHeld self.new)) }
         ensures reads { ReadsSpan (T.reading sources.old) (T.reading sources.new)
-            (rope_cell (S.table space.now) rope) 0 (rope_len (S.table space.now) rope) result }
+            (rope_cell (S.table space.now) rope) from self.old.from result }
     {
-        prove!(place <= rope_len(space, rope));
-        if self.start == 0 || !self.reaches(place) {
-            self.begin_at(place);
-        }
-        let count = self.from.min(self.start.min(PART) as u64);
+        prove!(self.from <= rope_len(space, rope));
+        let count = self.from.saturating_sub(from);
         let first = self.start - count as usize;
-        read_near(
+        let leaves = read_near(
             alloc,
             space,
             sources,
@@ -128,47 +131,118 @@ impl HeldBytes {
         )?;
         self.from -= count;
         self.start = first;
+        self.leaves = self.leaves.saturating_add(leaves);
         Ok(())
     }
 
-    /// Reads bytes behind those that are held, up to the end of the leaf of the first line break, and holds them too. Where a place lies apart from these, or
-    /// there is no room behind them, it holds the bytes from that place on alone.
+    /// Reads the `PIECE` bytes before a place, and holds them alone. They lie in one leaf, so that they come by one read, and not by blocks that are kept.
     ///
     /// # Errors
     ///
     /// A source's fault, where a byte is one of that source and the read of it failed.
-    pub fn read_behind<S: NodeSpace, T: Sources>(
+    pub fn read_window<S: NodeSpace, T: Sources>(
+        &mut self,
+        alloc: Global,
+        space: &S,
+        sources: &mut T,
+        rope: Rope,
+        end: u64,
+    ) -> Result<(), SourceFault>
+        requires rope { IsRope (S.table space.now) rope }
+        requires end { end ≤ rope_len (S.table space.now) rope }
+        requires window { PIECE ≤ end }
+        ensures span { OnOk result ((self.new.from + PIECE ≡ end) × (length self.new.bytes ≡ PIECE)) }
+        ensures held { OnOk result (OfText (S.table space.now) (T.reading sources.old).stated rope (AreHeld self.new)) }
+        ensures reads { ReadsSpan (T.reading sources.old) (T.reading sources.new)
+            (rope_cell (S.table space.now) rope) (end - PIECE) end result }
+    {
+        prove!(end <= rope_len(space, rope));
+        self.begin_at(end);
+        self.read_before(alloc, space, sources, rope, end - PIECE as u64)?;
+        self.leaves = MOST_LEAVES;
+        Ok(())
+    }
+
+    /// Whether only the bytes from `from` on before those that are held are read: where these reach up to `end`, came by blocks that are kept, and there is room.
+    fn takes_before<S: NodeSpace>(
+        &self,
+        alloc: Global,
+        space: &S,
+        rope: Rope,
+        from: u64,
+        end: u64,
+    ) -> bool
+        requires rope { IsRope (S.table space.now) rope }
+        ensures reaches { IsTrue result → (self.now.from ≤ end × end ≤ self.now.from + length self.now.bytes) }
+        ensures room { IsTrue result → self.now.from - from + length self.now.bytes ≤ ROOM }
+    {
+        let count = self.from.saturating_sub(from);
+        self.reaches(end)
+            && count <= self.start as u64
+            && self
+                .leaves
+                .saturating_add(leaves_in(alloc, space, rope, from, self.from))
+                < MOST_LEAVES
+    }
+
+    /// Holds the `PIECE` bytes before a place, or all where there are fewer: where they lie in one leaf, which `straight` says, by one read, and these alone. Else
+    /// it reads them leaf by leaf, by blocks that are kept, and of those that are held already and came so none again.
+    ///
+    /// # Errors
+    ///
+    /// A source's fault, where a byte is one of that source and the read of it failed.
+    pub fn hold_before<S: NodeSpace, T: Sources>(
+        &mut self,
+        alloc: Global,
+        space: &S,
+        sources: &mut T,
+        rope: Rope,
+        end: u64,
+        straight: bool,
+    ) -> Result<(), SourceFault>
+        requires rope { IsRope (S.table space.now) rope }
+        requires end { end ≤ rope_len (S.table space.now) rope }
+        requires straight { IsTrue straight → PIECE ≤ end }
+        requires held { OfText (S.table space.now) (T.reading sources.old).stated rope (AreHeld self.old) }
+        ensures span { OnOk result (self.new.from ≤ end - PIECE × end ≤ self.new.from + length self.new.bytes) }
+        ensures held { OnOk result (OfText (S.table space.now) (T.reading sources.old).stated rope (AreHeld self.new)) }
+        ensures reads { ReadsSpan (T.reading sources.old) (T.reading sources.new)
+            (rope_cell (S.table space.now) rope) (end - PIECE) end result }
+    {
+        prove!(end <= rope_len(space, rope));
+        if straight {
+            return self.read_window(alloc, space, sources, rope, end);
+        }
+        let from = end.saturating_sub(PIECE as u64);
+        if !self.takes_before(alloc, space, rope, from, end) {
+            self.begin_at(end);
+        }
+        self.read_before(alloc, space, sources, rope, from)
+    }
+
+    /// The first line break at a place or behind it, or the text's end, by a search through the text.
+    ///
+    /// # Errors
+    ///
+    /// A source's fault, where a byte is one of that source and the read of it failed.
+    pub fn search_end<S: NodeSpace, T: Sources>(
         &mut self,
         alloc: Global,
         space: &S,
         sources: &mut T,
         rope: Rope,
         place: u64,
-    ) -> Result<(), SourceFault>
+    ) -> Result<u64, SourceFault>
         requires rope { IsRope (S.table space.now) rope }
         requires place { place ≤ rope_len (S.table space.now) rope }
-        requires held { OfText (S.table space.now) (T.reading sources.old).stated rope (AreHeld self.old) }
-        ensures held { OnOk result (OfText (S.table space.now) (T.reading sources.old).stated rope (AreHeld self.new)) }
+        ensures same { self.new ≡ self.old }
+        ensures from { IfOk result (λ p. place ≤ p) }
+        ensures inside { IfOk result (λ p. p ≤ rope_len (S.table space.now) rope) }
+        ensures is { IfOk result (λ p.
+            OfText (S.table space.now) (T.reading sources.old).stated rope (λ t. p ≡ line_end t place)) }
         ensures reads { ReadsSpan (T.reading sources.old) (T.reading sources.new)
             (rope_cell (S.table space.now) rope) 0 (rope_len (S.table space.now) rope) result }
     {
-        let len = rope_len(space, rope);
-        if self.end == 2 * ROOM || !self.reaches(place) {
-            self.begin_at(place);
-        }
-        // The bytes of a text end in it, so that this is where they end.
-        let behind = len.min(self.from + (self.end - self.start) as u64);
-        let count = (len - behind).min((2 * ROOM - self.end).min(PART) as u64);
-        let last = self.end + count as usize;
-        let read = read_to_break(
-            alloc,
-            space,
-            sources,
-            rope,
-            behind,
-            &mut self.bytes[self.end..last],
-        )?;
-        self.end += read;
-        Ok(())
+        line_end_with(alloc, space, sources, rope, place, &mut self.searched)
     }
 }

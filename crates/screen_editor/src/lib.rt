@@ -2,6 +2,7 @@
 #![tactic(auto)]
 
 mod before;
+mod behind;
 mod cut_span;
 mod editor;
 mod edits;

@@ -6,7 +6,7 @@ ghost use Rattle.cord_position.specs.Fetched.{ReadsSpan, rope_cell};
 ghost use Rattle.cord_search.specs.Stated.{OfText};
 ghost use Rattle.screen_editor.specs.Lines.{line_start, line_end, place_up, place_down};
 
-use cord_search::{chr, rchr};
+use cord_search::{PIECE, chr_with, rchr};
 use lazy_file::{SourceFault, Sources};
 use rope_node::{NodeSpace, Rope, rope_len};
 use std::alloc::Global;
@@ -65,7 +65,32 @@ pub fn line_end<S: NodeSpace, T: Sources>(
     ensures reads { ReadsSpan (T.reading sources.old) (T.reading sources.new)
         (rope_cell (S.table space.now) rope) 0 (rope_len (S.table space.now) rope) result }
 {
-    let found = chr(alloc, space, sources, rope, place, LINE_BREAK)?;
+    line_end_with(alloc, space, sources, rope, place, &mut [0; PIECE])
+}
+
+/// The same, with a buffer that is handed in.
+///
+/// # Errors
+///
+/// A source's fault, where a byte is one of that source and the read of it failed.
+pub fn line_end_with<S: NodeSpace, T: Sources>(
+    alloc: Global,
+    space: &S,
+    sources: &mut T,
+    rope: Rope,
+    place: u64,
+    buffer: &mut [u8; PIECE],
+) -> Result<u64, SourceFault>
+    requires rope { IsRope (S.table space.now) rope }
+    requires place { place ≤ rope_len (S.table space.now) rope }
+    ensures from { IfOk result (λ p. place ≤ p) }
+    ensures inside { IfOk result (λ p. p ≤ rope_len (S.table space.now) rope) }
+    ensures is { IfOk result (λ p.
+        OfText (S.table space.now) (T.reading sources.old).stated rope (λ t. p ≡ line_end t place)) }
+    ensures reads { ReadsSpan (T.reading sources.old) (T.reading sources.new)
+        (rope_cell (S.table space.now) rope) 0 (rope_len (S.table space.now) rope) result }
+{
+    let found = chr_with(alloc, space, sources, rope, place, LINE_BREAK, buffer)?;
     Ok(found.unwrap_or(rope_len(space, rope)))
 }
 

@@ -1,6 +1,6 @@
 //! The bytes of a text near a place, taken leaf by leaf into an array, and the line break among them.
 
-ghost use Rattle.std.specs.Prelude.{◌≡◌, ◌≤◌, ◌+◌, not, length, take, drop, IfOk, OnOk};
+ghost use Rattle.std.specs.Prelude.{◌≡◌, ◌≤◌, ◌+◌, not, length, take, drop, IfOk};
 ghost use Rattle.std.specs.List.{position_or_len, suffix_len};
 ghost use Rattle.rope_node.specs.Denotes.{IsRope, rope_len};
 ghost use Rattle.cord_position.specs.Fetched.{ReadsSpan, rope_cell};
@@ -33,7 +33,7 @@ fn fill_there<S: NodeSpace, T: Sources>(
     ensures bytes { IfOk result (λ n. OfText (S.table space.now) (T.reading sources.old).stated rope
         (λ t. take n buffer.new ≡ take n (drop place t))) }
     ensures reads { ReadsSpan (T.reading sources.old) (T.reading sources.new)
-        (rope_cell (S.table space.now) rope) 0 (rope_len (S.table space.now) rope) result }
+        (rope_cell (S.table space.now) rope) place (place + length buffer.old) result }
 {
     let _len = rope_len(space, rope);
     let _left = pos.run_left();
@@ -41,7 +41,7 @@ fn fill_there<S: NodeSpace, T: Sources>(
     Ok(count)
 }
 
-/// Reads the bytes of a text from `start` on into the whole of the buffer: those of one leaf by one read.
+/// Reads the bytes of a text from `start` on into the whole of the buffer: those of one leaf by one read. It answers how many leaves they lie in.
 ///
 /// # Errors
 ///
@@ -53,62 +53,52 @@ pub fn read_near<S: NodeSpace, T: Sources>(
     rope: Rope,
     start: u64,
     buffer: &mut [u8],
-) -> Result<(), SourceFault>
+) -> Result<usize, SourceFault>
     requires rope { IsRope (S.table space.now) rope }
     requires inside { start + length buffer.old ≤ rope_len (S.table space.now) rope }
     ensures length { length buffer.new ≡ length buffer.old }
-    ensures bytes { OnOk result (OfText (S.table space.now) (T.reading sources.old).stated rope
+    ensures bytes { IfOk result (λ _. OfText (S.table space.now) (T.reading sources.old).stated rope
         (λ t. buffer.new ≡ take (length buffer.old) (drop start t))) }
     ensures reads { ReadsSpan (T.reading sources.old) (T.reading sources.new)
-        (rope_cell (S.table space.now) rope) 0 (rope_len (S.table space.now) rope) result }
+        (rope_cell (S.table space.now) rope) start (start + length buffer.old) result }
 {
     let _len = rope_len(space, rope);
     let mut pos = Pos::set(alloc, space, rope, start);
     let mut done = 0;
+    let mut leaves: usize = 0;
     while done < buffer.len() {
         let place = start + done as u64;
         let count = fill_there(&pos, space, sources, rope, place, &mut buffer[done..])?;
         pos.skip(count as u64);
         done += count;
+        leaves = leaves.saturating_add(1);
     }
-    Ok(())
+    Ok(leaves)
 }
 
-/// Reads the bytes of a text from `start` on into the front of the buffer, leaf by leaf, and of no leaf behind that of the first line
-/// break. It answers how many they are.
-///
-/// # Errors
-///
-/// A source's fault, where a byte is one of that source and the read of it failed.
-pub fn read_to_break<S: NodeSpace, T: Sources>(
-    alloc: Global,
-    space: &S,
-    sources: &mut T,
-    rope: Rope,
-    start: u64,
-    buffer: &mut [u8],
-) -> Result<usize, SourceFault>
+/// How many bytes the leaf at a place has from there on.
+pub fn leaf_left<S: NodeSpace>(alloc: Global, space: &S, rope: Rope, place: u64) -> u64
     requires rope { IsRope (S.table space.now) rope }
-    requires inside { start + length buffer.old ≤ rope_len (S.table space.now) rope }
-    ensures length { length buffer.new ≡ length buffer.old }
-    ensures most { IfOk result (λ n. n ≤ length buffer.old) }
-    ensures bytes { IfOk result (λ n. OfText (S.table space.now) (T.reading sources.old).stated rope
-        (λ t. take n buffer.new ≡ take n (drop start t))) }
-    ensures reads { ReadsSpan (T.reading sources.old) (T.reading sources.new)
-        (rope_cell (S.table space.now) rope) 0 (rope_len (S.table space.now) rope) result }
+    requires place { place ≤ rope_len (S.table space.now) rope }
+    ensures { place + result ≤ rope_len (S.table space.now) rope }
 {
     let _len = rope_len(space, rope);
-    let mut pos = Pos::set(alloc, space, rope, start);
-    let mut done = 0;
-    let mut ended = false;
-    while !ended && done < buffer.len() {
-        let place = start + done as u64;
-        let count = fill_there(&pos, space, sources, rope, place, &mut buffer[done..])?;
-        ended = width_ahead(&buffer[done..done + count]) < count;
-        pos.skip(count as u64);
-        done += count;
+    let pos = Pos::set(alloc, space, rope, place);
+    pos.run_left()
+}
+
+/// In how many leaves the bytes from `from` up to `end` lie; past 255 they are not counted.
+pub fn leaves_in<S: NodeSpace>(alloc: Global, space: &S, rope: Rope, from: u64, end: u64) -> usize
+    requires { IsRope (S.table space.now) rope }
+{
+    let mut pos = Pos::set(alloc, space, rope, from);
+    let mut leaves = 0;
+    while leaves < 255 && pos.index() < end {
+        let left = pos.run_left();
+        pos.skip(left);
+        leaves += 1;
     }
-    Ok(done)
+    leaves
 }
 
 /// How many bytes stand before the first line break, or all.

@@ -8,6 +8,8 @@ mod editor;
 #[cfg(test)]
 mod fakes;
 #[cfg(test)]
+mod frames;
+#[cfg(test)]
 mod images;
 #[cfg(test)]
 mod keys;

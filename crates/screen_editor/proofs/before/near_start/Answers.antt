@@ -1,8 +1,9 @@
 use Rattle.std.proofs.Common.{◌≡◌, ◌≤◌, length, not, sym, ap, ◌∙◌, arith}
 use Rattle.std.specs.List.{suffix_len}
-use Rattle.rope_node.specs.Denotes.{rope_cells, text}
-use Rattle.cord_search.proofs.Fetches.{text_length}
-use Rattle.screen_editor.specs.Lines.{is_break}
+use Rattle.lazy_file.proofs.LaterReads.{same_stated}
+use Rattle.rope_node.specs.Denotes.{rope_cells, rope_len, text}
+use Rattle.cord_search.proofs.Fetches.{text_length, told_before}
+use Rattle.screen_editor.specs.Lines.{is_break, line_start}
 use Rattle.screen_editor.proofs.HeldLaws.{start_is}
 use Rattle.screen_editor.proofs.before.near_start.Goals as goal
 
@@ -16,3 +17,8 @@ returns-then-width-near-clause-is g c source agrees stated =
     let same = c.up_to-near.ensures in
     start_is u c.args.held.now place c.width_behind-width.result inside (c.requires.held source agrees stated) (c.width_behind-width.ensures.is ∙ ap (suffix_len (λ b. not (is_break b))) same)
     (λ _. omega (arith, c.if-width-near.true, ap length same))
+
+pub returns-clause-is : goal.returns-clause-is
+returns-clause-is g c source agrees stated =
+    let t = g.S.NodeSpace.table c.args.space.now in
+    told_before t (g.T.Sources.reading c.args.sources.now).stated (g.T.Sources.reading c.hold_before.new.sources).stated c.args.rope 0 (rope_len t c.args.rope) (λ v. c.in_ok-start.start ≡ line_start v c.args.place) (same_stated c.in_ok-hold_before.ensures.reads) c.in_ok-start.ensures.is source agrees stated

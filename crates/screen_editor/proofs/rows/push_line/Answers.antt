@@ -1,40 +1,39 @@
-use Rattle.std.proofs.Common.{◌≡◌, ◌≤◌, ◌++◌, ℕ, List, length, take, sym, ap, ◌∙◌, arith}
+use Rattle.std.proofs.Common.{◌≡◌, ◌+◌, ◌-◌, ◌++◌, ℕ, length, map, take, drop, sym, subst, ◌∙◌, arith}
+use Rattle.std.proofs.lemmas.Result.{err_from_is_err_and}
 use Rattle.lazy_file.proofs.LaterReads.{same_stated}
-use Rattle.rope_node.specs.Denotes.{rope_cells, text}
-use Rattle.cord_search.proofs.Fetches.{text_length}
-use Rattle.screen_editor.specs.HeldBytes.{held_starting_at}
-use Rattle.screen_editor.specs.Rows.{shown_of}
-use Rattle.screen_editor.proofs.HeldLaws.{first_held}
-use Rattle.screen_editor.proofs.RowLaws.{held_then, held_last}
+use Rattle.rope_node.specs.Denotes.{rope_cells, rope_len, text}
+use Rattle.cord_position.specs.Fetched.{rope_cell}
+use Rattle.cord_search.proofs.Fetches.{told_before, text_length}
+use Rattle.screen_editor.specs.Frame.{glyph}
+use Rattle.screen_editor.proofs.RowLaws.{line_then, line_last}
+use Rattle.screen_editor.proofs.Showing.{failed_part}
 use Rattle.screen_editor.proofs.rows.push_line.Goals as goal
 
-pub returns-in_default-clause-line : goal.returns-in_default-clause-line
-returns-in_default-clause-line g c = rw (same_stated c.in_ok-width.ensures.reads) at c.push_long_line.ensures.line
+pub returns-in_err-push_parts-clause-reads : goal.returns-in_err-push_parts-clause-reads
+returns-in_err-push_parts-clause-reads g c =
+    let p = err_from_is_err_and c.from_residual-in_err-push_parts.result c.from_residual-in_err-push_parts.ensures.1 in
+    let t = g.S.NodeSpace.table c.args.space.now in
+    rw (p.1, p.2) (failed_part (g.T.Sources.reading c.args.sources.now) (g.T.Sources.reading c.near_end.new.sources) (g.T.Sources.reading c.push_parts.new.sources) (rope_cell t c.args.rope) (rope_len t c.args.rope) _
+    c.in_ok-end.ensures.reads c.in_err-push_parts.ensures.reads)
 
-pub returns-then-end-len-clause-line : goal.returns-then-end-len-clause-line
-returns-then-end-len-clause-line g c source agrees stated =
+pub returns-then-end-rope_len-clause-line : goal.returns-then-end-rope_len-clause-line
+returns-then-end-rope_len-clause-line g c source agrees stated =
     let t = g.S.NodeSpace.table c.args.space.now in
     let u = text source (rope_cells t c.args.rope) in
-    let width = c.in-Some.width in
-    let start = c.args.start in
-    let held = c.hold_line.new.held in
-    let long : length u ≡ c.rope_len-len.result = text_length t c.args.rope source ∙ sym c.rope_len-len.ensures.cells in
-    let there : width ≤ length (held_starting_at held start) = rw c.in-Some.is at c.in_ok-width.ensures.there in
-    let is = rw c.in-Some.is at c.in_ok-width.ensures.is in
-    let line = ap (take width) c.starting_at.ensures ∙ first_held u held start width (c.in_ok-width.ensures.held source agrees stated) there in
-    held_then u c.args.out.now.items c.push_shown.new.out.items start c.args.left width (is source agrees stated) (omega (arith, long, c.if-end-len.true))
-    (c.in_ok-push_shown.ensures ∙ ap (λ (xs : List ℕ). c.args.out.now.items ++ shown_of c.args.left xs) line)
+    let end = c.in_ok-end.end in
+    let n = c.saturating_sub-rest.result in
+    let long : length u ≡ c.rope_len.result = text_length t c.args.rope source ∙ sym c.rope_len.ensures.cells in
+    let bytes = told_before t (g.T.Sources.reading c.args.sources.now).stated (g.T.Sources.reading c.near_end.new.sources).stated c.args.rope 0 (rope_len t c.args.rope) (λ v. c.push_parts.new.out.items ≡ c.args.out.now.items ++ map glyph (take (end - n + c.min.result - (end - n)) (drop (end - n) v))) (same_stated c.in_ok-end.ensures.reads) c.in_ok-push_parts.ensures.bytes source agrees stated in
+    let pushed = subst (λ (m : ℕ). c.push_parts.new.out.items ≡ c.args.out.now.items ++ map glyph (take (end - n + m - (end - n)) (drop (end - n) u))) c.min.ensures bytes in
+    line_then u c.args.out.now.items c.push_parts.new.out.items c.args.start c.args.left end n c.in_ok-end.ensures.from (omega (arith, long, c.if-end-rope_len.true)) (c.in_ok-end.ensures.is source agrees stated) c.saturating_sub-rest.ensures pushed
 
-pub returns-else-end-len-clause-line : goal.returns-else-end-len-clause-line
-returns-else-end-len-clause-line g c source agrees stated =
+pub returns-else-end-rope_len-clause-line : goal.returns-else-end-rope_len-clause-line
+returns-else-end-rope_len-clause-line g c source agrees stated =
     let t = g.S.NodeSpace.table c.args.space.now in
     let u = text source (rope_cells t c.args.rope) in
-    let width = c.in-Some.width in
-    let start = c.args.start in
-    let held = c.hold_line.new.held in
-    let long : length u ≡ c.rope_len-len.result = text_length t c.args.rope source ∙ sym c.rope_len-len.ensures.cells in
-    let there : width ≤ length (held_starting_at held start) = rw c.in-Some.is at c.in_ok-width.ensures.there in
-    let is = rw c.in-Some.is at c.in_ok-width.ensures.is in
-    let line = ap (take width) c.starting_at.ensures ∙ first_held u held start width (c.in_ok-width.ensures.held source agrees stated) there in
-    held_last u c.args.out.now.items c.push_shown.new.out.items start c.args.left width (is source agrees stated) (omega (arith, long, c.if-end-len.false))
-    (c.in_ok-push_shown.ensures ∙ ap (λ (xs : List ℕ). c.args.out.now.items ++ shown_of c.args.left xs) line)
+    let end = c.in_ok-end.end in
+    let n = c.saturating_sub-rest.result in
+    let long : length u ≡ c.rope_len.result = text_length t c.args.rope source ∙ sym c.rope_len.ensures.cells in
+    let bytes = told_before t (g.T.Sources.reading c.args.sources.now).stated (g.T.Sources.reading c.near_end.new.sources).stated c.args.rope 0 (rope_len t c.args.rope) (λ v. c.push_parts.new.out.items ≡ c.args.out.now.items ++ map glyph (take (end - n + c.min.result - (end - n)) (drop (end - n) v))) (same_stated c.in_ok-end.ensures.reads) c.in_ok-push_parts.ensures.bytes source agrees stated in
+    let pushed = subst (λ (m : ℕ). c.push_parts.new.out.items ≡ c.args.out.now.items ++ map glyph (take (end - n + m - (end - n)) (drop (end - n) u))) c.min.ensures bytes in
+    line_last u c.args.out.now.items c.push_parts.new.out.items c.args.start c.args.left end n c.in_ok-end.ensures.from (omega (arith, long, c.if-end-rope_len.false, c.in_ok-end.ensures.inside, c.rope_len.ensures.exact)) (c.in_ok-end.ensures.is source agrees stated) c.saturating_sub-rest.ensures pushed

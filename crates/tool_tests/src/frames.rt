@@ -1,0 +1,129 @@
+//! Which bytes of a file a frame of the screen editor reads.
+
+use crate::same::assert_same;
+use lazy_file::{Device, DeviceError, FileSources};
+use screen_editor::{Editor, Step};
+use std::alloc::{AllocError, AllocGlobal};
+use std::num::NonZeroUsize;
+use std::process::Abort;
+
+/// So many blocks of a file are kept, as the program keeps them.
+const BLOCKS: usize = 256;
+
+/// The key Down.
+const DOWN: u8 = 0x0E;
+
+/// A read of a file: where it begins, and how many bytes it asks for.
+#[derive(Clone, Copy, Debug, PartialEq)]
+struct Span {
+    off: u64,
+    len: usize,
+}
+
+/// A file in memory, which states none of its bytes, and tells of its reads.
+#[derive(Drop)]
+struct Recorded<'a> {
+    bytes: &'a [u8],
+    reads: &'a mut Vec<Span>,
+}
+
+impl<'a> Device for Recorded<'a> {
+    type Book = ();
+
+    ghost use Rattle.std.specs.Prelude.{length};
+    ghost use Rattle.lazy_file.specs.DeviceTexts.{unstated};
+
+    ghost reading = { λ d. record { stated = unstated (length d.bytes.now); failures = 0; calls = 0 } };
+
+    fn size(&self) -> u64 {
+        self.bytes.len() as u64
+    }
+
+    fn read_at(
+        &mut self,
+        _book: &mut (),
+        off: u64,
+        buffer: &mut [u8],
+    ) -> Result<usize, DeviceError> {
+        let len = buffer.len();
+        let _ = self.reads.push(Span { off, len });
+        let rest = self.bytes.get(off as usize..).unwrap_or(&[]);
+        let count = rest.len().min(len);
+        buffer[..count].copy_from_slice(&rest[..count]);
+        Ok(count)
+    }
+}
+
+/// Forty lines of 500 bytes.
+fn lines<R: AllocGlobal>(rt: &R) -> Result<Vec<u8>, AllocError> {
+    let mut text = Vec::new(rt.alloc());
+    for _ in 0..40 {
+        for _ in 0..499 {
+            text.push(b'x').map_err(|_| AllocError)?;
+        }
+        text.push(b'\n').map_err(|_| AllocError)?;
+    }
+    Ok(text)
+}
+
+/// The reads of a file that keys make, and behind them a frame or none.
+fn reads_of<R: AllocGlobal + Abort>(rt: &R, bytes: &[u8], keys: &[u8], shown: bool) -> Vec<Span> {
+    let alloc = rt.alloc();
+    let mut reads = Vec::new(alloc);
+    let blocks = NonZeroUsize::new(BLOCKS).unwrap_or(NonZeroUsize::MIN);
+    let mut sources = FileSources::new(alloc, blocks, ()).expect(rt, "blocks");
+    let file = Recorded {
+        bytes,
+        reads: &mut reads,
+    };
+    assert!(rt; sources.add(file).is_ok());
+    let mut editor = Editor::new(alloc, sources).expect(rt, "an editor");
+    for byte in keys {
+        assert_same(rt, &editor.key(*byte), &Ok(Step::Going), byte);
+    }
+    if shown {
+        assert!(rt; editor.frame().is_ok());
+    }
+    drop(editor);
+    reads
+}
+
+/// Asserts which reads the frame behind 20 keys Down and these makes: each is of 4,096 bytes.
+fn assert_reads<R: AllocGlobal + Abort>(rt: &R, keys: &[u8], expected: &[u64]) {
+    let bytes = lines(rt).expect(rt, "lines");
+    let mut all = Vec::from_slice(rt.alloc(), &[DOWN; 20]).expect(rt, "keys");
+    all.extend_from_slice(keys).expect(rt, "keys");
+    let before = reads_of(rt, &bytes, &all, false);
+    let both = reads_of(rt, &bytes, &all, true);
+    let frame = &both[before.len().min(both.len())..];
+    assert_same(rt, &frame.len(), &expected.len(), &"reads");
+    for (read, off) in frame.iter().zip(expected) {
+        let span = Span {
+            off: *off,
+            len: 4096,
+        };
+        assert_same(rt, read, &span, off);
+    }
+}
+
+/// The place is 10,000, and the first row begins at 4,500. Windows end at 10,000 and at 5,999, and begin at 5,500, 9,500 and 13,500, where the first line is that
+/// does not end in the one before; the rows' bytes lie in the blocks from 4,096, 8,192 and 12,288 on.
+#[test]
+fn a_frame_reads_windows_once_and_rows_by_blocks(rt: HostRuntime) {
+    assert_reads(
+        &rt,
+        &[],
+        &[5904, 1903, 4096, 5500, 8192, 9500, 12_288, 13_500],
+    );
+}
+
+/// A byte was typed at place 10,000. The 4,096 bytes before the cursor lie in two leaves, and come by the blocks from 4,096 and 8,192 on; so do the ends of the
+/// lines from 6,000 on, whose leaf has fewer bytes left. The cursor's line is looked through behind that byte, from the file's place 10,000 on.
+#[test]
+fn a_frame_reads_the_rest_of_a_leaf_by_blocks(rt: HostRuntime) {
+    assert_reads(
+        &rt,
+        b"a",
+        &[4096, 8192, 1903, 5500, 10_000, 10_500, 12_288, 14_500],
+    );
+}
