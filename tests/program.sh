@@ -333,6 +333,43 @@ try_closed_pipe() {
     fi
 }
 
+# A file of 39,960 bytes in lines of so many is cut to 7,879 once the frame behind so many keys Down has come. The frame behind one more needs no byte past these:
+# its place is in line 12 of the screen.
+try_cut_file() {
+    line=$(yes x | head -n $(($2 - 1)) | tr -d '\n')
+    yes "$line" | head -c 39960 > cut_file
+    rm -f key_pipe
+    mkfifo key_pipe
+    timeout 60 "$program" edit unsaved cut_file < key_pipe > ../frames 2> ../err &
+    exec 3> key_pipe
+    yes "$(printf '\016')" | head -n "$3" | tr -d '\n' >&3
+    tries=0
+    until grep -aq "byte $(($2 * $3)) of 39960" ../frames || [ "$tries" = 500 ]; do
+        sleep 0.1
+        tries=$((tries + 1))
+    done
+    truncate -s 7879 cut_file
+    printf '\016' >&3
+    exec 3>&-
+    got=0
+    wait $! || got=$?
+    awk 'BEGIN { RS = "\033\\[2J" } { last = $0 } END { printf "%s", last }' ../frames > ../out
+    {
+        printf '\033[H'
+        yes "$line" | head -n 23 | awk '{ printf "%s\r\n", $0 }'
+        printf 'rev 0 byte %d of 39960\033[12;1H' $(($2 * ($3 + 1)))
+    } > ../expected_out
+    : > ../expected_err
+    if [ "$got" = 0 ] && is_expected; then
+        passed=$((passed + 1))
+    else
+        failed=$((failed + 1))
+        echo "FAILED: $1: status $got for 0, and it wrote:"
+        cat ../out ../err
+        echo
+    fi
+}
+
 # What `--version` writes: the version that CHANGELOG.md names first, and the toolchain that README.md says it was proved with.
 try_version() {
     version=$(sed -n 's/^## \([0-9.]*\).*/\1/p' "$top/CHANGELOG.md" | head -n 1)
@@ -346,6 +383,8 @@ if [ "$cases" = all ]; then
     try_scripts
     try_closed_pipe 'an image into a closed pipe' apply script_of_5000
     try_version
+    try_cut_file 'a file in lines of 60 that is cut behind a frame' 60 51
+    try_cut_file 'a file in lines of 48 that is cut behind a frame' 48 64
     if command -v flock > /dev/null; then
         try "keys that another session keeps" "edit --explain --keep keys_in_use kept" keys_saved 1 "" "refused J2\nJ2: another session keeps its keys in keys_in_use\n"
     else
