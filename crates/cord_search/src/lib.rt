@@ -15,7 +15,7 @@ mod write;
 pub use compare::{cmp, ncmp};
 pub use fault::{FindFault, PutFault};
 pub use pattern::{PATTERN_LIMIT, find};
-pub use runs::PIECE;
+pub use runs::{PIECE, gather};
 pub use single_bytes::{chr, chr_with, rchr};
 pub use skips::clear_behind;
 pub use text_bytes::byte_at;

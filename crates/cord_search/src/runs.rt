@@ -67,7 +67,11 @@ pub fn next_run<'r, S: NodeSpace, T: Sources>(
 }
 
 /// Writes the bytes of a node from its byte `start` on into the whole buffer, leaf by leaf. It goes down by calls of itself.
-fn gather<S: NodeSpace, T: Sources>(
+///
+/// # Errors
+///
+/// A source's fault, where a byte is one of that source and the read of it failed.
+pub fn gather<S: NodeSpace, T: Sources>(
     space: &S,
     sources: &mut T,
     node: NodeId,

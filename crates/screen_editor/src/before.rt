@@ -85,7 +85,7 @@ pub fn near_start<S: NodeSpace, T: Sources>(
     if straight && width < near.len() {
         return Ok(place - width as u64);
     }
-    held.hold_before(alloc, space, sources, rope, place, straight)?;
+    held.hold_before(space, sources, rope, place, straight)?;
     let start = start_in_window(alloc, held, space, sources, rope, place)?;
     Ok(start)
 }

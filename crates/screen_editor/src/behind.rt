@@ -38,7 +38,7 @@ fn look_behind<S: NodeSpace, T: Sources>(
 {
     let _len = rope_len(space, rope);
     let behind = start + PIECE as u64;
-    held.read_window(alloc, space, sources, rope, behind)?;
+    held.read_window(space, sources, rope, behind)?;
     let near = held.starting_at(start);
     let width = width_ahead(near);
     if width < near.len() {

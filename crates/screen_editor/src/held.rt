@@ -9,7 +9,7 @@ ghost use Rattle.screen_editor.specs.HeldBytes.{held_up_to, held_starting_at, Ar
 ghost use Rattle.screen_editor.specs.Lines.{line_end};
 
 use crate::lines::line_end_with;
-use crate::near::{leaves_in, read_near};
+use crate::near::read_part;
 use cord_search::PIECE;
 use lazy_file::{SourceFault, Sources};
 use rope_node::{NodeSpace, Rope, rope_len};
@@ -19,17 +19,14 @@ use std::marker::Model;
 /// So many bytes are held at most: those that a search looks at at once, and the lines before them.
 const ROOM: usize = PIECE + 1_024;
 
-/// Bytes before those that are held are read alone only where all of these lie in fewer leaves. The blocks of so many leaves, two of each at most, are kept.
-const MOST_LEAVES: usize = 120;
-
 /// Bytes of a text from a place on.
 #[derive(Drop)]
 pub struct HeldBytes {
     from: u64,
     /// They stand in the array from here on.
     start: usize,
-    /// They were read from so many leaves, or from more than are counted, or not by blocks that are kept.
-    leaves: usize,
+    /// They were read leaf by leaf, by blocks that are kept where a leaf has no more of them.
+    kept: bool,
     bytes: [u8; ROOM],
     /// Room for a search through the text.
     searched: [u8; PIECE],
@@ -55,7 +52,7 @@ impl HeldBytes {
         HeldBytes {
             from: 0,
             start: ROOM,
-            leaves: 0,
+            kept: true,
             bytes: [0; ROOM],
             searched: [0; PIECE],
         }
@@ -96,13 +93,12 @@ impl HeldBytes {
     {
         self.from = place;
         self.start = ROOM;
-        self.leaves = 0;
+        self.kept = true;
     }
 
     /// Reads the bytes from `from` on before those that are held, leaf by leaf, and holds them too.
     fn read_before<S: NodeSpace, T: Sources>(
         &mut self,
-        alloc: Global,
         space: &S,
         sources: &mut T,
         rope: Rope,
@@ -121,17 +117,10 @@ impl HeldBytes {
         prove!(self.from <= rope_len(space, rope));
         let count = self.from.saturating_sub(from);
         let first = self.start - count as usize;
-        let leaves = read_near(
-            alloc,
-            space,
-            sources,
-            rope,
-            self.from - count,
-            &mut self.bytes[first..self.start],
-        )?;
+        let part = &mut self.bytes[first..self.start];
+        read_part(space, sources, rope, self.from - count, part)?;
         self.from -= count;
         self.start = first;
-        self.leaves = self.leaves.saturating_add(leaves);
         Ok(())
     }
 
@@ -142,7 +131,6 @@ impl HeldBytes {
     /// A source's fault, where a byte is one of that source and the read of it failed.
     pub fn read_window<S: NodeSpace, T: Sources>(
         &mut self,
-        alloc: Global,
         space: &S,
         sources: &mut T,
         rope: Rope,
@@ -158,31 +146,17 @@ impl HeldBytes {
     {
         prove!(end <= rope_len(space, rope));
         self.begin_at(end);
-        self.read_before(alloc, space, sources, rope, end - PIECE as u64)?;
-        self.leaves = MOST_LEAVES;
+        self.read_before(space, sources, rope, end - PIECE as u64)?;
+        self.kept = false;
         Ok(())
     }
 
     /// Whether only the bytes from `from` on before those that are held are read: where these reach up to `end`, came by blocks that are kept, and there is room.
-    fn takes_before<S: NodeSpace>(
-        &self,
-        alloc: Global,
-        space: &S,
-        rope: Rope,
-        from: u64,
-        end: u64,
-    ) -> bool
-        requires rope { IsRope (S.table space.now) rope }
+    fn takes_before(&self, from: u64, end: u64) -> bool
         ensures reaches { IsTrue result → (self.now.from ≤ end × end ≤ self.now.from + length self.now.bytes) }
         ensures room { IsTrue result → self.now.from - from + length self.now.bytes ≤ ROOM }
     {
-        let count = self.from.saturating_sub(from);
-        self.reaches(end)
-            && count <= self.start as u64
-            && self
-                .leaves
-                .saturating_add(leaves_in(alloc, space, rope, from, self.from))
-                < MOST_LEAVES
+        self.kept && self.reaches(end) && self.from.saturating_sub(from) <= self.start as u64
     }
 
     /// Holds the `PIECE` bytes before a place, or all where there are fewer: where they lie in one leaf, which `straight` says, by one read, and these alone. Else
@@ -193,7 +167,6 @@ impl HeldBytes {
     /// A source's fault, where a byte is one of that source and the read of it failed.
     pub fn hold_before<S: NodeSpace, T: Sources>(
         &mut self,
-        alloc: Global,
         space: &S,
         sources: &mut T,
         rope: Rope,
@@ -211,13 +184,13 @@ impl HeldBytes {
     {
         prove!(end <= rope_len(space, rope));
         if straight {
-            return self.read_window(alloc, space, sources, rope, end);
+            return self.read_window(space, sources, rope, end);
         }
         let from = end.saturating_sub(PIECE as u64);
-        if !self.takes_before(alloc, space, rope, from, end) {
+        if !self.takes_before(from, end) {
             self.begin_at(end);
         }
-        self.read_before(alloc, space, sources, rope, from)
+        self.read_before(space, sources, rope, from)
     }
 
     /// The first line break at a place or behind it, or the text's end, by a search through the text.

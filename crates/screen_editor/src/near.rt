@@ -1,6 +1,6 @@
 //! The bytes of a text near a place, taken leaf by leaf into an array, and the line break among them.
 
-ghost use Rattle.std.specs.Prelude.{◌≡◌, ◌≤◌, ◌+◌, not, length, take, drop, IfOk};
+ghost use Rattle.std.specs.Prelude.{◌≡◌, ◌≤◌, ◌+◌, not, length, take, drop, IfOk, OnOk};
 ghost use Rattle.std.specs.List.{position_or_len, suffix_len};
 ghost use Rattle.rope_node.specs.Denotes.{IsRope, rope_len};
 ghost use Rattle.cord_position.specs.Fetched.{ReadsSpan, rope_cell};
@@ -10,6 +10,7 @@ ghost use Rattle.screen_editor.specs.Lines.{is_break};
 
 use crate::lines::LINE_BREAK;
 use cord_position::Pos;
+use cord_search::gather;
 use lazy_file::{SourceFault, Sources};
 use memchr::{memchr, memrchr};
 use rope_node::{NodeSpace, Rope, rope_len};
@@ -41,7 +42,7 @@ fn fill_there<S: NodeSpace, T: Sources>(
     Ok(count)
 }
 
-/// Reads the bytes of a text from `start` on into the whole of the buffer: those of one leaf by one read. It answers how many leaves they lie in.
+/// Reads the bytes of a text from `start` on into the whole of the buffer: those of one leaf by one read.
 ///
 /// # Errors
 ///
@@ -53,11 +54,11 @@ pub fn read_near<S: NodeSpace, T: Sources>(
     rope: Rope,
     start: u64,
     buffer: &mut [u8],
-) -> Result<usize, SourceFault>
+) -> Result<(), SourceFault>
     requires rope { IsRope (S.table space.now) rope }
     requires inside { start + length buffer.old ≤ rope_len (S.table space.now) rope }
     ensures length { length buffer.new ≡ length buffer.old }
-    ensures bytes { IfOk result (λ _. OfText (S.table space.now) (T.reading sources.old).stated rope
+    ensures bytes { OnOk result (OfText (S.table space.now) (T.reading sources.old).stated rope
         (λ t. buffer.new ≡ take (length buffer.old) (drop start t))) }
     ensures reads { ReadsSpan (T.reading sources.old) (T.reading sources.new)
         (rope_cell (S.table space.now) rope) start (start + length buffer.old) result }
@@ -65,15 +66,44 @@ pub fn read_near<S: NodeSpace, T: Sources>(
     let _len = rope_len(space, rope);
     let mut pos = Pos::set(alloc, space, rope, start);
     let mut done = 0;
-    let mut leaves: usize = 0;
     while done < buffer.len() {
         let place = start + done as u64;
         let count = fill_there(&pos, space, sources, rope, place, &mut buffer[done..])?;
         pos.skip(count as u64);
         done += count;
-        leaves = leaves.saturating_add(1);
     }
-    Ok(leaves)
+    Ok(())
+}
+
+/// The same as a search does it, which goes down from the root: for bytes of many leaves.
+///
+/// # Errors
+///
+/// A source's fault, where a byte is one of that source and the read of it failed.
+pub fn read_part<S: NodeSpace, T: Sources>(
+    space: &S,
+    sources: &mut T,
+    rope: Rope,
+    start: u64,
+    buffer: &mut [u8],
+) -> Result<(), SourceFault>
+    requires rope { IsRope (S.table space.now) rope }
+    requires inside { start + length buffer.old ≤ rope_len (S.table space.now) rope }
+    ensures length { length buffer.new ≡ length buffer.old }
+    ensures bytes { OnOk result (OfText (S.table space.now) (T.reading sources.old).stated rope
+        (λ t. buffer.new ≡ take (length buffer.old) (drop start t))) }
+    ensures reads { ReadsSpan (T.reading sources.old) (T.reading sources.new)
+        (rope_cell (S.table space.now) rope) start (start + length buffer.old) result }
+{
+    let _len = rope_len(space, rope);
+    if buffer.is_empty() {
+        return Ok(());
+    }
+    match rope {
+        Some(node) => gather(space, sources, node, start, buffer)?,
+        None => unreachable!(),
+    }
+    Ok(())
 }
 
 /// How many bytes the leaf at a place has from there on.
@@ -85,20 +115,6 @@ pub fn leaf_left<S: NodeSpace>(alloc: Global, space: &S, rope: Rope, place: u64)
     let _len = rope_len(space, rope);
     let pos = Pos::set(alloc, space, rope, place);
     pos.run_left()
-}
-
-/// In how many leaves the bytes from `from` up to `end` lie; past 255 they are not counted.
-pub fn leaves_in<S: NodeSpace>(alloc: Global, space: &S, rope: Rope, from: u64, end: u64) -> usize
-    requires { IsRope (S.table space.now) rope }
-{
-    let mut pos = Pos::set(alloc, space, rope, from);
-    let mut leaves = 0;
-    while leaves < 255 && pos.index() < end {
-        let left = pos.run_left();
-        pos.skip(left);
-        leaves += 1;
-    }
-    leaves
 }
 
 /// How many bytes stand before the first line break, or all.
