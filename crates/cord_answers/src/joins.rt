@@ -55,7 +55,7 @@ fn pick(store: &Store<Coded>, made: &[Rope], chance: &mut Chance) -> Rope
 /// A function leaf.
 fn function(store: &mut Store<Coded>, chance: &mut Chance) -> Result<Rope, NodeFault> {
     let n = chance.pick(&LENGTHS);
-    let c = chance.below(256) as u8;
+    let c = (chance.below(256) % 256) as u8;
     match chance.below(3) {
         0 => store.chars(c, n),
         1 => store.from_fn(Coded::ramp(c), n),

@@ -128,7 +128,7 @@ fn compared(alloc: Global, chance: &mut Chance, len: u64) -> Result<Vec<Row>> {
         let len = left.min(most);
         let kind = match chance.below(400) {
             0 => RowKind::Leaf,
-            1 => RowKind::Shared(NodeId(chance.below(40) as u32), chance.below(100)),
+            1 => RowKind::Shared(NodeId((chance.below(40) % 40) as u32), chance.below(100)),
             _ => RowKind::Bytes,
         };
         rows.push(Row { len, kind })?;
@@ -180,7 +180,7 @@ fn tell_pair(
         1 => (last.saturating_sub(1), last),
         _ => (chance.below(count), chance.below(count)),
     };
-    let (j, k) = (j as u32, k as u32);
+    let (j, k) = (u32::try_from(j).unwrap_or(0), u32::try_from(k).unwrap_or(0));
     let store = session.space();
     let old = there(store, session.root(j).unwrap_or(None));
     let new = there(store, session.root(k).unwrap_or(None));

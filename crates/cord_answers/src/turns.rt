@@ -92,7 +92,7 @@ impl Turns {
     pub fn type_lines(&mut self, chance: &mut Chance) -> Result<()> {
         let len = chance.pick(&TYPED);
         for _ in 0..chance.between(1, 30) {
-            let letter = b'a' + (chance.below(26) as u8) % 26;
+            let letter = b'a' + (chance.below(26) % 26) as u8;
             let len = if chance.below(3) == 0 {
                 chance.pick(&TYPED)
             } else {
