@@ -27,7 +27,7 @@ from second_checker import TOP
 
 DATA = f"{TOP}/tests/data/start_answers.txt"
 # The groups, with how many cases of each stand in the data.
-GROUPS = {"joins": 60, "rows": 60, "images": 40, "numbers": 60, "places": 60, "frames": 120}
+GROUPS = {"joins": 60, "rows": 25, "images": 40, "numbers": 40, "places": 60, "frames": 120}
 MARK = "DIFFERS "
 FIRST_LINE = "# What cord_answers printed, built at c89b5a840511846e1a8afc02840af187766f6ca8 with this crate laid over it: tests/start_answers.py record"
 HEAD = re.compile(r"(DIFFERS )?(%s) (\d+):" % "|".join(GROUPS))
@@ -36,7 +36,7 @@ FRAME = re.compile(r"[0-9a-f]{16}")
 MEMORY = re.compile(r".* -> (memory|source memory|Memory)")
 CHUNK = 50
 # Runs of frames of which each allocation is refused.
-REFUSED = (8, 14, 20)
+REFUSED = (3, 11, 14, 20, 22)
 
 
 def cases_in(text):
