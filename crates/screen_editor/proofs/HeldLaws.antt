@@ -84,6 +84,10 @@ held_from t h place held =
           ])
     ]
 
+-- so are the first of them
+pub first_held : (t : List ℕ) (h : HeldPart) (place n : ℕ) → AreHeld h t → n ≤ length (held_starting_at h place) → take n (held_starting_at h place) ≡ take n (drop place t)
+first_held t h place n held few = ap (take n) (held_from t h place held) ∙ take-take n (length (held_starting_at h place)) (drop place t) few
+
 -- where none of the first n bytes from a place on is one, the line ends where it ends from behind them on
 pub end_behind : (t near : List ℕ) (place n : ℕ) → near ≡ take (length near) (drop place t) → length near ≡ n → length near ≤ position_or_len is_break near → line_end t place ≡ line_end t (place + n)
 end_behind t near place n front long none =

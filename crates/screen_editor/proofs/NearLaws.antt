@@ -1,13 +1,10 @@
 -- The bytes near a place, and the line break among them.
-use Rattle.std.proofs.Common.{◌≡◌, ℕ, ◌+◌, ◌-◌, ◌≤◌, not, List, ◌++◌, length, take, drop, get_or, sym, ap, ◌∙◌, arith}
+use Rattle.std.proofs.Common.{◌≡◌, ℕ, ◌+◌, ◌-◌, not, List, length, get_or, sym, ap, ◌∙◌, arith}
 use Rattle.std.specs.List.{position_or_len, suffix_len}
 use Rattle.std.proofs.lemmas.Bool.{false_from_ne_true, not_from_false}
-use Rattle.std.proofs.lemmas.List.{drop-drop, length-take-le, take-append-le}
 use Rattle.std.proofs.lemmas.List.Sums.{position_or_len_is, suffix_len_is}
-use Rattle.std.proofs.Math.Seq.{take-add, take-append-add}
 use Rattle.memchr.specs.Find.{NoneAfter, NoneBefore, Nowhere, Passes, is_byte}
 use Rattle.screen_editor.specs.Lines.{is_break}
-use borrow.Rule.Slice.PartMut.{post_of, put_mid}
 
 -- the test of memchr for the byte that ends a line
 abbrev pub Breaks : List ℕ → ℕ → Type 0
@@ -34,23 +31,3 @@ pub width_back_all : (xs : List ℕ) → Nowhere (Breaks xs) 0 (length xs) → l
 width_back_all xs none =
     let all : length xs - 0 ≡ length xs = omega arith in
     sym (suffix_len_is (λ b. not (is_break b)) xs 0 0 (omega arith) (λ j _ lt. not_from_false (is_break (get_or xs j 0)) (false_from_ne_true (is_break (get_or xs j 0)) (λ yes. none j (omega arith) lt yes))) (λ lt. absurd (omega (arith, lt))) ∙ all)
-
--- where a part of a buffer was written, its first bytes stand behind those before it
-front_of : (done n : ℕ) (buffer part : List ℕ) → done ≤ length buffer → n ≤ length part
-    → take (done + n) (put_mid done (length buffer - done) buffer part) ≡ take done buffer ++ take n part
-front_of done n buffer part inside few =
-    let front : length (take done buffer) ≡ done = length-take-le done buffer inside in
-    let rest = post_of done (length buffer - done) buffer in
-    ap (λ (m : ℕ). take (m + n) (put_mid done (length buffer - done) buffer part)) (sym front)
-    ∙ take-append-add (take done buffer) (part ++ rest) n
-    ∙ ap (λ (xs : List ℕ). take done buffer ++ xs) (take-append-le n part rest few)
-
--- n more bytes of a text were read, behind those that were there
-pub near_more : (t buffer part : List ℕ) (start done n : ℕ) → done ≤ length buffer → n ≤ length part
-    → take done buffer ≡ take done (drop start t) → take n part ≡ take n (drop (start + done) t)
-    → take (done + n) (put_mid done (length buffer - done) buffer part) ≡ take (done + n) (drop start t)
-near_more t buffer part start done n inside few had more =
-    front_of done n buffer part inside few
-    ∙ ap (λ (xs : List ℕ). take done buffer ++ xs) (more ∙ ap (take n) (sym (drop-drop done start t)))
-    ∙ ap (λ (xs : List ℕ). xs ++ take n (drop done (drop start t))) had
-    ∙ sym (take-add done n (drop start t))

@@ -10,7 +10,7 @@ ghost use Rattle.screen_editor.specs.Lines.{line_start};
 
 use crate::held::HeldBytes;
 use crate::lines::line_start;
-use crate::near::{leaf_left, width_behind};
+use crate::near::width_behind;
 use cord_position::Pos;
 use cord_search::{PIECE, clear_behind};
 use lazy_file::{SourceFault, Sources};
@@ -79,7 +79,7 @@ pub fn near_start<S: NodeSpace, T: Sources>(
     if place == 0 {
         return Ok(0);
     }
-    let straight = is_straight(alloc, space, rope, place);
+    let straight = held.is_straight(alloc, space, rope, place);
     let near = held.up_to(place);
     let width = width_behind(near);
     if straight && width < near.len() {
@@ -88,14 +88,4 @@ pub fn near_start<S: NodeSpace, T: Sources>(
     held.hold_before(space, sources, rope, place, straight)?;
     let start = start_in_window(alloc, held, space, sources, rope, place)?;
     Ok(start)
-}
-
-/// Whether the `PIECE` bytes before a place lie in one leaf.
-fn is_straight<S: NodeSpace>(alloc: Global, space: &S, rope: Rope, place: u64) -> bool
-    requires rope { IsRope (S.table space.now) rope }
-    requires place { place ≤ rope_len (S.table space.now) rope }
-    ensures { IsTrue result → PIECE ≤ place }
-{
-    let window = PIECE as u64;
-    place >= window && leaf_left(alloc, space, rope, place - window) >= window
 }

@@ -9,7 +9,7 @@ ghost use Rattle.screen_editor.specs.HeldBytes.{AreHeld};
 ghost use Rattle.screen_editor.specs.Lines.{line_end};
 
 use crate::held::HeldBytes;
-use crate::near::{leaf_left, width_ahead};
+use crate::near::width_ahead;
 use cord_search::PIECE;
 use lazy_file::{SourceFault, Sources};
 use rope_node::{NodeSpace, Rope, rope_len};
@@ -48,7 +48,8 @@ fn look_behind<S: NodeSpace, T: Sources>(
     Ok(end)
 }
 
-/// The first line break at a place or behind it, or the text's end. Where the place's leaf has `PIECE` bytes more, it looks among the bytes that are held first.
+/// The first line break at a place or behind it, or the text's end. It looks among the bytes that are held first, and takes what they tell where a search would read
+/// nothing else.
 ///
 /// # Errors
 ///
@@ -74,13 +75,16 @@ pub fn near_end<S: NodeSpace, T: Sources>(
         (rope_cell (S.table space.now) rope) 0 (rope_len (S.table space.now) rope) result }
 {
     let len = rope_len(space, rope);
-    if leaf_left(alloc, space, rope, start) < PIECE as u64 {
-        return held.search_end(alloc, space, sources, rope, start);
-    }
     let near = held.starting_at(start);
     let width = width_ahead(near);
     if width < near.len() {
-        return Ok(len.min(start + width as u64));
+        let end = len.min(start + width as u64);
+        if held.tells(alloc, space, rope, start, end) {
+            return Ok(end);
+        }
+    }
+    if held.leaf_left(alloc, space, rope, start) < PIECE as u64 {
+        return held.search_end(alloc, space, sources, rope, start);
     }
     look_behind(alloc, held, space, sources, rope, start)
 }

@@ -1,6 +1,6 @@
 //! Bytes of a text about a place that are held, so that the lines about it are read once.
 
-ghost use Rattle.std.specs.Prelude.{◌≡◌, ◌↔◌, ◌≤◌, ◌+◌, ◌-◌, [], length, IsTrue, IfOk, OnOk};
+ghost use Rattle.std.specs.Prelude.{◌≡◌, ◌↔◌, ◌≤◌, ◌+◌, ◌-◌, [], ℕ, List, length, take, drop, IsTrue, IfSome, IfOk, OnOk};
 ghost use Rattle.rope_node.specs.Denotes.{IsRope, rope_len};
 ghost use Rattle.cord_position.specs.Fetched.{ReadsSpan, rope_cell};
 ghost use Rattle.cord_search.specs.declared.runs.TheConstants.{PIECE};
@@ -10,6 +10,7 @@ ghost use Rattle.screen_editor.specs.Lines.{line_end};
 
 use crate::lines::line_end_with;
 use crate::near::read_part;
+use cord_position::Pos;
 use cord_search::PIECE;
 use lazy_file::{SourceFault, Sources};
 use rope_node::{NodeSpace, Rope, rope_len};
@@ -28,6 +29,9 @@ pub struct HeldBytes {
     /// They were read leaf by leaf, by blocks that are kept where a leaf has no more of them.
     kept: bool,
     bytes: [u8; ROOM],
+    /// The leaf that was looked for last: from its first place up to its end.
+    leaf_start: u64,
+    leaf_end: u64,
     /// Room for a search through the text.
     searched: [u8; PIECE],
 }
@@ -54,6 +58,8 @@ impl HeldBytes {
             start: ROOM,
             kept: true,
             bytes: [0; ROOM],
+            leaf_start: 0,
+            leaf_end: 0,
             searched: [0; PIECE],
         }
     }
@@ -191,6 +197,83 @@ impl HeldBytes {
             self.begin_at(end);
         }
         self.read_before(space, sources, rope, from)
+    }
+
+    /// So many bytes from a place on, where these are held and came by blocks that are kept.
+    pub fn kept_part(&self, place: u64, count: usize) -> Option<&[u8]>
+        ensures count { IfSome result (λ part. length part.now ≡ count) }
+        ensures bytes { IfSome result (λ part. (t : List ℕ) → AreHeld self.now t → part.now ≡ take count (drop place t)) }
+    {
+        let near = self.starting_at(place);
+        if self.kept && count <= near.len() {
+            Some(&near[..count])
+        } else {
+            None
+        }
+    }
+
+    /// How many bytes the leaf at a place has from there on. It goes down to it where the leaf before was another one.
+    pub fn leaf_left<S: NodeSpace>(
+        &mut self,
+        alloc: Global,
+        space: &S,
+        rope: Rope,
+        place: u64,
+    ) -> u64
+        requires rope { IsRope (S.table space.now) rope }
+        requires place { place ≤ rope_len (S.table space.now) rope }
+        ensures same { self.new ≡ self.old }
+        ensures inside { place + result ≤ rope_len (S.table space.now) rope }
+    {
+        let len = rope_len(space, rope);
+        if place < self.leaf_start || self.leaf_end <= place {
+            let pos = Pos::set(alloc, space, rope, place);
+            self.leaf_start = pos.run_start();
+            self.leaf_end = place + pos.run_left();
+        }
+        self.leaf_end.min(len).saturating_sub(place)
+    }
+
+    /// Whether the `PIECE` bytes before a place lie in one leaf.
+    pub fn is_straight<S: NodeSpace>(
+        &mut self,
+        alloc: Global,
+        space: &S,
+        rope: Rope,
+        place: u64,
+    ) -> bool
+        requires rope { IsRope (S.table space.now) rope }
+        requires place { place ≤ rope_len (S.table space.now) rope }
+        ensures same { self.new ≡ self.old }
+        ensures window { IsTrue result → PIECE ≤ place }
+    {
+        let window = PIECE as u64;
+        place >= window && self.leaf_left(alloc, space, rope, place - window) >= window
+    }
+
+    /// Whether a search from `start` on for the line break at `end`, which is held, would read nothing else: where it is one read, or where the bytes that are held came
+    /// by blocks that are kept, up to the end of the break's leaf.
+    pub fn tells<S: NodeSpace>(
+        &mut self,
+        alloc: Global,
+        space: &S,
+        rope: Rope,
+        start: u64,
+        end: u64,
+    ) -> bool
+        requires rope { IsRope (S.table space.now) rope }
+        requires start { start ≤ rope_len (S.table space.now) rope }
+        requires end { end ≤ rope_len (S.table space.now) rope }
+        ensures { self.new ≡ self.old }
+    {
+        let _len = rope_len(space, rope);
+        if self.kept {
+            let left = self.leaf_left(alloc, space, rope, end);
+            if self.reaches(end + left) {
+                return true;
+            }
+        }
+        self.leaf_left(alloc, space, rope, start) >= PIECE as u64
     }
 
     /// The first line break at a place or behind it, or the text's end, by a search through the text.

@@ -12,7 +12,7 @@ ghost use Rattle.screen_editor.specs.Rows.{lines_from, rows_in, PushesLine};
 use crate::behind::near_end;
 use crate::fault::FrameFault;
 use crate::held::HeldBytes;
-use crate::near::read_near;
+use crate::near::read_part;
 use lazy_file::Sources;
 use rope_node::{NodeSpace, Rope, rope_len};
 use std::alloc::{AllocError, Global};
@@ -48,7 +48,6 @@ fn push_glyphs(bytes: &[u8], out: &mut Vec<u8>) -> Result<(), AllocError>
 
 /// Appends the bytes from `start` up to `end`, at most a row of them, as they are shown.
 fn push_part<S: NodeSpace, T: Sources>(
-    alloc: Global,
     space: &S,
     sources: &mut T,
     rope: Rope,
@@ -67,14 +66,13 @@ fn push_part<S: NodeSpace, T: Sources>(
 {
     let mut buffer = [0; SCREEN_COLUMNS as usize];
     let row = &mut buffer[..(end - start) as usize];
-    read_near(alloc, space, sources, rope, start, row)?;
+    read_part(space, sources, rope, start, row)?;
     push_glyphs(row, out)?;
     Ok(())
 }
 
 /// Appends the same bytes part by part: so many that the last one of a part is the first for which `out` takes memory, which it does behind the read of that byte.
 fn push_parts<S: NodeSpace, T: Sources>(
-    alloc: Global,
     space: &S,
     sources: &mut T,
     rope: Rope,
@@ -95,10 +93,39 @@ fn push_parts<S: NodeSpace, T: Sources>(
     while place < end {
         let room = out.capacity().saturating_sub(out.len()).saturating_add(1);
         let to = place + (end - place).min(room as u64);
-        push_part(alloc, space, sources, rope, place, to, out)?;
+        push_part(space, sources, rope, place, to, out)?;
         place = to;
     }
     Ok(())
+}
+
+/// Appends the same bytes: those that are held, where the blocks that they lie in were read for them, and else part by part.
+fn push_row<S: NodeSpace, T: Sources>(
+    held: &HeldBytes,
+    space: &S,
+    sources: &mut T,
+    rope: Rope,
+    start: u64,
+    end: u64,
+    out: &mut Vec<u8>,
+) -> Result<(), FrameFault>
+    requires rope { IsRope (S.table space.now) rope }
+    requires start { start ≤ end }
+    requires end { end ≤ rope_len (S.table space.now) rope }
+    requires row { end ≤ start + SCREEN_COLUMNS }
+    requires held { OfText (S.table space.now) (T.reading sources.old).stated rope (AreHeld held.now) }
+    ensures bytes { OnOk result (OfText (S.table space.now) (T.reading sources.old).stated rope
+        (λ t. out.new.items ≡ out.old.items ++ map glyph (take (end - start) (drop start t)))) }
+    ensures reads { ReadsToShow (T.reading sources.old) (T.reading sources.new)
+        (rope_cell (S.table space.now) rope) (rope_len (S.table space.now) rope) result }
+{
+    match held.kept_part(start, (end - start) as usize) {
+        Some(row) => {
+            push_glyphs(row, out)?;
+            Ok(())
+        }
+        None => push_parts(space, sources, rope, start, end, out),
+    }
 }
 
 /// Appends what is shown of the line that begins at `start`, from the column `left` on. It answers where the next
@@ -127,8 +154,8 @@ fn push_line<S: NodeSpace, T: Sources>(
     let end = near_end(alloc, held, space, sources, rope, start)?;
     let rest = (end - start).saturating_sub(left);
     let from = end - rest;
-    push_parts(
-        alloc,
+    push_row(
+        held,
         space,
         sources,
         rope,

@@ -8,8 +8,8 @@ use Rattle.screen_editor.specs.Lines.{is_break}
 use Rattle.screen_editor.proofs.HeldLaws.{held_from, width_is}
 use Rattle.screen_editor.proofs.behind.near_end.Goals as goal
 
-pub returns-then-width-near-clause-is : goal.returns-then-width-near-clause-is
-returns-then-width-near-clause-is g c source agrees stated =
+pub returns-then-tells-clause-is : goal.returns-then-tells-clause-is
+returns-then-tells-clause-is g c source agrees stated =
     let t = g.S.NodeSpace.table c.args.space.now in
     let u = text source (rope_cells t c.args.rope) in
     let start = c.args.start in
@@ -18,4 +18,4 @@ returns-then-width-near-clause-is g c source agrees stated =
     let width = width_is (drop start u) near front (λ wide. absurd (omega (arith, wide, c.if-width-near.true, c.width_ahead-width.ensures.is))) in
     let long : length u ≡ c.rope_len-len.result = text_length t c.args.rope source ∙ sym c.rope_len-len.ensures.cells in
     let inside : position_or_len is_break (drop start u) ≤ length (drop start u) = prefix_len-le-length (λ b. not (is_break b)) (drop start u) in
-    omega (arith, c.min.ensures, width, c.width_ahead-width.ensures.is, inside, length-drop start u, long, c.rope_len-len.ensures.exact, c.requires.start)
+    omega (arith, c.min-end.ensures, width, c.width_ahead-width.ensures.is, inside, length-drop start u, long, c.rope_len-len.ensures.exact, c.requires.start)

@@ -9,12 +9,12 @@ use Rattle.screen_editor.proofs.RowLaws.{line_then, line_last}
 use Rattle.screen_editor.proofs.Showing.{failed_part}
 use Rattle.screen_editor.proofs.rows.push_line.Goals as goal
 
-pub returns-in_err-push_parts-clause-reads : goal.returns-in_err-push_parts-clause-reads
-returns-in_err-push_parts-clause-reads g c =
-    let p = err_from_is_err_and c.from_residual-in_err-push_parts.result c.from_residual-in_err-push_parts.ensures.1 in
+pub returns-in_err-push_row-clause-reads : goal.returns-in_err-push_row-clause-reads
+returns-in_err-push_row-clause-reads g c =
+    let p = err_from_is_err_and c.from_residual-in_err-push_row.result c.from_residual-in_err-push_row.ensures.1 in
     let t = g.S.NodeSpace.table c.args.space.now in
-    rw (p.1, p.2) (failed_part (g.T.Sources.reading c.args.sources.now) (g.T.Sources.reading c.near_end.new.sources) (g.T.Sources.reading c.push_parts.new.sources) (rope_cell t c.args.rope) (rope_len t c.args.rope) _
-    c.in_ok-end.ensures.reads c.in_err-push_parts.ensures.reads)
+    rw (p.1, p.2) (failed_part (g.T.Sources.reading c.args.sources.now) (g.T.Sources.reading c.near_end.new.sources) (g.T.Sources.reading c.push_row.new.sources) (rope_cell t c.args.rope) (rope_len t c.args.rope) _
+    c.in_ok-end.ensures.reads c.in_err-push_row.ensures.reads)
 
 pub returns-then-end-rope_len-clause-line : goal.returns-then-end-rope_len-clause-line
 returns-then-end-rope_len-clause-line g c source agrees stated =
@@ -23,9 +23,9 @@ returns-then-end-rope_len-clause-line g c source agrees stated =
     let end = c.in_ok-end.end in
     let n = c.saturating_sub-rest.result in
     let long : length u ≡ c.rope_len.result = text_length t c.args.rope source ∙ sym c.rope_len.ensures.cells in
-    let bytes = told_before t (g.T.Sources.reading c.args.sources.now).stated (g.T.Sources.reading c.near_end.new.sources).stated c.args.rope 0 (rope_len t c.args.rope) (λ v. c.push_parts.new.out.items ≡ c.args.out.now.items ++ map glyph (take (end - n + c.min.result - (end - n)) (drop (end - n) v))) (same_stated c.in_ok-end.ensures.reads) c.in_ok-push_parts.ensures.bytes source agrees stated in
-    let pushed = subst (λ (m : ℕ). c.push_parts.new.out.items ≡ c.args.out.now.items ++ map glyph (take (end - n + m - (end - n)) (drop (end - n) u))) c.min.ensures bytes in
-    line_then u c.args.out.now.items c.push_parts.new.out.items c.args.start c.args.left end n c.in_ok-end.ensures.from (omega (arith, long, c.if-end-rope_len.true)) (c.in_ok-end.ensures.is source agrees stated) c.saturating_sub-rest.ensures pushed
+    let bytes = told_before t (g.T.Sources.reading c.args.sources.now).stated (g.T.Sources.reading c.near_end.new.sources).stated c.args.rope 0 (rope_len t c.args.rope) (λ v. c.push_row.new.out.items ≡ c.args.out.now.items ++ map glyph (take (end - n + c.min.result - (end - n)) (drop (end - n) v))) (same_stated c.in_ok-end.ensures.reads) c.in_ok-push_row.ensures.bytes source agrees stated in
+    let pushed = subst (λ (m : ℕ). c.push_row.new.out.items ≡ c.args.out.now.items ++ map glyph (take (end - n + m - (end - n)) (drop (end - n) u))) c.min.ensures bytes in
+    line_then u c.args.out.now.items c.push_row.new.out.items c.args.start c.args.left end n c.in_ok-end.ensures.from (omega (arith, long, c.if-end-rope_len.true)) (c.in_ok-end.ensures.is source agrees stated) c.saturating_sub-rest.ensures pushed
 
 pub returns-else-end-rope_len-clause-line : goal.returns-else-end-rope_len-clause-line
 returns-else-end-rope_len-clause-line g c source agrees stated =
@@ -34,6 +34,6 @@ returns-else-end-rope_len-clause-line g c source agrees stated =
     let end = c.in_ok-end.end in
     let n = c.saturating_sub-rest.result in
     let long : length u ≡ c.rope_len.result = text_length t c.args.rope source ∙ sym c.rope_len.ensures.cells in
-    let bytes = told_before t (g.T.Sources.reading c.args.sources.now).stated (g.T.Sources.reading c.near_end.new.sources).stated c.args.rope 0 (rope_len t c.args.rope) (λ v. c.push_parts.new.out.items ≡ c.args.out.now.items ++ map glyph (take (end - n + c.min.result - (end - n)) (drop (end - n) v))) (same_stated c.in_ok-end.ensures.reads) c.in_ok-push_parts.ensures.bytes source agrees stated in
-    let pushed = subst (λ (m : ℕ). c.push_parts.new.out.items ≡ c.args.out.now.items ++ map glyph (take (end - n + m - (end - n)) (drop (end - n) u))) c.min.ensures bytes in
-    line_last u c.args.out.now.items c.push_parts.new.out.items c.args.start c.args.left end n c.in_ok-end.ensures.from (omega (arith, long, c.if-end-rope_len.false, c.in_ok-end.ensures.inside, c.rope_len.ensures.exact)) (c.in_ok-end.ensures.is source agrees stated) c.saturating_sub-rest.ensures pushed
+    let bytes = told_before t (g.T.Sources.reading c.args.sources.now).stated (g.T.Sources.reading c.near_end.new.sources).stated c.args.rope 0 (rope_len t c.args.rope) (λ v. c.push_row.new.out.items ≡ c.args.out.now.items ++ map glyph (take (end - n + c.min.result - (end - n)) (drop (end - n) v))) (same_stated c.in_ok-end.ensures.reads) c.in_ok-push_row.ensures.bytes source agrees stated in
+    let pushed = subst (λ (m : ℕ). c.push_row.new.out.items ≡ c.args.out.now.items ++ map glyph (take (end - n + m - (end - n)) (drop (end - n) u))) c.min.ensures bytes in
+    line_last u c.args.out.now.items c.push_row.new.out.items c.args.start c.args.left end n c.in_ok-end.ensures.from (omega (arith, long, c.if-end-rope_len.false, c.in_ok-end.ensures.inside, c.rope_len.ensures.exact)) (c.in_ok-end.ensures.is source agrees stated) c.saturating_sub-rest.ensures pushed
