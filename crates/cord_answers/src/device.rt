@@ -87,13 +87,17 @@ fn tell_read(read: Read, report: &mut Report) -> Result<()> {
 
 /// How a device misbehaves.
 #[derive(Clone, Copy)]
-pub enum Trouble {
-    None,
+pub struct Trouble {
     /// A read fails that covers this byte.
-    FailsAt(u64),
+    pub fails_at: Option<u64>,
     /// The file ends here.
-    EndsAt(u64),
+    pub ends_at: Option<u64>,
 }
+
+pub const NO_TROUBLE: Trouble = Trouble {
+    fails_at: None,
+    ends_at: None,
+};
 
 /// A file whose reads are recorded. From a turn on it misbehaves; a read gives so many bytes at most.
 #[derive(Drop)]
@@ -114,18 +118,22 @@ impl File<'_> {
         if self.watch.turn.get() < self.since {
             return Some(part);
         }
-        match self.trouble {
-            Trouble::None => Some(part),
-            Trouble::FailsAt(byte) => {
-                let covers = byte.checked_sub(off).is_some_and(|k| k < asked as u64);
-                if covers { None } else { Some(part) }
-            }
-            Trouble::EndsAt(end) => {
-                let left = end.saturating_sub(off).min(part.len() as u64) as usize;
-                Some(part.get(..left).unwrap_or(part))
-            }
+        if self
+            .trouble
+            .fails_at
+            .is_some_and(|byte| covers(off, asked, byte))
+        {
+            return None;
         }
+        let end = self.trouble.ends_at.unwrap_or(u64::MAX);
+        let left = end.saturating_sub(off).min(part.len() as u64) as usize;
+        Some(part.get(..left).unwrap_or(part))
     }
+}
+
+/// Whether a byte is one of so many from `off` on.
+fn covers(off: u64, asked: usize, byte: u64) -> bool {
+    byte.checked_sub(off).is_some_and(|k| k < asked as u64)
 }
 
 /// The front of `buffer`, filled with as many of these bytes as it takes.

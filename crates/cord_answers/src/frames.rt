@@ -3,7 +3,7 @@
 ghost use Rattle.std.specs.Prelude.{◌≡◌, IfOk};
 
 use crate::chance::Chance;
-use crate::device::{File, Trouble, Watch};
+use crate::device::{File, Watch};
 use crate::digest::Digest;
 use crate::plans::{Plan, plan_of};
 use crate::report::Report;
@@ -117,15 +117,14 @@ fn take(editor: &mut Screen<'_>, watch: &Watch, turn: Turn, report: &mut Report)
 fn describe(plan: &Plan, report: &mut Report) -> Result<()> {
     report.entry(": a file of ", plan.text.len() as u64)?;
     report.words(" bytes")?;
-    match plan.trouble {
-        Trouble::None => {}
-        Trouble::FailsAt(byte) => report.entry(", unreadable at ", byte)?,
-        Trouble::EndsAt(end) => report.entry(", cut at ", end)?,
+    if let Some(byte) = plan.trouble.fails_at {
+        report.entry(", unreadable at ", byte)?;
     }
-    if !matches!(plan.trouble, Trouble::None) {
-        report.entry(" from turn ", plan.since)?;
-        report.words(" on")?;
+    if let Some(end) = plan.trouble.ends_at {
+        report.entry(", cut at ", end)?;
     }
+    report.entry(" from turn ", plan.since)?;
+    report.words(" on")?;
     if plan.most < usize::MAX {
         report.entry(", at most so many bytes a read: ", plan.most as u64)?;
     }

@@ -3,7 +3,7 @@
 ghost use Rattle.std.specs.Prelude.{◌≡◌, ◌≤◌, IfOk, length};
 
 use crate::chance::Chance;
-use crate::device::{File, Trouble, Watch};
+use crate::device::{File, NO_TROUBLE, Trouble, Watch};
 use crate::digest::Digest;
 use crate::report::Report;
 use anyhow::{Result, bail};
@@ -106,10 +106,17 @@ fn held<'a>(alloc: Global, text: &'a [u8]) -> Result<MemSources<'a>>
 
 /// How a file misbehaves.
 fn trouble(chance: &mut Chance, size: u64) -> Trouble {
+    let place = Some(chance.below(size));
     match chance.below(4) {
-        0 => Trouble::FailsAt(chance.below(size)),
-        1 => Trouble::EndsAt(chance.below(size)),
-        _ => Trouble::None,
+        0 => Trouble {
+            fails_at: place,
+            ..NO_TROUBLE
+        },
+        1 => Trouble {
+            ends_at: place,
+            ..NO_TROUBLE
+        },
+        _ => NO_TROUBLE,
     }
 }
 

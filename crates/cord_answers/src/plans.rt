@@ -1,9 +1,9 @@
 //! Texts with keys, over files that may misbehave.
 
 use crate::chance::Chance;
-use crate::device::Trouble;
+use crate::device::{NO_TROUBLE, Trouble};
 use crate::texts::{even, mixed};
-use crate::turns::{BREAK, DOWN, LINE_END, LINE_START, RIGHT, Turns, UP};
+use crate::turns::{BREAK, DOWN, DROP_CUT, LINE_END, LINE_START, RIGHT, Turns, UP};
 use anyhow::Result;
 use std::alloc::Global;
 
@@ -28,10 +28,31 @@ fn cut_behind(alloc: Global, line: u64, down: u64) -> Result<Plan> {
     Ok(Plan {
         text: even(alloc, 39_960, line.saturating_sub(1))?,
         turns,
-        trouble: Trouble::EndsAt(7879),
+        trouble: Trouble {
+            ends_at: Some(7879),
+            ..NO_TROUBLE
+        },
         since: down.saturating_add(1),
         most: usize::MAX,
         is_shown: true,
+    })
+}
+
+/// A file that is unreadable at a byte and cut behind it, before the place that is shown: of two faults the start told the first.
+fn cut_and_unreadable(alloc: Global) -> Result<Plan> {
+    let mut turns = Turns::new(alloc);
+    turns.press(DOWN, 200)?;
+    turns.show(DROP_CUT, 1)?;
+    Ok(Plan {
+        text: even(alloc, 39_960, 59)?,
+        turns,
+        trouble: Trouble {
+            fails_at: Some(8000),
+            ends_at: Some(11_999),
+        },
+        since: 2,
+        most: usize::MAX,
+        is_shown: false,
     })
 }
 
@@ -78,10 +99,21 @@ fn byte_near(chance: &mut Chance, place: u64, len: u64) -> u64 {
 
 /// How a file misbehaves about a place.
 fn trouble_near(chance: &mut Chance, place: u64, len: u64) -> Trouble {
-    match chance.below(10) {
-        0..3 => Trouble::None,
-        3..6 => Trouble::FailsAt(byte_near(chance, place, len)),
-        _ => Trouble::EndsAt(byte_near(chance, place, len)),
+    let (fails_at, ends_at) = (byte_near(chance, place, len), byte_near(chance, place, len));
+    match chance.below(20) {
+        0..5 => NO_TROUBLE,
+        5..11 => Trouble {
+            fails_at: Some(fails_at),
+            ends_at: None,
+        },
+        11..17 => Trouble {
+            fails_at: None,
+            ends_at: Some(ends_at),
+        },
+        _ => Trouble {
+            fails_at: Some(fails_at),
+            ends_at: Some(ends_at),
+        },
     }
 }
 
@@ -157,11 +189,12 @@ fn by_chance(alloc: Global, chance: &mut Chance) -> Result<Plan> {
     })
 }
 
-/// The plan of a number: the first two were worked by hand.
+/// The plan of a number: the first three were worked by hand.
 pub fn plan_of(alloc: Global, chance: &mut Chance, seed: u64) -> Result<Plan> {
     match seed {
         0 => cut_behind(alloc, 60, 51),
         1 => cut_behind(alloc, 48, 64),
+        2 => cut_and_unreadable(alloc),
         _ => by_chance(alloc, chance),
     }
 }
