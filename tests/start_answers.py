@@ -4,11 +4,12 @@
 - with one program, the cases of tests/data/start_answers.txt, which the start's build printed;
 - with a second one, built at the start, so many seeds of each group, or of the groups that are named.
 
-An answer has to be the start's, but for frames: of a frame or a key its reads of the file have to be some of the start's, whole and in their order;
-a frame is the start's where the start showed one; where the start told a fault, a frame may be shown, or the same fault told, and its reads are not
-compared, since the start's ended there. A run is compared up to the start's first fault of a frame. A case of the data that is known to be otherwise has the word DIFFERS on its first line, and fails once it is
-as at the start. Behind these cases each allocation of some runs of frames is refused, by tests/refuse.c, where there is gcc: what is told is then the
-same up to a line that tells `memory`, or the program ends without an answer. (The start's allocations are others, so no two builds are compared there.)
+An answer has to be the start's, but for frames: of a frame or a key its reads of the file have to be some of the start's, whole and in their order; a
+frame is the start's where the start showed one. Where the start told a fault, a frame may be shown, or the same fault told; another one only where the
+read that failed at the start is left out, since the start never came to what is read behind it. A run is compared up to the start's first fault of a frame.
+A case of the data that is known to be otherwise has the word DIFFERS on its first line, and fails once it is as at the start. Behind these cases each
+allocation of some runs of frames is refused, by tests/refuse.c, where there is gcc: what is told is then the same up to a line that tells `memory`, or the
+program ends without an answer. (The start's allocations are others, so no two builds are compared there.)
 
 Usage: tests/start_answers.py PROGRAM [OLD_PROGRAM SEEDS [GROUP]...]
        tests/start_answers.py record OLD_PROGRAM PROGRAM    writes the data anew, by the start's build, and marks where PROGRAM answers otherwise
@@ -81,15 +82,22 @@ def is_part(few, all_of_them):
     return all(one in left for one in few)
 
 
+def places(reads):
+    """Where the reads began. One that came short is gone on with by others, which have a + each."""
+    return [re.match(r"\d+", read)[0] for read in reads if "+" not in read]
+
+
 def turn_fault(old, new):
     """What is wrong with a line of a run, beside the start's."""
     was, now = TURN.fullmatch(old), TURN.fullmatch(new)
     if not was or not now or was[1] != now[1]:
         return "another line"
+    had, has = was[2].split(), now[2].split()
     has_failed = was[1] == "frame" and not FRAME.fullmatch(was[3])
-    if was[3] != now[3] and not (has_failed and FRAME.fullmatch(now[3])):
+    left_out = has_failed and not set(places(had)[-1:]) & set(places(has))
+    if was[3] != now[3] and not left_out and not (has_failed and FRAME.fullmatch(now[3])):
         return f"{now[3]} in place of {was[3]}"
-    if not has_failed and not is_part(now[2].split(), was[2].split()):
+    if not has_failed and not is_part(has, had):
         return "a read that the start did not make"
     return ""
 
