@@ -4,14 +4,14 @@
 # history of README.md as a session, and what docs/SCRIPTS.md shows; what the build before the pass for speed answered, beside the program
 # cord_answers, as the gate built it; images by the C library, through its Python module, where `make library` built it;
 # where there is gcc, each allocation of that program's runs refused, and of those of refusal_tests, as the gate built them; and whether docs/HEADLINE.md
-# is what specs/ say, each new name there one thing, and each call and clause there that a crate's README.md or docs/PROVED.md names. Where there is no
-# python3 nothing of it is tried, which is told. What a test left out is told too. The last line is 'N passed, M failed'; the status is not 0 where one
-# failed.
+# is what specs/ say, each new name there one thing, and each call and clause there that a crate's README.md or docs/PROVED.md names, and whether wrong
+# edits keep the names that proofs cite. Where there is no python3 nothing of it is tried, which is told. What a test left out is told too. The last line
+# is 'N passed, M failed'; the status is not 0 where one failed.
 set -u
 top=$(cd "$(dirname "$0")/.." && pwd)
 program=${1:-$top/crates/cordkit/out/cordkit}
 if ! command -v python3 > /dev/null; then
-    echo "LEFT OUT: the second checker, damaged images, keys, scripts, the history of README.md, the inputs of the fuzzer, large sources, the answers of the start, refused allocations, docs/HEADLINE.md, names, README.md and docs/PROVED.md: there is no python3 here"
+    echo "LEFT OUT: the second checker, damaged images, keys, scripts, the history of README.md, the inputs of the fuzzer, large sources, the answers of the start, refused allocations, docs/HEADLINE.md, names, README.md and docs/PROVED.md, wrong edits: there is no python3 here"
     echo "0 passed, 0 failed"
     exit 0
 fi
@@ -58,5 +58,6 @@ try 'each allocation refused' "$top/tests/refused.py" "$program"
 try 'the page of definitions' "$top/tests/headline.py"
 try 'names' "$top/tests/names.py"
 try 'what README.md files and docs/PROVED.md name' "$top/tests/readmes.py"
+try 'wrong edits' "$top/tests/edit_names.py"
 echo "$passed passed, $failed failed"
 [ "$failed" = 0 ]

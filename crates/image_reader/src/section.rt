@@ -66,7 +66,8 @@ pub fn sections_of<'a>(header: &Header, bytes: &'a [u8]) -> Sections<'a>
     ensures sections { AreSections header.now bytes.now result }
     ensures pool { length result.pool.now ≤ length result.sources.now }
     ensures room { HasRoom header.now.sources result.sources.now header.now.nodes result.nodes.now
-        header.now.revisions result.revisions.now header.now.splices result.splices.now header.now.rows result.rows.now }
+        header.now.revisions result.revisions.now header.now.splices result.splices.now
+        header.now.rows result.rows.now }
 {
     let sources = bytes_from(bytes, HEADER_SIZE);
     let nodes = bytes_from(sources, SOURCE_SIZE * header.sources as usize);

@@ -109,7 +109,8 @@ impl<R: Read + Drop, W: Write + Drop> Kept<R, W> {
 
     /// Writes a key to the journal, or not where it ends a run.
     fn keep(&mut self, key: u8) -> Result<(), KeepFault>
-        ensures ok { OnOk result (Appends (W.contents self.old.journal) (W.contents self.new.journal) (kept_of (key ∷ []))) }
+        ensures ok { OnOk result
+            (Appends (W.contents self.old.journal) (W.contents self.new.journal) (kept_of (key ∷ []))) }
         ensures err { OnErr result (Keeps (W.contents self.old.journal) (W.contents self.new.journal)) }
         ensures inner { self.new.inner ≡ self.old.inner }
         ensures held { self.new.held ≡ self.old.held }
@@ -130,7 +131,8 @@ impl<R: Read + Drop, W: Write + Drop> Kept<R, W> {
         ensures next { IfOk result (IsNextByte (keys_left R.remaining self.old) (keys_left R.remaining self.new)) }
         ensures kept { IfOk result (λ key. Appends (keys_kept W.contents self.old) (keys_kept W.contents self.new)
             (kept_of (option_to_list key))) }
-        ensures none_given { OnErr result (Consumes (keys_left R.remaining self.old) (keys_left R.remaining self.new) []) }
+        ensures none_given { OnErr result
+            (Consumes (keys_left R.remaining self.old) (keys_left R.remaining self.new) []) }
         ensures none_kept { OnErr result (Appends (keys_kept W.contents self.old) (keys_kept W.contents self.new) []) }
     {
         let Some(key) = self.hold()? else {

@@ -18,7 +18,8 @@ pub fn plain_bytes()
 
 /// A whole sequence that is typed gives its keys, and nothing behind it is lost.
 pub fn whole_sequences()
-    ensures control { (ps : List ℕ) (b : ℕ) → AreParameters ps → IsFinal b → IsWholeSequence (0x1B ∷ 0x5B ∷ ps ++ b ∷ []) }
+    ensures control { (ps : List ℕ) (b : ℕ) → AreParameters ps → IsFinal b
+        → IsWholeSequence (0x1B ∷ 0x5B ∷ ps ++ b ∷ []) }
     ensures single { (b : ℕ) → 0x20 ≤ b → b ≤ 0x7E → Types (0x1B ∷ 0x4F ∷ b ∷ []) (letter b) }
 {}
 

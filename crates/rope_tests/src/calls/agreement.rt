@@ -15,7 +15,7 @@ use std::process::Abort;
 const LENGTH: u64 = 30_000;
 
 /// The next of some numbers without a pattern that matters, below `end`.
-fn below(seed: &mut u64, end: u64) -> u64 {
+pub(super) fn below(seed: &mut u64, end: u64) -> u64 {
     *seed = seed
         .wrapping_mul(6_364_136_223_846_793_005)
         .wrapping_add(1_442_695_040_888_963_407);

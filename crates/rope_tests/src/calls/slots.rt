@@ -1,6 +1,7 @@
 //! Which nodes balancing makes: contracts say how shallow and how many, and these which, beside slots that are gone through from the first
 //! on, one by one.
 
+use super::agreement::below;
 use super::stores::{add_source, joined, size_of, source_leaf};
 use super::{assert_same, assert_same_at};
 use function_leaf::Coded;
@@ -28,14 +29,6 @@ struct Slots {
     made: Vec<(u32, u32)>,
     /// The number of the first node that was made.
     first: u32,
-}
-
-/// The next of some numbers without a pattern that matters.
-fn next(seed: &mut u64) -> u64 {
-    *seed = seed
-        .wrapping_mul(6_364_136_223_846_793_005)
-        .wrapping_add(1_442_695_040_888_963_407);
-    *seed >> 33
 }
 
 /// Empty slots over a store that has so many nodes.
@@ -140,8 +133,8 @@ fn random_rope<A: AllocGlobal + Abort>(
     let mut pieces = Vec::new(rt.alloc());
     let (mut rope, mut behind) = (None, None);
     for k in 0..leaves {
-        let len = 1 + next(seed) % longest.max(1).min(1 << 19);
-        let leaf = source_leaf(rt, store, s, next(seed) % (1 << 19), len);
+        let len = below(seed, longest.min(1 << 19)).saturating_add(1);
+        let leaf = source_leaf(rt, store, s, below(seed, 1 << 19), len);
         let node = node_of(rt, leaf).0;
         pieces.push(Piece { node, len }).expect(rt, "memory");
         behind = joined(rt, store, behind, leaf);
