@@ -202,7 +202,8 @@ impl HeldBytes {
     /// So many bytes from a place on, where these are held and came by blocks that are kept.
     pub fn kept_part(&self, place: u64, count: usize) -> Option<&[u8]>
         ensures count { IfSome result (λ part. length part.now ≡ count) }
-        ensures bytes { IfSome result (λ part. (t : List ℕ) → AreHeld self.now t → part.now ≡ take count (drop place t)) }
+        ensures bytes { IfSome result (λ part. (t : List ℕ) → AreHeld self.now t
+            → part.now ≡ take count (drop place t)) }
     {
         let near = self.starting_at(place);
         if self.kept && count <= near.len() {
