@@ -1,95 +1,99 @@
-//! A block of the pool: memory that is taken once, written from the front, and never moved.
+//! A block of the pool: bytes that never move, and the room behind them.
 
-ghost use Rattle.std.specs.Prelude.{◌≡◌, ◌+◌, ◌≤◌, ◌++◌, [], length, IfOk};
+ghost use Rattle.std.specs.Prelude.{◌≡◌, ◌<◌, ◌≤◌, length, IfOk};
+ghost use Rattle.leaf_buffer.specs.Filled.{written_block, filled_behind};
 
-use crate::room::{Deed, Room, give, take};
+use crate::raw_block::RawBlock;
 use std::alloc::{AllocError, Global};
 use std::marker::Model;
 
 /// How many bytes a block takes.
 pub const BLOCK_SIZE: usize = 65_536;
 
-/// A block, seen as the bytes that were written into it.
+/// What a block's bytes lie in.
+#[derive(Drop)]
+enum Kind {
+    /// Memory of the pool's own, which takes more.
+    Written(RawBlock),
+    /// A vector that was handed over, which takes no more.
+    Handed(Vec<u8>),
+}
+
+/// A block, seen as its bytes and how many more it takes.
+#[derive(Drop)]
 pub(crate) struct Block {
-    alloc: Global,
-    /// Where the block begins.
-    first: *mut u8,
-    /// How many bytes were written.
-    len: usize,
-    room: Room,
-    deed: Deed<Global>,
+    kind: Kind,
 }
 
 impl Model for Block {
-    ghost use Rattle.std.specs.Prelude.{◌≡◌, ℕ, List, ◌≤◌, length};
+    ghost use Rattle.leaf_buffer.specs.Filled.{Filled};
+    ghost use Rattle.leaf_buffer.specs.Kinds.{filled_of};
 
-    ghost Value = { List ℕ };
+    ghost Value = { Filled };
 
-    ghost use Rattle.leaf_buffer.specs.declared.block.TheConstants.{BLOCK_SIZE};
-
-    ghost view = { λ b. b.room.bytes };
-
-    ghost invariant = { λ b. (b.room.first ≡ b.first) × (b.deed.first ≡ b.first) × (b.deed.alloc ≡ b.alloc)
-        × (b.len ≡ length b.room.bytes) × (b.len ≤ BLOCK_SIZE) };
+    ghost view = { λ b. filled_of b.kind };
 }
 
 impl Block {
-    /// A block that holds nothing yet.
-    pub(crate) fn new(alloc: Global) -> Result<Block, AllocError>
-        ensures { IfOk result (λ block. block ≡ []) }
-    {
-        let (first, room, deed) = take(&alloc)?;
-        Ok(Block {
-            alloc,
-            first,
-            len: 0,
-            room,
-            deed,
-        })
-    }
-
     /// A new block that begins with these bytes.
     pub(crate) fn with(alloc: Global, bytes: &[u8]) -> Result<Block, AllocError>
         requires { length bytes.now ≤ BLOCK_SIZE }
-        ensures { IfOk result (λ block. block ≡ bytes.now) }
+        ensures { IfOk result (λ block. block ≡ written_block bytes.now) }
     {
-        let mut block = Block::new(alloc)?;
-        block.append(bytes);
-        Ok(block)
+        let block = RawBlock::with(alloc, bytes)?;
+        Ok(Block {
+            kind: Kind::Written(block),
+        })
+    }
+
+    /// A block of these bytes, which takes no more.
+    pub(crate) fn holding(bytes: Vec<u8>) -> Block
+        ensures { result ≡ record { bytes = bytes.items; room = 0 } }
+    {
+        Block {
+            kind: Kind::Handed(bytes),
+        }
     }
 
     /// Writes these bytes behind those that are there.
     pub(crate) fn append(&mut self, bytes: &[u8])
-        requires { length self.old + length bytes.now ≤ BLOCK_SIZE }
-        ensures { self.new ≡ self.old ++ bytes.now }
+        requires some { 0 < length bytes.now }
+        requires fits { length bytes.now ≤ self.old.room }
+        ensures { self.new ≡ filled_behind self.old bytes.now }
     {
-        self.room.append(self.first, self.len, bytes);
-        self.len += bytes.len();
+        match &mut self.kind {
+            Kind::Written(block) => block.append(bytes),
+            Kind::Handed(_) => unreachable!(),
+        }
     }
 
-    /// The bytes that were written.
+    /// The bytes.
     pub(crate) fn as_slice(&self) -> &[u8]
-        ensures { result.now ≡ self.now }
+        ensures { result.now ≡ self.now.bytes }
     {
-        self.room.slice(self.first, self.len)
+        match &self.kind {
+            Kind::Written(block) => block.as_slice(),
+            Kind::Handed(bytes) => bytes,
+        }
     }
 
     pub(crate) fn len(&self) -> usize
-        ensures { result ≡ length self.now }
+        ensures { result ≡ length self.now.bytes }
     {
-        self.len
+        match &self.kind {
+            Kind::Written(block) => block.len(),
+            Kind::Handed(bytes) => bytes.len(),
+        }
     }
-}
 
-impl Drop for Block {
-    fn drop(self) {
-        let Block {
-            alloc,
-            first,
-            len: _,
-            room,
-            deed,
-        } = self;
-        give(&alloc, first, room, deed);
+    /// How many bytes more it takes.
+    pub(crate) fn room(&self) -> usize
+        ensures room { result ≡ self.now.room }
+        ensures limit { result ≤ BLOCK_SIZE }
+    {
+        match &self.kind {
+            Kind::Written(block) => BLOCK_SIZE - block.len(),
+            Kind::Handed(_) => 0,
+        }
     }
 }

@@ -7,6 +7,7 @@ mod lent;
 mod piece;
 mod placed;
 mod pool;
+mod raw_block;
 mod room;
 mod run;
 

@@ -2,7 +2,7 @@
 
 ghost use Rattle.std.specs.Prelude.{◌≡◌, ℕ, ◌+◌, ◌-◌, ◌^◌, ◌<◌, ◌≤◌, ◌↔◌, [], All, length, slice_range, IsSome, IfSome, OnSome, IfNone, IsOk, IfOk, OnOk, OnErr, IsErr, IsErrOf, IsTrue};
 ghost use Rattle.std.specs.List.{AllWithin};
-ghost use Rattle.leaf_buffer.specs.Contents.{IsInOneBlock, KeepsPieces, IsLastPiece, Takes, CanExtend, IsPoolFull, extended, with_block, appended};
+ghost use Rattle.leaf_buffer.specs.Contents.{IsInOneBlock, KeepsPieces, IsLastPiece, Takes, CanExtend, IsPoolFull, extended, with_block, appended, held_whole};
 ghost use Rattle.leaf_buffer.specs.Blocks.{AreConsecutive, IsLastBlock, IsBlockOf};
 
 use crate::block::{BLOCK_SIZE, Block};
@@ -75,6 +75,23 @@ impl Pool {
         }
     }
 
+    /// A pool that begins with these bytes, in one block that takes no more.
+    ///
+    /// # Errors
+    ///
+    /// `AllocError` where no memory was given for the list of blocks.
+    pub fn holding(alloc: Global, bytes: Vec<u8>) -> Result<Pool, AllocError>
+        requires { length bytes.items < POOL_LIMIT }
+        ensures { IfOk result (λ pool. pool ≡ held_whole bytes.items) }
+    {
+        let mut blocks = Vec::new(alloc);
+        if !bytes.is_empty() {
+            let block = Block::holding(bytes);
+            blocks.push(PlacedBlock { start: 0, block })?;
+        }
+        Ok(Pool { alloc, blocks })
+    }
+
     /// How many bytes the pool holds.
     pub fn len(&self) -> u64
         ensures len { result ≡ length self.now.bytes }
@@ -94,7 +111,7 @@ impl Pool {
         ensures limit { result ≤ BLOCK_SIZE }
     {
         match last_of(&self.blocks) {
-            Some(last) => BLOCK_SIZE - last.block.len(),
+            Some(last) => last.block.room(),
             None => 0,
         }
     }

@@ -1,19 +1,20 @@
 -- The length of its left part stays with each concatenation.
-use Rattle.std.proofs.Common.{◌≡◌, ℕ, zero, suc, ◌+◌, ◌-◌, ◌<◌, ◌≤◌, List, [], ◌∷◌, ◌++◌, map, length, get_or, refl, sym, ap, subst, ◌∙◌, arith}
+use Rattle.std.proofs.Common.{◌≡◌, ℕ, suc, ◌+◌, ◌-◌, ◌<◌, List, [], ◌∷◌, ◌++◌, map, length, get_or, refl, sym, ap, subst, ◌∙◌, arith}
 use Rattle.std.specs.Prelude.{All}
 use Rattle.std.proofs.lemmas.List.Elements.{All-get_or, All-push, All-weaker}
 use Rattle.std.proofs.lemmas.List.{length-map, get_or_append_left, get_or-append_right, get_or-map, map-append, length-append}
 use Rattle.leaf_buffer.specs.Contents.{Contents}
+use Rattle.rope_node.specs.declared.node.NodeId.{NodeId}
 use Rattle.rope_node.specs.declared.node.NodeView.{NodeView}
 use Rattle.rope_node.specs.declared.node.NodeView.TheVariants.{Lit, Src, Fun, Cat, Sub}
-use Rattle.rope_node.specs.Table.{Node, Table, no_node, HasGoodReferences}
+use Rattle.rope_node.specs.Table.{Node, Table, no_node, HasGoodReferences, IsLeftPart}
 use Rattle.node_table.specs.declared.entry.Entry.{Entry}
 use Rattle.node_table.specs.declared.entry.EntryKind.{EntryKind}
 use Rattle.node_table.specs.declared.entry.EntryKind.TheVariants.{Literal, Source, Function, Concatenation, Part}
 use Rattle.node_table.specs.declared.record.Record.{Record}
-use Rattle.node_table.specs.Entries.{record_of, stored_view, stored_left, StoresLeft}
+use Rattle.node_table.specs.Entries.{record_of}
 use Rattle.node_table.specs.Held.{Held, IsGoodNode, CanHold, table_of, with_records, node_of}
-use Rattle.node_table.specs.Lefts.{nodes_in, HasLeft, KeepsLeft, KeepLefts, HasLeftBelow, HaveLeftsBefore}
+use Rattle.node_table.specs.Lefts.{nodes_in, KeepsLeft, KeepLefts, HaveLeftsBefore}
 use Rattle.node_table.proofs.Growing.{node_of_entry}
 
 -- ---- what is stored
@@ -33,49 +34,44 @@ left_of_entry {F} entries id e inside is lefts =
 
 -- ---- one node more
 
-left_kept : (nodes more : List Node) (v : NodeView) (left : ℕ) → HasLeft nodes v left → HasLeft (nodes ++ more) v left
-left_kept nodes more (Lit a) left has = tt
-left_kept nodes more (Src s a) left has = tt
-left_kept nodes more Fun left has = tt
-left_kept nodes more (Cat l r) left has = (omega (arith, has.0, length-append nodes more), has.1 ∙ ap (λ (x : Node). x.len) (sym (get_or_append_left nodes more no_node l.0 has.0)))
-left_kept nodes more (Sub b i) left has = tt
+left_kept : {F : Type 0} (nodes more : List Node) (k : EntryKind F) → KeepsLeft nodes k → KeepsLeft (nodes ++ more) k
+left_kept nodes more (Literal a) keeps = tt
+left_kept nodes more (Source s a) keeps = tt
+left_kept nodes more (Function f) keeps = tt
+left_kept nodes more (Concatenation l d r n) keeps = (omega (arith, keeps.0, length-append nodes more), keeps.1 ∙ ap (λ (x : Node). x.len) (sym (get_or_append_left nodes more no_node l.0 keeps.0)))
+left_kept nodes more (Part b d i) keeps = tt
 
-left_stored : {F : Type 0} (nodes : List Node) (k : EntryKind F) (left : ℕ) → StoresLeft k left → HasLeft nodes (stored_view k) left → KeepsLeft nodes k
-left_stored nodes (Literal a) left stores has = tt
-left_stored nodes (Source s a) left stores has = tt
-left_stored nodes (Function f) left stores has = tt
-left_stored nodes (Concatenation l d r n) left stores has = (has.0, stores ∙ has.1)
-left_stored nodes (Part b d i) left stores has = tt
-
-pub lefts_pushed : {F : Type 0} (entries : List (Entry F)) (e : Entry F) (r : Record F) (left : ℕ) → KeepLefts entries → record_of e ≡ r → StoresLeft e.kind left → HasLeft (nodes_in entries) r.view left → KeepLefts (entries ++ e ∷ [])
-lefts_pushed {F} entries e r left lefts is stores has =
+pub lefts_pushed : {F : Type 0} (entries : List (Entry F)) (e : Entry F) → KeepLefts entries → KeepsLeft (nodes_in entries) e.kind → KeepLefts (entries ++ e ∷ [])
+lefts_pushed {F} entries e lefts kept =
     let old : List Node = nodes_in entries in
     let more : List Node = node_of (record_of e) ∷ [] in
     let whole : nodes_in (entries ++ e ∷ []) ≡ old ++ more = ap (map node_of) (map-append record_of entries (e ∷ [])) ∙ map-append node_of (map record_of entries) (record_of e ∷ []) in
-    let view : r.view ≡ stored_view e.kind = ap (λ (x : Record F). x.view) (sym is) in
-    let kept : KeepsLeft old e.kind = left_stored old e.kind left stores (subst (λ v. HasLeft old v left) view has) in
-    let stays : (x : Entry F) → KeepsLeft old x.kind → KeepsLeft (old ++ more) x.kind = λ x k. left_kept old more (stored_view x.kind) (stored_left x.kind) k in
+    let stays : (x : Entry F) → KeepsLeft old x.kind → KeepsLeft (old ++ more) x.kind = λ x k. left_kept old more x.kind k in
     let P : Entry F → Type 0 = λ x. KeepsLeft (old ++ more) x.kind in
     let older : All P entries = All-weaker (λ x. KeepsLeft old x.kind) P stays entries lefts in
     rw whole (All-push P entries e older (stays e kept))
 
 -- ---- the nodes of a call
 
-left_below : (t : Table) (id : ℕ) (v : NodeView) → HasGoodReferences t id v → HasLeftBelow id v
-left_below t id (Lit a) good = tt
-left_below t id (Src s a) good = tt
-left_below t id Fun good = tt
-left_below t id (Cat l r) good = good.0
-left_below t id (Sub b i) good = tt
+-- the left part of a node of this number is a node before it
+abbrev IsLeftBefore : NodeView → ℕ → Type 0
+IsLeftBefore v number = (l : NodeId) → IsLeftPart v l → l.0 < number
 
-lefts_from : {F : Type 0} (n : ℕ) (rs : List (Record F)) (d : Record F) → ((i : ℕ) → i < length rs → HasLeftBelow (n + i) (get_or rs i d).view) → HaveLeftsBefore n rs
+left_before : (t : Table) (id : ℕ) (v : NodeView) → HasGoodReferences t id v → IsLeftBefore v id
+left_before t id (Lit a) good l is = absurd is
+left_before t id (Src s a) good l is = absurd is
+left_before t id Fun good l is = absurd is
+left_before t id (Cat l r) good part is = rw is good.0
+left_before t id (Sub b i) good l is = absurd is
+
+lefts_from : {F : Type 0} (n : ℕ) (rs : List (Record F)) (d : Record F) → ((i : ℕ) → i < length rs → IsLeftBefore (get_or rs i d).view (n + i)) → HaveLeftsBefore n rs
 lefts_from n [] d each = tt
 lefts_from n (r ∷ rs) d each = (
-  subst (λ k. HasLeftBelow k r.view) (omega arith) (each 0 (omega arith)),
-  lefts_from (n + 1) rs d (λ i lt. subst (λ k. HasLeftBelow k (get_or rs i d).view) (omega arith) (each (suc i) (omega (arith, lt)))),
+  subst (λ k. IsLeftBefore r.view k) (omega arith) (each 0 (omega arith)),
+  lefts_from (n + 1) rs d (λ i lt. subst (λ k. IsLeftBefore (get_or rs i d).view k) (omega arith) (each (suc i) (omega (arith, lt)))),
 )
 
-left_of_record : {F : Type 0} (meaning : F → ℕ → ℕ) (h : Held F) (pool : Contents) (records : List (Record F)) → CanHold meaning h pool records → (d : Record F) (i : ℕ) → i < length records → HasLeftBelow (length h.nodes + i) (get_or records i d).view
+left_of_record : {F : Type 0} (meaning : F → ℕ → ℕ) (h : Held F) (pool : Contents) (records : List (Record F)) → CanHold meaning h pool records → (d : Record F) (i : ℕ) → i < length records → IsLeftBefore (get_or records i d).view (length h.nodes + i)
 left_of_record {F} meaning h pool records can d i inside =
     let id : ℕ = length h.nodes + i in
     let g : IsGoodNode meaning (with_records h pool records) id = can.nodes id (omega arith) (omega (arith, inside)) in
@@ -84,7 +80,7 @@ left_of_record {F} meaning h pool records can d i inside =
     get_or-append_right h.nodes (map node_of records) (length h.nodes) id no_node refl (omega arith)
     ∙ ap (λ (k : ℕ). get_or (map node_of records) k no_node) at
     ∙ get_or-map node_of records i d no_node inside in
-    left_below (table_of meaning (with_records h pool records)) id (get_or records i d).view (subst (λ (n : Node). HasGoodReferences (table_of meaning (with_records h pool records)) id n.view) node g.sound.references)
+    left_before (table_of meaning (with_records h pool records)) id (get_or records i d).view (subst (λ (n : Node). HasGoodReferences (table_of meaning (with_records h pool records)) id n.view) node g.sound.references)
 
 pub lefts_before : {F : Type 0} (meaning : F → ℕ → ℕ) (h : Held F) (pool : Contents) (records : List (Record F)) (entries : List (Entry F)) → nodes_in entries ≡ h.nodes → CanHold meaning h pool records → HaveLeftsBefore (length entries) records
 lefts_before {F} meaning h pool [] entries same can = tt

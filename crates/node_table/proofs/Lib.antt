@@ -1,3 +1,4 @@
+pub mod CopiedNodes
 pub mod Filling
 pub mod Growing
 pub mod LeftLengths

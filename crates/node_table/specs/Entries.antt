@@ -28,14 +28,6 @@ stored_function (Function f) = Some f
 stored_function (Concatenation l d r n) = None
 stored_function (Part b d i) = None
 
--- the length of a concatenation's left part; no other node stores one
-abbrev pub stored_left : {F : Type 0} → EntryKind F → ℕ
-stored_left (Literal a) = 0
-stored_left (Source s a) = 0
-stored_left (Function f) = 0
-stored_left (Concatenation l d r n) = n
-stored_left (Part b d i) = 0
-
 abbrev pub record_of : {F : Type 0} → Entry F → Record F
 record_of e = record {
   view = stored_view e.kind;
@@ -43,14 +35,6 @@ record_of e = record {
   depth = stored_depth e.kind;
   function = stored_function e.kind;
 }
-
--- what is stored of a concatenation names this length as its left part's
-abbrev pub StoresLeft : {F : Type 0} → EntryKind F → ℕ → Type 0
-StoresLeft (Literal a) left = Unit {0}
-StoresLeft (Source s a) left = Unit {0}
-StoresLeft (Function f) left = Unit {0}
-StoresLeft (Concatenation l d r n) left = n ≡ left
-StoresLeft (Part b d i) left = Unit {0}
 
 -- a node that can be stored: a leaf has depth 0, a function is there, and nothing else holds one
 abbrev pub CanStore : {F : Type 0} → NodeView → ℕ → Option F → Type 0

@@ -1,5 +1,6 @@
 pub mod Blocks
 pub mod Codes
+pub mod Copies
 pub mod Entries
 pub mod Held
 pub mod Lefts

@@ -1,8 +1,10 @@
 //! One node as a table stores it.
 
-ghost use Rattle.std.specs.Prelude.{◌≡◌};
-ghost use Rattle.node_table.specs.Entries.{record_of, stored_view, stored_depth, stored_function, CanStore, IsStorable, StoresLeft};
+ghost use Rattle.std.specs.Prelude.{◌≡◌, ◌∷◌, [], length};
+ghost use Rattle.node_table.specs.Entries.{record_of, stored_view, stored_depth, stored_function, IsStorable};
+ghost use Rattle.node_table.specs.Lefts.{nodes_in, HaveLeftsBefore, KeepsLeft};
 
+use crate::blocks::Blocks;
 use crate::record::Record;
 use function_leaf::{Coded, LeafFn};
 use rope_node::{NodeId, NodeView};
@@ -43,35 +45,43 @@ pub(crate) struct Entry<F: LeafFn> {
 // A table of coded functions takes 32 bytes for a node.
 const _: () = prove!(size_of::<Entry<Coded>>() <= 32);
 
-/// What is stored of a node of this view and depth, whose left part, if it is a concatenation, has `left` bytes.
-fn kind_of<F: LeafFn>(view: NodeView, depth: u8, function: Option<F>, left: u64) -> EntryKind<F>
-    requires { CanStore view depth function }
-    ensures view { stored_view result ≡ view }
-    ensures depth { stored_depth result ≡ depth }
-    ensures function { stored_function result ≡ function }
-    ensures left { StoresLeft result left }
+/// What is stored of this node behind these entries, which tell how long the left part of a concatenation is.
+#[inline(always)]
+fn kind_of<F: LeafFn>(entries: &Blocks<Entry<F>>, node: Record<F>) -> EntryKind<F>
+    requires storable { IsStorable node }
+    requires before { HaveLeftsBefore (length entries.now.items) (node ∷ []) }
+    ensures view { stored_view result ≡ node.view }
+    ensures depth { stored_depth result ≡ node.depth }
+    ensures function { stored_function result ≡ node.function }
+    ensures left { KeepsLeft (nodes_in entries.now.items) result }
 {
-    match view {
+    let depth = node.depth;
+    match node.view {
         NodeView::Lit { a } => EntryKind::Literal { a },
         NodeView::Src { s, a } => EntryKind::Source { s, a },
-        NodeView::Fun => match function {
+        NodeView::Fun => match node.function {
             Some(function) => EntryKind::Function(function),
             None => unreachable!(),
         },
-        NodeView::Cat { l, r } => EntryKind::Concatenation { l, depth, r, left },
+        NodeView::Cat { l, r } => {
+            let left = entries.at(l.0 as usize).len;
+            EntryKind::Concatenation { l, depth, r, left }
+        }
         NodeView::Sub { b, i } => EntryKind::Part { b, depth, i },
     }
 }
 
 impl<F: LeafFn> Entry<F> {
-    /// What is stored of this node, whose left part, if it is a concatenation, has `left` bytes.
-    pub(crate) fn of(node: Record<F>, left: u64) -> Entry<F>
-        requires { IsStorable node }
+    /// What is stored of this node behind these entries.
+    #[inline(always)]
+    pub(crate) fn of(entries: &Blocks<Entry<F>>, node: Record<F>) -> Entry<F>
+        requires storable { IsStorable node }
+        requires before { HaveLeftsBefore (length entries.now.items) (node ∷ []) }
         ensures record { record_of result ≡ node }
-        ensures left { StoresLeft result.kind left }
+        ensures left { KeepsLeft (nodes_in entries.now.items) result.kind }
     {
         Entry {
-            kind: kind_of(node.view, node.depth, node.function, left),
+            kind: kind_of(entries, node),
             len: node.len,
         }
     }

@@ -3,6 +3,7 @@
 
 mod block;
 mod blocks;
+mod copying;
 mod entry;
 mod fault;
 mod new_nodes;

@@ -2,14 +2,13 @@
 
 ghost use Rattle.std.specs.Prelude.{◌≡◌, ◌+◌, ◌^◌, ◌<◌, ◌≤◌, ◌++◌, ◌∷◌, [], All, length, map};
 ghost use Rattle.node_table.specs.Entries.{record_of, IsStorable};
-ghost use Rattle.node_table.specs.Lefts.{nodes_in, HasLeft, HasLeftBelow, HaveLeftsBefore, KeepLefts};
+ghost use Rattle.node_table.specs.Lefts.{HaveLeftsBefore, KeepLefts};
 ghost use Rattle.node_table.specs.NodeLists.{listed};
 
 use crate::blocks::Blocks;
 use crate::entry::Entry;
 use crate::record::Record;
 use function_leaf::LeafFn;
-use rope_node::NodeView;
 
 /// One to three nodes, in the order of their numbers.
 #[derive(Clone, Copy)]
@@ -34,23 +33,11 @@ impl<F: LeafFn> NewNodes<F> {
     }
 }
 
-/// The length of the left part of a concatenation. Any other node stores none, whatever this says.
-#[inline(always)]
-fn left_len<F: LeafFn>(entries: &Blocks<Entry<F>>, view: NodeView) -> u64
-    requires { HasLeftBelow (length entries.now.items) view }
-    ensures { HasLeft (nodes_in entries.now.items) view result }
-{
-    match view {
-        NodeView::Cat { l, .. } => entries.at(l.0 as usize).len,
-        _ => 0,
-    }
-}
-
 /// Stores this node behind the others, where there is room for it.
 #[inline(always)]
-fn put_one<F: LeafFn>(entries: &mut Blocks<Entry<F>>, node: Record<F>)
+pub(crate) fn put_one<F: LeafFn>(entries: &mut Blocks<Entry<F>>, node: Record<F>)
     requires storable { IsStorable node }
-    requires left { HasLeftBelow (length entries.old.items) node.view }
+    requires before { HaveLeftsBefore (length entries.old.items) (node ∷ []) }
     requires lefts { KeepLefts entries.old.items }
     requires room { 1 ≤ entries.old.room }
     requires limit { length entries.old.items + 1 < 2 ^ 32 }
@@ -59,8 +46,8 @@ fn put_one<F: LeafFn>(entries: &mut Blocks<Entry<F>>, node: Record<F>)
     ensures len { length entries.new.items ≡ length entries.old.items + 1 }
     ensures lefts { KeepLefts entries.new.items }
 {
-    let left = left_len(entries, node.view);
-    entries.push(Entry::of(node, left));
+    let entry = Entry::of(entries, node);
+    entries.push(entry);
 }
 
 /// Stores these nodes behind the others, where there is room for them.

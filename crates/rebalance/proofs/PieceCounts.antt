@@ -9,7 +9,10 @@ use Rattle.rope_node.specs.Table.{Node, Table, view_at, len_at, depth_at, HasGoo
 use Rattle.rope_node.specs.Denotes.{IsRope}
 use Rattle.rope_node.specs.Extends.{Extends}
 use Rattle.rope_node.proofs.Extensions.{len_kept}
-use Rattle.rebalance.specs.Pieces.{is_kept, node_pieces, pieces_in, pieces, all_pieces}
+use Rattle.rebalance.specs.declared.pieces.TheConstants.{MOST_PIECES}
+use Rattle.rebalance.specs.declared.pieces.Tally.{Tally}
+use Rattle.rebalance.specs.declared.pieces.Tally.TheVariants.{So, Few, Many}
+use Rattle.rebalance.specs.Pieces.{is_kept, node_pieces, pieces_in, pieces, all_pieces, Tallies}
 
 -- the count at a node depends on its children's alone
 node_pieces_alike : (t : Table) (f g : ℕ → ℕ → ℕ → ℕ) (id i n : ℕ) (v : NodeView) → HasGoodReferences t id v → ((c j k : ℕ) → c < id → f c j k ≡ g c j k) → node_pieces t f i n v ≡ node_pieces t g i n v
@@ -125,3 +128,9 @@ pieces_kept keep old new s x id i n there = pieces_in_kept keep old new s x (suc
 pub all_pieces_kept : (keep : Bool) (old new : Table) → IsSound old → Extends old new → (rope : Option NodeId) → IsRope old rope → all_pieces keep new rope ≡ all_pieces keep old rope
 all_pieces_kept keep old new s x None there = refl
 all_pieces_kept keep old new s x (Some id) there = ap (λ (n : ℕ). pieces keep new id.0 0 n) (len_kept old new x id.0 there) ∙ pieces_kept keep old new s x id.0 0 (len_at old id.0) there
+
+-- what is told of p pieces, other than their number, is told of all, where those behind them are as many as n bytes at most
+pub told_of_all : (all p q n count behind before : ℕ) (told : Tally) → ((more : ℕ) → ¬ (told ≡ So more)) → all ≡ p + q → q ≤ n → (before ≤ MOST_PIECES → behind + n ≤ before) → Tallies p count before told → Tallies all count behind told
+told_of_all all p q n count behind before (So more) other whole few sum told = absurd (other more refl)
+told_of_all all p q n count behind before Few other whole few sum told = omega (arith, whole, few, told, sum (omega (arith, told)))
+told_of_all all p q n count behind before Many other whole few sum told = omega (arith, whole, told)

@@ -12,7 +12,7 @@ ghost use Rattle.rebalance.specs.Slots.{AreEmptyBelow, AreSlots};
 
 use crate::fault::BalanceFault;
 use crate::pieces::{Span, Split, has_few_pieces, piece, step_down, whole};
-use crate::slots::{SLOTS, insert, join_below};
+use crate::slots::{SLOTS, Slots, insert, join_below};
 use function_leaf::LeafFn;
 use node_table::NodeFault;
 use rope_node::{NodeId, NodeSpace, Rope};
@@ -118,62 +118,56 @@ fn rebuild<F: LeafFn>(store: &mut Store<F>, keep: bool, span: Span) -> Result<Ro
     ensures shallow { IfOk result (λ rope. IsNearlyBalanced (table_of F.meaning store.new) rope) }
 {
     let _count = store.count();
-    let mut slots = [None; SLOTS as usize];
-    let low = fill(store, &mut slots, SLOTS, keep, span)?;
+    let mut slots = Slots::empty();
+    fill(store, &mut slots, keep, span)?;
     let _count = store.count();
-    join_below(store, &mut slots, low, SLOTS)
+    join_below(store, &mut slots, SLOTS)
 }
 
-/// Puts a span's pieces behind the text of the slots, of which those below `low` are empty. Answers which slots are then. It goes to each
-/// node on the way once, and calls itself as deep as the node is, which is at most 64.
+/// Puts a span's pieces behind the text of the slots. It goes to each node on the way once, and calls itself as deep as the node is,
+/// which is at most 64.
 fn fill<F: LeafFn>(
     store: &mut Store<F>,
-    slots: &mut [Rope],
-    low: u8,
+    slots: &mut Slots,
     keep: bool,
     span: Span,
-) -> Result<u8, NodeFault>
+) -> Result<(), NodeFault>
     requires span { IsSpan (table_of F.meaning store.old) span }
-    requires slots { AreSlots (table_of F.meaning store.old) slots.old }
-    requires empty { AreEmptyBelow low slots.old }
-    requires short { length (text_with (table_of F.meaning store.old) slots.old span) < TEXT_LIMIT }
-    ensures fills { FillsSpan F.meaning store.old keep slots.old span result slots.new store.new }
-    ensures empty { IfOk result (λ low. AreEmptyBelow low slots.new) }
+    requires slots { AreSlots (table_of F.meaning store.old) slots.old.ropes }
+    requires empty { AreEmptyBelow slots.old.low slots.old.ropes }
+    requires short { length (text_with (table_of F.meaning store.old) slots.old.ropes span) < TEXT_LIMIT }
+    ensures fills { FillsSpan F.meaning store.old keep slots.old.ropes span result slots.new.ropes store.new }
+    ensures empty { IfOk result (λ _. AreEmptyBelow slots.new.low slots.new.ropes) }
 {
     let _count = store.count();
     if span.len == 0 {
-        return Ok(low);
+        return Ok(());
     }
     match step_down(store, keep, span) {
-        Split::Piece => put(store, slots, low, span),
-        Split::Base(base) => fill(store, slots, low, keep, base),
+        Split::Piece => put(store, slots, span),
+        Split::Base(base) => fill(store, slots, keep, base),
         Split::Children(left, right) => {
-            let between = fill(store, slots, low, keep, left)?;
+            fill(store, slots, keep, left)?;
             let _count = store.count();
-            fill(store, slots, between, keep, right)
+            fill(store, slots, keep, right)
         }
     }
 }
 
-/// Puts a span that is one piece behind the text of the slots, of which those below `low` are empty. Answers which slots are then.
-fn put<F: LeafFn>(
-    store: &mut Store<F>,
-    slots: &mut [Rope],
-    low: u8,
-    span: Span,
-) -> Result<u8, NodeFault>
+/// Puts a span that is one piece behind the text of the slots.
+fn put<F: LeafFn>(store: &mut Store<F>, slots: &mut Slots, span: Span) -> Result<(), NodeFault>
     requires span { IsSpan (table_of F.meaning store.old) span }
     requires piece { IsPieceSpan (table_of F.meaning store.old) span }
     requires some { 1 ≤ span.len }
-    requires slots { AreSlots (table_of F.meaning store.old) slots.old }
-    requires empty { AreEmptyBelow low slots.old }
-    requires short { length (text_with (table_of F.meaning store.old) slots.old span) < TEXT_LIMIT }
-    ensures fills { Fills F.meaning store.old slots.old 1
-        (span_cells (table_of F.meaning store.old) span) result slots.new store.new }
-    ensures empty { IfOk result (λ low. AreEmptyBelow low slots.new) }
+    requires slots { AreSlots (table_of F.meaning store.old) slots.old.ropes }
+    requires empty { AreEmptyBelow slots.old.low slots.old.ropes }
+    requires short { length (text_with (table_of F.meaning store.old) slots.old.ropes span) < TEXT_LIMIT }
+    ensures fills { Fills F.meaning store.old slots.old.ropes 1
+        (span_cells (table_of F.meaning store.old) span) result slots.new.ropes store.new }
+    ensures empty { IfOk result (λ _. AreEmptyBelow slots.new.low slots.new.ropes) }
 {
     let _count = store.count();
     let rope = piece(store, span)?;
     let _count = store.count();
-    insert(store, slots, low, rope)
+    insert(store, slots, rope)
 }

@@ -163,8 +163,7 @@ fn count_on<F: LeafFn>(store: &Store<F>, keep: bool, span: Span, count: u32, beh
             let (first, second) = longer_first(store, keep, span, left, right);
             match count_on(store, keep, first, count, behind.saturating_add(second.len)) {
                 Tally::So(more) => count_on(store, keep, second, more, behind),
-                Tally::Few => Tally::Few,
-                Tally::Many => Tally::Many,
+                told => told,
             }
         }
     }

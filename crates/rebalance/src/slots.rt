@@ -1,6 +1,6 @@
 //! Slots for ropes: a longer rope in a slot of a higher number, and more to the left in the text.
 
-ghost use Rattle.std.specs.Prelude.{◌+◌, ◌<◌, ◌≤◌, length, IfOk};
+ghost use Rattle.std.specs.Prelude.{◌≡◌, ◌+◌, ◌<◌, ◌≤◌, None, length, replicate, IfOk};
 ghost use Rattle.rope_node.specs.declared.limits.TheConstants.{MOST_DEPTH, TEXT_LIMIT};
 ghost use Rattle.rope_node.specs.Balance.{fibonacci};
 ghost use Rattle.rope_node.specs.Denotes.{rope_depth, IsRope};
@@ -67,80 +67,99 @@ fn join<F: LeafFn>(store: &mut Store<F>, l: Rope, r: Rope) -> Result<Rope, NodeF
     }
 }
 
-/// Empties the slots below `end`, and joins their ropes from the smallest up. Those below `low` are empty.
+/// Slots for ropes.
+#[derive(Drop)]
+pub(crate) struct Slots {
+    ropes: [Rope; SLOTS as usize],
+    /// The slots below this one are empty.
+    low: u8,
+}
+
+impl Slots {
+    /// All of them empty.
+    pub(crate) fn empty() -> Slots
+        ensures ropes { result.ropes ≡ replicate SLOTS None }
+        ensures low { result.low ≡ SLOTS }
+    {
+        Slots {
+            ropes: [None; SLOTS as usize],
+            low: SLOTS,
+        }
+    }
+}
+
+/// Empties the slots below `end`, and joins their ropes from the smallest up.
 pub(crate) fn join_below<F: LeafFn>(
     store: &mut Store<F>,
-    slots: &mut [Rope],
-    low: u8,
+    slots: &mut Slots,
     end: u8,
 ) -> Result<Rope, NodeFault>
     requires end { end ≤ SLOTS }
-    requires empty { AreEmptyBelow low slots.old }
-    requires slots { AreSlots (table_of F.meaning store.old) slots.old }
-    requires short { length (slots_cells (table_of F.meaning store.old) slots.old) < TEXT_LIMIT }
-    ensures steps { AddsNodes F.meaning store.old (full_slots slots.old) result store.new }
+    requires empty { AreEmptyBelow slots.old.low slots.old.ropes }
+    requires slots { AreSlots (table_of F.meaning store.old) slots.old.ropes }
+    requires short { length (slots_cells (table_of F.meaning store.old) slots.old.ropes) < TEXT_LIMIT }
+    ensures steps { AddsNodes F.meaning store.old (full_slots slots.old.ropes) result store.new }
     ensures gathered { IfOk result (λ rope. IsGathered (table_of F.meaning store.new) end rope) }
-    ensures spread { IfOk result (Gathers F.meaning store.old slots.old end slots.new store.new) }
+    ensures spread { IfOk result (Gathers F.meaning store.old slots.old.ropes end slots.new.ropes store.new) }
 {
     let mut rope = None;
-    for m in low.min(end)..end {
+    for m in slots.low.min(end)..end {
         let _count = store.count();
-        rope = join(store, slots[usize::from(m)], rope)?;
-        slots[usize::from(m)] = None;
+        rope = join(store, slots.ropes[usize::from(m)], rope)?;
+        slots.ropes[usize::from(m)] = None;
     }
     Ok(rope)
 }
 
-/// Puts a rope into the first slot from `first` on that is empty and fits it, behind the ropes of the full ones before that. Answers that
-/// slot.
+/// Puts a rope into the first slot from `first` on that is empty and fits it, behind the ropes of the full ones before that.
 fn settle<F: LeafFn>(
     store: &mut Store<F>,
-    slots: &mut [Rope],
+    slots: &mut Slots,
     first: u8,
     carried: Rope,
-) -> Result<u8, NodeFault>
-    requires slots { AreSlots (table_of F.meaning store.old) slots.old }
-    requires empty { AreEmptyBelow first slots.old }
+) -> Result<(), NodeFault>
+    requires slots { AreSlots (table_of F.meaning store.old) slots.old.ropes }
+    requires empty { AreEmptyBelow first slots.old.ropes }
     requires there { IsRope (table_of F.meaning store.old) carried }
     requires carried { IsCarried (table_of F.meaning store.old) first carried }
-    requires short { length (cells_with (table_of F.meaning store.old) slots.old carried) < TEXT_LIMIT }
-    ensures steps { AddsNodes F.meaning store.old (full_slots slots.old + ropes_in carried) result store.new }
-    ensures spread { IfOk result (λ _. Settles F.meaning store.old slots.old carried slots.new store.new) }
-    ensures empty { IfOk result (λ low. AreEmptyBelow low slots.new) }
+    requires short { length (cells_with (table_of F.meaning store.old) slots.old.ropes carried) < TEXT_LIMIT }
+    ensures steps { AddsNodes F.meaning store.old (full_slots slots.old.ropes + ropes_in carried) result store.new }
+    ensures spread { IfOk result (λ _. Settles F.meaning store.old slots.old.ropes carried slots.new.ropes store.new) }
+    ensures empty { IfOk result (λ _. AreEmptyBelow slots.new.low slots.new.ropes) }
 {
     let mut slot = first;
     let mut rope = carried;
     loop {
         let _count = store.count();
-        let left = slots[usize::from(slot)];
+        let left = slots.ropes[usize::from(slot)];
         if left.is_none() && store.len(rope) < fibonacci(slot + 1) {
-            slots[usize::from(slot)] = rope;
-            return Ok(slot);
+            slots.ropes[usize::from(slot)] = rope;
+            slots.low = slot;
+            return Ok(());
         }
         rope = join(store, left, rope)?;
-        slots[usize::from(slot)] = None;
+        slots.ropes[usize::from(slot)] = None;
         slot += 1;
     }
 }
 
-/// Puts a piece behind the text of the slots, of which those below `low` are empty. Answers which slots are then.
+/// Puts a piece behind the text of the slots.
 pub(crate) fn insert<F: LeafFn>(
     store: &mut Store<F>,
-    slots: &mut [Rope],
-    low: u8,
+    slots: &mut Slots,
     piece: Rope,
-) -> Result<u8, NodeFault>
-    requires slots { AreSlots (table_of F.meaning store.old) slots.old }
-    requires empty { AreEmptyBelow low slots.old }
+) -> Result<(), NodeFault>
+    requires slots { AreSlots (table_of F.meaning store.old) slots.old.ropes }
+    requires empty { AreEmptyBelow slots.old.low slots.old.ropes }
     requires piece { IsPiece (table_of F.meaning store.old) piece }
-    requires short { length (cells_with (table_of F.meaning store.old) slots.old piece) < TEXT_LIMIT }
-    ensures steps { AddsNodes F.meaning store.old (full_slots slots.old + 1) result store.new }
-    ensures spread { IfOk result (λ _. Inserts F.meaning store.old slots.old piece slots.new store.new) }
-    ensures empty { IfOk result (λ low. AreEmptyBelow low slots.new) }
+    requires short { length (cells_with (table_of F.meaning store.old) slots.old.ropes piece) < TEXT_LIMIT }
+    ensures steps { AddsNodes F.meaning store.old (full_slots slots.old.ropes + 1) result store.new }
+    ensures spread { IfOk result (λ _. Inserts F.meaning store.old slots.old.ropes piece slots.new.ropes store.new) }
+    ensures empty { IfOk result (λ _. AreEmptyBelow slots.new.low slots.new.ropes) }
 {
     let _count = store.count();
     let first = slot_for(store.len(piece));
-    let lower = join_below(store, slots, low, first)?;
+    let lower = join_below(store, slots, first)?;
     let _count = store.count();
     let rope = join(store, lower, piece)?;
     let _count = store.count();

@@ -41,13 +41,13 @@ pub trait NodeSpace {
     fn left_len(&self, id: NodeId, l: NodeId) -> u64
         requires there { id.0 < length (table self.now).nodes }
         requires left { IsLeftPart (view_at (table self.now) id.0) l }
-        requires left_there { l.0 < length (table self.now).nodes }
         ensures value { result ≡ len_at (table self.now) l.0 }
         ensures limit { result < TEXT_LIMIT }
         ensures sound { IsSound (table self.now) }
         ensures true_records { HasTrueRecords (table self.now) }
     {
         let _ = id;
+        let _count = self.count();
         self.len(l)
     }
 

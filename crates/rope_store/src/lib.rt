@@ -2,6 +2,7 @@
 #![tactic(auto)]
 
 mod appending;
+mod copying;
 mod endings;
 mod joining;
 mod leaves;

@@ -67,4 +67,4 @@ returns-clause-spread g c =
     let joined = c.in_ok-rope.ensures.steps.grows in
     let same = rope_cells_kept t0 t c.count-count.ensures.sound lower.kept c.args.piece c.requires.piece.there in
     let spread = spread_behind meaning c.join_below.new.store c.join.new.store c.count-count-2.ensures.sound joined.kept _ _ _ _ _ c.in_ok-lower.lower c.args.piece c.in_ok-rope.rope c.in_ok-lower.ensures.spread c.in_ok-rope.ensures.join same in
-    ok_map c.settle.result (λ u s. spread_within (table_of meaning c.settle.new.store) _ _ _ _ 0 c.settle.new.slots _ s (omega (arith, spread.nodes)) spread.whole) c.settle.ensures.spread
+    ok_map c.settle.result (λ u s. spread_within (table_of meaning c.settle.new.store) _ _ _ _ 0 c.settle.new.slots.ropes _ s (omega (arith, spread.nodes)) spread.whole) c.settle.ensures.spread

@@ -36,7 +36,7 @@ join-requires-clause-right_shallow g c =
 pub join-requires-clause-short : goal.join-requires-clause-short
 join-requires-clause-short g c =
     let t = table_of g.F.LeafFn.meaning c.loop-m.store in
-    rw c.from.ensures (both_short t c.count-count.ensures.sound c.count-count.ensures.true_records _ _ c.loop-m.m c.loop-m.slots c.loop-m.rope c.loop-m.invariant.spread (omega (arith, c.loop-m-test.true, c.requires.end)) c.requires.short)
+    rw c.from.ensures (both_short t c.count-count.ensures.sound c.count-count.ensures.true_records _ _ c.loop-m.m c.loop-m.slots.ropes c.loop-m.rope c.loop-m.invariant.spread (omega (arith, c.loop-m-test.true, c.requires.end)) c.requires.short)
 
 pub returns-in_err-rope-clause-steps : goal.returns-in_err-rope-clause-steps
 returns-in_err-rope-clause-steps g c =
@@ -44,7 +44,7 @@ returns-in_err-rope-clause-steps g c =
     let p = err_from_is_err_and c.from_residual.result c.from_residual.ensures.1 in
     let lt : c.loop-m.m < SLOTS = omega (arith, c.loop-m-test.true, c.requires.end) in
     let steps = rw c.from.ensures at c.in_err-rope.ensures.steps in
-    let room = room_for t _ _ c.loop-m.m c.loop-m.slots c.loop-m.rope c.loop-m.invariant.spread lt in
+    let room = room_for t _ _ c.loop-m.m c.loop-m.slots.ropes c.loop-m.rope c.loop-m.invariant.spread lt in
     rw (p.1, p.2) (refused_through c.in_err-rope.field-0.0 c.loop-m.invariant.grows steps room c.loop-m.invariant.grows.few_bytes)
 
 pub loop-m-preserved : goal.loop-m-preserved
@@ -52,11 +52,11 @@ loop-m-preserved g c =
     let meaning = g.F.LeafFn.meaning in
     let t = table_of meaning c.loop-m.store in
     let m = c.loop-m.m in
-    let left = get_or c.loop-m.slots m None in
+    let left = get_or c.loop-m.slots.ropes m None in
     let lt : m < SLOTS = omega (arith, c.loop-m-test.true, c.requires.end) in
     let inv = c.loop-m.invariant in
     let ensured = rw c.from.ensures at c.in_ok-rope.ensures in
-    let spread = spread_join meaning c.loop-m.store c.join.new.store c.count-count.ensures.sound ensured.steps.grows.kept (length c.args.store.now.nodes + full_slots c.args.slots.now) (slots_cells (table_of meaning c.args.store.now) c.args.slots.now) m c.loop-m.slots c.loop-m.rope c.in_ok-rope.rope inv.spread lt ensured.join in
+    let spread = spread_join meaning c.loop-m.store c.join.new.store c.count-count.ensures.sound ensured.steps.grows.kept (length c.args.store.now.nodes + full_slots c.args.slots.now.ropes) (slots_cells (table_of meaning c.args.store.now) c.args.slots.now.ropes) m c.loop-m.slots.ropes c.loop-m.rope c.in_ok-rope.rope inv.spread lt ensured.join in
     record {
       gathered = gather_step meaning c.loop-m.store c.join.new.store ensured.steps.grows.kept m left c.loop-m.rope c.in_ok-rope.rope (inv.spread.are.each m) inv.gathered ensured.join;
       spread = rw c.from-in-loop-m.ensures spread;

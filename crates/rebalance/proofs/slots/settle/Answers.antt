@@ -1,4 +1,5 @@
-use Rattle.std.proofs.Common.{◌≡◌, ◌+◌, ◌++◌, ◌<◌, ◌≤◌, None, length, get_or, refl, arith}
+use Rattle.std.proofs.Common.{◌≡◌, ◌+◌, ◌++◌, ◌<◌, ◌≤◌, None, length, get_or, refl, ◌∙◌, arith}
+use Rattle.std.proofs.lemmas.List.{get_or-set_other}
 use Rattle.std.proofs.lemmas.Result.{err_from_is_err_and}
 use Rattle.rope_node.specs.Balance.{fibonacci}
 use Rattle.rope_node.specs.Denotes.{rope_cells, rope_len}
@@ -17,8 +18,8 @@ loop-store-init g c = record {
   grows = grows_itself g.F.LeafFn.meaning c.args.store.now _ _ (omega arith) (omega arith);
 }
 
-pub slice_copy_out-left : goal.slice_copy_out-left
-slice_copy_out-left g c =
+pub bounds-slots-from : goal.bounds-slots-from
+bounds-slots-from g c =
     let inv = c.loop-store.invariant in
     let inside = carried_inside (table_of g.F.LeafFn.meaning c.loop-store.store) c.count-count.ensures.sound c.loop-store.slot c.loop-store.rope inv.spread.is_rope inv.carried in
     omega (arith, c.from.ensures, inside, inv.spread.are.size)
@@ -38,8 +39,8 @@ fibonacci-requires g c =
     let inside = carried_inside (table_of g.F.LeafFn.meaning c.loop-store.store) c.count-count.ensures.sound c.loop-store.slot c.loop-store.rope inv.spread.is_rope inv.carried in
     omega (arith, inside)
 
-pub bounds-slots-from : goal.bounds-slots-from
-bounds-slots-from g c =
+pub bounds-slots-from-then-len-fibonacci : goal.bounds-slots-from-then-len-fibonacci
+bounds-slots-from-then-len-fibonacci g c =
     let inv = c.loop-store.invariant in
     let inside = carried_inside (table_of g.F.LeafFn.meaning c.loop-store.store) c.count-count.ensures.sound c.loop-store.slot c.loop-store.rope inv.spread.is_rope inv.carried in
     omega (arith, c.from-then-len-fibonacci.ensures, inside, inv.spread.are.size)
@@ -54,9 +55,14 @@ returns-then-len-fibonacci-clause-spread g c =
     let m = c.loop-store.slot in
     let rope = c.loop-store.rope in
     let inside = carried_inside t c.count-count.ensures.sound m rope inv.spread.is_rope inv.carried in
-    let none : get_or c.loop-store.slots m None ≡ None = none_of _ (rw c.from.ensures at c.if-is_none.ensures) in
+    let none : get_or c.loop-store.slots.ropes m None ≡ None = none_of _ (rw c.from.ensures at c.if-is_none.ensures) in
     let short : rope_len t rope < fibonacci (m + 1) = omega (arith, c.len.ensures.exact, c.fibonacci.ensures, c.if-len-fibonacci.true) in
-    rw c.from-then-len-fibonacci.ensures (spread_put t _ _ m c.loop-store.slots rope inv.spread inside none (carried_fits t m rope inv.spread.is_rope inv.carried short))
+    rw c.from-then-len-fibonacci.ensures (spread_put t _ _ m c.loop-store.slots.ropes rope inv.spread inside none (carried_fits t m rope inv.spread.is_rope inv.carried short))
+
+pub returns-then-len-fibonacci-clause-empty : goal.returns-then-len-fibonacci-clause-empty
+returns-then-len-fibonacci-clause-empty g c =
+    let m = c.loop-store.slot in
+    rw c.from-then-len-fibonacci.ensures (λ i lt. get_or-set_other c.loop-store.slots.ropes m i c.loop-store.rope None (λ e. absurd (omega (arith, lt, e))) ∙ c.loop-store.invariant.spread.empty i lt)
 
 pub join-requires-clause-left : goal.join-requires-clause-left
 join-requires-clause-left g c =
@@ -84,7 +90,7 @@ join-requires-clause-short g c =
     let inv = c.loop-store.invariant in
     let t = table_of g.F.LeafFn.meaning c.loop-store.store in
     let inside = carried_inside t c.count-count.ensures.sound c.loop-store.slot c.loop-store.rope inv.spread.is_rope inv.carried in
-    rw c.from.ensures (both_short t c.count-count.ensures.sound c.count-count.ensures.true_records _ _ c.loop-store.slot c.loop-store.slots c.loop-store.rope inv.spread inside c.requires.short)
+    rw c.from.ensures (both_short t c.count-count.ensures.sound c.count-count.ensures.true_records _ _ c.loop-store.slot c.loop-store.slots.ropes c.loop-store.rope inv.spread inside c.requires.short)
 
 pub returns-in_err-rope-clause-steps : goal.returns-in_err-rope-clause-steps
 returns-in_err-rope-clause-steps g c =
@@ -93,7 +99,7 @@ returns-in_err-rope-clause-steps g c =
     let p = err_from_is_err_and c.from_residual.result c.from_residual.ensures.1 in
     let inside = carried_inside t c.count-count.ensures.sound c.loop-store.slot c.loop-store.rope inv.spread.is_rope inv.carried in
     let steps = rw c.from.ensures at c.in_err-rope.ensures.steps in
-    let room = room_for t _ _ c.loop-store.slot c.loop-store.slots c.loop-store.rope inv.spread inside in
+    let room = room_for t _ _ c.loop-store.slot c.loop-store.slots.ropes c.loop-store.rope inv.spread inside in
     rw (p.1, p.2) (refused_through c.in_err-rope.field-0.0 inv.grows steps room inv.grows.few_bytes)
 
 pub bounds-slots-from-in-loop-store : goal.bounds-slots-from-in-loop-store
@@ -121,16 +127,16 @@ loop-store-preserved g c =
     let t = table_of meaning c.loop-store.store in
     let m = c.loop-store.slot in
     let rope = c.loop-store.rope in
-    let left = get_or c.loop-store.slots m None in
+    let left = get_or c.loop-store.slots.ropes m None in
     let inside = carried_inside t c.count-count.ensures.sound m rope inv.spread.is_rope inv.carried in
     let ensured = rw c.from.ensures at c.in_ok-rope.ensures in
     let long : left ≡ None → fibonacci (m + 1) ≤ rope_len t rope = λ none. elim c.else-is_none.branch [
       | else-is_none-via-then-is_none+else-len-fibonacci w ↦ omega (arith, w.len.ensures.exact, w.fibonacci.ensures, w.if-len-fibonacci.false)
       | else-is_none-via-else-is_none w ↦ absurd (not_none left (rw c.from.ensures at w.if-is_none.ensures) none)
     ] in
-    let most = length c.args.store.now.nodes + (full_slots c.args.slots.now + ropes_in c.args.carried) in
-    let whole = slots_cells (table_of meaning c.args.store.now) c.args.slots.now ++ rope_cells (table_of meaning c.args.store.now) c.args.carried in
-    let spread = spread_join meaning c.loop-store.store c.join.new.store c.count-count.ensures.sound ensured.steps.grows.kept most whole m c.loop-store.slots rope c.in_ok-rope.rope inv.spread inside ensured.join in
+    let most = length c.args.store.now.nodes + (full_slots c.args.slots.now.ropes + ropes_in c.args.carried) in
+    let whole = slots_cells (table_of meaning c.args.store.now) c.args.slots.now.ropes ++ rope_cells (table_of meaning c.args.store.now) c.args.carried in
+    let spread = spread_join meaning c.loop-store.store c.join.new.store c.count-count.ensures.sound ensured.steps.grows.kept most whole m c.loop-store.slots.ropes rope c.in_ok-rope.rope inv.spread inside ensured.join in
     record {
       carried = carry_step meaning c.loop-store.store c.join.new.store m left rope c.in_ok-rope.rope (inv.spread.are.each m) inv.carried long ensured.join;
       spread = rw c.from-in-loop-store.ensures spread;

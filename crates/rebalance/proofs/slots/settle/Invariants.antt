@@ -10,10 +10,10 @@ abbrev pub invariant-loop-store : goal.invariant-loop-store
 invariant-loop-store g l =
     let meaning = g.F.LeafFn.meaning in
     let t = table_of meaning l.fn.store in
-    let most = length l.fn.store.nodes + (full_slots l.fn.slots + ropes_in l.fn.carried) in
+    let most = length l.fn.store.nodes + (full_slots l.fn.slots.ropes + ropes_in l.fn.carried) in
     record {
       carried : IsCarried (table_of meaning l.store) l.slot l.rope;
-      spread : IsSpread (table_of meaning l.store) most (slots_cells t l.fn.slots ++ rope_cells t l.fn.carried) l.slot l.slots l.rope;
+      spread : IsSpread (table_of meaning l.store) most (slots_cells t l.fn.slots.ropes ++ rope_cells t l.fn.carried) l.slot l.slots.ropes l.rope;
       grows : Grows meaning l.fn.store most (length l.fn.store.pool.bytes) l.store;
     }
 
