@@ -19,7 +19,7 @@ holds_none (Cat l r) (Some c) fits other = absurd fits
 holds_none (Sub b i) None fits other = refl
 holds_none (Sub b i) (Some c) fits other = absurd fits
 
-node_fits : (nodes : List ImageNode) (id : ℕ) → AllByRecursion FitsNode nodes → id < length nodes → FitsNode (get_or nodes id no_image_node)
+pub node_fits : (nodes : List ImageNode) (id : ℕ) → AllByRecursion FitsNode nodes → id < length nodes → FitsNode (get_or nodes id no_image_node)
 node_fits [] id all lt = absurd (omega (arith, lt))
 node_fits (n ∷ nodes) zero all lt = all.0
 node_fits (n ∷ nodes) (suc id) all lt = node_fits nodes id all.1 (omega (arith, lt))

@@ -35,6 +35,11 @@ sent_straight a between b bytes (Err e) same none before ok err = record {
   };
 }
 
+-- where nothing is ever held the bytes are sent at once
+pub sent_at_once : (a b : Output) (bytes : List ℕ) (result : Result (Unit {0}) WriteFault) → b.name ≡ a.name → a.held ≡ [] → b.held ≡ [] → OnOk result (Appends a.known b.known bytes) → OnErr result (AppendsPrefix a.known b.known bytes) → WritesGathered a b bytes result
+sent_at_once a b bytes result same none still ok err =
+    sent_straight a a.known b bytes result same still (subst (λ (v : List ℕ). Appends a.known a.known v) (sym none) (appends_nothing a.known)) ok err
+
 -- ---- pieces
 
 pub puts_nothing : (a : Output) → SendsAndHolds a a []

@@ -1,9 +1,8 @@
 -- What was written is an image: every number fits its field.
-use Rattle.std.proofs.Common.{◌≡◌, ℕ, suc, ◌+◌, ◌<◌, List, [], ◌∷◌, length, map, take, get_or, Option, Some, None, refl, sym, ap, subst, ◌∙◌, arith}
+use Rattle.std.proofs.Common.{◌≡◌, ℕ, suc, ◌<◌, List, [], ◌∷◌, length, map, get_or, Option, Some, None, refl, sym, ap, subst, ◌∙◌, arith}
 use Rattle.std.specs.Prelude.{slice_get}
 use Rattle.std.specs.Option.{option_map}
 use Rattle.std.specs.List.{sum_by, AllByRecursion}
-use Rattle.std.proofs.lemmas.List.Sums.{sum_by-cons}
 use Rattle.std.proofs.lemmas.List.{length-map}
 use Rattle.std.proofs.lemmas.List.FromFn.{length-map-range_with_len}
 use Rattle.std.proofs.lemmas.Option.{get_or_from_slice_get, same_Some, slice_get-map, slice_get_within}
@@ -12,13 +11,12 @@ use Rattle.function_leaf.specs.Coded.{coded_byte}
 use Rattle.rope_node.specs.declared.node.NodeId.{NodeId}
 use Rattle.rope_node.specs.declared.node.NodeView.{NodeView}
 use Rattle.rope_node.specs.declared.node.NodeView.TheVariants.{Lit, Src, Fun, Cat, Sub}
-use Rattle.rope_node.specs.Table.{Table, no_node, HasGoodReferences, HasSpanInside}
+use Rattle.rope_node.specs.Table.{no_node, HasGoodReferences, HasSpanInside}
 use Rattle.rope_node.specs.Denotes.{IsRope}
 use Rattle.node_table.specs.Held.{Held, IsKept, IsKeptNode, table_of}
 use Rattle.span_certificate.specs.declared.edit.Edit.{Edit}
-use Rattle.span_certificate.specs.declared.edit.Edit.TheVariants.{New, Open, Insert, Delete, Replace, Paste, Join, Cut, Fill, Back, Balance, Many}
-use Rattle.span_certificate.specs.Fields.{splices_of, FitsRecord, IsPlacedAt}
-use Rattle.span_certificate.specs.Parts.{IsInRange}
+use Rattle.span_certificate.specs.declared.edit.Edit.TheVariants.{New}
+use Rattle.span_certificate.specs.Fields.{splices_of, FitsRecord}
 use Rattle.edit_commands.specs.declared.revision.Revision as Kept
 use Rattle.edit_commands.specs.Session.{SessionValue, IsSession, splices_held}
 use Rattle.edit_commands.proofs.RevisionLists.{there_is}
@@ -75,7 +73,7 @@ module _ (h : Held Coded) (kept : IsKept coded_byte h) where
 
 module _ (v : SessionValue) (kept : IsKept coded_byte v.held) (session : IsSession v) where
   revision_fits : (k : ℕ) (r : Kept.Revision) → slice_get v.revisions k ≡ Some r → FitsRecord r.edit → FitsRevision Two (recorded_revision r)
-  revision_fits k r at edit = record { known = (code_small r.edit).1; edit = edit; root = root_fits v.held kept r.root (session.each k r at).root; rows = omega (arith, rows_few v.revisions k r at, session.few_rows) }
+  revision_fits k r at edit = record { known = (code_small r.edit).1; edit = edit; root = root_fits v.held kept r.root (session.each k r at).certified.root; rows = omega (arith, rows_few v.revisions k r at, session.few_rows) }
 
   revisions_fit : ((k : ℕ) → k < length v.revisions → FitsRecord (get_or (edits_of v.revisions) k New)) → AllByRecursion (FitsRevision Two) (map recorded_revision v.revisions)
   revisions_fit edits = all_found (FitsRevision Two) (map recorded_revision v.revisions) (λ k x e.
@@ -88,7 +86,7 @@ module _ (v : SessionValue) (kept : IsKept coded_byte v.held) (session : IsSessi
       subst (FitsRevision Two) same (revision_fits k r found.1 (subst FitsRecord own (edits k lt))))
 
   placed : ArePlaced 0 (map recorded_revision v.revisions) × (sum_by (λ (x : Revision). splices_of x.edit) (map recorded_revision v.revisions) ≡ splices_held v.revisions)
-  placed = placed_so 0 v.revisions (name_own [] v.revisions (λ k r at. (session.each k r at).names))
+  placed = placed_so 0 v.revisions (name_own [] v.revisions (λ k r at. (session.each k r at).certified.names))
 
   pub is_image : SectionsFit v → IsImage (image_of v)
   is_image fits = record {

@@ -1,6 +1,6 @@
 -- The image of a session keeps the rules of acceptance, whatever its sources hold.
 use Rattle.std.proofs.Common.{◌≡◌, ℕ, ◌<◌, List, length, take, drop, Option, Some, refl, sym, ap, subst, ◌∙◌, arith}
-use Rattle.std.specs.Prelude.{slice_get}
+use Rattle.std.specs.Prelude.{◌↔◌, IsTrue, slice_get}
 use Rattle.std.specs.List.{sum_by}
 use Rattle.std.proofs.lemmas.List.{length-map}
 use Rattle.function_leaf.specs.declared.coded.Coded.{Coded}
@@ -12,6 +12,8 @@ use Rattle.node_table.specs.Held.{IsKept, coded_at as held_coded}
 use Rattle.span_certificate.specs.declared.row.Row.{Row}
 use Rattle.span_certificate.specs.Commands.{FullEdit, full_edit}
 use Rattle.span_certificate.specs.Covers.{Covers, MeetsNoSource}
+use Rattle.span_certificate.specs.Longest.{AreLongest}
+use Rattle.rope_node.specs.Balance.{IsBalancedRope}
 use Rattle.span_certificate.specs.Parts.{parts_of, parts_len, IsInRange}
 use Rattle.edit_commands.specs.declared.revision.Revision as Kept
 use Rattle.edit_commands.specs.Session.{SessionValue, command_of, session_table, roots_of, rows_held, IsRevision, AreRevisions}
@@ -20,7 +22,7 @@ use Rattle.edit_commands.proofs.RevisionSplices.{says_over_all}
 use Rattle.image_reader.specs.declared.revision.Revision.{Revision}
 use Rattle.image_reader.specs.Value.{ImageValue, image_table, coded_at}
 use Rattle.image_reader.specs.Accepted.{AreGoodNodes, HasGoodMark, HasGoodRoot, command_at, revision_at, roots_before, rows_at, rows_before}
-use Rattle.session_image.specs.Written.{IsTrusted, image_of, recorded_revision, rows_in, splices_in}
+use Rattle.session_image.specs.Written.{AreAsMade, IsTrusted, image_of, recorded_revision, rows_in, splices_in}
 use Rattle.session_image.proofs.SameTables.{same_counts, same_function, same_revision, same_roots, same_takes}
 use Rattle.session_image.proofs.SameSections.{same_nodes, same_rows}
 
@@ -31,18 +33,22 @@ record Keeps (t : Table) (coded : ℕ → Coded) (source : ℕ → ℕ → ℕ) 
   mark : HasGoodMark t r
   rows_cover : Covers t coded source (parts_of t roots command) r.root rows
   no_source : MeetsNoSource t (parts_of t roots command) r.root rows
+  marked : IsTrue r.mark ↔ IsBalancedRope t r.root
+  longest : AreLongest t (parts_of t roots command) r.root rows
 
 -- a session's revision does
 revision_keeps : (v : SessionValue) (source : ℕ → ℕ → ℕ) (before : List Kept.Revision) (r : Kept.Revision) → IsRevision v.held before r
     → Keeps (session_table v) (held_coded v.held) source (roots_of before) (command_of r) (recorded_revision r) r.rows.items
 revision_keeps v source before r is =
-    let covers = is.rows source in
+    let covers = is.certified.rows source in
     record {
-      range = is.range;
-      root = (is.root, sym covers.whole_root ∙ covers.whole_parts);
+      range = is.certified.range;
+      root = (is.certified.root, sym covers.whole_root ∙ covers.whole_parts);
       mark = λ marked. is.mark.0 marked;
       rows_cover = covers;
-      no_source = is.no_source;
+      no_source = is.certified.no_source;
+      marked = is.mark;
+      longest = is.longest;
     }
 
 module _ (v : SessionValue) (kept : IsKept coded_byte v.held) (are : AreRevisions v.held v.revisions) where
@@ -78,11 +84,14 @@ module _ (v : SessionValue) (kept : IsKept coded_byte v.held) (are : AreRevision
       let third = subst (λ (x : ℕ → Coded). Keeps t x source (roots_of (take k v.revisions)) (command_of r) (recorded_revision r) r.rows.items) (sym same_coded) second in
       let fourth = subst (λ (x : List (Option NodeId)). Keeps t c source x (command_of r) (recorded_revision r) r.rows.items) (sym (same_roots v.revisions k)) third in
       let says : command_at (image_of v) k ≡ command_of r =
-      ap (λ (x : Revision). full_edit (splices_in v.revisions) x.edit) (same_revision v.revisions k r found.1) ∙ says_over_all v.revisions k r found.1 (are k r found.1).names in
+      ap (λ (x : Revision). full_edit (splices_in v.revisions) x.edit) (same_revision v.revisions k r found.1) ∙ says_over_all v.revisions k r found.1 (are k r found.1).certified.names in
       let command = command_at (image_of v) k in
       let between = subst (λ (x : FullEdit). Keeps t c source roots x (recorded_revision r) r.rows.items) (sym says) fourth in
       let fifth = subst (λ (x : Revision). Keeps t c source roots command x r.rows.items) (sym (same_revision v.revisions k r found.1)) between in
       subst (λ (x : List Row). Keeps t c source roots command rev x) (sym (rows_are k r found.1)) fifth
+
+  pub as_made : AreAsMade (image_of v)
+  as_made k lt = let keeps = image_keeps (λ s p. 0) k lt in record { mark = keeps.marked; no_source = keeps.no_source; longest = keeps.longest }
 
   good_nodes : IsSound (session_table v) → HasTrueRecords (session_table v) → AreGoodNodes (image_table (image_of v))
   good_nodes s h = subst AreGoodNodes (sym same_table) (λ id lt. (s.nodes id lt, h.nodes id lt))

@@ -13,7 +13,7 @@ pub record Output : Type 0 where
   pub held : List ℕ
 
 -- that of a writer and the bytes that it is to take next
-abbrev pub output : {W : Type 0} → (W → Option (List ℕ)) → Gathered W → Output
+abbrev pub output : {W : Type 0} {n : ℕ} → (W → Option (List ℕ)) → Gathered W n → Output
 output contents g = record { name = g.writer.ghost_name; known = contents g.writer.now; held = g.held }
 
 -- what was held and then the bytes are what was sent and then what is held now

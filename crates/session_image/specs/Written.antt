@@ -1,5 +1,5 @@
 -- The image of a session, what writing does, and why the image can be trusted.
-use Rattle.std.specs.Prelude.{ℕ, ◌<◌, List, [], length, map, get_or, Option, Some, None, Result, OnOk, OnErr}
+use Rattle.std.specs.Prelude.{ℕ, ◌<◌, ◌↔◌, IsTrue, List, [], length, map, get_or, Option, Some, None, Result, OnOk, OnErr}
 use Rattle.std.specs.List.{flat_map, range_with_len, AllByRecursion}
 use Rattle.std.specs.Io.KnownBytes.{Appends}
 use Rattle.function_leaf.specs.declared.coded.Coded.{Coded}
@@ -15,6 +15,8 @@ use Rattle.span_certificate.specs.declared.edit.Edit.TheVariants.{New}
 use Rattle.span_certificate.specs.declared.edit.Splice.{Splice}
 use Rattle.span_certificate.specs.Fields.{FitsRecord}
 use Rattle.span_certificate.specs.Covers.{MeetsNoSource}
+use Rattle.span_certificate.specs.Longest.{AreLongest}
+use Rattle.rope_node.specs.Balance.{IsBalancedRope}
 use Rattle.edit_commands.specs.declared.revision.Revision as Kept
 use Rattle.edit_commands.specs.Session.{SessionValue}
 use Rattle.image_reader.specs.declared.revision.Revision.{Revision}
@@ -103,3 +105,12 @@ pub record IsTrusted (v : SessionValue) : Type 0 where
   pub no_source : (k : ℕ) → k < length v.revisions
       → MeetsNoSource (image_table (image_of v)) (parts_at (image_of v) k) (revision_at (image_of v) k).root
       (rows_at (image_of v) k)
+
+-- a revision is as a session makes it: marked exactly, no row of bytes over a source, each row the longest
+pub record IsAsMade (v : ImageValue) (k : ℕ) : Type 0 where
+  pub mark : IsTrue (revision_at v k).mark ↔ IsBalancedRope (image_table v) (revision_at v k).root
+  pub no_source : MeetsNoSource (image_table v) (parts_at v k) (revision_at v k).root (rows_at v k)
+  pub longest : AreLongest (image_table v) (parts_at v k) (revision_at v k).root (rows_at v k)
+
+abbrev pub AreAsMade : ImageValue → Type 0
+AreAsMade v = (k : ℕ) → k < length v.revisions → IsAsMade v k

@@ -5,82 +5,35 @@ ghost use Rattle.std.specs.Io.KnownBytes.{Appends};
 ghost use Rattle.byte_output.specs.Prefix.{AppendsPrefix};
 ghost use Rattle.session_image.specs.Gathering.{WritesGathered, Flushes, output};
 
+use crate::held::Held;
 use byte_output::{WriteFault, write_bytes};
 use std::io;
-use std::marker::Model;
 
-/// So many bytes are held at most.
-const ROOM: usize = 16_384;
+/// Writes what is held, and holds nothing then. Where the writer fails, what it did not take is lost.
+fn write_out<W: io::Write, const N: usize>(
+    held: &mut Held<N>,
+    writer: &mut W,
+) -> Result<(), WriteFault>
+    ensures ok { OnOk result (Appends (W.contents writer.old) (W.contents writer.new) held.old) }
+    ensures err { OnErr result
+        (AppendsPrefix (W.contents writer.old) (W.contents writer.new) held.old) }
+    ensures empty { held.new ≡ [] }
+{
+    let result = write_bytes(writer, held.as_slice());
+    held.clear();
+    result
+}
 
-/// The bytes that are held.
+/// A writer, and the bytes that it is to take next, `N` at most.
 #[derive(Drop)]
-struct Held {
-    bytes: [u8; ROOM],
-    filled: usize,
-}
-
-impl Model for Held {
-    ghost use Rattle.std.specs.Prelude.{ℕ, List, ◌≤◌, take};
-    ghost use Rattle.session_image.specs.declared.gathered.TheConstants.{ROOM};
-
-    ghost Value = { List ℕ };
-
-    ghost view = { λ h. take h.filled h.bytes };
-
-    ghost invariant = { λ h. h.filled ≤ ROOM };
-}
-
-impl Held {
-    /// No bytes.
-    fn new() -> Held
-        ensures { result ≡ [] }
-    {
-        Held {
-            bytes: [0; ROOM],
-            filled: 0,
-        }
-    }
-
-    /// How many more bytes can be held.
-    fn room(&self) -> usize
-        ensures { length self.now + result ≡ ROOM }
-    {
-        ROOM - self.filled
-    }
-
-    /// Holds these bytes too.
-    fn push(&mut self, bytes: &[u8])
-        requires { length self.old + length bytes.now ≤ ROOM }
-        ensures { self.new ≡ self.old ++ bytes.now }
-    {
-        let end = self.filled + bytes.len();
-        self.bytes[self.filled..end].copy_from_slice(bytes);
-        self.filled = end;
-    }
-
-    /// Writes what is held, and holds nothing then. Where the writer fails, what it did not take is lost.
-    fn write_out<W: io::Write>(&mut self, writer: &mut W) -> Result<(), WriteFault>
-        ensures ok { OnOk result (Appends (W.contents writer.old) (W.contents writer.new) self.old) }
-        ensures err { OnErr result
-            (AppendsPrefix (W.contents writer.old) (W.contents writer.new) self.old) }
-        ensures empty { self.new ≡ [] }
-    {
-        let result = write_bytes(writer, &self.bytes[..self.filled]);
-        self.filled = 0;
-        result
-    }
-}
-
-/// A writer, and the bytes that it is to take next.
-#[derive(Drop)]
-pub(crate) struct Gathered<'w, W> {
+pub(crate) struct Gathered<'w, W, const N: usize> {
     writer: &'w mut W,
-    held: Held,
+    held: Held<N>,
 }
 
-impl<'w, W: io::Write> Gathered<'w, W> {
+impl<'w, W: io::Write, const N: usize> Gathered<'w, W, N> {
     /// Nothing is held at first.
-    pub(crate) fn new(writer: &'w mut W) -> Gathered<'w, W>
+    pub(crate) fn new(writer: &'w mut W) -> Gathered<'w, W, N>
         ensures same_reference { result.writer.ghost_name ≡ writer.entry.ghost_name }
         ensures same { result.writer.now ≡ writer.old }
         ensures empty { result.held ≡ [] }
@@ -100,12 +53,17 @@ impl<'w, W: io::Write> Gathered<'w, W> {
     pub(crate) fn put(&mut self, bytes: &[u8]) -> Result<(), WriteFault>
         ensures { WritesGathered (output W.contents self.old) (output W.contents self.new) bytes.now result }
     {
-        if bytes.len() <= self.held.room() {
+        let room = self.held.room();
+        // This is known where the code is made: a writer behind which nothing is held is handed the bytes straight.
+        if N == 0 {
+            return write_bytes(self.writer, bytes);
+        }
+        if bytes.len() <= room {
             self.held.push(bytes);
             return Ok(());
         }
-        self.held.write_out(self.writer)?;
-        if bytes.len() <= ROOM {
+        write_out(&mut self.held, self.writer)?;
+        if bytes.len() <= N {
             self.held.push(bytes);
             return Ok(());
         }
@@ -120,6 +78,6 @@ impl<'w, W: io::Write> Gathered<'w, W> {
     pub(crate) fn flush(&mut self) -> Result<(), WriteFault>
         ensures { Flushes (output W.contents self.old) (output W.contents self.new) result }
     {
-        self.held.write_out(self.writer)
+        write_out(&mut self.held, self.writer)
     }
 }

@@ -2,15 +2,15 @@
 #![tactic(auto)]
 
 mod gathered;
+mod held;
 mod nodes;
-mod record;
 mod records;
 mod restating;
 mod revisions;
 mod writing;
 
+pub use held::Record;
 pub use nodes::node_record;
-pub use record::Record;
 pub use records::{
     Counts, header_record, revision_record, row_record, source_record, splice_record,
 };

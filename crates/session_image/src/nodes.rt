@@ -8,7 +8,7 @@ ghost use Rattle.image_reader.specs.Spelling.{span_layout, span_numbers, concate
 ghost use Rattle.image_reader.specs.Value.{FitsFunction};
 ghost use Rattle.session_image.specs.Written.{FitsHeld};
 
-use crate::record::Record;
+use crate::held::Record;
 use function_leaf::{Coded, PATTERN_LIMIT};
 use image_reader::codes::{
     CONCATENATION, CYCLE, FILL, FUNCTION, LITERAL, RAMP, SOURCE_SPAN, SUBSTRING,

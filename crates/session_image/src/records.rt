@@ -8,7 +8,7 @@ ghost use Rattle.image_reader.specs.Spelling.{header_layout, source_spelling, sp
 ghost use Rattle.image_reader.specs.Value.{FitsRow, FitsSplice};
 ghost use Rattle.span_certificate.specs.Fields.{recorded, FitsRecord};
 
-use crate::record::Record;
+use crate::held::Record;
 use image_reader::codes::{BYTES_ROW, LEAF_ROW, SHARED_ROW};
 use image_reader::{FormatVersion, MAGIC, NIL_ROOT, Numbers, Revision};
 use rope_node::Rope;

@@ -6,7 +6,7 @@ ghost use Rattle.image_reader.specs.Spelling.{header_layout, header_numbers, rec
 ghost use Rattle.image_reader.specs.Value.{IsImage, in_version_two};
 ghost use Rattle.session_image.specs.Written.{Writes};
 
-use crate::record::Record;
+use crate::held::Record;
 use crate::records::{Counts, header_record};
 use byte_output::{WriteFault, write_bytes};
 use image_reader::{FormatVersion, Image};

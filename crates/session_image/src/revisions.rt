@@ -51,9 +51,9 @@ fn recorded(session: &Session, k: u32) -> Option<Revision>
 }
 
 /// Writes the revisions.
-pub(crate) fn write_revisions<W: io::Write>(
+pub(crate) fn write_revisions<W: io::Write, const N: usize>(
     session: &Session,
-    writer: &mut Gathered<'_, W>,
+    writer: &mut Gathered<'_, W, N>,
 ) -> Result<(), WriteFault>
     ensures bytes { WritesGathered (output W.contents writer.old) (output W.contents writer.new)
         (flat_map revision_spelling (map recorded_revision session.now.revisions)) result }
@@ -90,9 +90,9 @@ pub(crate) fn count_splices(session: &Session) -> u32
 }
 
 /// Writes the splices of one revision.
-fn write_each_splice<W: io::Write>(
+fn write_each_splice<W: io::Write, const N: usize>(
     splices: &[Splice],
-    writer: &mut Gathered<'_, W>,
+    writer: &mut Gathered<'_, W, N>,
 ) -> Result<(), WriteFault>
     ensures bytes { WritesGathered (output W.contents writer.old) (output W.contents writer.new)
         (flat_map splice_spelling splices.now) result }
@@ -106,9 +106,9 @@ fn write_each_splice<W: io::Write>(
 }
 
 /// Writes the splices of all revisions.
-pub(crate) fn write_splices<W: io::Write>(
+pub(crate) fn write_splices<W: io::Write, const N: usize>(
     session: &Session,
-    writer: &mut Gathered<'_, W>,
+    writer: &mut Gathered<'_, W, N>,
 ) -> Result<(), WriteFault>
     ensures bytes { WritesGathered (output W.contents writer.old) (output W.contents writer.new)
         (flat_map splice_spelling (splices_in session.now.revisions)) result }
@@ -121,9 +121,9 @@ pub(crate) fn write_splices<W: io::Write>(
 }
 
 /// Writes the rows of one revision.
-fn write_each_row<W: io::Write>(
+fn write_each_row<W: io::Write, const N: usize>(
     rows: &[Row],
-    writer: &mut Gathered<'_, W>,
+    writer: &mut Gathered<'_, W, N>,
 ) -> Result<(), WriteFault>
     ensures bytes { WritesGathered (output W.contents writer.old) (output W.contents writer.new)
         (flat_map row_spelling rows.now) result }
@@ -137,9 +137,9 @@ fn write_each_row<W: io::Write>(
 }
 
 /// Writes the rows of all revisions.
-pub(crate) fn write_rows<W: io::Write>(
+pub(crate) fn write_rows<W: io::Write, const N: usize>(
     session: &Session,
-    writer: &mut Gathered<'_, W>,
+    writer: &mut Gathered<'_, W, N>,
 ) -> Result<(), WriteFault>
     ensures bytes { WritesGathered (output W.contents writer.old) (output W.contents writer.new)
         (flat_map row_spelling (rows_in session.now.revisions)) result }

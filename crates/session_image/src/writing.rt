@@ -9,7 +9,7 @@ ghost use Rattle.image_reader.specs.Layout.{IsBytes, spelled};
 ghost use Rattle.image_reader.specs.Spelling.{header_layout, header_numbers, source_spelling, node_spelling, spelling};
 ghost use Rattle.image_reader.specs.Value.{IsImage};
 ghost use Rattle.session_image.specs.Gathering.{WritesGathered, output};
-ghost use Rattle.session_image.specs.Written.{Writes, HoldsFit, SectionsFit, IsTrusted, image_of, nodes_of};
+ghost use Rattle.session_image.specs.Written.{Writes, HoldsFit, SectionsFit, AreAsMade, IsTrusted, image_of, nodes_of};
 
 use crate::gathered::Gathered;
 use crate::nodes::node_record;
@@ -18,15 +18,24 @@ use crate::revisions::{count_rows, count_splices, write_revisions, write_rows, w
 use byte_output::WriteFault;
 use edit_commands::Session;
 use function_leaf::Coded;
-use image_reader::FormatVersion;
+use image_reader::{FormatVersion, NODE_SIZE, REVISION_SIZE};
 use rope_node::{CodedSpace, NodeId, NodeSpace, NodeView};
 use rope_store::Store;
 use std::io;
 
+/// An image of so many bytes is a few records, and is not gathered.
+const SHORT: u64 = 128;
+
+/// How many bytes of a small image the writer takes at once.
+const SMALL_PIECE: usize = 4096;
+
+/// How many bytes of a larger one.
+const LARGE_PIECE: usize = 16_384;
+
 /// Writes the header.
-fn write_header<W: io::Write>(
+fn write_header<W: io::Write, const N: usize>(
     session: &Session,
-    writer: &mut Gathered<'_, W>,
+    writer: &mut Gathered<'_, W, N>,
 ) -> Result<(), WriteFault>
     ensures { WritesGathered (output W.contents writer.old) (output W.contents writer.new)
         (spelled header_layout (header_numbers (image_of session.now))) result }
@@ -45,9 +54,9 @@ fn write_header<W: io::Write>(
 }
 
 /// Writes the lengths of the sources.
-fn write_sources<W: io::Write>(
+fn write_sources<W: io::Write, const N: usize>(
     space: &Store<Coded>,
-    writer: &mut Gathered<'_, W>,
+    writer: &mut Gathered<'_, W, N>,
 ) -> Result<(), WriteFault>
     ensures { WritesGathered (output W.contents writer.old) (output W.contents writer.new)
         (flat_map source_spelling space.now.sources) result }
@@ -73,9 +82,9 @@ fn function_at(space: &Store<Coded>, id: NodeId, view: NodeView) -> Option<Coded
 }
 
 /// Writes the nodes.
-fn write_nodes<W: io::Write>(
+fn write_nodes<W: io::Write, const N: usize>(
     space: &Store<Coded>,
-    writer: &mut Gathered<'_, W>,
+    writer: &mut Gathered<'_, W, N>,
 ) -> Result<(), WriteFault>
     requires { IsKept coded_byte space.now }
     ensures bytes { WritesGathered (output W.contents writer.old) (output W.contents writer.new)
@@ -95,7 +104,10 @@ fn write_nodes<W: io::Write>(
 }
 
 /// Writes one block of the pool.
-fn write_block<W: io::Write>(block: &[u8], writer: &mut Gathered<'_, W>) -> Result<(), WriteFault>
+fn write_block<W: io::Write, const N: usize>(
+    block: &[u8],
+    writer: &mut Gathered<'_, W, N>,
+) -> Result<(), WriteFault>
     ensures bytes { WritesGathered (output W.contents writer.old) (output W.contents writer.new) block.now result }
     ensures fits { IsBytes block.now }
 {
@@ -103,9 +115,9 @@ fn write_block<W: io::Write>(block: &[u8], writer: &mut Gathered<'_, W>) -> Resu
 }
 
 /// Writes the bytes of the pool, block by block.
-fn write_pool<W: io::Write>(
+fn write_pool<W: io::Write, const N: usize>(
     space: &Store<Coded>,
-    writer: &mut Gathered<'_, W>,
+    writer: &mut Gathered<'_, W, N>,
 ) -> Result<(), WriteFault>
     ensures bytes { WritesGathered (output W.contents writer.old) (output W.contents writer.new)
         space.now.pool.bytes result }
@@ -121,9 +133,9 @@ fn write_pool<W: io::Write>(
 }
 
 /// Writes the sections of a session's image, one after the other.
-fn write_sections<W: io::Write>(
+fn write_sections<W: io::Write, const N: usize>(
     session: &Session,
-    writer: &mut Gathered<'_, W>,
+    writer: &mut Gathered<'_, W, N>,
 ) -> Result<(), WriteFault>
     requires { IsKept coded_byte session.now.held }
     ensures written { WritesGathered (output W.contents writer.old) (output W.contents writer.new)
@@ -141,9 +153,9 @@ fn write_sections<W: io::Write>(
 }
 
 /// Writes the sections of a session's image, and then what is held of them.
-fn write_gathered<W: io::Write>(
+fn write_gathered<W: io::Write, const N: usize>(
     session: &Session,
-    writer: &mut Gathered<'_, W>,
+    writer: &mut Gathered<'_, W, N>,
 ) -> Result<(), WriteFault>
     requires kept { IsKept coded_byte session.now.held }
     requires empty { writer.old.held ≡ [] }
@@ -154,6 +166,68 @@ fn write_gathered<W: io::Write>(
 {
     write_sections(session, writer)?;
     writer.flush()
+}
+
+/// Writes the image of a session, record by record.
+#[inline(never)]
+fn write_short<W: io::Write>(session: &Session, writer: &mut W) -> Result<(), WriteFault>
+    requires { IsKept coded_byte session.now.held }
+    ensures written { Writes (W.contents writer.old) (W.contents writer.new)
+        (spelling (image_of session.now)) result }
+    ensures fits { OnOk result (SectionsFit session.now) }
+{
+    let mut gathered = Gathered::<W, 0>::new(writer);
+    write_gathered(session, &mut gathered)
+}
+
+/// Writes the image of a session by small pieces.
+#[inline(never)]
+fn write_small<W: io::Write>(session: &Session, writer: &mut W) -> Result<(), WriteFault>
+    requires { IsKept coded_byte session.now.held }
+    ensures written { Writes (W.contents writer.old) (W.contents writer.new)
+        (spelling (image_of session.now)) result }
+    ensures fits { OnOk result (SectionsFit session.now) }
+{
+    let mut gathered = Gathered::<W, SMALL_PIECE>::new(writer);
+    write_gathered(session, &mut gathered)
+}
+
+/// Writes the image of a session by large pieces.
+#[inline(never)]
+fn write_large<W: io::Write>(session: &Session, writer: &mut W) -> Result<(), WriteFault>
+    requires { IsKept coded_byte session.now.held }
+    ensures written { Writes (W.contents writer.old) (W.contents writer.new)
+        (spelling (image_of session.now)) result }
+    ensures fits { OnOk result (SectionsFit session.now) }
+{
+    let mut gathered = Gathered::<W, LARGE_PIECE>::new(writer);
+    write_gathered(session, &mut gathered)
+}
+
+/// How long the image is at least, in bytes: its splices and rows are left out.
+fn least_len(session: &Session) -> u64 {
+    let space = session.space();
+    space
+        .pool_len()
+        .saturating_add(u64::from(space.count()) * NODE_SIZE as u64)
+        .saturating_add(u64::from(session.count()) * REVISION_SIZE as u64)
+}
+
+/// Writes the image of a session by pieces that are no longer than is worth while.
+fn write_by_size<W: io::Write>(session: &Session, writer: &mut W) -> Result<(), WriteFault>
+    requires { IsKept coded_byte session.now.held }
+    ensures written { Writes (W.contents writer.old) (W.contents writer.new)
+        (spelling (image_of session.now)) result }
+    ensures fits { OnOk result (SectionsFit session.now) }
+{
+    let len = least_len(session);
+    if len <= SHORT {
+        write_short(session, writer)
+    } else if len <= SMALL_PIECE as u64 {
+        write_small(session, writer)
+    } else {
+        write_large(session, writer)
+    }
 }
 
 /// Writes the image of a session: its header, then its sources, nodes, revisions, splices, rows and the bytes of its pool. It takes no
@@ -167,9 +241,9 @@ pub fn write<W: io::Write>(session: &Session, writer: &mut W) -> Result<(), Writ
         (spelling (image_of session.now)) result }
     ensures image { OnOk result (IsImage (image_of session.now)) }
     ensures trusted { IsTrusted session.now }
+    ensures as_made { AreAsMade (image_of session.now) }
 {
     let _count = session.count();
     let _nodes = session.space().count();
-    let mut gathered = Gathered::new(writer);
-    write_gathered(session, &mut gathered)
+    write_by_size(session, writer)
 }

@@ -14,6 +14,8 @@ pub mod RunLaws
 pub mod Covering
 pub mod Cutting
 pub mod PartPlaces
+pub mod LongestRows
+pub mod OverBytes
 pub mod Made
 pub mod MappedResults
 pub mod RowLooks

@@ -93,6 +93,10 @@ IsFirstBad t coded source parts root rows j = IsFirstBadBy t coded (SameOver sou
 abbrev pub CoversAlways : Table → (ℕ → Coded) → List Part → Option NodeId → List Row → Type 0
 CoversAlways t coded parts root rows = (source : ℕ → ℕ → ℕ) → Covers t coded source parts root rows
 
+-- whatever bytes are the same: each row is over what its kind says, and they reach both ends
+abbrev pub CoversAnyhow : Table → (ℕ → Coded) → List Part → Option NodeId → List Row → Type 0
+CoversAnyhow t coded parts root rows = CoversBy t coded (λ cells others. Unit {0}) parts root rows
+
 -- the cells that a row compares: if it is one of bytes those of both sides, and else none
 abbrev pub compared : RowKind → List Cell → List Cell → List Cell
 compared (Shared k o) cells others = []

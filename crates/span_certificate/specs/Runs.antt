@@ -6,6 +6,8 @@ use Rattle.lazy_file.specs.SourceTexts.{Agrees, Stated}
 use Rattle.lazy_file.specs.declared.faults.SourceFault.{SourceFault}
 use Rattle.lazy_file.specs.Readings.{fault_in, Reading, Reads}
 use Rattle.cord_position.specs.Fetched.{AreStated, InCells}
+use Rattle.span_certificate.specs.declared.describe.Description.{Description}
+use Rattle.span_certificate.specs.declared.describe.Description.TheVariants.{Pooled, Sourced, Computed}
 use Rattle.span_certificate.specs.declared.part.Part.{Part}
 use Rattle.span_certificate.specs.declared.bytes.Run.{Run}
 use Rattle.span_certificate.specs.Parts.{part_cells}
@@ -36,3 +38,9 @@ AmongCells cells s p = InCells (listed_cell cells) 0 (length cells) s p
 -- what a call does that may read these cells
 abbrev pub ReadsCells : {X : Type 0} → Reading → Reading → List Cell → Result X SourceFault → Type 0
 ReadsCells before after cells outcome = Reads before after (AmongCells cells) (fault_in outcome)
+
+-- bytes of this description are those of a source
+abbrev pub IsSourced : Description → Type 0
+IsSourced (Pooled a) = ⊥
+IsSourced (Sourced s a) = Unit {0}
+IsSourced (Computed f i) = ⊥

@@ -6,7 +6,7 @@ use Rattle.rope_node.specs.declared.node.NodeView.{NodeView}
 use Rattle.rope_node.specs.Table.{Table, len_at, depth_at, IsLeaf}
 use Rattle.span_certificate.specs.declared.stop.Stop.{Stop}
 use Rattle.span_certificate.specs.declared.trail.Trail.{Trail}
-use Rattle.span_certificate.specs.declared.trail.Trails.{Trails}
+use Rattle.span_certificate.specs.declared.way.Ways.{Ways}
 use Rattle.span_certificate.specs.declared.stop.TheConstants.{MOST_STOPS}
 use Rattle.span_certificate.specs.declared.walk.Descent.{Descent}
 use Rattle.span_certificate.specs.declared.walk.Descent.TheVariants.{First, Second, Neither}
@@ -86,9 +86,10 @@ right_stop stop r left = record { node = r; from = stop.from + (left - stop.star
 abbrev pub base_stop : Stop → NodeId → ℕ → Stop
 base_stop stop b i = record { node = b; from = stop.from; end = stop.end; start = stop.start + i }
 
-pub record AreTrails (t : Table) (trails : Trails) : Type 0 where
-  pub part : IsTrail t trails.of_part
-  pub root : IsTrail t trails.of_root
+-- the ways of a part and of a root are ways of ropes of this table, or keep nothing
+pub record AreWays {W : Type 0} (is_way : Table → W → Type 0) (t : Table) (ways : Ways W) : Type 0 where
+  pub part : is_way t ways.of_part
+  pub root : is_way t ways.of_root
 
 -- this very stop, if the root's byte at p is the byte `start` of this node in it
 pub record StandsAt (stop : Stop) (p : ℕ) (node : NodeId) (start : ℕ) (z : Stop) : Type 0 where

@@ -6,15 +6,14 @@ ghost use Rattle.cord_position.specs.Runs.{AreBytesOf};
 ghost use Rattle.span_certificate.specs.Parts.{part_len, part_cells, IsPart};
 ghost use Rattle.span_certificate.specs.Leads.{described_cells, HasRoom};
 ghost use Rattle.span_certificate.specs.Runs.{IsRunOf, ReadsCells, TellsSame};
-ghost use Rattle.span_certificate.specs.Trails.{AreTrails, IsTrail};
+ghost use Rattle.span_certificate.specs.Trails.{AreWays};
 ghost use Rattle.span_certificate.specs.declared.looks.TheConstants.{LOOKS_LIMIT};
 
-use crate::descent::first_leaf_by;
 use crate::describe::{Description, describe};
 use crate::looks::{Count, CountedSpace};
 use crate::part::Part;
-use crate::trail::{Trail, Trails};
 use crate::walk::Span;
+use crate::way::{Way, Ways};
 use cord_position::fill_source;
 use function_leaf::{Coded, fill};
 use lazy_file::{SourceFault, Sources};
@@ -31,9 +30,9 @@ pub struct Run {
 }
 
 /// The run that the next `left` bytes of a part begin with.
-fn run_of<S: CountedSpace<L>, L: Ledger>(
+pub fn run_of<S: CountedSpace<L>, W: Way, L: Ledger>(
     space: &S,
-    trail: &mut Trail,
+    way: &mut W,
     part: Part,
     off: u64,
     left: u64,
@@ -41,21 +40,20 @@ fn run_of<S: CountedSpace<L>, L: Ledger>(
 ) -> Run
     requires sound { IsSound (S.table space.now) }
     requires true_records { HasTrueRecords (S.table space.now) }
-    requires trail { IsTrail (S.table space.now) trail.old }
+    requires way { W.is_way (S.table space.now) way.old }
     requires part { IsPart (S.table space.now) part }
     requires some { 1 ≤ left }
     requires inside { off + left ≤ part_len part }
     ensures run { IsRunOf (S.table space.now) part off left result }
-    ensures trail { IsTrail (S.table space.now) trail.new }
+    ensures way { W.is_way (S.table space.now) way.new }
     ensures few { count.new ≤ count.old + 66 }
 {
     match part {
         Part::Old { rope, i, n: _ } => match rope {
             None => unreachable!(),
             Some(node) => {
-                let z = first_leaf_by(
+                let z = way.first_leaf(
                     space,
-                    trail,
                     Span {
                         node,
                         start: i + off,
@@ -141,6 +139,7 @@ fn is_same(bytes: &[u8], others: &[u8]) -> bool
 }
 
 /// Whether bytes of two descriptions are the same, as many as both buffers take.
+#[inline(always)]
 fn same_described<S: CountedSpace<L>, T: Sources, L: Ledger>(
     space: &S,
     sources: &mut T,
@@ -166,9 +165,9 @@ fn same_described<S: CountedSpace<L>, T: Sources, L: Ledger>(
 }
 
 /// Whether `len` bytes of two parts are the same: in turns, one run at each side.
-pub fn same_bytes<S: CountedSpace<L>, T: Sources, L: Ledger>(
+pub fn same_bytes<S: CountedSpace<L>, T: Sources, W: Way, L: Ledger>(
     space: &S,
-    trails: &mut Trails,
+    ways: &mut Ways<W>,
     sources: &mut T,
     part: Part,
     off: u64,
@@ -179,7 +178,7 @@ pub fn same_bytes<S: CountedSpace<L>, T: Sources, L: Ledger>(
 ) -> Result<bool, SourceFault>
     requires sound { IsSound (S.table space.now) }
     requires true_records { HasTrueRecords (S.table space.now) }
-    requires trails { AreTrails (S.table space.now) trails.old }
+    requires ways { AreWays W.is_way (S.table space.now) ways.old }
     requires part { IsPart (S.table space.now) part }
     requires other { IsPart (S.table space.now) other }
     requires inside { off + len ≤ part_len part }
@@ -190,7 +189,7 @@ pub fn same_bytes<S: CountedSpace<L>, T: Sources, L: Ledger>(
     ensures reads { ReadsCells (T.reading sources.old) (T.reading sources.new)
         (take len (drop off (part_cells (S.table space.now) part))
         ++ take len (drop place (part_cells (S.table space.now) other))) result }
-    ensures trails { AreTrails (S.table space.now) trails.new }
+    ensures ways { AreWays W.is_way (S.table space.now) ways.new }
     ensures few { count.new ≤ count.old + LOOKS_LIMIT * len }
 {
     let mut bytes = [0; BUFFER];
@@ -198,8 +197,8 @@ pub fn same_bytes<S: CountedSpace<L>, T: Sources, L: Ledger>(
     let mut done = 0;
     while done < len {
         let left = len - done;
-        let a = run_of(space, &mut trails.of_part, part, off + done, left, count);
-        let b = run_of(space, &mut trails.of_root, other, place + done, left, count);
+        let a = run_of(space, &mut ways.of_part, part, off + done, left, count);
+        let b = run_of(space, &mut ways.of_root, other, place + done, left, count);
         let n = a.len.min(b.len).min(BUFFER as u64) as usize;
         match same_described::<S, T, L>(
             space,

@@ -9,7 +9,7 @@ ghost use Rattle.span_certificate.specs.Parts.{part_at, part_len, IsPart, ArePar
 ghost use Rattle.span_certificate.specs.Places.{held, len_here};
 ghost use Rattle.span_certificate.specs.Covers.{HaveOneDescription, kind_compares, row_compares};
 ghost use Rattle.span_certificate.specs.Runs.{ReadsCells};
-ghost use Rattle.span_certificate.specs.Trails.{AreTrails};
+ghost use Rattle.span_certificate.specs.Trails.{AreWays};
 ghost use Rattle.span_certificate.specs.Looks.{BeginsCount, row_bytes, most_looks};
 ghost use Rattle.span_certificate.specs.Verdicts.{IsAskedFor, MayBeRead, ShowsSame, TellsKind, TellsRow, TellsRows};
 ghost use Rattle.lazy_file.specs.Readings.{fault_in, Reads};
@@ -25,8 +25,8 @@ use crate::part_iter::PartIter;
 use crate::place::PartPlace;
 use crate::row::{Row, RowKind, Rows};
 use crate::splices::Splices;
-use crate::trail::Trails;
 use crate::walk::BYTES_LIMIT;
+use crate::way::{Trails, Way, Ways, are_short};
 use lazy_file::{SourceFault, Sources};
 use rope_node::{CodedSpace, Rope};
 use std::marker::Brand;
@@ -43,9 +43,9 @@ pub enum Verdict {
 }
 
 /// Whether two spans of parts have one description.
-fn same_leaf<S: CountedSpace<L>, L: Ledger>(
+fn same_leaf<S: CountedSpace<L>, W: Way, L: Ledger>(
     space: &S,
-    trails: &mut Trails,
+    ways: &mut Ways<W>,
     part: Part,
     off: u64,
     other: Part,
@@ -55,7 +55,7 @@ fn same_leaf<S: CountedSpace<L>, L: Ledger>(
 ) -> bool
     requires sound { IsSound (S.table space.now) }
     requires true_records { HasTrueRecords (S.table space.now) }
-    requires trails { AreTrails (S.table space.now) trails.old }
+    requires ways { AreWays W.is_way (S.table space.now) ways.old }
     requires part { IsPart (S.table space.now) part }
     requires other { IsPart (S.table space.now) other }
     requires not_empty { 1 ≤ len }
@@ -63,12 +63,12 @@ fn same_leaf<S: CountedSpace<L>, L: Ledger>(
     requires other_inside { place + len ≤ part_len other }
     ensures same { IsTrue result ↔ HaveOneDescription
         (S.table space.now) (S.coded space.now) len part off other place }
-    ensures trails { AreTrails (S.table space.now) trails.new }
+    ensures ways { AreWays W.is_way (S.table space.now) ways.new }
     ensures few { count.new ≤ count.old + LOOKS_LIMIT }
 {
     match (
-        describe_span(space, &mut trails.of_part, part, off, len, count),
-        describe_span(space, &mut trails.of_root, other, place, len, count),
+        describe_span(space, &mut ways.of_part, part, off, len, count),
+        describe_span(space, &mut ways.of_root, other, place, len, count),
     ) {
         (Some(d), Some(e)) => d.is_same(e),
         _ => false,
@@ -77,9 +77,9 @@ fn same_leaf<S: CountedSpace<L>, L: Ledger>(
 
 /// Whether a row of this kind fits: its `len` bytes are those of `part` from `off` on and those of
 /// `root` from `place` on.
-fn kind_fits<S: CountedSpace<L>, T: Sources, L: Ledger>(
+fn kind_fits<S: CountedSpace<L>, T: Sources, W: Way, L: Ledger>(
     space: &S,
-    trails: &mut Trails,
+    ways: &mut Ways<W>,
     sources: &mut T,
     part: Part,
     off: u64,
@@ -90,7 +90,7 @@ fn kind_fits<S: CountedSpace<L>, T: Sources, L: Ledger>(
 ) -> Result<bool, SourceFault>
     requires sound { IsSound (S.table space.now) }
     requires true_records { HasTrueRecords (S.table space.now) }
-    requires trails { AreTrails (S.table space.now) trails.old }
+    requires ways { AreWays W.is_way (S.table space.now) ways.old }
     requires part { IsPart (S.table space.now) part }
     requires inside_part { off + row.len ≤ part_len part }
     requires root { IsRope (S.table space.now) root }
@@ -101,7 +101,7 @@ fn kind_fits<S: CountedSpace<L>, T: Sources, L: Ledger>(
     ensures reads { ReadsCells (T.reading sources.old) (T.reading sources.new)
         (kind_compares (S.table space.now) part off root place row) result }
     ensures few { IfErr result (λ _. (row.kind ≡ Bytes) × (row.len ≤ BYTES_LIMIT)) }
-    ensures trails { AreTrails (S.table space.now) trails.new }
+    ensures ways { AreWays W.is_way (S.table space.now) ways.new }
     ensures looks { count.new ≤ count.old + LOOKS_LIMIT + LOOKS_LIMIT * row_bytes row }
 {
     let other = Part::Old {
@@ -112,26 +112,26 @@ fn kind_fits<S: CountedSpace<L>, T: Sources, L: Ledger>(
     let n = row.len;
     match row.kind {
         RowKind::Shared(node, at) => {
-            let Trails { of_part, of_root } = trails;
+            let Ways { of_part, of_root } = ways;
             Ok(
                 part_leads(space, of_part, part, off, n, node, at, count)
                     && part_leads(space, of_root, other, place, n, node, at, count),
             )
         }
-        RowKind::Leaf => Ok(same_leaf(space, trails, part, off, other, place, n, count)),
+        RowKind::Leaf => Ok(same_leaf(space, ways, part, off, other, place, n, count)),
         RowKind::Bytes => {
             if row.len > BYTES_LIMIT {
                 return Ok(false);
             }
-            same_bytes(space, trails, sources, part, off, other, place, n, count)
+            same_bytes(space, ways, sources, part, off, other, place, n, count)
         }
     }
 }
 
 /// Whether a row fits that stands at `place`, where `part` holds it, or none does.
-fn row_fits<S: CountedSpace<L>, T: Sources, L: Ledger>(
+fn row_fits<S: CountedSpace<L>, T: Sources, W: Way, L: Ledger>(
     space: &S,
-    trails: &mut Trails,
+    ways: &mut Ways<W>,
     sources: &mut T,
     part: Option<Part>,
     off: u64,
@@ -142,7 +142,7 @@ fn row_fits<S: CountedSpace<L>, T: Sources, L: Ledger>(
 ) -> Result<bool, SourceFault>
     requires sound { IsSound (S.table space.now) }
     requires true_records { HasTrueRecords (S.table space.now) }
-    requires trails { AreTrails (S.table space.now) trails.old }
+    requires ways { AreWays W.is_way (S.table space.now) ways.old }
     requires part { ForSome part (λ p. IsPart (S.table space.now) p × (off < part_len p)) }
     requires root { IsRope (S.table space.now) root }
     requires place { place ≤ rope_len (S.table space.now) root }
@@ -159,7 +159,7 @@ fn row_fits<S: CountedSpace<L>, T: Sources, L: Ledger>(
         (row_compares (S.table space.now) parts root place row) result }
     ensures may_be_read { (parts : List Part) → part_at parts place ≡ held part off
         → IfErr result (λ _. MayBeRead (S.table space.now) parts root place row) }
-    ensures trails { AreTrails (S.table space.now) trails.new }
+    ensures ways { AreWays W.is_way (S.table space.now) ways.new }
     ensures looks { count.new ≤ count.old + LOOKS_LIMIT + LOOKS_LIMIT * row_bytes row }
 {
     match part {
@@ -170,7 +170,7 @@ fn row_fits<S: CountedSpace<L>, T: Sources, L: Ledger>(
             if row.len == 0 || row.len > part_left || row.len > root_left {
                 return Ok(false);
             }
-            kind_fits(space, trails, sources, part, off, root, place, row, count)
+            kind_fits(space, ways, sources, part, off, root, place, row, count)
         }
     }
 }
@@ -189,9 +189,9 @@ fn is_whole<S: CountedSpace<L>, L: Ledger>(
 }
 
 /// The same, with each look counted.
-fn verify_rows<S: CountedSpace<L>, T: Sources, P: Splices, R: Rows, L: Ledger>(
+fn verify_rows<S: CountedSpace<L>, T: Sources, P: Splices, R: Rows, W: Way, L: Ledger>(
     space: &S,
-    trails: &mut Trails,
+    ways: &mut Ways<W>,
     sources: &mut T,
     parts: PartIter<'_, P>,
     root: Rope,
@@ -211,13 +211,13 @@ fn verify_rows<S: CountedSpace<L>, T: Sources, P: Splices, R: Rows, L: Ledger>(
 {
     // The space is sound, as each of its calls says.
     let _nodes = space.node_count();
-    trails.forget();
+    ways.forget();
     let mut at = PartPlace::start(parts);
     let mut place = 0;
     for j in 0..rows.count() {
         let row = rows.row(j);
         match row_fits(
-            space, trails, sources, at.part, at.off, root, place, row, count,
+            space, ways, sources, at.part, at.off, root, place, row, count,
         ) {
             Err(fault) => return Err(fault),
             Ok(false) => return Ok(Verdict::Bad(j)),
@@ -232,6 +232,64 @@ fn verify_rows<S: CountedSpace<L>, T: Sources, P: Splices, R: Rows, L: Ledger>(
     } else {
         Ok(Verdict::Bad(rows.count()))
     }
+}
+
+/// What `verify_counted` tells, by these ways.
+fn verify_with<S: CountedSpace<L>, T: Sources, P: Splices, R: Rows, W: Way, L: Ledger>(
+    looks: &mut Looks<'_, '_, S, L>,
+    ways: &mut Ways<W>,
+    sources: &mut T,
+    parts: PartIter<'_, P>,
+    root: Rope,
+    rows: &R,
+) -> Result<Verdict, SourceFault>
+    requires parts { AreParts (S.table looks.old.space.now) parts }
+    requires root { IsRope (S.table looks.old.space.now) root }
+    ensures exact { IfOk result (TellsRows (S.table looks.old.space.now)
+        (S.coded looks.old.space.now) (T.reading sources.old).stated parts.entry root (R.listed rows.now)) }
+    ensures shows { result ≡ Ok Verdict.Good → ShowsSame
+        (S.table looks.old.space.now) parts.entry root (R.listed rows.now) }
+    ensures reads { Reads (T.reading sources.old) (T.reading sources.new)
+        (IsAskedFor (S.table looks.old.space.now) (S.coded looks.old.space.now)
+        (T.reading sources.old).stated parts.entry root (R.listed rows.now)) (fault_in result) }
+    ensures looks { looks.new.count.now ≤ looks.old.count.now + most_looks (R.listed rows.now) }
+    ensures space { looks.new.space.now ≡ looks.old.space.now }
+    ensures same_reference { looks.new.count.ghost_name ≡ looks.old.count.ghost_name }
+{
+    verify_rows(
+        looks.space,
+        ways,
+        sources,
+        parts,
+        root,
+        rows,
+        &mut *looks.count,
+    )
+}
+
+/// What `verify_counted` tells, by ways of which nothing is kept, apart from those by trails, which are made inline where a caller keeps these.
+#[inline(never)]
+fn verify_short<S: CountedSpace<L>, T: Sources, P: Splices, R: Rows, L: Ledger>(
+    looks: &mut Looks<'_, '_, S, L>,
+    sources: &mut T,
+    parts: PartIter<'_, P>,
+    root: Rope,
+    rows: &R,
+) -> Result<Verdict, SourceFault>
+    requires parts { AreParts (S.table looks.old.space.now) parts }
+    requires root { IsRope (S.table looks.old.space.now) root }
+    ensures exact { IfOk result (TellsRows (S.table looks.old.space.now)
+        (S.coded looks.old.space.now) (T.reading sources.old).stated parts.entry root (R.listed rows.now)) }
+    ensures shows { result ≡ Ok Verdict.Good → ShowsSame
+        (S.table looks.old.space.now) parts.entry root (R.listed rows.now) }
+    ensures reads { Reads (T.reading sources.old) (T.reading sources.new)
+        (IsAskedFor (S.table looks.old.space.now) (S.coded looks.old.space.now)
+        (T.reading sources.old).stated parts.entry root (R.listed rows.now)) (fault_in result) }
+    ensures looks { looks.new.count.now ≤ looks.old.count.now + most_looks (R.listed rows.now) }
+    ensures space { looks.new.space.now ≡ looks.old.space.now }
+    ensures same_reference { looks.new.count.ghost_name ≡ looks.old.count.ghost_name }
+{
+    verify_with(looks, &mut Ways::from_root(), sources, parts, root, rows)
 }
 
 /// What `verify_counted` tells, by trails that a caller keeps from call to call, so that no call sets them up anew. What they hold before does
@@ -261,15 +319,35 @@ pub fn verify_by<S: CountedSpace<L>, T: Sources, P: Splices, R: Rows, L: Ledger>
     ensures space { looks.new.space.now ≡ looks.old.space.now }
     ensures same_reference { looks.new.count.ghost_name ≡ looks.old.count.ghost_name }
 {
-    verify_rows(
-        looks.space,
-        trails,
-        sources,
-        parts,
-        root,
-        rows,
-        &mut *looks.count,
-    )
+    if are_short::<S, P, L>(looks.space, &parts, root) {
+        return verify_short(looks, sources, parts, root, rows);
+    }
+    verify_with(looks, &mut trails.ways, sources, parts, root, rows)
+}
+
+/// The same by trails of its own. They take more room than other locals: only where they are used is it set up.
+#[inline(never)]
+fn verify_alone<S: CountedSpace<L>, T: Sources, P: Splices, R: Rows, L: Ledger>(
+    looks: &mut Looks<'_, '_, S, L>,
+    sources: &mut T,
+    parts: PartIter<'_, P>,
+    root: Rope,
+    rows: &R,
+) -> Result<Verdict, SourceFault>
+    requires parts { AreParts (S.table looks.old.space.now) parts }
+    requires root { IsRope (S.table looks.old.space.now) root }
+    ensures exact { IfOk result (TellsRows (S.table looks.old.space.now)
+        (S.coded looks.old.space.now) (T.reading sources.old).stated parts.entry root (R.listed rows.now)) }
+    ensures shows { result ≡ Ok Verdict.Good → ShowsSame
+        (S.table looks.old.space.now) parts.entry root (R.listed rows.now) }
+    ensures reads { Reads (T.reading sources.old) (T.reading sources.new)
+        (IsAskedFor (S.table looks.old.space.now) (S.coded looks.old.space.now)
+        (T.reading sources.old).stated parts.entry root (R.listed rows.now)) (fault_in result) }
+    ensures looks { looks.new.count.now ≤ looks.old.count.now + most_looks (R.listed rows.now) }
+    ensures space { looks.new.space.now ≡ looks.old.space.now }
+    ensures same_reference { looks.new.count.ghost_name ≡ looks.old.count.ghost_name }
+{
+    verify_with(looks, &mut Trails::new().ways, sources, parts, root, rows)
 }
 
 /// Whether the rows cover the parts of a command and a root, as `verify` tells it, by looks at the space.
@@ -299,11 +377,14 @@ pub fn verify_counted<S: CountedSpace<L>, T: Sources, P: Splices, R: Rows, L: Le
     ensures space { looks.new.space.now ≡ looks.old.space.now }
     ensures same_reference { looks.new.count.ghost_name ≡ looks.old.count.ghost_name }
 {
-    verify_by(looks, &mut Trails::new(), sources, parts, root, rows)
+    if are_short::<S, P, L>(looks.space, &parts, root) {
+        return verify_short(looks, sources, parts, root, rows);
+    }
+    verify_alone(looks, sources, parts, root, rows)
 }
 
 /// The same over a space, with a count that begins here.
-fn verify_with<S: CodedSpace, T: Sources, P: Splices, R: Rows, L: Ledger>(
+fn verify_over<S: CodedSpace, T: Sources, P: Splices, R: Rows, L: Ledger>(
     space: &S,
     sources: &mut T,
     parts: PartIter<'_, P>,
@@ -351,5 +432,5 @@ pub fn verify<S: CodedSpace, T: Sources, P: Splices, R: Rows>(
         (IsAskedFor (S.NodeSpace.table space.now) (S.coded space.now)
         (T.reading sources.old).stated parts.entry root (R.listed rows.now)) (fault_in result) }
 {
-    verify_with::<S, T, P, R, Brand>(space, sources, parts, root, rows, Blank::new(1))
+    verify_over::<S, T, P, R, Brand>(space, sources, parts, root, rows, Blank::new(1))
 }

@@ -8,7 +8,6 @@ ghost use Rattle.span_certificate.specs.Trails.{IsTrail};
 ghost use Rattle.span_certificate.specs.declared.descent.SpanPlace.{SpanPlace};
 
 use crate::looks::{Count, CountedSpace};
-use crate::shallow::{first_leaf_below, leaf_span_below};
 use crate::trail::Trail;
 use crate::walk::{Reached, Span};
 use rope_node::{NodeId, NodeView};
@@ -25,37 +24,8 @@ pub struct SpanPlace {
 }
 
 /// The leaf span to which the `len` bytes of `node` from `place` on lead, or nothing where they lie in
-/// no one leaf.
-#[inline(always)]
-pub fn leaf_span<S: CountedSpace<L>, L: Ledger>(
-    space: &S,
-    trail: &mut Trail,
-    node: NodeId,
-    place: u64,
-    len: u64,
-    count: &mut Count<L>,
-) -> Option<SpanPlace>
-    requires sound { IsSound (S.table space.now) }
-    requires true_records { HasTrueRecords (S.table space.now) }
-    requires trail { IsTrail (S.table space.now) trail.old }
-    requires there { node.0 < length (S.table space.now).nodes }
-    requires not_empty { 1 ≤ len }
-    requires inside { place + len ≤ len_at (S.table space.now) node.0 }
-    ensures inside { IfSome result (IsSpanPlace (S.table space.now) len) }
-    ensures leads { (s : SpanPlace)
-        → (result ≡ Some s) ↔ LeadsToSpan (S.table space.now) len node.0 place s }
-    ensures trail { IsTrail (S.table space.now) trail.new }
-    ensures few { count.new ≤ count.old + 65 }
-{
-    if space.is_shallow(node) {
-        let start = place;
-        return leaf_span_below(space, Span { node, start, len }, count);
-    }
-    leaf_span_by(space, trail, node, place, len, count)
-}
-
-/// The same, found from the last stop of the trail that holds them.
-fn leaf_span_by<S: CountedSpace<L>, L: Ledger>(
+/// no one leaf: found from the last stop of the trail that holds them.
+pub fn leaf_span_by<S: CountedSpace<L>, L: Ledger>(
     space: &S,
     trail: &mut Trail,
     node: NodeId,
@@ -108,29 +78,8 @@ fn leaf_span_by<S: CountedSpace<L>, L: Ledger>(
     }
 }
 
-/// The leaf span that a span begins with, as far as it goes.
-#[inline(always)]
-pub fn first_leaf<S: CountedSpace<L>, L: Ledger>(
-    space: &S,
-    trail: &mut Trail,
-    x: Span,
-    count: &mut Count<L>,
-) -> Reached
-    requires sound { IsSound (S.table space.now) }
-    requires true_records { HasTrueRecords (S.table space.now) }
-    requires trail { IsTrail (S.table space.now) trail.old }
-    requires span { IsSpan (S.table space.now) x }
-    ensures leaf { IsLeafOf (S.table space.now) x result }
-    ensures trail { IsTrail (S.table space.now) trail.new }
-    ensures few { count.new ≤ count.old + 65 }
-{
-    if space.is_shallow(x.node) {
-        return first_leaf_below(space, x, count);
-    }
-    first_leaf_by(space, trail, x, count)
-}
-
-/// The same, found from the last stop of the trail that holds its first byte.
+/// The leaf span that a span begins with, as far as it goes: found from the last stop of the trail that holds
+/// its first byte.
 pub fn first_leaf_by<S: CountedSpace<L>, L: Ledger>(
     space: &S,
     trail: &mut Trail,

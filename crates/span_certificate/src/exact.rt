@@ -9,45 +9,20 @@ ghost use Rattle.span_certificate.specs.Steps.{IsSpan};
 ghost use Rattle.span_certificate.specs.Trails.{IsTrail};
 ghost use Rattle.span_certificate.specs.declared.describe.Description.{Description};
 
-use crate::descent::leaf_span;
 use crate::describe::{Description, describe};
 use crate::looks::{Count, CountedSpace};
 use crate::part::Part;
-use crate::shallow::leads_below;
 use crate::trail::Trail;
 use crate::walk::Span;
+use crate::way::{FromRoot, Way};
 use function_leaf::Coded;
 use rope_node::{CodedSpace, NodeId, NodeView};
 use std::marker::Brand;
 use std::sync::ledger::{Blank, Ledger};
 
-/// Whether a span leads to the bytes of a node from a place on.
-#[inline(always)]
-fn leads_to<S: CountedSpace<L>, L: Ledger>(
-    space: &S,
-    trail: &mut Trail,
-    x: Span,
-    node: NodeId,
-    at: u64,
-    count: &mut Count<L>,
-) -> bool
-    requires sound { IsSound (S.table space.now) }
-    requires true_records { HasTrueRecords (S.table space.now) }
-    requires trail { IsTrail (S.table space.now) trail.old }
-    requires span { IsSpan (S.table space.now) x }
-    ensures leads { IsTrue result ↔ Leads (S.table space.now) x.len node.0 at x.node.0 x.start }
-    ensures trail { IsTrail (S.table space.now) trail.new }
-    ensures few { count.new ≤ count.old + 65 }
-{
-    if space.is_shallow(x.node) {
-        return leads_below(space, x, node, at, count);
-    }
-    leads_by(space, trail, x, node, at, count)
-}
-
-/// The same. It is looked for from the last stop of the trail that holds the span and
-/// is no lower than the node.
-fn leads_by<S: CountedSpace<L>, L: Ledger>(
+/// Whether a span leads to the bytes of a node from a place on. It is looked for from the last stop of the trail that
+/// holds the span and is no lower than the node.
+pub fn leads_by<S: CountedSpace<L>, L: Ledger>(
     space: &S,
     trail: &mut Trail,
     x: Span,
@@ -93,9 +68,9 @@ fn leads_by<S: CountedSpace<L>, L: Ledger>(
 }
 
 /// Whether the `len` bytes of a part from `off` on lead to the place `at` of a node.
-pub fn part_leads<S: CountedSpace<L>, L: Ledger>(
+pub fn part_leads<S: CountedSpace<L>, W: Way, L: Ledger>(
     space: &S,
-    trail: &mut Trail,
+    way: &mut W,
     part: Part,
     off: u64,
     len: u64,
@@ -105,19 +80,18 @@ pub fn part_leads<S: CountedSpace<L>, L: Ledger>(
 ) -> bool
     requires sound { IsSound (S.table space.now) }
     requires true_records { HasTrueRecords (S.table space.now) }
-    requires trail { IsTrail (S.table space.now) trail.old }
+    requires way { W.is_way (S.table space.now) way.old }
     requires part { IsPart (S.table space.now) part }
     requires some { 1 ≤ len }
     requires inside { off + len ≤ part_len part }
     ensures leads { IsTrue result ↔ PartLeads (S.table space.now) len node.0 at part off }
-    ensures trail { IsTrail (S.table space.now) trail.new }
+    ensures way { W.is_way (S.table space.now) way.new }
     ensures few { count.new ≤ count.old + 65 }
 {
     match part {
         Part::Old { rope, i, n: _ } => match rope {
-            Some(of) => leads_to(
+            Some(of) => way.leads_to(
                 space,
-                trail,
                 Span {
                     node: of,
                     start: i + off,
@@ -136,9 +110,9 @@ pub fn part_leads<S: CountedSpace<L>, L: Ledger>(
 /// The description of the leaf span that the `len` bytes of `node` from `place` on lead to, or nothing
 /// where they lead to none.
 #[inline(always)]
-fn describe_node<S: CountedSpace<L>, L: Ledger>(
+fn describe_node<S: CountedSpace<L>, W: Way, L: Ledger>(
     space: &S,
-    trail: &mut Trail,
+    way: &mut W,
     node: NodeId,
     place: u64,
     len: u64,
@@ -146,16 +120,16 @@ fn describe_node<S: CountedSpace<L>, L: Ledger>(
 ) -> Option<Description>
     requires sound { IsSound (S.table space.now) }
     requires true_records { HasTrueRecords (S.table space.now) }
-    requires trail { IsTrail (S.table space.now) trail.old }
+    requires way { W.is_way (S.table space.now) way.old }
     requires there { node.0 < length (S.table space.now).nodes }
     requires not_empty { 1 ≤ len }
     requires inside { place + len ≤ len_at (S.table space.now) node.0 }
     ensures value { (d : Description) → (result ≡ Some d) ↔ HasDescription
         (S.table space.now) (S.coded space.now) len node.0 place d }
-    ensures trail { IsTrail (S.table space.now) trail.new }
+    ensures way { W.is_way (S.table space.now) way.new }
     ensures few { count.new ≤ count.old + 66 }
 {
-    match leaf_span(space, trail, node, place, len, count) {
+    match way.leaf_span(space, node, place, len, count) {
         None => None,
         Some(span) => describe(space, span.leaf, span.view, span.start, count),
     }
@@ -163,9 +137,9 @@ fn describe_node<S: CountedSpace<L>, L: Ledger>(
 
 /// What the leaf span is that the `len` bytes of a part from `off` on lead to, where they lie in one.
 #[inline(always)]
-pub fn describe_span<S: CountedSpace<L>, L: Ledger>(
+pub fn describe_span<S: CountedSpace<L>, W: Way, L: Ledger>(
     space: &S,
-    trail: &mut Trail,
+    way: &mut W,
     part: Part,
     off: u64,
     len: u64,
@@ -173,19 +147,19 @@ pub fn describe_span<S: CountedSpace<L>, L: Ledger>(
 ) -> Option<Description>
     requires sound { IsSound (S.table space.now) }
     requires true_records { HasTrueRecords (S.table space.now) }
-    requires trail { IsTrail (S.table space.now) trail.old }
+    requires way { W.is_way (S.table space.now) way.old }
     requires part { IsPart (S.table space.now) part }
     requires not_empty { 1 ≤ len }
     requires inside { off + len ≤ part_len part }
     ensures value { (d : Description) → (result ≡ Some d) ↔ PartHasDescription
         (S.table space.now) (S.coded space.now) len part off d }
-    ensures trail { IsTrail (S.table space.now) trail.new }
+    ensures way { W.is_way (S.table space.now) way.new }
     ensures few { count.new ≤ count.old + 66 }
 {
     match part {
         Part::Old { rope, i, n: _ } => match rope {
             None => None,
-            Some(node) => describe_node(space, trail, node, i + off, len, count),
+            Some(node) => describe_node(space, way, node, i + off, len, count),
         },
         Part::Pool { a, n: _ } => Some(Description::Pooled { a: a + off }),
         Part::Source { s, n: _ } => Some(Description::Sourced { s, a: off }),
@@ -214,9 +188,8 @@ fn describe_part_with<S: CodedSpace, L: Ledger>(
 {
     // The space's records are true, as its count says.
     let _nodes = space.count();
-    let mut trail = Trail::new();
     let mut count = Count::<L>::new(blank);
-    describe_span(space, &mut trail, part, off, len, &mut count)
+    describe_span(space, &mut FromRoot, part, off, len, &mut count)
 }
 
 /// What the leaf span is that the `len` bytes of a part from `off` on lead to, where they lie in one.

@@ -22,7 +22,7 @@ use std::sync::ledger::{Blank, Book, Ledger, Share};
 pub const LOOKS_LIMIT: u64 = 132;
 
 /// A rope of at most this depth is shallow: a way down from its root costs less than what is kept of it.
-pub const SHALLOW_DEPTH: u8 = 6;
+const SHALLOW_DEPTH: u8 = 6;
 
 /// How many looks were taken. It has no bytes, and no call lowers it.
 #[derive(Drop)]
@@ -115,13 +115,13 @@ pub trait CountedSpace<L: Ledger> {
     fn left_length(&self, id: NodeId, l: NodeId) -> u64
         requires there { id.0 < length (table self.now).nodes }
         requires left { IsLeftPart (view_at (table self.now) id.0) l }
-        requires left_there { l.0 < length (table self.now).nodes }
         ensures value { result ≡ len_at (table self.now) l.0 }
         ensures limit { result < TEXT_LIMIT }
         ensures sound { IsSound (table self.now) }
         ensures true_records { HasTrueRecords (table self.now) }
     {
         let _ = id;
+        let _count = self.node_count();
         self.node_len(l)
     }
 

@@ -9,7 +9,7 @@ ghost use Rattle.span_certificate.specs.Longest.{AreLongest, IsCutShort, StayWit
 ghost use Rattle.span_certificate.specs.declared.making.TheConstants.{ROWS_LIMIT};
 ghost use Rattle.span_certificate.specs.Looks.{BeginsCount};
 ghost use Rattle.span_certificate.specs.Steps.{IsNext};
-ghost use Rattle.span_certificate.specs.Trails.{AreTrails};
+ghost use Rattle.span_certificate.specs.Trails.{AreWays};
 
 use crate::describe::Description;
 use crate::looks::{Count, CountedSpace};
@@ -18,8 +18,8 @@ use crate::part_iter::PartIter;
 use crate::place::PartPlace;
 use crate::row::Row;
 use crate::splices::Splices;
-use crate::trail::Trails;
-use crate::walk::{Span, next_leaf, next_old};
+use crate::walk::{Span, next_leaf};
+use crate::way::{Trails, Way, Ways, are_short};
 use function_leaf::Coded;
 use rope_node::{CodedSpace, NodeId, NodeSpace, Rope};
 use std::alloc::Global;
@@ -39,9 +39,9 @@ pub enum MakeFault {
 }
 
 /// The longest row for the first of the next `left` bytes, where they have the same cells on both sides.
-fn next_row<S: CountedSpace<L>, L: Ledger>(
+fn next_row<S: CountedSpace<L>, W: Way, L: Ledger>(
     space: &S,
-    trails: &mut Trails,
+    ways: &mut Ways<W>,
     part: Part,
     off: u64,
     root: NodeId,
@@ -51,7 +51,7 @@ fn next_row<S: CountedSpace<L>, L: Ledger>(
 ) -> Row
     requires sound { IsSound (S.table space.now) }
     requires true_records { HasTrueRecords (S.table space.now) }
-    requires trails { AreTrails (S.table space.now) trails.old }
+    requires ways { AreWays W.is_way (S.table space.now) ways.old }
     requires part { IsPart (S.table space.now) part }
     requires some { 1 ≤ left }
     requires inside_part { off + left ≤ part_len part }
@@ -63,14 +63,14 @@ fn next_row<S: CountedSpace<L>, L: Ledger>(
         part off root place left result }
     ensures longest { result.len < left
         → ¬ StayWithin (S.table space.now) (result.len + 1) part off (Some root) place result.kind }
-    ensures trails { AreTrails (S.table space.now) trails.new }
+    ensures ways { AreWays W.is_way (S.table space.now) ways.new }
 {
     let y = Span {
         node: root,
         start: place,
         len: left,
     };
-    let of_root = &mut trails.of_root;
+    let Ways { of_part, of_root } = ways;
     match part {
         Part::Old { rope, i, n: _ } => match rope {
             Some(node) => {
@@ -79,7 +79,7 @@ fn next_row<S: CountedSpace<L>, L: Ledger>(
                     start: i + off,
                     len: left,
                 };
-                next_old(space, trails, x, y, count)
+                of_part.next_old(of_root, space, x, y, count)
             }
             None => unreachable!(),
         },
@@ -111,12 +111,12 @@ fn next_row<S: CountedSpace<L>, L: Ledger>(
 }
 
 /// The rows for a root that is not nil.
-fn make_for<S: CodedSpace, P: Splices, L: Ledger>(
+fn make_for<S: CodedSpace, P: Splices, W: Way, L: Ledger>(
     alloc: Global,
     space: &S,
     parts: PartIter<'_, P>,
     root: NodeId,
-    trails: &mut Trails,
+    ways: &mut Ways<W>,
     blank: Blank,
 ) -> Result<Vec<Row>, MakeFault>
     requires sound { IsSound (S.NodeSpace.table space.now) }
@@ -138,7 +138,7 @@ fn make_for<S: CodedSpace, P: Splices, L: Ledger>(
 {
     let mut rows = Vec::new(alloc);
     let mut count = Count::<L>::new(blank);
-    trails.forget();
+    ways.forget();
     let mut at = PartPlace::start(parts);
     let mut place = 0;
     let end = space.len(root);
@@ -151,7 +151,7 @@ fn make_for<S: CodedSpace, P: Splices, L: Ledger>(
             Some(part) => {
                 let row = next_row(
                     space,
-                    trails,
+                    ways,
                     part,
                     at.off,
                     root,
@@ -163,11 +163,66 @@ fn make_for<S: CodedSpace, P: Splices, L: Ledger>(
                 place += row.len;
                 at.skip(row.len);
                 // Where another part begins, what both sides have in common is looked for anew.
-                trails.of_part.keep(at.off > 0);
+                ways.of_part.keep(at.off > 0);
             }
         }
     }
     Ok(rows)
+}
+
+/// The rows that `make` gives, by these ways.
+fn make_with<S: CodedSpace, P: Splices, W: Way>(
+    alloc: Global,
+    space: &S,
+    parts: PartIter<'_, P>,
+    root: Rope,
+    ways: &mut Ways<W>,
+) -> Result<Vec<Row>, MakeFault>
+    requires parts { AreParts (S.NodeSpace.table space.now) parts }
+    requires root { IsRope (S.NodeSpace.table space.now) root }
+    requires same { parts_cells (S.NodeSpace.table space.now) parts
+        ≡ rope_cells (S.NodeSpace.table space.now) root }
+    ensures covers { IfOk result (λ rows. CoversAlways
+        (S.NodeSpace.table space.now) (S.coded space.now) parts.entry root rows.items) }
+    ensures no_source { IfOk result (λ rows. MeetsNoSource
+        (S.NodeSpace.table space.now) parts.entry root rows.items) }
+    ensures longest { IfOk result (λ rows. AreLongest
+        (S.NodeSpace.table space.now) parts.entry root rows.items) }
+    ensures few { IfOk result (λ rows. length rows.items ≤ ROWS_LIMIT) }
+    ensures too_many { IsErrOf result MakeFault.TooManyRows → IsCutShort
+        (S.NodeSpace.table space.now) (S.coded space.now) parts.entry root }
+{
+    // The space is sound, as each of its calls says.
+    let _nodes = space.count();
+    match root {
+        None => Ok(Vec::new(alloc)),
+        Some(node) => make_for::<S, P, W, Brand>(alloc, space, parts, node, ways, Blank::new(1)),
+    }
+}
+
+/// The rows that `make` gives, by ways of which nothing is kept, apart from those by trails, which are made inline where a caller keeps these.
+#[inline(never)]
+fn make_short<S: CodedSpace, P: Splices>(
+    alloc: Global,
+    space: &S,
+    parts: PartIter<'_, P>,
+    root: Rope,
+) -> Result<Vec<Row>, MakeFault>
+    requires parts { AreParts (S.NodeSpace.table space.now) parts }
+    requires root { IsRope (S.NodeSpace.table space.now) root }
+    requires same { parts_cells (S.NodeSpace.table space.now) parts
+        ≡ rope_cells (S.NodeSpace.table space.now) root }
+    ensures covers { IfOk result (λ rows. CoversAlways
+        (S.NodeSpace.table space.now) (S.coded space.now) parts.entry root rows.items) }
+    ensures no_source { IfOk result (λ rows. MeetsNoSource
+        (S.NodeSpace.table space.now) parts.entry root rows.items) }
+    ensures longest { IfOk result (λ rows. AreLongest
+        (S.NodeSpace.table space.now) parts.entry root rows.items) }
+    ensures few { IfOk result (λ rows. length rows.items ≤ ROWS_LIMIT) }
+    ensures too_many { IsErrOf result MakeFault.TooManyRows → IsCutShort
+        (S.NodeSpace.table space.now) (S.coded space.now) parts.entry root }
+{
+    make_with(alloc, space, parts, root, &mut Ways::from_root())
 }
 
 /// The rows that `make` gives, by trails that a caller keeps from call to call, so that no call sets them up anew. What they hold before does
@@ -197,12 +252,35 @@ pub fn make_by<S: CodedSpace, P: Splices>(
     ensures too_many { IsErrOf result MakeFault.TooManyRows → IsCutShort
         (S.NodeSpace.table space.now) (S.coded space.now) parts.entry root }
 {
-    // The space is sound, as each of its calls says.
-    let _nodes = space.count();
-    match root {
-        None => Ok(Vec::new(alloc)),
-        Some(node) => make_for::<S, P, Brand>(alloc, space, parts, node, trails, Blank::new(1)),
+    if are_short::<S, P, Brand>(space, &parts, root) {
+        return make_short(alloc, space, parts, root);
     }
+    make_with(alloc, space, parts, root, &mut trails.ways)
+}
+
+/// The same by trails of its own. They take more room than other locals: only where they are used is it set up.
+#[inline(never)]
+fn make_alone<S: CodedSpace, P: Splices>(
+    alloc: Global,
+    space: &S,
+    parts: PartIter<'_, P>,
+    root: Rope,
+) -> Result<Vec<Row>, MakeFault>
+    requires parts { AreParts (S.NodeSpace.table space.now) parts }
+    requires root { IsRope (S.NodeSpace.table space.now) root }
+    requires same { parts_cells (S.NodeSpace.table space.now) parts
+        ≡ rope_cells (S.NodeSpace.table space.now) root }
+    ensures covers { IfOk result (λ rows. CoversAlways
+        (S.NodeSpace.table space.now) (S.coded space.now) parts.entry root rows.items) }
+    ensures no_source { IfOk result (λ rows. MeetsNoSource
+        (S.NodeSpace.table space.now) parts.entry root rows.items) }
+    ensures longest { IfOk result (λ rows. AreLongest
+        (S.NodeSpace.table space.now) parts.entry root rows.items) }
+    ensures few { IfOk result (λ rows. length rows.items ≤ ROWS_LIMIT) }
+    ensures too_many { IsErrOf result MakeFault.TooManyRows → IsCutShort
+        (S.NodeSpace.table space.now) (S.coded space.now) parts.entry root }
+{
+    make_with(alloc, space, parts, root, &mut Trails::new().ways)
 }
 
 /// Rows that show that the parts and the root have one text, whatever the sources hold, each as long as it can be: to
@@ -232,5 +310,8 @@ pub fn make<S: CodedSpace, P: Splices>(
     ensures too_many { IsErrOf result MakeFault.TooManyRows → IsCutShort
         (S.NodeSpace.table space.now) (S.coded space.now) parts.entry root }
 {
-    make_by(alloc, space, parts, root, &mut Trails::new())
+    if are_short::<S, P, Brand>(space, &parts, root) {
+        return make_short(alloc, space, parts, root);
+    }
+    make_alone(alloc, space, parts, root)
 }

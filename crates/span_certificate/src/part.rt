@@ -33,6 +33,17 @@ impl Part {
     }
 }
 
+impl Part {
+    /// The rope of which it is a piece, where it is one.
+    #[inline(always)]
+    pub(crate) fn rope(self) -> Rope {
+        match self {
+            Part::Old { rope, .. } => rope,
+            Part::Pool { .. } | Part::Source { .. } | Part::Fill { .. } => None,
+        }
+    }
+}
+
 /// A part of no bytes.
 pub const NO_PART: Part = Part::Pool { a: 0, n: 0 };
 

@@ -59,6 +59,19 @@ impl<'a, P: Splices> PartIter<'a, P> {
         }
     }
 
+    /// The ropes of the parts that stood ready first.
+    #[inline(always)]
+    pub(crate) fn ready_ropes(&self) -> [Rope; READY] {
+        let [first, second, last] = self.ready;
+        [first.rope(), second.rope(), last.rope()]
+    }
+
+    /// The rope that is cut into pieces, where one is.
+    #[inline(always)]
+    pub(crate) fn cut_rope(&self) -> Rope {
+        self.pieces.rope()
+    }
+
     /// The parts from the `given`th on that are not empty.
     #[inline(always)]
     fn few(ready: [Part; READY], given: usize, splices: &'a P) -> PartIter<'a, P>

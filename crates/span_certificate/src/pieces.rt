@@ -59,6 +59,12 @@ impl<'a, P: Splices> Pieces<'a, P> {
         }
     }
 
+    /// The rope of which they are pieces.
+    #[inline(always)]
+    pub fn rope(&self) -> Rope {
+        self.rope
+    }
+
     /// Those of a rope of this length, with `count` splices from place `first` on.
     pub fn of(rope: Rope, len: u64, splices: &'a P, first: u32, count: u32) -> Pieces<'a, P>
         requires there { first + count ≤ length (P.splices splices.now) }

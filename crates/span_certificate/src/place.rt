@@ -33,6 +33,7 @@ impl<'a, P: Splices> PartPlace<'a, P> {
     }
 
     /// Moves on by `n` bytes of the part that holds it.
+    #[inline(always)]
     pub fn skip(&mut self, n: u64)
         requires { self.old.off + n ≤ len_here self.old.part }
         ensures { (parts : List Part) → (place : ℕ) → IsAt parts place self.old.part self.old.off self.old.rest

@@ -8,6 +8,9 @@ use crate::stop::{MOST_STOPS, NO_STOP, Stop};
 use rope_node::NodeId;
 use std::sync::ledger::Ledger;
 
+/// So many of the last stops are looked at one by one.
+const NEAR: usize = 4;
+
 /// The nodes on the way down to a place, each below the one before.
 #[derive(Clone, Copy, Debug)]
 pub struct Trail {
@@ -104,7 +107,7 @@ impl Trail {
         requires { IsTrailOf (S.table space.now) root self.now }
         ensures { IfSome result (IsFound (S.table space.now) root.0 place node start) }
     {
-        // Their numbers fall from the root on, so the lowest stop that is no lower than the node tells.
+        // Their numbers fall from the root on, so the lowest stop that is no lower than the node tells. Mostly it is one of the last.
         if node.0 > self.stops[0].node.0 {
             return None;
         }
@@ -115,13 +118,45 @@ impl Trail {
             if stop.node.0 >= node.0 {
                 return stop.found(place, node, start);
             }
+            if self.count - i >= NEAR {
+                return self.find_far(space, root, place, node, start, i);
+            }
         }
         None
     }
 
+    /// The same among the first `end` stops, by halves.
+    #[cold]
+    #[inline(never)]
+    fn find_far<S: CountedSpace<L>, L: Ledger>(
+        &self,
+        space: &S,
+        root: NodeId,
+        place: u64,
+        node: NodeId,
+        start: u64,
+        end: usize,
+    ) -> Option<Stop>
+        requires trail { IsTrailOf (S.table space.now) root self.now }
+        requires few { end ≤ self.now.count }
+        ensures { IfSome result (IsFound (S.table space.now) root.0 place node start) }
+    {
+        let mut low = 0;
+        let mut high = end;
+        while high - low > 1 {
+            let middle = low + (high - low) / 2;
+            if self.stops[middle].node.0 >= node.0 {
+                low = middle;
+            } else {
+                high = middle;
+            }
+        }
+        self.stops[low].found(place, node, start)
+    }
+
     /// No rope's any more.
     #[inline(always)]
-    pub fn forget(&mut self)
+    pub fn clear(&mut self)
         ensures { (t : Table) → IsTrail t self.new }
     {
         self.count = 0;
@@ -129,42 +164,11 @@ impl Trail {
 
     /// This trail, or no rope's where it is not to be kept.
     #[inline(always)]
-    pub fn keep(&mut self, kept: bool)
+    pub fn keep_if(&mut self, kept: bool)
         ensures { (t : Table) → IsTrail t self.old → IsTrail t self.new }
     {
         if !kept {
             self.count = 0;
         }
-    }
-}
-
-/// The trails of the part and of the root that a row stands at.
-#[derive(Clone, Copy, Debug)]
-pub struct Trails {
-    pub of_part: Trail,
-    pub of_root: Trail,
-}
-
-impl Trails {
-    ghost use Rattle.rope_node.specs.Table.{Table};
-    ghost use Rattle.span_certificate.specs.Trails.{AreTrails};
-
-    /// Trails of no ropes.
-    pub fn new() -> Trails
-        ensures { (t : Table) → AreTrails t result }
-    {
-        Trails {
-            of_part: Trail::new(),
-            of_root: Trail::new(),
-        }
-    }
-
-    /// Of no ropes any more. What they were of may have changed meanwhile.
-    #[inline(always)]
-    pub fn forget(&mut self)
-        ensures { (t : Table) → AreTrails t self.new }
-    {
-        self.of_part.forget();
-        self.of_root.forget();
     }
 }

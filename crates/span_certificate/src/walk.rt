@@ -5,17 +5,16 @@ ghost use Rattle.rope_node.specs.Table.{view_at, IsLeaf, IsSound, HasTrueRecords
 ghost use Rattle.span_certificate.specs.Descents.{first_of};
 ghost use Rattle.span_certificate.specs.Longest.{GoesToLeafEnd, SpansStayWithin};
 ghost use Rattle.span_certificate.specs.Steps.{IsSpan, span_cells, CellsAs, IsRowOf, IsDescribedRow};
-ghost use Rattle.span_certificate.specs.Trails.{AreTrails, GoesDown, Holds, IsStopBelow, IsTrail, IsTrailStop, place_in};
+ghost use Rattle.span_certificate.specs.Trails.{GoesDown, Holds, IsStopBelow, IsTrail, IsTrailStop, place_in};
 ghost use Rattle.span_certificate.specs.declared.walk.TheConstants.{BYTES_LIMIT};
 ghost use Rattle.rope_node.specs.declared.node.NodeId.{NodeId};
 
-use crate::descent::first_leaf;
 use crate::describe::{Description, describe};
 use crate::looks::{Count, CountedSpace};
 use crate::row::{Row, RowKind};
-use crate::shallow::next_below;
 use crate::stop::Stop;
-use crate::trail::{Trail, Trails};
+use crate::trail::Trail;
+use crate::way::Way;
 use rope_node::{NodeId, NodeView};
 use std::sync::ledger::Ledger;
 
@@ -205,47 +204,21 @@ fn shared_row<S: CountedSpace<L>, L: Ledger>(space: &S, x: Span, a: Stop, y: Spa
 }
 
 /// A row for the first bytes of two spans of the same cells: over the first node that both lead to at
-/// one place, or over two leaf spans.
-#[inline(always)]
-pub fn next_old<S: CountedSpace<L>, L: Ledger>(
-    space: &S,
-    trails: &mut Trails,
-    x: Span,
-    y: Span,
-    count: &mut Count<L>,
-) -> Row
-    requires sound { IsSound (S.table space.now) }
-    requires true_records { HasTrueRecords (S.table space.now) }
-    requires trails { AreTrails (S.table space.now) trails.old }
-    requires x { IsSpan (S.table space.now) x }
-    requires y { IsSpan (S.table space.now) y }
-    requires len { y.len ≡ x.len }
-    requires same { span_cells (S.table space.now) x
-        ≡ span_cells (S.table space.now) y }
-    ensures row { IsRowOf (S.table space.now) (S.coded space.now) x y result }
-    ensures longest { result.len < x.len
-        → ¬ SpansStayWithin (S.table space.now) (result.len + 1) x y result.kind }
-    ensures trails { AreTrails (S.table space.now) trails.new }
-{
-    if space.is_shallow(x.node) && space.is_shallow(y.node) {
-        return next_below(space, x, y, count);
-    }
-    next_by(space, trails, x, y, count)
-}
-
-/// The same. Each side goes on from the last stop of its trail that holds its first byte. What both trails
+/// one place, or over two leaf spans. Each side goes on from the last stop of its trail that holds its first byte. What both trails
 /// kept is at one place of both only where the row before it was over that node to its end, so the first node of both is met where one
 /// side comes to a stop that is new.
-fn next_by<S: CountedSpace<L>, L: Ledger>(
+pub fn next_by<S: CountedSpace<L>, L: Ledger>(
     space: &S,
-    trails: &mut Trails,
+    of_part: &mut Trail,
+    of_root: &mut Trail,
     x: Span,
     y: Span,
     count: &mut Count<L>,
 ) -> Row
     requires sound { IsSound (S.table space.now) }
     requires true_records { HasTrueRecords (S.table space.now) }
-    requires trails { AreTrails (S.table space.now) trails.old }
+    requires of_part { IsTrail (S.table space.now) of_part.old }
+    requires of_root { IsTrail (S.table space.now) of_root.old }
     requires x { IsSpan (S.table space.now) x }
     requires y { IsSpan (S.table space.now) y }
     requires len { y.len ≡ x.len }
@@ -254,22 +227,17 @@ fn next_by<S: CountedSpace<L>, L: Ledger>(
     ensures row { IsRowOf (S.table space.now) (S.coded space.now) x y result }
     ensures longest { result.len < x.len
         → ¬ SpansStayWithin (S.table space.now) (result.len + 1) x y result.kind }
-    ensures trails { AreTrails (S.table space.now) trails.new }
+    ensures of_part { IsTrail (S.table space.now) of_part.new }
+    ensures of_root { IsTrail (S.table space.now) of_root.new }
 {
-    trails.of_part.begin(space, x.node);
-    trails.of_root.begin(space, y.node);
-    let mut a = trails.of_part.back_to(space, x.node, x.start, 1, 0);
-    let mut b = trails.of_root.back_to(space, y.node, y.start, 1, 0);
-    if let Some(stop) = trails
-        .of_root
-        .find(space, y.node, y.start, a.node, a.place_in(x.start))
-    {
+    of_part.begin(space, x.node);
+    of_root.begin(space, y.node);
+    let mut a = of_part.back_to(space, x.node, x.start, 1, 0);
+    let mut b = of_root.back_to(space, y.node, y.start, 1, 0);
+    if let Some(stop) = of_root.find(space, y.node, y.start, a.node, a.place_in(x.start)) {
         return shared_row(space, x, a, y, stop);
     }
-    if let Some(stop) = trails
-        .of_part
-        .find(space, x.node, x.start, b.node, b.place_in(y.start))
-    {
+    if let Some(stop) = of_part.find(space, x.node, x.start, b.node, b.place_in(y.start)) {
         return shared_row(space, x, stop, y, b);
     }
     let mut of_a = space.look(a.node, count);
@@ -277,18 +245,18 @@ fn next_by<S: CountedSpace<L>, L: Ledger>(
     'down: loop {
         match next_step::<S, L>(space, x, a, of_a, y, b, of_b) {
             Descent::First(z) => {
-                trails.of_part.push(space, x.node, z);
+                of_part.push(space, x.node, z);
                 let start = z.place_in(x.start);
-                if let Some(stop) = trails.of_root.find(space, y.node, y.start, z.node, start) {
+                if let Some(stop) = of_root.find(space, y.node, y.start, z.node, start) {
                     return shared_row(space, x, z, y, stop);
                 }
                 of_a = space.look(z.node, count);
                 a = z;
             }
             Descent::Second(w) => {
-                trails.of_root.push(space, y.node, w);
+                of_root.push(space, y.node, w);
                 let start = w.place_in(y.start);
-                if let Some(stop) = trails.of_part.find(space, x.node, x.start, w.node, start) {
+                if let Some(stop) = of_part.find(space, x.node, x.start, w.node, start) {
                     return shared_row(space, x, stop, y, w);
                 }
                 of_b = space.look(w.node, count);
@@ -313,23 +281,23 @@ fn next_by<S: CountedSpace<L>, L: Ledger>(
 }
 
 /// A row for the first bytes of a leaf span of this description and of a span of the same cells.
-pub fn next_leaf<S: CountedSpace<L>, L: Ledger>(
+pub fn next_leaf<S: CountedSpace<L>, W: Way, L: Ledger>(
     space: &S,
-    trail: &mut Trail,
+    way: &mut W,
     d: Description,
     y: Span,
     count: &mut Count<L>,
 ) -> Row
     requires sound { IsSound (S.table space.now) }
     requires true_records { HasTrueRecords (S.table space.now) }
-    requires trail { IsTrail (S.table space.now) trail.old }
+    requires way { W.is_way (S.table space.now) way.old }
     requires y { IsSpan (S.table space.now) y }
     requires same { CellsAs y.len d (span_cells (S.table space.now) y) }
     ensures row { IsDescribedRow (S.table space.now) (S.coded space.now) d y result }
     ensures ends { GoesToLeafEnd (first_of (S.table space.now) y).len result.len result.kind }
-    ensures trail { IsTrail (S.table space.now) trail.new }
+    ensures way { W.is_way (S.table space.now) way.new }
 {
-    let z = first_leaf(space, trail, y, count);
+    let z = way.first_leaf(space, y, count);
     match describe(space, z.span.node, z.view, z.span.start, count) {
         Some(e) => described_row(d, e, z.span.len),
         None => unreachable!(),

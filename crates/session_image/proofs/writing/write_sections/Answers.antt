@@ -1,4 +1,4 @@
-use Rattle.std.proofs.Common.{[], ◌++◌}
+use Rattle.std.proofs.Common.{[], ◌++◌, rules}
 use Rattle.std.specs.List.{flat_map}
 use Rattle.image_reader.specs.Spelling.{source_spelling, node_spelling, revision_spelling, splice_spelling, row_spelling, spelling}
 use Rattle.image_reader.specs.Value.{ImageValue}
@@ -60,7 +60,7 @@ returns-in_err-write_rows-clause-written g c =
     put_failed _ _ _ c.from_residual-in_err-write_rows.result c.from_residual-in_err-write_rows.ensures.0 (sends_slice _ _ _ _ (from_rows v) (sends_then (output g.W.Write.contents c.args.writer.now) (output g.W.Write.contents c.write_splices.new.writer) (output g.W.Write.contents c.write_rows.new.writer) (to_splices v) (flat_map row_spelling v.rows) (v.pool) a5 c.in_err-write_rows.ensures.bytes.err))
 
 pub write_nodes-requires : goal.write_nodes-requires
-write_nodes-requires g c = rw c.space-space.ensures.store c.requires
+write_nodes-requires g c = (search rules, rw c.space-space.ensures.store c.requires)
 
 pub returns-clause-written : goal.returns-clause-written
 returns-clause-written g c =

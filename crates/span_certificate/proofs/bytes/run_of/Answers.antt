@@ -5,8 +5,8 @@ use Rattle.span_certificate.proofs.bytes.run_of.Goals as goal
 
 pub returns-in-Some-describe-clause-run : goal.returns-in-Some-describe-clause-run
 returns-in-Some-describe-clause-run g c =
-    old_run (g.S.CountedSpace.table c.args.space.now) c.requires.sound c.requires.true_records c.args.part c.in-Some.node c.in-Old.i c.in-Old.n c.args.off c.args.left c.first_leaf_by-z.result.span c.in-Some-describe.what
-    (c.in-Old.is ∙ ap (λ r. Old r c.in-Old.i c.in-Old.n) c.in-Some.is) c.requires.part c.requires.some c.requires.inside c.first_leaf_by-z.ensures.leaf.reached c.in-Some-describe.ensures.describes
+    old_run (g.S.CountedSpace.table c.args.space.now) c.requires.sound c.requires.true_records c.args.part c.in-Some.node c.in-Old.i c.in-Old.n c.args.off c.args.left c.first_leaf-z.result.span c.in-Some-describe.what
+    (c.in-Old.is ∙ ap (λ r. Old r c.in-Old.i c.in-Old.n) c.in-Some.is) c.requires.part c.requires.some c.requires.inside c.first_leaf-z.ensures.leaf.reached c.in-Some-describe.ensures.describes
 
 pub returns-in-Pool-clause-run : goal.returns-in-Pool-clause-run
 returns-in-Pool-clause-run g c = pool_run (g.S.CountedSpace.table c.args.space.now) c.requires.sound c.args.part c.in-Pool.a c.in-Pool.n c.args.off c.args.left c.in-Pool.is c.requires.part c.requires.some c.requires.inside

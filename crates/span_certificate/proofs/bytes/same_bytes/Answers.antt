@@ -25,7 +25,7 @@ loop-done-preserved g c =
       comparing = comparing_more (g.S.CountedSpace.table c.args.space.now) (g.T.Sources.reading c.args.sources.now).stated c.args.part c.args.off c.args.other c.args.place c.args.len c.loop-done.done c.run_of-a.result c.run_of-b.result c.min-n.result
           turn c.loop-done.invariant.comparing (rw (e, c.loop-done.invariant.reads, c.in-Ok-true.field-0-test) at c.in-Ok-true.ensures.same);
       looks = omega (arith, c.run_of-a.ensures.few, c.run_of-b.ensures.few, c.loop-done.invariant.looks, c.run_of-a.ensures.run.some, c.run_of-b.ensures.run.some, c.min-n.ensures, c.min.ensures);
-      trails = record { part = c.run_of-a.ensures.trail; root = c.run_of-b.ensures.trail };
+      ways = record { part = c.run_of-a.ensures.way; root = c.run_of-b.ensures.way };
       reads = c.in-Ok-true.ensures.reads ∙ c.loop-done.invariant.reads;
     }
 

@@ -44,7 +44,7 @@ loop-j-preserved g c =
           (inside.0, at_inside_parts c.args.parts c.loop-j.place c.loop-j.at.part c.loop-j.at.off c.row-row.result.len c.loop-j.at.rest inside.1 c.loop-j.invariant.at);
       at = c.skip.ensures c.args.parts c.loop-j.place c.loop-j.invariant.at;
       looks = omega (arith, c.loop-j.invariant.looks, c.row_fits.ensures.looks, looks_more (g.R.Rows.listed c.args.rows.now) c.loop-j.j c.row-row.result lt c.row-row.ensures);
-      trails = c.row_fits.ensures.trails;
+      ways = c.row_fits.ensures.ways;
       reads = c.in-Ok-true.ensures.reads c.args.parts c.requires.parts held ∙ c.loop-j.invariant.reads;
     }
 
@@ -109,6 +109,6 @@ loop-j-init g c = record {
   verifying = verifying_none (g.S.CountedSpace.table c.args.space.now) (g.S.CountedSpace.coded c.args.space.now) (g.T.Sources.reading c.args.sources.now).stated c.args.parts c.args.root (g.R.Rows.listed c.args.rows.now);
   at = c.start-at.ensures;
   looks = omega arith;
-  trails = c.forget.ensures (g.S.CountedSpace.table c.args.space.now);
+  ways = c.forget.ensures (g.S.CountedSpace.table c.args.space.now);
   reads = refl;
 }

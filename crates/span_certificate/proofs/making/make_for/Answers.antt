@@ -64,7 +64,7 @@ loop-place-preserved g c =
       making = rw pushed
           (making_more t c.requires.sound c.requires.true_records (g.S.CodedSpace.coded c.args.space.now) c.args.parts c.args.root c.loop-place.rows.items c.loop-place.place c.loop-place.at.off (c.len-in-Some.result - c.loop-place.at.off) c.in-Some.part c.next_row-row.result
           c.requires.parts c.requires.same here s c.next_row-row.ensures.next (longest_here t c.args.parts c.args.root c.loop-place.place c.loop-place.at.off c.in-Some.part c.len-in-Some.result c.next_row-row.result here c.len-in-Some.ensures c.next_row-row.ensures.longest) (search rules) c.loop-place.invariant.making);
-      trails = record { part = c.keep.ensures t c.next_row-row.ensures.trails.part; root = c.next_row-row.ensures.trails.root };
+      ways = record { part = c.keep.ensures t c.next_row-row.ensures.ways.part; root = c.next_row-row.ensures.ways.root };
       at = c.skip.ensures c.args.parts c.loop-place.place c.loop-place.invariant.at;
     }
 
@@ -76,6 +76,6 @@ returns-clause-covers g c =
 pub loop-place-init : goal.loop-place-init
 loop-place-init g c = record {
   making = rw c.new-rows.ensures.items (making_none (g.S.NodeSpace.table c.args.space.now) (g.S.CodedSpace.coded c.args.space.now) c.args.parts (Some c.args.root));
-  trails = c.forget.ensures (g.S.NodeSpace.table c.args.space.now);
+  ways = c.forget.ensures (g.S.NodeSpace.table c.args.space.now);
   at = c.start-at.ensures;
 }

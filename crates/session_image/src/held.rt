@@ -1,4 +1,4 @@
-//! A record as it is put together: its fields one after the other, in a buffer of fixed size.
+//! Bytes held one behind the other, in a buffer of fixed size: the fields of a record, and records that a writer takes together.
 
 ghost use Rattle.std.specs.Prelude.{◌≡◌, ◌+◌, ◌≤◌, ◌++◌, [], length};
 ghost use Rattle.std.specs.Int.{w8, w16, w32, w64, to_be_bytes};
@@ -10,48 +10,73 @@ use std::marker::Model;
 pub const LONGEST: usize = REVISION_SIZE;
 
 /// The bytes of a record, its fields one after the other.
+pub type Record = Held<LONGEST>;
+
+/// The bytes that are held, `N` at most.
 #[derive(Drop)]
-pub struct Record {
-    bytes: [u8; LONGEST],
+pub struct Held<const N: usize> {
+    bytes: [u8; N],
     filled: usize,
 }
 
-impl Model for Record {
+impl<const N: usize> Model for Held<N> {
     ghost use Rattle.std.specs.Prelude.{ℕ, List, ◌≤◌, take};
-    ghost use Rattle.session_image.specs.declared.record.TheConstants.{LONGEST};
 
     ghost Value = { List ℕ };
 
-    ghost view = { λ r. take r.filled r.bytes };
+    ghost view = { λ h. take h.filled h.bytes };
 
-    ghost invariant = { λ r. r.filled ≤ LONGEST };
+    ghost invariant = { λ h. h.filled ≤ N };
 }
 
-impl Record {
-    /// No fields.
-    pub(crate) fn new() -> Record
+impl<const N: usize> Held<N> {
+    /// No bytes.
+    pub(crate) fn new() -> Held<N>
         ensures { result ≡ [] }
     {
-        Record {
-            bytes: [0; LONGEST],
+        Held {
+            bytes: [0; N],
             filled: 0,
         }
     }
 
-    /// The next bytes.
+    /// How many more bytes can be held.
+    pub(crate) fn room(&self) -> usize
+        ensures { length self.now + result ≡ N }
+    {
+        N - self.filled
+    }
+
+    /// Holds these bytes too.
     pub(crate) fn push(&mut self, bytes: &[u8])
-        requires { length self.old + length bytes.now ≤ LONGEST }
+        requires { length self.old + length bytes.now ≤ N }
         ensures bytes { self.new ≡ self.old ++ bytes.now }
         ensures len { length self.new ≡ length self.old + length bytes.now }
     {
         let end = self.filled + bytes.len();
-        self.bytes[self.filled..end].copy_from_slice(bytes);
+        let held = &mut self.bytes[..];
+        held[self.filled..end].copy_from_slice(bytes);
         self.filled = end;
+    }
+
+    /// Holds nothing any more.
+    pub(crate) fn clear(&mut self)
+        ensures { self.new ≡ [] }
+    {
+        self.filled = 0;
+    }
+
+    /// What is held.
+    pub fn as_slice(&self) -> &[u8]
+        ensures { result.now ≡ self.now }
+    {
+        let held = &self.bytes[..];
+        &held[..self.filled]
     }
 
     /// A field of one byte.
     pub(crate) fn push_u8(&mut self, n: u8)
-        requires { length self.old + 1 ≤ LONGEST }
+        requires { length self.old + 1 ≤ N }
         ensures bytes { self.new ≡ self.old ++ to_be_bytes w8 n }
         ensures len { length self.new ≡ length self.old + 1 }
     {
@@ -60,7 +85,7 @@ impl Record {
 
     /// A field of two bytes.
     pub(crate) fn push_u16(&mut self, n: u16)
-        requires { length self.old + 2 ≤ LONGEST }
+        requires { length self.old + 2 ≤ N }
         ensures bytes { self.new ≡ self.old ++ to_be_bytes w16 n }
         ensures len { length self.new ≡ length self.old + 2 }
     {
@@ -69,7 +94,7 @@ impl Record {
 
     /// A field of four bytes.
     pub(crate) fn push_u32(&mut self, n: u32)
-        requires { length self.old + 4 ≤ LONGEST }
+        requires { length self.old + 4 ≤ N }
         ensures bytes { self.new ≡ self.old ++ to_be_bytes w32 n }
         ensures len { length self.new ≡ length self.old + 4 }
     {
@@ -78,17 +103,10 @@ impl Record {
 
     /// A field of eight bytes.
     pub(crate) fn push_u64(&mut self, n: u64)
-        requires { length self.old + 8 ≤ LONGEST }
+        requires { length self.old + 8 ≤ N }
         ensures bytes { self.new ≡ self.old ++ to_be_bytes w64 n }
         ensures len { length self.new ≡ length self.old + 8 }
     {
         self.push(&n.to_be_bytes());
-    }
-
-    /// Its bytes.
-    pub fn as_slice(&self) -> &[u8]
-        ensures { result.now ≡ self.now }
-    {
-        &self.bytes[..self.filled]
     }
 }

@@ -1,6 +1,6 @@
 use Rattle.std.proofs.Common.{arith}
 use Rattle.span_certificate.proofs.Made.{making_none, covers_at_end}
-use Rattle.span_certificate.proofs.making.make_by.Goals as goal
+use Rattle.span_certificate.proofs.making.make_with.Goals as goal
 
 pub returns-in-None-clause-covers : goal.returns-in-None-clause-covers
 returns-in-None-clause-covers g c =

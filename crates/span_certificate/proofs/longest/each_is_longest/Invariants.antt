@@ -1,0 +1,14 @@
+use Rattle.std.proofs.Common.{◌≡◌, ℕ, ◌<◌}
+use Rattle.span_certificate.specs.Covers.{place_of, row_at}
+use Rattle.span_certificate.specs.Longest.{IsLongest}
+use Rattle.span_certificate.specs.Places.{IsAt}
+use Rattle.span_certificate.specs.Trails.{AreWays}
+use Rattle.span_certificate.proofs.longest.each_is_longest.Given as goal
+
+abbrev pub invariant-loop-j : goal.invariant-loop-j
+invariant-loop-j g l = record {
+  stands : l.place ≡ place_of l.rows l.j;
+  longest : (i : ℕ) → i < l.j → IsLongest (g.S.NodeSpace.table l.space) l.fn.parts l.root (place_of l.rows i) (row_at l.rows i);
+  at : IsAt l.fn.parts l.place l.at.part l.at.off l.at.rest;
+  ways : AreWays g.W.Way.is_way (g.S.NodeSpace.table l.space) l.ways;
+}
