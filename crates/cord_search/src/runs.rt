@@ -3,13 +3,13 @@
 ghost use Rattle.std.specs.Prelude.{◌≡◌, ◌<◌, ◌≤◌, ◌+◌, Some, length, take, IfOk, OnOk};
 ghost use Rattle.rope_node.specs.Table.{len_at};
 ghost use Rattle.rope_node.specs.Denotes.{IsRope, cell_at, rope_len};
-ghost use Rattle.cord_position.specs.Fetched.{ReadsSpan};
+ghost use Rattle.cord_position.specs.Fetched.{ReadsSpan, rope_cell};
 ghost use Rattle.cord_position.specs.Position.{cell_of, text_len};
 ghost use Rattle.cord_search.specs.Pieces.{IsPiece, IsPieceHere};
 
 use cord_position::{Pos, fill_part};
 use lazy_file::{SourceFault, Sources};
-use rope_node::{NodeId, NodeSpace, NodeView, Rope};
+use rope_node::{NodeId, NodeSpace, NodeView, Rope, rope_len};
 
 /// How many bytes are looked at at once where the answer is often near.
 pub const PIECE: usize = 4096;
@@ -105,6 +105,32 @@ pub fn gather<S: NodeSpace, T: Sources>(
             fill_part(space, sources, node, start, buffer)
         }
     }
+}
+
+/// The `count` bytes of a text from a place on, by one way down to their leaves. They stand in the buffer's front.
+pub fn part_of<'r, S: NodeSpace, T: Sources>(
+    space: &S,
+    sources: &mut T,
+    x: Rope,
+    from: u64,
+    count: usize,
+    buffer: &'r mut [u8],
+) -> Result<&'r [u8], SourceFault>
+    requires rope { IsRope (S.table space.now) x }
+    requires count { (1 ≤ count) × (count ≤ length buffer.old) }
+    requires inside { from + count ≤ rope_len (S.table space.now) x }
+    ensures bytes { IfOk result
+        (λ part. IsPiece (S.table space.now) (T.reading sources.old).stated x from part.now) }
+    ensures count { IfOk result (λ part. length part.now ≡ count) }
+    ensures reads { ReadsSpan (T.reading sources.old) (T.reading sources.new)
+        (rope_cell (S.table space.now) x) from (from + count) result }
+{
+    let _len = rope_len(space, x);
+    match x {
+        Some(node) => gather(space, sources, node, from, &mut buffer[..count])?,
+        None => unreachable!(),
+    }
+    Ok(&buffer[..count])
 }
 
 /// The next bytes from a position on, at least `need` and at most `most`: a literal's where they lie, if they are enough, and else

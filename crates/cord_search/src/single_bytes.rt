@@ -6,7 +6,7 @@ ghost use Rattle.cord_position.specs.Fetched.{ReadsSpan, rope_cell};
 ghost use Rattle.cord_search.specs.Places.{IsFromOn, IsUpTo};
 ghost use Rattle.cord_search.specs.Stated.{FindsFirst, FindsLast};
 
-use crate::runs::{PIECE, next_run, next_window};
+use crate::runs::{PIECE, next_run, part_of};
 use crate::skips::{clear_ahead, clear_behind};
 use cord_position::Pos;
 use lazy_file::{SourceFault, Sources};
@@ -97,13 +97,11 @@ pub fn rchr<S: NodeSpace, T: Sources>(
     let mut buffer = [0; PIECE];
     while end > 0 {
         let from = end.saturating_sub(PIECE as u64);
-        let count = end - from;
-        let pos = Pos::set(alloc, space, x, from);
-        let window = next_window(&pos, space, sources, x, count as usize, count, &mut buffer)?;
+        let window = part_of(space, sources, x, from, (end - from) as usize, &mut buffer)?;
         if let Some(k) = memrchr(c, window) {
             return Ok(Some(from + k as u64));
         }
-        end = clear_behind(alloc, &pos, space, x, count);
+        end = clear_behind(alloc, space, x, from, end - from);
     }
     Ok(None)
 }

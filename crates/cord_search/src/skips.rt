@@ -1,12 +1,12 @@
 //! How far a search skips places of a leaf that repeats.
 
-ghost use Rattle.std.specs.Prelude.{◌≡◌, ◌≤◌, ◌+◌};
-ghost use Rattle.rope_node.specs.Denotes.{IsRope};
+ghost use Rattle.std.specs.Prelude.{◌≡◌, ◌<◌, ◌≤◌, ◌+◌};
+ghost use Rattle.rope_node.specs.Denotes.{IsRope, rope_len};
 ghost use Rattle.cord_position.specs.Position.{text_len};
 ghost use Rattle.cord_search.specs.Skipped.{IsClearAlso};
 
 use cord_position::Pos;
-use rope_node::{NodeSpace, Rope, rope_len};
+use rope_node::{NodeSpace, NodeView, Rope, find_leaf, rope_len};
 use std::alloc::Global;
 
 /// At how many places from a position on a pattern of `need` bytes cannot stand, where it stands at none of the first `count`: at all
@@ -31,7 +31,7 @@ pub fn clear_ahead<S: NodeSpace>(pos: &Pos<'_, S>, need: u64, count: u64) -> u64
 
 /// The first place from which on a byte cannot stand, where it stands at none of `count` places from a position on: the first of the
 /// present leaf's span, if the leaf repeats within these, and else the position's.
-pub fn clear_behind<S: NodeSpace>(
+fn clear_behind_position<S: NodeSpace>(
     alloc: Global,
     pos: &Pos<'_, S>,
     space: &S,
@@ -45,14 +45,40 @@ pub fn clear_behind<S: NodeSpace>(
         pos.now.index (pos.now.index + count) result (pos.now.index + count) }
 {
     let _len = rope_len(space, x);
-    if pos.run_period().is_none() {
-        // Most leaves do not repeat, and one that does not here does not at its first byte either.
-        return pos.index();
-    }
     let first = pos.run_start();
     let start = Pos::set(alloc, space, x, first);
     match start.run_period() {
         Some(period) if period <= count.min(pos.run_left()) => first,
         _ => pos.index(),
     }
+}
+
+/// Whether the leaf at a place says after how many bytes it repeats. Most leaves do not.
+fn repeats_at<S: NodeSpace>(space: &S, x: Rope, place: u64) -> bool
+    requires rope { IsRope (S.table space.now) x }
+    requires inside { place < rope_len (S.table space.now) x }
+{
+    let _len = rope_len(space, x);
+    let Some(node) = x else {
+        return false;
+    };
+    let leaf = find_leaf(space, node, place).leaf;
+    match space.node(leaf) {
+        NodeView::Fun => space.period(leaf).is_some(),
+        _ => false,
+    }
+}
+
+/// The first place from which on a byte cannot stand, where it stands at none of `count` places from `from` on: the first of the leaf's
+/// span there, if the leaf repeats within these, and else `from`. It sets a position where the leaf repeats, and nowhere else.
+pub fn clear_behind<S: NodeSpace>(alloc: Global, space: &S, x: Rope, from: u64, count: u64) -> u64
+    requires rope { IsRope (S.table space.now) x }
+    ensures before { result ≤ from }
+    ensures clear { IsClearAlso (S.table space.now) x 1 from (from + count) result (from + count) }
+{
+    if from >= rope_len(space, x) || !repeats_at(space, x, from) {
+        return from;
+    }
+    let pos = Pos::set(alloc, space, x, from);
+    clear_behind_position(alloc, &pos, space, x, count)
 }
