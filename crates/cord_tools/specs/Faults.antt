@@ -117,4 +117,7 @@ IsJoinFault Tool.TextTooLong = ⊥
 IsJoinFault Tool.TooManyKeys = ⊥
 IsJoinFault Tool.OtherKeys = ⊥
 IsJoinFault Tool.KeysInUse = ⊥
+IsJoinFault Tool.ImageThere = ⊥
+IsJoinFault Tool.OtherImage = ⊥
+IsJoinFault Tool.KeysGone = ⊥
 IsJoinFault PatternTooLong = ⊥

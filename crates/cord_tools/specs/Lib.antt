@@ -4,6 +4,7 @@ pub mod Editing
 pub mod Faults
 pub mod Files
 pub mod Input
+pub mod Looking
 pub mod Migrated
 pub mod Outcomes
 pub mod Sources

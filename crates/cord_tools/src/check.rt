@@ -12,9 +12,10 @@ use crate::status::Status;
 use byte_output::write_bytes;
 use lazy_file::{AddFault, MemSources, Sources};
 use rope_node::NodeSpace;
-use session_checker::{CheckFault, Checked, check_at_most};
+use session_checker::{CheckFault, Checked, check_told};
 use std::alloc::{AllocError, Global};
 use std::io;
+use work_progress::{Progress, Untold};
 
 fn accepted_line(alloc: Global, image: &Checked) -> Result<String, AllocError>
     ensures { IfOk result (λ line. string_bytes line ≡ accepted_line image.now) }
@@ -40,11 +41,12 @@ fn refused_source_line(alloc: Global, refusal: AddFault) -> Result<String, Alloc
 }
 
 /// The line and the status that answer for an image with its sources.
-fn answer_with<S: Sources>(
+fn answer_with<S: Sources, P: Progress>(
     alloc: Global,
     bytes: &[u8],
     sources: &mut S,
     at_most: Option<u64>,
+    progress: &mut P,
 ) -> Result<(String, Status), ToolFault>
     ensures ok { IfOk result
         (λ x. AnswersWith at_most (S.reading sources.old).stated bytes.now (string_bytes x.0) x.1) }
@@ -54,7 +56,7 @@ fn answer_with<S: Sources>(
     ensures reads { ReadsAt (S.reading sources.old) (S.reading sources.new)
         (BytesAsk (S.reading sources.old).stated bytes.now) result }
 {
-    match check_at_most(bytes, sources, at_most) {
+    match check_told(bytes, sources, at_most, progress) {
         Ok(image) => Ok((accepted_line(alloc, &image)?, Status::Success)),
         Err(CheckFault::Source(fault)) => Err(ToolFault::from(fault)),
         Err(fault) => Ok((refused_line(alloc, fault)?, Status::Failure)),
@@ -80,8 +82,36 @@ pub fn run_check<R: io::Read + Drop, S: Sources, W: io::Write>(
     ensures { ChecksImage at_most S.reading sources.old sources.new (R.remaining reader)
         (W.contents writer.old) (W.contents writer.new) result }
 {
+    run_check_told(
+        alloc,
+        reader,
+        expected,
+        sources,
+        at_most,
+        writer,
+        &mut Untold,
+    )
+}
+
+/// The same as `run_check`, and tells on the way how many of the image's records are done, and before it writes that it is over.
+///
+/// # Errors
+///
+/// As those of `run_check`.
+pub fn run_check_told<R: io::Read + Drop, S: Sources, W: io::Write, P: Progress>(
+    alloc: Global,
+    reader: R,
+    expected: u64,
+    sources: &mut S,
+    at_most: Option<u64>,
+    writer: &mut W,
+    progress: &mut P,
+) -> Result<Status, ToolFault>
+    ensures { ChecksImage at_most S.reading sources.old sources.new (R.remaining reader)
+        (W.contents writer.old) (W.contents writer.new) result }
+{
     let bytes = read_image(alloc, reader, expected)?;
-    let (line, status) = answer_with(alloc, &bytes, sources, at_most)?;
+    let (line, status) = answer_with(alloc, &bytes, sources, at_most, progress)?;
     write_bytes(writer, line.as_bytes())?;
     Ok(status)
 }

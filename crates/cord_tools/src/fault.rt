@@ -57,6 +57,15 @@ pub enum ToolFault {
     /// Another session has the file of keys.
     #[error("refused J2")]
     KeysInUse,
+    /// The image is there already, and is not to be replaced.
+    #[error("refused J3")]
+    ImageThere,
+    /// Where the image is to stand, there is not what was there when the session began.
+    #[error("refused J4")]
+    OtherImage,
+    /// The file of keys of the session is gone, or another one has its name.
+    #[error("refused J5")]
+    KeysGone,
 }
 
 impl From<AddFault> for ToolFault {

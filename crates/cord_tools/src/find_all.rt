@@ -18,6 +18,7 @@ use memchr::memchr_iter;
 use memchr::memmem::Finder;
 use std::alloc::{AllocError, Global};
 use std::io;
+use work_progress::{Progress, Untold};
 
 /// Bytes are searched by so many.
 const WINDOW: usize = 65_536;
@@ -130,6 +131,38 @@ fn found_from<T: Sources>(
     Ok(found_places(lines, finder, window, from)?)
 }
 
+/// Tells that the bytes before `from` are done, as long as no line was found.
+fn tell_part<P: Progress>(progress: &mut P, lines: &[u8], from: u64) {
+    match lines.first() {
+        Some(_) => progress.end(),
+        None => progress.tell(from),
+    }
+}
+
+/// The same as `found_from`, which is told as long as no line was found.
+fn found_told<T: Sources, P: Progress>(
+    lines: &mut Vec<u8>,
+    finder: &Finder<'_>,
+    sources: &mut T,
+    from: u64,
+    window: &mut [u8],
+    progress: &mut P,
+) -> Result<u64, ToolFault>
+    requires size { slice_index (T.reading sources.old).stated.sizes 0 < 2 ^ 40 }
+    requires inside { from + length window.old ≤ slice_index (T.reading sources.old).stated.sizes 0 }
+    requires short { length finder.now ≤ length window.old }
+    ensures found { IfOk result (λ next.
+        FindsOn (T.reading sources.old).stated finder.now from next lines.new.items) }
+    ensures next { IfOk result (λ next. from < next) }
+    ensures fault { IfErr result IsUnread }
+    ensures reads { ReadsCells (T.reading sources.old) (T.reading sources.new)
+        (drop from (file_cells (T.reading sources.old).stated.sizes 0)) result }
+{
+    let found = found_from(lines, finder, sources, from, window);
+    tell_part(progress, lines, from);
+    found
+}
+
 /// Whether there was a place, where there was one before or these lines are of some.
 fn status_with(status: Status, lines: &[u8]) -> Status
     ensures none { lines.now ≡ [] → result ≡ status }
@@ -161,6 +194,27 @@ pub fn run_find_all<T: Sources, W: io::Write>(
     ensures { FindsAll (T.reading sources.old) (T.reading sources.new) start pattern.now
         (W.contents writer.old) (W.contents writer.new) result }
 {
+    run_find_all_told(alloc, sources, start, pattern, writer, &mut Untold)
+}
+
+/// The same as `run_find_all`, and tells on the way how many of the source's bytes are done, to the first line, which it writes behind the
+/// end of that.
+///
+/// # Errors
+///
+/// As those of `run_find_all`.
+pub fn run_find_all_told<T: Sources, W: io::Write, P: Progress>(
+    alloc: Global,
+    sources: &mut T,
+    start: u64,
+    pattern: &[u8],
+    writer: &mut W,
+    progress: &mut P,
+) -> Result<Status, ToolFault>
+    requires { 1 ≤ length (T.reading sources.old).stated.sizes }
+    ensures { FindsAll (T.reading sources.old) (T.reading sources.new) start pattern.now
+        (W.contents writer.old) (W.contents writer.new) result }
+{
     if pattern.len() > PATTERN_LIMIT {
         return Err(ToolFault::PatternTooLong);
     }
@@ -171,12 +225,21 @@ pub fn run_find_all<T: Sources, W: io::Write>(
     let mut lines = Vec::new(alloc);
     let mut status = Status::Failure;
     let mut from = start;
+    progress.begin(size);
     while from < end {
         let n = (size - from).min(WINDOW as u64) as usize;
-        let next = found_from(&mut lines, &finder, sources, from, &mut buffer[..n])?;
+        let next = found_told(
+            &mut lines,
+            &finder,
+            sources,
+            from,
+            &mut buffer[..n],
+            progress,
+        )?;
         write_bytes(writer, &lines)?;
         status = status_with(status, &lines);
         from = next;
     }
+    progress.end();
     Ok(status)
 }

@@ -5,10 +5,11 @@ ghost use Rattle.cord_tools.specs.Migrated.{MigratesImage};
 use crate::fault::ToolFault;
 use crate::input::read_image;
 use lazy_file::Sources;
-use session_checker::check_at_most;
+use session_checker::check_told;
 use session_image::restate;
 use std::alloc::Global;
 use std::io;
+use work_progress::{Progress, Untold};
 
 /// Writes the image that the reader gives anew in version 2, with these sources, and nothing else, once it is checked by at most so many
 /// looks at nodes, if there is a limit. What is written is
@@ -29,7 +30,35 @@ pub fn run_migrate<R: io::Read + Drop, S: Sources, W: io::Write>(
     ensures { MigratesImage at_most S.reading sources.old sources.new (R.remaining reader)
         (W.contents writer.old) (W.contents writer.new) result }
 {
+    run_migrate_told(
+        alloc,
+        reader,
+        expected,
+        sources,
+        at_most,
+        writer,
+        &mut Untold,
+    )
+}
+
+/// The same as `run_migrate`, and tells on the way how many of the image's records are checked, and before it writes that they are.
+///
+/// # Errors
+///
+/// As those of `run_migrate`.
+pub fn run_migrate_told<R: io::Read + Drop, S: Sources, W: io::Write, P: Progress>(
+    alloc: Global,
+    reader: R,
+    expected: u64,
+    sources: &mut S,
+    at_most: Option<u64>,
+    writer: &mut W,
+    progress: &mut P,
+) -> Result<(), ToolFault>
+    ensures { MigratesImage at_most S.reading sources.old sources.new (R.remaining reader)
+        (W.contents writer.old) (W.contents writer.new) result }
+{
     let bytes = read_image(alloc, reader, expected)?;
-    let image = check_at_most(&bytes, sources, at_most)?;
+    let image = check_told(&bytes, sources, at_most, progress)?;
     Ok(restate(image.image(), writer)?)
 }

@@ -31,7 +31,10 @@ fn fault_status(fault: ToolFault) -> u8
         | ToolFault::TextTooLong
         | ToolFault::TooManyKeys
         | ToolFault::OtherKeys
-        | ToolFault::KeysInUse => 1,
+        | ToolFault::KeysInUse
+        | ToolFault::ImageThere
+        | ToolFault::OtherImage
+        | ToolFault::KeysGone => 1,
         ToolFault::Memory | ToolFault::Read | ToolFault::Write => 3,
     }
 }

@@ -1,6 +1,6 @@
 -- The program's command line, and what an action holds of it.
 use Rattle.std.specs.Prelude.{◌≡◌, ◌⊎◌, ◌∷◌, ◌||◌, ⊤, ℕ, Bool, true, false, List, [], Option, Some, None, Ok, String}
-use Rattle.std.specs.Prelude.{IfSome, codes, map, string_bytes, unwrap_or}
+use Rattle.std.specs.Prelude.{IfSome, codes, if◌then◌else◌, is_some, map, string_bytes, unwrap_or}
 use Rattle.std.specs.Option.{option_map, option_map_or}
 use Rattle.std.specs.Str.{bytes_eq}
 use Rattle.std.specs.Str.Parse.{ParsesUnsigned}
@@ -10,10 +10,10 @@ use Rattle.clap.specs.Words.{new_rule, subcommand_of, with_rule, with_subcommand
 use Rattle.clap.specs.Simple.{on_top}
 use Rattle.clap.specs.Kinds.{or_else}
 use Rattle.clap.specs.declared.builder.action.ArgAction.TheVariants.{Append, SetTrue}
-use Rattle.clap.specs.declared.error.kind.ErrorKind.TheVariants.{ValueValidation}
+use Rattle.clap.specs.declared.error.kind.ErrorKind.TheVariants.{ArgumentConflict, ValueValidation}
 use Rattle.cord_words.specs.declared.request.Request.{Request}
 use Rattle.cord_words.specs.declared.action.Action.{Action}
-use Rattle.cord_words.specs.declared.action.Action.TheVariants.{CheckInput, Check, Show, Cut, Join, Find, Cmp, Edit, Migrate, Log, Apply}
+use Rattle.cord_words.specs.declared.action.Action.TheVariants.{CheckInput, Check, Show, Cut, Join, Find, Cmp, Edit, Discard, Migrate, Log, Apply}
 
 -- ---- the words that the program takes
 
@@ -89,9 +89,14 @@ optional_file_rule = new_rule (codes "FILE")
 abbrev pub keep_rule : Rule
 keep_rule = record (new_rule (codes "KEYS")) { long = Some (codes "keep") }
 
--- `edit [--keep KEYS] IMAGE [FILE]`
+-- the value of `--session`, or none
+abbrev pub session_rule : Rule
+session_rule = record (new_rule (codes "SESSION")) { long = Some (codes "session") }
+
+-- `edit [--keep KEYS] [--session SESSION] [--no-clobber] [--discard] IMAGE [FILE]`
 abbrev pub edit_app : App
-edit_app = with_rule (with_rule (with_rule (new_app (codes "edit")) keep_rule) image_rule) optional_file_rule
+edit_app = with_rule (with_rule (with_rule (with_rule (with_rule (with_rule (new_app (codes "edit")) keep_rule) session_rule)
+    (flag_rule (codes "no-clobber"))) (flag_rule (codes "discard"))) image_rule) optional_file_rule
 
 -- `migrate [--at-most LOOKS] IMAGE [SOURCE]...`
 abbrev pub migrate_app : App
@@ -156,6 +161,11 @@ MayReadAs (Some t) (Some n) = ReadsAs t n
 abbrev pub Gives : Option (Text × List Row) → Text → (List Row → Type 0) → Type 0
 Gives given name P = (rows : List Row) × (given ≡ Some (name, rows)) × P rows
 
+-- a word of `edit` was given that is for a session
+abbrev pub names_session : List Row → Bool
+names_session rows = is_some (first_of (codes "KEYS") rows) || (is_some (first_of (codes "SESSION") rows)
+    || (is_set rows (codes "no-clobber") || is_some (first_of (codes "FILE") rows)))
+
 -- the action is the subcommand that was given, with the texts and the numbers of its arguments
 abbrev pub Holds : Option (Text × List Row) → Action → Type 0
 Holds given CheckInput = given ≡ None
@@ -177,10 +187,15 @@ Holds given (Find all start pattern file) = Gives given (codes "find") (λ rows.
     × (pattern.now ≡ text_of rows (codes "PATTERN")) × (file.now ≡ text_of rows (codes "FILE")))
 Holds given (Cmp first second) = Gives given (codes "cmp") (λ rows.
     (first.now ≡ text_of rows (codes "FIRST")) × (second.now ≡ text_of rows (codes "SECOND")))
-Holds given (Edit keys image file) = Gives given (codes "edit") (λ rows.
-    (option_map (λ k. k.now) keys ≡ first_of (codes "KEYS") rows)
+Holds given (Edit keys session no_clobber image file) = Gives given (codes "edit") (λ rows.
+    (is_set rows (codes "discard") ≡ false)
+    × (option_map (λ k. k.now) keys ≡ first_of (codes "KEYS") rows)
+    × (option_map (λ s. s.now) session ≡ first_of (codes "SESSION") rows)
+    × (no_clobber ≡ is_set rows (codes "no-clobber"))
     × (image.now ≡ text_of rows (codes "IMAGE"))
     × (option_map (λ f. f.now) file ≡ first_of (codes "FILE") rows))
+Holds given (Discard keys) = Gives given (codes "edit") (λ rows.
+    (is_set rows (codes "discard") ≡ true) × (names_session rows ≡ false) × (keys.now ≡ text_of rows (codes "IMAGE")))
 Holds given (Migrate at_most image sources) = Gives given (codes "migrate") (λ rows.
     MayReadAs (first_of (codes "LOOKS") rows) at_most
     × (image.now ≡ text_of rows (codes "IMAGE"))
@@ -235,6 +250,16 @@ pub record NumbersRead (given : Option (Text × List Row)) : Type 0 where
   pub migrate : WhereGiven given (codes "migrate") (λ rows. IfSome (first_of (codes "LOOKS") rows) IsNumber)
   pub log : WhereGiven given (codes "log") (λ rows. IfSome (first_of (codes "LOOKS") rows) IsNumber)
 
--- the kinds of a refusal: that of clap's first fault, or that of a number that does not read
+-- `--discard` stands beside no word that is for a session
+abbrev pub DiscardsAlone : Option (Text × List Row) → Type 0
+DiscardsAlone given = WhereGiven given (codes "edit") (λ rows.
+    is_set rows (codes "discard") ≡ true → names_session rows ≡ false)
+
+-- the kind of a refusal of words that clap takes: words of `edit` that do not go together, or a number that does not read
+abbrev pub own_kinds : Option (Text × List Row) → Kinds
+own_kinds None = []
+own_kinds (Some p) = if bytes_eq p.0 (codes "edit") then ArgumentConflict ∷ [] else ValueValidation ∷ []
+
+-- the kinds of a refusal: that of clap's first fault, or that of words that it takes
 abbrev pub refusal_kinds : List Text → Kinds
-refusal_kinds words = or_else (fault_of cordkit_app words) (ValueValidation ∷ [])
+refusal_kinds words = or_else (fault_of cordkit_app words) (own_kinds (subcommand_of cordkit_app words))

@@ -51,11 +51,18 @@ pub enum Action<'a> {
         second: &'a str,
     },
     /// Edit a text on the screen, which begins as that of a file or empty. Save its session as an image. Keep the keys of the terminal
-    /// in the file `keys`, where there is one, and begin with those that it has.
+    /// in the file `keys`, where there is one, and begin with those that it has. Under `no_clobber` an image that is there is refused.
+    /// The file `session`, where there is one, has what there was when the session began, and goes once the image is saved.
     Edit {
         keys: Option<&'a str>,
+        session: Option<&'a str>,
+        no_clobber: bool,
         image: &'a str,
         file: Option<&'a str>,
+    },
+    /// Take away a file of keys, which no session may have. Words for a session were not given.
+    Discard {
+        keys: &'a str,
     },
     /// Write the script of the image of a file, whose session has these sources. So many looks may its check take. Where it is `brief`,
     /// long texts are cut short.

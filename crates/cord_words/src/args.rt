@@ -4,7 +4,7 @@ ghost use Rattle.std.specs.Prelude.{◌≡◌, IfOk, false};
 ghost use Rattle.clap.specs.Words.{App, Rule, app_of, new_app, rule_of, with_rule};
 ghost use Rattle.clap.specs.declared.builder.command.Command.TheViews.{out-Command as fields_of};
 ghost use Rattle.cord_words.specs.Words.{explain_rule, file_rule, flag_rule, image_rule, keep_rule, limit_rule};
-ghost use Rattle.cord_words.specs.Words.{optional_file_rule, required_rule, sources_rule, start_rule};
+ghost use Rattle.cord_words.specs.Words.{optional_file_rule, required_rule, session_rule, sources_rule, start_rule};
 
 use clap::{Arg, ArgAction, Command};
 use std::alloc::{AllocError, Global};
@@ -138,5 +138,15 @@ pub fn keep<'a>(alloc: Global) -> Arg<'a>
 {
     Arg::new(alloc, "KEYS").long("keep").help(
         "The file in which keys are kept until they are saved, and that a session which was not goes on from",
+    )
+}
+
+/// `--session SESSION`
+pub fn session<'a>(alloc: Global) -> Arg<'a>
+    ensures rule { rule_of result ≡ session_rule }
+    ensures local { result.global ≡ false }
+{
+    Arg::new(alloc, "SESSION").long("session").help(
+        "The file that has what there was when the session began, and goes once it is saved: a session that finds it goes on",
     )
 }

@@ -5,8 +5,8 @@ ghost use Rattle.clap.specs.Words.{App, app_of, fault_of, found_of, kind_of, row
 ghost use Rattle.clap.specs.Words.{subcommand_rows_of, takes, with_subcommand};
 ghost use Rattle.clap.specs.declared.builder.command.Command.TheViews.{out-Command as fields_of};
 ghost use Rattle.clap.specs.declared.error.kind.ErrorKind.TheVariants.{ValueValidation};
-ghost use Rattle.cord_words.specs.Words.{Asks, Holds, IsKnown, NumbersRead, cordkit_app, is_explained};
-ghost use Rattle.cord_words.specs.Words.{line_of, own_rows, refusal_kinds, titled_app, with_tool};
+ghost use Rattle.cord_words.specs.Words.{Asks, DiscardsAlone, Holds, IsKnown, NumbersRead, cordkit_app, is_explained};
+ghost use Rattle.cord_words.specs.Words.{line_of, own_kinds, own_rows, refusal_kinds, titled_app, with_tool};
 ghost use Rattle.cord_words.specs.Refusals.{FailsAs};
 
 use crate::action::Action;
@@ -25,16 +25,18 @@ const VERSION: &str = "1.0.0 (rattle-kit-13f logic dac8208d650f15bf)";
 ///
 /// # Errors
 ///
-/// `Usage`, where `clap` does not take the words or a number does not read, with the text for the user. `Version`, with the text that
+/// `Usage`, where `clap` does not take the words, a number does not read, or `--discard` stands beside a word for a session, with the text for
+/// the user. `Version`, with the text that
 /// was asked for. `Memory`.
 pub fn words<'a>(alloc: Global, words: &'a [String]) -> Result<Request<'a>, WordsFault>
     ensures asks { IfOk result (Asks (line_of words.entry.now)) }
 
-    // A request is read only of words in which `clap` finds no fault, and where it takes them and
-    // each number reads, nothing but memory is in the way.
+    // A request is read only of words in which `clap` finds no fault, and where it takes them, each number reads and `--discard` stands
+    // alone, nothing but memory is in the way.
     ensures faultless { OnOk result (fault_of cordkit_app (line_of words.entry.now) ≡ []) }
     ensures only_memory { IfErr result (λ f. takes cordkit_app (line_of words.entry.now) ≡ true
         → NumbersRead (subcommand_of cordkit_app (line_of words.entry.now))
+        → DiscardsAlone (subcommand_of cordkit_app (line_of words.entry.now))
         → f ≡ WordsFault.Memory) }
     ensures kinds { IfErr result (FailsAs (refusal_kinds (line_of words.entry.now))) }
 {
@@ -74,7 +76,7 @@ fn is_explained(matches: &ArgMatches<'_>) -> bool
     }
 }
 
-// The action that the matches ask for. Where a number does not read, the fault is one of `command`.
+// The action that the matches ask for. Where a number does not read, or words do not go together, the fault is one of `command`.
 fn action_of<'a>(
     alloc: Global,
     command: &mut Command<'a>,
@@ -83,8 +85,9 @@ fn action_of<'a>(
     requires { IsKnown (subcommand_rows_of matches.now) }
     ensures holds { IfOk result (Holds (subcommand_rows_of matches.now)) }
     ensures only_memory { IfErr result (λ f.
-        NumbersRead (subcommand_rows_of matches.now) → f ≡ WordsFault.Memory) }
-    ensures kind { IfErr result (FailsAs (ValueValidation ∷ [])) }
+        NumbersRead (subcommand_rows_of matches.now) → DiscardsAlone (subcommand_rows_of matches.now)
+        → f ≡ WordsFault.Memory) }
+    ensures kind { IfErr result (FailsAs (own_kinds (subcommand_rows_of matches.now))) }
 {
     match matches.subcommand() {
         None => Ok(Action::CheckInput),
@@ -94,7 +97,7 @@ fn action_of<'a>(
         Some(("join", given)) => Ok(join::action(alloc, given)?),
         Some(("find", given)) => find::action(alloc, command, given),
         Some(("cmp", given)) => Ok(cmp::action(given)),
-        Some(("edit", given)) => Ok(edit::action(given)),
+        Some(("edit", given)) => edit::action(command, given),
         Some(("migrate", given)) => migrate::action(alloc, command, given),
         Some(("log", given)) => log::action(alloc, command, given),
         Some(("apply", given)) => Ok(apply::action(alloc, given)?),
@@ -102,25 +105,27 @@ fn action_of<'a>(
     }
 }
 
-// The action that the matches ask for, with the usage of its own subcommand where a number does not read.
+// The action that the matches ask for, with the usage of its own subcommand where it is refused.
 fn asked<'a>(alloc: Global, matches: &ArgMatches<'a>) -> Result<Action<'a>, WordsFault>
     requires { IsKnown (subcommand_rows_of matches.now) }
     ensures holds { IfOk result (Holds (subcommand_rows_of matches.now)) }
     ensures only_memory { IfErr result (λ f.
-        NumbersRead (subcommand_rows_of matches.now) → f ≡ WordsFault.Memory) }
-    ensures kind { IfErr result (FailsAs (ValueValidation ∷ [])) }
+        NumbersRead (subcommand_rows_of matches.now) → DiscardsAlone (subcommand_rows_of matches.now)
+        → f ≡ WordsFault.Memory) }
+    ensures kind { IfErr result (FailsAs (own_kinds (subcommand_rows_of matches.now))) }
 {
     let mut command = alone(alloc, matches.subcommand_name().unwrap_or(""))?;
     action_of(alloc, &mut command, matches)
 }
 
-// The subcommand of this name by itself, as the usage shows it, if it takes numbers.
+// The subcommand of this name by itself, as the usage shows it, if it may refuse what `clap` takes.
 fn alone<'a>(alloc: Global, name: &str) -> Result<Command<'a>, AllocError> {
     let command = match name {
         "check" => check::command(alloc),
         "show" => show::command(alloc),
         "cut" => cut::command(alloc),
         "find" => find::command(alloc),
+        "edit" => edit::command(alloc),
         "migrate" => migrate::command(alloc),
         "log" => log::command(alloc),
         _ => Ok(titled(alloc)),

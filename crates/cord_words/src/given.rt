@@ -1,6 +1,6 @@
 //! The arguments of a subcommand, as they were given.
 
-ghost use Rattle.std.specs.Prelude.{◌≡◌, ◌∷◌, [], IfOk, IfErr, IfSome, map};
+ghost use Rattle.std.specs.Prelude.{◌≡◌, ◌∷◌, [], IfOk, IfErr, IfSome, is_some, map};
 ghost use Rattle.std.specs.Option.{option_map};
 ghost use Rattle.clap.specs.Words.{first_of, found_of, rows_of};
 ghost use Rattle.clap.specs.declared.error.kind.ErrorKind.TheVariants.{ValueValidation};
@@ -24,6 +24,16 @@ pub fn optional_text<'a>(given: &ArgMatches<'a>, id: &str) -> Option<&'a str>
     ensures { option_map (λ text. text.now) result ≡ first_of id.now (rows_of (found_of given.now)) }
 {
     given.get_str(id)
+}
+
+/// Whether an argument has a text.
+pub fn has(given: &ArgMatches<'_>, id: &str) -> bool
+    ensures { result ≡ is_some (first_of id.now (rows_of (found_of given.now))) }
+{
+    match optional_text(given, id) {
+        Some(_) => true,
+        None => false,
+    }
 }
 
 /// Whether a flag was given.

@@ -1,16 +1,37 @@
 //! What the program answered.
 
 use std::alloc::Global;
-use std::io;
+use std::{fmt, io};
 
 /// So many bytes of an answer are kept. A refusal has fewer.
 const KEPT: usize = 128;
+
+/// What is told of the image of a session.
+#[derive(Drop)]
+pub enum Note {
+    /// It got this name, and not its own.
+    OtherName(String),
+    /// It has this name since an earlier run.
+    SavedBefore(String),
+}
+
+impl fmt::Display for Note {
+    fn fmt<W: fmt::Write>(&self, f: &mut fmt::Formatter<W>) -> fmt::Result {
+        match self {
+            Note::OtherName(name) => write!(f, "the image of the session is {name}"),
+            Note::SavedBefore(name) => {
+                write!(f, "the session was saved before: its image is {name}")
+            }
+        }
+    }
+}
 
 /// A writer, of which the first bytes that it takes are kept, and so is a refusal that is told elsewhere: it is what is explained.
 #[derive(Drop)]
 pub struct Answer<W> {
     writer: W,
     kept: Vec<u8>,
+    note: Option<Note>,
 }
 
 impl<W> Answer<W> {
@@ -18,6 +39,7 @@ impl<W> Answer<W> {
         Answer {
             writer,
             kept: Vec::new(alloc),
+            note: None,
         }
     }
 
@@ -26,6 +48,16 @@ impl<W> Answer<W> {
         if self.kept.len() < KEPT && bytes.len() < KEPT {
             let _ = self.kept.extend_from_slice(bytes);
         }
+    }
+
+    /// Keeps what is to be told of an image.
+    pub fn set_note(&mut self, note: Note) {
+        self.note = Some(note);
+    }
+
+    /// What is to be told of an image.
+    pub fn note(&self) -> Option<&Note> {
+        self.note.as_ref()
     }
 
     /// The code of the refusal, if there was one.

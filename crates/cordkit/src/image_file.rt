@@ -1,13 +1,41 @@
 //! The file of an image.
 
+use crate::file_state::{FileState, is_named, state_at};
 use crate::opening::{open, sync_folder, told};
 use cord_tools::{ToolFault, may_replace};
-use std::fs::{File, Permissions};
+use std::fs::{File, Permissions, TryLockError};
 use std::io::{ErrorKind, Read};
 use std::{fs, io};
 
 /// The bytes with which an image begins.
 const FRONT: u64 = 8;
+
+/// An image for which there is no room where it is to stand gets one of so many names.
+const OTHER_NAMES: u32 = 999;
+
+/// What an image takes the place of.
+#[derive(Clone, Copy)]
+enum Replaced {
+    /// Of what is there when it is whole.
+    Any,
+    /// Of nothing: there was no file when the session began.
+    Nothing,
+    /// Of this file alone.
+    This(FileState),
+}
+
+/// What became of an image.
+#[derive(Drop)]
+pub enum Put {
+    /// None was written.
+    None,
+    /// It is in its place.
+    InPlace,
+    /// It is in its place since an earlier run.
+    Before,
+    /// Something else is there, and stays. The image has this name.
+    Beside(String),
+}
 
 /// The file of an image, which is made when its first byte is written: beside the one that it is to replace, which is as it was until
 /// the image is whole. What is there and is no regular file is written where it is, and so is one in a folder that takes no new file.
@@ -20,6 +48,9 @@ pub struct ImageFile<'a> {
     part: Option<String>,
     /// Those of the file that is replaced.
     permissions: Option<Permissions>,
+    replaced: Replaced,
+    /// Whether something else was found there.
+    is_other: bool,
     file: Option<File>,
 }
 
@@ -63,6 +94,60 @@ fn text(rt: &HostRuntime, parts: &[&str]) -> Result<String, ToolFault> {
     Ok(text)
 }
 
+/// Takes a file away that another session left, where none writes it.
+fn remove_left(rt: &HostRuntime, part: &str) -> io::Result<()> {
+    if let Ok(left) = fs::open(rt, part) {
+        if let Err(TryLockError::WouldBlock) = left.try_lock() {
+            return Err(io::Error::from(ErrorKind::WouldBlock));
+        }
+    }
+    match fs::remove_file(rt, part) {
+        Err(error) if error.kind() != ErrorKind::NotFound => Err(error),
+        _ => Ok(()),
+    }
+}
+
+/// Gives the file `part` a new name, which no other file has. Answers whether none had it.
+fn put_new(rt: &HostRuntime, part: &str, path: &str) -> Result<bool, ToolFault> {
+    match fs::hard_link(rt, part, path) {
+        Ok(()) => {
+            // What stays is the image itself, which no session writes to.
+            let _ = fs::remove_file(rt, part);
+            Ok(true)
+        }
+        Err(error) if error.kind() == ErrorKind::AlreadyExists => Ok(false),
+        Err(_) if state_at(rt, path).is_some() => Ok(false),
+        // The device has no links.
+        Err(_) => rename(rt, part, path),
+    }
+}
+
+/// Gives the file `part` another one's name.
+fn rename(rt: &HostRuntime, part: &str, path: &str) -> Result<bool, ToolFault> {
+    match fs::rename(rt, part, path) {
+        Ok(()) => Ok(true),
+        Err(_) => Err(ToolFault::Write),
+    }
+}
+
+/// Gives the file `part` the name of a file that is still as it was. Answers whether it was so. Sessions that save to one name at once
+/// hold a lock on what is there: one of them finds what the other has put there.
+fn put_over(rt: &HostRuntime, part: &str, path: &str, state: FileState) -> Result<bool, ToolFault> {
+    if state_at(rt, path) != Some(state) {
+        return Ok(false);
+    }
+    let there = fs::open(rt, path).ok();
+    if let Some(there) = &there {
+        if let Err(TryLockError::WouldBlock) = there.try_lock() {
+            return Ok(false);
+        }
+    }
+    if state_at(rt, path) != Some(state) {
+        return Ok(false);
+    }
+    rename(rt, part, path)
+}
+
 impl<'a> ImageFile<'a> {
     /// The file of this name. It is looked at, and not changed.
     pub fn new(rt: &'a HostRuntime, path: &str) -> Result<ImageFile<'a>, ToolFault> {
@@ -71,6 +156,8 @@ impl<'a> ImageFile<'a> {
             path: text(rt, &[path])?,
             part: None,
             permissions: None,
+            replaced: Replaced::Any,
+            is_other: false,
             file: None,
         };
         if !is_replaceable(rt, path)? {
@@ -89,14 +176,68 @@ impl<'a> ImageFile<'a> {
         Ok(image)
     }
 
-    /// Makes the file beside the one that it is to replace, which has these permissions.
+    /// Whether there is a file that is not empty.
+    pub fn is_there(&self) -> bool {
+        match fs::metadata(self.rt, self.path.as_str()) {
+            Ok(metadata) => metadata.len() > 0,
+            Err(_) => false,
+        }
+    }
+
+    /// What is there. A second name of it is taken away first, where one stands beside it as a crash leaves it behind the first image
+    /// of a name.
+    pub fn look(&self) -> Option<FileState> {
+        let state = state_at(self.rt, self.path.as_str())?;
+        let Some(part) = &self.part else {
+            return Some(state);
+        };
+        if state_at(self.rt, part.as_str()) != Some(state) {
+            return Some(state);
+        }
+        let _ = fs::remove_file(self.rt, part.as_str());
+        state_at(self.rt, self.path.as_str())
+    }
+
+    /// From now on it takes the place of this alone, which was there when the session began.
+    pub fn replace_only(&mut self, begun: Option<FileState>) {
+        self.replaced = match begun {
+            Some(state) => Replaced::This(state),
+            None => Replaced::Nothing,
+        };
+    }
+
+    /// Whether what is there may be replaced.
+    fn is_as_begun(&self) -> bool {
+        let now = state_at(self.rt, self.path.as_str());
+        match self.replaced {
+            Replaced::Any => true,
+            Replaced::Nothing => now.is_none(),
+            Replaced::This(state) => now == Some(state),
+        }
+    }
+
+    /// Gives the file beside the one that it is to replace the permissions of that, and a lock, while it is written.
+    fn prepare(&self, file: &File) -> io::Result<()> {
+        if let Err(TryLockError::WouldBlock) = file.try_lock() {
+            return Err(io::Error::from(ErrorKind::WouldBlock));
+        }
+        let Some(permissions) = &self.permissions else {
+            return Ok(());
+        };
+        match permissions.clone() {
+            Ok(permissions) => file.set_permissions(permissions),
+            Err(_) => Err(io::Error::from(ErrorKind::OutOfMemory)),
+        }
+    }
+
+    /// Makes the file beside the one that it is to replace. One that a session left there is taken away first, and not written to: it
+    /// may be the image itself by a second name.
     fn make_part(&self, part: &str) -> io::Result<File> {
-        let file = File::create(self.rt, part)?;
-        if let Some(permissions) = &self.permissions {
-            let Ok(permissions) = permissions.clone() else {
-                return Err(io::Error::from(ErrorKind::OutOfMemory));
-            };
-            file.set_permissions(permissions)?;
+        remove_left(self.rt, part)?;
+        let file = File::create_new(self.rt, part)?;
+        if let Err(error) = self.prepare(&file) {
+            let _ = fs::remove_file(self.rt, part);
+            return Err(error);
         }
         Ok(file)
     }
@@ -109,46 +250,87 @@ impl<'a> ImageFile<'a> {
                 made => return made,
             }
         }
-        File::create(self.rt, self.path.as_str())
+        if !self.is_as_begun() {
+            self.is_other = true;
+            return Err(io::Error::from(ErrorKind::AlreadyExists));
+        }
+        match self.replaced {
+            Replaced::Nothing => File::create_new(self.rt, self.path.as_str()),
+            _ => File::create(self.rt, self.path.as_str()),
+        }
     }
 
-    /// Puts an image that is whole in its place. Answers whether there is one.
-    pub fn put(&self) -> Result<bool, ToolFault> {
-        let Some(file) = &self.file else {
-            return Ok(false);
-        };
-        if let Some(part) = &self.part {
-            if file.sync_all().is_err() {
-                return Err(ToolFault::Write);
-            }
-            if fs::rename(self.rt, part.as_str(), self.path.as_str()).is_err() {
-                return Err(ToolFault::Write);
-            }
-            // The new name stands before the keys go.
-            sync_folder(self.rt, self.path.as_str());
+    /// Why no image was written.
+    pub fn cause(&self, fault: ToolFault) -> ToolFault {
+        if self.is_other {
+            ToolFault::OtherImage
+        } else {
+            fault
         }
-        Ok(true)
+    }
+
+    /// Puts an image that is whole where it is to stand. Answers whether nothing else was there.
+    fn put_part(&self, part: &str) -> Result<bool, ToolFault> {
+        let path = self.path.as_str();
+        match self.replaced {
+            Replaced::Any => rename(self.rt, part, path),
+            Replaced::Nothing => put_new(self.rt, part, path),
+            Replaced::This(state) => put_over(self.rt, part, path, state),
+        }
+    }
+
+    /// Puts an image that is whole under a name that is free.
+    fn put_beside(&self, part: &str) -> Result<String, ToolFault> {
+        let path = self.path.as_str();
+        for n in 1..=OTHER_NAMES {
+            let name = format!(in self.rt.alloc(); "{path}.saved-{n}")?;
+            if put_new(self.rt, part, name.as_str())? {
+                return Ok(name);
+            }
+        }
+        Err(ToolFault::Write)
+    }
+
+    /// Puts an image that is whole in its place.
+    pub fn put(&self) -> Result<Put, ToolFault> {
+        let Some(file) = &self.file else {
+            return Ok(Put::None);
+        };
+        let Some(part) = &self.part else {
+            return Ok(Put::InPlace);
+        };
+        if file.sync_all().is_err() || !is_named(self.rt, part.as_str(), file) {
+            return Err(ToolFault::Write);
+        }
+        let put = if self.put_part(part.as_str())? {
+            Put::InPlace
+        } else {
+            Put::Beside(self.put_beside(part.as_str())?)
+        };
+        // The new name stands before the keys go.
+        sync_folder(self.rt, self.path.as_str());
+        Ok(put)
     }
 
     /// Takes the part of an image away that is not whole.
     pub fn drop_part(&self) {
-        if let (Some(_), Some(part)) = (&self.file, &self.part) {
-            // What stays is replaced by the next image.
-            let _ = fs::remove_file(self.rt, part.as_str());
+        if let (Some(file), Some(part)) = (&self.file, &self.part) {
+            if is_named(self.rt, part.as_str(), file) {
+                // What stays is replaced by the next image.
+                let _ = fs::remove_file(self.rt, part.as_str());
+            }
         }
     }
 }
 
 impl io::Write for ImageFile<'_> {
     fn write(&mut self, bytes: &[u8]) -> io::Result<usize> {
+        if self.file.is_none() {
+            self.file = Some(self.make()?);
+        }
         match &mut self.file {
             Some(file) => file.write(bytes),
-            None => {
-                let mut file = self.make()?;
-                let n = file.write(bytes)?;
-                self.file = Some(file);
-                Ok(n)
-            }
+            None => Ok(0),
         }
     }
 

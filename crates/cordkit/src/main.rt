@@ -2,34 +2,38 @@
 #![tactic(auto)]
 
 mod answer;
-mod explaining;
+mod editing;
+mod file_state;
 mod image_file;
 mod journal;
-mod looking;
-mod meaning;
+mod meter;
 mod opening;
+mod saved_before;
 mod scripts;
+mod session_file;
 
 ghost use Rattle.std.specs.Prelude.{◌≡◌, ◌*◌, ◌-◌, ◌^◌, ◌<◌, length};
 
 use crate::answer::Answer;
-use crate::explaining::tell;
-use crate::image_file::ImageFile;
-use crate::journal::Journal;
+use crate::editing::{Editing, edit};
+use crate::journal::discard;
+use crate::meter::Meter;
 use crate::opening::{OpenedImage, opened_image, opened_sources};
 use crate::scripts::{lens_of, read_script, refuse_script, write_log};
+use cord_explanations::explained;
 use cord_tools::{
-    Outcome, Status, ToolFault, exit_status, read_image, refuse_check, run_check, run_cmp, run_cut,
-    run_edit, run_find, run_find_all, run_join, run_migrate, run_show, run_stdin,
+    Outcome, Status, ToolFault, exit_status, read_image, refuse_check, run_check_told, run_cmp,
+    run_cut, run_find, run_find_all_told, run_join, run_migrate_told, run_show, run_stdin,
 };
 use cord_words::{Action, Request, WordsFault, no_text, words};
 use lazy_file::Sources;
-use script_tools::{ApplyFault, run_apply};
+use script_tools::{ApplyFault, run_apply_told};
 use std::io::ErrorKind;
 use std::marker::Brand;
 use std::process::ExitCode;
 use std::sync::ledger::{Blank, Ledger};
 use std::{env, io};
+use work_progress::Progress;
 
 /// Checks an image with its sources. Sources that are refused answer for it.
 fn check<L: Ledger, W: io::Write>(
@@ -38,13 +42,14 @@ fn check<L: Ledger, W: io::Write>(
     answer: &mut Answer<W>,
 ) -> Result<Status, ToolFault> {
     match opened {
-        Ok(mut image) => run_check(
+        Ok(mut image) => run_check_told(
             rt.alloc(),
             image.file,
             image.expected,
             &mut image.sources,
             image.at_most,
             answer,
+            &mut Meter::new(rt, "records"),
         ),
         Err(ToolFault::Source(refusal)) => refuse_check(rt.alloc(), refusal, answer),
         Err(fault) => Err(fault),
@@ -76,13 +81,14 @@ fn migrate<L: Ledger>(
     opened: Result<OpenedImage<L>, ToolFault>,
 ) -> Result<Status, ToolFault> {
     let mut image = opened?;
-    run_migrate(
+    run_migrate_told(
         rt.alloc(),
         image.file,
         image.expected,
         &mut image.sources,
         image.at_most,
         &mut io::writer(rt),
+        &mut Meter::new(rt, "records"),
     )?;
     Ok(Status::Success)
 }
@@ -143,7 +149,17 @@ fn find<L: Ledger>(
     let mut sources = opened_sources::<L>(rt, &[file], blank)?;
     let mut writer = io::writer(rt);
     if all {
-        run_find_all(rt.alloc(), &mut sources, start, pattern, &mut writer)
+        let mut meter = Meter::new(rt, "bytes");
+        let found = run_find_all_told(
+            rt.alloc(),
+            &mut sources,
+            start,
+            pattern,
+            &mut writer,
+            &mut meter,
+        );
+        meter.end();
+        found
     } else {
         run_find(rt.alloc(), &mut sources, start, pattern, &mut writer)
     }
@@ -164,69 +180,6 @@ fn compare<L: Ledger>(
     run_cmp(rt.alloc(), &mut sources, &mut io::writer(rt))
 }
 
-/// What follows an edit: an image that is whole is put in its place. Answers whether there is one.
-fn finish(status: Result<Status, ToolFault>, image: &ImageFile<'_>) -> Result<bool, ToolFault> {
-    let saved = match status {
-        Ok(_) => image.put(),
-        Err(fault) => Err(fault),
-    };
-    if saved.is_err() {
-        image.drop_part();
-    }
-    saved
-}
-
-/// Edits, and keeps the keys until they are saved.
-fn edit_kept<'a, S: Sources + Drop>(
-    rt: &'a HostRuntime,
-    keys: &'a str,
-    sources: S,
-    image: &mut ImageFile<'a>,
-) -> Result<Status, ToolFault> {
-    let mut sources = sources;
-    let journal = Journal::open(rt, keys, &mut sources)?;
-    let status = journal.edit(sources, image);
-    let saved = finish(status, image);
-    if saved == Ok(true) || journal.is_empty() {
-        journal.remove()?;
-    } else {
-        journal.sync();
-    }
-    saved?;
-    Ok(Status::Success)
-}
-
-/// Edits a file, or an empty text, and saves the session. The image is looked at before, and opened when it is saved.
-fn edit<L: Ledger>(
-    rt: &HostRuntime,
-    keys: Option<&str>,
-    image: &str,
-    file: Option<&str>,
-    blank: Blank,
-) -> Result<Status, ToolFault>
-    requires name { blank.name ≡ L.name }
-    requires parts { blank.parts ≡ L.parts }
-    requires many { 2 < blank.parts }
-{
-    let mut image = ImageFile::new(rt, image)?;
-    let sources = match file {
-        Some(file) => opened_sources::<L>(rt, &[file], blank)?,
-        None => opened_sources::<L>(rt, &[], blank)?,
-    };
-    if let Some(keys) = keys {
-        return edit_kept(rt, keys, sources, &mut image);
-    }
-    let status = run_edit(
-        rt.alloc(),
-        sources,
-        &mut rt.reader(),
-        &mut io::writer(rt),
-        &mut image,
-    );
-    finish(status, &image)?;
-    Ok(Status::Success)
-}
-
 /// Writes the image of the session that a script makes.
 fn apply<L: Ledger, W>(
     rt: &HostRuntime,
@@ -242,7 +195,10 @@ fn apply<L: Ledger, W>(
     let script = read_script(rt, script)?;
     let sources = opened_sources::<L>(rt, paths, blank)?;
     let lens = lens_of(rt.alloc(), &sources)?;
-    match run_apply(rt.alloc(), &script, &lens, &mut io::writer(rt)) {
+    let mut meter = Meter::new(rt, "bytes");
+    let applied = run_apply_told(rt.alloc(), &script, &lens, &mut io::writer(rt), &mut meter);
+    meter.end();
+    match applied {
         Ok(()) => Ok(Status::Success),
         Err(ApplyFault::Stop(stopped)) => refuse_script(rt, stopped, answer),
         Err(ApplyFault::Source(fault)) => Err(ToolFault::from(fault)),
@@ -250,9 +206,8 @@ fn apply<L: Ledger, W>(
     }
 }
 
-/// Does what the words ask for. Files are opened in the order of the words before anything is written, the image of `edit` when it is
-/// saved.
-fn run<L: Ledger, W: io::Write>(
+/// Does what the words ask for over an image: that of standard input, where they name none.
+fn run_over_image<L: Ledger, W: io::Write>(
     rt: &HostRuntime,
     action: &Action<'_>,
     answer: &mut Answer<W>,
@@ -263,7 +218,6 @@ fn run<L: Ledger, W: io::Write>(
     requires many { blank.parts ≡ 2 ^ 64 - 1 }
 {
     match action {
-        Action::CheckInput => run_stdin(rt.alloc(), rt.reader(), answer),
         Action::Check {
             at_most,
             image,
@@ -298,6 +252,28 @@ fn run<L: Ledger, W: io::Write>(
             opened_image::<L>(rt, *at_most, image, sources, blank),
             *brief,
         ),
+        _ => run_stdin(rt.alloc(), rt.reader(), answer),
+    }
+}
+
+/// Does what the words ask for. Files are opened in the order of the words before anything is written, the image of `edit` when it is
+/// saved.
+fn run<L: Ledger, W: io::Write>(
+    rt: &HostRuntime,
+    action: &Action<'_>,
+    answer: &mut Answer<W>,
+    blank: Blank,
+) -> Result<Status, ToolFault>
+    requires name { blank.name ≡ L.name }
+    requires parts { blank.parts ≡ L.parts }
+    requires many { blank.parts ≡ 2 ^ 64 - 1 }
+{
+    match action {
+        Action::CheckInput
+        | Action::Check { .. }
+        | Action::Show { .. }
+        | Action::Migrate { .. }
+        | Action::Log { .. } => run_over_image::<L, W>(rt, action, answer, blank),
         Action::Cut { start, count, file } => cut::<L>(rt, *start, *count, file, blank),
         Action::Join { files } => join::<L>(rt, files.as_slice(), blank),
         Action::Find {
@@ -307,7 +283,25 @@ fn run<L: Ledger, W: io::Write>(
             file,
         } => find::<L>(rt, *all, *start, pattern.as_bytes(), file, blank),
         Action::Cmp { first, second } => compare::<L>(rt, first, second, blank),
-        Action::Edit { keys, image, file } => edit::<L>(rt, *keys, image, *file, blank),
+        Action::Edit {
+            keys,
+            session,
+            no_clobber,
+            image,
+            file,
+        } => edit::<L, W>(
+            rt,
+            Editing {
+                keys: *keys,
+                session: *session,
+                no_clobber: *no_clobber,
+                image,
+                file: *file,
+            },
+            answer,
+            blank,
+        ),
+        Action::Discard { keys } => discard(rt, keys),
         Action::Apply { script, sources } => apply::<L, W>(rt, script, sources, answer, blank),
     }
 }
@@ -324,6 +318,14 @@ fn outcome(rt: &HostRuntime, answer: Result<Status, ToolFault>) -> Outcome {
     }
 }
 
+/// Tells on standard error what the code means that a run of this action ended with.
+fn tell(rt: &HostRuntime, action: &Action<'_>, code: &str) {
+    if let Some(explanation) = explained(rt, action, code) {
+        // There is no other place to tell that standard error is closed.
+        let _ = rt.eprintln(explanation);
+    }
+}
+
 /// Explains on standard error why the program ended without what was asked of it, if it did.
 fn explain<W>(rt: &HostRuntime, action: &Action<'_>, outcome: Outcome, answer: &Answer<W>) {
     if let Outcome::Ended(fault) = outcome {
@@ -336,11 +338,20 @@ fn explain<W>(rt: &HostRuntime, action: &Action<'_>, outcome: Outcome, answer: &
     }
 }
 
+/// Tells on standard error what became of the image of a session, where that is not plain.
+fn tell_note<W>(rt: &HostRuntime, answer: &Answer<W>) {
+    if let Some(note) = answer.note() {
+        // There is no other place to tell that standard error is closed.
+        let _ = rt.eprintln(note);
+    }
+}
+
 /// Does what is asked for, and explains how it ended.
 fn run_request(rt: &HostRuntime, request: &Request<'_>) -> Outcome {
     let mut answer = Answer::new(rt.alloc(), io::writer(rt));
     let ended = run::<Brand, _>(rt, &request.action, &mut answer, Blank::new(u64::MAX));
     let outcome = outcome(rt, ended);
+    tell_note(rt, &answer);
     if request.explain {
         explain(rt, &request.action, outcome, &answer);
     }

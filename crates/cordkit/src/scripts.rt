@@ -1,11 +1,12 @@
 //! Scripts as inputs.
 
 use crate::answer::Answer;
+use crate::meter::Meter;
 use crate::opening::{open, told, told_size};
 use cord_tools::{Status, ToolFault, read_source};
 use edit_script::{Stop, Stopped};
 use lazy_file::{AddFault, SOURCE_LIMIT, Sources};
-use script_tools::{LogFault, LogTexts, run_log};
+use script_tools::{LogFault, LogTexts, run_log_told};
 use std::alloc::{AllocError, Global};
 use std::io::{self, BufWriter, Write};
 
@@ -78,7 +79,15 @@ pub fn write_log<S: Sources>(
         LogTexts::Whole
     };
     let mut writer = BufWriter::with_capacity(rt.alloc(), PIECE, io::writer(rt)).map_err(told)?;
-    let written = run_log(rt.alloc(), image, sources, at_most, texts, &mut writer);
+    let written = run_log_told(
+        rt.alloc(),
+        image,
+        sources,
+        at_most,
+        texts,
+        &mut writer,
+        &mut Meter::new(rt, "records"),
+    );
     let flushed = writer.flush();
     match written {
         Ok(()) if flushed.is_ok() => Ok(()),

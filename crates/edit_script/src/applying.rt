@@ -11,6 +11,7 @@ use crate::line::parse_line;
 use crate::room::Room;
 use edit_commands::{EditFault, Session};
 use span_certificate::Edit;
+use work_progress::{Progress, Untold};
 
 /// TakesWords the revision of a command that was read into a room.
 fn apply_edit(session: &mut Session, edit: &Edit, room: &Room) -> Result<(), EditFault>
@@ -63,9 +64,27 @@ fn split_line(script: &[u8]) -> (&[u8], Option<&[u8]>)
 pub fn apply_script(session: &mut Session, script: &[u8], room: &mut Room) -> Result<(), Stopped>
     ensures { TakesLines session.old 0 (lines_of script.now) result session.new }
 {
+    apply_script_told(session, script, room, &mut Untold)
+}
+
+/// The same as `apply_script`, and tells before each line how many of the script's bytes are done.
+///
+/// # Errors
+///
+/// As those of `apply_script`.
+pub fn apply_script_told<P: Progress>(
+    session: &mut Session,
+    script: &[u8],
+    room: &mut Room,
+    progress: &mut P,
+) -> Result<(), Stopped>
+    ensures { TakesLines session.old 0 (lines_of script.now) result session.new }
+{
+    progress.begin(script.len() as u64);
     let mut number = 0;
     let mut left = Some(script);
     while let Some(rest) = left {
+        progress.tell(script.len().saturating_sub(rest.len()) as u64);
         let (line, behind) = split_line(rest);
         number += 1;
         match apply_line(session, line, room) {

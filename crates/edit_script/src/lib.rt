@@ -15,7 +15,7 @@ mod printing;
 mod quoted;
 mod room;
 
-pub use applying::apply_script;
+pub use applying::{apply_script, apply_script_told};
 pub use comment::{Note, comment_text};
 pub use fault::{LineFault, Stop, Stopped};
 pub use handing::{handed, span};

@@ -5,10 +5,11 @@ ghost use Rattle.script_tools.specs.Applied.{AppliesScript, IsBegun, IsMadeByScr
 
 use crate::fault::ApplyFault;
 use edit_commands::{EditFault, Session};
-use edit_script::{Room, apply_script, says_the_script};
+use edit_script::{Room, apply_script_told, says_the_script};
 use session_image::write;
 use std::alloc::Global;
 use std::io;
+use work_progress::{Progress, Untold};
 
 /// A session with sources of these lengths, and no revisions.
 fn begun(alloc: Global, lens: &[u64]) -> Result<Session, EditFault>
@@ -22,7 +23,12 @@ fn begun(alloc: Global, lens: &[u64]) -> Result<Session, EditFault>
 }
 
 /// The session that a script makes, over sources of these lengths.
-fn made(alloc: Global, script: &[u8], lens: &[u64]) -> Result<Session, ApplyFault>
+fn made<P: Progress>(
+    alloc: Global,
+    script: &[u8],
+    lens: &[u64],
+    progress: &mut P,
+) -> Result<Session, ApplyFault>
     ensures ok { IfOk result (IsMadeByScript lens.now script.now) }
     ensures fault { IfErr result (MakesNone lens.now script.now) }
 {
@@ -31,7 +37,7 @@ fn made(alloc: Global, script: &[u8], lens: &[u64]) -> Result<Session, ApplyFaul
         Ok(session) => session,
         Err(fault) => return Err(ApplyFault::Source(fault)),
     };
-    match apply_script(&mut session, script, &mut Room::new(alloc)) {
+    match apply_script_told(&mut session, script, &mut Room::new(alloc), progress) {
         Ok(()) => {
             // The session keeps its rules, as its count says.
             let _count = session.count();
@@ -55,7 +61,25 @@ pub fn run_apply<W: io::Write>(
 ) -> Result<(), ApplyFault>
     ensures { AppliesScript lens.now script.now (W.contents writer.old) (W.contents writer.new) result }
 {
-    let session = made(alloc, script, lens)?;
+    run_apply_told(alloc, script, lens, writer, &mut Untold)
+}
+
+/// The same as `run_apply`, and tells on the way how many of the script's bytes are done, and before it writes that they are.
+///
+/// # Errors
+///
+/// As those of `run_apply`.
+pub fn run_apply_told<W: io::Write, P: Progress>(
+    alloc: Global,
+    script: &[u8],
+    lens: &[u64],
+    writer: &mut W,
+    progress: &mut P,
+) -> Result<(), ApplyFault>
+    ensures { AppliesScript lens.now script.now (W.contents writer.old) (W.contents writer.new) result }
+{
+    let session = made(alloc, script, lens, &mut *progress)?;
+    progress.end();
     match write(&session, writer) {
         Ok(()) => Ok(()),
         Err(_) => Err(ApplyFault::Write),

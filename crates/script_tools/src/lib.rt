@@ -7,8 +7,8 @@ mod law;
 mod logging;
 mod shown;
 
-pub use applying::run_apply;
+pub use applying::{run_apply, run_apply_told};
 pub use fault::{ApplyFault, LogFault};
 pub use law::{gives_the_texts_again, has_the_texts, reads_each_line, says_the_commands};
-pub use logging::run_log;
+pub use logging::{run_log, run_log_told};
 pub use shown::{BRIEF_LEN, LogTexts};

@@ -19,10 +19,11 @@ use edit_script::{Note, comment_text, push_front, span};
 use image_reader::{Image, Revision};
 use lazy_file::Sources;
 use rope_node::{NodeSpace, Rope, rope_len};
-use session_checker::{Checked, check_at_most};
+use session_checker::{Checked, check_told};
 use span_certificate::{Edit, Splice};
 use std::alloc::{AllocError, Global};
 use std::io;
+use work_progress::{Progress, Untold};
 
 /// A command's name and its numbers, in place of what the piece held.
 fn put_front(piece: &mut Vec<u8>, edit: &Edit) -> Result<(), AllocError>
@@ -245,7 +246,27 @@ pub fn run_log<S: Sources, W: io::Write>(
     ensures { LogsImage texts at_most (S.reading sources.old) (S.reading sources.new) image.now
         (W.contents writer.old) (W.contents writer.new) result }
 {
-    match check_at_most(image, sources, at_most) {
+    run_log_told(alloc, image, sources, at_most, texts, writer, &mut Untold)
+}
+
+/// The same as `run_log`, and tells on the way how many of the image's records are checked, and before it writes that they are.
+///
+/// # Errors
+///
+/// As those of `run_log`.
+pub fn run_log_told<S: Sources, W: io::Write, P: Progress>(
+    alloc: Global,
+    image: &[u8],
+    sources: &mut S,
+    at_most: Option<u64>,
+    texts: LogTexts,
+    writer: &mut W,
+    progress: &mut P,
+) -> Result<(), LogFault>
+    ensures { LogsImage texts at_most (S.reading sources.old) (S.reading sources.new) image.now
+        (W.contents writer.old) (W.contents writer.new) result }
+{
+    match check_told(image, sources, at_most, progress) {
         Ok(checked) => log_checked(alloc, texts, &checked, writer),
         Err(fault) => Err(LogFault::Check(fault)),
     }

@@ -55,7 +55,7 @@ earlier_ropes v k ropes r lt =
 
 -- ---- the splices that a revision's command names
 
-placed_at : (first : ℕ) (rs : List Revision) (k : ℕ) → ArePlaced first rs → k < length rs → IsPlacedAt (first + sum_by (λ (x : Revision). splices_of x.edit) (take k rs)) (get_or rs k no_revision).edit
+pub placed_at : (first : ℕ) (rs : List Revision) (k : ℕ) → ArePlaced first rs → k < length rs → IsPlacedAt (first + sum_by (λ (x : Revision). splices_of x.edit) (take k rs)) (get_or rs k no_revision).edit
 placed_at first [] k placed lt = absurd (omega (arith, lt))
 placed_at first (r ∷ rs) zero placed lt = let same : first ≡ first + 0 = omega arith in subst (λ (n : ℕ). IsPlacedAt n r.edit) same placed.0
 placed_at first (r ∷ rs) (suc k) placed lt =

@@ -15,7 +15,7 @@ ghost use Rattle.session_checker.specs.RevisionRules.{source_fault, source_fault
 ghost use Rattle.session_checker.specs.Faithful.{IsFaithful, HasTrueRecordsOf, IsRootOf, IsMarkOf, IsFetchedOf, fetch_visits, fetched_cell};
 
 use crate::fault::CheckFault;
-use crate::revision_rules::revisions_counted;
+use crate::revision_rules::revisions_told;
 use crate::tables::{Tables, passed, tables_within};
 use cord_position::fetch;
 use function_leaf::Coded;
@@ -25,6 +25,7 @@ use rope_node::{CodedSpace, NodeId, NodeSpace, NodeView, Rope};
 use span_certificate::{Count, Looks};
 use std::marker::{Brand, Model};
 use std::sync::ledger::{Blank, Ledger};
+use work_progress::{Progress, Untold};
 
 /// An image that was accepted: each revision's root denotes the text that its commands give.
 #[derive(Drop)]
@@ -194,6 +195,34 @@ impl CodedSpace for Checked<'_> {
     }
 }
 
+/// How many nodes, revisions and rows an image has.
+fn record_count(image: &Image) -> u64 {
+    image.node_count() as u64 + image.revision_count() as u64 + image.row_count() as u64
+}
+
+/// The same as `check_counted`, and tells how many records are done.
+fn told_counted<'a, S: Sources, L: Ledger, P: Progress>(
+    bytes: &'a [u8],
+    sources: &mut S,
+    at_most: Option<u64>,
+    count: &mut Count<L>,
+    progress: &mut P,
+) -> Result<Checked<'a>, CheckFault>
+    ensures answer { ChecksWithin at_most (S.reading sources.old) (S.reading sources.new) bytes.now result }
+    ensures looks { TakesLooks at_most (S.reading sources.old).stated.sizes bytes.now count.old count.new }
+{
+    let image = match Image::read(bytes) {
+        Ok(image) => image,
+        Err(fault) => return Err(CheckFault::Read(fault)),
+    };
+    progress.begin(record_count(&image));
+    tables_within(&image, sources, at_most, &mut *count, &mut *progress)?;
+    let tables = passed(&image);
+    let mut looks = Looks::over(&tables, &mut *count);
+    revisions_told(&mut looks, &Revisions::over(&image), sources, progress)?;
+    Ok(Checked { tables })
+}
+
 /// The same as `check_at_most`, with each look at a node counted. They are at most as many as `looks_bound` gives for the image, and as the
 /// limit, where there is one, and none where that is why the image is refused.
 ///
@@ -209,28 +238,45 @@ pub fn check_counted<'a, S: Sources, L: Ledger>(
     ensures answer { ChecksWithin at_most (S.reading sources.old) (S.reading sources.new) bytes.now result }
     ensures looks { TakesLooks at_most (S.reading sources.old).stated.sizes bytes.now count.old count.new }
 {
-    let image = match Image::read(bytes) {
-        Ok(image) => image,
-        Err(fault) => return Err(CheckFault::Read(fault)),
-    };
-    tables_within(&image, sources, at_most, &mut *count)?;
-    let tables = passed(&image);
-    let mut looks = Looks::over(&tables, &mut *count);
-    revisions_counted(&mut looks, &Revisions::over(&image), sources)?;
-    Ok(Checked { tables })
+    told_counted(bytes, sources, at_most, count, &mut Untold)
 }
 
-/// The same as `check_at_most` with a count that begins here.
-fn check_with<'a, S: Sources, L: Ledger>(
+/// The same as `check_told` with a count that begins here.
+fn check_with<'a, S: Sources, L: Ledger, P: Progress>(
     bytes: &'a [u8],
     sources: &mut S,
     at_most: Option<u64>,
+    progress: &mut P,
     blank: Blank,
 ) -> Result<Checked<'a>, CheckFault>
     requires { BeginsCount L.name L.parts blank.name blank.parts }
     ensures { ChecksWithin at_most (S.reading sources.old) (S.reading sources.new) bytes.now result }
 {
-    check_counted(bytes, sources, at_most, &mut Count::<L>::new(blank))
+    told_counted(
+        bytes,
+        sources,
+        at_most,
+        &mut Count::<L>::new(blank),
+        progress,
+    )
+}
+
+/// The same as `check_at_most`, and tells on the way how many of the image's records are done: nodes, revisions and rows.
+///
+/// # Errors
+///
+/// As those of `check_at_most`.
+pub fn check_told<'a, S: Sources, P: Progress>(
+    bytes: &'a [u8],
+    sources: &mut S,
+    at_most: Option<u64>,
+    progress: &mut P,
+) -> Result<Checked<'a>, CheckFault>
+    ensures { ChecksWithin at_most (S.reading sources.old) (S.reading sources.new) bytes.now result }
+{
+    let checked = check_with::<S, Brand, P>(bytes, sources, at_most, &mut *progress, Blank::new(1));
+    progress.end();
+    checked
 }
 
 /// Accepts or refuses a session image with its sources, as `check` does, where its check may take no more looks at nodes than the limit,
@@ -247,7 +293,7 @@ pub fn check_at_most<'a, S: Sources>(
 ) -> Result<Checked<'a>, CheckFault>
     ensures { ChecksWithin at_most (S.reading sources.old) (S.reading sources.new) bytes.now result }
 {
-    check_with::<S, Brand>(bytes, sources, at_most, Blank::new(1))
+    check_told(bytes, sources, at_most, &mut Untold)
 }
 
 /// Accepts or refuses a session image with its sources. It goes over the bytes section by section, reads of the sources what rows of

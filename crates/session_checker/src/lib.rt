@@ -10,7 +10,7 @@ mod source_rules;
 mod splice_rules;
 mod tables;
 
-pub use checked::{Checked, check, check_at_most, check_counted};
+pub use checked::{Checked, check, check_at_most, check_counted, check_told};
 pub use fault::CheckFault;
 pub use revision_rules::revisions_counted;
 pub use tables::{Tables, check_tables, tables_counted};

@@ -19,6 +19,7 @@ use rebalance::is_balanced;
 use rope_node::Rope;
 use span_certificate::{Looks, PartIter, Splices, Trails, Verdict, verify_by};
 use std::sync::ledger::Ledger;
+use work_progress::{Progress, Untold};
 
 /// Whether a root is nil or one of the nodes, with a text of this length.
 fn has_good_root<L: Ledger>(looks: &Looks<'_, '_, Tables<'_>, L>, root: Rope, len: u64) -> bool
@@ -163,6 +164,39 @@ fn check_revision<S: Sources, L: Ledger>(
     check_rows(looks, trails, revisions, sources, parts, k, revision, from)
 }
 
+/// The same as `revisions_counted`, and tells before each revision how many records are done: the nodes, and the revisions with their rows.
+pub(crate) fn revisions_told<S: Sources, L: Ledger, P: Progress>(
+    looks: &mut Looks<'_, '_, Tables<'_>, L>,
+    revisions: &Revisions,
+    sources: &mut S,
+    progress: &mut P,
+) -> Result<(), CheckFault>
+    requires same { looks.old.space.now ≡ revisions.now }
+    ensures ok { IsOk result → AreGoodOver revisions.now (S.reading sources.old).stated }
+    ensures err { IfErr result (λ f. source_fault f ≡ None
+        → IsFirstRevisionFault (S.reading sources.old).stated revisions.now f) }
+    ensures reads { Reads (S.reading sources.old) (S.reading sources.new)
+        (ImageAsks (S.reading sources.old).stated revisions.now) (source_fault_in result) }
+    ensures looks { looks.new.count.now ≤ looks.old.count.now
+        + 2 * length revisions.now.revisions + most_looks revisions.now.rows }
+    ensures space { looks.new.space.now ≡ looks.old.space.now }
+    ensures same_reference { looks.new.count.ghost_name ≡ looks.old.count.ghost_name }
+{
+    let nodes = looks.node_count();
+    let count = revisions.count();
+    let mut trails = Trails::new();
+    let mut from = 0;
+    let mut first = 0;
+    for k in 0..count {
+        progress.tell(nodes as u64 + k as u64 + from as u64);
+        let revision = revisions.revision(k, first);
+        check_revision(looks, &mut trails, revisions, sources, k, revision, from)?;
+        from += revision.rows;
+        first += revision.edit.splice_count();
+    }
+    Ok(())
+}
+
 /// Tests revision by revision, by looks at the nodes of the image that the revisions are of. They are at most two
 /// for each revision, 132 for each row, and 132 for each byte of the rows that compare bytes, counted up to 4,096.
 ///
@@ -185,15 +219,5 @@ pub fn revisions_counted<S: Sources, L: Ledger>(
     ensures space { looks.new.space.now ≡ looks.old.space.now }
     ensures same_reference { looks.new.count.ghost_name ≡ looks.old.count.ghost_name }
 {
-    let count = revisions.count();
-    let mut trails = Trails::new();
-    let mut from = 0;
-    let mut first = 0;
-    for k in 0..count {
-        let revision = revisions.revision(k, first);
-        check_revision(looks, &mut trails, revisions, sources, k, revision, from)?;
-        from += revision.rows;
-        first += revision.edit.splice_count();
-    }
-    Ok(())
+    revisions_told(looks, revisions, sources, &mut Untold)
 }

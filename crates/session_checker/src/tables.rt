@@ -21,6 +21,7 @@ use rope_node::{CodedSpace, NodeId, NodeSpace, NodeView};
 use span_certificate::Count;
 use std::marker::{Brand, Model};
 use std::sync::ledger::{Blank, Ledger};
+use work_progress::{Progress, Untold};
 
 /// An image's nodes: a sound table with true records.
 #[derive(Drop)]
@@ -140,8 +141,11 @@ fn fault_of(rule: NodeRule, id: u32) -> CheckFault
     }
 }
 
-/// Tests node by node: one look each.
-fn check_nodes<L: Ledger>(records: &mut Records<'_, '_, '_, L>) -> Result<(), CheckFault>
+/// Tests node by node: one look each. Before each it tells how many are done.
+fn check_nodes<L: Ledger, P: Progress>(
+    records: &mut Records<'_, '_, '_, L>,
+    progress: &mut P,
+) -> Result<(), CheckFault>
     ensures ok { IsOk result ↔ AreGoodNodes (image_table records.old.image.now) }
     ensures err { IfErr result (IsFirstNodeFault (image_table records.old.image.now)) }
     ensures looks { records.new.count.now
@@ -150,11 +154,31 @@ fn check_nodes<L: Ledger>(records: &mut Records<'_, '_, '_, L>) -> Result<(), Ch
     ensures same_reference { records.new.count.ghost_name ≡ records.old.count.ghost_name }
 {
     for id in 0..records.node_count() {
+        progress.tell(id as u64);
         if let Err(rule) = check_node(records, NodeId(id)) {
             return Err(fault_of(rule, id));
         }
     }
     Ok(())
+}
+
+/// The same as `tables_counted`, and tells how many nodes are done.
+fn tables_told<S: Sources, L: Ledger, P: Progress>(
+    records: &mut Records<'_, '_, '_, L>,
+    sources: &S,
+    progress: &mut P,
+) -> Result<(), CheckFault>
+    ensures ok { IsOk result
+        ↔ HasGoodTables records.old.image.now (S.reading sources.now).stated.sizes }
+    ensures err { IfErr result
+        (IsFirstTableFault records.old.image.now (S.reading sources.now).stated.sizes) }
+    ensures looks { records.new.count.now
+        ≤ records.old.count.now + length (image_table records.old.image.now).nodes }
+    ensures image { records.new.image.now ≡ records.old.image.now }
+    ensures same_reference { records.new.count.ghost_name ≡ records.old.count.ghost_name }
+{
+    check_sources(records, sources)?;
+    check_nodes(records, progress)
 }
 
 /// Whether the sources are the image's and each node keeps the rules, by its record. It takes no memory,
@@ -176,8 +200,7 @@ pub fn tables_counted<S: Sources, L: Ledger>(
     ensures image { records.new.image.now ≡ records.old.image.now }
     ensures same_reference { records.new.count.ghost_name ≡ records.old.count.ghost_name }
 {
-    check_sources(records, sources)?;
-    check_nodes(records)
+    tables_told(records, sources, &mut Untold)
 }
 
 /// Refuses an image whose check may take more looks than the limit, where there is one.
@@ -195,12 +218,13 @@ fn check_bound(image: &Image, at_most: Option<u64>) -> Result<(), CheckFault>
     Ok(())
 }
 
-/// The same as `tables_counted`, where an image with such sources is refused first if its check may take more looks than the limit.
-pub fn tables_within<S: Sources, L: Ledger>(
+/// The same as `tables_told`, where an image with such sources is refused first if its check may take more looks than the limit.
+pub fn tables_within<S: Sources, L: Ledger, P: Progress>(
     image: &Image,
     sources: &S,
     at_most: Option<u64>,
     count: &mut Count<L>,
+    progress: &mut P,
 ) -> Result<(), CheckFault>
     ensures ok { IsOk result
         → HasGoodTables image.now (S.reading sources.now).stated.sizes × IsWithin at_most image.now }
@@ -212,7 +236,7 @@ pub fn tables_within<S: Sources, L: Ledger>(
     let mut records = Records::over(image, count);
     check_sources(&records, sources)?;
     check_bound(image, at_most)?;
-    tables_counted(&mut records, sources)
+    tables_told(&mut records, sources, progress)
 }
 
 /// The table of an image whose nodes have passed.

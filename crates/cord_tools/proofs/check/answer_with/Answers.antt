@@ -12,5 +12,5 @@ returns-in_ok-refused_line-in-Err g c =
     record {
       ok = (f, record { first = c.in-Err.ensures.refused (no_source f told); told = told }, c.in_ok-refused_line-in-Err.ensures);
       fault = tt;
-      reads = not_read_at (g.S.Sources.reading c.args.sources.now) (g.S.Sources.reading c.check_at_most.new.sources) _ _ (rw (no_source f told) at c.in-Err.ensures.reads);
+      reads = not_read_at (g.S.Sources.reading c.args.sources.now) (g.S.Sources.reading c.check_told.new.sources) _ _ (rw (no_source f told) at c.in-Err.ensures.reads);
     }

@@ -4,11 +4,11 @@ use Rattle.edit_script.specs.Applied.{lines_of}
 use Rattle.script_tools.proofs.Made.{none_inside, no_words, sources_kept}
 use Rattle.script_tools.proofs.applying.made.Goals as goal
 
-pub returns-in-Ok-apply_script-clause-ok : goal.returns-in-Ok-apply_script-clause-ok
-returns-in-Ok-apply_script-clause-ok c =
+pub returns-in-Ok-apply_script_told-clause-ok : goal.returns-in-Ok-apply_script_told-clause-ok
+returns-in-Ok-apply_script_told-clause-ok g c =
     let begun = c.in-Ok.session in
-    let takes = c.in-Ok-apply_script.ensures in
-    let new = c.apply_script.new.session in
+    let takes = c.in-Ok-apply_script_told.ensures in
+    let new = c.apply_script_told.new.session in
     record {
       begun = begun;
       from_lens = c.in-Ok.ensures;

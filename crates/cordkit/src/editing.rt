@@ -1,0 +1,195 @@
+//! The tool `edit`.
+
+ghost use Rattle.std.specs.Prelude.{◌≡◌, ◌<◌};
+
+use crate::answer::{Answer, Note};
+use crate::file_state::FileState;
+use crate::image_file::{ImageFile, Put};
+use crate::journal::Journal;
+use crate::opening::opened_sources;
+use crate::session_file::{Beginning, read_beginning, write_beginning};
+use cord_tools::{Status, ToolFault, run_edit};
+use lazy_file::Sources;
+use std::io::ErrorKind;
+use std::sync::ledger::{Blank, Ledger};
+use std::{fs, io};
+
+/// What `edit` is asked for.
+#[derive(Clone, Copy)]
+pub struct Editing<'a> {
+    pub keys: Option<&'a str>,
+    pub session: Option<&'a str>,
+    pub no_clobber: bool,
+    pub image: &'a str,
+    pub file: Option<&'a str>,
+}
+
+/// What follows an edit: an image that is whole is put in its place.
+fn finish(status: Result<Status, ToolFault>, image: &ImageFile<'_>) -> Result<Put, ToolFault> {
+    let put = match status {
+        Ok(_) => image.put(),
+        Err(fault) => Err(image.cause(fault)),
+    };
+    if put.is_err() {
+        image.drop_part();
+    }
+    put
+}
+
+/// Whether an image is there that is not to be replaced.
+fn refuse_image(words: Editing<'_>, image: &ImageFile<'_>) -> Result<(), ToolFault> {
+    if words.no_clobber && image.is_there() {
+        Err(ToolFault::ImageThere)
+    } else {
+        Ok(())
+    }
+}
+
+/// Looks at what is there when a session begins, and keeps it in the session's file, for when it goes on.
+fn begin(
+    rt: &HostRuntime,
+    words: Editing<'_>,
+    journal: &Journal<'_>,
+    image: &ImageFile<'_>,
+) -> Result<Option<FileState>, ToolFault> {
+    refuse_image(words, image)?;
+    let there = image.look();
+    if let Some(session) = words.session {
+        let beginning = Beginning {
+            keys: journal.birth()?,
+            image: there,
+        };
+        write_beginning(rt, session, &beginning)?;
+    }
+    Ok(there)
+}
+
+/// The image of a session that has the lock of its keys: it takes the place of what was there when the session began.
+fn begun_image<'a>(
+    rt: &'a HostRuntime,
+    words: Editing<'_>,
+    journal: &Journal<'_>,
+    begun: Option<Beginning>,
+) -> Result<ImageFile<'a>, ToolFault> {
+    let mut image = ImageFile::new(rt, words.image)?;
+    let there = match begun {
+        Some(beginning) => beginning.image,
+        None => begin(rt, words, journal, &image)?,
+    };
+    image.replace_only(there);
+    Ok(image)
+}
+
+/// What a session began with that goes on.
+fn beginning_of(rt: &HostRuntime, words: Editing<'_>) -> Result<Option<Beginning>, ToolFault> {
+    match words.session {
+        Some(session) => read_beginning(rt, session),
+        None => Ok(None),
+    }
+}
+
+/// Takes away what a session needs no more that was saved: its keys, and its file.
+fn close(rt: &HostRuntime, words: Editing<'_>, journal: &Journal<'_>) -> Result<(), ToolFault> {
+    journal.remove()?;
+    let Some(session) = words.session else {
+        return Ok(());
+    };
+    match fs::remove_file(rt, session) {
+        Err(error) if error.kind() != ErrorKind::NotFound => Err(ToolFault::Write),
+        _ => Ok(()),
+    }
+}
+
+/// What becomes of a session whose image may not be replaced: where it is that of its keys, it was saved before.
+fn saved_before<S: Sources + Drop>(
+    rt: &HostRuntime,
+    words: Editing<'_>,
+    journal: &Journal<'_>,
+    sources: S,
+) -> Result<Put, ToolFault> {
+    if !journal.is_saved(words.image, sources)? {
+        return Err(ToolFault::ImageThere);
+    }
+    // It may have a second name.
+    let _ = ImageFile::new(rt, words.image)?.look();
+    Ok(Put::Before)
+}
+
+/// Edits, and keeps the keys until they are saved.
+fn edit_kept<S: Sources + Drop>(
+    rt: &HostRuntime,
+    words: Editing<'_>,
+    keys: &str,
+    sources: S,
+) -> Result<Put, ToolFault> {
+    let mut sources = sources;
+    let begun = beginning_of(rt, words)?;
+    let journal = Journal::open(rt, keys, begun.map(|b| b.keys), &mut sources)?;
+    let put = match begun_image(rt, words, &journal, begun) {
+        Ok(mut image) => {
+            let status = journal.edit(sources, &mut image);
+            finish(status, &image)
+        }
+        Err(ToolFault::ImageThere) => saved_before(rt, words, &journal, sources),
+        Err(fault) => Err(fault),
+    };
+    match &put {
+        Ok(Put::InPlace | Put::Before) => close(rt, words, &journal)?,
+        _ if journal.only_looks() => journal.remove()?,
+        _ => journal.sync(),
+    }
+    put
+}
+
+/// Edits, and keeps no keys.
+fn edit_unkept<S: Sources + Drop>(
+    rt: &HostRuntime,
+    sources: S,
+    image: &mut ImageFile<'_>,
+) -> Result<Put, ToolFault> {
+    let status = run_edit(
+        rt.alloc(),
+        sources,
+        &mut rt.reader(),
+        &mut io::writer(rt),
+        image,
+    );
+    finish(status, image)
+}
+
+/// Edits a file, or an empty text, and saves the session. The image is looked at before, and opened when it is saved.
+pub fn edit<L: Ledger, W>(
+    rt: &HostRuntime,
+    words: Editing<'_>,
+    answer: &mut Answer<W>,
+    blank: Blank,
+) -> Result<Status, ToolFault>
+    requires name { blank.name ≡ L.name }
+    requires parts { blank.parts ≡ L.parts }
+    requires many { 2 < blank.parts }
+{
+    let mut image = ImageFile::new(rt, words.image)?;
+    let sources = match words.file {
+        Some(file) => opened_sources::<L>(rt, &[file], blank)?,
+        None => opened_sources::<L>(rt, &[], blank)?,
+    };
+    let put = match words.keys {
+        Some(keys) => edit_kept(rt, words, keys, sources)?,
+        None => {
+            refuse_image(words, &image)?;
+            edit_unkept(rt, sources, &mut image)?
+        }
+    };
+    match put {
+        Put::Beside(name) => {
+            answer.set_note(Note::OtherName(name));
+            Err(ToolFault::OtherImage)
+        }
+        Put::Before => {
+            let name = String::from_str(rt.alloc(), words.image)?;
+            answer.set_note(Note::SavedBefore(name));
+            Ok(Status::Success)
+        }
+        Put::None | Put::InPlace => Ok(Status::Success),
+    }
+}

@@ -1,0 +1,96 @@
+//! A session that was saved, and ended before its keys were taken away.
+
+use cord_tools::{ToolFault, run_kept};
+use key_journal::Kept;
+use lazy_file::Sources;
+use std::fs::{self, File};
+use std::io::{self, ErrorKind, Read};
+
+/// The key that saves.
+const SAVE: u8 = 0x18;
+
+/// So many bytes are compared at once.
+const PART: usize = 4096;
+
+/// The key that saves, as often as it is read.
+#[derive(Drop)]
+struct Saving;
+
+impl io::Read for Saving {
+    fn read(&mut self, buffer: &mut [u8]) -> io::Result<usize> {
+        match buffer.first_mut() {
+            Some(first) => {
+                *first = SAVE;
+                Ok(1)
+            }
+            None => Ok(0),
+        }
+    }
+}
+
+/// What takes bytes, and keeps none.
+#[derive(Drop)]
+struct Nowhere;
+
+impl io::Write for Nowhere {
+    fn write(&mut self, bytes: &[u8]) -> io::Result<usize> {
+        Ok(bytes.len())
+    }
+
+    fn flush(&mut self) -> io::Result<()> {
+        Ok(())
+    }
+}
+
+/// A file that takes the bytes that it has, and no others.
+#[derive(Drop)]
+struct Twin {
+    file: File,
+}
+
+impl io::Write for Twin {
+    fn write(&mut self, bytes: &[u8]) -> io::Result<usize> {
+        let mut there = [0; PART];
+        let n = bytes.len().min(PART);
+        self.file.read_exact(&mut there[..n])?;
+        if there[..n] == bytes[..n] {
+            Ok(n)
+        } else {
+            Err(io::Error::from(ErrorKind::InvalidData))
+        }
+    }
+
+    fn flush(&mut self) -> io::Result<()> {
+        Ok(())
+    }
+}
+
+/// Whether a file is the image that these keys make of these sources, byte for byte.
+///
+/// # Errors
+///
+/// `Memory`.
+pub fn is_image_of<S: Sources + Drop>(
+    rt: &HostRuntime,
+    path: &str,
+    keys: &[u8],
+    sources: S,
+) -> Result<bool, ToolFault> {
+    let Ok(file) = fs::open(rt, path) else {
+        return Ok(false);
+    };
+    let mut twin = Twin { file };
+    let mut saving = Kept::new(Saving, Nowhere);
+    match run_kept(
+        rt.alloc(),
+        sources,
+        keys,
+        &mut saving,
+        &mut Nowhere,
+        &mut twin,
+    ) {
+        Ok(_) => Ok(matches!(twin.file.read(&mut [0]), Ok(0))),
+        Err(ToolFault::Memory) => Err(ToolFault::Memory),
+        Err(_) => Ok(false),
+    }
+}

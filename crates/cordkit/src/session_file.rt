@@ -1,0 +1,123 @@
+//! The file of a session: what there was when it began. A session that goes on finds it, and it goes once the image is saved.
+
+use crate::file_state::{FileBirth, FileState, Moment};
+use crate::opening::told;
+use cord_tools::ToolFault;
+use std::alloc::{AllocError, Global};
+use std::fs;
+use std::io::ErrorKind;
+
+/// What a session began with.
+#[derive(Clone, Copy)]
+pub struct Beginning {
+    pub keys: FileBirth,
+    /// What was there of the image.
+    pub image: Option<FileState>,
+}
+
+/// The numbers of a text, which spaces part.
+fn numbers(alloc: Global, text: &str) -> Result<Vec<u64>, ToolFault> {
+    let mut numbers = Vec::new(alloc);
+    for word in text.split_ascii_whitespace() {
+        match word.parse::<u64>() {
+            Ok(number) => numbers.push(number).map_err(|_| ToolFault::Memory)?,
+            Err(_) => return Err(ToolFault::Read),
+        }
+    }
+    Ok(numbers)
+}
+
+/// What a session began with whose file has these numbers.
+fn parsed(numbers: &[u64]) -> Option<Beginning> {
+    let (keys, image) = numbers.split_first_chunk::<3>()?;
+    let [device, inode, born] = *keys;
+    let keys = FileBirth {
+        device,
+        inode,
+        born,
+    };
+    let image = match image {
+        [] => None,
+        [
+            device,
+            inode,
+            size,
+            modified,
+            of_modified,
+            changed,
+            of_changed,
+        ] => Some(FileState {
+            device: *device,
+            inode: *inode,
+            size: *size,
+            modified: Moment {
+                seconds: *modified,
+                nanoseconds: *of_modified,
+            },
+            changed: Moment {
+                seconds: *changed,
+                nanoseconds: *of_changed,
+            },
+        }),
+        _ => return None,
+    };
+    Some(Beginning { keys, image })
+}
+
+/// What a session began with that goes on, as its file tells. Where the file is not there, or is empty, the session begins.
+///
+/// # Errors
+///
+/// `Read`, where the file cannot be read, or has something else. `Memory`.
+pub fn read_beginning(rt: &HostRuntime, path: &str) -> Result<Option<Beginning>, ToolFault> {
+    let text = match fs::read_to_string(rt, path) {
+        Ok(text) => text,
+        Err(error) if error.kind() == ErrorKind::NotFound => return Ok(None),
+        Err(error) => return Err(told(error)),
+    };
+    if text.is_empty() {
+        return Ok(None);
+    }
+    let numbers = numbers(rt.alloc(), &text)?;
+    match parsed(&numbers) {
+        Some(beginning) => Ok(Some(beginning)),
+        None => Err(ToolFault::Read),
+    }
+}
+
+/// The numbers of what a session began with.
+fn told_numbers(alloc: Global, beginning: &Beginning) -> Result<String, AllocError> {
+    let FileBirth {
+        device,
+        inode,
+        born,
+    } = beginning.keys;
+    let keys = format!(in alloc; "{device} {inode} {born}\n")?;
+    let Some(image) = beginning.image else {
+        return Ok(keys);
+    };
+    let FileState {
+        device,
+        inode,
+        size,
+        modified,
+        changed,
+    } = image;
+    let (at, of_it) = (modified.seconds, modified.nanoseconds);
+    let (then, of_that) = (changed.seconds, changed.nanoseconds);
+    format!(in alloc; "{keys}{device} {inode} {size} {at} {of_it} {then} {of_that}\n")
+}
+
+/// Writes the file of a session that begins.
+///
+/// # Errors
+///
+/// `Write`, where that fails. `Memory`.
+pub fn write_beginning(
+    rt: &HostRuntime,
+    path: &str,
+    beginning: &Beginning,
+) -> Result<(), ToolFault> {
+    let numbers = told_numbers(rt.alloc(), beginning)?;
+    fs::write(rt, path, numbers).map_err(|_| ToolFault::Write)
+}

@@ -1,0 +1,26 @@
+//! How far long work is.
+#![tactic(auto)]
+
+/// Who is told how far a piece of work is. What he does with it changes nothing that the work gives.
+pub trait Progress {
+    /// The work has so many parts.
+    fn begin(&mut self, all: u64);
+
+    /// So many of them are done.
+    fn tell(&mut self, done: u64);
+
+    /// The work is over, and nothing that it gives was written yet.
+    fn end(&mut self);
+}
+
+/// Nobody is told.
+#[derive(Clone, Copy, Debug, Default)]
+pub struct Untold;
+
+impl Progress for Untold {
+    fn begin(&mut self, _all: u64) {}
+
+    fn tell(&mut self, _done: u64) {}
+
+    fn end(&mut self) {}
+}
