@@ -25,7 +25,7 @@ use Rattle.edit_commands.proofs.RevisionLists.{there_is, are_ropes, ropes_before
 use Rattle.rope_node.proofs.Ropes.{rope_length}
 use Rattle.rope_node.proofs.Parts.{map_alike}
 
-answered : (h : Held Coded) → AreAnswered (table_of coded_byte h) (coded_at h)
+pub answered : (h : Held Coded) → AreAnswered (table_of coded_byte h) (coded_at h)
 answered h k = answers_as_filled (get_or h.functions k None)
 
 -- what commands take from outside, as bytes and as cells
@@ -46,9 +46,10 @@ module _ (h : Held Coded) (s : IsSound (table_of coded_byte h)) (true_records : 
       → result_of (givens_of (table_of coded_byte h)) (map (rope_cells (table_of coded_byte h)) (roots_of before)) (command_of r) ≡ Some (rope_cells (table_of coded_byte h) r.root)
   revision_gives before r ropes is =
       let t = table_of coded_byte h in
-      let are = parts_in_range t (roots_of before) (command_of r) ropes is.range in
-      parts_joined t s true_records (roots_of before) (command_of r) ropes is.range
-      ∙ ap Some (covered_cells t s true_records (coded_at h) (answered h) (λ k p. 0) (parts_behind t before r) r.root r.rows.items are is.root (is.rows (λ k p. 0)) is.no_source)
+      let c = is.certified in
+      let are = parts_in_range t (roots_of before) (command_of r) ropes c.range in
+      parts_joined t s true_records (roots_of before) (command_of r) ropes c.range
+      ∙ ap Some (covered_cells t s true_records (coded_at h) (answered h) (λ k p. 0) (parts_behind t before r) r.root r.rows.items are c.root (c.rows (λ k p. 0)) c.no_source)
 
   cells_before : (revisions : List Revision) (k : ℕ) → take k (map (rope_cells (table_of coded_byte h)) (roots_of revisions)) ≡ map (rope_cells (table_of coded_byte h)) (roots_of (take k revisions))
   cells_before revisions k =

@@ -43,19 +43,22 @@ module _ (old new : Held Coded) (on : WentOn old new) where
   revision_kept before r ropes is =
       let t = table_of coded_byte old in
       let u = table_of coded_byte new in
-      let same = parts_kept t u on.sound on.true_records on.kept (roots_of before) (command_of r) ropes is.range in
-      let are = parts_in_range t (roots_of before) (command_of r) ropes is.range in
+      let c = is.certified in
+      let same = parts_kept t u on.sound on.true_records on.kept (roots_of before) (command_of r) ropes c.range in
+      let are = parts_in_range t (roots_of before) (command_of r) ropes c.range in
       record {
-        range = in_range_kept t u on.sound on.true_records on.kept (roots_of before) (command_of r) ropes is.range;
-        names = is.names;
-        root = rope_kept t u on.kept r.root is.root;
-        mark = mark_kept r.mark r.root is.root is.mark;
-        rows = subst (λ (parts : List Part). CoversAlways u (coded_at new) parts r.root r.rows.items) (sym same)
-            (λ source. covers_kept t u on.sound on.true_records on.kept (coded_at old) (coded_at new) agree source (parts_of t (roots_of before) (command_of r)) r.root r.rows.items are is.root (is.rows source));
-        no_source = subst (λ (parts : List Part). MeetsNoSource u parts r.root r.rows.items) (sym same)
-            (no_source_kept t u on.sound on.true_records on.kept (parts_of t (roots_of before) (command_of r)) r.root r.rows.items are is.root is.no_source);
+        certified = record {
+          range = in_range_kept t u on.sound on.true_records on.kept (roots_of before) (command_of r) ropes c.range;
+          names = c.names;
+          root = rope_kept t u on.kept r.root c.root;
+          rows = subst (λ (parts : List Part). CoversAlways u (coded_at new) parts r.root r.rows.items) (sym same)
+              (λ source. covers_kept t u on.sound on.true_records on.kept (coded_at old) (coded_at new) agree source (parts_of t (roots_of before) (command_of r)) r.root r.rows.items are c.root (c.rows source));
+          no_source = subst (λ (parts : List Part). MeetsNoSource u parts r.root r.rows.items) (sym same)
+              (no_source_kept t u on.sound on.true_records on.kept (parts_of t (roots_of before) (command_of r)) r.root r.rows.items are c.root c.no_source);
+        };
+        mark = mark_kept r.mark r.root c.root is.mark;
         longest = subst (λ (parts : List Part). AreLongest u parts r.root r.rows.items) (sym same)
-            (longest_kept t u on.sound on.true_records on.kept (parts_of t (roots_of before) (command_of r)) r.root r.rows.items are is.root is.longest);
+            (longest_kept t u on.sound on.true_records on.kept (parts_of t (roots_of before) (command_of r)) r.root r.rows.items are c.root is.longest);
       }
 
   pub revisions_kept : (revisions : List Revision) → AreRevisions old revisions → AreRevisions new revisions

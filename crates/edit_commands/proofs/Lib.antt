@@ -8,6 +8,7 @@ pub mod Joining
 pub mod HandedChanges
 pub mod Accepted
 pub mod BuiltCommands
+pub mod KnownRows
 pub mod MadeRevisions
 pub mod SessionCalls
 pub mod RevisionSplices

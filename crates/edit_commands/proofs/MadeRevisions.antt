@@ -35,7 +35,7 @@ use Rattle.edit_commands.specs.declared.revision.Revision.{Revision}
 use Rattle.edit_commands.specs.Applying.{Keeps, RowsPass, TermRefused, IsLaterFault, IsMadeBy, Revises, behind, within}
 use Rattle.edit_commands.specs.Building.{ChainsTerms, GoesOn, IsMetFault, IsRootFor, BuildsCommand, StandEach, command_with, edit_with, placed_changes, splices_with}
 use Rattle.edit_commands.specs.Codes.{rope_fault, rows_fault}
-use Rattle.edit_commands.specs.Session.{command_of, roots_of, rows_held, splices_held, NamesThese, IsRevision, AreRevisions}
+use Rattle.edit_commands.specs.Session.{command_of, roots_of, rows_held, splices_held, NamesThese, IsCertified, IsRevision, AreRevisions}
 use Rattle.edit_commands.proofs.RevisionLists.{are_ropes}
 use Rattle.edit_commands.proofs.KeptRevisions.{WentOn, revisions_kept, root_cells_kept}
 
@@ -156,13 +156,16 @@ module _ (old new : Held Coded) (revisions : List Revision) (command : Command) 
         let t = table_of coded_byte new in
         let says : command_of made ≡ command_with places command = rw (is_splices, is_edit) (says_so places (splices_held revisions) command) in
         let behind_them : parts_of t (roots_of revisions) (command_with places command) ≡ parts_of t (roots_of revisions) (command_of made) = ap (parts_of t (roots_of revisions)) (sym says) in
-        let revision : IsRevision new revisions made = record {
+        let certified : IsCertified new revisions made.edit made.splices.items made.root made.rows.items = record {
           range = subst (IsInRange t (roots_of revisions)) (sym says) edit_in_range;
           names = rw (is_splices, is_edit) (names_so old.pool.bytes new.pool.bytes (table_of coded_byte old) (roots_of revisions) places (splices_held revisions) command terms_so.stand);
           root = subst (IsRope t) (sym is_root) b.builds.is_rope;
-          mark = mark;
           rows = subst (λ (ps : List Part). CoversAlways t (coded_at new) ps made.root made.rows.items) behind_them rows;
           no_source = subst (λ (ps : List Part). MeetsNoSource t ps made.root made.rows.items) behind_them none;
+        } in
+        let revision : IsRevision new revisions made = record {
+          certified = certified;
+          mark = mark;
           longest = subst (λ (ps : List Part). AreLongest t ps made.root made.rows.items) behind_them longest;
         } in
         let by : IsMadeBy old revisions command made new = record {

@@ -53,7 +53,7 @@ first_revisions h revisions n are k r e =
 pub are_ropes : (h : Held Coded) (revisions : List Revision) → AreRevisions h revisions → AreRopes (table_of coded_byte h) (roots_of revisions)
 are_ropes h revisions are k lt =
     let found = there_is revisions k (omega (arith, lt, length-map revisions (λ (r : Revision). r.root))) in
-    subst (IsRope (table_of coded_byte h)) (sym (root_is revisions k found.0 found.1)) (are k found.0 found.1).root
+    subst (IsRope (table_of coded_byte h)) (sym (root_is revisions k found.0 found.1)) (are k found.0 found.1).certified.root
 
 pub ropes_before : (h : Held Coded) (revisions : List Revision) (n : ℕ) → AreRevisions h revisions → AreRopes (table_of coded_byte h) (roots_of (take n revisions))
 ropes_before h revisions n are = are_ropes h (take n revisions) (first_revisions h revisions n are)

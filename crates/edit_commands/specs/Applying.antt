@@ -11,7 +11,9 @@ use Rattle.node_table.specs.Held.{Held, table_of, coded_at}
 use Rattle.node_table.specs.Puts.{AddsSource}
 use Rattle.rebalance.specs.declared.fault.BalanceFault.{BalanceFault}
 use Rattle.span_certificate.specs.declared.row.Row.{Row}
-use Rattle.span_certificate.specs.Commands.{result_of}
+use Rattle.span_certificate.specs.declared.edit.Edit.{Edit}
+use Rattle.span_certificate.specs.declared.edit.Splice.{Splice}
+use Rattle.span_certificate.specs.Commands.{result_of, with_splices}
 use Rattle.span_certificate.specs.Covers.{CoversAlways, MeetsNoSource, rows_len}
 use Rattle.span_certificate.specs.Longest.{AreLongest, AreMade, IsCutShort}
 use Rattle.span_certificate.specs.declared.making.MakeFault.{MakeFault}
@@ -119,6 +121,39 @@ pub record Applies (old : SessionValue) (command : Command) (k : ℕ) (new : Ses
   pub made : Revision
   pub revisions : new.revisions ≡ old.revisions ++ made ∷ []
   pub is : IsMadeBy old.held old.revisions command made new.held
+
+-- ---- a revision that is known
+
+-- one revision more, of this command, these splices and this root, over the same store; its rows are these where each is
+-- the longest
+pub record PutsKnown (old : SessionValue) (edit : Edit) (splices : List Splice) (root : Option NodeId) (rows : List Row)
+    (new : SessionValue) (k : ℕ) : Type 0 where
+  pub number : k ≡ length old.revisions
+  pub made : Revision
+  pub held : new.held ≡ old.held
+  pub revisions : new.revisions ≡ old.revisions ++ made ∷ []
+  pub its_edit : made.edit ≡ edit
+  pub its_splices : made.splices.items ≡ splices
+  pub its_root : made.root ≡ root
+  pub its_rows : AreLongest (table_of coded_byte old.held) (parts_of (table_of coded_byte old.held)
+      (roots_of old.revisions) (with_splices splices edit)) root rows → made.rows.items ≡ rows
+
+-- there are more rows than there may be: these are too many, or not the longest
+abbrev pub PassRows : SessionValue → Edit → List Splice → Option NodeId → List Row → Type 0
+PassRows old edit splices root rows =
+    AreLongest (table_of coded_byte old.held) (parts_of (table_of coded_byte old.held)
+    (roots_of old.revisions) (with_splices splices edit)) root rows
+    → ROWS_LIMIT < rows_held old.revisions + length rows
+
+-- The longest rows for the first bytes of a root that is known are more than there is room for behind those of the
+-- earlier revisions; or they are as many, and text is left.
+pub record KnownRowsPass (old : SessionValue) (edit : Edit) (splices : List Splice) (root : Option NodeId) : Type 0 where
+  pub rows : List Row
+  pub made : AreMade (table_of coded_byte old.held) (coded_at old.held) (parts_of (table_of coded_byte old.held)
+      (roots_of old.revisions) (with_splices splices edit)) root rows
+  pub full : ROWS_LIMIT ≤ rows_held old.revisions + length rows
+  pub left : ROWS_LIMIT ≡ rows_held old.revisions + length rows
+      → rows_len rows < rope_len (table_of coded_byte old.held) root
 
 -- ---- sources
 

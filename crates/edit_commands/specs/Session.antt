@@ -76,18 +76,23 @@ abbrev pub NamesThese : ℕ → List Splice → Edit → Type 0
 NamesThese earlier splices (Many r first count) = (first ≡ earlier) × (count ≡ length splices)
 NamesThese earlier splices _ = splices ≡ []
 
--- Behind these revisions: its command is in range, and names its splices; its root is a rope, and marked exactly where
--- it is balanced; its rows cover the command's parts and the root whatever the sources hold, none that compares bytes
--- is over a source, and each is the longest.
-pub record IsRevision (h : Held Coded) (before : List Revision) (r : Revision) : Type 0 where
-  pub range : IsInRange (table_of coded_byte h) (roots_of before) (command_of r)
-  pub names : NamesThese (splices_held before) r.splices.items r.edit
-  pub root : IsRope (table_of coded_byte h) r.root
-  pub mark : IsTrue r.mark ↔ IsBalancedRope (table_of coded_byte h) r.root
+-- Behind these revisions: this command is in range, and names these splices; this root is a rope; these rows cover the
+-- command's parts and the root whatever the sources hold, and none that compares bytes is over a source.
+pub record IsCertified (h : Held Coded) (before : List Revision) (edit : Edit) (splices : List Splice)
+    (rope : Option NodeId) (covering : List Row) : Type 0 where
+  pub range : IsInRange (table_of coded_byte h) (roots_of before) (with_splices splices edit)
+  pub names : NamesThese (splices_held before) splices edit
+  pub root : IsRope (table_of coded_byte h) rope
   pub rows : CoversAlways (table_of coded_byte h) (coded_at h)
-      (parts_behind (table_of coded_byte h) before r) r.root r.rows.items
+      (parts_of (table_of coded_byte h) (roots_of before) (with_splices splices edit)) rope covering
   pub no_source : MeetsNoSource (table_of coded_byte h)
-      (parts_behind (table_of coded_byte h) before r) r.root r.rows.items
+      (parts_of (table_of coded_byte h) (roots_of before) (with_splices splices edit)) rope covering
+
+-- A revision behind these: its command, root and rows are certified; it is marked exactly where its root is balanced, and
+-- each row is the longest.
+pub record IsRevision (h : Held Coded) (before : List Revision) (r : Revision) : Type 0 where
+  pub certified : IsCertified h before r.edit r.splices.items r.root r.rows.items
+  pub mark : IsTrue r.mark ↔ IsBalancedRope (table_of coded_byte h) r.root
   pub longest : AreLongest (table_of coded_byte h)
       (parts_behind (table_of coded_byte h) before r) r.root r.rows.items
 

@@ -4,6 +4,7 @@
 mod building;
 mod command;
 mod fault;
+mod known;
 mod refusing;
 mod revising;
 mod revision;

@@ -1,6 +1,6 @@
 //! The revision that a command gives.
 
-ghost use Rattle.std.specs.Prelude.{◌≡◌, ◌↔◌, ◌+◌, ◌^◌, ◌<◌, ◌≤◌, length, get_or, map, IsTrue, IfErr, IfOk, None};
+ghost use Rattle.std.specs.Prelude.{◌≡◌, ◌↔◌, ◌+◌, ◌^◌, ◌<◌, ◌≤◌, length, get_or, map, IsTrue, IfErr, IfOk, None, if◌then◌else◌};
 ghost use Rattle.function_leaf.specs.Coded.{coded_byte};
 ghost use Rattle.rope_node.specs.Balance.{IsBalancedRope};
 ghost use Rattle.rope_node.specs.Denotes.{rope_cells, IsRope};
@@ -159,7 +159,7 @@ fn rows_for(
 }
 
 /// Whether a root is not nil and balanced.
-fn is_marked(store: &Store<Coded>, root: Rope) -> bool
+pub fn is_marked(store: &Store<Coded>, root: Rope) -> bool
     requires { IsRope (table_of coded_byte store.now) root }
     ensures { IsTrue result ↔ IsBalancedRope (table_of coded_byte store.now) root }
 {
@@ -215,6 +215,13 @@ fn revise_at(
     })
 }
 
+/// The first of these places where `is_first` says so, else the second.
+fn either<'a>(is_first: bool, first: &'a mut [u64], second: &'a mut [u64]) -> &'a mut [u64]
+    ensures { result.now ≡ (if is_first then first.old else second.old) }
+{
+    if is_first { first } else { second }
+}
+
 /// The revision that a command in range gives behind these, which have `splice_count` splices, with at most `room`
 /// rows.
 pub fn revise(
@@ -236,21 +243,14 @@ pub fn revise(
 {
     let _nodes = store.count();
     let times = times_handed(command);
-    if times <= 1 {
-        // Most commands hand in bytes once, and take no memory for their place.
-        let mut place = [0];
-        return revise_at(
-            alloc,
-            store,
-            revisions,
-            splice_count,
-            room,
-            command,
-            &mut place[..times],
-            trails,
-        );
-    }
-    let mut places = room_for(alloc, command)?;
+    // Most commands hand in bytes once, and take no memory for their place.
+    let mut place = [0];
+    let mut many = if times <= 1 {
+        Vec::new(alloc)
+    } else {
+        room_for(alloc, command)?
+    };
+    let places = either(times <= 1, &mut place[..times.min(1)], &mut many);
     revise_at(
         alloc,
         store,
@@ -258,7 +258,7 @@ pub fn revise(
         splice_count,
         room,
         command,
-        &mut places,
+        places,
         trails,
     )
 }

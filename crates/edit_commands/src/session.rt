@@ -1,17 +1,20 @@
 //! The session.
 
-ghost use Rattle.std.specs.Prelude.{◌≡◌, [], length};
+ghost use Rattle.std.specs.Prelude.{◌≡◌, ◌+◌, ◌<◌, ◌≤◌, ◌++◌, ◌∷◌, [], length, IfOk, IfErr, OnOk, OnErr, IsErrOf, ◌⊎◌};
 ghost use Rattle.std.specs.Option.{option_map};
 ghost use Rattle.node_table.specs.Held.{held_of};
-ghost use Rattle.edit_commands.specs.Session.{SessionValue, IsSession, HoldsHistory};
+ghost use Rattle.edit_commands.specs.Session.{SessionValue, IsCertified, IsRevision, IsSession, HoldsHistory, rows_held, splices_held};
+ghost use Rattle.span_certificate.specs.declared.edit.TheConstants.{MOST_REVISIONS, SPLICES_LIMIT};
+ghost use Rattle.span_certificate.specs.declared.making.TheConstants.{ROWS_LIMIT};
 ghost use Rattle.edit_commands.specs.Session.{root_of, mark_of, edit_of, rows_of, splices_of};
 ghost use Rattle.edit_commands.specs.Refusals.{TakesAll};
-ghost use Rattle.edit_commands.specs.Applying.{AppliesOrNot, AddsSourceOrNot};
+ghost use Rattle.edit_commands.specs.Applying.{AppliesOrNot, AddsSourceOrNot, KnownRowsPass, PutsKnown, PassRows};
 
 use crate::command::Command;
 use crate::fault::EditFault;
+use crate::known::longest_rows;
 use crate::refusing::refusal;
-use crate::revising::revise;
+use crate::revising::{is_marked, revise};
 use crate::revision::Revision;
 use function_leaf::Coded;
 use rope_node::{NodeSpace, Rope};
@@ -54,9 +57,16 @@ impl Session {
         ensures revisions { result.revisions ≡ [] }
         ensures sources { result.held.sources ≡ [] }
     {
+        Session::over(alloc, Store::new(alloc))
+    }
+
+    /// A session over this store, without revisions.
+    pub fn over(alloc: Global, store: Store<Coded>) -> Session
+        ensures { result ≡ record { held = store; revisions = [] } }
+    {
         Session {
             alloc,
-            store: Store::new(alloc),
+            store,
             revisions: Vec::new(alloc),
             row_count: 0,
             splice_count: 0,
@@ -111,6 +121,75 @@ impl Session {
         self.row_count += rows;
         self.splice_count += splices;
         Ok(number)
+    }
+
+    /// Puts a revision of this store behind the others.
+    fn put_behind(&mut self, revision: Revision) -> Result<u32, EditFault>
+        requires is { IsRevision self.old.held self.old.revisions revision }
+        requires room { length self.old.revisions < MOST_REVISIONS }
+        requires rows { rows_held self.old.revisions + length revision.rows.items ≤ ROWS_LIMIT }
+        requires splices { splices_held self.old.revisions + length revision.splices.items ≤ SPLICES_LIMIT }
+        ensures number { IfOk result (λ k. k ≡ length self.old.revisions) }
+        ensures ok { OnOk result (self.new
+            ≡ record { held = self.old.held; revisions = self.old.revisions ++ revision ∷ [] }) }
+        ensures fault { IfErr result (λ fault. fault ≡ EditFault.Memory) }
+        ensures err { OnErr result (self.new ≡ self.old) }
+    {
+        let count = self.revisions.len() as u32;
+        let (row_count, splice_count) = (revision.rows.len(), revision.splices.len());
+        self.revisions
+            .push(revision)
+            .map_err(|_| EditFault::Memory)?;
+        self.row_count += row_count;
+        self.splice_count += splice_count;
+        Ok(count)
+    }
+
+    /// Puts a revision behind the others whose command, root and rows are certified, with the exact mark, and answers its number. The rows are
+    /// these where each is the longest, and else made anew.
+    ///
+    /// # Errors
+    ///
+    /// `TooManyRows`, and `Memory`. Everything is then as before.
+    pub fn put_known(
+        &mut self,
+        edit: Edit,
+        splices: Vec<Splice>,
+        root: Rope,
+        rows: Vec<Row>,
+    ) -> Result<u32, EditFault>
+        requires certified { IsCertified self.old.held self.old.revisions edit splices.items root rows.items }
+        requires room { length self.old.revisions < MOST_REVISIONS }
+        requires splices { splices_held self.old.revisions + length splices.items ≤ SPLICES_LIMIT }
+        ensures put { IfOk result (PutsKnown self.old edit splices.items root rows.items self.new) }
+        ensures too_many { IsErrOf result EditFault.TooManyRows → PassRows self.old edit splices.items root rows.items }
+        ensures pass { IsErrOf result EditFault.TooManyRows → KnownRowsPass self.old edit splices.items root }
+        ensures faults { IfErr result (λ fault. (fault ≡ EditFault.TooManyRows) ⊎ (fault ≡ EditFault.Memory)) }
+        ensures err { OnErr result (self.new ≡ self.old) }
+    {
+        // The store keeps its rules, as its count says.
+        let _nodes = self.store.count();
+        let rows = longest_rows(
+            self.alloc,
+            &self.store,
+            &self.revisions,
+            edit,
+            &splices,
+            root,
+            rows,
+            &mut self.trails,
+        )?;
+        if rows.len() > ROWS_LIMIT - self.row_count {
+            return Err(EditFault::TooManyRows);
+        }
+        let mark = is_marked(&self.store, root);
+        self.put_behind(Revision {
+            edit,
+            splices,
+            root,
+            mark,
+            rows,
+        })
     }
 
     /// How many revisions there are.
