@@ -1,5 +1,7 @@
 -- Bytes of a text that are held, to look for line breaks among them.
-use Rattle.std.specs.Prelude.{◌≡◌, ℕ, ◌+◌, ◌-◌, ◌≤◌, nat_lt, if◌then◌else◌, List, [], length, take, drop}
+use Rattle.std.specs.Prelude.{◌≡◌, ℕ, ◌+◌, ◌-◌, ◌<◌, ◌≤◌, not, nat_lt, if◌then◌else◌, List, [], length, take, drop}
+use Rattle.std.specs.List.{suffix_len}
+use Rattle.screen_editor.specs.Lines.{is_break}
 
 -- bytes from a place on
 pub record HeldPart : Type 0 where
@@ -18,3 +20,7 @@ held_starting_at held place = if nat_lt place held.from then [] else drop (place
 pub record AreHeld (held : HeldPart) (t : List ℕ) : Type 0 where
   pub inside : held.from + length held.bytes ≤ length t
   pub bytes : held.bytes ≡ take (length held.bytes) (drop held.from t)
+
+-- a line break is among these bytes: not all of them stand behind the last one
+abbrev pub HasBreak : List ℕ → Type 0
+HasBreak bytes = suffix_len (λ b. not (is_break b)) bytes < length bytes

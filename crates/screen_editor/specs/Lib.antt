@@ -2,6 +2,7 @@ pub mod Recorded
 pub mod Keys
 pub mod Lines
 pub mod HeldBytes
+pub mod Blocks
 pub mod State
 pub mod Machine
 pub mod Frame

@@ -1,21 +1,35 @@
 //! Where a place's line begins, looked for in bytes near the place first, which are held for the line above.
 
-ghost use Rattle.std.specs.Prelude.{◌≡◌, ◌≤◌, ◌+◌, ◌-◌, length, IfOk, IsTrue};
+ghost use Rattle.std.specs.Prelude.{◌≡◌, ◌↔◌, ◌≤◌, ◌+◌, ◌-◌, ℕ, List, length, IfOk, IfSome, IsSome};
 ghost use Rattle.rope_node.specs.Denotes.{IsRope, rope_len};
 ghost use Rattle.cord_position.specs.Fetched.{ReadsSpan, rope_cell};
 ghost use Rattle.cord_search.specs.declared.runs.TheConstants.{PIECE};
 ghost use Rattle.cord_search.specs.Stated.{OfText};
-ghost use Rattle.screen_editor.specs.HeldBytes.{AreHeld};
+ghost use Rattle.screen_editor.specs.HeldBytes.{held_up_to, AreHeld, HasBreak};
 ghost use Rattle.screen_editor.specs.Lines.{line_start};
 
-use crate::held::HeldBytes;
+use crate::held::{HeldBytes, NEAR};
 use crate::lines::line_start;
 use crate::near::width_behind;
-use cord_position::Pos;
 use cord_search::{PIECE, clear_behind};
 use lazy_file::{SourceFault, Sources};
 use rope_node::{NodeSpace, Rope, rope_len};
 use std::alloc::Global;
+
+/// One behind the last line break below a place, where it is among the bytes that are held.
+fn start_among(held: &HeldBytes, place: u64) -> Option<u64>
+    ensures inside { IfSome result (λ p. p ≤ place) }
+    ensures is { IfSome result (λ p. (t : List ℕ) → AreHeld held.now t → place ≤ length t → p ≡ line_start t place) }
+    ensures told { IsSome result ↔ HasBreak (held_up_to held.now place) }
+{
+    let near = held.up_to(place);
+    let width = width_behind(near);
+    if width < near.len() {
+        Some(place.saturating_sub(width as u64))
+    } else {
+        None
+    }
+}
 
 /// One behind the last line break below a place, or the text's start: among the held bytes, which reach from the window's first byte up to the place, or by
 /// a search from where no byte of the window's leaf can be one.
@@ -44,14 +58,13 @@ fn start_in_window<S: NodeSpace, T: Sources>(
         return Ok(place - width as u64);
     }
     let from = place.saturating_sub(PIECE as u64);
-    let pos = Pos::set(alloc, space, rope, from);
-    let back = clear_behind(alloc, &pos, space, rope, place - from);
+    let back = clear_behind(alloc, space, rope, from, place - from);
     let start = line_start(alloc, space, sources, rope, back)?;
     Ok(start)
 }
 
-/// One behind the last line break below a place, or the text's start. Where the window before the place lies in one leaf, it looks among the bytes that are
-/// held first, and reads that window at once where no break is among them. Else it reads what is not held of the window.
+/// One behind the last line break below a place, or the text's start. It asks for the blocks that a search would ask for, and looks among the bytes that are held; where no
+/// break is among them it holds more: the nearest, then the whole window.
 ///
 /// # Errors
 ///
@@ -80,12 +93,15 @@ pub fn near_start<S: NodeSpace, T: Sources>(
         return Ok(0);
     }
     let straight = held.is_straight(alloc, space, rope, place);
-    let near = held.up_to(place);
-    let width = width_behind(near);
-    if straight && width < near.len() {
-        return Ok(place - width as u64);
+    held.ask_before(space, sources, rope, place, straight)?;
+    if let Some(start) = start_among(held, place) {
+        return Ok(start);
     }
-    held.hold_before(space, sources, rope, place, straight)?;
+    held.hold_before(space, sources, rope, place, NEAR, straight)?;
+    if let Some(start) = start_among(held, place) {
+        return Ok(start);
+    }
+    held.hold_before(space, sources, rope, place, PIECE as u64, straight)?;
     let start = start_in_window(alloc, held, space, sources, rope, place)?;
     Ok(start)
 }

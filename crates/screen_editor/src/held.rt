@@ -8,6 +8,7 @@ ghost use Rattle.cord_search.specs.Stated.{OfText};
 ghost use Rattle.screen_editor.specs.HeldBytes.{held_up_to, held_starting_at, AreHeld};
 ghost use Rattle.screen_editor.specs.Lines.{line_end};
 
+use crate::asking::ask_part;
 use crate::lines::line_end_with;
 use crate::near::read_part;
 use cord_position::Pos;
@@ -20,6 +21,9 @@ use std::marker::Model;
 /// So many bytes are held at most: those that a search looks at at once, and the lines before them.
 const ROOM: usize = PIECE + 1_024;
 
+/// So many bytes before a place are held first where they lie in several leaves: mostly a line break is among them.
+pub const NEAR: u64 = 1_024;
+
 /// Bytes of a text from a place on.
 #[derive(Drop)]
 pub struct HeldBytes {
@@ -28,6 +32,8 @@ pub struct HeldBytes {
     start: usize,
     /// They were read leaf by leaf, by blocks that are kept where a leaf has no more of them.
     kept: bool,
+    /// The blocks from here on up to those of the bytes that are held were asked for.
+    asked: u64,
     bytes: [u8; ROOM],
     /// The leaf that was looked for last: from its first place up to its end.
     leaf_start: u64,
@@ -57,6 +63,7 @@ impl HeldBytes {
             from: 0,
             start: ROOM,
             kept: true,
+            asked: 0,
             bytes: [0; ROOM],
             leaf_start: 0,
             leaf_end: 0,
@@ -100,6 +107,7 @@ impl HeldBytes {
         self.from = place;
         self.start = ROOM;
         self.kept = true;
+        self.asked = place;
     }
 
     /// Reads the bytes from `from` on before those that are held, leaf by leaf, and holds them too.
@@ -165,8 +173,66 @@ impl HeldBytes {
         self.kept && self.reaches(end) && self.from.saturating_sub(from) <= self.start as u64
     }
 
-    /// Holds the `PIECE` bytes before a place, or all where there are fewer: where they lie in one leaf, which `straight` says, by one read, and these alone. Else
-    /// it reads them leaf by leaf, by blocks that are kept, and of those that are held already and came so none again.
+    /// Holds the nearest of the `PIECE` bytes before a place alone, and asks for the blocks of those before them, from the first on.
+    fn begin_near<S: NodeSpace, T: Sources>(
+        &mut self,
+        space: &S,
+        sources: &mut T,
+        rope: Rope,
+        end: u64,
+    ) -> Result<(), SourceFault>
+        requires rope { IsRope (S.table space.now) rope }
+        requires end { end ≤ rope_len (S.table space.now) rope }
+        ensures held { OnOk result (OfText (S.table space.now) (T.reading sources.old).stated rope (AreHeld self.new)) }
+        ensures reads { ReadsSpan (T.reading sources.old) (T.reading sources.new)
+            (rope_cell (S.table space.now) rope) (end - PIECE) end result }
+    {
+        prove!(end <= rope_len(space, rope));
+        let from = end.saturating_sub(PIECE as u64);
+        let near = end.saturating_sub(NEAR);
+        ask_part(space, sources, rope, from, near)?;
+        self.begin_at(end);
+        self.read_before(space, sources, rope, near)?;
+        self.asked = from;
+        Ok(())
+    }
+
+    /// Asks for the blocks of the `PIECE` bytes before a place, or of all where there are fewer, from the first on: not again for bytes that it asked for on the way to
+    /// those that are held, and for none where the bytes lie in one leaf, which `straight` says. Where none are held it holds the nearest.
+    ///
+    /// # Errors
+    ///
+    /// A source's fault, where a byte is one of that source and the read of it failed.
+    pub fn ask_before<S: NodeSpace, T: Sources>(
+        &mut self,
+        space: &S,
+        sources: &mut T,
+        rope: Rope,
+        end: u64,
+        straight: bool,
+    ) -> Result<(), SourceFault>
+        requires rope { IsRope (S.table space.now) rope }
+        requires end { end ≤ rope_len (S.table space.now) rope }
+        requires held { OfText (S.table space.now) (T.reading sources.old).stated rope (AreHeld self.old) }
+        ensures held { OnOk result (OfText (S.table space.now) (T.reading sources.old).stated rope (AreHeld self.new)) }
+        ensures reads { ReadsSpan (T.reading sources.old) (T.reading sources.new)
+            (rope_cell (S.table space.now) rope) (end - PIECE) end result }
+    {
+        prove!(end <= rope_len(space, rope));
+        if straight {
+            return Ok(());
+        }
+        if !self.kept || !self.reaches(end) {
+            return self.begin_near(space, sources, rope, end);
+        }
+        let from = end.saturating_sub(PIECE as u64);
+        ask_part(space, sources, rope, from, self.asked.min(end))?;
+        self.asked = self.asked.min(from);
+        Ok(())
+    }
+
+    /// Holds the `count` bytes before a place, at most `PIECE`, or all where there are fewer: where the `PIECE` bytes before it lie in one leaf, which `straight` says, by one
+    /// read of these. Else it reads leaf by leaf, by blocks that are kept. Of bytes that are held already and came so it reads none again.
     ///
     /// # Errors
     ///
@@ -177,22 +243,27 @@ impl HeldBytes {
         sources: &mut T,
         rope: Rope,
         end: u64,
+        count: u64,
         straight: bool,
     ) -> Result<(), SourceFault>
         requires rope { IsRope (S.table space.now) rope }
         requires end { end ≤ rope_len (S.table space.now) rope }
+        requires count { count ≤ PIECE }
         requires straight { IsTrue straight → PIECE ≤ end }
         requires held { OfText (S.table space.now) (T.reading sources.old).stated rope (AreHeld self.old) }
-        ensures span { OnOk result (self.new.from ≤ end - PIECE × end ≤ self.new.from + length self.new.bytes) }
+        ensures span { OnOk result (self.new.from ≤ end - count × end ≤ self.new.from + length self.new.bytes) }
         ensures held { OnOk result (OfText (S.table space.now) (T.reading sources.old).stated rope (AreHeld self.new)) }
         ensures reads { ReadsSpan (T.reading sources.old) (T.reading sources.new)
             (rope_cell (S.table space.now) rope) (end - PIECE) end result }
     {
         prove!(end <= rope_len(space, rope));
+        let from = end.saturating_sub(count);
+        if self.from <= from && self.reaches(end) {
+            return Ok(());
+        }
         if straight {
             return self.read_window(space, sources, rope, end);
         }
-        let from = end.saturating_sub(PIECE as u64);
         if !self.takes_before(from, end) {
             self.begin_at(end);
         }
@@ -249,7 +320,15 @@ impl HeldBytes {
         ensures window { IsTrue result → PIECE ≤ place }
     {
         let window = PIECE as u64;
-        place >= window && self.leaf_left(alloc, space, rope, place - window) >= window
+        if place < window {
+            return false;
+        }
+        let from = place - window;
+        // A leaf that ends in between was looked for last.
+        if from < self.leaf_end && self.leaf_end < place {
+            return false;
+        }
+        self.leaf_left(alloc, space, rope, from) >= window
     }
 
     /// Whether a search from `start` on for the line break at `end`, which is held, would read nothing else: where it is one read, or where the bytes that are held came
@@ -267,10 +346,12 @@ impl HeldBytes {
         requires end { end ≤ rope_len (S.table space.now) rope }
         ensures { self.new ≡ self.old }
     {
-        let _len = rope_len(space, rope);
+        let len = rope_len(space, rope);
         if self.kept {
-            let left = self.leaf_left(alloc, space, rope, end);
-            if self.reaches(end + left) {
+            // The leaf of the last byte that is held tells it of every break: each leaf before that one is held to its end.
+            let held_end = len.min(self.from.saturating_add((ROOM - self.start) as u64));
+            self.leaf_left(alloc, space, rope, held_end.saturating_sub(1));
+            if end < self.leaf_start || self.leaf_end <= held_end {
                 return true;
             }
         }

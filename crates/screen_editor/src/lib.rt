@@ -1,6 +1,7 @@
 //! The screen editor: keys in, frames of a terminal out, over a session that keeps every text.
 #![tactic(auto)]
 
+mod asking;
 mod before;
 mod behind;
 mod cut_span;

@@ -34,11 +34,11 @@ returns-clause-is g c source agrees stated =
     let plain = λ (b : ℕ). not (is_break b) in
     let back = c.clear_behind-back.result in
     let inside : place ≤ length u = omega (arith, text_length t c.args.rope source, c.rope_len.ensures.cells, c.rope_len.ensures.exact, c.requires.place) in
-    let at : c.set-pos.result.index ≡ place - PIECE = omega (arith, c.set-pos.ensures.index, c.saturating_sub-from.ensures, c.requires.place) in
+    let from : c.saturating_sub-from.result ≡ place - PIECE = c.saturating_sub-from.ensures in
     let same = c.up_to-near.ensures in
     let all : suffix_len plain (held_up_to held place) ≡ length (held_up_to held place) =
     omega (arith, ap (suffix_len plain) same, ap length same, c.width_behind-width.ensures.is, c.width_behind-width.ensures.most, c.if-width-near.false) in
     let none = none_before u held place (place - PIECE) (c.requires.held source agrees stated) c.requires.span.0 c.requires.span.1 all in
-    let clear = c.clear_behind-back.ensures.clear source (0x0A ∷ []) refl (λ k above below. none k (omega (arith, above, at)) (omega (arith, below, at, c.saturating_sub-from.ensures))) in
+    let clear = c.clear_behind-back.ensures.clear source (0x0A ∷ []) refl (λ k above below. none k (omega (arith, above, from)) (omega (arith, below, from))) in
     c.in_ok-start.ensures.is source agrees stated
-    ∙ same_start u back place (omega (arith, c.clear_behind-back.ensures.before, at)) inside (λ k above below. clear k above (omega (arith, below, at, c.saturating_sub-from.ensures)))
+    ∙ same_start u back place (omega (arith, c.clear_behind-back.ensures.before, from)) inside (λ k above below. clear k above (omega (arith, below, from)))
