@@ -8,7 +8,8 @@ _cordkit_kinds() {
         cut) echo number number file ;;
         join) echo files ;;
         find) echo number text file ;;
-        cmp | edit | cordedit) echo file file ;;
+        cmp | edit) echo file file ;;
+        cordedit) [[ -n $continued ]] && echo file file file || echo file file ;;
         help) echo command ;;
     esac
 }
@@ -19,16 +20,16 @@ _cordkit_options() {
         check | show | migrate) echo --at-most --explain --help ;;
         log) echo --at-most --brief --explain --help ;;
         find) echo --all --explain --help ;;
-        edit) echo --keep --explain --help ;;
-        cordedit) echo -f --copy --text --continue --discard ;;
+        edit) echo --keep --session --no-clobber --discard --explain --help ;;
+        cordedit) echo -f --copy --text --continue --discard --help ;;
         help) ;;
         '') echo --explain --help --version ;;
         *) echo --explain --help ;;
     esac
 }
 
-# Reads the words before the present one: how many of the command's own there are, as `place`, whether options have ended, and whether the
-# present word is an option's number or a file that output goes to.
+# Reads the words before the present one: how many of the command's own there are, as `place`, whether options have ended, whether an old image is
+# gone on from, and whether the present word is an option's number or file, or a file that output goes to.
 _cordkit_read() {
     local k word
     for ((k = 1; k < COMP_CWORD; k++)); do
@@ -39,9 +40,11 @@ _cordkit_read() {
             ((++place))
         elif [[ $word == -- ]]; then
             ended=yes
-        elif [[ $word == --at-most || $word == --text || $word == --keep ]]; then
+        elif [[ $word == --at-most || $word == --text || $word == --keep || $word == --session ]]; then
             [[ ${COMP_WORDS[k + 1]} == = ]] && ((++k))
-            ((++k >= COMP_CWORD)) && valued=yes
+            ((++k >= COMP_CWORD)) && valued=$command$word
+        elif [[ $word == --continue ]]; then
+            continued=yes
         elif [[ $word != -* && -z $command ]]; then
             command=$word
         elif [[ $word != -* ]]; then
@@ -52,11 +55,11 @@ _cordkit_read() {
 
 _cordkit() {
     local commands='check show cut join find cmp edit migrate log apply help'
-    local IFS=$' \t\n' command='' place=0 ended='' valued='' redirected='' kind kinds
+    local IFS=$' \t\n' command='' place=0 ended='' valued='' continued='' redirected='' kind kinds
     COMPREPLY=()
     [[ ${1##*/} == cordkit ]] || command=${1##*/}
     _cordkit_read
-    if [[ -n $redirected ]]; then
+    if [[ -n $redirected || $valued == edit--* || $valued == cordedit--text ]]; then
         compopt -o default
         return
     fi

@@ -22,4 +22,7 @@ complete -c cordkit -n '__fish_seen_subcommand_from check show migrate log' -l a
 complete -c cordkit -n '__fish_seen_subcommand_from log' -l brief -d 'Write at most 60 bytes of each text'
 complete -c cordkit -n '__fish_seen_subcommand_from find' -l all -d 'Print each place'
 complete -c cordkit -n '__fish_seen_subcommand_from edit' -l keep -r -d 'Keep the keys here until they are saved'
+complete -c cordkit -n '__fish_seen_subcommand_from edit' -l session -r -d 'Go on with the session of this file'
+complete -c cordkit -n '__fish_seen_subcommand_from edit' -l no-clobber -d 'Refuse an image that is there'
+complete -c cordkit -n '__fish_seen_subcommand_from edit' -l discard -d 'Take away a file of keys'
 complete -c cordkit -n '__fish_seen_subcommand_from help' -f -a "$commands"

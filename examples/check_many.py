@@ -22,7 +22,9 @@ import sys
 import time
 from typing import Iterable, Iterator, List, Optional, Tuple
 
-CALLERS = os.path.join(os.path.dirname(os.path.dirname(os.path.abspath(__file__))), "crates/cord_c/callers")
+# Where the module is in a checkout, and below the prefix of an installation.
+HERE = os.path.dirname(os.path.realpath(__file__))
+MODULES = [os.path.join(HERE, folder) for folder in ("../crates/cord_c/callers", "../../../../lib/cordkit/python")]
 
 # So many images are handed out at once.
 BATCH = 64
@@ -46,8 +48,7 @@ def sources_of(path: str, image: bytes) -> List["bytes | int"]:
 
 def line_of(path: str, at_most: Optional[int]) -> str:
     """What `cordkit check` prints for an image, or `read` where it cannot be read."""
-    if CALLERS not in sys.path:
-        sys.path.append(CALLERS)
+    sys.path.extend(folder for folder in MODULES if folder not in sys.path)
     import cordkit
 
     try:

@@ -51,14 +51,16 @@ files="755 lib/cordkit/cordkit $program
 644 share/zsh/site-functions/_cordkit completions/_cordkit
 644 share/fish/vendor_completions.d/cordkit.fish completions/cordkit.fish
 644 share/fish/vendor_completions.d/cordkit-verify.fish completions/cordkit-verify.fish
-644 share/cordkit/magic packaging/magic"
+644 share/cordkit/magic packaging/magic
+755 share/doc/cordkit/examples/from_git examples/from_git"
 
 # Those of the C library, and those of the Python module, which loads it.
 c_files="644 lib/libcord_c.a $library
 644 include/cord.h crates/cord_c/cord.h
 644 lib/pkgconfig/cordkit.pc packaging/cordkit.pc"
 python_files="644 lib/cordkit/python/cordkit/__init__.py crates/cord_c/callers/cordkit.py
-644 lib/cordkit/python/cordkit/libcord_c.so $shared"
+644 lib/cordkit/python/cordkit/libcord_c.so $shared
+755 share/doc/cordkit/examples/check_many.py examples/check_many.py"
 
 # Adds the files that need a library, or tells that it is not there.
 add() {
