@@ -1,7 +1,7 @@
 """Makes a script of a file's history by examples/from_git, has the built program, or the one that is named, apply it, and compares each revision with
 what `git show` writes of its commit; and the image with the second checker. It does so over a small repository that it makes in a temporary
-folder, and over the history of this repository's own README.md where that is there: a tarball has none, nor has a shallow clone, which is
-told. Where there is no git nothing is tried. The last line is 'N passed, M failed'; the status is not 0 where one failed.
+folder, one in which the file is renamed, and over the history of this repository's own README.md where that is there: a tarball has none, nor has a
+shallow clone, which is told. Where there is no git nothing is tried. The last line is 'N passed, M failed'; the status is not 0 where one failed.
 
 git_history.py [PROGRAM]"""
 
@@ -106,6 +106,34 @@ def small_repository(folder):
     return made.file
 
 
+def renamed_repository(folder):
+    """A file that is renamed there and back, with other files under its names meanwhile; its subjects and texts, by hand."""
+    made = Repository(folder, "a")
+    lines = [b"line %d\n" % k for k in range(20)]
+    texts = [b"".join(lines[k:]) for k in range(6)]
+    made.commit(texts[0], "made")
+    made.commit(texts[1], "changed")
+    os.makedirs(os.path.join(folder, "b \u00fc"))
+    made.git("mv", "a", "b \u00fc/c")
+    made.path, made.file = "b \u00fc/c", os.path.join(folder, "b \u00fc/c")
+    made.commit(texts[2], "renamed")
+    with open(os.path.join(folder, "a"), "wb") as file:
+        file.write(b"another file")
+    made.commit(texts[2], "not of it")
+    made.commit(texts[3], "changed below")
+    made.git("rm", "-q", "a")
+    made.commit(texts[3], "nor this")
+    made.git("mv", "b \u00fc/c", "a")
+    made.path, made.file = "a", os.path.join(folder, "a")
+    made.commit(texts[3], "renamed back")
+    os.makedirs(os.path.join(folder, "b \u00fc"), exist_ok=True)
+    with open(os.path.join(folder, "b \u00fc/c"), "wb") as file:
+        file.write(b"another one")
+    made.commit(texts[4], "changed again")
+    subjects = [b"made", b"changed", b"renamed", b"changed below", b"renamed back", b"changed again"]
+    return made.file, list(zip(subjects, [texts[0], texts[1], texts[2], texts[3], texts[3], texts[4]]))
+
+
 # ---- A history
 
 
@@ -155,12 +183,35 @@ def try_history(program, file, script):
     return len(whole)
 
 
+def try_renames(program, folder):
+    """Applies a script of the history of a file that was renamed. How many commits it has."""
+    file, wanted = renamed_repository(folder)
+    script, reason = script_of(file)
+    require(script is not None, reason)
+    told = told_commits(script)[1:]
+    require([subject for _, subject, _ in told] == [subject for subject, _ in wanted], f"the commits of a renamed file are {told}")
+    image = os.path.join(folder, "image")
+    with open(image, "wb") as output:
+        subprocess.run([program, "apply", "/dev/stdin"], input=script, stdout=output, check=False)
+    for k, (subject, text) in enumerate(wanted, 1):
+        shown = subprocess.run([program, "show", image, str(k)], capture_output=True, check=False).stdout
+        require(shown == text, f"of a renamed file {subject} is {shown!r}")
+    return len(wanted)
+
+
 def main():
     program = os.path.abspath(sys.argv[1] if len(sys.argv) > 1 else PROGRAM)
     if not shutil.which("git"):
         print("LEFT OUT: the history of a file: there is no git here\n0 passed, 0 failed")
         return 0
     passed = failed = 0
+    with tempfile.TemporaryDirectory() as folder:
+        try:
+            print(f"a file that was renamed: {try_renames(program, folder)} commits")
+            passed += 1
+        except Wrong as wrong:
+            print(f"FAILED: a file that was renamed: {wrong}")
+            failed += 1
     with tempfile.TemporaryDirectory() as folder:
         for name, file in [("a small repository", small_repository(folder)), ("README.md", os.path.join(TOP, "README.md"))]:
             script, reason = script_of(file)

@@ -1,6 +1,7 @@
 #!/bin/sh
 # Installs the built program, or the one that $1 names, with what belongs to it into folders of its own, and tries what lies there: the launcher,
-# on the rows of tests/program.sh that are for it, or on all of them where $2 is `all`; the C library, or that of $3, and the Python module, by the
+# on the rows of tests/program.sh that are for it, or on all of them where $2 is `all`; the editor, by the cases of tests/kept_keys.sh that need no
+# terminal, or by all of them and tests/terminal.sh; the C library, or that of $3, and the Python module, by the
 # programs of docs/C_LIBRARY.md; every example of the manual pages; the manual pages, the completions and the magic, each by its own tool; and that
 # uninstall leaves nothing. What cannot be tried here is told. The last line is 'N passed, M failed'; the status is not 0 where a case failed.
 set -u
@@ -95,6 +96,7 @@ wanted_files() {
 644 share/man/man1/cordkit.1
 644 share/man/man5/cord-image.5
 644 share/zsh/site-functions/_cordkit
+755 share/doc/cordkit/examples/from_git
 755 bin/cordedit
 755 bin/cordkit
 755 bin/cordkit-verify
@@ -106,7 +108,8 @@ wanted_files() {
     fi
     if [ -f "${library%.a}.so" ]; then
         echo '644 lib/cordkit/python/cordkit/__init__.py
-644 lib/cordkit/python/cordkit/libcord_c.so'
+644 lib/cordkit/python/cordkit/libcord_c.so
+755 share/doc/cordkit/examples/check_many.py'
     fi
 }
 
@@ -125,7 +128,7 @@ try_installing() {
     make_it install PREFIX="$room/bare" PROGRAM="$program" LIBRARY="$room/missing.a"
     is_same 'without a C library it is told how to build one, and all else is installed' \
         "$(grep -c 'LEFT OUT: .*: make library builds it' "$room/made") $(cd "$room/bare" && find . -type f | sort)" \
-        "2 $(cd "$prefix" && find . -type f | grep -v -e /cord.h -e /libcord_c -e /pkgconfig/ -e /python/ | sort)"
+        "2 $(cd "$prefix" && find . -type f | grep -v -e /cord.h -e /libcord_c -e /pkgconfig/ -e /python/ -e /check_many.py | sort)"
     make_it uninstall PREFIX="$room/bare"
     is_same 'nothing of that is left' "$(below "$room/bare")" ''
 }
@@ -162,6 +165,8 @@ try_programs() {
     is_same 'cordedit by a link runs the program beside it' "$("$prefix/bin/cordkit" show image 2)" ab
     if has python3 'the second checker'; then
         is_same 'the second checker' "$("$prefix/bin/cordkit-verify" "$top/crates/cordkit/stdin")" "$(cat "$top/crates/cordkit/stdout")"
+        is_same 'the second checker without words' "$("$prefix/bin/cordkit-verify" 2>&1 | tail -n 1)" \
+            'cordkit-verify: error: the following arguments are required: IMAGE'
     fi
 }
 
@@ -202,6 +207,50 @@ try_library() {
     "$prefix/bin/cordkit" apply script > fox.cord
     if [ -f "$library" ]; then try_c_library; fi
     if [ -f "${library%.a}.so" ]; then try_python_module; fi
+}
+
+# Two sessions over one image, and keys that are kept, by the installed programs: without a terminal, and in one where all is tried.
+try_keys() {
+    if written=$(CORDKIT="$prefix/lib/cordkit/cordkit" CORDEDIT="$prefix/bin/cordedit" sh "$top/tests/kept_keys.sh" "$@"); then
+        echo "the keys of the installed editor: $(echo "$written" | tail -n 1)"
+        passes
+    else
+        echo "$written"
+        fails 'the keys of the installed editor'
+    fi
+}
+
+# The screens of the editor, by the installed programs.
+try_screens() {
+    has tmux 'the installed editor in a terminal' || return
+    if written=$(CORDEDIT="$prefix/bin/cordedit" sh "$top/tests/terminal.sh" "$prefix/lib/cordkit/cordkit"); then
+        echo "the screens of the installed editor: $(echo "$written" | tail -n 1)"
+        passes
+    else
+        echo "$written"
+        fails 'the screens of the installed editor'
+    fi
+}
+
+# The history of a file that was renamed, by the installed example.
+try_history() {
+    has git 'the installed from_git' && has python3 'the installed from_git' || return
+    mkdir "$room/history"
+    cd "$room/history" || exit 1
+    {
+        git init -q .
+        git config user.name x
+        git config user.email x@localhost
+        printf 'one\ntwo\n' > before
+        git add before
+        git commit -q -m made
+        git mv before file
+        git commit -q -m renamed
+        "$prefix/share/doc/cordkit/examples/from_git" file > script
+        "$prefix/bin/cordkit" apply script > image
+    } > log 2>&1
+    is_same 'the installed from_git' "$("$prefix/bin/cordkit" log image | cut -d ' ' -f 1-5 && "$prefix/bin/cordkit" show image 2)" \
+        "$(printf 'new # 0: 0 bytes,\nreplace 0 0 0 "one\\ntwo\\n"\nback 1 # 2: 8\none\ntwo')"
 }
 
 # The commands that the program's help names.
@@ -317,12 +366,16 @@ cordkit f*1* te* te*;|find|1|te|text
 cordkit find --al*1* te* te*;|find|--all|1|te|text
 cordkit cm*te*a*te*;|cmp|text|a file|te
 cordkit ed*ses*te*;|edit|session.cord|text
+cordkit edit --k*te* ses*te*;|edit|--keep|text|session.cord|text
+cordkit edit --keep=te* ses*te*;|edit|--keep=text|session.cord|text
 cordkit help mi*mi*;|help|migrate|mi
 cordkit --h*;|--help
 cordkit --v*;|--version
 cordkit --ex*cm*te*te*;|--explain|cmp|text|text
 cordkit te*;|te
 cordedit ses*te*te*;|session.cord|text|te
+cordedit --te*te* ses*te*te*;|--text|text|session.cord|text|te
+cordedit --con*ses*te*a*te*;|--continue|session.cord|text|a file|te
 cordkit-verify --text 1* ses*te*;|--text|1|session.cord|text
 cordkit-verify --g*ses*;|--graph|session.cord
 TABLE
@@ -388,6 +441,13 @@ try_magic() {
 try_installing
 try_shared_prefix
 try_programs
+if [ "$cases" = all ]; then
+    try_keys
+    try_screens
+else
+    try_keys pipes
+fi
+try_history
 try_library
 try_pages
 make_completions

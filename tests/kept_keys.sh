@@ -1,33 +1,36 @@
 #!/bin/sh
-# kept_keys.sh [CASE...]: types keys into bin/cordedit in a terminal that tmux keeps, with the built program or $CORDKIT, ends it in each way
-# that its users and their systems may end it, and goes on. The last line is 'N passed, M failed'; the status is not 0 where a case failed.
-# Where there is no tmux it says so, and nothing is tried. KILLS=N: so many rounds of random keys and kills.
+# kept_keys.sh [CASE...]: types keys into the built program or $CORDKIT, by pipes and by bin/cordedit or $CORDEDIT in a terminal that tmux keeps, ends it in
+# each way that its users and their systems may end it, with a second session beside it, and goes on. The last line is 'N passed, M failed'; the
+# status is not 0 where a case failed. Where there is no tmux that is told, and the cases that need no terminal are tried: those named
+# pipes, which the gate runs. KILLS=N: so many rounds of random keys and kills.
 set -u
 here=$(cd "$(dirname "$0")/.." && pwd)
-: "${CORDKIT:=$here/crates/cordkit/out/cordkit}"
+: "${CORDKIT:=$here/crates/cordkit/out/cordkit}" "${CORDEDIT:=$here/bin/cordedit}"
 export CORDKIT
-if ! command -v tmux > /dev/null; then
-    echo "there is no tmux here: nothing was tried"
-    echo "0 passed, 0 failed"
-    exit 0
-fi
 if ! [ -x "$CORDKIT" ]; then
     echo "there is no program $CORDKIT" >&2
     echo "0 passed, 1 failed"
     exit 1
 fi
+pipes='over_another discarding gone_on two_files_of_keys left_behind no_room words_of_the_script'
+if ! command -v tmux > /dev/null; then
+    echo "there is no tmux here: nothing was tried in a terminal"
+    # shellcheck disable=SC2086 # words
+    [ $# -gt 0 ] || set -- $pipes
+fi
 room=$(mktemp -d) || exit 1
 session=0
 in_tmux() { LC_ALL=C.UTF-8 tmux -f "$room/tmux.conf" -S "$room/socket$session" "$@"; }
-trap 'in_tmux kill-server 2> /dev/null; cd /; rm -rf "$room"' EXIT
+trap 'in_tmux kill-server 2> /dev/null; kill "$a" "$b" 2> /dev/null; cd /; rm -rf "$room"' EXIT
 trap 'exit 1' HUP INT TERM
 cd "$room" || exit 1
 printf 'set -g status off\nset -g escape-time 0\nset -g default-terminal screen\n' > tmux.conf
-passed=0 failed=0
+passed=0 failed=0 a='' b=''
 is() { if [ "$2" = "$3" ]; then passed=$((passed + 1)); else failed=$((failed + 1)); echo "FAILED: $1: '$2' for '$3'"; fi; }
 await() { n=0; until "$@" 2> /dev/null; do n=$((n + 1)); [ "$n" -lt 500 ] || { echo "no: $*"; return 1; }; sleep 0.02; done; }
 
 cat > session.sh << 'SESSION'
+trap : INT
 before=$(stty -g)
 sh -c 'echo $$ > wrapper; exec "$@"' sh sh "$CORDEDIT" "$@" 2> said
 got=$?
@@ -45,13 +48,14 @@ start() {
     session=$((session + 1))
     rm -f wrapper status answer
     # shellcheck disable=SC2086 # words
-    in_tmux new-session -d $size -e "CORDKIT=$CORDKIT" -e "CORDEDIT=$here/bin/cordedit" sh session.sh "$@"
+    in_tmux new-session -d $size -e "CORDKIT=$CORDKIT" -e "CORDEDIT=$CORDEDIT" sh session.sh "$@"
 }
+start_beside() { in_tmux new-window -d sh -c '"$0" "$@" 2> said_beside' "$CORDEDIT" "$@"; }
 paste() { in_tmux load-buffer -b k "$1" && in_tmux paste-buffer -r -d -b k; }
 keys() { in_tmux send-keys "$@"; }
 type_text() { in_tmux send-keys -l "$1"; }
 shows() { in_tmux capture-pane -p | grep -qF "$1"; }
-program_id() { pgrep -f "edit --keep=image.keys -- [i]mage" | while read -r id; do [ "$(readlink "/proc/$id/cwd")" != "$room" ] || echo "$id"; done; }
+program_id() { pgrep -f "edit --explain --keep=image[.]keys" | while read -r id; do [ "$(readlink "/proc/$id/cwd")" != "$room" ] || echo "$id"; done; }
 is_stopped() { ps -o stat= -p "$(cat wrapper)" | grep -q T; }
 none_left() { [ -z "$(program_id)" ]; }
 ended() { await test -s status; }
@@ -66,26 +70,29 @@ basic() {
     clean; ready image; type_text abc; await shows 'rev 3'; is 'kept' "$(body)" abc
     keys C-x; ended; is 'saved' "$(cat status) $(text) $(echo image*)" '0 restored abc image'
     type_text next; keys Enter; await test -s answer; is 'no key is eaten after Save' "$(cat answer)" next
-    wanted='2 cordedit: image is there already: -f replaces it'; refused 'there already' image
+    wanted='1 refused J3
+J3: image is there already: cordedit -f replaces it, and cordedit --continue image NEW begins with its last text'; refused 'there already' image
     ready -f image; type_text new; keys C-x; ended; is 'replaced' "$(text) $(echo image*)" 'new image'
     clean; ready image; type_text abc; await shows 'rev 3'; keys C-c; ended; is 'left' "$(cat status) $(body) $(echo image*)" '0 restored abc image.keys'; sed 's/^/    /' said
     start image; await shows 'rev 3 byte 3 of 3'; type_text d; await shows 'rev 4'; is 'goes on' "$(body)" abcd; keys C-x; ended; is 'saved' "$(text) $(echo image*)" 'abcd image'
     clean; ready image; keys C-c; ended; is 'no key, no journal' "$(echo image*)" 'image*'
+    printf 'one\ntwo\n' > file; ready image file; keys Down Left End Home Right; await shows 'byte 1 of 8'; keys C-c; ended; is 'only looked' "$(cat status said) $(echo image*)" '0 restored image*'; rm -f file
     ready image; type_text abc; await shows 'rev 3'; keys C-c; ended; start --discard image; ended; is 'discarded' "$(cat status) $(echo image*)" '0 restored image*'
-    clean; printf 'prose' > image; wanted='1 cordedit: image is no image, and stays as it is: move it away or remove it, and give the same command again
-refused C1(I3)'; refused 'prose' -f image; is 'as it was' "$(cat image) $(echo image*)" 'prose image'
-    wanted='1 cordedit: image.new is no image, and stays as it is: move it away or remove it, and give the same command again
-refused C1(I3)'; rm -f image; printf 'torn' > image.new; refused 'no image beside it' image; is 'as it was' "$(cat image.new) $(echo image*)" 'torn image.new'
+    clean; printf 'prose' > image; wanted='1 refused C1(I3)
+C1(I3): image is no image, and stays as it is: move it away or remove it, and give the same command again'; refused 'prose' -f image; is 'as it was' "$(cat image) $(echo image*)" 'prose image'
+    wanted='1 refused C1(I3)
+C1(I3): image.new is no image, and stays as it is: move it away or remove it, and give the same command again'; rm -f image; printf 'torn' > image.new; refused 'no image beside it' image; is 'as it was' "$(cat image.new) $(echo image*)" 'torn image.new'
     : > image.new; ready image; type_text a; await shows 'rev 1'; keys C-x; ended; is 'an empty one is replaced' "$(text) $(echo image*)" 'a image'; printf 'prose' > image
     "$CORDKIT" edit image < /dev/null > out 2> err; is 'prose, without the option' "$? $(cat err) $(wc -c < out) $(cat image)" '1 refused C1(I3) 0 prose'
     rm -f image; echo mine > image.keys; wanted='1 refused J1
-cordedit: the keys in image.keys are of another text than none'; refused 'no journal' image; is 'as it was' "$(cat image.keys)" mine; clean
+J1: image.keys has the keys of another file, or something else'; refused 'no journal' image; is 'as it was' "$(cat image.keys)" mine; clean
     printf 'one\ntwo\n' > file; ready image file; type_text x; await shows 'rev 1'; keys C-c; ended; echo three >> file; wanted='1 refused J1
-cordedit: the keys in image.keys are of another text than file
+J1: image.keys has the keys of another file, or something else
 cordedit: not saved; the keys are kept: the same command goes on from there, and cordedit --discard '"'image'"' drops them'; refused 'another text' image file
     printf 'one\ntwo\n' > file; start image file; await shows 'rev 1'; keys C-x; ended; printf 'xone\ntwo\n' > want; "$CORDKIT" show image 1 file | cmp - want && is 'the same text again' '' ''
     clean; ready image; type_text a; await shows 'rev 1'; mkdir -p other; "$CORDKIT" edit --keep=image.keys image < /dev/null > /dev/null 2> err; is 'in use' "$? $(cat err)" '1 refused J2'; keys C-x; ended; is 'not disturbed' "$(text)" a
-    clean; mkdir image; wanted='3 write'; refused 'a folder' -f image; clean
+    clean; mkdir image; wanted='3 write
+write: the image image, the file of keys or standard output could not be written'; refused 'a folder' -f image; clean
     head -c 30 /dev/zero > zero; "$CORDKIT" edit --keep=image.keys image < /dev/null > /dev/null; is 'nothing typed' "$(echo image*)" 'image*'
     printf 'abc\003' | "$CORDKIT" edit --keep=image.keys image > /dev/null; for n in 0 1 17 55; do head -c $n image.keys > torn.keys; printf 'Q\030' | "$CORDKIT" edit --keep=torn.keys image > /dev/null; is "torn at $n" "$? $(text) $(echo torn*)" '0 Q torn*'; rm -f image; done
     clean
@@ -120,7 +127,8 @@ folders() {
     [ "$(id -u)" != 0 ] || { echo '    as root each folder can be written'; return; }
     mkdir -p closed; printf 'abc\030' | "$CORDKIT" edit closed/image > /dev/null; chmod 555 closed
     printf 'abcd\030' | "$CORDKIT" edit closed/image > /dev/null; is 'a closed folder' "$? $("$CORDKIT" show closed/image 4)" '0 abcd'
-    wanted='2 cordedit: closed/image.keys.said cannot be made'; refused 'a closed folder' -f closed/image; chmod 755 closed; rm -rf closed
+    wanted='3 write
+write: the image closed/image, the file of keys or standard output could not be written'; refused 'a closed folder' -f closed/image; chmod 755 closed; rm -rf closed
 }
 
 signals() {
@@ -130,26 +138,35 @@ signals() {
     done
     clean; ready image; type_text abc; await shows 'rev 3'; kill -s TSTP "$(cat wrapper)"; await is_stopped; is 'stopped: no program' "$(program_id)" ''
     kill -s CONT "$(cat wrapper)"; await shows 'rev 3'; type_text d; await shows 'rev 4'; keys C-x; ended; is 'stopped, and gone on' "$(cat status) $(text)" '0 restored abcd'
-    clean; ready image; type_text abc; await shows 'rev 3'; in_tmux kill-pane; await none_left; await test ! -e image.keys.said; is 'the pane is closed' "$(body) $(echo image*)" 'abc image.keys'
-    clean; ready image; type_text abc; await shows 'rev 3'; in_tmux kill-server; await none_left; await test ! -e image.keys.said; is 'tmux is ended' "$(body) $(echo image*)" 'abc image.keys'
+    clean; ready image; type_text abc; await shows 'rev 3'; in_tmux kill-pane; await none_left; is 'the pane is closed' "$(body) $(echo image*)" 'abc image.keys'
+    clean; ready image; type_text abc; await shows 'rev 3'; in_tmux kill-server; await none_left; is 'tmux is ended' "$(body) $(echo image*)" 'abc image.keys'
     clean; ready image; type_text abc; await shows 'rev 3'; kill -9 "$(program_id)"; ended; is 'the program is killed' "$(cat status) $(body)" '137 restored abc'; sed 's/^/    /' said
-    clean; ready image; type_text abc; await shows 'rev 3'; kill -9 "$(cat wrapper)"; ended; is 'the wrapper is killed: mode' "$(cat status)" '137 changed'; in_tmux kill-server; await none_left; is 'the wrapper is killed: keys' "$(body)" abc; clean
+    clean; ready image; type_text abc; await shows 'rev 3'; kill -9 "$(cat wrapper)"; ended; await none_left; is 'the wrapper is killed' "$(cat status) $(body)" '137 restored abc'
+    type_text next; keys Enter; await test -s answer; is 'no key is eaten then' "$(cat answer) $(body)" 'next abc'; in_tmux kill-server; clean
+    ready image; type_text abc; await shows 'rev 3'; in_tmux resize-window -x 79 -y 24; await shows 'the window has fewer'; in_tmux resize-window -x 90 -y 30; await shows 'rev 3 byte 3 of 3'
+    type_text d; await shows 'rev 4'; in_tmux resize-window -x 80 -y 20; await shows 'the window has fewer'; keys C-c; ended; is 'left in a small window' "$(cat status) $(body)" '130 restored abcd'; clean
+    write_other theirs; ready image; type_text abc; await shows 'rev 3'; kill -s TSTP "$(cat wrapper)"; await is_stopped
+    printf 'd\030' | "$CORDKIT" edit --keep=image.keys image > /dev/null; kill -s CONT "$(cat wrapper)"; ended
+    is 'stopped, and another one saves' "$(cat status) $(head -n 1 said) $(text) $(files)" '1 restored refused J5 abcd image'; clean
+    ready image; kill -s TSTP "$(cat wrapper)"; await is_stopped; kill -s CONT "$(cat wrapper)"; await shows 'rev 0'; type_text a; await shows 'rev 1'
+    cat other.cord > image; keys C-x; ended; is 'another image meanwhile' "$(cat status) $(head -n 1 said) $(grep -c 'with -f the same command' said) $(image_of image) $(image_of image.saved-1) $(body)" '1 restored refused J4 1 theirs a a'; clean
+    ready --text out image; type_text abc; await shows 'rev 3'; start_beside image; await grep -q J2 said_beside; keys C-x; ended
+    is 'a second session takes nothing away' "$(cat status) $(cat out) $(files) $(grep -c discard said_beside)" '0 restored abc image 0'; rm -f out said_beside; clean
+    ready --text missing/out image; type_text abc; await shows 'rev 3'; keys C-x; ended; is 'what was asked for is not written' "$(cat status) $(tail -n 1 said) $(text)" '3 restored cordedit: missing/out could not be written abc'; clean
     wanted='2 cordedit: the terminal has fewer than 80 columns or 24 rows'
     size='-x 79 -y 24'; refused narrow image; size='-x 80 -y 23'; refused low image; size='-x 80 -y 24'; clean
 }
 
-# An interactive shell as the parent: where the wrapper was killed, it takes the terminal back, and the program ends at its next read.
+# An interactive shell as the parent: where the wrapper was killed, it takes the terminal back, and the program ends, and takes no key of it.
 parents() {
     for shell in 'bash --norc -i' 'dash -i'; do
         command -v "${shell%% *}" > /dev/null || continue
         clean; in_tmux kill-server 2> /dev/null; session=$((session + 1))
         # shellcheck disable=SC2086 # words
         in_tmux new-session -d $size -e "CORDKIT=$CORDKIT" "$shell"; sleep 1
-        type_text "'$here/bin/cordedit' image"; keys Enter; await shows 'rev 0 byte'; type_text abc; await shows 'rev 3'
-        kill -9 "$(ps -o ppid= -p "$(program_id)")"; await shows Killed; sleep 0.3
-        type_text 'x'; sleep 0.2; type_text 'echo a\b | tr x y'; keys Enter; await none_left; sleep 0.3
-        echo "    $shell, the wrapper is killed: the keys are $(body), and the shell shows:"; in_tmux capture-pane -p | grep . | tail -n 4 | sed 's/^/        /'
-        is "$shell: the keys before are kept" "$(body | head -c 3)" abc
+        type_text "'$CORDEDIT' image"; keys Enter; await shows 'rev 0 byte'; type_text abc; await shows 'rev 3'
+        kill -9 "$(ps -o ppid= -p "$(program_id)" | tr -d ' ')"; await none_left; sleep 0.3
+        type_text 'echo ab | tr a-c x-z'; keys C-j; await shows xy; is "$shell takes its keys" "$(body)" abc
     done
     in_tmux kill-server; clean
 }
@@ -212,6 +229,189 @@ speed() {
     head -c 100000000 /dev/zero > big; for option in '' --keep=image.keys; do clean; from=$(date +%s%N); "$CORDKIT" edit $option image big < /dev/null > /dev/null; echo "    a file of 100 MB opened, ${option:-without}: $((($(date +%s%N) - from) / 1000000)) ms"; done; rm -f big; clean
 }
 
-for test in ${*:-basic sequences pastes options folders signals parents kills devices speed}; do echo "$test"; "$test"; done
+# Two sessions, A and B, whose keys come by pipes: begin A WORDS.., type A KEYS, close A.
+begin() {
+    who=$1 && shift
+    rm -f "$who.in" && mkfifo "$who.in"
+    "$CORDKIT" edit --explain "$@" < "$who.in" > "$who.out" 2> "$who.said" 8>&- 9>&- &
+    if [ "$who" = A ]; then a=$! && exec 8> A.in; else b=$! && exec 9> B.in; fi
+}
+type_keys() { if [ "$1" = A ]; then printf "$2" >&8; else printf "$2" >&9; fi; }
+close() {
+    if [ "$1" = A ]; then exec 8>&- && wait "$a" 2> /dev/null; else exec 9>&- && wait "$b" 2> /dev/null; fi
+    got=$?
+}
+has_keys() { [ "$(tail -c +57 "$1")" = "$2" ]; }
+files() { echo image* | sed 's/^image\*$//'; }
+image_of() { "$CORDKIT" show "$1" "$(($("$CORDKIT" check "$1" | cut -d ' ' -f 2) - 1))"; }
+write_other() { printf 'new\ninsert 0 0 "%s"\n' "$1" > script && "$CORDKIT" apply script > other.cord; }
+refusal() { echo "$got $(head -n 1 "$1.said")"; }
+
+# What was there when the session began, what becomes of it meanwhile, and what is in the end there. The keys of what is not in its place stay.
+over_another() {
+    write_other theirs
+    for begun in nothing empty image; do
+        for meanwhile in written replaced removed touched; do
+            clean
+            case $begun in
+            empty) : > image ;;
+            image) printf 'old\030' | "$CORDKIT" edit image > /dev/null ;;
+            esac
+            begin A --keep=image.keys image; type_keys A abc; await has_keys image.keys abc
+            case $begun.$meanwhile in
+            *.written) cat other.cord > image ;;
+            *.replaced) cp other.cord moved && mv moved image ;;
+            nothing.*) ln -s nowhere image ;;
+            *.removed) rm image ;;
+            *) sleep 0.02 && touch image ;;
+            esac
+            there=$(stat -c '%i %s %y' image 2> /dev/null)
+            type_keys A '\030'; close A
+            is "$begun, $meanwhile" "$(refusal A) $(stat -c '%i %s %y' image 2> /dev/null)" "1 refused J4 $there"
+            is "$begun, $meanwhile: the image has another name" "$(image_of image.saved-1) $(grep -c 'the image of the session is .*image.saved-1$' A.said)" 'abc 1'
+            is "$begun, $meanwhile: the keys stay" "$(body) $(files)" "abc $([ "$meanwhile.$begun" = removed.image ] || [ "$meanwhile.$begun" = removed.empty ] || printf 'image ')image.keys image.saved-1"
+        done
+    done
+    clean; cp other.cord image; begin A --keep=image.keys --no-clobber image; close A; is 'no image is replaced' "$(refusal A) $(files)" '1 refused J3 image'
+    cmp -s image other.cord; is 'it is as it was' "$?" 0
+    clean; begin A --keep=image.keys image; type_keys A abc; await has_keys image.keys abc; type_keys A '\003'; close A; cp other.cord image
+    begin A --keep=image.keys --no-clobber image; close A; is 'nor by keys that were kept' "$(refusal A) $(body)" '1 refused J3 abc'
+    : > image.saved-1; begin A --keep=image.keys image; await grep -q 'rev 3' A.out; cat other.cord > image; type_keys A 'd\030'; close A
+    is 'no name is used twice' "$(refusal A) $(wc -c < image.saved-1) $(image_of image.saved-2) $(body)" '1 refused J4 0 abcd abcd'
+    begin A --keep=image.keys image; type_keys A 'e\030'; close A; is 'it is replaced where it is as it was' "$got $(text) $(files)" '0 abcde image image.saved-1 image.saved-2'
+    clean; : > image; begin A --keep=image.keys --no-clobber image; type_keys A 'a\030'; close A; is 'an empty one is replaced' "$got $(text) $(files)" '0 a image'
+    clean; begin A image; type_keys A abc; await grep -q 'rev 3' A.out; cat other.cord > image; type_keys A '\030'; close A; is 'without keys what is there is replaced' "$got $(text)" '0 abc'; clean
+}
+
+discarding() {
+    clean; begin A --keep=image.keys image; type_keys A abc; await has_keys image.keys abc
+    begin B --keep=image.keys image; close B; is 'two sessions over one file of keys' "$(refusal B)" '1 refused J2'
+    "$CORDKIT" edit --discard image.keys 2> B.said; got=$?; is 'keys that a session has' "$(refusal B) $(body)" '1 refused J2 abc'
+    type_keys A 'd\030'; close A; is 'are not disturbed' "$got $(text) $(files)" '0 abcd image'
+    "$CORDKIT" edit --discard image.keys 2> B.said; got=$?; is 'no keys' "$(refusal B)" '1 refused J5'
+    "$CORDKIT" edit --discard image 2> B.said; got=$?; is 'no file of keys' "$(refusal B) $(text)" '1 refused J1 abcd'
+    clean; begin A --keep=image.keys image; type_keys A abc; close A; is 'kept' "$got $(body)" '0 abc'
+    "$CORDKIT" edit --discard image.keys; is 'dropped' "$? $(files)" '0 '; clean
+}
+
+# A session that goes on has its file of keys and what it began over.
+gone_on() {
+    write_other theirs
+    clean; rm -f state; begin A --keep=image.keys --session=state image; type_keys A abc; await has_keys image.keys abc; kill -9 "$a"; close A
+    begin A --keep=image.keys --session=state image; await grep -q 'rev 3' A.out; type_keys A 'd\030'; close A; is 'goes on' "$got $(text) $(files) $(echo state*)" '0 abcd image state*'
+    clean; rm -f state; begin A --keep=image.keys --session=state image; type_keys A abc; await has_keys image.keys abc; kill -9 "$a"; close A
+    begin B --keep=image.keys image; type_keys B 'd\030'; close B; is 'another one saves' "$got $(text)" '0 abcd'
+    begin A --keep=image.keys --session=state image; type_keys A '\030'; close A; is 'the keys are gone' "$(refusal A) $(text) $(files)" '1 refused J5 abcd image'
+    begin B --keep=image.keys image; type_keys B e; await has_keys image.keys e
+    begin A --keep=image.keys --session=state image; type_keys A '\030'; close A; is 'another one has its name' "$(refusal A)" '1 refused J5'
+    type_keys B '\030'; close B; is 'and is not disturbed' "$got $(text) $(files)" '0 e image'
+    clean; rm -f state; cp other.cord image; begin A --keep=image.keys --session=state image; type_keys A abc; await has_keys image.keys abc; kill -9 "$a"; close A
+    write_other more; cp other.cord image; begin A --keep=image.keys --session=state image; type_keys A '\030'; close A
+    is 'what was there at its beginning' "$(refusal A) $(image_of image) $(image_of image.saved-1) $(body)" '1 refused J4 more abc abc'; rm -f state
+    clean; rm -f state; begin A --keep=image.keys --session=state image; await test -s state; type_keys A '\003'; close A; is 'left' "$got $(files) $(echo state)" '0  state'; rm -f state
+}
+
+two_files_of_keys() {
+    for begun in nothing image; do
+        clean; rm -f other.keys; [ "$begun" = nothing ] || printf 'old\030' | "$CORDKIT" edit image > /dev/null
+        begin A --keep=image.keys image; type_keys A one; await has_keys image.keys one
+        begin B --keep=other.keys image; type_keys B two; await has_keys other.keys two
+        type_keys A '\030'; close A; is "$begun: the first that saves" "$got $(text)" '0 one'
+        type_keys B '\030'; close B; is "$begun: the second" "$(refusal B) $(text) $(image_of image.saved-1) $(files)" '1 refused J4 one two image image.saved-1'
+    done
+    rm -f other.keys; clean
+}
+
+# What a crash leaves behind: a second name of the image, and a part of one.
+left_behind() {
+    clean; printf 'old\030' | "$CORDKIT" edit image > /dev/null; ln image image.new; before=$(cksum < image)
+    begin A --keep=image.keys image; type_keys A 'abc\003'; close A; is 'a second name of the image' "$got $(cksum < image) $(body)" "0 $before abc"
+    ln image image.new 2> /dev/null; begin A --keep=image.keys image; type_keys A '\030'; close A; is 'and Save' "$got $(text) $(files)" '0 abc image'
+    ln image image.new; printf 'new\030' | "$CORDKIT" edit image > /dev/null; is 'without keys' "$? $(text) $(files)" '0 new image'
+    clean; begin A --keep=image.keys image; type_keys A abc; close A; cp image.keys kept; begin A --keep=image.keys image; type_keys A '\030'; close A
+    cp kept image.keys; ln image image.new; before=$(cksum < image); "$CORDKIT" edit --keep=image.keys --no-clobber image < /dev/null > /dev/null 2> A.said; got=$?
+    is 'the keys of an image that was saved' "$got $(cat A.said) $(cksum < image) $(files)" "0 the session was saved before: its image is image $before image"
+    cp kept image.keys; : > state; "$CORDKIT" edit --keep=image.keys --session=state --no-clobber image < /dev/null > /dev/null 2>&1; is 'and the file of a session' "$? $(files) $(echo state*)" '0 image state*'
+    write_other theirs; cat other.cord > image; cp kept image.keys; "$CORDKIT" edit --keep=image.keys --no-clobber image < /dev/null > /dev/null 2> A.said; got=$?
+    is 'the image of other keys' "$(refusal A) $(image_of image) $(body) $(files)" '1 refused J3 theirs abc image image.keys'; rm -f kept
+    clean; printf 'new\030' | "$CORDKIT" edit image > /dev/null
+    printf CORDSESS > image.new; printf 'abc\030' | "$CORDKIT" edit --keep=image.keys image > /dev/null; is 'a part of an image' "$? $(text) $(files)" '0 abc image'
+    if command -v flock > /dev/null; then
+        : > image.new; printf 'd\030' | flock image.new "$CORDKIT" edit --keep=image.keys image > /dev/null 2> A.said; got=$?
+        is 'a part that another session writes' "$(refusal A) $(text) $(body) $(files)" '3 write abc d image image.keys image.new'
+    fi
+    clean
+}
+
+no_room() {
+    clean; printf 'abc\030' > saving
+    (trap '' XFSZ; ulimit -f 0; "$CORDKIT" edit image < saving 2>&1 > /dev/null) | cat > A.said; is 'no part of 0 bytes stays' "$(cat A.said) $(files)" 'write '
+    (trap '' XFSZ; ulimit -f 0; "$CORDKIT" edit --keep=image.keys image < saving 2>&1 > /dev/null) | cat > A.said; is 'no room at the start' "$(cat A.said) $(files)" 'write '; clean
+}
+
+# How many revisions the frames in a file tell, at most.
+told() { { echo 'rev 0' && grep -ao 'rev [0-9]*' "$1"; } | tail -n 1 | cut -d ' ' -f 2; }
+
+# A is killed before each of its calls of the system, and the same command goes on: no key that a frame told is lost.
+each_call() {
+    command -v strace > /dev/null || { echo '    there is no strace here'; return; }
+    printf 'abc\030' > saving; runs=0 lost=0
+    for call in openat read write statx flock fsync fdatasync link unlink; do
+        k=1
+        while clean; ! strace -qq -o /dev/null -e "inject=$call:signal=KILL:when=$k" "$CORDKIT" edit --keep=image.keys image < saving > out 2> said; do
+            printf '\030' | "$CORDKIT" edit --keep=image.keys --no-clobber image > /dev/null 2> A.said; got=$?; found=$(text 2> /dev/null)
+            case "$got $(head -n 1 A.said) $found" in
+            '0  '*) [ "${#found}" -ge "$(told out)" ] && [ "${found#"$(printf abc | head -c ${#found})"}" = '' ] ;;
+            '0 the session was saved before: its image is image abc') [ "$(files)" = image ] ;;
+            '1 refused J3 abc') [ "$(files)" = image ] ;;
+            *) false ;;
+            esac || { lost=$((lost + 1)); echo "    $call $k: $got $(cat A.said) '$found', told $(told out)"; }
+            k=$((k + 1)) runs=$((runs + 1))
+        done
+    done
+    echo "    killed at $runs calls"; is 'killed before each call' "$lost" 0; clean; rm -f out said
+}
+
+# A stops before each of its calls of the system, and B, the same command, begins and ends meanwhile. What either told as saved is there.
+each_stop() {
+    command -v strace > /dev/null || { echo '    there is no strace here'; return; }
+    printf 'abc\030' > saving; printf 'xy\030' > other; runs=0 lost=0
+    for call in openat read write statx flock fsync fdatasync link unlink; do
+        k=1
+        while :; do
+            clean; strace -qq -o /dev/null -e "inject=$call:signal=STOP:when=$k" "$CORDKIT" edit --keep=image.keys --no-clobber image < saving > out 2> A.said & a=$!
+            n=0; until child=$(pgrep -P "$a") && ps -o stat= -p "$child" | grep -q '^[tT]'; do kill -0 "$a" 2> /dev/null && [ "$n" -lt 500 ] || break; n=$((n + 1)); sleep 0.01; done
+            kill -0 "$a" 2> /dev/null || break
+            "$CORDKIT" edit --keep=image.keys --no-clobber image < other > out2 2> B.said; of_b=$?
+            kill -CONT "$child"; wait "$a"; of_a=$?
+            all=$(for file in image image.saved-*; do [ ! -e "$file" ] || image_of "$file"; echo; done; [ ! -e image.keys ] || body)
+            { [ "$of_a" != 0 ] || [ "$(echo "$all" | grep -c abc)" = 1 ]; } && { [ "$of_b" != 0 ] || [ "$(echo "$all" | grep -c xy)" = 1 ]; } && [ "$of_a$of_b" != 11 ] ||
+                { lost=$((lost + 1)); echo "    $call $k: $of_a $(head -n 1 A.said), $of_b $(head -n 1 B.said), $(echo $all)"; }
+            k=$((k + 1)) runs=$((runs + 1))
+        done
+        wait "$a"
+    done
+    echo "    stopped at $runs calls"; is 'a second session at each call' "$lost" 0; a=''; clean; rm -f out out2 other
+}
+
+words_of_the_script() {
+    clean; write_other theirs; rm -f -- -i.cord* "it's"* out
+    printf 'abc\030' | "$CORDEDIT" -- -i.cord > /dev/null; is 'a name that begins with -' "$? $(image_of ./-i.cord)" '0 abc'
+    printf 'abc' | "$CORDEDIT" "it's" > /dev/null; "$CORDEDIT" --discard "it's"; is 'a name with a quote' "$? $(echo it*)" '0 it*'
+    printf 'one' > file; printf 'x\030' | "$CORDEDIT" --copy --text out image file > /dev/null; is 'a text and a copy, without a terminal' "$? $(cat out image.0)" '0 xoneone'
+    printf 'x\030' | "$CORDEDIT" -f --text missing/out image file > /dev/null 2> said; is 'what was asked for and not written' "$? $(tail -n 1 said)" '3 cordedit: missing/out could not be written'
+    printf 'x\030' | "$CORDEDIT" --text out2 image file > /dev/null 2> said; is 'nothing is asked of what was not saved' "$? $(head -n 1 said) $(echo out2*)" '1 refused J3 out2*'
+    printf 'x\030' | "$CORDEDIT" file > /dev/null 2> said; is 'a file that is no image' "$? $(head -n 1 said) $(cat file)" '1 refused C1(I3) one'
+    printf 'y\030' | "$CORDEDIT" --continue missing next > /dev/null 2> said; is 'no image to go on from' "$? $(echo next*)" '2 next*'
+    printf 'y\030' | "$CORDEDIT" --continue image next file > /dev/null; is 'goes on from the last text' "$? $("$CORDKIT" show next 1 next.0)" '0 yxone'
+    begin A --keep=next.keys next next.0; await test -s next.keys; printf two > file; printf '\030' | "$CORDEDIT" -f --continue image next file > /dev/null 2> said
+    is 'the file of a session stays' "$? $(cat said) $(cat next.0)" '1 refused J2 xone'; type_keys A '\030'; close A; is 'and it saves' "$got" 0
+    "$CORDEDIT" --help > said; is 'help' "$? $(grep -c discard said)" '0 1'
+    rm -f -- -i.cord* out* next* file; clean
+}
+
+# shellcheck disable=SC2086 # words
+[ "$*" != pipes ] || set -- $pipes
+for test in ${*:-$pipes each_call each_stop basic sequences pastes options folders signals parents kills devices speed}; do echo "$test"; "$test"; done
 echo "$passed passed, $failed failed"
 [ "$failed" = 0 ]

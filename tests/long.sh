@@ -6,12 +6,13 @@
 #   1,000 scripts and those of a million lines; 3,000 images, their logs    python3; so does this one
 #   reads and writes that devices refuse              nothing more
 #   the tests of ropes under memcheck                 valgrind, and rt where they are not built
-#   the editor in a terminal, keys that are kept      tmux
 #   refusals that come behind much work               nothing more
 #   21,000 images by the callers of the C library     the library (make library); gcc, g++, rustc and python3, each for its own
 #   420 images by the page in a browser               the module (make wasm), chromium and python3
 #   4,000 answers of each group, as at the start      python3; the program cord_answers, and a clone at c89b5a8 with it, which OLD names
-#   every case of tests/program.sh, installed         nothing more; mandoc, file, bash, zsh and fish for what is installed beside
+#   every case of tests/program.sh, tests/kept_keys.sh and tests/terminal.sh, installed    tmux for those in a terminal, strace for a session that
+#                                                     ends or stops at each call of the system; mandoc, file, bash, zsh and fish for what is
+#                                                     installed beside
 set -u
 cd "$(dirname "$0")/.." || exit 1
 if ! [ -x crates/cordkit/out/cordkit ]; then
@@ -48,8 +49,6 @@ try 'sessions of keys' python3 python3 tests/random_keys.py 1000
 try 'scripts and logs' python3 python3 tests/random_scripts.py 1000
 try 'refused reads and writes' '' sh tests/devices.sh
 try 'the tests of ropes under memcheck' valgrind sh tests/memcheck.sh
-try 'the editor in a terminal' tmux sh tests/terminal.sh
-try 'keys that are kept' tmux sh tests/kept_keys.sh
 try 'dear refusals' '' sh tests/dear_refusals.sh
 if [ -f crates/cord_c/out/libcord_c.a ]; then
     try 'the callers of the C library' '' sh crates/cord_c/callers/run.sh 21000

@@ -86,33 +86,37 @@ printf 'new\ninsert 0 0 "\\t\\r\\\\\\"\\n\\x4a\\x4A\\xfF\\x00"' > script_of_esca
 printf 'new\ninsert 0 0 "\t\303\251\200\377 #"' > script_of_high_bytes
 lines_that_are_none() {
     cat << 'LINES'
-quotes_without_end;insert 0 0 "abc
-quotes_of_an_escape;insert 0 0 "abc\"
-quotes_and_more;insert 0 0 "a"bc
-quotes_behind_a_number;insert 0 0"abc"
-letter_behind_a_backslash;insert 0 0 "\a"
-one_digit;insert 0 0 "\x4"
-no_digit;insert 0 0 "\x4g"
-no_number;insert 0 x "abc"
-no_bytes_in_quotes;insert 0 0
-number_in_quotes;insert 0 "0" "abc"
-word_too_many;insert 0 0 "abc" 0
-name_too_long;news
-large_letters;NEW
-sign;back -0
-plus;back +0
-fraction;back 0.0
-comma;join 0,0
-number_of_2_64;cut 0 0 18446744073709551616
-revision_of_2_32;back 4294967296
-source_of_2_32;open 4294967296
-byte_of_256;fill 0 0 256 1
-change_without_bytes;many 0 0 0
-change_of_two_numbers;many 0 0 0 "a" 1 0
+quotes_without_end;insert 0 0 "abc;the quotes of word 4 are not closed
+quotes_of_an_escape;insert 0 0 "abc\";the quotes of word 4 are not closed
+quotes_and_more;insert 0 0 "a"bc;bc stands right behind the quotes of word 4
+quotes_behind_a_number;insert 0 0"abc";word 3 (0"abc") is no number
+letter_behind_a_backslash;insert 0 0 "\a";word 4 has \\a, which is no escape
+one_digit;insert 0 0 "\x4";word 4 has \\x without two hex digits
+no_digit;insert 0 0 "\x4g";word 4 has \\x without two hex digits
+no_number;insert 0 x "abc";word 3 (x) is no number
+no_bytes_in_quotes;insert 0 0;word 4, bytes in quotes, is missing
+bytes_without_quotes;replace 0 0 0 abc;word 5 (abc) is not in quotes
+number_in_quotes;insert 0 "0" "abc";word 3 ("0") is no number
+word_too_many;insert 0 0 "abc" 0;word 5 (0) is one too many
+word_of_more_than_40_letters;new aaaaaaaaaabbbbbbbbbbccccccccccdddddddddde;word 2 (aaaaaaaaaabbbbbbbbbbccccccccccdddddddddd...) is one too many
+number_in_a_comment;delete 0 0 # 0;word 4, a number, is missing
+name_too_long;news;there is no command news
+large_letters;NEW;there is no command NEW
+sign;back -0;word 2 (-0) is no number
+plus;back +0;word 2 (+0) is no number
+fraction;back 0.0;word 2 (0.0) is no number
+comma;join 0,0;word 2 (0,0) is no number
+number_of_2_64;cut 0 0 18446744073709551616;word 4 (18446744073709551616) is more than 18446744073709551615
+revision_of_2_32;back 4294967296;word 2 (4294967296) is more than 4294967295
+source_of_2_32;open 4294967296;word 2 (4294967296) is more than 4294967295
+byte_of_256;fill 0 0 256 1;word 4 (256) is more than 255
+change_without_bytes;many 0 0 0;word 5, bytes in quotes, is missing
+change_of_two_numbers;many 0 0 0 "a" 1 0;word 8, bytes in quotes, is missing
 LINES
-    printf 'return_in_quotes;insert 0 0 "a\rb"\n'
-    printf 'delete_in_quotes;insert 0 0 "\177"\n'
-    printf 'blank_that_is_none;new\013\n'
+    printf 'return_in_quotes;insert 0 0 "a\rb";word 4 has a byte that is to be written \\\\x0d\n'
+    printf 'delete_in_quotes;insert 0 0 "\177";word 4 has a byte that is to be written \\\\x7f\n'
+    printf 'blank_that_is_none;new\013;there is no command new\\\\x0b\n'
+    printf 'bytes_of_no_text;new "\377\200";word 2 ("\357\277\275\357\277\275") is one too many\n'
 }
 commands_that_are_refused() {
     cat << 'LINES'
@@ -134,11 +138,13 @@ E4;a_change_of_nothing;many 0 0 0 ""
 E7(N1);a_fill;fill 0 0 0 18446744073709551615
 LINES
 }
-lines_that_are_none | while IFS=';' read -r name line; do printf 'new\n%s\nback 9' "$line" > "none_$name"; done
+lines_that_are_none | while IFS=';' read -r name line _; do printf 'new\n%s\nback 9' "$line" > "none_$name"; done
 commands_that_are_refused | while IFS=';' read -r _ name line; do printf '# a comment\nnew\n%s\nnone' "$line" > "refused_$name"; done
 yes a | head -n 65536 | tr -d '\n' > most_bytes
 { printf 'new\ninsert 0 0 "' && cat most_bytes && printf '"'; } > script_of_most_bytes
 { printf 'new\ninsert 0 0 "' && cat most_bytes && printf 'a"'; } > script_of_more_bytes
+{ printf 'new\ninsert 0 0 "x"\nreplace 1 0 1 "' && cat most_bytes && printf 'a"'; } > script_of_a_long_replacement
+{ printf 'new\ninsert 0 0 "x"\nmany 1 0 0 "a" 1 0 "' && cat most_bytes && printf 'a"'; } > script_of_a_long_change
 changes() { printf '\nmany 1' && seq 0 "$1" | awk '{ printf " %d 1 \"b\"", $1 * 2 }'; }
 { cat script_of_most_bytes && changes 4095; } > script_of_most_changes
 { cat script_of_most_bytes && changes 4096; } > script_of_more_changes
@@ -163,9 +169,11 @@ done
 { head -c 11 one_insert && printf '\003' && tail -c +13 one_insert | head -c 28; } > header_in_three
 cp one_insert too_much
 truncate -s 1099511627776 too_much || exit 1
-mkfifo pipe || exit 1
+mkfifo pipe pipe_of_a_script || exit 1
 cat one_insert > pipe &
 writer=$!
+cat script_without_quotes > pipe_of_a_script &
+script_writer=$!
 # a file of keys that another one has, where there is flock
 : > keys_in_use
 holder=$writer
@@ -173,7 +181,7 @@ if command -v flock > /dev/null; then
     (flock 9 && exec sleep 600) 9> keys_in_use > /dev/null 2>&1 &
     holder=$!
 fi
-trap 'kill "$writer" "$holder" 2> /dev/null; rm -rf "$room"' EXIT
+trap 'kill "$writer" "$script_writer" "$holder" 2> /dev/null; rm -rf "$room"' EXIT
 
 # What the program has to write: the text of a file of tests/data, or of a file of the cases behind an @, or what printf makes of the
 # column.
@@ -309,8 +317,9 @@ CHANGES
 # Lines that are no command, and commands that are refused, each behind a revision of no text.
 try_scripts() {
     lines_that_are_none > ../lines
-    while IFS=';' read -r script _; do
-        try "a line of a script with $script" "apply none_$script" "" 1 "" "refused P(2)\n"
+    while IFS=';' read -r script _ reason; do
+        try "a line of a script with $script" "apply --explain none_$script" "" 1 "" \
+            "refused P(2)\nP(2): line 2 of none_$script is no command: $reason\n"
     done < ../lines
     commands_that_are_refused > ../lines
     while IFS=';' read -r code script _; do
@@ -579,6 +588,16 @@ what was kept is played before the first frame;edit --keep keys kept;key_save;0;
 the image has what was typed before;show kept 4;;0;ac;
 keys that were saved are not kept;cut 0 1 keys;;3;;read\n
 keys that cannot be kept;edit --keep missing/keys kept;keys_saved;3;;write\n
+an image that is there;edit --no-clobber saved;keys_saved;1;;refused J3\n
+keys to be dropped;edit --keep dropped unsaved;keys_left;0;edit.txt;
+with a file;edit --discard dropped ab;;2;;error: the argument '--discard' cannot be used with a word for a session: it takes the file of keys alone\n\nUsage: cordkit edit [OPTIONS] <IMAGE> [FILE]\n\nFor more information, try '--help'.\n
+with keys to be kept;edit --keep kept --discard dropped;;2;;error: the argument '--discard' cannot be used with a word for a session: it takes the file of keys alone\n\nUsage: cordkit edit [OPTIONS] <IMAGE> [FILE]\n\nFor more information, try '--help'.\n
+with a session;edit --discard --session kept dropped;;2;;error: the argument '--discard' cannot be used with a word for a session: it takes the file of keys alone\n\nUsage: cordkit edit [OPTIONS] <IMAGE> [FILE]\n\nFor more information, try '--help'.\n
+with a word about the image;edit --no-clobber --discard dropped;;2;;error: the argument '--discard' cannot be used with a word for a session: it takes the file of keys alone\n\nUsage: cordkit edit [OPTIONS] <IMAGE> [FILE]\n\nFor more information, try '--help'.\n
+they are dropped;edit --discard dropped;;0;;
+they are not there;edit --discard dropped;;1;;refused J5\n
+what is no file of keys is not dropped;edit --discard abc;;1;;refused J1\n
+it stays;cut 0 10 abc;;0;abc;
 a part of a file;cut 1 3 abcde;;0;bcd;
 a part past the end ends with the file;cut 3 10 abcde;;0;de;
 a part behind the end is empty;cut 9 1 abcde;;0;;
@@ -680,22 +699,33 @@ a full device in words;join --explain abc;;3;/dev/full;write\nwrite: standard ou
 an image on a full device in words;edit --explain /dev/full;keys_saved;3;edit.txt;write\nwrite: the image /dev/full, the file of keys or standard output could not be written\n
 keys that are a folder in words;edit --explain unsaved abc;folder;3;edit_abc.txt;read\nread: standard input, the file of keys or abc could not be read to its end\n
 standard input that is a folder in words;--explain;folder;3;;read\nread: standard input could not be read to its end\n
-a line that is no command in words;apply --explain script_without_quotes;;1;;refused P(2)\nP(2): line 2 of script_without_quotes is no command\n
+a line that is no command in words;apply --explain script_without_quotes;;1;;refused P(2)\nP(2): line 2 of script_without_quotes is no command: word 4 (abc) is not in quotes\n
+a line that is no command, of a script by a pipe, in words;apply --explain pipe_of_a_script;;1;;refused P(2)\nP(2): line 2 of pipe_of_a_script is no command\n
+a brief script in words;apply --explain $("$program" apply script_of_61 > applied && "$program" log --brief applied > logged && echo logged);;1;;refused P(2)\nP(2): line 2 of logged is no command: ... stands right behind the quotes of word 4\n
 a place past the end in words;apply --explain script_past_the_end;;1;;refused E3(3)\nE3(3): line 3 of script_past_the_end names a place behind the end of revision 0\n
 bytes past the end in words;apply --explain script_of_long_cuts;;1;;refused E3(2)\nE3(2): line 2 of script_of_long_cuts names bytes behind the end of revision 0\n
 a script by a pipe in words;apply --explain /dev/stdin;script_past_the_end;1;;refused E3(3)\nE3(3): line 3 of /dev/stdin names a place behind the end of revision 0\n
 no such revision in words;apply --explain script_of_no_revision;;1;;refused E1(3)\nE1(3): line 3 of script_of_no_revision names a revision that is not there\n
 no such source in words;apply --explain script_over_a_source;;1;;refused E2(1)\nE2(1): line 1 of script_over_a_source names a source that is not there\n
+more bytes than a command takes in words;apply --explain script_of_more_bytes;;1;;refused E7(N1,2)\nE7(N1,2): line 2 of script_of_more_bytes puts in more than 65,536 bytes at a place\n
+more bytes in place of others in words;apply --explain script_of_a_long_replacement;;1;;refused E7(N1,3)\nE7(N1,3): line 3 of script_of_a_long_replacement puts in more than 65,536 bytes at a place\n
+a change of more bytes in words;apply --explain script_of_a_long_change;;1;;refused E7(N1,3)\nE7(N1,3): line 3 of script_of_a_long_change puts in more than 65,536 bytes at a place\n
+a text of a source twice that is too long in words;apply --explain script_of_a_double half;;1;;refused E7(N1,2)\nE7(N1,2): line 2 of script_of_a_double would make a text of 2^40 bytes or more\n
+changes out of order in words;apply --explain refused_a_change_at_a_place_twice;;1;;refused E3(3)\nE3(3): line 3 of refused_a_change_at_a_place_twice has changes that are out of order, or behind the end of revision 0\n
+a part past the end of what is pasted in words;apply --explain refused_a_part_of_what_is_pasted;;1;;refused E3(3)\nE3(3): line 3 of refused_a_part_of_what_is_pasted names a place or bytes behind the end of revision 0 or 0\n
 a text that is too long in words;apply --explain script_too_long;;1;;refused E7(N1,2)\nE7(N1,2): line 2 of script_too_long would make a text of 2^40 bytes or more\n
 a file that is too long in words;cut --explain 0 1 too_long;;1;;refused S5\nS5: too_long has more than 2^40 - 1 bytes\n
 files that are too long together in words;join --explain half half;;1;;refused N1\nN1: the files together would make a text of 2^40 bytes or more\n
 a pattern that is too long in words;find --explain 0 $(yes a | head -n 4097 | tr -d '\n') abcde;;1;;refused F1\nF1: the pattern has more than 4,096 bytes\n
 keys of another file in words;edit --explain --keep=abcde kept;keys_saved;1;;refused J1\nJ1: abcde has the keys of another file, or something else\n
-a file that is no image in words;edit --explain abc;keys_saved;1;;refused C1(I3)\nC1(I3): abc is no image: it does not begin with CORDSESS\n
+an image that is there in words;edit --explain --no-clobber saved;keys_saved;1;;refused J3\nJ3: saved is there already: cordedit -f replaces it, and cordedit --continue saved NEW begins with its last text\n
+keys that are not there in words;edit --explain --discard missing;;1;;refused J5\nJ5: missing is not there, or not the one that the session had\n
+a file that is no image in words;edit --explain abc;keys_saved;1;;refused C1(I3)\nC1(I3): abc is no image, and stays as it is: move it away or remove it, and give the same command again\n
 
 help to check;check --help;;2;;check_help.txt
 help to show;show --help;;2;;show_help.txt
 help to show by its word;help show;;2;;show_help.txt
+help to edit;edit --help;;2;;edit_help.txt
 a file before its command;abcde check;;2;;error: unrecognized subcommand 'abcde'\n\nUsage: cordkit [OPTIONS] [COMMAND]\n\nFor more information, try '--help'.\n
 an image to check that is missing;check;;2;;error: the following required arguments were not provided:\n  <IMAGE>\n\nUsage: cordkit check <IMAGE> [SOURCE]...\n\nFor more information, try '--help'.\n
 an option of check that is not known;check --frobnicate one_insert;;2;;error: unexpected argument '--frobnicate' found\n\n  tip: to pass '--frobnicate' as a value, use '-- --frobnicate'\n\nUsage: cordkit check [OPTIONS] <IMAGE> [SOURCE]...\n\nFor more information, try '--help'.\n

@@ -2,7 +2,8 @@
 """Has the built cordkit apply scripts that chance writes, and compares with a session of plain bytes, written from docs/SCRIPTS.md alone: which line is
 refused, and why; or an image that keeps the rules of the second checker, in which every revision has its command and its text. What chance
 writes: all commands, with comments, blanks, line ends of both kinds, bytes written in every way, and leading zeros; lines that are no command
-or are refused, for several reasons at once; texts at the limit of what a command takes; and scripts of which some bytes were changed.
+or are refused, for several reasons at once; texts at the limit of what a command takes; and scripts of which some bytes were changed. Of a line that
+is no command `--explain` has to say why.
 
 Where the program has `log`, it prints the script of each of these images, and of images that chance makes and of the worked ones; that one is
 applied again, and has the same texts. Where it has none, that is told.
@@ -528,6 +529,15 @@ def has_log(program):
         return room.run("log", room.image)[0] != 2
 
 
+def reason_fault(room, script, refusal):
+    """What is wrong with what --explain tells of a line that is no command, or nothing: it says why."""
+    path, code = room.put("script", script), refusal.split(" ")[1]
+    answer = room.run("apply", "--explain", path)
+    front = f"{refusal}\n{code}: line {code[2:-1]} of {path} is no command: ".encode()
+    says_why = answer[2].startswith(front) and answer[2].count(b"\n") == 2 and len(answer[2]) > len(front) + 1
+    return None if says_why else f"it is explained by {answer}"
+
+
 def run_script(given):
     """The kind of a script, how many revisions it made, and what is wrong with it, or nothing."""
     program, logs, seed = given
@@ -545,6 +555,8 @@ def run_script(given):
         if refusal:
             if (status, data, told) != (1, b"", f"{refusal}\n".encode()):
                 fault = f"status {status}, {told!r}, for {refusal}"
+            elif refusal.startswith("refused P"):
+                fault = reason_fault(room, script, refusal)
         elif (status, told) != (0, b""):
             fault = f"status {status}, {told!r}"
         else:

@@ -1,10 +1,11 @@
 #!/bin/sh
-# Runs bin/cordedit in a terminal of 80 columns and 24 rows that tmux keeps, with the built program, or the one that $1 names. It
+# Runs bin/cordedit, or $CORDEDIT, in a terminal of 80 columns and 24 rows that tmux keeps, with the built program, or the one that $1 names. It
 # types keys, and compares the screens, the saved image and the terminal's mode with what they have to be. The last line is
 # 'N passed, M failed'; the status is not 0 where a case failed. Where there is no tmux it says so, and nothing is tried.
 set -u
 top=$(cd "$(dirname "$0")/.." && pwd)
 program=${1:-$top/crates/cordkit/out/cordkit}
+cordedit=${CORDEDIT:-$top/bin/cordedit}
 case $program in
 /*) ;;
 *) program=$PWD/$program ;;
@@ -75,7 +76,7 @@ start() {
     in_tmux kill-server 2> /dev/null
     session=$((session + 1))
     rm -f editor
-    in_tmux new-session -d -x 80 -y 24 -e "CORDKIT=$program" -e "CORDEDIT=$top/bin/cordedit" sh session.sh "$@"
+    in_tmux new-session -d -x 80 -y 24 -e "CORDKIT=$program" -e "CORDEDIT=$cordedit" sh session.sh "$@"
 }
 
 # Types text as it stands, and keys by their names.
@@ -218,11 +219,13 @@ press C-c
 ended 'left' 'status 0, mode restored'
 is_same 'no image is written' "$(ls none 2> /dev/null)" ''
 start missing/image
-ended 'a folder that is not there' 'cordedit: missing/image.keys.said cannot be made' 'status 2, mode restored'
+ended 'a folder that is not there' write 'write: the image missing/image, the file of keys or standard output could not be' \
+    ' written' 'status 3, mode restored'
 start image
-ended 'an image that is there' 'cordedit: image is there already: -f replaces it' 'status 2, mode restored'
+ended 'an image that is there' 'refused J3' 'J3: image is there already: cordedit -f replaces it, and cordedit --continue ima' \
+    'ge NEW begins with its last text' 'status 1, mode restored'
 start none missing
-ended 'a message comes behind the screen' read 'status 3, mode restored'
+ended 'a message comes behind the screen' read 'read: there is no file missing' 'status 3, mode restored'
 start none
 screen 'before a signal' 'rev 0 byte 0 of 0' '0 0'
 kill -TERM "$(cat editor)"
@@ -249,8 +252,25 @@ is_same 'the text that was kept' "$(text_of typed 6) $(ls typed*)" '62637879 typ
 
 # Keys that are no terminal's.
 got=0
-printf 'a\030' | CORDKIT=$program "$top/bin/cordedit" piped > frames || got=$?
+printf 'a\030' | CORDKIT=$program "$cordedit" piped > frames || got=$?
 is_same 'keys from a pipe' "$got $(text_of piped 1)" '0 61'
+
+# Long work tells how far it is where standard error is a terminal, and wipes the line.
+percent() {
+    in_tmux capture-pane -p | sed -n 's/^[0-9]* % of \([0-9]* bytes\)$/a part of \1/p'
+}
+truncate -s 17179869184 sparse
+in_tmux kill-server 2> /dev/null
+session=$((session + 1))
+in_tmux new-session -d -x 80 -y 24 sh -c '"$0" find --all 0 xyz sparse; echo "status $?"; sleep 600' "$program"
+echo 'a part of 17179869184 bytes' > wanted
+awaits 'long work' 'the line is' percent
+echo 'status 1' > wanted
+for _ in 1 2 3 4 5 6; do
+    in_tmux capture-pane -p | grep -q status || sleep 10
+done
+awaits 'long work that ended' 'the screen is' first_rows 1
+is_same 'no terminal' "$("$program" find --all 0 xyz sparse 2>&1; echo "status $?")" 'status 1'
 
 echo "$passed passed, $failed failed"
 [ "$failed" = 0 ]

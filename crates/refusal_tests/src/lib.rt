@@ -18,6 +18,8 @@ mod ropes;
 #[cfg(test)]
 mod runs;
 #[cfg(test)]
+mod saved;
+#[cfg(test)]
 mod scripts;
 #[cfg(test)]
 mod searches;

@@ -2,8 +2,8 @@
 
 use crate::kept::Digest;
 use crate::refusals::{Refusals, TRIES, assert_same};
-use leaf_buffer::{LeafError, Piece, Pool};
-use std::alloc::AllocGlobal;
+use leaf_buffer::{LeafError, POOL_LIMIT, Piece, Pool};
+use std::alloc::{AllocError, AllocGlobal};
 use std::process::Abort;
 
 // What a call ensures is not needed to prove a test, so each stands in a function of its own that ensures nothing.
@@ -98,4 +98,41 @@ pub(crate) fn worked_pool<A: AllocGlobal + Abort>(rt: &A, refusals: &mut Refusal
         &"the first",
     );
     assert_same(rt, &get(&pool, piece(4, 2)), &None, &"over two blocks");
+}
+
+fn holding<A: AllocGlobal + Abort>(rt: &A, bytes: &[u8]) -> Result<Pool, AllocError> {
+    let mut handed = Vec::new(rt.alloc());
+    handed.extend_from_slice(bytes)?;
+    assert!(rt; (handed.len() as u64) < POOL_LIMIT);
+    Pool::holding(rt.alloc(), handed)
+}
+
+/// Hands bytes over, once more where that was refused memory.
+fn handed<A: AllocGlobal + Abort>(rt: &A, bytes: &[u8], refusals: &mut Refusals) -> Pool {
+    for _ in 0..TRIES {
+        match holding(rt, bytes) {
+            Ok(pool) => return pool,
+            Err(_) => refusals.met(rt, &bytes.len(), &bytes.len()),
+        }
+    }
+    panic!(rt; "refused each time")
+}
+
+pub(crate) fn handed_pool<A: AllocGlobal + Abort>(rt: &A, refusals: &mut Refusals) {
+    let mut pool = handed(rt, b"abc", refusals);
+    let pieces = [piece(0, 3)];
+    let second = appended(rt, &mut pool, b"de", &pieces, refusals);
+    assert_same(
+        rt,
+        &(second, pool.room()),
+        &(Ok(piece(3, 2)), 65_534),
+        &"a block of its own",
+    );
+    for (span, bytes) in [
+        (piece(1, 2), Some(b"bc".as_slice())),
+        (piece(3, 2), Some(b"de")),
+        (piece(2, 2), None),
+    ] {
+        assert_same(rt, &get(&pool, span), &bytes, &span);
+    }
 }

@@ -2,7 +2,7 @@
 
 use crate::kept::{byte_at, size_of};
 use crate::refusals::{Refusals, assert_same};
-use crate::stores::{Call, answered, node_count, rope_of};
+use crate::stores::{Call, answered, copied, node_count, rope_of};
 use function_leaf::Coded;
 use lazy_file::MemSources;
 use node_table::NodeFault;
@@ -156,4 +156,17 @@ pub(crate) fn last_literals_grow<A: AllocGlobal + Abort>(rt: &A, refusals: &mut 
     assert_shape(rt, &store, sub, NodeView::Sub { b: base, i: 1 }, (39, 1));
     let longer = rope_of(rt, &mut store, &Call::Append(a, b"c"), refusals);
     assert_shape(rt, &store, longer, NodeView::Lit { a: 3 }, (2, 0));
+}
+
+/// A copy of leaves of each kind goes on by itself.
+pub(crate) fn copied_store<A: AllocGlobal + Abort>(rt: &A, refusals: &mut Refusals) {
+    let mut store = one_byte(rt, refusals);
+    let leaves = chain(rt, &mut store, 3, refusals);
+    let dashes = rope_of(rt, &mut store, &Call::Chars(b'-', 4), refusals);
+    let left = rope_of(rt, &mut store, &Call::Cat(leaves, dashes), refusals);
+    let abc = rope_of(rt, &mut store, &Call::Bytes(b"abc"), refusals);
+    let mut copy = copied(rt, &store, refusals);
+    let all = rope_of(rt, &mut copy, &Call::Cat(left, abc), refusals);
+    let longer = rope_of(rt, &mut copy, &Call::Append(all, b"d"), refusals);
+    assert_same(rt, &size_of(rt, &copy, longer).0, &11, &"one more");
 }

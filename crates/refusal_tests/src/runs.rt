@@ -2,13 +2,14 @@
 //! one call, or two.
 
 use crate::refusals::Refusals;
-use crate::{editors, files, pools, ropes, scripts, searches, sessions, tools, words};
+use crate::{editors, files, pools, ropes, saved, scripts, searches, sessions, tools, words};
 use std::alloc::AllocGlobal;
 use std::process::Abort;
 
 /// Each run: no call is refused.
 fn all_runs<A: AllocGlobal + Abort>(rt: &A, refusals: &mut Refusals) {
     pools::worked_pool(rt, refusals);
+    pools::handed_pool(rt, refusals);
     ropes::eight_leaves(rt, refusals);
     ropes::short_literals(rt, refusals);
     ropes::merged_last_literals(rt, refusals);
@@ -17,6 +18,7 @@ fn all_runs<A: AllocGlobal + Abort>(rt: &A, refusals: &mut Refusals) {
     ropes::deepest_joined(rt, refusals);
     ropes::deepest_cut(rt, refusals);
     ropes::deepest_appended(rt, refusals);
+    ropes::copied_store(rt, refusals);
     searches::three_leaves(rt, refusals);
     files::five_bytes(rt, refusals);
     files::row_of_bytes(rt, refusals);
@@ -27,6 +29,7 @@ fn all_runs<A: AllocGlobal + Abort>(rt: &A, refusals: &mut Refusals) {
     sessions::fill_of_the_limit(rt, refusals);
     sessions::three_changes(rt, refusals);
     sessions::added_source(rt, refusals);
+    saved::taken_up(rt, refusals);
     scripts::lines(rt, refusals);
     scripts::image(rt, refusals);
     editors::undo_then_type(rt, refusals);
@@ -49,6 +52,11 @@ fn no_call_is_refused(rt: HostRuntime) {
 #[test]
 fn worked_pool(rt: HostRuntime) {
     pools::worked_pool(&rt, &mut Refusals::at_most(1));
+}
+
+#[test]
+fn handed_pool(rt: HostRuntime) {
+    pools::handed_pool(&rt, &mut Refusals::at_most(1));
 }
 
 #[test]
@@ -89,6 +97,11 @@ fn deepest_cut(rt: HostRuntime) {
 #[test]
 fn deepest_appended(rt: HostRuntime) {
     ropes::deepest_appended(&rt, &mut Refusals::at_most(1));
+}
+
+#[test]
+fn copied_store(rt: HostRuntime) {
+    ropes::copied_store(&rt, &mut Refusals::at_most(1));
 }
 
 #[test]
@@ -139,6 +152,11 @@ fn three_changes(rt: HostRuntime) {
 #[test]
 fn added_source(rt: HostRuntime) {
     sessions::added_source(&rt, &mut Refusals::at_most(1));
+}
+
+#[test]
+fn taken_up(rt: HostRuntime) {
+    saved::taken_up(&rt, &mut Refusals::at_most(1));
 }
 
 #[test]

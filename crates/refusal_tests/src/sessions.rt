@@ -97,7 +97,7 @@ pub(crate) fn assert_text<A: AllocGlobal + Abort>(
 }
 
 /// A writer that has a session's image.
-fn image_of<A: Abort>(rt: &A, session: &Session) -> Taker {
+pub(crate) fn image_of<A: Abort>(rt: &A, session: &Session) -> Taker {
     let mut taker = Taker::new();
     write(session, &mut taker).expect(rt, "an image");
     taker

@@ -1,12 +1,13 @@
 //! The calls of a store, each made again where it is refused memory.
 
 use crate::kept::{Digest, Reach, store_digest};
-use crate::refusals::{Refusals, TRIES};
+use crate::refusals::{Refusals, TRIES, assert_same};
 use function_leaf::Coded;
 use node_table::NodeFault;
 use rebalance::{BalanceFault, append_any, balance, cat_any, substr_any};
-use rope_node::{NodeId, NodeSpace, Rope};
+use rope_node::{MOST_NODES, MOST_SOURCES, NodeId, NodeSpace, Rope};
 use rope_store::Store;
+use std::alloc::{AllocError, AllocGlobal};
 use std::process::Abort;
 
 /// A call of a store.
@@ -195,4 +196,33 @@ pub(crate) fn rope_of<A: Abort>(
 /// How many nodes a store has.
 pub(crate) fn node_count(store: &Store<Coded>) -> u32 {
     store.count()
+}
+
+fn copy_of<A: AllocGlobal + Abort>(
+    rt: &A,
+    store: &Store<Coded>,
+) -> Result<Store<Coded>, AllocError> {
+    assert!(rt; store.count() <= MOST_NODES && store.source_count() <= MOST_SOURCES);
+    Store::copied(rt.alloc(), store)
+}
+
+/// Copies a store, once more where that was refused memory.
+pub(crate) fn copied<A: AllocGlobal + Abort>(
+    rt: &A,
+    store: &Store<Coded>,
+    refusals: &mut Refusals,
+) -> Store<Coded> {
+    let reach = Reach::of(store);
+    let before = store_digest(rt, store, reach);
+    for _ in 0..TRIES {
+        match copy_of(rt, store) {
+            Err(_) => refusals.met(rt, &store_digest(rt, store, reach), &before),
+            Ok(copy) => {
+                let found = (store_digest(rt, &copy, reach), Reach::of(&copy));
+                assert_same(rt, &found, &(before, reach), &"a copy");
+                return copy;
+            }
+        }
+    }
+    panic!(rt; "refused each time")
 }

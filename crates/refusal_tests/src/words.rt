@@ -52,6 +52,7 @@ fn is_asked(request: &Request<'_>, number: usize) -> bool {
                 keys: Some("k"),
                 image: "a.cord",
                 file: Some("b.txt"),
+                ..
             },
             3,
         ) => true,
@@ -82,6 +83,19 @@ fn read<A: AllocGlobal + Abort>(rt: &A, text: &str, number: usize, refusals: &mu
     panic!(rt; "refused each time: {text}")
 }
 
+/// Reads words that do not go together, once more where that was refused memory.
+fn refuse<A: AllocGlobal + Abort>(rt: &A, text: &str, refusals: &mut Refusals) {
+    let line = line(rt, text, refusals);
+    for _ in 0..TRIES {
+        match words(rt.alloc(), line.as_slice()) {
+            Err(WordsFault::Usage(_)) => return,
+            Err(WordsFault::Memory) => refusals.met(rt, &(), &()),
+            _ => panic!(rt; "{text}"),
+        }
+    }
+    panic!(rt; "refused each time: {text}")
+}
+
 pub(crate) fn words_are_read<A: AllocGlobal + Abort>(rt: &A, refusals: &mut Refusals) {
     for (number, text) in [
         "cordkit",
@@ -94,5 +108,6 @@ pub(crate) fn words_are_read<A: AllocGlobal + Abort>(rt: &A, refusals: &mut Refu
     {
         read(rt, text, number, refusals);
     }
+    refuse(rt, "cordkit edit --keep k --discard a.keys", refusals);
     assert_same(rt, &(), &(), &"each was read");
 }

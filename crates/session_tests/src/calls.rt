@@ -11,6 +11,7 @@ mod many;
 mod plain_rows;
 mod records;
 mod row_choices;
+mod saved;
 mod sources;
 mod spans;
 mod texts;

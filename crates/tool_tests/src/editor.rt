@@ -3,7 +3,7 @@
 use crate::fakes::{Flaky, Full, Giver, Taker};
 use crate::same::assert_same;
 use crate::tools::{show, texts_in};
-use cord_tools::{Status, ToolFault, may_replace, run_edit, run_kept};
+use cord_tools::{Status, ToolFault, may_replace, only_look, run_edit, run_kept};
 use image_reader::ReadFault;
 use key_journal::Kept;
 use lazy_file::{SOURCE_LIMIT, SourceFault, Sources};
@@ -246,6 +246,26 @@ fn an_image_replaces_an_image_or_nothing(rt: HostRuntime) {
         (b"an essay", refused),
     ] {
         assert_same(&rt, &may_replace(front), &wanted, &front);
+    }
+}
+
+#[test]
+fn keys_that_look_make_no_revision(rt: HostRuntime) {
+    for (keys, wanted) in [
+        (b"".as_slice(), true),
+        (b"\x02\x06\x01\x05\x10\x0e\x00\x14\x1f\xff", true),
+        (b"\x02\x0ca", false),
+        (b"\x02\x08", false),
+        (b"\x7f", false),
+        (b"\x04", false),
+        (b"\x17\x02", false),
+        (b"\x19", false),
+        (b"\x15", false),
+        (b"\x0c", false),
+        (b"\r", false),
+        (b"\x02\x02 ", false),
+    ] {
+        assert_same(&rt, &only_look(keys), &wanted, &keys);
     }
 }
 

@@ -2,4 +2,6 @@
 #![tactic(auto)]
 
 #[cfg(test)]
+mod explained;
+#[cfg(test)]
 mod read;

@@ -1,5 +1,7 @@
 use super::assert_same;
-use leaf_buffer::{LeafError, Piece, Pool, Run};
+use leaf_buffer::{LeafError, POOL_LIMIT, Piece, Pool, Run};
+use std::alloc::AllocGlobal;
+use std::process::Abort;
 
 // What a call ensures is not needed to prove a test, so each stands in a function of its own that ensures nothing.
 
@@ -61,6 +63,33 @@ fn piece_past_the_room_opens_a_block(rt: HostRuntime) {
     }
     assert!(rt; pool.len() == 65_543);
     assert_same(&rt, &pool.rest_of_block(65_542), &b"c".as_slice());
+}
+
+fn holding(rt: &(impl AllocGlobal + Abort), bytes: &[u8]) -> Pool {
+    let mut handed = Vec::new(rt.alloc());
+    handed.extend_from_slice(bytes).expect(rt, "memory");
+    assert!(rt; (handed.len() as u64) < POOL_LIMIT);
+    Pool::holding(rt.alloc(), handed).expect(rt, "memory")
+}
+
+// Bytes that are handed over are one block, however many they are.
+#[test]
+fn bytes_that_are_handed_over_take_no_more(rt: HostRuntime) {
+    let handed = [b'a'; 70_000];
+    let mut pool = holding(&rt, &handed);
+    assert_same(&rt, &(pool.len(), pool.room()), &(70_000, 0));
+    let over_the_size = get(&pool, piece(65_530, 20));
+    assert_same(&rt, &over_the_size, &Some([b'a'; 20].as_slice()));
+    assert_same(&rt, &extend(&mut pool, piece(69_999, 1), b"b"), &None);
+    assert_same(&rt, &append(&mut pool, b"bc"), &Ok(piece(70_000, 2)));
+    assert_same(&rt, &(pool.len(), pool.room()), &(70_002, 65_534));
+    assert_same(&rt, &get(&pool, piece(69_999, 2)), &None);
+    let longer = extend(&mut pool, piece(70_000, 2), b"d");
+    assert_same(&rt, &longer, &Some(piece(70_000, 3)));
+    assert_same(&rt, &get(&pool, piece(70_001, 2)), &Some(b"cd".as_slice()));
+    let mut none = holding(&rt, b"");
+    assert_same(&rt, &(none.len(), none.room()), &(0, 0));
+    assert_same(&rt, &append(&mut none, b"bc"), &Ok(piece(0, 2)));
 }
 
 #[test]

@@ -2,8 +2,9 @@ use super::stores::{from_source, function, joined, literal, size_of, substr};
 use super::{assert_same, assert_same_at};
 use function_leaf::Coded;
 use node_table::NodeFault;
-use rope_node::{CodedSpace, NodeId, NodeSpace, NodeView, Rope};
+use rope_node::{CodedSpace, MOST_NODES, MOST_SOURCES, NodeId, NodeSpace, NodeView, Rope};
 use rope_store::Store;
+use std::alloc::AllocGlobal;
 use std::process::Abort;
 
 fn chars(store: &mut Store<Coded>, c: u8, n: u64) -> Result<Rope, NodeFault> {
@@ -172,4 +173,25 @@ fn plain_concatenation_makes_one_node(rt: HostRuntime) {
     let both = cat_plain(&rt, &mut store, l, r);
     assert_shape(&rt, &store, both, NodeView::Cat { l, r }, 4, 1);
     assert_same(&rt, &(store.count(), store.pool_len()), &(3, 4));
+}
+
+fn copied(rt: &(impl AllocGlobal + Abort), store: &Store<Coded>) -> Store<Coded> {
+    assert!(rt; store.count() <= MOST_NODES && store.source_count() <= MOST_SOURCES);
+    Store::copied(rt.alloc(), store).expect(rt, "memory")
+}
+
+// The bytes that a copy begins with stand in a block that takes no more, so its last literal does not grow in place: the byte that comes is a
+// literal by itself, and then one with the three before it.
+#[test]
+fn a_copied_store_goes_on(rt: HostRuntime) {
+    let mut store: Store<Coded> = Store::new(rt.alloc());
+    let abc = literal(&rt, &mut store, b"abc");
+    let mut copy = copied(&rt, &store);
+    for (store, a, counts) in [(&mut store, 0, (2, 4)), (&mut copy, 4, (3, 8))] {
+        let longer = append(&rt, store, abc, b"d");
+        assert_shape(&rt, store, longer, NodeView::Lit { a }, 4, 0);
+        assert_shape(&rt, store, abc, NodeView::Lit { a: 0 }, 3, 0);
+        assert_same(&rt, &(store.count(), store.pool_len()), &counts);
+    }
+    assert_same(&rt, &copy.pool(3), &b"dabcd".as_slice());
 }

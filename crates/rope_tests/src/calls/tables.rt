@@ -1,12 +1,13 @@
 //! What a table refuses by itself. Its nodes are put by the store above, whose tests put them.
 
-use super::stores::{add_source, joined, size_of, source_leaf, substr};
+use super::stores::{add_source, function, joined, literal, size_of, source_leaf, substr};
 use super::{assert_same, assert_same_at};
 use function_leaf::Coded;
 use leaf_buffer::Piece;
 use node_table::{NodeFault, NodeTable};
-use rope_node::{NodeId, NodeSpace, NodeView};
+use rope_node::{CodedSpace, MOST_NODES, MOST_SOURCES, NodeId, NodeSpace, NodeView, Rope};
 use rope_store::Store;
+use std::process::Abort;
 
 #[test]
 fn a_source_is_shorter_than_2_to_40_bytes(rt: HostRuntime) {
@@ -62,6 +63,63 @@ fn a_concatenation_tells_the_length_of_its_left_part(rt: HostRuntime) {
         }
     }
     assert!(rt; 300 < met);
+}
+
+/// `bc----xx`: a part of a literal, a function and a part of a source.
+fn three_kinds(rt: &impl Abort, store: &mut Store<Coded>) -> Rope {
+    let s = add_source(rt, store, 20);
+    let abc = literal(rt, store, b"abc");
+    let dashes = function(rt, store, Coded::fill(b'-'), 4);
+    let xs = source_leaf(rt, store, s, 2, 2);
+    let left = joined(rt, store, abc, dashes);
+    let all = joined(rt, store, left, xs);
+    substr(rt, store, all, 1, 8)
+}
+
+/// A node, its length and its depth, its function and the length of its left part, where it has them.
+fn record_of<S: CodedSpace>(
+    rt: &impl Abort,
+    space: &S,
+    id: NodeId,
+) -> (NodeView, u64, u8, Option<Coded>, u64) {
+    assert!(rt; id.0 < space.count());
+    let view = space.node(id);
+    let (function, left) = match view {
+        NodeView::Fun => (Some(space.coded(id)), 0),
+        NodeView::Cat { l, .. } => (None, space.left_len(id, l)),
+        _ => (None, 0),
+    };
+    (view, space.len(id), space.depth(id), function, left)
+}
+
+fn copied<S: CodedSpace>(rt: &(impl AllocGlobal + Abort), space: &S) -> NodeTable<Coded> {
+    assert!(rt; space.count() <= MOST_NODES && space.source_count() <= MOST_SOURCES);
+    NodeTable::copied(rt.alloc(), space).expect(rt, "memory")
+}
+
+#[test]
+fn a_copied_table_has_the_same_nodes(rt: HostRuntime) {
+    let mut store = Store::<Coded>::new(rt.alloc());
+    let text = three_kinds(&rt, &mut store);
+    assert_same(&rt, &size_of(&rt, &store, text), &(8, 3));
+    let table = copied(&rt, &store);
+    assert_same(
+        &rt,
+        &(table.count(), table.source_count()),
+        &(store.count(), 1),
+    );
+    assert_same(&rt, &table.source_len(0), &20);
+    assert_same(&rt, &table.pool_len(), &3);
+    assert_same(&rt, &table.pool(0), &b"abc".as_slice());
+    for k in 0..store.count() {
+        let wanted = record_of(&rt, &store, NodeId(k));
+        assert_same_at(
+            &rt,
+            &record_of(&rt, &table, NodeId(k)),
+            &wanted,
+            &u64::from(k),
+        );
+    }
 }
 
 #[test]

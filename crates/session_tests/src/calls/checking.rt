@@ -11,10 +11,11 @@ use cord_position::fetch;
 use image_reader::{Image, ReadFault};
 use lazy_file::{FileSources, MemSources, SourceFault};
 use rope_node::{NodeId, NodeSpace};
-use session_checker::{CheckFault, check, check_tables};
+use session_checker::{CheckFault, check, check_tables, check_told};
 use std::alloc::AllocGlobal;
 use std::num::NonZeroUsize;
 use std::process::Abort;
+use work_progress::Progress;
 
 /// The image of `cd`, inserted from the pool `abcd`, whose root is a substring of a substring of two joined literals.
 fn substrings<A: AllocGlobal + Abort>(rt: &A) -> Vec<u8> {
@@ -56,6 +57,51 @@ fn fetch_gives_the_byte_and_the_nodes_visited(rt: HostRuntime) {
     let second = (image.root(1), image.mark(1));
     assert_same(&rt, &second, &(Some(Some(NodeId(0))), Some(true)));
     assert_same(&rt, &(image.root(2), image.mark(2)), &(None, None));
+}
+
+/// What was told of a check.
+#[derive(Clone, Copy, Debug, Default, PartialEq, Eq)]
+struct Heard {
+    all: u64,
+    last: u64,
+    tells: u32,
+    has_ended: bool,
+}
+
+impl Progress for Heard {
+    fn begin(&mut self, all: u64) {
+        self.all = all;
+    }
+
+    fn tell(&mut self, done: u64) {
+        self.last = done;
+        self.tells = self.tells.saturating_add(1);
+    }
+
+    fn end(&mut self) {
+        self.has_ended = true;
+    }
+}
+
+#[test]
+fn check_tells_how_many_records_are_done(rt: HostRuntime) {
+    let mut none = MemSources::new(rt.alloc());
+    let bytes = substrings(&rt);
+    let mut heard = Heard::default();
+    let image = check_told(&bytes, &mut none, None, &mut heard).expect(&rt, "it is accepted");
+    assert_same(
+        &rt,
+        &(image.count(), image.revisions(), image.rows()),
+        &(5, 2, 1),
+    );
+    // Before each of five nodes and two revisions, the last of which is behind an empty one.
+    let wanted = Heard {
+        all: 8,
+        last: 6,
+        tells: 7,
+        has_ended: true,
+    };
+    assert_same(&rt, &heard, &wanted);
 }
 
 #[test]

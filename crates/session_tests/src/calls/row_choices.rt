@@ -6,9 +6,14 @@ use super::lists::{next, up_to};
 use super::plain_rows::{plain_rows, root, rope_len};
 use super::texts::applied;
 use edit_commands::{Change, Command, Session};
-use span_certificate::SHALLOW_DEPTH;
 use std::alloc::AllocGlobal;
 use std::process::Abort;
+
+/// Ways down from a rope of at most this depth are short, and none of them is kept from row to row.
+const SHALLOW: u8 = 4;
+
+/// Those from a rope of at least this depth are kept.
+const DEEP: u8 = 9;
 
 /// A command without its places.
 #[derive(Clone, Copy)]
@@ -232,12 +237,12 @@ fn assert_rows<A: AllocGlobal + Abort>(rt: &A, session: &Session, k: u32) {
     }
 }
 
-/// Whether the root of revision `k` is deeper than a shallow rope.
-fn is_deep<A: Abort>(rt: &A, session: &Session, k: u32) -> bool {
+/// How deep the root of revision `k` is.
+fn depth_of<A: Abort>(rt: &A, session: &Session, k: u32) -> u8 {
     let rope = root(rt, session, k);
     let space = session.space();
     assert!(rt; space.has(rope));
-    space.depth(rope) > SHALLOW_DEPTH
+    space.depth(rope)
 }
 
 /// The same of each revision of a session, whose ropes are shallow and deep.
@@ -245,9 +250,9 @@ fn assert_all_rows<A: AllocGlobal + Abort>(rt: &A, session: &Session) {
     let (mut has_shallow, mut has_deep) = (false, false);
     for k in 0..session.count() {
         assert_rows(rt, session, k);
-        let deep = is_deep(rt, session, k);
-        has_shallow = has_shallow || !deep;
-        has_deep = has_deep || deep;
+        let depth = depth_of(rt, session, k);
+        has_shallow = has_shallow || depth <= SHALLOW;
+        has_deep = has_deep || depth >= DEEP;
     }
     assert!(rt; has_shallow && has_deep);
 }

@@ -1,0 +1,60 @@
+//! What codes mean, of runs that ended with them. With files, tests/program.sh shows it.
+
+use cord_explanations::explained;
+use cord_words::Action;
+use std::alloc::AllocGlobal;
+use std::fs::Files;
+use std::process::Abort;
+use std::test::Fail;
+
+/// Each code of a run is explained so.
+fn assert_explained<R: Files + AllocGlobal + Abort>(
+    rt: &R,
+    rows: &[(Action<'_>, &str, &str)],
+) -> Result<(), Fail> {
+    for (action, code, wanted) in rows {
+        let told = explained(rt, action, code).expect(rt, "an explanation");
+        assert_eq!(rt; told.code, *code);
+        let told = format!(in rt.alloc(); "{told}")?;
+        assert_eq!(rt; told.as_str(), *wanted);
+    }
+    Ok(())
+}
+
+#[test]
+fn codes_are_explained(rt: HostRuntime) -> Result<(), Fail> {
+    let alloc = rt.alloc();
+    assert_explained(
+        &rt,
+        &[
+            (
+                Action::CheckInput,
+                "C1(I3)",
+                "C1(I3): standard input is no image: it does not begin with CORDSESS",
+            ),
+            (
+                Action::Check {
+                    at_most: Some(1),
+                    image: "a.cord",
+                    sources: Vec::new(alloc),
+                },
+                "looks 9",
+                "looks 9: the check of a.cord may take 9 looks at nodes, more than --at-most allows",
+            ),
+            (
+                Action::Cut {
+                    start: 0,
+                    count: 1,
+                    file: "missing/a.txt",
+                },
+                "read",
+                "read: there is no file missing/a.txt",
+            ),
+            (
+                Action::Discard { keys: "a.keys" },
+                "J5",
+                "J5: a.keys is not there, or not the one that the session had",
+            ),
+        ],
+    )
+}
