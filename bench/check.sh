@@ -1,7 +1,8 @@
 #!/bin/sh
 # Times the check of images of a million nodes beside sha256sum of the same files, in one run: a session of 100,000 revisions of all
 # commands with rows of all kinds, and one insertion of 500,000 literals. With each, the rows verified a second, and the memory held
-# beside the image. Last, the image of 100,000 bytes whose check may take the most looks at nodes. It builds the program where it is not built, and makes the images by bench/make_image.py.
+# beside the image. Last, the image of 100,000 bytes that is the dearest by the number of docs/FORMAT.md: its check may take that many looks at nodes,
+# and takes fewer. It builds the program where it is not built, and makes the images by bench/make_image.py.
 set -eu
 cd "$(dirname "$0")/.."
 program=crates/cordkit/out/cordkit
@@ -46,7 +47,7 @@ measure "$source"
 python3 bench/make_image.py literals > "$image"
 measure
 
-# The image of 100,000 bytes whose check may take the most looks at nodes, once; then under a limit that is one lower, which refuses it.
+# The dearest image of 100,000 bytes by the number of docs/FORMAT.md, once; then under a limit that is one lower, which refuses it.
 looks=$(python3 bench/make_image.py dearest 2>&1 > "$image" | cut -d ' ' -f 1)
 took() {
     start=$(date +%s%N)

@@ -4,8 +4,8 @@
 make_image.py literals [N [L]]  the image of one insertion of N literals of L bytes (500,000 of 16 where no number is given)
 make_image.py session           the image of a session of 1,000,000 nodes and 100,000 revisions of all commands
 make_image.py source            the text of the session's source
-make_image.py dearest [BYTES]   an accepted image of at most so many bytes (100,000), whose check may take the most looks at nodes, by the number of
-                                docs/FORMAT.md, which goes to standard error; it takes fewer, since each byte lies beside the last one
+make_image.py dearest [BYTES]   the dearest image of at most so many bytes (100,000) by the number of docs/FORMAT.md, how many looks at nodes its check
+                                may take, which goes to standard error; it is accepted, by fewer looks, since each byte lies beside the last one
 """
 import struct
 import sys
