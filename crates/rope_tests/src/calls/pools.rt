@@ -72,21 +72,26 @@ fn holding(rt: &(impl AllocGlobal + Abort), bytes: &[u8]) -> Pool {
     Pool::holding(rt.alloc(), handed).expect(rt, "memory")
 }
 
+/// The pool has these bytes there.
+fn assert_gets(rt: &impl Abort, pool: &Pool, span: Piece, wanted: &[u8]) {
+    let held = get(pool, span).expect(rt, "a piece");
+    assert_same(rt, &held, &wanted);
+}
+
 // Bytes that are handed over are one block, however many they are.
 #[test]
 fn bytes_that_are_handed_over_take_no_more(rt: HostRuntime) {
     let handed = [b'a'; 70_000];
     let mut pool = holding(&rt, &handed);
     assert_same(&rt, &(pool.len(), pool.room()), &(70_000, 0));
-    let over_the_size = get(&pool, piece(65_530, 20));
-    assert_same(&rt, &over_the_size, &Some([b'a'; 20].as_slice()));
+    assert_gets(&rt, &pool, piece(65_530, 20), &[b'a'; 20]);
     assert_same(&rt, &extend(&mut pool, piece(69_999, 1), b"b"), &None);
     assert_same(&rt, &append(&mut pool, b"bc"), &Ok(piece(70_000, 2)));
     assert_same(&rt, &(pool.len(), pool.room()), &(70_002, 65_534));
     assert_same(&rt, &get(&pool, piece(69_999, 2)), &None);
     let longer = extend(&mut pool, piece(70_000, 2), b"d");
     assert_same(&rt, &longer, &Some(piece(70_000, 3)));
-    assert_same(&rt, &get(&pool, piece(70_001, 2)), &Some(b"cd".as_slice()));
+    assert_gets(&rt, &pool, piece(70_001, 2), b"cd");
     let mut none = holding(&rt, b"");
     assert_same(&rt, &(none.len(), none.room()), &(0, 0));
     assert_same(&rt, &append(&mut none, b"bc"), &Ok(piece(0, 2)));

@@ -180,6 +180,20 @@ fn copied(rt: &(impl AllocGlobal + Abort), store: &Store<Coded>) -> Store<Coded>
     Store::copied(rt.alloc(), store).expect(rt, "memory")
 }
 
+/// A byte more behind `abc`, which is the literal at `a` then, with so many nodes and bytes in the store.
+fn assert_grows<R: AllocGlobal + Abort>(
+    rt: &R,
+    store: &mut Store<Coded>,
+    abc: Rope,
+    a: u64,
+    counts: (u32, u64),
+) {
+    let longer = append(rt, store, abc, b"d");
+    assert_shape(rt, store, longer, NodeView::Lit { a }, 4, 0);
+    assert_shape(rt, store, abc, NodeView::Lit { a: 0 }, 3, 0);
+    assert_same(rt, &(store.count(), store.pool_len()), &counts);
+}
+
 // The bytes that a copy begins with stand in a block that takes no more, so its last literal does not grow in place: the byte that comes is a
 // literal by itself, and then one with the three before it.
 #[test]
@@ -187,11 +201,8 @@ fn a_copied_store_goes_on(rt: HostRuntime) {
     let mut store: Store<Coded> = Store::new(rt.alloc());
     let abc = literal(&rt, &mut store, b"abc");
     let mut copy = copied(&rt, &store);
-    for (store, a, counts) in [(&mut store, 0, (2, 4)), (&mut copy, 4, (3, 8))] {
-        let longer = append(&rt, store, abc, b"d");
-        assert_shape(&rt, store, longer, NodeView::Lit { a }, 4, 0);
-        assert_shape(&rt, store, abc, NodeView::Lit { a: 0 }, 3, 0);
-        assert_same(&rt, &(store.count(), store.pool_len()), &counts);
-    }
+    assert_grows(&rt, &mut store, abc, 0, (2, 4));
+    assert_grows(&rt, &mut copy, abc, 4, (3, 8));
+    assert!(rt; copy.pool_len() == 8);
     assert_same(&rt, &copy.pool(3), &b"dabcd".as_slice());
 }

@@ -108,8 +108,9 @@ fn a_copied_table_has_the_same_nodes(rt: HostRuntime) {
         &(table.count(), table.source_count()),
         &(store.count(), 1),
     );
+    assert!(rt; table.source_count() == 1);
     assert_same(&rt, &table.source_len(0), &20);
-    assert_same(&rt, &table.pool_len(), &3);
+    assert!(rt; table.pool_len() == 3);
     assert_same(&rt, &table.pool(0), &b"abc".as_slice());
     for k in 0..store.count() {
         let wanted = record_of(&rt, &store, NodeId(k));
