@@ -17,14 +17,14 @@ _cordkit_kinds() {
 _cordkit_options() {
     case $1 in
         cordkit-verify) echo --text --graph --at-most --help ;;
-        check | show | migrate) echo --at-most --explain --help ;;
-        log) echo --at-most --brief --explain --help ;;
-        find) echo --all --explain --help ;;
-        edit) echo --keep --session --no-clobber --discard --explain --help ;;
+        check | show | migrate) echo --at-most --explain --quiet --help ;;
+        log) echo --at-most --brief --explain --quiet --help ;;
+        find) echo --all --explain --quiet --help ;;
+        edit) echo --keep --session --no-clobber --discard --explain --quiet --help ;;
         cordedit) echo -f --copy --text --continue --discard --help ;;
         help) ;;
-        '') echo --explain --help --version ;;
-        *) echo --explain --help ;;
+        '') echo --explain --quiet --help --version ;;
+        *) echo --explain --quiet --help ;;
     esac
 }
 

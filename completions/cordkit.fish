@@ -7,6 +7,7 @@ complete -c cordkit -n $none -f
 complete -c cordkit -s h -l help -d 'Print help'
 complete -c cordkit -n $none -s V -l version -d 'Print version'
 complete -c cordkit -l explain -d 'Say what a refusal or a fault means'
+complete -c cordkit -l quiet -d 'Tell nothing of how far long work is'
 complete -c cordkit -n $none -a check -d 'Say whether a saved session is accepted, or by which fault it is refused'
 complete -c cordkit -n $none -a show -d 'Write the text of one revision of a saved session'
 complete -c cordkit -n $none -a cut -d 'Write a part of a file'

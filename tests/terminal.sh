@@ -271,6 +271,11 @@ for _ in 1 2 3 4 5 6; do
 done
 awaits 'long work that ended' 'the screen is' first_rows 1
 is_same 'no terminal' "$("$program" find --all 0 xyz sparse 2>&1; echo "status $?")" 'status 1'
+in_tmux kill-server 2> /dev/null
+session=$((session + 1))
+in_tmux new-session -d -x 80 -y 24 sh -c '"$0" find --all --quiet 0 xyz sparse; echo "status $?"; sleep 600' "$program"
+sleep 3
+is_same 'long work that is quiet' "$(in_tmux capture-pane -p | head -n 1)" ''
 
 echo "$passed passed, $failed failed"
 [ "$failed" = 0 ]

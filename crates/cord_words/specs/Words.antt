@@ -48,9 +48,15 @@ limit_rule = record (new_rule (codes "LOOKS")) { long = Some (codes "at-most") }
 abbrev pub flag_rule : Text → Rule
 flag_rule name = record (new_rule name) { long = Some name; action = Some SetTrue }
 
--- `--explain`, which the program has and each subcommand
 abbrev pub explain_rule : Rule
 explain_rule = flag_rule (codes "explain")
+
+abbrev pub quiet_rule : Rule
+quiet_rule = flag_rule (codes "quiet")
+
+-- the flags that the program has and each subcommand: `--explain` and `--quiet`
+abbrev pub with_flags : App → App
+with_flags a = with_rule (with_rule a explain_rule) quiet_rule
 
 -- `check [--at-most LOOKS] IMAGE [SOURCE]...`
 abbrev pub check_app : App
@@ -118,12 +124,12 @@ titled_app = on_top (λ s. record s { has_version = true }) (new_app (codes "cor
 
 -- the program with one more subcommand
 abbrev pub with_tool : App → App → App
-with_tool program tool = with_subcommand program (with_rule tool explain_rule).top
+with_tool program tool = with_subcommand program (with_flags tool).top
 
 -- the program, as clap is told of it: all its subcommands
 unfoldable pub cordkit_app : App
 cordkit_app = with_tool (with_tool (with_tool (with_tool (with_tool (with_tool (with_tool (with_tool (with_tool
-    (with_tool (with_rule titled_app explain_rule) check_app) show_app) cut_app) join_app) find_app) cmp_app) edit_app) migrate_app) log_app)
+    (with_tool (with_flags titled_app) check_app) show_app) cut_app) join_app) find_app) cmp_app) edit_app) migrate_app) log_app)
     apply_app
 
 -- ---- what was given
@@ -212,15 +218,15 @@ Holds given (Apply script sources) = Gives given (codes "apply") (λ rows.
 abbrev pub own_rows : List Text → List Row
 own_rows = matches_of cordkit_app
 
--- the flag `--explain` stands before the subcommand or behind it
-abbrev pub is_explained : List Row → Option (Text × List Row) → Bool
-is_explained own given =
-    is_set own (codes "explain") || option_map_or (λ rows. is_set rows (codes "explain")) (option_map (λ p. p.1) given) false
+-- the flag of this name stands before the subcommand or behind it
+abbrev pub is_said : List Row → Option (Text × List Row) → Text → Bool
+is_said own given flag = is_set own flag || option_map_or (λ rows. is_set rows flag) (option_map (λ p. p.1) given) false
 
 -- a request is what the words say
 pub record Asks (words : List Text) (request : Request) : Type 0 where
   pub action : Holds (subcommand_of cordkit_app words) request.action
-  pub explain : request.explain ≡ is_explained (own_rows words) (subcommand_of cordkit_app words)
+  pub explain : request.explain ≡ is_said (own_rows words) (subcommand_of cordkit_app words) (codes "explain")
+  pub quiet : request.quiet ≡ is_said (own_rows words) (subcommand_of cordkit_app words) (codes "quiet")
 
 abbrev pub IsOneOf : List Text → Text → Type 0
 IsOneOf [] n = ⊥

@@ -4,7 +4,7 @@ ghost use Rattle.std.specs.Prelude.{◌≡◌, IfOk, false};
 ghost use Rattle.clap.specs.Words.{App, Rule, app_of, new_app, rule_of, with_rule};
 ghost use Rattle.clap.specs.declared.builder.command.Command.TheViews.{out-Command as fields_of};
 ghost use Rattle.cord_words.specs.Words.{explain_rule, file_rule, flag_rule, image_rule, keep_rule, limit_rule};
-ghost use Rattle.cord_words.specs.Words.{optional_file_rule, required_rule, session_rule, sources_rule, start_rule};
+ghost use Rattle.cord_words.specs.Words.{optional_file_rule, quiet_rule, required_rule, session_rule, sources_rule, start_rule, with_flags};
 
 use clap::{Arg, ArgAction, Command};
 use std::alloc::{AllocError, Global};
@@ -31,7 +31,7 @@ pub fn with<'a>(
     command?.arg(argument)
 }
 
-/// The flag that each subcommand has, and the program before them.
+/// `--explain`
 pub fn explain<'a>(alloc: Global) -> Arg<'a>
     ensures rule { rule_of result ≡ explain_rule }
     ensures local { result.global ≡ false }
@@ -43,17 +43,29 @@ pub fn explain<'a>(alloc: Global) -> Arg<'a>
     )
 }
 
-/// The command with the flag `--explain`, where it could be made.
-pub fn explained<'a>(
+/// `--quiet`
+pub fn quiet<'a>(alloc: Global) -> Arg<'a>
+    ensures rule { rule_of result ≡ quiet_rule }
+    ensures local { result.global ≡ false }
+{
+    flag(
+        alloc,
+        "quiet",
+        "Tell nothing on the way of how far long work is",
+    )
+}
+
+/// The command with the flags that each subcommand has, and the program before them, where it could be made.
+pub fn with_flags<'a>(
     alloc: Global,
     command: Result<Command<'a>, AllocError>,
 ) -> Result<Command<'a>, AllocError>
     requires { IfOk command (λ c. (fields_of c).has_globals ≡ false) }
     ensures app { (a : App) → IfOk command.entry (λ c. app_of c ≡ a)
-        → IfOk result (λ c. app_of c ≡ with_rule a explain_rule) }
+        → IfOk result (λ c. app_of c ≡ with_flags a) }
     ensures local { IfOk result (λ c. (fields_of c).has_globals ≡ false) }
 {
-    with(command, explain(alloc))
+    with(with(command, explain(alloc)), quiet(alloc))
 }
 
 /// One value, which must be given.

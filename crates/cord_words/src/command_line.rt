@@ -5,7 +5,7 @@ ghost use Rattle.clap.specs.Words.{App, app_of, fault_of, found_of, kind_of, row
 ghost use Rattle.clap.specs.Words.{subcommand_rows_of, takes, with_subcommand};
 ghost use Rattle.clap.specs.declared.builder.command.Command.TheViews.{out-Command as fields_of};
 ghost use Rattle.clap.specs.declared.error.kind.ErrorKind.TheVariants.{ValueValidation};
-ghost use Rattle.cord_words.specs.Words.{Asks, DiscardsAlone, Holds, IsKnown, NumbersRead, cordkit_app, is_explained};
+ghost use Rattle.cord_words.specs.Words.{Asks, DiscardsAlone, Holds, IsKnown, NumbersRead, cordkit_app, is_said};
 ghost use Rattle.cord_words.specs.Words.{line_of, own_kinds, own_rows, refusal_kinds, titled_app, with_tool};
 ghost use Rattle.cord_words.specs.Refusals.{FailsAs};
 
@@ -44,7 +44,8 @@ pub fn words<'a>(alloc: Global, words: &'a [String]) -> Result<Request<'a>, Word
     let matches = matches_of(&mut command, words)?;
     let action = asked(alloc, &matches)?;
     Ok(Request {
-        explain: is_explained(&matches),
+        explain: is_said(&matches, "explain"),
+        quiet: is_said(&matches, "quiet"),
         action,
     })
 }
@@ -66,13 +67,13 @@ fn matches_of<'a>(
     Ok(command.try_get_matches_from_mut(words)?)
 }
 
-// Whether the flag `--explain` was given, before the subcommand or behind it.
-fn is_explained(matches: &ArgMatches<'_>) -> bool
-    ensures { result ≡ is_explained (rows_of (found_of matches.now)) (subcommand_rows_of matches.now) }
+// Whether the flag of this name was given, before the subcommand or behind it.
+fn is_said(matches: &ArgMatches<'_>, flag: &str) -> bool
+    ensures { result ≡ is_said (rows_of (found_of matches.now)) (subcommand_rows_of matches.now) flag.now }
 {
     match matches.subcommand() {
-        Some((_, given)) => given::flag(matches, "explain") || given::flag(given, "explain"),
-        None => given::flag(matches, "explain"),
+        Some((_, given)) => given::flag(matches, flag) || given::flag(given, flag),
+        None => given::flag(matches, flag),
     }
 }
 
@@ -131,7 +132,7 @@ fn alone<'a>(alloc: Global, name: &str) -> Result<Command<'a>, AllocError> {
         _ => Ok(titled(alloc)),
     };
     let path = format!(in alloc; "cordkit {name}")?;
-    args::explained(alloc, command)?.bin_name(path.as_str())
+    args::with_flags(alloc, command)?.bin_name(path.as_str())
 }
 
 /// The program's name, version and help.
@@ -159,7 +160,7 @@ fn add_subcommand<'a>(
     command.subcommand(subcommand?)
 }
 
-/// The program with one more subcommand, which has the flag `--explain` too.
+/// The program with one more subcommand, which has the flags of the program too.
 fn add_tool<'a>(
     alloc: Global,
     command: Result<Command<'a>, AllocError>,
@@ -170,14 +171,14 @@ fn add_tool<'a>(
         → IfOk tool.entry (λ c. app_of c ≡ s)
         → IfOk result (λ c. app_of c ≡ with_tool a s) }
 {
-    add_subcommand(command, args::explained(alloc, tool))
+    add_subcommand(command, args::with_flags(alloc, tool))
 }
 
 /// The program, as `clap` is told of it.
 fn cordkit<'a>(alloc: Global) -> Result<Command<'a>, AllocError>
     ensures { IfOk result (λ c. app_of c ≡ cordkit_app) }
 {
-    let command = args::explained(alloc, Ok(titled(alloc)));
+    let command = args::with_flags(alloc, Ok(titled(alloc)));
     let command = add_tool(alloc, command, check::command(alloc));
     let command = add_tool(alloc, command, show::command(alloc));
     let command = add_tool(alloc, command, cut::command(alloc));

@@ -40,17 +40,21 @@ fn check<L: Ledger, W: io::Write>(
     rt: &HostRuntime,
     opened: Result<OpenedImage<L>, ToolFault>,
     answer: &mut Answer<W>,
+    meter: &mut Meter<'_>,
 ) -> Result<Status, ToolFault> {
     match opened {
-        Ok(mut image) => run_check_told(
-            rt.alloc(),
-            image.file,
-            image.expected,
-            &mut image.sources,
-            image.at_most,
-            answer,
-            &mut Meter::new(rt, "records"),
-        ),
+        Ok(mut image) => {
+            meter.start("records");
+            run_check_told(
+                rt.alloc(),
+                image.file,
+                image.expected,
+                &mut image.sources,
+                image.at_most,
+                answer,
+                meter,
+            )
+        }
         Err(ToolFault::Source(refusal)) => refuse_check(rt.alloc(), refusal, answer),
         Err(fault) => Err(fault),
     }
@@ -79,8 +83,10 @@ fn show<L: Ledger>(
 fn migrate<L: Ledger>(
     rt: &HostRuntime,
     opened: Result<OpenedImage<L>, ToolFault>,
+    meter: &mut Meter<'_>,
 ) -> Result<Status, ToolFault> {
     let mut image = opened?;
+    meter.start("records");
     run_migrate_told(
         rt.alloc(),
         image.file,
@@ -88,7 +94,7 @@ fn migrate<L: Ledger>(
         &mut image.sources,
         image.at_most,
         &mut io::writer(rt),
-        &mut Meter::new(rt, "records"),
+        meter,
     )?;
     Ok(Status::Success)
 }
@@ -98,10 +104,11 @@ fn log<L: Ledger>(
     rt: &HostRuntime,
     opened: Result<OpenedImage<L>, ToolFault>,
     brief: bool,
+    meter: &mut Meter<'_>,
 ) -> Result<Status, ToolFault> {
     let mut image = opened?;
     let bytes = read_image(rt.alloc(), image.file, image.expected)?;
-    write_log(rt, &bytes, &mut image.sources, image.at_most, brief)?;
+    write_log(rt, &bytes, &mut image.sources, image.at_most, brief, meter)?;
     Ok(Status::Success)
 }
 
@@ -140,6 +147,7 @@ fn find<L: Ledger>(
     start: u64,
     pattern: &[u8],
     file: &str,
+    meter: &mut Meter<'_>,
     blank: Blank,
 ) -> Result<Status, ToolFault>
     requires name { blank.name ≡ L.name }
@@ -149,14 +157,14 @@ fn find<L: Ledger>(
     let mut sources = opened_sources::<L>(rt, &[file], blank)?;
     let mut writer = io::writer(rt);
     if all {
-        let mut meter = Meter::new(rt, "bytes");
+        meter.start("bytes");
         let found = run_find_all_told(
             rt.alloc(),
             &mut sources,
             start,
             pattern,
             &mut writer,
-            &mut meter,
+            &mut *meter,
         );
         meter.end();
         found
@@ -186,6 +194,7 @@ fn apply<L: Ledger, W>(
     script: &str,
     paths: &[&str],
     answer: &mut Answer<W>,
+    meter: &mut Meter<'_>,
     blank: Blank,
 ) -> Result<Status, ToolFault>
     requires name { blank.name ≡ L.name }
@@ -195,8 +204,8 @@ fn apply<L: Ledger, W>(
     let script = read_script(rt, script)?;
     let sources = opened_sources::<L>(rt, paths, blank)?;
     let lens = lens_of(rt.alloc(), &sources)?;
-    let mut meter = Meter::new(rt, "bytes");
-    let applied = run_apply_told(rt.alloc(), &script, &lens, &mut io::writer(rt), &mut meter);
+    meter.start("bytes");
+    let applied = run_apply_told(rt.alloc(), &script, &lens, &mut io::writer(rt), &mut *meter);
     meter.end();
     match applied {
         Ok(()) => Ok(Status::Success),
@@ -211,6 +220,7 @@ fn run_over_image<L: Ledger, W: io::Write>(
     rt: &HostRuntime,
     action: &Action<'_>,
     answer: &mut Answer<W>,
+    meter: &mut Meter<'_>,
     blank: Blank,
 ) -> Result<Status, ToolFault>
     requires name { blank.name ≡ L.name }
@@ -226,6 +236,7 @@ fn run_over_image<L: Ledger, W: io::Write>(
             rt,
             opened_image::<L>(rt, *at_most, image, sources, blank),
             answer,
+            meter,
         ),
         Action::Show {
             at_most,
@@ -241,7 +252,11 @@ fn run_over_image<L: Ledger, W: io::Write>(
             at_most,
             image,
             sources,
-        } => migrate(rt, opened_image::<L>(rt, *at_most, image, sources, blank)),
+        } => migrate(
+            rt,
+            opened_image::<L>(rt, *at_most, image, sources, blank),
+            meter,
+        ),
         Action::Log {
             at_most,
             brief,
@@ -251,6 +266,7 @@ fn run_over_image<L: Ledger, W: io::Write>(
             rt,
             opened_image::<L>(rt, *at_most, image, sources, blank),
             *brief,
+            meter,
         ),
         _ => run_stdin(rt.alloc(), rt.reader(), answer),
     }
@@ -262,6 +278,7 @@ fn run<L: Ledger, W: io::Write>(
     rt: &HostRuntime,
     action: &Action<'_>,
     answer: &mut Answer<W>,
+    meter: &mut Meter<'_>,
     blank: Blank,
 ) -> Result<Status, ToolFault>
     requires name { blank.name ≡ L.name }
@@ -273,7 +290,7 @@ fn run<L: Ledger, W: io::Write>(
         | Action::Check { .. }
         | Action::Show { .. }
         | Action::Migrate { .. }
-        | Action::Log { .. } => run_over_image::<L, W>(rt, action, answer, blank),
+        | Action::Log { .. } => run_over_image::<L, W>(rt, action, answer, meter, blank),
         Action::Cut { start, count, file } => cut::<L>(rt, *start, *count, file, blank),
         Action::Join { files } => join::<L>(rt, files.as_slice(), blank),
         Action::Find {
@@ -281,7 +298,7 @@ fn run<L: Ledger, W: io::Write>(
             start,
             pattern,
             file,
-        } => find::<L>(rt, *all, *start, pattern.as_bytes(), file, blank),
+        } => find::<L>(rt, *all, *start, pattern.as_bytes(), file, meter, blank),
         Action::Cmp { first, second } => compare::<L>(rt, first, second, blank),
         Action::Edit {
             keys,
@@ -302,7 +319,9 @@ fn run<L: Ledger, W: io::Write>(
             blank,
         ),
         Action::Discard { keys } => discard(rt, keys),
-        Action::Apply { script, sources } => apply::<L, W>(rt, script, sources, answer, blank),
+        Action::Apply { script, sources } => apply::<L, W>(
+            rt, script, sources, answer, meter, blank,
+        ),
     }
 }
 
@@ -349,7 +368,14 @@ fn tell_note<W>(rt: &HostRuntime, answer: &Answer<W>) {
 /// Does what is asked for, and explains how it ended.
 fn run_request(rt: &HostRuntime, request: &Request<'_>) -> Outcome {
     let mut answer = Answer::new(rt.alloc(), io::writer(rt));
-    let ended = run::<Brand, _>(rt, &request.action, &mut answer, Blank::new(u64::MAX));
+    let mut meter = Meter::new(rt, request.quiet);
+    let ended = run::<Brand, _>(
+        rt,
+        &request.action,
+        &mut answer,
+        &mut meter,
+        Blank::new(u64::MAX),
+    );
     let outcome = outcome(rt, ended);
     tell_note(rt, &answer);
     if request.explain {

@@ -13,10 +13,11 @@ const MOST: u64 = 16_384;
 const LONG: u64 = 100;
 
 /// A line on the terminal of standard error, which says what part of some work is done once the work has run for a second, and then
-/// once a second. It is wiped before anything is written.
+/// once a second. It is wiped before anything is written. Where the meter is quiet there is none.
 #[derive(Drop)]
 pub struct Meter<'a> {
     rt: &'a HostRuntime,
+    quiet: bool,
     /// What the work is counted by.
     parts: &'static str,
     all: u64,
@@ -31,22 +32,27 @@ pub struct Meter<'a> {
 }
 
 impl<'a> Meter<'a> {
-    /// The line of work that begins, which is counted by these parts.
-    pub fn new(rt: &'a HostRuntime, parts: &'static str) -> Meter<'a> {
-        let told = if rt.stderr().is_terminal() {
-            Instant::now(rt).ok()
-        } else {
-            None
-        };
+    /// The line of work that has not begun.
+    pub fn new(rt: &'a HostRuntime, quiet: bool) -> Meter<'a> {
         Meter {
             rt,
-            parts,
+            quiet,
+            parts: "",
             all: 0,
-            told,
-            asked: told,
+            told: None,
+            asked: None,
             step: 1,
             next: 0,
             stands: false,
+        }
+    }
+
+    /// Work begins that is counted by these parts.
+    pub fn start(&mut self, parts: &'static str) {
+        self.parts = parts;
+        if !self.quiet && self.rt.stderr().is_terminal() {
+            self.told = Instant::now(self.rt).ok();
+            self.asked = self.told;
         }
     }
 

@@ -72,6 +72,7 @@ pub fn write_log<S: Sources>(
     sources: &mut S,
     at_most: Option<u64>,
     brief: bool,
+    meter: &mut Meter<'_>,
 ) -> Result<(), ToolFault> {
     let texts = if brief {
         LogTexts::Brief
@@ -79,6 +80,7 @@ pub fn write_log<S: Sources>(
         LogTexts::Whole
     };
     let mut writer = BufWriter::with_capacity(rt.alloc(), PIECE, io::writer(rt)).map_err(told)?;
+    meter.start("records");
     let written = run_log_told(
         rt.alloc(),
         image,
@@ -86,7 +88,7 @@ pub fn write_log<S: Sources>(
         at_most,
         texts,
         &mut writer,
-        &mut Meter::new(rt, "records"),
+        meter,
     );
     let flushed = writer.flush();
     match written {

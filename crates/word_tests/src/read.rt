@@ -16,16 +16,17 @@ fn line<A: AllocGlobal>(rt: &A, text: &str) -> Result<Vec<String>, AllocError> {
     Ok(words)
 }
 
-/// What is read of a line, as it is written in Rust, behind a word where it is to be explained; the kind of the refusal alone; the
-/// version.
+/// What is read of a line, as it is written in Rust, behind a word where it is to be explained, and one where nothing is told on the way;
+/// the kind of the refusal alone; the version.
 fn told<A: AllocGlobal>(rt: &A, text: &str) -> Result<String, AllocError> {
     let alloc = rt.alloc();
     let line = line(rt, text)?;
     match words(alloc, line.as_slice()) {
         Ok(request) => {
             let explained = if request.explain { "explained " } else { "" };
+            let quiet = if request.quiet { "quiet " } else { "" };
             let action = request.action;
-            format!(in alloc; "{explained}{action:?}")
+            format!(in alloc; "{explained}{quiet}{action:?}")
         }
         Err(WordsFault::Version(error)) => format!(in alloc; "{error}"),
         Err(WordsFault::Memory) => Err(AllocError),
@@ -166,10 +167,21 @@ fn words_are_refused_by_their_kinds(rt: HostRuntime) -> Result<(), Fail> {
 }
 
 #[test]
-fn explanations_and_the_version_are_asked_for(rt: HostRuntime) -> Result<(), Fail> {
+fn explanations_silence_and_the_version_are_asked_for(rt: HostRuntime) -> Result<(), Fail> {
     assert_told(
         &rt,
         &[
+            ("cordkit --quiet", "quiet CheckInput"),
+            (
+                "cordkit cmp --quiet b a --explain",
+                r#"explained quiet Cmp { first: "b", second: "a" }"#,
+            ),
+            ("cordkit --quiet join a", r#"quiet Join { files: ["a"] }"#),
+            (
+                "cordkit cmp b -- --quiet",
+                r#"Cmp { first: "b", second: "--quiet" }"#,
+            ),
+            ("cordkit check a --quiet b --quiet", "ArgumentConflict"),
             ("cordkit --explain", "explained CheckInput"),
             (
                 "cordkit cmp b --explain a",

@@ -4,7 +4,7 @@ use Rattle.cord_words.proofs.command_line.cordkit.Goals as goal
 pub returns : goal.returns
 unfolding cordkit_app
 returns c =
-    let none = c.explained-command.ensures.app _ c.titled.ensures.app in
+    let none = c.with_flags-command.ensures.app _ c.titled.ensures.app in
     let one = c.add_tool-command.ensures _ _ none c.command.ensures.app in
     let two = c.add_tool-command-2.ensures _ _ one c.command-2.ensures.app in
     let three = c.add_tool-command-3.ensures _ _ two c.command-3.ensures.app in
