@@ -1,5 +1,5 @@
 -- The text of a session's first revision.
-use Rattle.std.proofs.Common.{◌≡◌, ℕ, ◌≤◌, inl, inr, List, [], ◌∷◌, ◌++◌, length, map, get_or, Some, None, Bool, true, false, refl, sym, ap, subst, arith, ◌∙◌}
+use Rattle.std.proofs.Common.{◌≡◌, ℕ, ◌<◌, ◌≤◌, inl, inr, List, [], ◌∷◌, ◌++◌, length, map, get_or, Option, Some, None, Bool, true, false, refl, sym, ap, subst, arith, ◌∙◌}
 use Rattle.std.specs.Prelude.{◌↔◌, slice_get, IsTrue}
 use Rattle.std.specs.List.{range_with_len}
 use Rattle.std.proofs.lemmas.List.{length-map}
@@ -13,10 +13,11 @@ use Rattle.span_certificate.specs.Commands.{FullEdit, result_of, with_splices}
 use Rattle.edit_commands.specs.declared.revision.Revision.{Revision}
 use Rattle.edit_commands.specs.Applying.{Applies}
 use Rattle.edit_commands.specs.Building.{splices_with}
-use Rattle.edit_commands.specs.Session.{HoldsHistory, SessionValue, command_of, commands_of, splices_held, session_table, text_givens, texts_of}
+use Rattle.edit_commands.specs.Session.{HoldsHistory, SessionValue, command_of, commands_of, length_at, splices_held, session_table, text_givens, texts_of}
 use Rattle.screen_editor.specs.declared.workspace.TheConstants.{LONGEST_TEXT}
 use Rattle.screen_editor.specs.Editing.{Editing, state_of}
-use Rattle.screen_editor.specs.Opening.{IsFirst}
+use Rattle.screen_editor.specs.Opening.{IsFirst, opened}
+use Rattle.screen_editor.specs.Priors.{priors_of}
 use Rattle.screen_editor.specs.Recorded.{IsPlain, edit_at, edits_of}
 use Rattle.screen_editor.specs.Refusals.{IsTooLong, first_command}
 use Rattle.screen_editor.specs.Revising.{IsMade, first_text}
@@ -69,16 +70,27 @@ first_made sizes old new k applies is_sources none history short =
     texts_are sizes new edit history command one given source =
         alone (texts_of source new) (first_text source sizes) ((history.texts source).whole ∙ one) ((history.texts source).each 0 edit command ∙ given source)
 
-pub is_short : (test : Bool) (st : Stated) → (IsTrue test) ↔ IsTooLong st → test ≡ false → get_or st.sizes 0 0 ≤ LONGEST_TEXT
-is_short test st h e = elim (cases_lt LONGEST_TEXT (get_or st.sizes 0 0)) [
+pub first_short : (sizes : List ℕ) (v : SessionValue) → IsFirst sizes v → (k : ℕ) → k < length v.revisions → length_at v k ≤ LONGEST_TEXT
+first_short sizes v first k lt = let at : 0 ≡ k = omega (arith, lt, first.one) in subst (λ n. length_at v n ≤ LONGEST_TEXT) at first.short
+
+pub is_short_source : (test : Bool) (sizes : List ℕ) → (IsTrue test) ↔ (LONGEST_TEXT < get_or sizes 0 0) → test ≡ false → get_or sizes 0 0 ≤ LONGEST_TEXT
+is_short_source test sizes h e = elim (cases_lt LONGEST_TEXT (get_or sizes 0 0)) [
   | inl long ↦ (let same : false ≡ true = sym e ∙ h.1 long in absurd cc)
   | inr short ↦ short
 ]
 
+pub is_short : (test : Bool) (st : Stated) → (IsTrue test) ↔ IsTooLong st → test ≡ false → get_or st.sizes 0 0 ≤ LONGEST_TEXT
+is_short test st h e = is_short_source test st.sizes h e
+
 -- an editor of such a session, at its first byte
-pub begun : (sizes : List ℕ) (v : SessionValue) (e : Editing) → IsFirst sizes v → e ≡ record { session = v; priors = None ∷ []; place = 0; mark = None; cuts = []; message = None } → IsMade sizes e
+first_prior : (sizes : List ℕ) → priors_of (edit_at 0 (first_command sizes) ∷ []) ≡ None ∷ []
+first_prior [] = refl
+first_prior (n ∷ sizes) = refl
+
+pub begun : (sizes : List ℕ) (v : SessionValue) (e : Editing) → IsFirst sizes v → e ≡ opened v → IsMade sizes e
 begun sizes v e first is = record {
   state = λ source. ap (state_of source) is
+      ∙ ap (λ (ps : List (Option ℕ)). record { texts = texts_of source v; priors = ps; place = 0; mark = None; cuts = []; message = None }) (ap priors_of first.command ∙ first_prior sizes)
       ∙ ap (λ (ts : List (List ℕ)). record { texts = ts; priors = None ∷ []; place = 0; mark = None; cuts = []; message = None }) (first.text source);
   command = ap (λ (x : Editing). edits_of x.session.revisions) is ∙ first.command;
 }

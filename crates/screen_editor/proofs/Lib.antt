@@ -12,6 +12,8 @@ pub mod LineSearches
 pub mod LineTurns
 pub mod NearLaws
 pub mod HeldLaws
+pub mod PriorLaws
+pub mod OpenedSessions
 pub mod Revising
 pub mod KeyPlans
 pub mod KeyCommands

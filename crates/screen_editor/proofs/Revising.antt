@@ -23,25 +23,16 @@ use Rattle.screen_editor.specs.declared.fault.KeyFault.TheVariants as Fault
 use Rattle.screen_editor.specs.declared.workspace.TheConstants.{LONGEST_TEXT}
 use Rattle.screen_editor.specs.Editing.{Editing, IsCutSpan, IsEditing}
 use Rattle.screen_editor.specs.Taking.{IsInOrder, IsReviseFault, RevisesOrNot}
-use Rattle.screen_editor.proofs.NewTexts.{count_texts, given_len, text_given, text_len, texts_more}
+use Rattle.span_certificate.specs.declared.edit.Edit.{Edit}
+use Rattle.screen_editor.specs.Priors.{prior_behind, priors_of}
+use Rattle.screen_editor.specs.Recorded.{edit_at, edits_of}
+use Rattle.screen_editor.proofs.NewTexts.{count_texts, edits_more, given_len, plain_of, text_given, text_len, texts_more}
+use Rattle.screen_editor.proofs.PriorLaws.{earlier_after, prior_anywhere, priors_more}
 
 no_source : ℕ → ℕ → ℕ
 no_source s p = 0
 
 -- ---- one revision more
-
--- an earlier revision's prior is as it was, and the new one's is the one given
-earlier_after : (ps : List (Option ℕ)) (prior : Option ℕ) → ((k j : ℕ) → slice_get ps k ≡ Some (Some j) → j < k) → IfSome prior (λ j. j < length ps)
-    → (k j : ℕ) → slice_get (ps ++ prior ∷ []) k ≡ Some (Some j) → j < k
-earlier_after ps prior earlier given k j e = elim (cases_lt k (length ps)) [
-  | inl lt ↦ earlier k j (sym (slice_get-append_left ps (prior ∷ []) k lt) ∙ e)
-  | inr ge ↦ last (k - length ps) prior given (sym (slice_get-append_right ps (prior ∷ []) k (k - length ps) (omega (arith, ge))) ∙ e) ge
-]
-  where
-    last : (i : ℕ) (o : Option ℕ) → IfSome o (λ j. j < length ps) → slice_get (o ∷ []) i ≡ Some (Some j) → length ps ≤ k → j < k
-    last zero None given e ge = absurd cc
-    last zero (Some i) given e ge = let same : i ≡ j = same_Some i j (same_Some (Some i) (Some j) e) in omega (arith, given, same, ge)
-    last (suc i) o given e ge = absurd cc
 
 -- the cut spans lie where they did, where earlier texts are as long as they were
 cut_kept : (old new : SessionValue) → length old.revisions ≤ length new.revisions → ((k : ℕ) → k < length old.revisions → length_at new k ≡ length_at old k) → (c : CutSpan) → IsCutSpan old c → IsCutSpan new c
@@ -74,8 +65,9 @@ abbrev pub with_revision : Editing → SessionValue → Option ℕ → ℕ → E
 with_revision old session prior q = record old { session = session; priors = old.priors ++ prior ∷ []; place = q; mark = None }
 
 pub revised_kept : (old : Editing) (prior : Option ℕ) (q n : ℕ) (session : SessionValue) → IsEditing old → IsSession session → LengthsMore old.session n session
-    → n ≤ LONGEST_TEXT → q ≤ n → IfSome prior (λ j. j < length old.session.revisions) → IsEditing (with_revision old session prior q)
-revised_kept old prior q n session e s l short place given =
+    → n ≤ LONGEST_TEXT → q ≤ n → IfSome prior (λ j. j < length old.session.revisions)
+    → (edit : Edit) → edits_of session.revisions ≡ edits_of old.session.revisions ++ edit ∷ [] → prior ≡ prior_behind old.priors edit → IsEditing (with_revision old session prior q)
+revised_kept old prior q n session e s l short place given edit edits named =
     let count = l.count in
     let last : length session.revisions - 1 ≡ length old.session.revisions = omega (arith, count) in
     let len : length_at session (length session.revisions - 1) ≡ n = ap (length_at session) last ∙ l.last in
@@ -83,6 +75,8 @@ revised_kept old prior q n session e s l short place given =
       session = s;
       some = omega (arith, count);
       priors = length-append old.priors (prior ∷ []) ∙ ap (λ n. n + 1) e.priors ∙ sym count;
+      named = ap (λ (o : Option ℕ). old.priors ++ o ∷ []) named ∙ ap (λ (ps : List (Option ℕ)). ps ++ prior_behind ps edit ∷ []) e.named
+          ∙ sym (priors_more [] (edits_of old.session.revisions) edit) ∙ sym (ap priors_of edits);
       earlier = earlier_after old.priors prior e.earlier (subst (λ n. IfSome prior (λ j. j < n)) (sym e.priors) given);
       short = λ k lt. elim (cases_lt k (length old.session.revisions)) [
         | inl before ↦ subst (λ m. m ≤ LONGEST_TEXT) (sym (l.earlier k before)) (e.short k before)
@@ -107,6 +101,7 @@ refused_kept old session e h keeps same s k =
       session = s;
       some = omega (arith, count, e.some);
       priors = e.priors ∙ sym count;
+      named = e.named ∙ ap (λ (rs : List Revision). priors_of (edits_of rs)) (sym same);
       earlier = e.earlier;
       short = λ i lt. subst (λ m. m ≤ LONGEST_TEXT) (sym (at i)) (e.short i (omega (arith, lt, count)));
       place = subst (λ m. old.place ≤ m) (sym len) e.place;
@@ -256,6 +251,9 @@ applied_number old command k new a = subst (λ n. Applies old command n new) a.n
 
 pub after_revision : (old : Editing) (command : Command) (k : ℕ) (prior : Option ℕ) (q : ℕ) (session : SessionValue) → IsEditing old → HoldsHistory old.session → AppliesOrNot old.session command (Ok k) session → IsSession session → HoldsHistory session
     → IsInOrder old.session command → result_len old.session command ≤ LONGEST_TEXT → q ≤ result_len old.session command → IfSome prior (λ j. j < length old.session.revisions)
-    → IsEditing (with_revision old session prior q)
-after_revision old command k prior q session e h a s history o short place given =
-    revised_kept old prior q (result_len old.session command) session e s (lengths_more old.session command session h history o (applied_number old.session command k session a.made)) short place given
+    → prior ≡ prior_behind old.priors (edit_at 0 command) → IsEditing (with_revision old session prior q)
+after_revision old command k prior q session e h a s history o short place given named =
+    let applies = applied_number old.session command k session a.made in
+    let place_of = get_or applies.is.places 0 0 in
+    revised_kept old prior q (result_len old.session command) session e s (lengths_more old.session command session h history o applies) short place given
+    (edit_at place_of command) (edits_more old.session command session (plain_of old.session command o) applies) (named ∙ sym (prior_anywhere old.priors place_of command))

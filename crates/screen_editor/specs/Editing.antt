@@ -14,6 +14,8 @@ use Rattle.screen_editor.specs.declared.cut_span.TheConstants.{MOST_CUTS}
 use Rattle.screen_editor.specs.declared.fault.KeyFault.{KeyFault}
 use Rattle.screen_editor.specs.declared.fault.KeyFault.TheVariants as Key
 use Rattle.screen_editor.specs.declared.workspace.TheConstants.{LONGEST_TEXT}
+use Rattle.screen_editor.specs.Priors.{priors_of}
+use Rattle.screen_editor.specs.Recorded.{edits_of}
 use Rattle.screen_editor.specs.State.{EditorState}
 
 -- the code that a message names
@@ -95,12 +97,13 @@ pub record IsCutSpan (v : SessionValue) (c : CutSpan) : Type 0 where
   pub inside : c.start + c.len ≤ length_at v c.revision
   pub some : 1 ≤ c.len
 
--- There is a revision, each has its prior, and each text is short enough; the place and the mark lie in the current
--- text, and the cut spans in theirs.
+-- There is a revision, each has its prior, which its command names, and each text is short enough; the place and the mark lie in
+-- the current text, and the cut spans in theirs.
 pub record IsEditing (e : Editing) : Type 0 where
   pub session : IsSession e.session
   pub some : 1 ≤ length e.session.revisions
   pub priors : length e.priors ≡ length e.session.revisions
+  pub named : e.priors ≡ priors_of (edits_of e.session.revisions)
   pub earlier : (k j : ℕ) → slice_get e.priors k ≡ Some (Some j) → j < k
   pub short : (k : ℕ) → k < length e.session.revisions → length_at e.session k ≤ LONGEST_TEXT
   pub place : e.place ≤ current_len e

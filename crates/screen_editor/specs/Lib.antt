@@ -15,4 +15,5 @@ pub mod LineKeys
 pub mod Runs
 pub mod Turns
 pub mod Playing
+pub mod Priors
 pub mod Rows

@@ -5,6 +5,7 @@ ghost use Rattle.cord_position.specs.Fetched.{ReadsSpan};
 ghost use Rattle.screen_editor.specs.Editing.{IsEditor, current_cell, current_len, over, seen};
 ghost use Rattle.screen_editor.specs.Keys.{key_of, looks_for_lines};
 ghost use Rattle.screen_editor.specs.LineKeys.{FindsLinePlace, Takes};
+ghost use Rattle.screen_editor.specs.Opening.{IsOpenFault, IsTooLongToOpen, OpensSession};
 ghost use Rattle.screen_editor.specs.Revising.{IsMade, TakesKey};
 ghost use Rattle.screen_editor.specs.Refusals.{IsNewFault, IsTooLong};
 ghost use Rattle.screen_editor.specs.Runs.{MakesFrame};
@@ -13,7 +14,7 @@ use crate::fault::{EditorFault, FrameFault, KeyFault};
 use crate::frame::frame_about;
 use crate::key::{Key, Step};
 use crate::lines::{line_end, line_start, place_down, place_up};
-use crate::opening::first_session;
+use crate::opening::{first_session, opened_session};
 use crate::workspace::Workspace;
 use edit_commands::Session;
 use lazy_file::{SourceFault, Sources};
@@ -144,7 +145,30 @@ impl<R: Sources + Drop> Editor<R> {
         ensures fault { IfErr result (IsNewFault (R.reading sources).stated) }
     {
         let session = first_session(alloc, &sources)?;
-        let workspace = Workspace::new(alloc, session)?;
+        let workspace = Workspace::over(alloc, session)?;
+        Ok(Editor {
+            alloc,
+            sources,
+            workspace,
+        })
+    }
+
+    /// An editor that goes on with a session over its sources, at the first byte of its last text; where it has no revision, with the text of
+    /// source 0, or an empty one where there is no source.
+    ///
+    /// # Errors
+    ///
+    /// `TooLong` where a text of the session has more than 2,147,483,647 bytes, or, where it has none, source 0. `Edit` where the session has no
+    /// revision, and refuses its first. `Memory`, where memory was refused.
+    pub fn over(alloc: Global, sources: R, session: Session) -> Result<Editor<R>, EditorFault>
+        requires { session.held.sources ≡ (R.reading sources).stated.sizes }
+        ensures sources { IfOk result (λ e. e.sources ≡ sources) }
+        ensures opens { IfOk result (λ e. OpensSession session e.editing) }
+        ensures too_long { IsErrOf result EditorFault.TooLong ↔ IsTooLongToOpen session }
+        ensures fault { IfErr result (IsOpenFault session) }
+    {
+        let session = opened_session(session)?;
+        let workspace = Workspace::over(alloc, session)?;
         Ok(Editor {
             alloc,
             sources,

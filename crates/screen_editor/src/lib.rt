@@ -16,6 +16,7 @@ pub mod laws;
 mod lines;
 mod near;
 mod opening;
+mod priors;
 mod rows;
 mod running;
 mod window;

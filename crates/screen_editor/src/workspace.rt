@@ -1,17 +1,21 @@
 //! A session as it is edited.
 
 ghost use Rattle.std.specs.Prelude.{◌≡◌, ◌≤◌, ◌<◌, IfOk, IfSome, None, Some};
-ghost use Rattle.std.specs.Prelude.{[], ◌∷◌, drop, get_or, length, slice_get, take};
+ghost use Rattle.std.specs.Prelude.{ℕ, ◌∷◌, drop, get_or, length, slice_get, take};
 ghost use Rattle.rope_node.specs.Denotes.{IsRope};
 ghost use Rattle.edit_commands.specs.Refusals.{result_len};
 ghost use Rattle.edit_commands.specs.Session.{HoldsHistory, length_at, session_table};
 ghost use Rattle.screen_editor.specs.declared.cut_span.TheConstants.{MOST_CUTS};
 ghost use Rattle.screen_editor.specs.declared.workspace.TheConstants.{LONGEST_TEXT};
 ghost use Rattle.screen_editor.specs.Editing.{IsCutSpan, IsEditing, current_len, current_root, last_of};
+ghost use Rattle.screen_editor.specs.Opening.{opened};
+ghost use Rattle.screen_editor.specs.Priors.{prior_behind};
+ghost use Rattle.screen_editor.specs.Recorded.{edit_at};
 ghost use Rattle.screen_editor.specs.Taking.{IsInOrder, RevisesOrNot};
 
 use crate::cut_span::{CutSpan, MOST_CUTS};
 use crate::fault::KeyFault;
+use crate::priors::priors_of;
 use circular_buffer::HeapCircularBuffer;
 use edit_commands::{Command, EditFault, Session};
 use rope_node::{Rope, rope_len};
@@ -63,26 +67,20 @@ impl Model for Workspace {
 }
 
 impl Workspace {
-    /// A session's one revision, at its first byte.
+    /// A session's last revision, at its first byte.
     ///
     /// # Errors
     ///
     /// `AllocError` where memory is refused.
-    pub fn new(alloc: Global, session: Session) -> Result<Workspace, AllocError>
-        requires one { length session.revisions ≡ 1 }
-        requires short { length_at session 0 ≤ LONGEST_TEXT }
-        ensures { IfOk result (λ made. made ≡ record {
-          session = session;
-          priors = None ∷ [];
-          place = 0;
-          mark = None;
-          cuts = [];
-          message = None;
-        }) }
+    #[tactic(auto, using(crate::proofs::OpenedSessions::opened_kept))]
+    pub fn over(alloc: Global, session: Session) -> Result<Workspace, AllocError>
+        requires some { 1 ≤ length session.revisions }
+        requires short { (k : ℕ) → k < length session.revisions → length_at session k ≤ LONGEST_TEXT }
+        ensures { IfOk result (λ made. made ≡ opened session) }
     {
         // The session keeps its rules, as its count says.
         let _revisions = session.count();
-        let priors = vec![in alloc; None]?;
+        let priors = priors_of(alloc, &session)?;
         let cuts = HeapCircularBuffer::with_capacity(alloc, MOST_CUTS)?;
         Ok(Workspace {
             session,
@@ -226,6 +224,7 @@ impl Workspace {
         requires short { result_len self.old.session command ≤ LONGEST_TEXT }
         requires place { place ≤ result_len self.old.session command }
         requires prior { IfSome prior (λ j. j < length self.old.session.revisions) }
+        requires named { prior ≡ prior_behind self.old.priors (edit_at 0 command) }
         ensures done { RevisesOrNot command.entry prior place self.old result self.new }
         ensures history { HoldsHistory self.new.session }
     {

@@ -3,6 +3,8 @@ use Rattle.edit_commands.specs.Refusals.{result_len}
 use Rattle.screen_editor.specs.declared.workspace.TheConstants.{LONGEST_TEXT}
 use Rattle.screen_editor.specs.declared.fault.KeyFault.TheVariants as Fault
 use Rattle.screen_editor.specs.Editing.{Editing}
+use Rattle.screen_editor.specs.Priors.{prior_behind}
+use Rattle.screen_editor.specs.Recorded.{edit_at}
 use Rattle.screen_editor.specs.Taking.{IsInOrder, RevisesOrNot}
 use Rattle.screen_editor.proofs.Revising.{after_fault, after_revision, refused_in_order}
 use Rattle.screen_editor.proofs.workspace.Workspace.revise.Goals as goal
@@ -22,7 +24,8 @@ invariant_of-self-2 c =
           (subst (λ (e : Editing). IsInOrder e.session c.args.command) (sym c.self.view_is) c.requires.order)
           (subst (λ (e : Editing). result_len e.session c.args.command ≤ LONGEST_TEXT) (sym c.self.view_is) c.requires.short)
           (subst (λ (e : Editing). c.args.place ≤ result_len e.session c.args.command) (sym c.self.view_is) c.requires.place)
-          (subst (λ (e : Editing). IfSome c.args.prior (λ j. j < length e.session.revisions)) (sym c.self.view_is) c.requires.prior),
+          (subst (λ (e : Editing). IfSome c.args.prior (λ j. j < length e.session.revisions)) (sym c.self.view_is) c.requires.prior)
+          (subst (λ (e : Editing). c.args.prior ≡ prior_behind e.priors (edit_at 0 c.args.command)) (sym c.self.view_is) c.requires.named),
       c.self.invariant.1,
     )
 
