@@ -1,5 +1,5 @@
 -- Bytes of a text that are held, and the line breaks among them.
-use Rattle.std.proofs.Common.{◌≡◌, ℕ, zero, suc, ◌+◌, ◌-◌, ◌<◌, ◌≤◌, Bool, true, not, cond, List, [], ◌∷◌, ◌++◌, length, take, drop, get_or, reverse, inl, inr, refl, sym, ap, subst, ◌∙◌, add-one, arith}
+use Rattle.std.proofs.Common.{◌≡◌, ℕ, zero, suc, ◌+◌, ◌-◌, ◌<◌, ◌≤◌, Bool, true, not, cond, Option, Some, None, List, [], ◌∷◌, ◌++◌, length, take, drop, get_or, reverse, inl, inr, ◌⊎◌, IfSome, Result, Ok, Err, IfOk, refl, sym, ap, subst, ◌∙◌, add-one, arith}
 use Rattle.std.specs.List.{position_or_len, prefix_len, suffix_len}
 use Rattle.std.proofs.lemmas.Bool.{cases_Bool, cases_lt, lt-ltb, le-ltb, ne_eqb, eq-eqb}
 use Rattle.std.proofs.lemmas.List.{take-take, drop_all, take-append-drop, take_all, drop-take, drop-drop, get_or-drop, get_or-take, length-take, length-drop, length-append, length-take-le, length-reverse, reverse-append}
@@ -7,24 +7,30 @@ use Rattle.std.proofs.lemmas.List.Folds.{prefix_len-append}
 use Rattle.std.proofs.lemmas.List.Sums.{prefix_len-le-length, suffix_len-take_yes, suffix_len-take_no}
 use Rattle.std.proofs.Math.Seq.{drop-append_seam, take-add}
 use Rattle.screen_editor.specs.HeldBytes.{HeldPart, held_up_to, held_starting_at, AreHeld}
+use Rattle.screen_editor.specs.declared.known.KnownLine.{KnownLine}
+use Rattle.screen_editor.specs.KnownLines.{IsKnownIn}
 use Rattle.screen_editor.specs.Lines.{is_break, column, line_start, line_end}
+use Rattle.screen_editor.specs.Rows.{IsLineStart}
+use Rattle.screen_editor.proofs.KnownLaws.{line_found, next_begins}
 use Rattle.screen_editor.proofs.LineLaws.{stands_tells}
 use Rattle.cord_search.specs.Places.{StandsAt}
 use borrow.Rule.Slice.PartMut.{Post-is, put_mid}
 
 -- ---- more bytes
 
-pub none_held : (t : List ℕ) (place : ℕ) → place ≤ length t → AreHeld (record { from = place; bytes = [] }) t
-none_held t place inside = record { inside = omega (arith, inside); bytes = refl }
+pub none_held : (t : List ℕ) (h : HeldPart) (place : ℕ) → place ≤ length t → AreHeld h t → AreHeld (record h { from = place; bytes = [] }) t
+none_held t h place inside held = record { inside = omega (arith, inside); bytes = refl; begun = held.begun; known = held.known }
 
 -- those that stand one behind the other in the text are held together
-pub held_together : (t a b : List ℕ) (from : ℕ) → AreHeld (record { from = from; bytes = a }) t → AreHeld (record { from = from + length a; bytes = b }) t → AreHeld (record { from = from; bytes = a ++ b }) t
-held_together t a b from front back =
+pub held_together : (t : List ℕ) (h : HeldPart) (a b : List ℕ) (from : ℕ) → AreHeld (record h { from = from; bytes = a }) t → AreHeld (record h { from = from + length a; bytes = b }) t → AreHeld (record h { from = from; bytes = a ++ b }) t
+held_together t h a b from front back =
     let both : length (a ++ b) ≡ length a + length b = length-append a b in
     let rest : take (length b) (drop (length a) (drop from t)) ≡ b = ap (take (length b)) (drop-drop (length a) from t) ∙ sym back.bytes in
     record {
       inside = omega (arith, both, back.inside);
       bytes = sym (ap (λ (m : ℕ). take m (drop from t)) both ∙ take-add (length a) (length b) (drop from t) ∙ ap (λ (xs : List ℕ). take (length a) (drop from t) ++ xs) rest ∙ ap (λ (xs : List ℕ). xs ++ b) (sym front.bytes));
+      begun = front.begun;
+      known = front.known;
     }
 
 -- what is written before those in the array is held with them
@@ -36,15 +42,15 @@ written_before arr near first start before inside =
     ap (λ (xs : List ℕ). drop first (pre ++ (near ++ xs))) (Post-is first start arr before)
     ∙ ap (λ (k : ℕ). drop k (pre ++ (near ++ rest))) (sym front) ∙ drop-append_seam pre (near ++ rest)
 
-pub more_before : (t near arr : List ℕ) (from first start : ℕ) → first ≤ start → start ≤ length arr → start - first ≤ from → length near ≡ start - first
-    → AreHeld (record { from = from; bytes = drop start arr }) t → near ≡ take (length near) (drop (from - (start - first)) t)
-    → AreHeld (record { from = from - (start - first); bytes = drop first (put_mid first (start - first) arr near) }) t
-more_before t near arr from first start before inside few long held is =
+pub more_before : (t near arr : List ℕ) (h : HeldPart) (from first start : ℕ) → first ≤ start → start ≤ length arr → start - first ≤ from → length near ≡ start - first
+    → AreHeld (record h { from = from; bytes = drop start arr }) t → near ≡ take (length near) (drop (from - (start - first)) t)
+    → AreHeld (record h { from = from - (start - first); bytes = drop first (put_mid first (start - first) arr near) }) t
+more_before t near arr h from first start before inside few long held is =
     let n = start - first in
     let at : from - n + length near ≡ from = omega (arith, few, long) in
     let old : List ℕ = drop start arr in
-    let front : AreHeld (record { from = from - n; bytes = near }) t = record { inside = omega (arith, held.inside, at); bytes = is } in
-    rw (written_before arr near first start before inside) (held_together t near old (from - n) front (subst (λ (p : ℕ). AreHeld (record { from = p; bytes = old }) t) (sym at) held))
+    let front : AreHeld (record h { from = from - n; bytes = near }) t = record { inside = omega (arith, held.inside, at); bytes = is; begun = held.begun; known = held.known } in
+    rw (written_before arr near first start before inside) (held_together t h near old (from - n) front (subst (λ (p : ℕ). AreHeld (record h { from = p; bytes = old }) t) (sym at) held))
 
 -- ---- the first break behind a place
 
@@ -197,3 +203,33 @@ none_before t h place from held first last all k above below stands =
     let byte : get_or t k 0 ≡ 10 = stands_tells t k 10 stands in
     let passes : plain (get_or t k 0) ≡ true = ap plain (sym same) ∙ passes in
     absurd (let told : plain 10 ≡ true = ap plain (sym byte) ∙ passes in cc)
+
+-- ---- a line that was passed
+
+-- the line that was known to begin is known, or what was known before; where the text goes on, the next line begins behind it
+pub line_passed : (t : List ℕ) (h : HeldPart) (start end len : ℕ) (begun : Option ℕ) (known : Option KnownLine) → AreHeld h t → h.begun ≡ Some start → start ≤ length t → end ≡ line_end t start → len ≡ length t
+    → (known ≡ Some (record { start = start; end = end })) ⊎ (known ≡ h.known) → (begun ≡ None) ⊎ ((begun ≡ Some (end + 1)) × (end < len)) → AreHeld (record h { begun = begun; known = known }) t
+line_passed t h start end len begun known held is inside ends long knows next =
+    let begins : IsLineStart t start = subst (λ (o : Option ℕ). IfSome o (IsLineStart t)) is held.begun in
+    record {
+      inside = held.inside;
+      bytes = held.bytes;
+      begun = elim next [ inl none ↦ subst (λ (o : Option ℕ). IfSome o (IsLineStart t)) (sym none) tt | inr some ↦ subst (λ (o : Option ℕ). IfSome o (IsLineStart t)) (sym some.0) (next_begins t start end ends (omega (arith, some.1, long))) ];
+      known = elim knows [
+        | inl new ↦ subst (λ (o : Option KnownLine). IsKnownIn o t) (sym new) (line_found t start end begins inside ends)
+        | inr old ↦ subst (λ (o : Option KnownLine). IsKnownIn o t) (sym old) held.known
+      ];
+    }
+
+-- a line begins there
+pub line_begun : (t : List ℕ) (h : HeldPart) (place : ℕ) → AreHeld h t → IsLineStart t place → AreHeld (record h { begun = Some place }) t
+line_begun t h place held begins = record { inside = held.inside; bytes = held.bytes; begun = begins; known = held.known }
+
+-- none are held, and this line is known
+pub known_held : (t : List ℕ) (known : Option KnownLine) → IsKnownIn known t → AreHeld (record { from = 0; bytes = []; begun = None; known = known }) t
+known_held t known is = record { inside = omega arith; bytes = refl; begun = tt; known = is }
+
+-- what is so in any case
+pub ok_any : {X E : Type 0} (P : Type 0) (result : Result X E) → P → IfOk result (λ x. P)
+ok_any P (Ok x) p = p
+ok_any P (Err e) p = tt

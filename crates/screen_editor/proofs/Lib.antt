@@ -29,3 +29,6 @@ pub mod PlainKeys
 pub mod LaterReadings
 pub mod Playing
 pub mod KeptKeys
+pub mod KnownLaws
+pub mod StatedTexts
+pub mod KnownKeys

@@ -105,7 +105,7 @@ fault_alike key old Fault.TooLong new m h = h
 fault_alike key old (Fault.Edit f) new m h = (h.0, edit_fault_alike key old f new m h.1)
 fault_alike key old (Fault.Source f) new m h = h
 
-kept_texts : (old new : Editing) → KeepsAll old new → (source : ℕ → ℕ → ℕ) → texts_of source new.session ≡ texts_of source old.session
+pub kept_texts : (old new : Editing) → KeepsAll old new → (source : ℕ → ℕ → ℕ) → texts_of source new.session ≡ texts_of source old.session
 kept_texts old new h source = ap (map (text source)) (ap (λ (rs : List Revision). cells_of (record { held = new.session.held; revisions = rs })) h.revisions ∙ h.keeps.cells)
 
 with_texts : Editing → KeyFault → List (List ℕ) → EditorState

@@ -56,6 +56,9 @@ begins_at : (t : List ℕ) (p : ℕ) → p ≤ length t → Begins t p
 begins_at t zero le = record { begins = λ some. absurd (omega (arith, some)); lines = refl }
 begins_at t (suc p) le = begins_more t p (suc p) (omega arith) le (begins_at t p (omega (arith, le)))
 
+pub start_begins : (t : List ℕ) (p : ℕ) → p ≤ length t → IsLineStart t (line_start t p)
+start_begins t p le = let at = begins_at t p le in at.begins
+
 -- one line more above
 pub above_more : (t : List ℕ) (start top next row : ℕ) → IsAbove t start top row → 1 ≤ top → top ≤ length t → next ≡ line_start t (top - 1) → IsAbove t start next (row + 1)
 above_more t start top next row above some le is =

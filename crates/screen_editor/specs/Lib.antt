@@ -1,7 +1,6 @@
 pub mod Recorded
 pub mod Keys
 pub mod Lines
-pub mod HeldBytes
 pub mod Blocks
 pub mod State
 pub mod Machine
@@ -17,3 +16,6 @@ pub mod Turns
 pub mod Playing
 pub mod Priors
 pub mod Rows
+pub mod KnownLines
+pub mod HeldBytes
+pub mod KnownTexts

@@ -9,6 +9,7 @@ ghost use Rattle.screen_editor.specs.HeldBytes.{held_up_to, AreHeld, HasBreak};
 ghost use Rattle.screen_editor.specs.Lines.{line_start};
 
 use crate::held::{HeldBytes, NEAR};
+use crate::known::known_about;
 use crate::lines::line_start;
 use crate::near::width_behind;
 use cord_search::{PIECE, clear_behind};
@@ -59,17 +60,17 @@ fn start_in_window<S: NodeSpace, T: Sources>(
     }
     let from = place.saturating_sub(PIECE as u64);
     let back = clear_behind(alloc, space, rope, from, place - from);
-    let start = line_start(alloc, space, sources, rope, back)?;
+    let start = line_start(alloc, space, sources, rope, None, back)?;
     Ok(start)
 }
 
-/// One behind the last line break below a place, or the text's start. It asks for the blocks that a search would ask for, and looks among the bytes that are held; where no
+/// One behind the last line break below a place, or the text's start, looked for. It asks for the blocks that a search would ask for, and looks among the bytes that are held; where no
 /// break is among them it holds more: the nearest, then the whole window.
 ///
 /// # Errors
 ///
 /// A source's fault, where a byte is one of that source and the read of it failed.
-pub fn near_start<S: NodeSpace, T: Sources>(
+fn find_start<S: NodeSpace, T: Sources>(
     alloc: Global,
     held: &mut HeldBytes,
     space: &S,
@@ -104,4 +105,34 @@ pub fn near_start<S: NodeSpace, T: Sources>(
     held.hold_before(space, sources, rope, place, PIECE as u64, straight)?;
     let start = start_in_window(alloc, held, space, sources, rope, place)?;
     Ok(start)
+}
+
+/// One behind the last line break below a place, or the text's start: as a line tells that is known, or looked for.
+///
+/// # Errors
+///
+/// A source's fault, where a byte is one of that source and the read of it failed.
+pub fn near_start<S: NodeSpace, T: Sources>(
+    alloc: Global,
+    held: &mut HeldBytes,
+    space: &S,
+    sources: &mut T,
+    rope: Rope,
+    place: u64,
+) -> Result<u64, SourceFault>
+    requires rope { IsRope (S.table space.now) rope }
+    requires place { place ≤ rope_len (S.table space.now) rope }
+    requires held { OfText (S.table space.now) (T.reading sources.old).stated rope (AreHeld held.old) }
+    ensures inside { IfOk result (λ p. p ≤ place) }
+    ensures is { IfOk result (λ p.
+        OfText (S.table space.now) (T.reading sources.old).stated rope (λ t. p ≡ line_start t place)) }
+    ensures held { IfOk result (λ _.
+        OfText (S.table space.now) (T.reading sources.old).stated rope (AreHeld held.new)) }
+    ensures reads { ReadsSpan (T.reading sources.old) (T.reading sources.new)
+        (rope_cell (S.table space.now) rope) 0 (rope_len (S.table space.now) rope) result }
+{
+    match known_about(held.known(), place) {
+        Some(line) => Ok(line.start),
+        None => find_start(alloc, held, space, sources, rope, place),
+    }
 }

@@ -9,6 +9,7 @@ ghost use Rattle.screen_editor.specs.HeldBytes.{AreHeld};
 ghost use Rattle.screen_editor.specs.Lines.{line_end};
 
 use crate::held::HeldBytes;
+use crate::known::known_about;
 use crate::near::width_ahead;
 use cord_search::PIECE;
 use lazy_file::{SourceFault, Sources};
@@ -27,6 +28,7 @@ fn look_behind<S: NodeSpace, T: Sources>(
 ) -> Result<u64, SourceFault>
     requires rope { IsRope (S.table space.now) rope }
     requires window { start + PIECE ≤ rope_len (S.table space.now) rope }
+    requires held { OfText (S.table space.now) (T.reading sources.old).stated rope (AreHeld held.old) }
     ensures from { IfOk result (λ p. start ≤ p) }
     ensures inside { IfOk result (λ p. p ≤ rope_len (S.table space.now) rope) }
     ensures is { IfOk result (λ p.
@@ -48,13 +50,13 @@ fn look_behind<S: NodeSpace, T: Sources>(
     Ok(end)
 }
 
-/// The first line break at a place or behind it, or the text's end. It looks among the bytes that are held first, and takes what they tell where a search would read
+/// The first line break at a place or behind it, or the text's end, looked for. It looks among the bytes that are held first, and takes what they tell where a search would read
 /// nothing else.
 ///
 /// # Errors
 ///
 /// A source's fault, where a byte is one of that source and the read of it failed.
-pub fn near_end<S: NodeSpace, T: Sources>(
+fn find_end<S: NodeSpace, T: Sources>(
     alloc: Global,
     held: &mut HeldBytes,
     space: &S,
@@ -87,4 +89,36 @@ pub fn near_end<S: NodeSpace, T: Sources>(
         return held.search_end(alloc, space, sources, rope, start);
     }
     look_behind(alloc, held, space, sources, rope, start)
+}
+
+/// The first line break at a place or behind it, or the text's end: as a line tells that is known, or looked for.
+///
+/// # Errors
+///
+/// A source's fault, where a byte is one of that source and the read of it failed.
+pub fn near_end<S: NodeSpace, T: Sources>(
+    alloc: Global,
+    held: &mut HeldBytes,
+    space: &S,
+    sources: &mut T,
+    rope: Rope,
+    start: u64,
+) -> Result<u64, SourceFault>
+    requires rope { IsRope (S.table space.now) rope }
+    requires start { start ≤ rope_len (S.table space.now) rope }
+    requires held { OfText (S.table space.now) (T.reading sources.old).stated rope (AreHeld held.old) }
+    ensures from { IfOk result (λ p. start ≤ p) }
+    ensures inside { IfOk result (λ p. p ≤ rope_len (S.table space.now) rope) }
+    ensures is { IfOk result (λ p.
+        OfText (S.table space.now) (T.reading sources.old).stated rope (λ t. p ≡ line_end t start)) }
+    ensures held { IfOk result (λ _.
+        OfText (S.table space.now) (T.reading sources.old).stated rope (AreHeld held.new)) }
+    ensures reads { ReadsSpan (T.reading sources.old) (T.reading sources.new)
+        (rope_cell (S.table space.now) rope) 0 (rope_len (S.table space.now) rope) result }
+{
+    let len = rope_len(space, rope);
+    match known_about(held.known(), start) {
+        Some(line) => Ok(len.min(line.end)),
+        None => find_end(alloc, held, space, sources, rope, start),
+    }
 }

@@ -4,6 +4,7 @@ ghost use Rattle.std.specs.Prelude.{◌≡◌, ◌↔◌, IfOk, IfErr, IsErrOf, 
 ghost use Rattle.cord_position.specs.Fetched.{ReadsSpan};
 ghost use Rattle.screen_editor.specs.Editing.{IsEditor, current_cell, current_len, over, seen};
 ghost use Rattle.screen_editor.specs.Keys.{key_of, looks_for_lines};
+ghost use Rattle.screen_editor.specs.KnownTexts.{IsKnown};
 ghost use Rattle.screen_editor.specs.LineKeys.{FindsLinePlace, Takes};
 ghost use Rattle.screen_editor.specs.Opening.{IsOpenFault, IsTooLongToOpen, OpensSession};
 ghost use Rattle.screen_editor.specs.Revising.{IsMade, TakesKey};
@@ -13,6 +14,7 @@ ghost use Rattle.screen_editor.specs.Runs.{MakesFrame};
 use crate::fault::{EditorFault, FrameFault, KeyFault};
 use crate::frame::frame_about;
 use crate::key::{Key, Step};
+use crate::known::{KnownLine, known_after};
 use crate::lines::{line_end, line_start, place_down, place_up};
 use crate::opening::{first_session, opened_session};
 use crate::workspace::Workspace;
@@ -27,17 +29,21 @@ pub struct Editor<R: Sources + Drop> {
     alloc: Global,
     sources: R,
     workspace: Workspace,
+    /// A long line of the current text that was shown.
+    known: Option<KnownLine>,
 }
 
 impl<R: Sources + Drop> Model for Editor<R> {
     ghost use Rattle.std.specs.Prelude.{◌≡◌};
     ghost use Rattle.screen_editor.specs.Editing.{EditorValue};
+    ghost use Rattle.screen_editor.specs.KnownTexts.{IsKnown};
 
     ghost Value = { EditorValue R };
 
     ghost view = { λ a. record { sources = a.sources; editing = a.workspace } };
 
-    ghost invariant = { λ a. a.workspace.session.held.sources ≡ (R.reading a.sources).stated.sizes };
+    ghost invariant = { λ a. (a.workspace.session.held.sources ≡ (R.reading a.sources).stated.sizes)
+        × IsKnown (R.reading a.sources).stated a.workspace a.known };
 }
 
 /// Where a key leads that looks for line breaks.
@@ -45,8 +51,10 @@ fn line_place<R: Sources>(
     alloc: Global,
     sources: &mut R,
     workspace: &Workspace,
+    known: Option<KnownLine>,
     key: Key,
 ) -> Result<Option<u64>, SourceFault>
+    requires known { IsKnown (R.reading sources.old).stated workspace.now known }
     ensures place { IfOk result (FindsLinePlace (R.reading sources.old).stated key workspace.now) }
     ensures looks { OnErr result (IsTrue (looks_for_lines key)) }
     ensures reads { ReadsSpan (R.reading sources.old) (R.reading sources.new)
@@ -55,10 +63,10 @@ fn line_place<R: Sources>(
     let space = workspace.session().space();
     let (root, place) = (workspace.root(), workspace.place());
     match key {
-        Key::LineStart => Ok(Some(line_start(alloc, space, sources, root, place)?)),
-        Key::LineEnd => Ok(Some(line_end(alloc, space, sources, root, place)?)),
-        Key::Up => Ok(Some(place_up(alloc, space, sources, root, place)?)),
-        Key::Down => Ok(Some(place_down(alloc, space, sources, root, place)?)),
+        Key::LineStart => Ok(Some(line_start(alloc, space, sources, root, known, place)?)),
+        Key::LineEnd => Ok(Some(line_end(alloc, space, sources, root, known, place)?)),
+        Key::Up => Ok(Some(place_up(alloc, space, sources, root, known, place)?)),
+        Key::Down => Ok(Some(place_down(alloc, space, sources, root, known, place)?)),
         _ => Ok(None),
     }
 }
@@ -68,13 +76,15 @@ fn take<R: Sources>(
     alloc: Global,
     sources: &mut R,
     workspace: &mut Workspace,
+    known: Option<KnownLine>,
     key: Key,
 ) -> Result<(), KeyFault>
+    requires known { IsKnown (R.reading sources.old).stated workspace.old known }
     ensures { Takes key (R.reading sources.old) workspace.old result (R.reading sources.new) workspace.new }
 {
     // The workspace keeps its rules, as its last revision says.
     let _last = workspace.last();
-    match line_place(alloc, sources, workspace, key) {
+    match line_place(alloc, sources, workspace, known, key) {
         Ok(Some(place)) => {
             workspace.move_to(place);
             Ok(())
@@ -84,21 +94,30 @@ fn take<R: Sources>(
     }
 }
 
-/// Takes a key. A refused one changes the message alone.
+/// Takes a key. A refused one changes the message alone. What is known of a line is brought up to date.
 fn take_key<R: Sources>(
     alloc: Global,
     sources: &mut R,
     workspace: &mut Workspace,
+    known: &mut Option<KnownLine>,
     key: Key,
 ) -> Result<Step, KeyFault>
+    requires known { IsKnown (R.reading sources.old).stated workspace.old known.old }
     ensures takes { TakesKey key (over (R.reading sources.old) workspace.old) result
         (over (R.reading sources.new) workspace.new) }
     ensures sizes { workspace.new.session.held.sources ≡ workspace.old.session.held.sources }
+    ensures known { IsKnown (R.reading sources.old).stated workspace.new known.new }
 {
-    if let Err(fault) = take(alloc, sources, workspace, key) {
+    // The workspace keeps its rules, as its last revision says, before the key and behind it.
+    let _before = workspace.last();
+    let later = known_after(workspace, *known, key);
+    if let Err(fault) = take(alloc, sources, workspace, *known, key) {
+        let _refused = workspace.last();
         workspace.tell(Some(fault));
         return Err(fault);
     }
+    let _taken = workspace.last();
+    *known = later;
     match key {
         Key::Save => Ok(Step::Save),
         Key::Leave => Ok(Step::Leave),
@@ -114,7 +133,10 @@ fn frame_of<R: Sources>(
     alloc: Global,
     sources: &mut R,
     workspace: &Workspace,
+    known: &mut Option<KnownLine>,
 ) -> Result<Vec<u8>, FrameFault>
+    requires known { IsKnown (R.reading sources.old).stated workspace.now known.old }
+    ensures known { IsKnown (R.reading sources.old).stated workspace.now known.new }
     ensures makes { MakesFrame (over (R.reading sources.old) workspace.now) result
         (over (R.reading sources.new) workspace.now) }
 {
@@ -128,6 +150,7 @@ fn frame_of<R: Sources>(
         place,
         last,
         message,
+        known,
     )
 }
 
@@ -173,6 +196,7 @@ impl<R: Sources + Drop> Editor<R> {
             alloc,
             sources,
             workspace,
+            known: None,
         })
     }
 
@@ -189,6 +213,7 @@ impl<R: Sources + Drop> Editor<R> {
             self.alloc,
             &mut self.sources,
             &mut self.workspace,
+            &mut self.known,
             Key::of(byte),
         )
     }
@@ -201,7 +226,12 @@ impl<R: Sources + Drop> Editor<R> {
     pub fn frame(&mut self) -> Result<Vec<u8>, FrameFault>
         ensures makes { MakesFrame (seen R.reading self.old) result (seen R.reading self.new) }
     {
-        frame_of(self.alloc, &mut self.sources, &self.workspace)
+        frame_of(
+            self.alloc,
+            &mut self.sources,
+            &self.workspace,
+            &mut self.known,
+        )
     }
 
     /// The session, with every revision.

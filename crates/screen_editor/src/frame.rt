@@ -1,17 +1,19 @@
 //! The bytes that show a place of a text on the screen.
 
-ghost use Rattle.std.specs.Prelude.{◌≡◌, ◌≤◌, IfOk, string_bytes};
+ghost use Rattle.std.specs.Prelude.{◌≡◌, ◌≤◌, IfOk, OnErr, string_bytes};
 ghost use Rattle.std.specs.Option.{option_map};
 ghost use Rattle.rope_node.specs.Denotes.{IsRope, rope_len};
 ghost use Rattle.cord_position.specs.Fetched.{rope_cell};
 ghost use Rattle.cord_search.specs.Stated.{OfText};
 ghost use Rattle.screen_editor.specs.Editing.{key_code};
 ghost use Rattle.screen_editor.specs.Frame.{screen_of, status_of};
+ghost use Rattle.screen_editor.specs.KnownLines.{IsKnownIn};
 ghost use Rattle.screen_editor.specs.Refusals.{ReadsToShow};
 ghost use Rattle.screen_editor.specs.Rows.{cursor_at};
 
 use crate::fault::{FrameFault, KeyFault};
 use crate::held::HeldBytes;
+use crate::known::KnownLine;
 use crate::rows::{SCREEN_COLUMNS, push_rows};
 use crate::window::window_about;
 use lazy_file::Sources;
@@ -49,7 +51,8 @@ fn cursor(alloc: Global, row: u64, column: u64) -> Result<String, AllocError>
 
 /// What the screen shows of a rope's text about a place of it: 23 rows of 80 columns with the lines about that of the
 /// place, then the revision, the place, the text's length and the message, and the cursor at the place. It looks for
-/// no line break further than the twelfth above the place and the one behind the last row.
+/// no line break further than the twelfth above the place and the one behind the last row, and for none that a line tells which is known. A long one that it shows is known
+/// behind it.
 ///
 /// # Errors
 ///
@@ -62,15 +65,19 @@ pub fn frame_about<S: NodeSpace, T: Sources>(
     place: u64,
     revision: u32,
     message: Option<KeyFault>,
+    known: &mut Option<KnownLine>,
 ) -> Result<Vec<u8>, FrameFault>
     requires rope { IsRope (S.table space.now) rope }
     requires place { place ≤ rope_len (S.table space.now) rope }
+    requires known { OfText (S.table space.now) (T.reading sources.old).stated rope (IsKnownIn known.old) }
+    ensures known { OfText (S.table space.now) (T.reading sources.old).stated rope (IsKnownIn known.new) }
+    ensures unlearnt { OnErr result (known.new ≡ known.old) }
     ensures bytes { IfOk result (λ v. OfText (S.table space.now) (T.reading sources.old).stated rope
         (λ t. v.items ≡ screen_of t place revision (option_map key_code message))) }
     ensures reads { ReadsToShow (T.reading sources.old) (T.reading sources.new)
         (rope_cell (S.table space.now) rope) (rope_len (S.table space.now) rope) result }
 {
-    let mut held = HeldBytes::new();
+    let mut held = HeldBytes::new(*known);
     let window = window_about(alloc, &mut held, space, sources, rope, place)?;
     let left = SCREEN_COLUMNS * (window.column / SCREEN_COLUMNS);
     let mut out = Vec::from_slice(alloc, CLEAR)?;
@@ -81,5 +88,6 @@ pub fn frame_about<S: NodeSpace, T: Sources>(
     out.extend_from_slice(line.as_bytes())?;
     let end = cursor(alloc, window.row + 1, window.column - left + 1)?;
     out.extend_from_slice(end.as_bytes())?;
+    *known = held.known();
     Ok(out)
 }

@@ -1,14 +1,16 @@
 //! Bytes of a text about a place that are held, so that the lines about it are read once.
 
-ghost use Rattle.std.specs.Prelude.{◌≡◌, ◌↔◌, ◌≤◌, ◌+◌, ◌-◌, [], ℕ, List, length, take, drop, IsTrue, IfSome, IfOk, OnOk};
+ghost use Rattle.std.specs.Prelude.{◌≡◌, ◌↔◌, ◌<◌, ◌≤◌, ◌+◌, ◌-◌, [], ℕ, List, length, take, drop, Option, None, Some, IsTrue, IfSome, IfOk, OnOk};
 ghost use Rattle.rope_node.specs.Denotes.{IsRope, rope_len};
 ghost use Rattle.cord_position.specs.Fetched.{ReadsSpan, rope_cell};
 ghost use Rattle.cord_search.specs.declared.runs.TheConstants.{PIECE};
 ghost use Rattle.cord_search.specs.Stated.{OfText};
 ghost use Rattle.screen_editor.specs.HeldBytes.{held_up_to, held_starting_at, AreHeld};
+ghost use Rattle.screen_editor.specs.declared.known.KnownLine.{KnownLine};
 ghost use Rattle.screen_editor.specs.Lines.{line_end};
 
 use crate::asking::ask_part;
+use crate::known::KnownLine;
 use crate::lines::line_end_with;
 use crate::near::read_part;
 use cord_position::Pos;
@@ -24,7 +26,7 @@ const ROOM: usize = PIECE + 1_024;
 /// So many bytes before a place are held first where they lie in several leaves: mostly a line break is among them.
 pub const NEAR: u64 = 1_024;
 
-/// Bytes of a text from a place on.
+/// Bytes of a text from a place on, and what is known of its lines.
 #[derive(Drop)]
 pub struct HeldBytes {
     from: u64,
@@ -40,6 +42,9 @@ pub struct HeldBytes {
     leaf_end: u64,
     /// Room for a search through the text.
     searched: [u8; PIECE],
+    /// A place where a line begins.
+    begun: Option<u64>,
+    known: Option<KnownLine>,
 }
 
 impl Model for HeldBytes {
@@ -49,15 +54,15 @@ impl Model for HeldBytes {
 
     ghost Value = { HeldPart };
 
-    ghost view = { λ h. record { from = h.from; bytes = drop h.start h.bytes } };
+    ghost view = { λ h. record { from = h.from; bytes = drop h.start h.bytes; begun = h.begun; known = h.known } };
 
     ghost invariant = { λ h. h.start ≤ ROOM };
 }
 
 impl HeldBytes {
-    /// No bytes.
-    pub fn new() -> HeldBytes
-        ensures { result ≡ record { from = 0; bytes = [] } }
+    /// No bytes, but a line that is known, or none.
+    pub fn new(known: Option<KnownLine>) -> HeldBytes
+        ensures { result ≡ record { from = 0; bytes = []; begun = None; known = known } }
     {
         HeldBytes {
             from: 0,
@@ -68,7 +73,47 @@ impl HeldBytes {
             leaf_start: 0,
             leaf_end: 0,
             searched: [0; PIECE],
+            begun: None,
+            known,
         }
+    }
+
+    /// The line that is known, if one is.
+    pub fn known(&self) -> Option<KnownLine>
+        ensures { result ≡ self.now.known }
+    {
+        self.known
+    }
+
+    /// A line begins at a place.
+    pub fn begin_line(&mut self, place: u64)
+        ensures { self.new ≡ record self.old { begun = Some place } }
+    {
+        self.begun = Some(place);
+    }
+
+    /// The line that begins at `start` ends at `end`, in a text of `len` bytes. Where a line is known to begin there, it is known from now on if it is long, and the
+    /// next one begins behind it.
+    pub fn pass_line(&mut self, start: u64, end: u64, len: u64)
+        ensures bytes { self.new ≡ record self.old { begun = self.new.begun; known = self.new.known } }
+        ensures held { (t : List ℕ) → AreHeld self.old t → start ≤ length t → end ≡ line_end t start → len ≡ length t
+            → AreHeld self.new t }
+        ensures learnt { self.old.begun ≡ Some start → PIECE < end - start
+            → self.new.known ≡ Some (record { start = start; end = end }) }
+    {
+        let Some(begun) = self.begun else {
+            return;
+        };
+        if begun != start {
+            return;
+        }
+        let is_long = end.saturating_sub(start) > PIECE as u64;
+        self.known = if is_long {
+            Some(KnownLine { start, end })
+        } else {
+            self.known
+        };
+        self.begun = if end < len { Some(end + 1) } else { None };
     }
 
     /// Whether a place is that of a byte that is held, or right behind the last one.
@@ -102,7 +147,7 @@ impl HeldBytes {
 
     /// Holds no bytes, but is ready for those before a place.
     fn begin_at(&mut self, place: u64)
-        ensures { self.new ≡ record { from = place; bytes = [] } }
+        ensures { self.new ≡ record self.old { from = place; bytes = [] } }
     {
         self.from = place;
         self.start = ROOM;
@@ -153,6 +198,7 @@ impl HeldBytes {
         requires rope { IsRope (S.table space.now) rope }
         requires end { end ≤ rope_len (S.table space.now) rope }
         requires window { PIECE ≤ end }
+        requires held { OfText (S.table space.now) (T.reading sources.old).stated rope (AreHeld self.old) }
         ensures span { OnOk result ((self.new.from + PIECE ≡ end) × (length self.new.bytes ≡ PIECE)) }
         ensures held { OnOk result (OfText (S.table space.now) (T.reading sources.old).stated rope (AreHeld self.new)) }
         ensures reads { ReadsSpan (T.reading sources.old) (T.reading sources.new)
@@ -183,6 +229,7 @@ impl HeldBytes {
     ) -> Result<(), SourceFault>
         requires rope { IsRope (S.table space.now) rope }
         requires end { end ≤ rope_len (S.table space.now) rope }
+        requires held { OfText (S.table space.now) (T.reading sources.old).stated rope (AreHeld self.old) }
         ensures held { OnOk result (OfText (S.table space.now) (T.reading sources.old).stated rope (AreHeld self.new)) }
         ensures reads { ReadsSpan (T.reading sources.old) (T.reading sources.new)
             (rope_cell (S.table space.now) rope) (end - PIECE) end result }

@@ -12,6 +12,7 @@ mod frame;
 mod held;
 mod keeping;
 mod key;
+mod known;
 pub mod laws;
 mod lines;
 mod near;

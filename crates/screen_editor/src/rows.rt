@@ -151,7 +151,9 @@ fn push_line<S: NodeSpace, T: Sources>(
     ensures reads { ReadsToShow (T.reading sources.old) (T.reading sources.new)
         (rope_cell (S.table space.now) rope) (rope_len (S.table space.now) rope) result }
 {
+    let len = rope_len(space, rope);
     let end = near_end(alloc, held, space, sources, rope, start)?;
+    held.pass_line(start, end, len);
     let rest = (end - start).saturating_sub(left);
     let from = end - rest;
     push_row(
@@ -163,11 +165,7 @@ fn push_line<S: NodeSpace, T: Sources>(
         from + rest.min(SCREEN_COLUMNS),
         out,
     )?;
-    let next = if end < rope_len(space, rope) {
-        Some(end + 1)
-    } else {
-        None
-    };
+    let next = if end < len { Some(end + 1) } else { None };
     Ok(next)
 }
 
@@ -219,6 +217,7 @@ pub fn push_rows<S: NodeSpace, T: Sources>(
     requires held { OfText (S.table space.now) (T.reading sources.old).stated rope (AreHeld held.old) }
     ensures rows { OnOk result (OfText (S.table space.now) (T.reading sources.old).stated rope
         (λ t. out.new.items ≡ out.old.items ++ rows_in (lines_from t (Some top)) left)) }
+    ensures held { OnOk result (OfText (S.table space.now) (T.reading sources.old).stated rope (AreHeld held.new)) }
     ensures reads { ReadsToShow (T.reading sources.old) (T.reading sources.new)
         (rope_cell (S.table space.now) rope) (rope_len (S.table space.now) rope) result }
 {

@@ -89,6 +89,7 @@ pub fn window_about<S: NodeSpace, T: Sources>(
     prove!(place <= rope_len(space, rope));
     let start = near_start(alloc, held, space, sources, rope, place)?;
     let (top, row) = go_back(alloc, held, space, sources, rope, start)?;
+    held.begin_line(top);
     Ok(Window {
         top,
         row,

@@ -1,5 +1,5 @@
 use Rattle.std.specs.Prelude.{Err}
-use Rattle.std.proofs.Common.{◌≡◌, ◌+◌, ◌-◌, ◌≤◌, refl, sym, arith}
+use Rattle.std.proofs.Common.{◌+◌, ◌-◌, refl, sym, arith}
 use Rattle.std.proofs.lemmas.Result.{err_from_is_err_and}
 use Rattle.rope_node.specs.Denotes.{cell_at}
 use Rattle.cord_position.proofs.Spans.{failed_in}

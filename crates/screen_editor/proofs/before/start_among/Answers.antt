@@ -1,4 +1,4 @@
-use Rattle.std.proofs.Common.{◌≡◌, ◌≤◌, length, not, refl, ap, ◌∙◌, arith}
+use Rattle.std.proofs.Common.{length, not, refl, ap, ◌∙◌, arith}
 use Rattle.std.specs.List.{suffix_len}
 use Rattle.screen_editor.specs.Lines.{is_break}
 use Rattle.screen_editor.proofs.HeldLaws.{start_is}

@@ -1,21 +1,16 @@
-use Rattle.std.proofs.Common.{◌≡◌, ◌≤◌, not, length, take, drop, sym, ◌∙◌, arith}
-use Rattle.std.specs.List.{position_or_len}
-use Rattle.std.proofs.lemmas.List.{length-drop}
-use Rattle.std.proofs.lemmas.List.Sums.{prefix_len-le-length}
+use Rattle.std.proofs.Common.{◌≡◌, length, Option, sym, ◌∙◌, arith, subst}
 use Rattle.rope_node.specs.Denotes.{rope_cells, text}
 use Rattle.cord_search.proofs.Fetches.{text_length}
-use Rattle.screen_editor.specs.Lines.{is_break}
-use Rattle.screen_editor.proofs.HeldLaws.{held_from, width_is}
+use Rattle.screen_editor.specs.declared.known.KnownLine.{KnownLine}
+use Rattle.screen_editor.specs.KnownLines.{IsKnownIn}
+use Rattle.screen_editor.proofs.KnownLaws.{known_end}
 use Rattle.screen_editor.proofs.behind.near_end.Goals as goal
 
-pub returns-then-tells-clause-is : goal.returns-then-tells-clause-is
-returns-then-tells-clause-is g c source agrees stated =
+pub returns-in-Some-clause-is : goal.returns-in-Some-clause-is
+returns-in-Some-clause-is g c source agrees stated =
     let t = g.S.NodeSpace.table c.args.space.now in
     let u = text source (rope_cells t c.args.rope) in
-    let start = c.args.start in
-    let near = c.starting_at-near.result.now in
-    let front : near ≡ take (length near) (drop start u) = rw c.starting_at-near.ensures (held_from u c.args.held.now start (c.requires.held source agrees stated)) in
-    let width = width_is (drop start u) near front (λ wide. absurd (omega (arith, wide, c.if-width-near.true, c.width_ahead-width.ensures.is))) in
     let long : length u ≡ c.rope_len-len.result = text_length t c.args.rope source ∙ sym c.rope_len-len.ensures.cells in
-    let inside : position_or_len is_break (drop start u) ≤ length (drop start u) = prefix_len-le-length (λ b. not (is_break b)) (drop start u) in
-    omega (arith, c.min-end.ensures, width, c.width_ahead-width.ensures.is, inside, length-drop start u, long, c.rope_len-len.ensures.exact, c.requires.start)
+    let held = c.requires.held source agrees stated in
+    let end = known_end u c.known.result c.args.start c.in-Some.line c.in-Some.ensures.holds (subst (λ (o : Option KnownLine). IsKnownIn o u) (sym c.known.ensures) held.known) in
+    omega (arith, c.min.ensures, end.0, end.1, long)

@@ -1,4 +1,5 @@
 use Rattle.std.proofs.lemmas.Result.{err_from_is_err_and}
+use Rattle.screen_editor.proofs.KnownKeys.{known_in_current}
 use Rattle.screen_editor.proofs.LineTurns.{failed_in_current}
 use Rattle.screen_editor.proofs.editor.line_place.Goals as goal
 
@@ -25,3 +26,19 @@ returns-in_err-place_down-in-Down-clause-reads g c =
     let p = err_from_is_err_and c.from_residual-in_err-place_down-in-Down.result c.from_residual-in_err-place_down-in-Down.ensures.1 in
     rw (p.1, p.2) (failed_in_current (g.R.Sources.reading c.args.sources.now) (g.R.Sources.reading c.place_down.new.sources) c.args.workspace.now c.session.result.now c.space-space.result.now c.root-root.result _
     c.session.ensures.value c.space-space.ensures.store c.root-root.ensures.value c.in_err-place_down-in-Down.ensures.reads)
+
+pub line_start-requires-clause-known : goal.line_start-requires-clause-known
+line_start-requires-clause-known g c =
+    known_in_current (g.R.Sources.reading c.args.sources.now).stated c.args.workspace.now c.session.result.now c.space-space.result.now c.root-root.result c.args.known c.session.ensures.value c.space-space.ensures.store c.root-root.ensures.value c.requires.known
+
+pub line_end-requires-clause-known : goal.line_end-requires-clause-known
+line_end-requires-clause-known g c =
+    known_in_current (g.R.Sources.reading c.args.sources.now).stated c.args.workspace.now c.session.result.now c.space-space.result.now c.root-root.result c.args.known c.session.ensures.value c.space-space.ensures.store c.root-root.ensures.value c.requires.known
+
+pub place_up-requires-clause-known : goal.place_up-requires-clause-known
+place_up-requires-clause-known g c =
+    known_in_current (g.R.Sources.reading c.args.sources.now).stated c.args.workspace.now c.session.result.now c.space-space.result.now c.root-root.result c.args.known c.session.ensures.value c.space-space.ensures.store c.root-root.ensures.value c.requires.known
+
+pub place_down-requires-clause-known : goal.place_down-requires-clause-known
+place_down-requires-clause-known g c =
+    known_in_current (g.R.Sources.reading c.args.sources.now).stated c.args.workspace.now c.session.result.now c.space-space.result.now c.root-root.result c.args.known c.session.ensures.value c.space-space.ensures.store c.root-root.ensures.value c.requires.known

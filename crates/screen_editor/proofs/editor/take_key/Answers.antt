@@ -1,5 +1,6 @@
-use Rattle.std.proofs.Common.{inl, inr}
+use Rattle.std.proofs.Common.{Some, inl, inr}
 use Rattle.screen_editor.specs.declared.key.Step.TheVariants as Step
+use Rattle.screen_editor.proofs.KnownKeys.{refused_known}
 use Rattle.screen_editor.proofs.ToldKeys.{ending_told, going_told, goes_on, leaves, refused_told, saves}
 use Rattle.screen_editor.proofs.editor.take_key.Goals as goal
 
@@ -21,4 +22,15 @@ returns-in_default-key g c = record {
   takes = going_told c.args.key (g.R.Sources.reading c.args.sources.now) (g.R.Sources.reading c.take.new.sources) c.args.workspace.now c.take.new.workspace c.tell-in_default-key.new.self c.in_default.ensures
       (goes_on c.args.key c.in_default-key.not-Save c.in_default-key.not-Leave) c.tell-in_default-key.ensures;
   sizes = rw c.tell-in_default-key.ensures c.take.ensures.sources;
+  known = rw c.tell-in_default-key.ensures (c.known_after-later.ensures (g.R.Sources.reading c.args.sources.now) (g.R.Sources.reading c.take.new.sources) c.take.new.workspace c.in_default.ensures c.last-taken.ensures.history c.requires.known);
 }
+
+pub returns-in-Err-clause-known : goal.returns-in-Err-clause-known
+returns-in-Err-clause-known g c =
+    rw c.tell.ensures (refused_known (g.R.Sources.reading c.args.sources.now).stated c.args.workspace.now c.take.new.workspace c.args.known.now (Some c.in-Err.fault) c.last-before.ensures.history c.last-refused.ensures.history c.in-Err.ensures.kept c.requires.known)
+
+pub returns-in-Save-clause-known : goal.returns-in-Save-clause-known
+returns-in-Save-clause-known g c = c.known_after-later.ensures (g.R.Sources.reading c.args.sources.now) (g.R.Sources.reading c.take.new.sources) c.take.new.workspace c.in_default.ensures c.last-taken.ensures.history c.requires.known
+
+pub returns-in-Leave-clause-known : goal.returns-in-Leave-clause-known
+returns-in-Leave-clause-known g c = c.known_after-later.ensures (g.R.Sources.reading c.args.sources.now) (g.R.Sources.reading c.take.new.sources) c.take.new.workspace c.in_default.ensures c.last-taken.ensures.history c.requires.known

@@ -5,7 +5,9 @@ use Rattle.rope_node.specs.Denotes.{rope_cells, rope_len, text}
 use Rattle.cord_position.specs.Fetched.{rope_cell}
 use Rattle.cord_search.proofs.Fetches.{told_before, text_length}
 use Rattle.screen_editor.specs.declared.rows.TheConstants.{SCREEN_COLUMNS}
+use Rattle.screen_editor.specs.HeldBytes.{AreHeld}
 use Rattle.screen_editor.specs.Rows.{lines_from, rows_in}
+use Rattle.screen_editor.proofs.HeldLaws.{known_held}
 use Rattle.screen_editor.proofs.Screens.{screen_is}
 use Rattle.screen_editor.proofs.Showing.{failed_part}
 use Rattle.screen_editor.proofs.frame.frame_about.Goals as goal
@@ -28,3 +30,14 @@ returns-clause-bytes g c source agrees stated =
     screen_is u c.args.place c.args.revision window.top window.row window.column left c.rope_len.result c.args.message c.in_ok-out.out.items c.push_rows.new.out.items c.as_bytes.result.now c.extend_from_slice.new.self.items c.as_bytes-2.result.now c.extend_from_slice-2.new.self.items
     (c.in_ok-window.ensures.is source agrees stated) refl long c.in_ok-out.ensures.items rows
     (c.as_bytes.ensures.value ∙ c.in_ok-line.ensures) c.in_ok-extend_from_slice.ensures.items (c.as_bytes-2.ensures.value ∙ c.in_ok-end.ensures) c.in_ok-extend_from_slice-2.ensures.items
+
+pub window_about-requires-clause-held : goal.window_about-requires-clause-held
+window_about-requires-clause-held g c source agrees stated =
+    let u = text source (rope_cells (g.S.NodeSpace.table c.args.space.now) c.args.rope) in
+    rw c.new-held.ensures (known_held u c.args.known.now (c.requires.known source agrees stated))
+
+pub returns-clause-known : goal.returns-clause-known
+returns-clause-known g c source agrees stated =
+    let t = g.S.NodeSpace.table c.args.space.now in
+    let held = told_before t (g.T.Sources.reading c.args.sources.now).stated (g.T.Sources.reading c.window_about.new.sources).stated c.args.rope 0 (rope_len t c.args.rope) (AreHeld c.push_rows.new.held) (same_stated c.in_ok-window.ensures.reads) c.in_ok-push_rows.ensures.held source agrees stated in
+    rw c.known.ensures held.known

@@ -14,7 +14,8 @@ returns-clause-held g c source agrees stated =
     let count = c.saturating_sub-count.result in
     let first = h.start - count in
     let near = c.read_part.new.buffer in
-    let before : AreHeld (record { from = h.from; bytes = drop h.start h.bytes }) u = subst (λ (p : HeldPart). AreHeld p u) (sym c.self.view_is) (c.requires.held source agrees stated) in
+    let view : HeldPart = record { from = h.from; bytes = drop h.start h.bytes; begun = h.begun; known = h.known } in
+    let before : AreHeld view u = subst (λ (p : HeldPart). AreHeld p u) (sym c.self.view_is) (c.requires.held source agrees stated) in
     let all : h.start ≤ length h.bytes = omega (arith, c.self.invariant, c.self.ranges.1) in
     let first_is = ap (λ (p : HeldPart). p.from) c.self.view_is in
     let many = ap (λ (p : HeldPart). length p.bytes) c.self.view_is in
@@ -22,5 +23,5 @@ returns-clause-held g c source agrees stated =
     let long : length near ≡ h.start - first = c.in_ok-read_part.ensures.length ∙ mid_len first h.start h.bytes all in
     let read : near ≡ take (length near) (drop (h.from - (h.start - first)) u) =
     c.in_ok-read_part.ensures.bytes source agrees stated ∙ ap (λ (k : ℕ). take k (drop (h.from - count) u)) (sym c.in_ok-read_part.ensures.length) ∙ ap (λ (k : ℕ). take (length near) (drop (h.from - k) u)) (sym same) in
-    subst (λ (k : ℕ). AreHeld (record { from = h.from - k; bytes = drop first (put_mid first (h.start - first) h.bytes near) }) u) same
-    (more_before u near h.bytes h.from first h.start (omega arith) all (omega (arith, same, c.saturating_sub-count.ensures)) long before read)
+    subst (λ (k : ℕ). AreHeld (record view { from = h.from - k; bytes = drop first (put_mid first (h.start - first) h.bytes near) }) u) same
+    (more_before u near h.bytes view h.from first h.start (omega arith) all (omega (arith, same, c.saturating_sub-count.ensures)) long before read)

@@ -9,4 +9,4 @@ read_before-requires-clause-held g c source agrees stated =
     let t = g.S.NodeSpace.table c.args.space.now in
     let u = text source (rope_cells t c.args.rope) in
     let inside : c.args.end ≤ length u = omega (arith, text_length t c.args.rope source, c.rope_len.ensures.cells, c.rope_len.ensures.exact, c.requires.end) in
-    rw c.begin_at.ensures (none_held u c.args.end inside)
+    rw c.begin_at.ensures (none_held u c.args.self.now c.args.end inside (c.requires.held source agrees stated))
