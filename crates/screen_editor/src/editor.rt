@@ -173,6 +173,7 @@ impl<R: Sources + Drop> Editor<R> {
             alloc,
             sources,
             workspace,
+            known: None,
         })
     }
 

@@ -10,6 +10,8 @@ mod fakes;
 #[cfg(test)]
 mod frames;
 #[cfg(test)]
+mod going_on;
+#[cfg(test)]
 mod images;
 #[cfg(test)]
 mod keys;
