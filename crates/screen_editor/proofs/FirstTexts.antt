@@ -16,7 +16,7 @@ use Rattle.edit_commands.specs.Building.{splices_with}
 use Rattle.edit_commands.specs.Session.{HoldsHistory, SessionValue, command_of, commands_of, length_at, splices_held, session_table, text_givens, texts_of}
 use Rattle.screen_editor.specs.declared.workspace.TheConstants.{LONGEST_TEXT}
 use Rattle.screen_editor.specs.Editing.{Editing, state_of}
-use Rattle.screen_editor.specs.Opening.{IsFirst, opened}
+use Rattle.screen_editor.specs.Opening.{IsFirst, at_first_byte}
 use Rattle.screen_editor.specs.Priors.{priors_of}
 use Rattle.screen_editor.specs.Recorded.{IsPlain, edit_at, edits_of}
 use Rattle.screen_editor.specs.Refusals.{IsTooLong, first_command}
@@ -87,7 +87,7 @@ first_prior : (sizes : List ℕ) → priors_of (edit_at 0 (first_command sizes) 
 first_prior [] = refl
 first_prior (n ∷ sizes) = refl
 
-pub begun : (sizes : List ℕ) (v : SessionValue) (e : Editing) → IsFirst sizes v → e ≡ opened v → IsMade sizes e
+pub begun : (sizes : List ℕ) (v : SessionValue) (e : Editing) → IsFirst sizes v → e ≡ at_first_byte v → IsMade sizes e
 begun sizes v e first is = record {
   state = λ source. ap (state_of source) is
       ∙ ap (λ (ps : List (Option ℕ)). record { texts = texts_of source v; priors = ps; place = 0; mark = None; cuts = []; message = None }) (ap priors_of first.command ∙ first_prior sizes)

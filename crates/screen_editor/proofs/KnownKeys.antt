@@ -20,8 +20,8 @@ use Rattle.screen_editor.specs.declared.key.Key.TheVariants.{Typed, EraseBefore,
 use Rattle.screen_editor.specs.declared.known.KnownLine.{KnownLine}
 use Rattle.screen_editor.specs.Editing.{Editing, EachCurrent, current_cell, current_len, current_root, state_of}
 use Rattle.screen_editor.specs.Keys.{looks_for_lines}
-use Rattle.screen_editor.specs.KnownLines.{IsKnownIn, IsLine}
-use Rattle.screen_editor.specs.KnownTexts.{IsKnown, IsToldByOthers, StaysKnown}
+use Rattle.screen_editor.specs.KnownLines.{IsKnownIn, IsLineOf}
+use Rattle.screen_editor.specs.KnownTexts.{IsKnownLine, IsToldByOthers, StaysKnown}
 use Rattle.screen_editor.specs.LineKeys.{DoesStated}
 use Rattle.screen_editor.specs.Machine.{done, edited, revised}
 use Rattle.screen_editor.specs.Revising.{KeepsAll}
@@ -38,13 +38,13 @@ use Rattle.screen_editor.proofs.ToldKeys.{kept_texts}
 known_of : (st : Stated) (old new : Editing) (f : List ℕ → List ℕ) (known later : Option KnownLine) → HoldsHistory old.session → Becomes st old new f
     → ((source : ℕ → ℕ → ℕ) → Agrees st source → EachCurrent new (IsStated st) → EachCurrent old (IsStated st))
     → ((t : List ℕ) → length t ≡ current_len old → IsKnownIn known t → IsKnownIn later (f t))
-    → IsKnown st old known → IsKnown st new later
+    → IsKnownLine st old known → IsKnownLine st new later
 known_of st old new f known later h becomes each more is source agrees stated =
     let before : IsKnownIn known (current (state_of source old)) = subst (IsKnownIn known) (sym (current_text source old)) (is source agrees (each source agrees stated)) in
     subst (IsKnownIn later) (sym (becomes source agrees) ∙ current_text source new) (more (current (state_of source old)) (current_text_len old h source) before)
 
 -- the same text
-known_kept : (st : Stated) (old new : Editing) (known : Option KnownLine) → HoldsHistory old.session → HoldsHistory new.session → Becomes st old new (λ t. t) → IsKnown st old known → IsKnown st new known
+known_kept : (st : Stated) (old new : Editing) (known : Option KnownLine) → HoldsHistory old.session → HoldsHistory new.session → Becomes st old new (λ t. t) → IsKnownLine st old known → IsKnownLine st new known
 known_kept st old new known h hn becomes is =
     known_of st old new (λ t. t) known known h becomes
     (λ source agrees stated k _ lt. stated_before st old new (λ t. t) h hn becomes source agrees stated k k lt (λ t _. refl))
@@ -52,8 +52,8 @@ known_kept st old new known h hn becomes is =
 
 -- a byte more
 known_typed : (st : Stated) (old new : Editing) (p b : ℕ) (line : KnownLine) (later : Option KnownLine) → HoldsHistory old.session → HoldsHistory new.session → p ≤ current_len old
-    → Becomes st old new (λ t. replaced t p 0 (b ∷ [])) → IfSome later (λ x. (t : List ℕ) → p ≤ length t → IsLine t line → IsLine (replaced t p 0 (b ∷ [])) x)
-    → IsKnown st old (Some line) → IsKnown st new later
+    → Becomes st old new (λ t. replaced t p 0 (b ∷ [])) → IfSome later (λ x. (t : List ℕ) → p ≤ length t → IsLineOf t line → IsLineOf (replaced t p 0 (b ∷ [])) x)
+    → IsKnownLine st old (Some line) → IsKnownLine st new later
 known_typed st old new p b line later h hn inside becomes law is =
     let f = λ (t : List ℕ). replaced t p 0 (b ∷ []) in
     known_of st old new f (Some line) later h becomes
@@ -63,15 +63,15 @@ known_typed st old new p b line later h hn inside becomes law is =
     ])
     (λ t long known. lines later law t (omega (arith, inside, long)) known) is
   where
-    lines : (later : Option KnownLine) → IfSome later (λ x. (t : List ℕ) → p ≤ length t → IsLine t line → IsLine (replaced t p 0 (b ∷ [])) x) → (t : List ℕ) → p ≤ length t → IsLine t line → IsKnownIn later (replaced t p 0 (b ∷ []))
+    lines : (later : Option KnownLine) → IfSome later (λ x. (t : List ℕ) → p ≤ length t → IsLineOf t line → IsLineOf (replaced t p 0 (b ∷ [])) x) → (t : List ℕ) → p ≤ length t → IsLineOf t line → IsKnownIn later (replaced t p 0 (b ∷ []))
     lines None law t inside known = tt
     lines (Some x) law t inside known = law t inside known
 
 -- a byte less, whose cell is stated where all others are
 known_erased : (st : Stated) (old new : Editing) (p : ℕ) (line : KnownLine) (later : Option KnownLine) → HoldsHistory old.session → HoldsHistory new.session → p < current_len old
     → IsToldByOthers (current_cell old) (current_len old) p
-    → Becomes st old new (λ t. replaced t p 1 []) → IfSome later (λ x. (t : List ℕ) → p < length t → IsLine t line → IsLine (replaced t p 1 []) x)
-    → IsKnown st old (Some line) → IsKnown st new later
+    → Becomes st old new (λ t. replaced t p 1 []) → IfSome later (λ x. (t : List ℕ) → p < length t → IsLineOf t line → IsLineOf (replaced t p 1 []) x)
+    → IsKnownLine st old (Some line) → IsKnownLine st new later
 known_erased st old new p line later h hn inside told becomes law is =
     let f = λ (t : List ℕ). replaced t p 1 [] in
     known_of st old new f (Some line) later h becomes
@@ -91,7 +91,7 @@ known_erased st old new p line later h hn inside told becomes law is =
     ])
     (λ t long known. lines later law t (omega (arith, inside, long)) known) is
   where
-    lines : (later : Option KnownLine) → IfSome later (λ x. (t : List ℕ) → p < length t → IsLine t line → IsLine (replaced t p 1 []) x) → (t : List ℕ) → p < length t → IsLine t line → IsKnownIn later (replaced t p 1 [])
+    lines : (later : Option KnownLine) → IfSome later (λ x. (t : List ℕ) → p < length t → IsLineOf t line → IsLineOf (replaced t p 1 []) x) → (t : List ℕ) → p < length t → IsLineOf t line → IsKnownIn later (replaced t p 1 [])
     lines None law t inside known = tt
     lines (Some x) law t inside known = law t inside known
 
@@ -120,10 +120,10 @@ not_chosen x y i j le = rw (le-ltb i j le) refl
 
 -- lines of a text with a byte more at this place, and with a byte less
 abbrev pub TypedLine : ℕ → ℕ → KnownLine → Option KnownLine → Type 0
-TypedLine p b line later = IfSome later (λ x. (t : List ℕ) → p ≤ length t → IsLine t line → IsLine (replaced t p 0 (b ∷ [])) x)
+TypedLine p b line later = IfSome later (λ x. (t : List ℕ) → p ≤ length t → IsLineOf t line → IsLineOf (replaced t p 0 (b ∷ [])) x)
 
 abbrev pub ErasedLine : ℕ → KnownLine → Option KnownLine → Type 0
-ErasedLine p line later = IfSome later (λ x. (t : List ℕ) → p < length t → IsLine t line → IsLine (replaced t p 1 []) x)
+ErasedLine p line later = IfSome later (λ x. (t : List ℕ) → p < length t → IsLineOf t line → IsLineOf (replaced t p 1 []) x)
 
 abbrev pub ToldAt : Editing → ℕ → Type 0
 ToldAt e p = IsToldByOthers (current_cell e) (current_len e) p
@@ -176,7 +176,7 @@ stays_at_end old known h past = stays_same EraseAt old known h refl (λ source. 
 
 -- the place alone
 stays_moved : (key : Key) (old : Editing) (known : Option KnownLine) → IsTrue (looks_for_lines key) → StaysKnown key old known known
-stays_moved key old known looks before now new takes hn is = subst (λ (e : Editing). IsKnown before.stated e known) (sym (takes.moves looks)) is
+stays_moved key old known looks before now new takes hn is = subst (λ (e : Editing). IsKnownLine before.stated e known) (sym (takes.moves looks)) is
 
 either_text : (s : EditorState) (i j q : ℕ) → current (if nat_lt i j then record s { place = q } else s) ≡ current s
 either_text s i j q = elim (cases_lt i j) [
@@ -207,7 +207,7 @@ stays Balance old known h typed before at cut paste undo = stays_same Balance ol
 
 -- ---- a refused key
 
-pub refused_known : (st : Stated) (old new : Editing) (known : Option KnownLine) (m : Option KeyFault) → HoldsHistory old.session → HoldsHistory new.session → KeepsAll old new → IsKnown st old known → IsKnown st (record new { message = m }) known
+pub refused_known : (st : Stated) (old new : Editing) (known : Option KnownLine) (m : Option KeyFault) → HoldsHistory old.session → HoldsHistory new.session → KeepsAll old new → IsKnownLine st old known → IsKnownLine st (record new { message = m }) known
 refused_known st old new known m h hn keeps is =
     known_kept st old new known h hn (λ source agrees. ap (λ (ts : List (List ℕ)). get_or ts (length ts - 1) []) (kept_texts old new keeps source)) is
 
@@ -221,14 +221,14 @@ told_in_current e session held root p is_session is_held is_root h =
     (subst (λ (x : Held Coded). IsToldByOthers (rope_cell (table_of coded_byte x) root) (rope_len (table_of coded_byte x) root) p) same h)
 
 pub known_in_current : (st : Stated) (e : Editing) (session : SessionValue) (held : Held Coded) (root : Option NodeId) (known : Option KnownLine) → session ≡ e.session → held ≡ session.held → root ≡ current_root e
-    → IsKnown st e known → OfText (table_of coded_byte held) st root (IsKnownIn known)
+    → IsKnownLine st e known → OfText (table_of coded_byte held) st root (IsKnownIn known)
 known_in_current st e session held root known is_session is_held is_root h =
     let same : held ≡ e.session.held = is_held ∙ ap (λ (v : SessionValue). v.held) is_session in
     subst (λ (r : Option NodeId). OfText (table_of coded_byte held) st r (IsKnownIn known)) (sym is_root)
     (subst (λ (x : Held Coded). OfText (table_of coded_byte x) st (current_root e) (IsKnownIn known)) (sym same) h)
 
 pub current_known : (st : Stated) (e : Editing) (session : SessionValue) (held : Held Coded) (root : Option NodeId) (known : Option KnownLine) → session ≡ e.session → held ≡ session.held → root ≡ current_root e
-    → OfText (table_of coded_byte held) st root (IsKnownIn known) → IsKnown st e known
+    → OfText (table_of coded_byte held) st root (IsKnownIn known) → IsKnownLine st e known
 current_known st e session held root known is_session is_held is_root h =
     let same : held ≡ e.session.held = is_held ∙ ap (λ (v : SessionValue). v.held) is_session in
     subst (λ (r : Option NodeId). OfText (table_of coded_byte e.session.held) st r (IsKnownIn known)) is_root

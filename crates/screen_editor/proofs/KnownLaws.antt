@@ -5,13 +5,13 @@ use Rattle.std.proofs.lemmas.List.{get_or-append_right, get_or-drop, get_or-take
 use Rattle.std.proofs.lemmas.List.Sums.{fails_before_first, passes_at_first, position_or_len_is, prefix_len-le-length, suffix_len_is}
 use Rattle.span_certificate.specs.Commands.{replaced}
 use Rattle.screen_editor.specs.declared.known.KnownLine.{KnownLine}
-use Rattle.screen_editor.specs.KnownLines.{HoldsPlace, IsKnownIn, IsLine}
+use Rattle.screen_editor.specs.KnownLines.{HoldsPlace, IsKnownIn, IsLineOf}
 use Rattle.screen_editor.specs.Lines.{is_break, column, line_start, line_end}
 use Rattle.screen_editor.specs.Rows.{IsLineStart}
 
 -- ---- a line tells where the line of each of its places begins and ends
 
-pub tells_start : (t : List ℕ) (line : KnownLine) (p : ℕ) → IsLine t line → line.start ≤ p → p ≤ line.end → line.start ≡ line_start t p
+pub tells_start : (t : List ℕ) (line : KnownLine) (p : ℕ) → IsLineOf t line → line.start ≤ p → p ≤ line.end → line.start ≡ line_start t p
 tells_start t line p h from to =
     let long : length (take p t) ≡ p = length-take-le p t (omega (arith, to, h.inside)) in
     let at : column t p ≡ length (take p t) - line.start =
@@ -20,7 +20,7 @@ tells_start t line p h from to =
     (λ some. rw (get_or-take p t (line.start - 1) 0 (omega (arith, some, from))) (ap not (h.begins (omega (arith, some))))) in
     omega (arith, at, long, from)
 
-pub tells_end : (t : List ℕ) (line : KnownLine) (p : ℕ) → IsLine t line → line.start ≤ p → p ≤ line.end → line.end ≡ line_end t p
+pub tells_end : (t : List ℕ) (line : KnownLine) (p : ℕ) → IsLineOf t line → line.start ≤ p → p ≤ line.end → line.end ≡ line_end t p
 tells_end t line p h from to =
     let rest = length-drop p t in
     let back : p + (line.end - p) ≡ line.end = omega (arith, to) in
@@ -38,7 +38,7 @@ break_at_end t s e is lt =
     let width = position_or_len is_break (drop s t) in
     ap (λ i. is_break (get_or t i 0)) is ∙ ap is_break (sym (get_or-drop s t width 0)) ∙ passes_at_first is_break (drop s t) 0 (omega (arith, is, lt, length-drop s t))
 
-pub line_found : (t : List ℕ) (s e : ℕ) → IsLineStart t s → s ≤ length t → e ≡ line_end t s → IsLine t (record { start = s; end = e })
+pub line_found : (t : List ℕ) (s e : ℕ) → IsLineStart t s → s ≤ length t → e ≡ line_end t s → IsLineOf t (record { start = s; end = e })
 line_found t s e begins inside is =
     let rest = length-drop s t in
     let most = prefix_len-le-length (λ b. not (is_break b)) (drop s t) in
@@ -97,5 +97,5 @@ known_start t known place line h is = tells_start t line place (subst (λ (o : O
 
 pub known_end : (t : List ℕ) (known : Option KnownLine) (place : ℕ) (line : KnownLine) → HoldsPlace known place line → IsKnownIn known t → (line.end ≡ line_end t place) × (line.end ≤ length t)
 known_end t known place line h is =
-    let there : IsLine t line = subst (λ (o : Option KnownLine). IsKnownIn o t) h.is is in
+    let there : IsLineOf t line = subst (λ (o : Option KnownLine). IsKnownIn o t) h.is is in
     (tells_end t line place there h.from h.to, there.inside)

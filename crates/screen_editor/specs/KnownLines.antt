@@ -6,7 +6,7 @@ use Rattle.screen_editor.specs.Lines.{is_break}
 use Rattle.screen_editor.specs.Rows.{IsLineStart}
 
 -- It begins at the text's start or behind a break, and no break stands in it; at its end stands one, or the text ends.
-pub record IsLine (t : List ℕ) (line : KnownLine) : Type 0 where
+pub record IsLineOf (t : List ℕ) (line : KnownLine) : Type 0 where
   pub order : line.start ≤ line.end
   pub inside : line.end ≤ length t
   pub begins : IsLineStart t line.start
@@ -15,7 +15,7 @@ pub record IsLine (t : List ℕ) (line : KnownLine) : Type 0 where
 
 -- what is known is a line of this text
 abbrev pub IsKnownIn : Option KnownLine → List ℕ → Type 0
-IsKnownIn known t = IfSome known (IsLine t)
+IsKnownIn known t = IfSome known (IsLineOf t)
 
 -- this line is known, it is longer than what is searched through at once, and it holds the place, its end too
 pub record HoldsPlace (known : Option KnownLine) (place : ℕ) (line : KnownLine) : Type 0 where

@@ -13,19 +13,19 @@ use Rattle.screen_editor.specs.KnownLines.{IsKnownIn}
 use Rattle.screen_editor.specs.LineKeys.{Takes}
 
 -- what is known is a line of the current text, where each of its cells is stated
-abbrev pub IsKnown : Stated → Editing → Option KnownLine → Type 0
-IsKnown st e known = OfText (session_table e.session) st (current_root e) (IsKnownIn known)
+abbrev pub IsKnownLine : Stated → Editing → Option KnownLine → Type 0
+IsKnownLine st e known = OfText (session_table e.session) st (current_root e) (IsKnownIn known)
 
 -- where that was known before a key, this is known behind it, if the key is taken
 abbrev pub StaysKnown : Key → Editing → Option KnownLine → Option KnownLine → Type 0
 StaysKnown key old known later =
     (before now : Reading) (new : Editing) → Takes key before old (Ok tt) now new → HoldsHistory new.session
-    → IsKnown before.stated old known → IsKnown before.stated new later
+    → IsKnownLine before.stated old known → IsKnownLine before.stated new later
 
 -- the source of a cell, if it has one
-abbrev pub source_of : Cell → Option ℕ
-source_of (Byte b) = None
-source_of (Place s p) = Some s
+abbrev pub cell_source : Cell → Option ℕ
+cell_source (Byte b) = None
+cell_source (Place s p) = Some s
 
 -- of so many cells the one at this place is stated where all others are, whatever the sources state
 abbrev pub IsToldByOthers : (ℕ → Cell) → ℕ → ℕ → Type 0

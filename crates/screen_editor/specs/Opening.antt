@@ -30,17 +30,17 @@ pub record IsFirst (sizes : List ℕ) (v : SessionValue) : Type 0 where
 -- ---- a session that is gone on with
 
 -- at the first byte of its last text, with no mark, no cut span and no message
-abbrev pub opened : SessionValue → Editing
-opened v = record { session = v; priors = priors_of (edits_of v.revisions); place = 0; mark = None; cuts = []; message = None }
+abbrev pub at_first_byte : SessionValue → Editing
+at_first_byte v = record { session = v; priors = priors_of (edits_of v.revisions); place = 0; mark = None; cuts = []; message = None }
 
 -- the session is the one that is handed in, or where that has no revision, what the first command makes of it
-pub data BeginsWith (old new : SessionValue) : Type 0 where
-  there : 1 ≤ length old.revisions → new ≡ old → BeginsWith old new
-  none : old.revisions ≡ [] → Applies old (first_command old.held.sources) 0 new → BeginsWith old new
+pub data GoesOnFrom (old new : SessionValue) : Type 0 where
+  there : 1 ≤ length old.revisions → new ≡ old → GoesOnFrom old new
+  none : old.revisions ≡ [] → Applies old (first_command old.held.sources) 0 new → GoesOnFrom old new
 
 pub record OpensSession (session : SessionValue) (e : Editing) : Type 0 where
-  pub begins : BeginsWith session e.session
-  pub at_first : e ≡ opened e.session
+  pub begins : GoesOnFrom session e.session
+  pub at_first : e ≡ at_first_byte e.session
 
 -- some text is too long
 pub record HasLongText (v : SessionValue) : Type 0 where

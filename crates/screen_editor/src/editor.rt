@@ -4,7 +4,7 @@ ghost use Rattle.std.specs.Prelude.{◌≡◌, ◌↔◌, IfOk, IfErr, IsErrOf, 
 ghost use Rattle.cord_position.specs.Fetched.{ReadsSpan};
 ghost use Rattle.screen_editor.specs.Editing.{IsEditor, current_cell, current_len, over, seen};
 ghost use Rattle.screen_editor.specs.Keys.{key_of, looks_for_lines};
-ghost use Rattle.screen_editor.specs.KnownTexts.{IsKnown};
+ghost use Rattle.screen_editor.specs.KnownTexts.{IsKnownLine};
 ghost use Rattle.screen_editor.specs.LineKeys.{FindsLinePlace, Takes};
 ghost use Rattle.screen_editor.specs.Opening.{IsOpenFault, IsTooLongToOpen, OpensSession};
 ghost use Rattle.screen_editor.specs.Revising.{IsMade, TakesKey};
@@ -36,14 +36,14 @@ pub struct Editor<R: Sources + Drop> {
 impl<R: Sources + Drop> Model for Editor<R> {
     ghost use Rattle.std.specs.Prelude.{◌≡◌};
     ghost use Rattle.screen_editor.specs.Editing.{EditorValue};
-    ghost use Rattle.screen_editor.specs.KnownTexts.{IsKnown};
+    ghost use Rattle.screen_editor.specs.KnownTexts.{IsKnownLine};
 
     ghost Value = { EditorValue R };
 
     ghost view = { λ a. record { sources = a.sources; editing = a.workspace } };
 
     ghost invariant = { λ a. (a.workspace.session.held.sources ≡ (R.reading a.sources).stated.sizes)
-        × IsKnown (R.reading a.sources).stated a.workspace a.known };
+        × IsKnownLine (R.reading a.sources).stated a.workspace a.known };
 }
 
 /// Where a key leads that looks for line breaks.
@@ -54,7 +54,7 @@ fn line_place<R: Sources>(
     known: Option<KnownLine>,
     key: Key,
 ) -> Result<Option<u64>, SourceFault>
-    requires known { IsKnown (R.reading sources.old).stated workspace.now known }
+    requires known { IsKnownLine (R.reading sources.old).stated workspace.now known }
     ensures place { IfOk result (FindsLinePlace (R.reading sources.old).stated key workspace.now) }
     ensures looks { OnErr result (IsTrue (looks_for_lines key)) }
     ensures reads { ReadsSpan (R.reading sources.old) (R.reading sources.new)
@@ -79,7 +79,7 @@ fn take<R: Sources>(
     known: Option<KnownLine>,
     key: Key,
 ) -> Result<(), KeyFault>
-    requires known { IsKnown (R.reading sources.old).stated workspace.old known }
+    requires known { IsKnownLine (R.reading sources.old).stated workspace.old known }
     ensures { Takes key (R.reading sources.old) workspace.old result (R.reading sources.new) workspace.new }
 {
     // The workspace keeps its rules, as its last revision says.
@@ -102,11 +102,11 @@ fn take_key<R: Sources>(
     known: &mut Option<KnownLine>,
     key: Key,
 ) -> Result<Step, KeyFault>
-    requires known { IsKnown (R.reading sources.old).stated workspace.old known.old }
+    requires known { IsKnownLine (R.reading sources.old).stated workspace.old known.old }
     ensures takes { TakesKey key (over (R.reading sources.old) workspace.old) result
         (over (R.reading sources.new) workspace.new) }
     ensures sizes { workspace.new.session.held.sources ≡ workspace.old.session.held.sources }
-    ensures known { IsKnown (R.reading sources.old).stated workspace.new known.new }
+    ensures known { IsKnownLine (R.reading sources.old).stated workspace.new known.new }
 {
     // The workspace keeps its rules, as its last revision says, before the key and behind it.
     let _before = workspace.last();
@@ -135,8 +135,8 @@ fn frame_of<R: Sources>(
     workspace: &Workspace,
     known: &mut Option<KnownLine>,
 ) -> Result<Vec<u8>, FrameFault>
-    requires known { IsKnown (R.reading sources.old).stated workspace.now known.old }
-    ensures known { IsKnown (R.reading sources.old).stated workspace.now known.new }
+    requires known { IsKnownLine (R.reading sources.old).stated workspace.now known.old }
+    ensures known { IsKnownLine (R.reading sources.old).stated workspace.now known.new }
     ensures makes { MakesFrame (over (R.reading sources.old) workspace.now) result
         (over (R.reading sources.new) workspace.now) }
 {

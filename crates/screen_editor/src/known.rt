@@ -6,8 +6,8 @@ ghost use Rattle.cord_position.specs.Fetched.{rope_cell};
 ghost use Rattle.span_certificate.specs.Commands.{replaced};
 ghost use Rattle.screen_editor.specs.declared.known.KnownLine.{KnownLine};
 ghost use Rattle.screen_editor.specs.Editing.{current_cell, current_len};
-ghost use Rattle.screen_editor.specs.KnownLines.{HoldsPlace, IsLine};
-ghost use Rattle.screen_editor.specs.KnownTexts.{IsToldByOthers, StaysKnown, source_of};
+ghost use Rattle.screen_editor.specs.KnownLines.{HoldsPlace, IsLineOf};
+ghost use Rattle.screen_editor.specs.KnownTexts.{IsToldByOthers, StaysKnown, cell_source};
 
 use crate::key::Key;
 use crate::lines::LINE_BREAK;
@@ -39,8 +39,8 @@ pub fn known_about(known: Option<KnownLine>, place: u64) -> Option<KnownLine>
 impl KnownLine {
     /// The line behind a byte that is put in at a place. A line break parts it: the longer part stays known.
     fn typed(self, place: u64, byte: u8) -> Option<KnownLine>
-        ensures line { IfSome result (λ line. (t : List ℕ) → place ≤ length t → IsLine t self
-            → IsLine (replaced t place 0 (byte ∷ [])) line) }
+        ensures line { IfSome result (λ line. (t : List ℕ) → place ≤ length t → IsLineOf t self
+            → IsLineOf (replaced t place 0 (byte ∷ [])) line) }
         ensures kept { self.start ≤ self.end → self.end + 1 < 2 ^ 64 → IsSome result }
     {
         let after = KnownLine {
@@ -73,8 +73,8 @@ impl KnownLine {
 
     /// The line behind a byte that goes out at a place. It is not known where the byte was the break before it or behind it.
     fn erased(self, place: u64) -> Option<KnownLine>
-        ensures line { IfSome result (λ line. (t : List ℕ) → place < length t → IsLine t self
-            → IsLine (replaced t place 1 []) line) }
+        ensures line { IfSome result (λ line. (t : List ℕ) → place < length t → IsLineOf t self
+            → IsLineOf (replaced t place 1 []) line) }
         ensures kept { place + 1 ≢ self.start → place ≢ self.end → IsSome result }
     {
         if place > self.end {
@@ -102,7 +102,7 @@ impl KnownLine {
 fn source_at<S: NodeSpace>(space: &S, rope: Rope, place: u64) -> Option<u32>
     requires rope { IsRope (S.table space.now) rope }
     requires inside { place < rope_len (S.table space.now) rope }
-    ensures { result ≡ source_of (rope_cell (S.table space.now) rope place) }
+    ensures { result ≡ cell_source (rope_cell (S.table space.now) rope place) }
 {
     let Some(node) = rope else { unreachable!() };
     let found = find_leaf(space, node, place);
@@ -133,8 +133,8 @@ fn is_told_by_others<S: NodeSpace>(space: &S, rope: Rope, place: u64) -> bool
 /// The line behind a byte of the current text that goes out.
 fn known_without(workspace: &Workspace, line: KnownLine, place: u64) -> Option<KnownLine>
     requires { place < current_len workspace.now }
-    ensures line { IfSome result (λ later. (t : List ℕ) → place < length t → IsLine t line
-        → IsLine (replaced t place 1 []) later) }
+    ensures line { IfSome result (λ later. (t : List ℕ) → place < length t → IsLineOf t line
+        → IsLineOf (replaced t place 1 []) later) }
     ensures told { IsSome result → IsToldByOthers (current_cell workspace.now) (current_len workspace.now) place }
 {
     if is_told_by_others(workspace.session().space(), workspace.root(), place) {

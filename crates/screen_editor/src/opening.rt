@@ -4,7 +4,7 @@ ghost use Rattle.std.specs.Prelude.{◌≡◌, ◌↔◌, ◌≤◌, ◌<◌, �
 ghost use Rattle.edit_commands.specs.Session.{length_at};
 ghost use Rattle.edit_commands.specs.Applying.{AppliesOrNot};
 ghost use Rattle.screen_editor.specs.declared.workspace.TheConstants.{LONGEST_TEXT};
-ghost use Rattle.screen_editor.specs.Opening.{BeginsWith, HasLongText, HoldsOnly, IsFirst, IsOpenFault, IsTooLongToOpen};
+ghost use Rattle.screen_editor.specs.Opening.{GoesOnFrom, HasLongText, HoldsOnly, IsFirst, IsOpenFault, IsTooLongToOpen};
 ghost use Rattle.screen_editor.specs.Refusals.{IsNewFault, IsTooLong, first_command};
 
 use crate::fault::EditorFault;
@@ -68,7 +68,7 @@ fn has_long_source(session: &Session) -> bool
 
 /// The session that is gone on with: where it has no revision, with the text of source 0, or an empty one where there is no source.
 pub(crate) fn opened_session(session: Session) -> Result<Session, EditorFault>
-    ensures begins { IfOk result (BeginsWith session) }
+    ensures begins { IfOk result (GoesOnFrom session) }
     ensures some { IfOk result (λ v. 1 ≤ length v.revisions) }
     ensures short { IfOk result (λ v. (k : ℕ) → k < length v.revisions → length_at v k ≤ LONGEST_TEXT) }
     ensures sources { IfOk result (λ v. v.held.sources ≡ session.held.sources) }

@@ -8,7 +8,7 @@ ghost use Rattle.edit_commands.specs.Session.{HoldsHistory, length_at, session_t
 ghost use Rattle.screen_editor.specs.declared.cut_span.TheConstants.{MOST_CUTS};
 ghost use Rattle.screen_editor.specs.declared.workspace.TheConstants.{LONGEST_TEXT};
 ghost use Rattle.screen_editor.specs.Editing.{IsCutSpan, IsEditing, current_len, current_root, last_of};
-ghost use Rattle.screen_editor.specs.Opening.{opened};
+ghost use Rattle.screen_editor.specs.Opening.{at_first_byte};
 ghost use Rattle.screen_editor.specs.Priors.{prior_behind};
 ghost use Rattle.screen_editor.specs.Recorded.{edit_at};
 ghost use Rattle.screen_editor.specs.Taking.{IsInOrder, RevisesOrNot};
@@ -76,7 +76,7 @@ impl Workspace {
     pub fn over(alloc: Global, session: Session) -> Result<Workspace, AllocError>
         requires some { 1 ≤ length session.revisions }
         requires short { (k : ℕ) → k < length session.revisions → length_at session k ≤ LONGEST_TEXT }
-        ensures { IfOk result (λ made. made ≡ opened session) }
+        ensures { IfOk result (λ made. made ≡ at_first_byte session) }
     {
         // The session keeps its rules, as its count says.
         let _revisions = session.count();
