@@ -6,6 +6,7 @@ ghost use Rattle.script_tools.specs.declared.fault.PieceFault.TheVariants.{Memor
 use byte_output::WriteFault;
 use edit_commands::EditFault;
 use edit_script::Stopped;
+use saved_session::TakeFault;
 use session_checker::CheckFault;
 use std::alloc::{AllocError, AllocFailed};
 
@@ -17,6 +18,19 @@ pub enum ApplyFault {
     /// A source was not.
     Source(EditFault),
     /// The image was not written to its end.
+    Write,
+}
+
+/// Why a script gave no image behind another.
+#[derive(Clone, Copy, Debug, PartialEq, Eq)]
+pub enum OntoFault {
+    /// The image was not accepted: it is refused, or a read of a source failed.
+    Check(CheckFault),
+    /// No session goes on from the image.
+    TakeUp(TakeFault),
+    /// A line was not taken.
+    Stop(Stopped),
+    /// The new image was not written to its end.
     Write,
 }
 
