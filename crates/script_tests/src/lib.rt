@@ -6,4 +6,6 @@ mod lines;
 #[cfg(test)]
 mod logs;
 #[cfg(test)]
+mod onto;
+#[cfg(test)]
 mod tools;

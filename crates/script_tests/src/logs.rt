@@ -9,10 +9,10 @@ use std::alloc::AllocGlobal;
 use std::process::Abort;
 
 /// The source of the sessions here.
-const SOURCE: &[u8] = b"0123456789";
+pub(crate) const SOURCE: &[u8] = b"0123456789";
 
 /// Each command once.
-const EACH: &[u8] = b"new
+pub(crate) const EACH: &[u8] = b"new
 open 0
 insert 1 4 \"a\\\"\\n\"
 delete 2 0 2
@@ -42,7 +42,7 @@ many 1 0 1 \"X\" 3 0 \"YZ\" 5 2 \"\" # 11: 10 bytes, depth 4, balanced, 5 rows
 ";
 
 /// The texts as sources.
-fn sources_of<'a, A: AllocGlobal + Abort>(rt: &A, texts: &[&'a [u8]]) -> MemSources<'a> {
+pub(crate) fn sources_of<'a, A: AllocGlobal + Abort>(rt: &A, texts: &[&'a [u8]]) -> MemSources<'a> {
     let mut sources = MemSources::new(rt.alloc());
     for text in texts {
         sources.add(*text).expect(rt, "a source");
@@ -51,7 +51,7 @@ fn sources_of<'a, A: AllocGlobal + Abort>(rt: &A, texts: &[&'a [u8]]) -> MemSour
 }
 
 /// The log of an image that is accepted with these sources.
-fn logged<A: AllocGlobal + Abort>(
+pub(crate) fn logged<A: AllocGlobal + Abort>(
     rt: &A,
     image: &[u8],
     texts: &[&[u8]],
