@@ -19,15 +19,22 @@ fn make<A: Abort>(rt: &A, session: &mut Session, command: Command<'_>)
     assert!(rt; made.is_ok());
 }
 
+/// The bytes put in at a place of a revision's text.
+fn insert<A: Abort>(rt: &A, session: &mut Session, r: u32, p: u64, bytes: &[u8])
+    ensures { session.new.held.sources ≡ session.old.held.sources }
+{
+    make(rt, session, Command::Insert { r, p, bytes });
+}
+
 /// An empty text, `abc` in it, and of that one text with `x` before it and one with `y` behind it.
 fn two_of_one<R: AllocGlobal + Abort>(rt: &R) -> Session
     ensures { result.held.sources ≡ [] }
 {
     let mut session = Session::new(rt.alloc());
     make(rt, &mut session, Command::New);
-    for (r, p, bytes) in [(0, 0, b"abc".as_slice()), (1, 0, b"x"), (1, 3, b"y")] {
-        make(rt, &mut session, Command::Insert { r, p, bytes });
-    }
+    insert(rt, &mut session, 0, 0, b"abc");
+    insert(rt, &mut session, 1, 0, b"x");
+    insert(rt, &mut session, 1, 3, b"y");
     session
 }
 
