@@ -117,7 +117,8 @@ fn source_at<S: NodeSpace>(space: &S, rope: Rope, place: u64) -> Option<u32>
 fn is_told_by_others<S: NodeSpace>(space: &S, rope: Rope, place: u64) -> bool
     requires rope { IsRope (S.table space.now) rope }
     requires inside { place < rope_len (S.table space.now) rope }
-    ensures { IsTrue result → IsToldByOthers (rope_cell (S.table space.now) rope) (rope_len (S.table space.now) rope) place }
+    ensures { IsTrue result
+        → IsToldByOthers (rope_cell (S.table space.now) rope) (rope_len (S.table space.now) rope) place }
 {
     let len = rope_len(space, rope);
     let source = source_at(space, rope, place);
