@@ -13,6 +13,9 @@ const BLOCKS: usize = 256;
 /// The key Down.
 const DOWN: u8 = 0x0E;
 
+/// The key to the line's end.
+const LINE_END: u8 = 0x05;
+
 /// A read of a file: where it begins, and how many bytes it asks for.
 #[derive(Clone, Copy, Debug, PartialEq)]
 struct Span {
@@ -66,8 +69,8 @@ fn lines<R: AllocGlobal>(rt: &R) -> Result<Vec<u8>, AllocError> {
     Ok(text)
 }
 
-/// The reads of a file that keys make, and behind them a frame or none.
-fn reads_of<R: AllocGlobal + Abort>(rt: &R, bytes: &[u8], keys: &[u8], shown: bool) -> Vec<Span> {
+/// The reads of a file that keys make, and behind them so many frames.
+fn reads_of<R: AllocGlobal + Abort>(rt: &R, bytes: &[u8], keys: &[u8], frames: u32) -> Vec<Span> {
     let alloc = rt.alloc();
     let mut reads = Vec::new(alloc);
     let blocks = NonZeroUsize::new(BLOCKS).unwrap_or(NonZeroUsize::MIN);
@@ -81,7 +84,7 @@ fn reads_of<R: AllocGlobal + Abort>(rt: &R, bytes: &[u8], keys: &[u8], shown: bo
     for byte in keys {
         assert_same(rt, &editor.key(*byte), &Ok(Step::Going), byte);
     }
-    if shown {
+    for _ in 0..frames {
         assert!(rt; editor.frame().is_ok());
     }
     drop(editor);
@@ -93,8 +96,8 @@ fn assert_reads<R: AllocGlobal + Abort>(rt: &R, keys: &[u8], expected: &[u64]) {
     let bytes = lines(rt).expect(rt, "lines");
     let mut all = Vec::from_slice(rt.alloc(), &[DOWN; 20]).expect(rt, "keys");
     all.extend_from_slice(keys).expect(rt, "keys");
-    let before = reads_of(rt, &bytes, &all, false);
-    let both = reads_of(rt, &bytes, &all, true);
+    let before = reads_of(rt, &bytes, &all, 0);
+    let both = reads_of(rt, &bytes, &all, 1);
     let frame = &both[before.len().min(both.len())..];
     assert_same(rt, &frame.len(), &expected.len(), &"reads");
     for (read, off) in frame.iter().zip(expected) {
@@ -127,4 +130,18 @@ fn a_frame_reads_the_rest_of_a_leaf_by_blocks(rt: HostRuntime) {
         b"a",
         &[4096, 8192, 4903, 903, 4500, 10_000, 10_500, 12_288, 14_500],
     );
+}
+
+/// The cursor stands at the end of a line of 20,000 bytes. Where it begins and ends is known behind the first frame, so that the second one reads no more than
+/// its row, whose block is kept.
+#[test]
+fn a_second_frame_of_a_long_line_reads_nothing(rt: HostRuntime) {
+    let mut text = Vec::new(rt.alloc());
+    for _ in 0..20 {
+        text.extend_from_slice(&[b'x'; 1000]).expect(&rt, "a text");
+    }
+    let once = reads_of(&rt, &text, &[LINE_END], 1);
+    let twice = reads_of(&rt, &text, &[LINE_END], 2);
+    assert!(&rt; once.len() > 4);
+    assert_same(&rt, &twice.len(), &once.len(), &"reads");
 }

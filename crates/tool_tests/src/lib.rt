@@ -16,6 +16,8 @@ mod images;
 #[cfg(test)]
 mod keys;
 #[cfg(test)]
+mod long_lines;
+#[cfg(test)]
 mod places;
 #[cfg(test)]
 mod same;
