@@ -20,7 +20,7 @@ pub fn kept_keys()
 /// cut spans and the message. So each Undo leads to the text to which it would have led.
 #[tactic(auto, using(crate::proofs::OpenedSessions::opens_saved))]
 pub fn opens_what_was_saved()
-    ensures { (old e : Editing) (saved : SessionValue) → IsEditing old → OpensSession saved e
+    ensures same_state { (old e : Editing) (saved : SessionValue) → IsEditing old → OpensSession saved e
         → edits_of saved.revisions ≡ edits_of old.session.revisions
         → ((source : ℕ → ℕ → ℕ) → texts_of source saved ≡ texts_of source old.session)
         → (source : ℕ → ℕ → ℕ) → state_of source e ≡ reopened (state_of source old) }
