@@ -267,31 +267,6 @@ fn verify_with<S: CountedSpace<L>, T: Sources, P: Splices, R: Rows, W: Way, L: L
     )
 }
 
-/// What `verify_counted` tells, by ways of which nothing is kept, apart from those by trails, which are made inline where a caller keeps these.
-#[inline(never)]
-fn verify_short<S: CountedSpace<L>, T: Sources, P: Splices, R: Rows, L: Ledger>(
-    looks: &mut Looks<'_, '_, S, L>,
-    sources: &mut T,
-    parts: PartIter<'_, P>,
-    root: Rope,
-    rows: &R,
-) -> Result<Verdict, SourceFault>
-    requires parts { AreParts (S.table looks.old.space.now) parts }
-    requires root { IsRope (S.table looks.old.space.now) root }
-    ensures exact { IfOk result (TellsRows (S.table looks.old.space.now)
-        (S.coded looks.old.space.now) (T.reading sources.old).stated parts.entry root (R.listed rows.now)) }
-    ensures shows { result ≡ Ok Verdict.Good → ShowsSame
-        (S.table looks.old.space.now) parts.entry root (R.listed rows.now) }
-    ensures reads { Reads (T.reading sources.old) (T.reading sources.new)
-        (IsAskedFor (S.table looks.old.space.now) (S.coded looks.old.space.now)
-        (T.reading sources.old).stated parts.entry root (R.listed rows.now)) (fault_in result) }
-    ensures looks { looks.new.count.now ≤ looks.old.count.now + most_looks (R.listed rows.now) }
-    ensures space { looks.new.space.now ≡ looks.old.space.now }
-    ensures same_reference { looks.new.count.ghost_name ≡ looks.old.count.ghost_name }
-{
-    verify_with(looks, &mut Ways::from_root(), sources, parts, root, rows)
-}
-
 /// What `verify_counted` tells, by trails that a caller keeps from call to call, so that no call sets them up anew. What they hold before does
 /// not matter.
 ///
@@ -320,43 +295,19 @@ pub fn verify_by<S: CountedSpace<L>, T: Sources, P: Splices, R: Rows, L: Ledger>
     ensures same_reference { looks.new.count.ghost_name ≡ looks.old.count.ghost_name }
 {
     if are_short::<S, P, L>(looks.space, &parts, root) {
-        return verify_short(looks, sources, parts, root, rows);
+        return verify_counted(looks, sources, parts, root, rows);
     }
     verify_with(looks, &mut trails.ways, sources, parts, root, rows)
 }
 
-/// The same by trails of its own. They take more room than other locals: only where they are used is it set up.
-#[inline(never)]
-fn verify_alone<S: CountedSpace<L>, T: Sources, P: Splices, R: Rows, L: Ledger>(
-    looks: &mut Looks<'_, '_, S, L>,
-    sources: &mut T,
-    parts: PartIter<'_, P>,
-    root: Rope,
-    rows: &R,
-) -> Result<Verdict, SourceFault>
-    requires parts { AreParts (S.table looks.old.space.now) parts }
-    requires root { IsRope (S.table looks.old.space.now) root }
-    ensures exact { IfOk result (TellsRows (S.table looks.old.space.now)
-        (S.coded looks.old.space.now) (T.reading sources.old).stated parts.entry root (R.listed rows.now)) }
-    ensures shows { result ≡ Ok Verdict.Good → ShowsSame
-        (S.table looks.old.space.now) parts.entry root (R.listed rows.now) }
-    ensures reads { Reads (T.reading sources.old) (T.reading sources.new)
-        (IsAskedFor (S.table looks.old.space.now) (S.coded looks.old.space.now)
-        (T.reading sources.old).stated parts.entry root (R.listed rows.now)) (fault_in result) }
-    ensures looks { looks.new.count.now ≤ looks.old.count.now + most_looks (R.listed rows.now) }
-    ensures space { looks.new.space.now ≡ looks.old.space.now }
-    ensures same_reference { looks.new.count.ghost_name ≡ looks.old.count.ghost_name }
-{
-    verify_with(looks, &mut Trails::new().ways, sources, parts, root, rows)
-}
-
 /// Whether the rows cover the parts of a command and a root, as `verify` tells it, by looks at the space.
 /// They are at most `LOOKS_LIMIT` for each of the rows, and as many for each byte of those that compare bytes, counted up to
-/// `BYTES_LIMIT`.
+/// `BYTES_LIMIT`. Each row goes down from the root; it is not made inline, so that a caller that keeps trails pays nothing for it.
 ///
 /// # Errors
 ///
 /// As those of `verify`.
+#[inline(never)]
 pub fn verify_counted<S: CountedSpace<L>, T: Sources, P: Splices, R: Rows, L: Ledger>(
     looks: &mut Looks<'_, '_, S, L>,
     sources: &mut T,
@@ -377,10 +328,7 @@ pub fn verify_counted<S: CountedSpace<L>, T: Sources, P: Splices, R: Rows, L: Le
     ensures space { looks.new.space.now ≡ looks.old.space.now }
     ensures same_reference { looks.new.count.ghost_name ≡ looks.old.count.ghost_name }
 {
-    if are_short::<S, P, L>(looks.space, &parts, root) {
-        return verify_short(looks, sources, parts, root, rows);
-    }
-    verify_alone(looks, sources, parts, root, rows)
+    verify_with(looks, &mut Ways::from_root(), sources, parts, root, rows)
 }
 
 /// The same over a space, with a count that begins here.

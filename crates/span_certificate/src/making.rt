@@ -200,31 +200,6 @@ fn make_with<S: CodedSpace, P: Splices, W: Way>(
     }
 }
 
-/// The rows that `make` gives, by ways of which nothing is kept, apart from those by trails, which are made inline where a caller keeps these.
-#[inline(never)]
-fn make_short<S: CodedSpace, P: Splices>(
-    alloc: Global,
-    space: &S,
-    parts: PartIter<'_, P>,
-    root: Rope,
-) -> Result<Vec<Row>, MakeFault>
-    requires parts { AreParts (S.NodeSpace.table space.now) parts }
-    requires root { IsRope (S.NodeSpace.table space.now) root }
-    requires same { parts_cells (S.NodeSpace.table space.now) parts
-        ≡ rope_cells (S.NodeSpace.table space.now) root }
-    ensures covers { IfOk result (λ rows. CoversAlways
-        (S.NodeSpace.table space.now) (S.coded space.now) parts.entry root rows.items) }
-    ensures no_source { IfOk result (λ rows. MeetsNoSource
-        (S.NodeSpace.table space.now) parts.entry root rows.items) }
-    ensures longest { IfOk result (λ rows. AreLongest
-        (S.NodeSpace.table space.now) parts.entry root rows.items) }
-    ensures few { IfOk result (λ rows. length rows.items ≤ ROWS_LIMIT) }
-    ensures too_many { IsErrOf result MakeFault.TooManyRows → IsCutShort
-        (S.NodeSpace.table space.now) (S.coded space.now) parts.entry root }
-{
-    make_with(alloc, space, parts, root, &mut Ways::from_root())
-}
-
 /// The rows that `make` gives, by trails that a caller keeps from call to call, so that no call sets them up anew. What they hold before does
 /// not matter.
 ///
@@ -253,43 +228,20 @@ pub fn make_by<S: CodedSpace, P: Splices>(
         (S.NodeSpace.table space.now) (S.coded space.now) parts.entry root }
 {
     if are_short::<S, P, Brand>(space, &parts, root) {
-        return make_short(alloc, space, parts, root);
+        return make(alloc, space, parts, root);
     }
     make_with(alloc, space, parts, root, &mut trails.ways)
 }
 
-/// The same by trails of its own. They take more room than other locals: only where they are used is it set up.
-#[inline(never)]
-fn make_alone<S: CodedSpace, P: Splices>(
-    alloc: Global,
-    space: &S,
-    parts: PartIter<'_, P>,
-    root: Rope,
-) -> Result<Vec<Row>, MakeFault>
-    requires parts { AreParts (S.NodeSpace.table space.now) parts }
-    requires root { IsRope (S.NodeSpace.table space.now) root }
-    requires same { parts_cells (S.NodeSpace.table space.now) parts
-        ≡ rope_cells (S.NodeSpace.table space.now) root }
-    ensures covers { IfOk result (λ rows. CoversAlways
-        (S.NodeSpace.table space.now) (S.coded space.now) parts.entry root rows.items) }
-    ensures no_source { IfOk result (λ rows. MeetsNoSource
-        (S.NodeSpace.table space.now) parts.entry root rows.items) }
-    ensures longest { IfOk result (λ rows. AreLongest
-        (S.NodeSpace.table space.now) parts.entry root rows.items) }
-    ensures few { IfOk result (λ rows. length rows.items ≤ ROWS_LIMIT) }
-    ensures too_many { IsErrOf result MakeFault.TooManyRows → IsCutShort
-        (S.NodeSpace.table space.now) (S.coded space.now) parts.entry root }
-{
-    make_with(alloc, space, parts, root, &mut Trails::new().ways)
-}
-
 /// Rows that show that the parts and the root have one text, whatever the sources hold, each as long as it can be: to
 /// the end of its part, while both sides stay in the node or in the leaves that it is over, and for at most 4,096 bytes
-/// where it compares bytes. No source is read, and no row of bytes is over one.
+/// where it compares bytes. No source is read, and no row of bytes is over one. Each row goes down from the root; it is not made inline, so that a
+/// caller that keeps trails pays nothing for it.
 ///
 /// # Errors
 ///
 /// `TooManyRows` where 16,777,216 such rows do not reach the end, and `Memory`.
+#[inline(never)]
 pub fn make<S: CodedSpace, P: Splices>(
     alloc: Global,
     space: &S,
@@ -310,8 +262,5 @@ pub fn make<S: CodedSpace, P: Splices>(
     ensures too_many { IsErrOf result MakeFault.TooManyRows → IsCutShort
         (S.NodeSpace.table space.now) (S.coded space.now) parts.entry root }
 {
-    if are_short::<S, P, Brand>(space, &parts, root) {
-        return make_short(alloc, space, parts, root);
-    }
-    make_alone(alloc, space, parts, root)
+    make_with(alloc, space, parts, root, &mut Ways::from_root())
 }
