@@ -52,12 +52,20 @@ fn inputs<'a>(alloc: Global, action: &Action<'a>) -> Result<Vec<&'a str>, AllocE
         Action::Check { image, sources, .. }
         | Action::Migrate { image, sources, .. }
         | Action::Show { image, sources, .. }
-        | Action::Log { image, sources, .. }
-        | Action::Apply {
-            script: image,
-            sources,
-        } => {
+        | Action::Log { image, sources, .. } => {
             inputs.push(*image)?;
+            inputs.extend_from_slice(sources)?;
+        }
+        Action::Apply {
+            onto,
+            script,
+            sources,
+            ..
+        } => {
+            if let Some(image) = onto {
+                inputs.push(*image)?;
+            }
+            inputs.push(*script)?;
             inputs.extend_from_slice(sources)?;
         }
         Action::Cut { file, .. } | Action::Find { file, .. } => inputs.push(*file)?,
@@ -90,8 +98,23 @@ fn image_of<'a, 'b>(action: &'b Action<'a>) -> Option<(&'a str, &'b [&'a str])> 
         Action::Check { image, sources, .. }
         | Action::Migrate { image, sources, .. }
         | Action::Show { image, sources, .. }
-        | Action::Log { image, sources, .. } => Some((image, sources)),
+        | Action::Log { image, sources, .. }
+        | Action::Apply {
+            onto: Some(image),
+            sources,
+            ..
+        } => Some((image, sources)),
         _ => None,
+    }
+}
+
+/// Whether a code is of a line of a script, and not of an image.
+fn is_of_line(action: &Action<'_>, name: &str, numbers: &str) -> bool {
+    match action {
+        Action::Apply { .. } => {
+            !numbers.is_empty() && matches!(name.as_bytes(), [b'E' | b'N' | b'P', ..])
+        }
+        _ => false,
     }
 }
 
@@ -217,7 +240,7 @@ fn refused(
     numbers: &str,
 ) -> Result<String, AllocError> {
     let text = match action {
-        Action::Apply { script, .. } if !numbers.is_empty() => {
+        Action::Apply { script, .. } if is_of_line(action, name, numbers) => {
             return format!(in alloc; "line {numbers} of {script}");
         }
         Action::Discard { keys } => keys,
@@ -248,8 +271,10 @@ fn about(
         "write" => output(alloc, action),
         "read" => input(alloc, action),
         _ => match image_of(action) {
-            Some((image, _)) => String::from_str(alloc, image),
-            None => refused(alloc, action, name, numbers),
+            Some((image, _)) if !is_of_line(action, name, numbers) => {
+                String::from_str(alloc, image)
+            }
+            _ => refused(alloc, action, name, numbers),
         },
     }
 }

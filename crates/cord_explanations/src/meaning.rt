@@ -33,6 +33,15 @@ fn of_images(code: &str) -> &'static str {
     }
 }
 
+/// No session goes on from an image that is accepted.
+fn of_sessions(code: &str) -> &'static str {
+    match code {
+        "G1" =>
+            "revision # of % has a row that compares bytes of a source: a session of its commands is made by cordkit log % SOURCE.. | cordkit apply /dev/stdin SOURCE..",
+        _ => "",
+    }
+}
+
 /// The line of a script, or its command, is not taken.
 fn of_commands(code: &str) -> &'static str {
     match code {
@@ -99,6 +108,7 @@ pub fn meaning(code: &str) -> &'static str {
         [b'I', ..] => of_bytes(code),
         [b'C', ..] => of_images(code),
         [b'E' | b'P', ..] => of_commands(code),
+        [b'G', ..] => of_sessions(code),
         [b'N', ..] => of_texts(code),
         [b'F' | b'J' | b'K' | b'S', ..] => of_files(code),
         _ => of_runs(code),

@@ -1,6 +1,6 @@
 -- The program's command line, and what an action holds of it.
 use Rattle.std.specs.Prelude.{◌≡◌, ◌⊎◌, ◌∷◌, ◌||◌, ⊤, ℕ, Bool, true, false, List, [], Option, Some, None, Ok, String}
-use Rattle.std.specs.Prelude.{IfSome, codes, if◌then◌else◌, is_some, map, string_bytes, unwrap_or}
+use Rattle.std.specs.Prelude.{IfSome, codes, if◌then◌else◌, is_some, map, not, string_bytes, unwrap_or}
 use Rattle.std.specs.Option.{option_map, option_map_or}
 use Rattle.std.specs.Str.{bytes_eq}
 use Rattle.std.specs.Str.Parse.{ParsesUnsigned}
@@ -10,7 +10,7 @@ use Rattle.clap.specs.Words.{new_rule, subcommand_of, with_rule, with_subcommand
 use Rattle.clap.specs.Simple.{on_top}
 use Rattle.clap.specs.Kinds.{or_else}
 use Rattle.clap.specs.declared.builder.action.ArgAction.TheVariants.{Append, SetTrue}
-use Rattle.clap.specs.declared.error.kind.ErrorKind.TheVariants.{ArgumentConflict, ValueValidation}
+use Rattle.clap.specs.declared.error.kind.ErrorKind.TheVariants.{ArgumentConflict, MissingRequiredArgument, ValueValidation}
 use Rattle.cord_words.specs.declared.request.Request.{Request}
 use Rattle.cord_words.specs.declared.action.Action.{Action}
 use Rattle.cord_words.specs.declared.action.Action.TheVariants.{CheckInput, Check, Show, Cut, Join, Find, Cmp, Edit, Discard, Migrate, Log, Apply}
@@ -114,9 +114,14 @@ abbrev pub log_app : App
 log_app = with_rule (with_rule (with_rule (with_rule (new_app (codes "log")) limit_rule)
     (flag_rule (codes "brief"))) image_rule) sources_rule
 
--- `apply SCRIPT [SOURCE]...`
+-- the value of `--onto`, or none
+abbrev pub onto_rule : Rule
+onto_rule = record (new_rule (codes "IMAGE")) { long = Some (codes "onto") }
+
+-- `apply [--onto IMAGE] [--at-most LOOKS] SCRIPT [SOURCE]...`
 abbrev pub apply_app : App
-apply_app = with_rule (with_rule (new_app (codes "apply")) (required_rule (codes "SCRIPT"))) sources_rule
+apply_app = with_rule (with_rule (with_rule (with_rule (new_app (codes "apply")) onto_rule) limit_rule)
+    (required_rule (codes "SCRIPT"))) sources_rule
 
 -- the program's name, and that it has a version
 abbrev pub titled_app : App
@@ -172,6 +177,10 @@ abbrev pub names_session : List Row → Bool
 names_session rows = is_some (first_of (codes "KEYS") rows) || (is_some (first_of (codes "SESSION") rows)
     || (is_set rows (codes "no-clobber") || is_some (first_of (codes "FILE") rows)))
 
+-- `apply` has `--at-most` only where it has `--onto`
+abbrev pub limits_a_check : List Row → Bool
+limits_a_check rows = is_some (first_of (codes "IMAGE") rows) || not (is_some (first_of (codes "LOOKS") rows))
+
 -- the action is the subcommand that was given, with the texts and the numbers of its arguments
 abbrev pub Holds : Option (Text × List Row) → Action → Type 0
 Holds given CheckInput = given ≡ None
@@ -210,8 +219,11 @@ Holds given (Log at_most brief image sources) = Gives given (codes "log") (λ ro
     MayReadAs (first_of (codes "LOOKS") rows) at_most × (brief ≡ is_set rows (codes "brief"))
     × (image.now ≡ text_of rows (codes "IMAGE"))
     × (map (λ s. s.now) sources.items ≡ texts_of rows (codes "SOURCE")))
-Holds given (Apply script sources) = Gives given (codes "apply") (λ rows.
-    (script.now ≡ text_of rows (codes "SCRIPT"))
+Holds given (Apply onto at_most script sources) = Gives given (codes "apply") (λ rows.
+    (limits_a_check rows ≡ true)
+    × (option_map (λ i. i.now) onto ≡ first_of (codes "IMAGE") rows)
+    × MayReadAs (first_of (codes "LOOKS") rows) at_most
+    × (script.now ≡ text_of rows (codes "SCRIPT"))
     × (map (λ s. s.now) sources.items ≡ texts_of rows (codes "SOURCE")))
 
 -- the matches of the program's own arguments
@@ -255,16 +267,27 @@ pub record NumbersRead (given : Option (Text × List Row)) : Type 0 where
   pub find : WhereGiven given (codes "find") (λ rows. IsNumber (text_of rows (codes "START")))
   pub migrate : WhereGiven given (codes "migrate") (λ rows. IfSome (first_of (codes "LOOKS") rows) IsNumber)
   pub log : WhereGiven given (codes "log") (λ rows. IfSome (first_of (codes "LOOKS") rows) IsNumber)
+  pub apply : WhereGiven given (codes "apply") (λ rows. IfSome (first_of (codes "LOOKS") rows) IsNumber)
 
 -- `--discard` stands beside no word that is for a session
 abbrev pub DiscardsAlone : Option (Text × List Row) → Type 0
 DiscardsAlone given = WhereGiven given (codes "edit") (λ rows.
     is_set rows (codes "discard") ≡ true → names_session rows ≡ false)
 
--- the kind of a refusal of words that clap takes: words of `edit` that do not go together, or a number that does not read
+-- `--at-most` stands beside `--onto`, where `apply` has it
+abbrev pub LimitsACheck : Option (Text × List Row) → Type 0
+LimitsACheck given = WhereGiven given (codes "apply") (λ rows. limits_a_check rows ≡ true)
+
+-- the kinds of a refusal of words of a subcommand that clap takes: words of `edit` or of `apply` that do not go together,
+-- or a number that does not read
+abbrev pub kinds_of : Text → Kinds
+kinds_of name =
+    if bytes_eq name (codes "edit") then ArgumentConflict ∷ []
+    else (if bytes_eq name (codes "apply") then ValueValidation ∷ MissingRequiredArgument ∷ [] else ValueValidation ∷ [])
+
 abbrev pub own_kinds : Option (Text × List Row) → Kinds
 own_kinds None = []
-own_kinds (Some p) = if bytes_eq p.0 (codes "edit") then ArgumentConflict ∷ [] else ValueValidation ∷ []
+own_kinds (Some p) = kinds_of p.0
 
 -- the kinds of a refusal: that of clap's first fault, or that of words that it takes
 abbrev pub refusal_kinds : List Text → Kinds

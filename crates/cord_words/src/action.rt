@@ -72,8 +72,11 @@ pub enum Action<'a> {
         image: &'a str,
         sources: Vec<&'a str>,
     },
-    /// Write the image of the session that a script makes, over files of these lengths.
+    /// Write the image of the session that a script makes, over files of these lengths: behind the last revision of the image `onto`,
+    /// where there is one, whose session has these sources. So many looks may the check of that one take.
     Apply {
+        onto: Option<&'a str>,
+        at_most: Option<u64>,
         script: &'a str,
         sources: Vec<&'a str>,
     },

@@ -4,7 +4,8 @@ ghost use Rattle.std.specs.Prelude.{◌≡◌, IfOk, false};
 ghost use Rattle.clap.specs.Words.{App, Rule, app_of, new_app, rule_of, with_rule};
 ghost use Rattle.clap.specs.declared.builder.command.Command.TheViews.{out-Command as fields_of};
 ghost use Rattle.cord_words.specs.Words.{explain_rule, file_rule, flag_rule, image_rule, keep_rule, limit_rule};
-ghost use Rattle.cord_words.specs.Words.{optional_file_rule, quiet_rule, required_rule, session_rule, sources_rule, start_rule, with_flags};
+ghost use Rattle.cord_words.specs.Words.{onto_rule, optional_file_rule, quiet_rule, required_rule, session_rule, sources_rule};
+ghost use Rattle.cord_words.specs.Words.{start_rule, with_flags};
 
 use clap::{Arg, ArgAction, Command};
 use std::alloc::{AllocError, Global};
@@ -160,5 +161,15 @@ pub fn session<'a>(alloc: Global) -> Arg<'a>
 {
     Arg::new(alloc, "SESSION").long("session").help(
         "The file that has what there was when the session began, and goes once it is saved: a session that finds it goes on",
+    )
+}
+
+/// `--onto IMAGE`
+pub fn onto<'a>(alloc: Global) -> Arg<'a>
+    ensures rule { rule_of result ≡ onto_rule }
+    ensures local { result.global ≡ false }
+{
+    Arg::new(alloc, "IMAGE").long("onto").help(
+        "The file of the saved session that the script goes on from",
     )
 }

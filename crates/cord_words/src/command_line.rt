@@ -5,7 +5,7 @@ ghost use Rattle.clap.specs.Words.{App, app_of, fault_of, found_of, kind_of, row
 ghost use Rattle.clap.specs.Words.{subcommand_rows_of, takes, with_subcommand};
 ghost use Rattle.clap.specs.declared.builder.command.Command.TheViews.{out-Command as fields_of};
 ghost use Rattle.clap.specs.declared.error.kind.ErrorKind.TheVariants.{ValueValidation};
-ghost use Rattle.cord_words.specs.Words.{Asks, DiscardsAlone, Holds, IsKnown, NumbersRead, cordkit_app, is_said};
+ghost use Rattle.cord_words.specs.Words.{Asks, DiscardsAlone, Holds, IsKnown, LimitsACheck, NumbersRead, cordkit_app, is_said};
 ghost use Rattle.cord_words.specs.Words.{line_of, own_kinds, own_rows, refusal_kinds, titled_app, with_tool};
 ghost use Rattle.cord_words.specs.Refusals.{FailsAs};
 
@@ -25,18 +25,19 @@ const VERSION: &str = "1.0.0 (rattle-kit-13f logic dac8208d650f15bf)";
 ///
 /// # Errors
 ///
-/// `Usage`, where `clap` does not take the words, a number does not read, or `--discard` stands beside a word for a session, with the text for
-/// the user. `Version`, with the text that
+/// `Usage`, where `clap` does not take the words, a number does not read, `--discard` stands beside a word for a session, or `--at-most` of
+/// `apply` without `--onto`, with the text for the user. `Version`, with the text that
 /// was asked for. `Memory`.
 pub fn words<'a>(alloc: Global, words: &'a [String]) -> Result<Request<'a>, WordsFault>
     ensures asks { IfOk result (Asks (line_of words.entry.now)) }
 
-    // A request is read only of words in which `clap` finds no fault, and where it takes them, each number reads and `--discard` stands
-    // alone, nothing but memory is in the way.
+    // A request is read only of words in which `clap` finds no fault, and where it takes them, each number reads, `--discard` stands
+    // alone and `--at-most` beside an image, nothing but memory is in the way.
     ensures faultless { OnOk result (fault_of cordkit_app (line_of words.entry.now) ≡ []) }
     ensures only_memory { IfErr result (λ f. takes cordkit_app (line_of words.entry.now) ≡ true
         → NumbersRead (subcommand_of cordkit_app (line_of words.entry.now))
         → DiscardsAlone (subcommand_of cordkit_app (line_of words.entry.now))
+        → LimitsACheck (subcommand_of cordkit_app (line_of words.entry.now))
         → f ≡ WordsFault.Memory) }
     ensures kinds { IfErr result (FailsAs (refusal_kinds (line_of words.entry.now))) }
 {
@@ -87,7 +88,7 @@ fn action_of<'a>(
     ensures holds { IfOk result (Holds (subcommand_rows_of matches.now)) }
     ensures only_memory { IfErr result (λ f.
         NumbersRead (subcommand_rows_of matches.now) → DiscardsAlone (subcommand_rows_of matches.now)
-        → f ≡ WordsFault.Memory) }
+        → LimitsACheck (subcommand_rows_of matches.now) → f ≡ WordsFault.Memory) }
     ensures kind { IfErr result (FailsAs (own_kinds (subcommand_rows_of matches.now))) }
 {
     match matches.subcommand() {
@@ -101,7 +102,7 @@ fn action_of<'a>(
         Some(("edit", given)) => edit::action(command, given),
         Some(("migrate", given)) => migrate::action(alloc, command, given),
         Some(("log", given)) => log::action(alloc, command, given),
-        Some(("apply", given)) => Ok(apply::action(alloc, given)?),
+        Some(("apply", given)) => apply::action(alloc, command, given),
         Some(_) => unreachable!(),
     }
 }
@@ -112,7 +113,7 @@ fn asked<'a>(alloc: Global, matches: &ArgMatches<'a>) -> Result<Action<'a>, Word
     ensures holds { IfOk result (Holds (subcommand_rows_of matches.now)) }
     ensures only_memory { IfErr result (λ f.
         NumbersRead (subcommand_rows_of matches.now) → DiscardsAlone (subcommand_rows_of matches.now)
-        → f ≡ WordsFault.Memory) }
+        → LimitsACheck (subcommand_rows_of matches.now) → f ≡ WordsFault.Memory) }
     ensures kind { IfErr result (FailsAs (own_kinds (subcommand_rows_of matches.now))) }
 {
     let mut command = alone(alloc, matches.subcommand_name().unwrap_or(""))?;
@@ -129,6 +130,7 @@ fn alone<'a>(alloc: Global, name: &str) -> Result<Command<'a>, AllocError> {
         "edit" => edit::command(alloc),
         "migrate" => migrate::command(alloc),
         "log" => log::command(alloc),
+        "apply" => apply::command(alloc),
         _ => Ok(titled(alloc)),
     };
     let path = format!(in alloc; "cordkit {name}")?;

@@ -4,6 +4,7 @@
 mod answer;
 mod editing;
 mod file_state;
+mod going_on;
 mod image_file;
 mod journal;
 mod meter;
@@ -16,6 +17,7 @@ ghost use Rattle.std.specs.Prelude.{◌≡◌, ◌*◌, ◌-◌, ◌^◌, ◌<�
 
 use crate::answer::Answer;
 use crate::editing::{Editing, edit};
+use crate::going_on::apply_onto;
 use crate::journal::discard;
 use crate::meter::Meter;
 use crate::opening::{OpenedImage, opened_image, opened_sources};
@@ -319,7 +321,19 @@ fn run<L: Ledger, W: io::Write>(
             blank,
         ),
         Action::Discard { keys } => discard(rt, keys),
-        Action::Apply { script, sources } => apply::<L, W>(
+        Action::Apply {
+            onto: Some(image),
+            at_most,
+            script,
+            sources,
+        } => apply_onto::<L, W>(
+            rt, image, *at_most, script, sources, answer, meter, blank,
+        ),
+        Action::Apply {
+            script,
+            sources,
+            ..
+        } => apply::<L, W>(
             rt, script, sources, answer, meter, blank,
         ),
     }

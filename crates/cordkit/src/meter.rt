@@ -50,6 +50,8 @@ impl<'a> Meter<'a> {
     /// Work begins that is counted by these parts.
     pub fn start(&mut self, parts: &'static str) {
         self.parts = parts;
+        self.step = 1;
+        self.next = 0;
         if !self.quiet && self.rt.stderr().is_terminal() {
             self.told = Instant::now(self.rt).ok();
             self.asked = self.told;

@@ -1,7 +1,7 @@
 use Rattle.std.proofs.Common.{subst, sym}
 use Rattle.clap.specs.Words.{fault_of}
 use Rattle.clap.proofs.TakesLemmas.{passed_up}
-use Rattle.cord_words.specs.Words.{DiscardsAlone, IsKnown, NumbersRead, cordkit_app, line_of}
+use Rattle.cord_words.specs.Words.{DiscardsAlone, IsKnown, LimitsACheck, NumbersRead, cordkit_app, line_of}
 use Rattle.cord_words.proofs.LineLemmas.{known_given}
 use Rattle.cord_words.proofs.RefusalLemmas.{fails_first}
 use Rattle.cord_words.proofs.command_line.words.Goals as goal
@@ -14,7 +14,7 @@ returns-in_err-matches-clause-kinds c =
 pub returns-in_err-matches-clause-only_memory : goal.returns-in_err-matches-clause-only_memory
 returns-in_err-matches-clause-only_memory c =
     passed_up c.from_residual-in_err-matches.result _ _ c.from_residual-in_err-matches.ensures.1
-    (λ taken read alone. c.in_err-matches.ensures.only_memory taken)
+    (λ taken read alone limits. c.in_err-matches.ensures.only_memory taken)
 
 pub asked-requires : goal.asked-requires
 asked-requires c = subst IsKnown (sym c.in_ok-matches.ensures.rows) (known_given (line_of c.args.words.now) c.in_ok-matches.ensures.faultless)
@@ -22,5 +22,5 @@ asked-requires c = subst IsKnown (sym c.in_ok-matches.ensures.rows) (known_given
 pub returns-in_err-action-clause-only_memory : goal.returns-in_err-action-clause-only_memory
 returns-in_err-action-clause-only_memory c =
     passed_up c.from_residual-in_err-action.result _ _ c.from_residual-in_err-action.ensures.1
-    (λ taken read alone. c.in_err-action.ensures.only_memory (subst NumbersRead (sym c.in_ok-matches.ensures.rows) read)
-    (subst DiscardsAlone (sym c.in_ok-matches.ensures.rows) alone))
+    (λ taken read alone limits. c.in_err-action.ensures.only_memory (subst NumbersRead (sym c.in_ok-matches.ensures.rows) read)
+    (subst DiscardsAlone (sym c.in_ok-matches.ensures.rows) alone) (subst LimitsACheck (sym c.in_ok-matches.ensures.rows) limits))
