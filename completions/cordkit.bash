@@ -19,6 +19,7 @@ _cordkit_options() {
         cordkit-verify) echo --text --graph --at-most --help ;;
         check | show | migrate) echo --at-most --explain --quiet --help ;;
         log) echo --at-most --brief --explain --quiet --help ;;
+        apply) echo --onto --at-most --explain --quiet --help ;;
         find) echo --all --explain --quiet --help ;;
         edit) echo --keep --session --no-clobber --discard --explain --quiet --help ;;
         cordedit) echo -f --copy --text --continue --discard --help ;;
@@ -40,7 +41,7 @@ _cordkit_read() {
             ((++place))
         elif [[ $word == -- ]]; then
             ended=yes
-        elif [[ $word == --at-most || $word == --text || $word == --keep || $word == --session ]]; then
+        elif [[ $word == --at-most || $word == --text || $word == --onto || $word == --keep || $word == --session ]]; then
             [[ ${COMP_WORDS[k + 1]} == = ]] && ((++k))
             ((++k >= COMP_CWORD)) && valued=$command$word
         elif [[ $word == --continue ]]; then
@@ -59,7 +60,7 @@ _cordkit() {
     COMPREPLY=()
     [[ ${1##*/} == cordkit ]] || command=${1##*/}
     _cordkit_read
-    if [[ -n $redirected || $valued == edit--* || $valued == cordedit--text ]]; then
+    if [[ -n $redirected || $valued == edit--* || $valued == apply--onto || $valued == cordedit--text ]]; then
         compopt -o default
         return
     fi
