@@ -70,6 +70,7 @@ bench:
 	sh bench/rope.sh
 	sh bench/tools.sh
 	sh bench/scripts.sh
+	sh bench/onto.sh
 	sh bench/edit.sh
 
 speed:

@@ -34,7 +34,7 @@ is_stopped "no input" read
 status=0
 "$program" < . > "$out" 2> "$err" || status=$?
 is_stopped "a folder as input" read
-for words in "check . $folder/abc" "show . 1" "show stdin 1 ." "migrate ." "apply ." "cut 0 1 ." "join $folder/abc ." "find 0 c ." "cmp $folder/abc ."; do
+for words in "check . $folder/abc" "show . 1" "show stdin 1 ." "migrate ." "apply ." "apply --onto stdin ." "apply --onto . $folder/abc" "cut 0 1 ." "join $folder/abc ." "find 0 c ." "cmp $folder/abc ."; do
     status=0
     "$program" $words > "$out" 2> "$err" || status=$?
     is_stopped "a folder: $words" read

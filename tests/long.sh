@@ -4,6 +4,7 @@
 # status is not 0 where one failed or none passed.
 #   100,000 damaged images, 1,000 sessions of keys    python3; both ask the second checker, bin/cordkit-verify
 #   1,000 scripts and those of a million lines; 3,000 images, their logs    python3; so does this one
+#   1,000 scripts in pieces, 1,000 images, gone on from                     python3; so does this one
 #   reads and writes that devices refuse              nothing more
 #   the tests of ropes under memcheck                 valgrind, and rt where they are not built
 #   refusals that come behind much work               nothing more
@@ -47,6 +48,7 @@ try() {
 try 'damaged images' python3 python3 tests/damaged_images.py 100000
 try 'sessions of keys' python3 python3 tests/random_keys.py 1000
 try 'scripts and logs' python3 python3 tests/random_scripts.py 1000
+try 'scripts behind images' python3 python3 tests/going_on.py 1000
 try 'refused reads and writes' '' sh tests/devices.sh
 try 'the tests of ropes under memcheck' valgrind sh tests/memcheck.sh
 try 'dear refusals' '' sh tests/dear_refusals.sh

@@ -55,6 +55,7 @@ printf 'new\ninsert 0 0 abc\n' > script_without_quotes
 printf 'new\n\ninsert 0 1 "x"\n' > script_past_the_end
 printf 'new\n\nback 7\n' > script_of_no_revision
 printf 'new\ncut 0 1 2\n' > script_of_long_cuts
+printf '# one more byte\ninsert 1 3 "d"\n' > script_of_d
 sixty=$(yes a | head -n 60 | tr -d '\n')
 printf 'new\ninsert 0 0 "%sb"\n' "$sixty" > script_of_61
 printf 'new # 0: 0 bytes, depth 0, 0 rows\ninsert 0 0 "%s"... # 1: 61 bytes, depth 0, balanced, 1 rows\n' "$sixty" > brief_log
@@ -551,6 +552,30 @@ a change more;apply script_of_more_changes;;1;;refused E9(3)\n
 a text of a source twice that is too long;apply script_of_a_double half;;1;;refused E7(N1,2)\n
 a script that is a folder;apply folder;;3;;read\n
 a script's image on a full device;apply script_of_abc;;3;/dev/full;write\n
+a script goes on from an image;apply --onto one_insert script_of_d;;0;@two_inserts;
+what is so written is accepted;check two_inserts;;0;accepted 3 revisions 3 nodes 3 rows\n;
+its last text is what its command gives;show $("$program" apply --onto one_insert_in_two script_of_d > applied && echo applied) 2;;0;abcd;
+a script that says nothing, behind an image of version 1;apply --onto one_insert nothing;;0;@one_insert_in_two;
+a script that says nothing, behind an image of version 2;apply --onto two_inserts nothing;;0;@two_inserts;
+an image to go on from by a pipe;apply --onto /dev/stdin nothing;one_insert;0;@one_insert_in_two;
+a script by a pipe, behind an image;apply --onto one_insert /dev/stdin;script_of_d;0;@two_inserts;
+a text over a source, behind an image;show $("$program" apply script_over_a_source abc > applied && printf 'join 6 1' > script_of_more && "$program" apply --onto applied script_of_more abc > further && echo further) 7 abc;;0;--aabbcabcabcabc;
+a row of bytes over a source;apply --onto bytes_row_over_a_source nothing abc;;1;;refused G1(0)\n
+such a row over a source that is shorter;apply --onto bytes_row_over_a_source nothing ab;;1;;refused C3(0)\n
+such a row over no source;apply --onto bytes_row_over_a_source nothing;;1;;refused C2\n
+an image is refused before a script is;apply --onto child_not_earlier script_without_quotes;;1;;refused C4(1)\n
+a row over a source is before a script is;apply --onto bytes_row_over_a_source script_without_quotes abc;;1;;refused G1(0)\n
+a script of 2^40 bytes is before an image is;apply --onto child_not_earlier too_long;;1;;refused S5\n
+256 sources are before an image is;apply --onto child_not_earlier nothing $(yes abc | head -n 256);;1;;refused S4\n
+as many looks as the limit, and going on;apply --onto one_insert --at-most 137 nothing;;0;@one_insert_in_two;
+a look more than the limit, and no going on;apply --at-most=136 nothing --onto one_insert;;1;;refused looks 137\n
+a line that is no command, behind an image;apply --onto one_insert script_without_quotes;;1;;refused P(2)\n
+a place past the end, behind an image;apply --onto new_alone script_of_d;;1;;refused E1(2)\n
+a source that is not handed in, behind an image;apply --onto one_insert script_over_a_source;;1;;refused E2(1)\n
+an image to go on from that is not there;apply --onto missing script_of_d;;3;;read\n
+an image to go on from that is a folder;apply --onto folder script_of_d;;3;;read\n
+a script that is not there, behind an image;apply --onto one_insert missing;;3;;read\n
+an image behind another on a full device;apply --onto one_insert script_of_d;;3;/dev/full;write\n
 an image is logged;log one_insert;;0;new # 0: 0 bytes, depth 0, 0 rows\ninsert 0 0 "abc" # 1: 3 bytes, depth 0, balanced, 1 rows\n;
 an image over a source is logged;log bytes_row_over_a_source abc;;0;open 0 # 0: 3 bytes, depth 0, 1 rows\n;
 its script makes the image again;apply $("$program" log one_insert > logged && echo logged);;0;@one_insert_in_two;
@@ -714,6 +739,11 @@ a text of a source twice that is too long in words;apply --explain script_of_a_d
 changes out of order in words;apply --explain refused_a_change_at_a_place_twice;;1;;refused E3(3)\nE3(3): line 3 of refused_a_change_at_a_place_twice has changes that are out of order, or behind the end of revision 0\n
 a part past the end of what is pasted in words;apply --explain refused_a_part_of_what_is_pasted;;1;;refused E3(3)\nE3(3): line 3 of refused_a_part_of_what_is_pasted names a place or bytes behind the end of revision 0 or 0\n
 a text that is too long in words;apply --explain script_too_long;;1;;refused E7(N1,2)\nE7(N1,2): line 2 of script_too_long would make a text of 2^40 bytes or more\n
+a row of bytes over a source in words;apply --explain --onto bytes_row_over_a_source nothing abc;;1;;refused G1(0)\nG1(0): revision 0 of bytes_row_over_a_source has a row that compares bytes of a source: a session of its commands is made by cordkit log bytes_row_over_a_source SOURCE.. | cordkit apply /dev/stdin SOURCE..\n
+an image to go on from that is refused in words;apply --explain --onto abcde script_of_d;;1;;refused C1(I1)\nC1(I1): abcde ends too early to be an image\n
+no such revision behind an image in words;apply --explain --onto new_alone script_of_d;;1;;refused E1(2)\nE1(2): line 2 of script_of_d names a revision that is not there\n
+another number of sources of an image in words;apply --explain --onto one_insert script_of_d abc;;1;;refused C2\nC2: the sources of one_insert are 0 in number, and 1 are given\n
+a script that is not there, behind an image, in words;apply --explain --onto one_insert missing;;3;;read\nread: there is no file missing\n
 a file that is too long in words;cut --explain 0 1 too_long;;1;;refused S5\nS5: too_long has more than 2^40 - 1 bytes\n
 files that are too long together in words;join --explain half half;;1;;refused N1\nN1: the files together would make a text of 2^40 bytes or more\n
 a pattern that is too long in words;find --explain 0 $(yes a | head -n 4097 | tr -d '\n') abcde;;1;;refused F1\nF1: the pattern has more than 4,096 bytes\n
@@ -739,6 +769,7 @@ a file to cut that is missing;cut 1 2;;2;;error: the following required argument
 a start that is no number;cut x 2 abcde;;2;;error: invalid value 'x' for '<START>': invalid digit found in string\n\nUsage: cordkit cut [OPTIONS] <START> <COUNT> <FILE>\n\nFor more information, try '--help'.\n
 a count that is no number;cut 1 x abcde;;2;;error: invalid value 'x' for '<COUNT>': invalid digit found in string\n\nUsage: cordkit cut [OPTIONS] <START> <COUNT> <FILE>\n\nFor more information, try '--help'.\n
 a file too many to cut;cut 1 2 abcde ab;;2;;error: unexpected argument 'ab' found\n\nUsage: cordkit cut [OPTIONS] <START> <COUNT> <FILE>\n\nFor more information, try '--help'.\n
+a limit of looks without an image;apply --at-most 137 nothing;;2;;error: the argument '--at-most <LOOKS>' cannot be used without '--onto <IMAGE>'\n\nUsage: cordkit apply [OPTIONS] <SCRIPT> [SOURCE]...\n\nFor more information, try '--help'.\n
 files to join that are missing;join;;2;;error: the following required arguments were not provided:\n  <FILE>...\n\nUsage: cordkit join <FILE>...\n\nFor more information, try '--help'.\n
 a file to look in that is missing;find 1 b;;2;;error: the following required arguments were not provided:\n  <FILE>\n\nUsage: cordkit find <START> <PATTERN> <FILE>\n\nFor more information, try '--help'.\n
 a place that is no number;find x b abcde;;2;;error: invalid value 'x' for '<START>': invalid digit found in string\n\nUsage: cordkit find [OPTIONS] <START> <PATTERN> <FILE>\n\nFor more information, try '--help'.\n

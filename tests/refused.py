@@ -39,6 +39,8 @@ a refused command is told with its line
 a part past the end ends with the file
 a part of standard input
 files are joined in their order
+a script goes on from an image
+a row of bytes over a source
 a pattern is found
 a pattern that does not occur
 a prefix is less
@@ -67,6 +69,8 @@ def files():
     made |= {"abcde": b"abcde", "abc": b"abc", "ab": b"ab", "highest": b"\xff", "nothing": b"", "keys_saved": b"ab\x15c\x18"}
     made["script_of_abc"] = b'new\n\n# the fox\ninsert 0 0 "abc" # revision 1\r\n'
     made["script_past_the_end"] = b'new\n\ninsert 0 1 "x"\n'
+    made["script_of_d"] = b'# one more byte\ninsert 1 3 "d"\n'
+    made["two_inserts"] = image_of("version2/two_inserts")
     return made
 
 
