@@ -58,3 +58,48 @@ fn codes_are_explained(rt: HostRuntime) -> Result<(), Fail> {
         ],
     )
 }
+
+#[test]
+fn codes_of_a_script_behind_an_image_are_explained(rt: HostRuntime) -> Result<(), Fail> {
+    let onto = || Action::Apply {
+        onto: Some("a.cord"),
+        at_most: None,
+        script: "missing/s",
+        sources: Vec::new(rt.alloc()),
+    };
+    assert_explained(
+        &rt,
+        &[
+            (
+                onto(),
+                "G1(4)",
+                "G1(4): revision 4 of a.cord has a row that compares bytes of a source: a session of its commands is made by cordkit log a.cord SOURCE.. | cordkit apply /dev/stdin SOURCE..",
+            ),
+            (
+                onto(),
+                "E6",
+                "E6: a.cord would make more than 16,777,216 rows",
+            ),
+            (
+                onto(),
+                "C4(7)",
+                "C4(7): node 7 of a.cord names one that is not earlier, or a source that is not there",
+            ),
+            (
+                onto(),
+                "looks 9",
+                "looks 9: the check of a.cord may take 9 looks at nodes, more than --at-most allows",
+            ),
+            (
+                onto(),
+                "E1(2)",
+                "E1(2): line 2 of missing/s names a revision that is not there",
+            ),
+            (
+                onto(),
+                "E7(N3,2)",
+                "E7(N3,2): line 2 of missing/s would make more nodes than there may be",
+            ),
+        ],
+    )
+}

@@ -70,7 +70,15 @@ fn words_over_images_and_scripts_are_read(rt: HostRuntime) -> Result<(), Fail> {
             ),
             (
                 "cordkit apply s.txt b a",
-                r#"Apply { script: "s.txt", sources: ["b", "a"] }"#,
+                r#"Apply { onto: None, at_most: None, script: "s.txt", sources: ["b", "a"] }"#,
+            ),
+            (
+                "cordkit apply --onto a.cord s.txt b",
+                r#"Apply { onto: Some("a.cord"), at_most: None, script: "s.txt", sources: ["b"] }"#,
+            ),
+            (
+                "cordkit apply --at-most 9 s.txt --onto=-",
+                r#"Apply { onto: Some("-"), at_most: Some(9), script: "s.txt", sources: [] }"#,
             ),
             (
                 "cordkit migrate --at-most 0 a b",
@@ -157,6 +165,10 @@ fn words_are_refused_by_their_kinds(rt: HostRuntime) -> Result<(), Fail> {
             ("cordkit show a x", "ValueValidation"),
             ("cordkit check --at-most x a", "ValueValidation"),
             ("cordkit log --at-most x a", "ValueValidation"),
+            ("cordkit apply --at-most 9 s", "MissingRequiredArgument"),
+            ("cordkit apply --at-most x s", "MissingRequiredArgument"),
+            ("cordkit apply --at-most x --onto a s", "ValueValidation"),
+            ("cordkit apply --onto a", "MissingRequiredArgument"),
             ("cordkit find --all x b a", "ValueValidation"),
             ("cordkit find --all --all 1 b a", "ArgumentConflict"),
             ("cordkit log --brief=yes a", "TooManyValues"),
