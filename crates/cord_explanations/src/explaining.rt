@@ -279,6 +279,16 @@ fn about(
     }
 }
 
+/// A code with its sentence.
+fn with_code<'a>(told: &'a str, sentence: Sentence) -> Explanation<'a>
+    ensures { result.code ≡ told.entry }
+{
+    Explanation {
+        code: told,
+        sentence,
+    }
+}
+
 /// What the code means that a run of this action ended with, as the files say that it reads. There is nothing to tell where memory has no
 /// room for it.
 pub fn explained<'a, R: Files + AllocGlobal>(
@@ -290,9 +300,9 @@ pub fn explained<'a, R: Files + AllocGlobal>(
 {
     let (name, numbers) = parts_of(code);
     if let Some(sentence) = seen(rt, action, name, numbers) {
-        return Some(Explanation { code, sentence });
+        return Some(with_code(code, sentence));
     }
     let about = about(rt.alloc(), action, name, numbers).ok()?;
     let sentence = Sentence::new(rt.alloc(), meaning(name), &about, numbers)?;
-    Some(Explanation { code, sentence })
+    Some(with_code(code, sentence))
 }

@@ -326,16 +326,12 @@ fn run<L: Ledger, W: io::Write>(
             at_most,
             script,
             sources,
-        } => apply_onto::<L, W>(
-            rt, image, *at_most, script, sources, answer, meter, blank,
-        ),
+        } => apply_onto::<L, W>(rt, image, *at_most, script, sources, answer, meter, blank),
         Action::Apply {
             script,
             sources,
             ..
-        } => apply::<L, W>(
-            rt, script, sources, answer, meter, blank,
-        ),
+        } => apply::<L, W>(rt, script, sources, answer, meter, blank),
     }
 }
 
