@@ -14,6 +14,7 @@ use std::sync::ledger::{Blank, Ledger};
 use work_progress::Progress;
 
 /// The line of an image's check, and then that of the lines of a script.
+#[derive(Drop)]
 struct Stages<'m, 'a> {
     meter: &'m mut Meter<'a>,
 }

@@ -78,6 +78,10 @@ impl<'w, W: io::Write, const N: usize> Gathered<'w, W, N> {
     pub(crate) fn flush(&mut self) -> Result<(), WriteFault>
         ensures { Flushes (output W.contents self.old) (output W.contents self.new) result }
     {
+        // Where there is no room nothing is held.
+        if self.held.room() == N {
+            return Ok(());
+        }
         write_out(&mut self.held, self.writer)
     }
 }
