@@ -349,14 +349,20 @@ fn describe_pool(store: &Store<Coded>, times: u32) -> Result<u64> {
     describe_often(store, Part::Pool { a: 0, n }, times)
 }
 
+/// The image of a session, written anew: whether it was written. It is not made inline, so that no part of the work is done once for many images.
+#[inline(never)]
+fn write_anew(session: &Session, image: &mut Vec<u8>) -> bool {
+    image.clear();
+    write(session, image).is_ok() && image.last() == Some(&0)
+}
+
 /// The image of one empty text written so often.
 fn write_often(alloc: Global, times: u32) -> Result<()> {
     let mut session = Session::new(alloc);
     session.apply(Command::New)?;
     let mut image = Vec::new(alloc);
     for _ in 0..times {
-        image.clear();
-        if write(&session, &mut image).is_err() || image.last() != Some(&0) {
+        if !write_anew(&session, &mut image) {
             bail!("an image was not written");
         }
     }
