@@ -78,8 +78,9 @@ impl<'w, W: io::Write, const N: usize> Gathered<'w, W, N> {
     pub(crate) fn flush(&mut self) -> Result<(), WriteFault>
         ensures { Flushes (output W.contents self.old) (output W.contents self.new) result }
     {
-        // Where there is no room nothing is held.
-        if self.held.room() == N {
+        let _room = self.held.room();
+        // As in `put`: where there is no room nothing is held.
+        if N == 0 {
             return Ok(());
         }
         write_out(&mut self.held, self.writer)
