@@ -32,6 +32,7 @@ fn all_runs<A: AllocGlobal + Abort>(rt: &A, refusals: &mut Refusals) {
     saved::taken_up(rt, refusals);
     scripts::lines(rt, refusals);
     scripts::image(rt, refusals);
+    scripts::images_behind(rt, refusals);
     editors::undo_then_type(rt, refusals);
     editors::cut_and_pasted(rt, refusals);
     editors::edited(rt, refusals);
@@ -167,6 +168,11 @@ fn lines(rt: HostRuntime) {
 #[test]
 fn image(rt: HostRuntime) {
     scripts::image(&rt, &mut Refusals::at_most(1));
+}
+
+#[test]
+fn images_behind(rt: HostRuntime) {
+    scripts::images_behind(&rt, &mut Refusals::at_most(1));
 }
 
 #[test]

@@ -7,9 +7,11 @@ use crate::sessions::{assert_text, session_of};
 use edit_commands::{EditFault, Session};
 use edit_script::{Room, Stop, Stopped, apply_script};
 use lazy_file::MemSources;
-use script_tools::{ApplyFault, run_apply};
+use saved_session::TakeFault;
+use script_tools::{ApplyFault, OntoFault, run_apply, run_apply_onto};
 use std::alloc::AllocGlobal;
 use std::process::Abort;
+use work_progress::Untold;
 
 /// The lines of a script, of which each makes a revision.
 const LINES: [&[u8]; 4] = [
@@ -88,4 +90,59 @@ pub(crate) fn image<A: AllocGlobal + Abort>(rt: &A, refusals: &mut Refusals) {
         }
     }
     panic!(rt; "refused each time")
+}
+
+/// Whether no image was made behind another for want of memory.
+fn has_no_memory_behind(fault: OntoFault) -> bool {
+    match fault {
+        OntoFault::TakeUp(fault) => fault == TakeFault::Memory,
+        OntoFault::Stop(stopped) => wants_memory(stopped.why),
+        OntoFault::Check(_) | OntoFault::Write => false,
+    }
+}
+
+/// Writes the image of a script behind an image, whose bytes are handed over.
+fn behind<A: AllocGlobal + Abort>(
+    rt: &A,
+    script: &[u8],
+    writer: &mut Taker,
+) -> Result<(), OntoFault> {
+    let Ok(image) = ONE_INSERT_IN_TWO.to_vec(rt.alloc()) else {
+        return Err(OntoFault::TakeUp(TakeFault::Memory));
+    };
+    let mut none = MemSources::new(rt.alloc());
+    run_apply_onto(
+        rt.alloc(),
+        image,
+        &mut none,
+        None,
+        script,
+        writer,
+        &mut Untold,
+    )
+}
+
+/// The same, once more where that was refused memory.
+fn image_behind<A: AllocGlobal + Abort>(rt: &A, script: &[u8], refusals: &mut Refusals) -> Taker {
+    for _ in 0..TRIES {
+        let mut writer = Taker::new();
+        match behind(rt, script, &mut writer) {
+            Ok(()) => return writer,
+            Err(fault) => {
+                assert!(rt; has_no_memory_behind(fault), "{fault:?}");
+                refusals.met(rt, &writer.taken().len(), &0);
+            }
+        }
+    }
+    panic!(rt; "refused each time")
+}
+
+/// The images of scripts behind an image: of one without a command, which is the image itself, and of one with a command, which has a revision of 56
+/// bytes more and no row.
+pub(crate) fn images_behind<A: AllocGlobal + Abort>(rt: &A, refusals: &mut Refusals) {
+    let again = image_behind(rt, b"", refusals);
+    assert_same(rt, &again.taken(), &ONE_INSERT_IN_TWO, &"the image");
+    let longer = image_behind(rt, b"new", refusals);
+    let wanted = ONE_INSERT_IN_TWO.len() + 56;
+    assert_same(rt, &longer.taken().len(), &wanted, &"a revision more");
 }
