@@ -7,7 +7,9 @@ use Rattle.image_reader.specs.declared.revision.Revision.{Revision}
 use Rattle.image_reader.specs.Layout.{records}
 use Rattle.image_reader.specs.Value.{ImageValue}
 use Rattle.image_reader.specs.Accepted.{no_revision, revision_at, splices_before}
-use Rattle.image_reader.specs.Reading.{is_marked, root_in, revision_of, revisions_of}
+use Rattle.image_reader.specs.Reading.{is_marked, root_in, splices_in, revision_of, revisions_of}
+use Rattle.span_certificate.specs.Fields.{splices_of}
+use Rattle.image_reader.proofs.RevisionRecords.{splices_read}
 use Rattle.image_reader.proofs.RevisionSections.{length-revisions, slice_get-revisions}
 
 -- the revisions of an image are what their records say
@@ -41,3 +43,6 @@ module _ (count : ℕ) (bytes : List ℕ) (v : ImageValue) (c : AreCut count byt
   pub mark_read : is_marked cell ≡ (revision_at v k).mark
   unfolding revision_of
   mark_read = ap (λ (r : Revision). r.mark) (revision_read_at (splices_before v k) refl)
+
+  pub splices_counted : splices_in cell ≡ splices_of (revision_at v k).edit
+  splices_counted = sym (splices_read (splices_before v k) cell) ∙ ap (λ (r : Revision). splices_of r.edit) (revision_read_at (splices_before v k) refl)

@@ -80,7 +80,7 @@ pub fn splice_in(bytes: &[u8]) -> Splice
 }
 
 /// How many splices a revision has.
-fn splices_in(bytes: &[u8]) -> u32
+pub fn splices_in(bytes: &[u8]) -> u32
     requires { length bytes.now ≡ REVISION_SIZE }
     ensures { result ≡ splices_in bytes.now }
 {

@@ -5,12 +5,13 @@ ghost use Rattle.std.specs.Result.{result_err};
 ghost use Rattle.rope_node.specs.declared.limits.TheConstants.{TEXT_LIMIT};
 ghost use Rattle.rope_node.specs.declared.node.NodeView.TheVariants.{Fun};
 ghost use Rattle.rope_node.specs.Table.{view_at, len_at, depth_at};
+ghost use Rattle.span_certificate.specs.Fields.{splices_of};
 ghost use Rattle.image_reader.specs.Value.{ImageValue, IsImage, function_at, image_table};
 ghost use Rattle.image_reader.specs.Accepted.{revision_at, splices_before};
 ghost use Rattle.image_reader.specs.Spelling.{spelling, records_spelling};
 ghost use Rattle.image_reader.specs.Reading.{fault_of, image_of, whole_len, HasHeader};
 
-use crate::decode::{mark_in, revision_in, root_in, row_in, source_in, splice_in};
+use crate::decode::{mark_in, revision_in, root_in, row_in, source_in, splice_in, splices_in};
 use crate::fault::ReadFault;
 use crate::header::{Header, read_header};
 use crate::layout::{NODE_SIZE, REVISION_SIZE, ROW_SIZE, SOURCE_SIZE, SPLICE_SIZE};
@@ -288,6 +289,14 @@ impl<'a> Image<'a> {
         ensures { result ≡ (revision_at self.now k).mark }
     {
         mark_in(cell_at(self.revisions, REVISION_SIZE, k as usize))
+    }
+
+    /// How many splices the command of revision `k` names.
+    pub fn splices_of(&self, k: u32) -> u32
+        requires { k < length self.now.revisions }
+        ensures { result ≡ splices_of (revision_at self.now k).edit }
+    {
+        splices_in(cell_at(self.revisions, REVISION_SIZE, k as usize))
     }
 
     /// Splice `j` of all splices.

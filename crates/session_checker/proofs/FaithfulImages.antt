@@ -143,6 +143,7 @@ true_records_of v st is nodes revisions =
       lengths = λ id lt. cells_length (image_table v) sound true_records id lt;
       roots = λ k lt. (revisions k lt).rules.root.0;
       marks = λ k lt. (revisions k lt).rules.mark;
+      rules = λ k lt. (revisions k lt).rules;
     }
 
 -- it is faithful

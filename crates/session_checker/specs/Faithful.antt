@@ -11,7 +11,7 @@ use Rattle.lazy_file.specs.SourceTexts.{Agrees, Stated}
 use Rattle.cord_position.specs.Fetched.{IsStated, rope_cell}
 use Rattle.image_reader.specs.declared.revision.Revision.{Revision}
 use Rattle.image_reader.specs.Value.{ImageValue, image_table}
-use Rattle.image_reader.specs.Accepted.{revision_at, HasGoodMark}
+use Rattle.image_reader.specs.Accepted.{revision_at, HasGoodMark, KeepsRules}
 use Rattle.span_certificate.specs.Covers.{SameOver}
 use Rattle.span_certificate.specs.Verdicts.{SameStated}
 use Rattle.session_checker.specs.RevisionRules.{HasSameBytes, HasRowsOverNoSource}
@@ -78,6 +78,8 @@ pub record HasTrueRecordsOf (v : ImageValue) : Type 0 where
   pub roots : (k : ℕ) → k < length v.revisions → IsRope (image_table v) (revision_at v k).root
   -- each marked root is balanced
   pub marks : (k : ℕ) → k < length v.revisions → HasGoodMark (image_table v) (revision_at v k)
+  -- each command is in range, and each root as long as its command's parts
+  pub rules : (k : ℕ) → k < length v.revisions → KeepsRules v k
 
 -- what holds of each revision, by its number
 abbrev pub EachRevision : ImageValue → (ℕ → Type 0) → Type 0

@@ -17,9 +17,9 @@ use image_reader::{Revision, Revisions};
 use lazy_file::Sources;
 use rebalance::is_balanced;
 use rope_node::Rope;
-use span_certificate::{Looks, PartIter, Splices, Trails, Verdict, verify_by};
+use span_certificate::{Looks, PartIter, Splices, Trails, Verdict, verify_told};
 use std::sync::ledger::Ledger;
-use work_progress::{Progress, Untold};
+use work_progress::{Progress, Untold, Within};
 
 /// Whether a root is nil or one of the nodes, with a text of this length.
 fn has_good_root<L: Ledger>(looks: &Looks<'_, '_, Tables<'_>, L>, root: Rope, len: u64) -> bool
@@ -97,7 +97,7 @@ fn check_rules<L: Ledger>(
 }
 
 /// Tests whether the rows of revision `k`, which is this one and whose rows begin at row `from`, cover its command's parts and its root.
-fn check_rows<S: Sources, P: Splices, L: Ledger>(
+fn check_rows<S: Sources, P: Splices, L: Ledger, G: Progress>(
     looks: &mut Looks<'_, '_, Tables<'_>, L>,
     trails: &mut Trails,
     revisions: &Revisions,
@@ -106,6 +106,7 @@ fn check_rows<S: Sources, P: Splices, L: Ledger>(
     k: u32,
     revision: Revision,
     from: u32,
+    progress: &mut G,
 ) -> Result<(), CheckFault>
     requires same { looks.old.space.now ≡ revisions.now }
     requires there { k < length revisions.now.revisions }
@@ -126,7 +127,7 @@ fn check_rows<S: Sources, P: Splices, L: Ledger>(
 {
     let _count = revisions.count();
     let rows = revisions.rows(from, revision.rows);
-    match verify_by(looks, trails, sources, parts, revision.root, &rows) {
+    match verify_told(looks, trails, sources, parts, revision.root, &rows, progress) {
         Ok(Verdict::Good) => Ok(()),
         Ok(Verdict::Bad(row)) => Err(CheckFault::Rows(k, row)),
         Err(fault) => Err(CheckFault::Source(fault)),
@@ -134,7 +135,7 @@ fn check_rows<S: Sources, P: Splices, L: Ledger>(
 }
 
 /// Tests the rules of revision `k`, which is this one and whose rows begin at row `from`, in their order.
-fn check_revision<S: Sources, L: Ledger>(
+fn check_revision<S: Sources, L: Ledger, G: Progress>(
     looks: &mut Looks<'_, '_, Tables<'_>, L>,
     trails: &mut Trails,
     revisions: &Revisions,
@@ -142,6 +143,7 @@ fn check_revision<S: Sources, L: Ledger>(
     k: u32,
     revision: Revision,
     from: u32,
+    progress: &mut G,
 ) -> Result<(), CheckFault>
     requires same { looks.old.space.now ≡ revisions.now }
     requires there { k < length revisions.now.revisions }
@@ -161,10 +163,13 @@ fn check_revision<S: Sources, L: Ledger>(
 {
     check_rules(looks, revisions, k, revision)?;
     let parts = command_parts(looks, revisions, k, revision);
-    check_rows(looks, trails, revisions, sources, parts, k, revision, from)
+    check_rows(
+        looks, trails, revisions, sources, parts, k, revision, from, progress,
+    )
 }
 
-/// The same as `revisions_counted`, and tells before each revision how many records are done: the nodes, and the revisions with their rows.
+/// The same as `revisions_counted`, and tells before each revision and each row how many records are done: the nodes, and the revisions with
+/// their rows.
 pub(crate) fn revisions_told<S: Sources, L: Ledger, P: Progress>(
     looks: &mut Looks<'_, '_, Tables<'_>, L>,
     revisions: &Revisions,
@@ -188,9 +193,13 @@ pub(crate) fn revisions_told<S: Sources, L: Ledger, P: Progress>(
     let mut from = 0;
     let mut first = 0;
     for k in 0..count {
-        progress.tell(nodes as u64 + k as u64 + from as u64);
+        let before = nodes as u64 + k as u64 + from as u64;
+        progress.tell(before);
         let revision = revisions.revision(k, first);
-        check_revision(looks, &mut trails, revisions, sources, k, revision, from)?;
+        let mut rows_told = Within::new(progress, before);
+        check_revision(
+            looks, &mut trails, revisions, sources, k, revision, from, &mut rows_told,
+        )?;
         from += revision.rows;
         first += revision.edit.splice_count();
     }

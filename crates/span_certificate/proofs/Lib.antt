@@ -18,13 +18,15 @@ pub mod LongestRows
 pub mod OverBytes
 pub mod Made
 pub mod MappedResults
+pub mod AlikeLengths
 pub mod RowLooks
 pub mod Verdicts
 pub mod NamedSplices
 pub mod SplicedTexts
+pub mod PartsInRange
+pub mod JoinedThings
 pub mod Joined
 pub mod InRange
-pub mod PartsInRange
 pub mod Sameness
 pub mod OneRow
 pub mod MadeRows

@@ -20,7 +20,7 @@ rest_inside t rope p there le = (there, omega arith)
 whole_inside : (t : Table) (rope : Option NodeId) → IsRope t rope → IsInside t (whole t rope)
 whole_inside t rope there = (there, omega arith)
 
-terms_inside : (t : Table) (roots : List (Option NodeId)) (edit : FullEdit) → AreRopes t roots → IsInRange t roots edit → AllByRecursion (IsInside t) (terms_of t roots edit)
+pub terms_inside : (t : Table) (roots : List (Option NodeId)) (edit : FullEdit) → AreRopes t roots → IsInRange t roots edit → AllByRecursion (IsInside t) (terms_of t roots edit)
 terms_inside t roots New ropes h = tt
 terms_inside t roots (Open s) ropes h = ((h, omega arith), tt)
 terms_inside t roots (Insert r p a n) ropes h =

@@ -1,20 +1,18 @@
 -- Texts with splices: what the test of splices tells, how long the result is, and that the pieces joined are the result.
-use Rattle.std.proofs.Common.{◌≡◌, ℕ, ◌+◌, ◌-◌, ◌≤◌, List, [], ◌∷◌, ◌++◌, map, length, take, drop, Option, refl, sym, ap, ◌∙◌, arith, append_assoc}
+use Rattle.std.proofs.Common.{◌≡◌, ℕ, ◌+◌, ◌-◌, ◌≤◌, List, [], ◌∷◌, ◌++◌, length, take, drop, Option, refl, sym, ap, ◌∙◌, arith, append_assoc}
 use Rattle.std.specs.Prelude.{Bool, true, false, IsTrue, ◌&&◌, ◌||◌, ◌==◌, nat_le, nat_lt}
-use Rattle.std.specs.List.{sum_by, AllByRecursion, list_all}
+use Rattle.std.specs.List.{flat_map, sum_by, AllByRecursion, list_all}
 use Rattle.std.proofs.lemmas.Bool.{leb-true, le-leb}
 use Rattle.std.proofs.lemmas.List.{length-append, length-take, length-take-le, length-drop, take-append-le, take-append-drop, take-take, take_all, append-nil}
 use Rattle.std.proofs.lemmas.List.Sums.{sum_by-cons}
 use Rattle.std.proofs.Math.Seq.{take-add, drop-append_seam}
 use Rattle.rope_node.specs.declared.node.NodeId.{NodeId}
-use Rattle.rope_node.specs.Table.{Table, IsSound, HasTrueRecords}
-use Rattle.rope_node.specs.Denotes.{Cell, Byte, rope_cells, rope_len, IsRope}
-use Rattle.rope_node.proofs.Parts.{span-map}
-use Rattle.rope_node.proofs.Ropes.{rope_length}
+use Rattle.rope_node.specs.Table.{Table}
+use Rattle.rope_node.specs.Denotes.{rope_len, IsRope}
 use Rattle.span_certificate.specs.declared.edit.Splice.{Splice}
 use Rattle.span_certificate.specs.declared.edit.TheConstants.{MOST_SPLICES}
-use Rattle.span_certificate.specs.Commands.{is_splice, stands_before, are_apart, can_splice, replaced, replaced_each}
-use Rattle.span_certificate.specs.Parts.{parts_cells, pieces, Follow, IsInside}
+use Rattle.span_certificate.specs.Commands.{Givens, is_splice, stands_before, are_apart, can_splice, replaced, replaced_each}
+use Rattle.span_certificate.specs.Parts.{part_things, pieces, Follow, IsInside}
 
 -- ---- what the test tells
 
@@ -157,21 +155,18 @@ replaced_from {C} pool t len k (s ∷ splices) whole f =
     ap (λ (r : List C). replaced r s.p s.m (take s.n (drop s.a pool))) (replaced_from pool t len (s.p + s.m) splices whole f.1)
     ∙ replaced_as pool t len k (spliced_from pool t (s.p + s.m) splices) whole s f.0 (follow_inside len (s.p + s.m) splices f.1)
 
--- the pieces of a rope, behind its first k cells, are the result over its cells
-pub pieces_joined : (t : Table) → IsSound t → HasTrueRecords t → (rope : Option NodeId) → IsRope t rope → (k : ℕ) (splices : List Splice) → Follow (rope_len t rope) k splices
-    → replaced_each (map Byte t.pool) (rope_cells t rope) splices ≡ take k (rope_cells t rope) ++ parts_cells t (pieces rope (rope_len t rope) k splices)
-pieces_joined t s h rope there k [] f =
-    let cs = rope_cells t rope in
-    let rest : take (rope_len t rope - k) (drop k cs) ≡ drop k cs = take_all (rope_len t rope - k) (drop k cs) (omega (arith, length-drop k cs, rope_length t s h rope there)) in
+-- the pieces of a rope, behind its first k things, are the result over its things
+pub pieces_joined : {C : Type 0} (g : Givens C) (of : Option NodeId → List C) (rope : Option NodeId) (len : ℕ) → length (of rope) ≡ len → (k : ℕ) (splices : List Splice) → Follow len k splices
+    → replaced_each g.pool (of rope) splices ≡ take k (of rope) ++ flat_map (part_things g of) (pieces rope len k splices)
+pieces_joined g of rope len whole k [] f =
+    let cs = of rope in
+    let rest : take (len - k) (drop k cs) ≡ drop k cs = take_all (len - k) (drop k cs) (omega (arith, length-drop k cs, whole)) in
     rw (rest, append-nil (drop k cs)) (sym (take-append-drop k cs))
-pieces_joined t s h rope there k (u ∷ splices) f =
-    let cs = rope_cells t rope in
-    let len = rope_len t rope in
-    let pool = map Byte t.pool in
-    let behind = parts_cells t (pieces rope len (u.p + u.m) splices) in
-    ap (λ (r : List Cell). replaced r u.p u.m (take u.n (drop u.a pool))) (pieces_joined t s h rope there (u.p + u.m) splices f.1)
-    ∙ replaced_as pool cs len k behind (rope_length t s h rope there) u f.0 (follow_inside len (u.p + u.m) splices f.1)
-    ∙ ap (λ (x : List Cell). take k cs ++ (take (u.p - k) (drop k cs) ++ (x ++ behind))) (span-map Byte u.n u.a t.pool)
+pieces_joined {C} g of rope len whole k (u ∷ splices) f =
+    let cs = of rope in
+    let behind = flat_map (part_things g of) (pieces rope len (u.p + u.m) splices) in
+    ap (λ (r : List C). replaced r u.p u.m (take u.n (drop u.a g.pool))) (pieces_joined g of rope len whole (u.p + u.m) splices f.1)
+    ∙ replaced_as g.pool cs len k behind whole u f.0 (follow_inside len (u.p + u.m) splices f.1)
 
 -- the pieces lie inside the rope and the pool
 pub pieces_inside : (t : Table) (rope : Option NodeId) → IsRope t rope → (k : ℕ) (splices : List Splice) → Follow (rope_len t rope) k splices → ArePooled (length t.pool) splices → AllByRecursion (IsInside t) (pieces rope (rope_len t rope) k splices)

@@ -1,5 +1,5 @@
 -- The parts of a command's text, and what they denote.
-use Rattle.std.specs.Prelude.{ℕ, Bool, true, false, IsTrue, ◌+◌, ◌-◌, ◌^◌, ◌<◌, ◌≤◌, List, [], ◌∷◌, length, map, take, drop, replicate, get_or, filter, Option, Some, None, nat_lt, if◌then◌else◌}
+use Rattle.std.specs.Prelude.{◌≡◌, ℕ, Bool, true, false, IsTrue, ◌+◌, ◌-◌, ◌^◌, ◌<◌, ◌≤◌, List, [], ◌∷◌, length, map, take, drop, replicate, get_or, filter, Option, Some, None, nat_lt, if◌then◌else◌}
 use Rattle.std.specs.List.{flat_map, sum_by, AllByRecursion, range_with_len}
 use Rattle.rope_node.specs.declared.limits.TheConstants.{TEXT_LIMIT}
 use Rattle.rope_node.specs.declared.node.NodeId.{NodeId}
@@ -27,6 +27,19 @@ part_cells t (Old rope i n) = take n (drop i (rope_cells t rope))
 part_cells t (Pool a n) = map Byte (take n (drop a t.pool))
 part_cells t (Source s n) = map (Place s) (range_with_len 0 n)
 part_cells t (Fill c n) = replicate n (Byte c)
+
+-- the same over any things, where these are given from outside and each rope stands for a list of them
+abbrev pub part_things : {C : Type 0} → Givens C → (Option NodeId → List C) → Part → List C
+part_things g of (Old rope i n) = take n (drop i (of rope))
+part_things g of (Pool a n) = take n (drop a g.pool)
+part_things g of (Source s n) = take n (get_or g.sources s [])
+part_things g of (Fill c n) = replicate n (g.byte c)
+
+-- what is given from outside is as long as a table's pool and sources
+pub record HasLengths {C : Type 0} (t : Table) (g : Givens C) : Type 0 where
+  pub pool : length g.pool ≡ length t.pool
+  pub source_count : length g.sources ≡ length t.sources
+  pub sources : (s : ℕ) → s < length t.sources → length (get_or g.sources s []) ≡ get_or t.sources s 0
 
 -- what the parts denote, joined
 abbrev pub parts_cells : Table → List Part → List Cell

@@ -31,6 +31,7 @@ use lazy_file::{SourceFault, Sources};
 use rope_node::{CodedSpace, Rope};
 use std::marker::Brand;
 use std::sync::ledger::{Blank, Ledger};
+use work_progress::{Progress, Untold};
 
 /// What verifying found.
 #[derive(Clone, Copy, Debug, PartialEq, Eq)]
@@ -188,8 +189,8 @@ fn is_whole<S: CountedSpace<L>, L: Ledger>(
     part.is_none() && place == space.length(root)
 }
 
-/// The same, with each look counted.
-fn verify_rows<S: CountedSpace<L>, T: Sources, P: Splices, R: Rows, W: Way, L: Ledger>(
+/// Tests row by row, with each look counted, and tells before each row how many are done.
+fn verify_rows<S: CountedSpace<L>, T: Sources, P: Splices, R: Rows, W: Way, L: Ledger, G: Progress>(
     space: &S,
     ways: &mut Ways<W>,
     sources: &mut T,
@@ -197,6 +198,7 @@ fn verify_rows<S: CountedSpace<L>, T: Sources, P: Splices, R: Rows, W: Way, L: L
     root: Rope,
     rows: &R,
     count: &mut Count<L>,
+    progress: &mut G,
 ) -> Result<Verdict, SourceFault>
     requires parts { AreParts (S.table space.now) parts }
     requires root { IsRope (S.table space.now) root }
@@ -215,6 +217,7 @@ fn verify_rows<S: CountedSpace<L>, T: Sources, P: Splices, R: Rows, W: Way, L: L
     let mut at = PartPlace::start(parts);
     let mut place = 0;
     for j in 0..rows.count() {
+        progress.tell(j as u64);
         let row = rows.row(j);
         match row_fits(
             space, ways, sources, at.part, at.off, root, place, row, count,
@@ -235,13 +238,14 @@ fn verify_rows<S: CountedSpace<L>, T: Sources, P: Splices, R: Rows, W: Way, L: L
 }
 
 /// What `verify_counted` tells, by these ways.
-fn verify_with<S: CountedSpace<L>, T: Sources, P: Splices, R: Rows, W: Way, L: Ledger>(
+fn verify_with<S: CountedSpace<L>, T: Sources, P: Splices, R: Rows, W: Way, L: Ledger, G: Progress>(
     looks: &mut Looks<'_, '_, S, L>,
     ways: &mut Ways<W>,
     sources: &mut T,
     parts: PartIter<'_, P>,
     root: Rope,
     rows: &R,
+    progress: &mut G,
 ) -> Result<Verdict, SourceFault>
     requires parts { AreParts (S.table looks.old.space.now) parts }
     requires root { IsRope (S.table looks.old.space.now) root }
@@ -264,6 +268,7 @@ fn verify_with<S: CountedSpace<L>, T: Sources, P: Splices, R: Rows, W: Way, L: L
         root,
         rows,
         &mut *looks.count,
+        progress,
     )
 }
 
@@ -297,7 +302,64 @@ pub fn verify_by<S: CountedSpace<L>, T: Sources, P: Splices, R: Rows, L: Ledger>
     if are_short::<S, P, L>(looks.space, &parts, root) {
         return verify_counted(looks, sources, parts, root, rows);
     }
-    verify_with(looks, &mut trails.ways, sources, parts, root, rows)
+    verify_with(
+        looks,
+        &mut trails.ways,
+        sources,
+        parts,
+        root,
+        rows,
+        &mut Untold,
+    )
+}
+
+/// What `verify_by` tells, and tells `progress` before each row how many of these rows are done.
+///
+/// # Errors
+///
+/// As those of `verify`.
+pub fn verify_told<S: CountedSpace<L>, T: Sources, P: Splices, R: Rows, L: Ledger, G: Progress>(
+    looks: &mut Looks<'_, '_, S, L>,
+    trails: &mut Trails,
+    sources: &mut T,
+    parts: PartIter<'_, P>,
+    root: Rope,
+    rows: &R,
+    progress: &mut G,
+) -> Result<Verdict, SourceFault>
+    requires parts { AreParts (S.table looks.old.space.now) parts }
+    requires root { IsRope (S.table looks.old.space.now) root }
+    ensures exact { IfOk result (TellsRows (S.table looks.old.space.now)
+        (S.coded looks.old.space.now) (T.reading sources.old).stated parts.entry root (R.listed rows.now)) }
+    ensures shows { result ≡ Ok Verdict.Good → ShowsSame
+        (S.table looks.old.space.now) parts.entry root (R.listed rows.now) }
+    ensures reads { Reads (T.reading sources.old) (T.reading sources.new)
+        (IsAskedFor (S.table looks.old.space.now) (S.coded looks.old.space.now)
+        (T.reading sources.old).stated parts.entry root (R.listed rows.now)) (fault_in result) }
+    ensures looks { looks.new.count.now ≤ looks.old.count.now + most_looks (R.listed rows.now) }
+    ensures space { looks.new.space.now ≡ looks.old.space.now }
+    ensures same_reference { looks.new.count.ghost_name ≡ looks.old.count.ghost_name }
+{
+    if are_short::<S, P, L>(looks.space, &parts, root) {
+        return verify_with(
+            looks,
+            &mut Ways::from_root(),
+            sources,
+            parts,
+            root,
+            rows,
+            progress,
+        );
+    }
+    verify_with(
+        looks,
+        &mut trails.ways,
+        sources,
+        parts,
+        root,
+        rows,
+        progress,
+    )
 }
 
 /// Whether the rows cover the parts of a command and a root, as `verify` tells it, by looks at the space.
@@ -328,7 +390,15 @@ pub fn verify_counted<S: CountedSpace<L>, T: Sources, P: Splices, R: Rows, L: Le
     ensures space { looks.new.space.now ≡ looks.old.space.now }
     ensures same_reference { looks.new.count.ghost_name ≡ looks.old.count.ghost_name }
 {
-    verify_with(looks, &mut Ways::from_root(), sources, parts, root, rows)
+    verify_with(
+        looks,
+        &mut Ways::from_root(),
+        sources,
+        parts,
+        root,
+        rows,
+        &mut Untold,
+    )
 }
 
 /// The same over a space, with a count that begins here.

@@ -25,7 +25,7 @@ mod trail;
 mod walk;
 mod way;
 
-pub use cover::{Verdict, verify, verify_by, verify_counted};
+pub use cover::{Verdict, verify, verify_by, verify_counted, verify_told};
 pub use describe::{Description, describe_leaf};
 pub use edit::{Edit, MOST_REVISIONS, MOST_SPLICES, SPLICES_LIMIT, Splice};
 pub use exact::describe_part;

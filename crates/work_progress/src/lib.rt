@@ -24,3 +24,27 @@ impl Progress for Untold {
 
     fn end(&mut self) {}
 }
+
+/// Work that is a part of a larger one, of which so many parts were done before it.
+#[derive(Debug)]
+pub struct Within<'p, P> {
+    whole: &'p mut P,
+    before: u64,
+}
+
+impl<'p, P: Progress> Within<'p, P> {
+    /// What is told of this work is told of the whole one, behind the parts that were done before.
+    pub fn new(whole: &'p mut P, before: u64) -> Within<'p, P> {
+        Within { whole, before }
+    }
+}
+
+impl<P: Progress> Progress for Within<'_, P> {
+    fn begin(&mut self, _all: u64) {}
+
+    fn tell(&mut self, done: u64) {
+        self.whole.tell(self.before.saturating_add(done));
+    }
+
+    fn end(&mut self) {}
+}

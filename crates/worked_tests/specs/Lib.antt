@@ -1,5 +1,6 @@
 pub mod Tables
 pub mod Pools
 pub mod Commands
+pub mod Origins
 pub mod Images
 pub mod Keys

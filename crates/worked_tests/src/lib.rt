@@ -7,6 +7,7 @@ mod images;
 mod keys;
 mod limits;
 mod nodes;
+mod origins;
 mod pieces;
 mod places;
 mod pools;

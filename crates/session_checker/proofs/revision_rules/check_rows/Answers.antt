@@ -26,4 +26,4 @@ returns-in-Err-clause-reads g c =
     let v = c.args.revisions.now in
     let is : IsHanded v c.args.k c.args.parts c.args.revision c.args.from v = record { parts_are = c.requires.parts; revision_is = c.requires.revision; from_is = c.requires.from; image_is = refl } in
     let reads = rw (c.requires.same, c.rows-rows.ensures.image, c.rows-rows.ensures.from, c.rows-rows.ensures.count) at c.in-Err.ensures.reads in
-    handed_reads (g.S.Sources.reading c.args.sources.now) (g.S.Sources.reading c.verify_by.new.sources) v c.args.k c.args.parts c.args.revision c.args.from v c.in-Err.fault is reads
+    handed_reads (g.S.Sources.reading c.args.sources.now) (g.S.Sources.reading c.verify_told.new.sources) v c.args.k c.args.parts c.args.revision c.args.from v c.in-Err.fault is reads

@@ -1,0 +1,10 @@
+pub mod Steps
+pub mod Lengths
+pub mod EarlierTexts
+pub mod StepBack
+pub mod TakenParts
+pub mod StepsTaken
+pub mod NamedBytes
+pub mod StoodThere
+pub mod Stretching
+pub mod Wanted

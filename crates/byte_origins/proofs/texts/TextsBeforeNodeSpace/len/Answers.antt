@@ -1,0 +1,11 @@
+use Rattle.std.proofs.Common.{arith}
+use Rattle.byte_origins.proofs.EarlierTexts.{below, len_is}
+use Rattle.byte_origins.proofs.texts.TextsBeforeNodeSpace.len.Goals as goal
+
+pub len_of_text-requires : goal.len_of_text-requires
+len_of_text-requires c = below c.args.self.now.image.now c.args.self.now.k c.args.id.0 c.requires
+
+pub returns-clause-value : goal.returns-clause-value
+returns-clause-value c =
+    let lt = below c.args.self.now.image.now c.args.self.now.k c.args.id.0 c.requires in
+    omega (arith, c.max.ensures, c.len_of_text.ensures.value, len_is c.args.self.now.image.now c.args.self.now.k c.args.id.0 lt)

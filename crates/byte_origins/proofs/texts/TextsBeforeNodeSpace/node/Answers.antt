@@ -1,0 +1,11 @@
+use Rattle.byte_origins.proofs.EarlierTexts.{below, view_is, texts_sound, texts_true}
+use Rattle.byte_origins.proofs.texts.TextsBeforeNodeSpace.node.Goals as goal
+
+pub returns-clause-view : goal.returns-clause-view
+returns-clause-view c = view_is c.args.self.now.image.now c.args.self.now.k c.args.id.0 (below c.args.self.now.image.now c.args.self.now.k c.args.id.0 c.requires)
+
+pub returns-clause-sound : goal.returns-clause-sound
+returns-clause-sound c = texts_sound c.args.self.now.image.now c.args.self.now.k c.args.self.now.inside c.revisions-count.ensures.true_records
+
+pub returns-clause-true_records : goal.returns-clause-true_records
+returns-clause-true_records c = texts_true c.args.self.now.image.now c.args.self.now.k c.args.self.now.inside c.revisions-count.ensures.true_records

@@ -1,0 +1,19 @@
+-- What comes in side by side.
+use Rattle.std.specs.Prelude.{ℕ, ◌+◌}
+use Rattle.byte_origins.specs.declared.run.Brought.{Brought}
+use Rattle.byte_origins.specs.declared.run.Brought.TheVariants.{Pool, Source, Fill}
+use Rattle.byte_origins.specs.declared.run.Origin.{Origin}
+
+-- a byte so many places on in what is brought
+abbrev pub brought_behind : Brought → ℕ → Brought
+brought_behind (Pool a) n = Pool (a + n)
+brought_behind (Source s p) n = Source s (p + n)
+brought_behind (Fill c) n = Fill c
+
+-- the origin of the byte that came in so many places on from one
+abbrev pub origin_behind : Origin → ℕ → Origin
+origin_behind o n = record {
+  revision = o.revision;
+  place = o.place + n;
+  brought = brought_behind o.brought n;
+}

@@ -1,0 +1,5 @@
+pub mod Behind
+pub mod Origins
+pub mod EarlierTexts
+pub mod StepsBack
+pub mod Stretches

@@ -1,0 +1,90 @@
+//! One step back from a place of a text.
+
+ghost use Rattle.std.specs.Prelude.{◌≡◌, ◌<◌, length};
+ghost use Rattle.image_reader.specs.Accepted.{splices_before};
+ghost use Rattle.span_certificate.specs.Parts.{part_at, part_len, IsPart};
+ghost use Rattle.byte_origins.specs.EarlierTexts.{len_of_text, texts_table};
+ghost use Rattle.byte_origins.specs.StepsBack.{IsStepBack, run_of, taken_of};
+
+use crate::run::{Brought, Origin, OriginRun};
+use crate::texts::TextsBefore;
+use image_reader::Revisions;
+use rope_node::NodeSpace;
+use session_checker::Checked;
+use span_certificate::{Part, PartIter, Splices, parts};
+
+/// Where the bytes from a place on come from, as far as one part of the text goes.
+#[derive(Clone, Copy, Debug, PartialEq, Eq)]
+pub(crate) enum CameFrom {
+    /// They are those of an earlier text, from a place on, so many of them.
+    FromText(u32, u64, u64),
+    /// The text's command brought them.
+    Run(OriginRun),
+}
+
+/// The part that holds a place, and the place inside that part.
+fn held<P: Splices>(parts: PartIter<'_, P>, place: u64) -> Option<(Part, u64)>
+    ensures { result ≡ part_at parts.entry place }
+{
+    let mut rest = parts;
+    let mut off = place;
+    while let Some(part) = rest.next() {
+        let len = part.len();
+        if off < len {
+            return Some((part, off));
+        }
+        off -= len;
+    }
+    None
+}
+
+/// Bytes that the command of text `k` brought, the first of them at `place`.
+fn run_of(k: u32, place: u64, brought: Brought, len: u64) -> CameFrom
+    ensures { result ≡ run_of k place brought len }
+{
+    let first = Origin {
+        revision: k,
+        place,
+        brought,
+    };
+    CameFrom::Run(OriginRun { first, len })
+}
+
+/// What the bytes at `place` of text `k` are, where that stands `off` bytes inside this part.
+fn taken_of(texts: &TextsBefore, place: u64, part: Part, off: u64) -> CameFrom
+    requires part { IsPart (texts_table texts.now.image.now texts.now.k) part }
+    requires inside { off < part_len part }
+    ensures { result ≡ taken_of texts.now.k place part off }
+{
+    let _count = NodeSpace::count(texts);
+    let k = texts.k;
+    match part {
+        Part::Old { rope: None, i, n } => CameFrom::FromText(0, i + off, n - off),
+        Part::Old {
+            rope: Some(j),
+            i,
+            n,
+        } => CameFrom::FromText(j.0, i + off, n - off),
+        Part::Pool { a, n } => run_of(k, place, Brought::Pool { a: a + off }, n - off),
+        Part::Source { s, n } => run_of(k, place, Brought::Source { s, p: off }, n - off),
+        Part::Fill { c, n } => run_of(k, place, Brought::Fill { c }, n - off),
+    }
+}
+
+/// What the bytes at `place` of text `k` are, where the revisions before it have `first` splices.
+pub(crate) fn taken(image: &Checked, k: u32, first: u32, place: u64) -> CameFrom
+    requires there { k < length image.now.revisions }
+    requires first { first ≡ splices_before image.now k }
+    requires inside { place < len_of_text image.now k }
+    ensures { IsStepBack image.now k place result }
+{
+    let _count = image.revisions();
+    let texts = TextsBefore::of(image, k);
+    let revisions = Revisions::over(image.image());
+    let revision = revisions.revision(k, first);
+    let parts = parts(&texts, &texts, &revisions, &revision.edit);
+    match held(parts, place) {
+        Some((part, off)) => taken_of(&texts, place, part, off),
+        None => unreachable!(),
+    }
+}

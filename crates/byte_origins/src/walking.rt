@@ -1,0 +1,77 @@
+//! All origins of a text from a place on, run by run.
+
+ghost use Rattle.std.specs.Prelude.{◌≡◌, ◌<◌, ◌≤◌, ◌++◌, [], length, take, drop, IfOk, MatchOption};
+ghost use Rattle.byte_origins.specs.Origins.{origins_at, run_origins};
+
+use crate::run::OriginRun;
+use crate::stretch::{Stretch, next_run};
+use crate::tracing::splices_before;
+use rope_node::rope_len;
+use session_checker::Checked;
+use std::alloc::{AllocError, Global};
+use std::marker::Model;
+
+/// The origins of a part of a text that are left to be told.
+#[derive(Drop)]
+pub struct Origins<'i, 'a> {
+    image: &'i Checked<'a>,
+    left: Vec<Stretch>,
+}
+
+impl<'i, 'a> Model for Origins<'i, 'a> {
+    ghost use Rattle.std.specs.List.{AllByRecursion};
+    ghost use Rattle.byte_origins.specs.Stretches.{IsStretch, OriginsLeft, left_origins};
+
+    ghost Value = { OriginsLeft };
+
+    ghost view = { λ s. record { image = s.image.now; left = left_origins s.image.now s.left.items } };
+
+    ghost invariant = { λ s. AllByRecursion (IsStretch s.image.now) s.left.items };
+}
+
+impl<'i, 'a> Origins<'i, 'a> {
+    /// Those of the `count` bytes of text `k` from `start` on, as far as there are such.
+    ///
+    /// # Errors
+    ///
+    /// Where there is no memory.
+    pub fn of(
+        alloc: Global,
+        image: &'i Checked<'a>,
+        k: u32,
+        start: u64,
+        count: u64,
+    ) -> Result<Origins<'i, 'a>, AllocError>
+        requires { k < length image.now.revisions }
+        ensures { IfOk result (λ x. (x.image ≡ image.now)
+            × (x.left ≡ take count (drop start (origins_at image.now k)))) }
+    {
+        let _count = image.revisions();
+        let mut left = Vec::new(alloc);
+        let all = rope_len(image, image.image().root(k));
+        if start < all && count > 0 {
+            let first = splices_before(image, k);
+            let len = count.min(all - start);
+            left.push(Stretch {
+                revision: k,
+                place: start,
+                len,
+                first,
+            })?;
+        }
+        Ok(Origins { image, left })
+    }
+
+    /// The next run, where there is one.
+    ///
+    /// # Errors
+    ///
+    /// Where there is no memory.
+    pub fn next(&mut self) -> Result<Option<OriginRun>, AllocError>
+        ensures image { self.new.image ≡ self.old.image }
+        ensures next { IfOk result (λ found. MatchOption found ((self.old.left ≡ []) × (self.new.left ≡ []))
+            (λ run. (1 ≤ run.len) × (self.old.left ≡ run_origins run ++ self.new.left))) }
+    {
+        next_run(self.image, &mut self.left)
+    }
+}
