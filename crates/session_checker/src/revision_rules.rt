@@ -127,7 +127,15 @@ fn check_rows<S: Sources, P: Splices, L: Ledger, G: Progress>(
 {
     let _count = revisions.count();
     let rows = revisions.rows(from, revision.rows);
-    match verify_told(looks, trails, sources, parts, revision.root, &rows, progress) {
+    match verify_told(
+        looks,
+        trails,
+        sources,
+        parts,
+        revision.root,
+        &rows,
+        progress,
+    ) {
         Ok(Verdict::Good) => Ok(()),
         Ok(Verdict::Bad(row)) => Err(CheckFault::Rows(k, row)),
         Err(fault) => Err(CheckFault::Source(fault)),
@@ -196,9 +204,19 @@ pub(crate) fn revisions_told<S: Sources, L: Ledger, P: Progress>(
         let before = nodes as u64 + k as u64 + from as u64;
         progress.tell(before);
         let revision = revisions.revision(k, first);
-        let mut rows_told = Within::new(progress, before);
+        let mut rows_told = Within {
+            whole: &mut *progress,
+            before,
+        };
         check_revision(
-            looks, &mut trails, revisions, sources, k, revision, from, &mut rows_told,
+            looks,
+            &mut trails,
+            revisions,
+            sources,
+            k,
+            revision,
+            from,
+            &mut rows_told,
         )?;
         from += revision.rows;
         first += revision.edit.splice_count();

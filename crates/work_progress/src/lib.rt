@@ -25,18 +25,13 @@ impl Progress for Untold {
     fn end(&mut self) {}
 }
 
-/// Work that is a part of a larger one, of which so many parts were done before it.
+/// Who is told of work that is a part of a larger one: each of its parts counts behind those that were done before it.
 #[derive(Drop)]
 pub struct Within<'p, P> {
-    whole: &'p mut P,
-    before: u64,
-}
-
-impl<'p, P: Progress> Within<'p, P> {
-    /// What is told of this work is told of the whole one, behind the parts that were done before.
-    pub fn new(whole: &'p mut P, before: u64) -> Within<'p, P> {
-        Within { whole, before }
-    }
+    /// Who is told of the whole work.
+    pub whole: &'p mut P,
+    /// How many of its parts are done before this one begins.
+    pub before: u64,
 }
 
 impl<P: Progress> Progress for Within<'_, P> {
