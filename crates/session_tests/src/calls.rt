@@ -8,6 +8,7 @@ mod fakes;
 mod images;
 mod lists;
 mod many;
+mod origins;
 mod plain_rows;
 mod records;
 mod row_choices;

@@ -94,11 +94,11 @@ fn check_tells_how_many_records_are_done(rt: HostRuntime) {
         &(image.count(), image.revisions(), image.rows()),
         &(5, 2, 1),
     );
-    // Before each of five nodes and two revisions, the last of which is behind an empty one.
+    // Before each of five nodes, of two revisions, and of the second one's row; the first one is empty.
     let wanted = Heard {
         all: 8,
         last: 6,
-        tells: 7,
+        tells: 8,
         has_ended: true,
     };
     assert_same(&rt, &heard, &wanted);

@@ -1,0 +1,241 @@
+//! Where each byte of a text comes from. The runs are those of the commands, by hand.
+
+use super::many::three_changes;
+use super::texts::{made, two_texts, written};
+use super::{assert_same, assert_same_at};
+use byte_origins::{Brought, Origin, OriginRun, Origins, origin};
+use edit_commands::{Command, Session};
+use lazy_file::{MemSources, Sources};
+use session_checker::{Checked, check};
+use std::alloc::AllocGlobal;
+use std::process::Abort;
+
+/// A run's place and length, the revision that brought it, and its place there.
+type Told = (u64, u64, u32, u64);
+
+/// Adds a run: to the last one, where that goes on in it.
+fn add<A: AllocGlobal + Abort>(rt: &A, runs: &mut Vec<OriginRun>, run: OriginRun) {
+    if let Some(last) = runs.pop() {
+        if last.goes_on(&run) {
+            let len = last.len.saturating_add(run.len);
+            runs.push(OriginRun { len, ..last }).expect(rt, "memory");
+            return;
+        }
+        runs.push(last).expect(rt, "memory");
+    }
+    runs.push(run).expect(rt, "memory");
+}
+
+/// The longest runs of `count` bytes of text `k` from `start` on, which are few.
+fn runs<A: AllocGlobal + Abort>(
+    rt: &A,
+    image: &Checked<'_>,
+    k: u32,
+    start: u64,
+    count: u64,
+) -> Vec<OriginRun> {
+    assert!(rt; k < image.revisions());
+    let mut left = Origins::of(rt.alloc(), image, k, start, count).expect(rt, "memory");
+    let mut runs: Vec<OriginRun> = Vec::new(rt.alloc());
+    for _ in 0..32 {
+        let Some(run) = left.next().expect(rt, "memory") else {
+            return runs;
+        };
+        add(rt, &mut runs, run);
+    }
+    panic!(rt; "there are more runs than were made")
+}
+
+/// Each byte of a run has its origin by itself.
+fn assert_each<A: Abort>(rt: &A, image: &Checked<'_>, k: u32, place: u64, run: OriginRun) {
+    for i in 0..run.len {
+        let found = origin(image, k, place.saturating_add(i)).expect(rt, "an origin");
+        let before = OriginRun {
+            first: run.first,
+            len: i,
+        };
+        assert!(rt; before.goes_on(&found), "{k} {place} {i}");
+        assert!(rt;
+            found.len >= 1 && found.len <= run.len - i,
+            "{k} {place} {i}"
+        );
+    }
+}
+
+/// The longest runs of text `k` are these, and each byte of theirs has that origin; behind them there is none.
+fn assert_runs<A: AllocGlobal + Abort, S: Sources>(
+    rt: &A,
+    session: &Session,
+    sources: &mut S,
+    k: u32,
+    wanted: &[Told],
+) {
+    let bytes = written(rt, session);
+    let image = check(&bytes, sources).expect(rt, "the image is accepted");
+    let found = runs(rt, &image, k, 0, u64::MAX);
+    assert_same_at(rt, &found.len(), &wanted.len(), &k);
+    let mut place = 0u64;
+    for (i, run) in found.iter().enumerate() {
+        let line = (place, run.len, run.first.revision, run.first.place);
+        assert_same_at(rt, &Some(&line), &wanted.get(i), &(k, i));
+        assert_each(rt, &image, k, place, *run);
+        place = place.saturating_add(run.len);
+    }
+    assert_same_at(rt, &origin(&image, k, place), &None, &k);
+}
+
+/// The same of a session without sources.
+fn assert_runs_alone<A: AllocGlobal + Abort>(rt: &A, session: &Session, k: u32, wanted: &[Told]) {
+    let mut none = MemSources::new(rt.alloc());
+    assert_runs(rt, session, &mut none, k, wanted);
+}
+
+/// `the fox`, and `brown ` put in at place 4.
+fn brown_fox<A: AllocGlobal + Abort>(rt: &A) -> Session {
+    let mut session = two_texts(rt, b"the fox");
+    let brown = Command::Insert {
+        r: 1,
+        p: 4,
+        bytes: b"brown ",
+    };
+    assert_same(rt, &made(rt, &mut session, brown), &2);
+    session
+}
+
+#[test]
+fn bytes_put_in_between_split_a_run(rt: HostRuntime) {
+    let session = brown_fox(&rt);
+    assert_runs_alone(&rt, &session, 0, &[]);
+    assert_runs_alone(&rt, &session, 1, &[(0, 7, 1, 0)]);
+    assert_runs_alone(
+        &rt,
+        &session,
+        2,
+        &[(0, 4, 1, 0), (4, 6, 2, 4), (10, 3, 1, 4)],
+    );
+}
+
+/// A run of the pool.
+fn of_pool(revision: u32, place: u64, a: u64, len: u64) -> OriginRun {
+    let brought = Brought::Pool { a };
+    OriginRun {
+        first: Origin {
+            revision,
+            place,
+            brought,
+        },
+        len,
+    }
+}
+
+#[test]
+fn a_part_of_a_text_has_the_origins_of_that_part(rt: HostRuntime) {
+    let bytes = written(&rt, &brown_fox(&rt));
+    let mut none = MemSources::new(rt.alloc());
+    let image = check(&bytes, &mut none).expect(&rt, "the image is accepted");
+    let wanted = [of_pool(2, 5, 8, 5), of_pool(1, 4, 4, 1)];
+    assert_same(
+        &rt,
+        &runs(&rt, &image, 2, 5, 6).as_slice(),
+        &wanted.as_slice(),
+    );
+    for (start, count) in [(13, 1), (5, 0), (u64::MAX, u64::MAX)] {
+        assert_same_at(&rt, &runs(&rt, &image, 2, start, count).len(), &0, &start);
+    }
+    assert_same(&rt, &origin(&image, 3, 0), &None);
+}
+
+#[test]
+fn what_is_pasted_keeps_its_origin(rt: HostRuntime) {
+    let mut session = two_texts(&rt, b"abc");
+    let pasted = Command::Paste {
+        r: 1,
+        p: 1,
+        q: 1,
+        i: 0,
+        n: 3,
+    };
+    assert_same(&rt, &made(&rt, &mut session, pasted), &2);
+    assert_runs_alone(
+        &rt,
+        &session,
+        2,
+        &[(0, 1, 1, 0), (1, 3, 1, 0), (4, 2, 1, 1)],
+    );
+}
+
+#[test]
+fn the_same_byte_typed_again_has_an_origin_of_its_own(rt: HostRuntime) {
+    let mut session = two_texts(&rt, b"abc");
+    for (command, k) in [
+        (Command::Delete { r: 1, p: 1, n: 1 }, 2),
+        (
+            Command::Insert {
+                r: 2,
+                p: 1,
+                bytes: b"b",
+            },
+            3,
+        ),
+        (Command::Back { r: 1 }, 4),
+    ] {
+        assert_same(&rt, &made(&rt, &mut session, command), &k);
+    }
+    assert_runs_alone(
+        &rt,
+        &session,
+        3,
+        &[(0, 1, 1, 0), (1, 1, 3, 1), (2, 1, 1, 2)],
+    );
+    assert_runs_alone(&rt, &session, 4, &[(0, 3, 1, 0)]);
+}
+
+#[test]
+fn each_change_of_a_command_is_a_run(rt: HostRuntime) {
+    let session = three_changes(&rt);
+    assert_runs_alone(
+        &rt,
+        &session,
+        2,
+        &[
+            (0, 1, 1, 0),
+            (1, 1, 2, 1),
+            (2, 1, 1, 3),
+            (3, 2, 2, 3),
+            (5, 1, 1, 4),
+        ],
+    );
+}
+
+#[test]
+fn a_source_and_a_fill_are_told_apart(rt: HostRuntime) {
+    let mut sources = MemSources::new(rt.alloc());
+    sources.add(b"abcde").expect(&rt, "a source");
+    let mut session = Session::new(rt.alloc());
+    session.add_source(5).expect(&rt, "a source");
+    assert_same(&rt, &made(&rt, &mut session, Command::Open { s: 0 }), &0);
+    let filled = Command::Fill {
+        r: 0,
+        p: 2,
+        c: 45,
+        n: 3,
+    };
+    assert_same(&rt, &made(&rt, &mut session, filled), &1);
+    assert_runs(
+        &rt,
+        &session,
+        &mut sources,
+        1,
+        &[(0, 2, 0, 0), (2, 3, 1, 2), (5, 3, 0, 2)],
+    );
+    let bytes = written(&rt, &session);
+    let image = check(&bytes, &mut sources).expect(&rt, "the image is accepted");
+    for (place, brought) in [
+        (1, Brought::Source { s: 0, p: 1 }),
+        (4, Brought::Fill { c: 45 }),
+        (7, Brought::Source { s: 0, p: 4 }),
+    ] {
+        let found = origin(&image, 1, place).map(|run| run.first.brought);
+        assert_same_at(&rt, &found, &Some(brought), &place);
+    }
+}
