@@ -153,6 +153,25 @@ struct cord_run {
  * and a ramp from 0 on, the ramp's pattern being the run's first byte, and a cycle from a place inside its pattern on. */
 bool cord_locate(const struct cord_image *image, uint32_t revision, uint64_t place, struct cord_run *run);
 
+/* Where a byte comes from. */
+struct cord_origin {
+    uint32_t revision; /* the revision whose command put it in */
+    uint32_t kind;     /* CORD_POOL: it was handed in; CORD_SOURCE: of a source that was opened; CORD_FILL_BYTE: of a fill */
+    uint32_t source;   /* the source, of CORD_SOURCE; else 0 */
+    uint32_t byte;     /* the fill's byte, of CORD_FILL_BYTE; else 0 */
+    uint64_t place;    /* its place in that revision's text */
+    uint64_t start;    /* its place in the pool or in the source; else 0 */
+    uint64_t len;      /* for how many bytes of the text this goes on at least, 1 or more */
+};
+
+#define CORD_FILL_BYTE 3
+
+/* Where the byte at a place of the text of a revision comes from. It needs no source, and takes a step for each revision before it at most.
+ *   true:  *origin is where.
+ *   false: place is the text's length or more, or there is no such revision; *origin stays.
+ * Proved: all of this, by what the commands mean alone: what a paste copies keeps its origin, and an undo gives the old ones back. */
+bool cord_origin(const struct cord_image *image, uint32_t revision, uint64_t place, struct cord_origin *origin);
+
 /* Writes bytes of that text from a place on into out, as read(2) does: as many as cord_locate tells there, or len where that is less; none
  * at the text's end and past it, and of no revision. A loop that adds up *count until it is 0 reads to the end. Sources are as in cord_fetch.
  *   CORD_READ:     *count bytes were written, and nothing behind them.

@@ -129,11 +129,25 @@ def image_fault(image, data, sources, texts, origins):
             fault = run_fault(image, opened, k, place, text, sources)
             if fault is None and opened.byte(k, place) != text[place]:
                 fault = f"byte {place} of revision {k} is {opened.byte(k, place)}"
-            if fault is None and opened.origin(k, place) != origins[k][place]:
-                fault = f"byte {place} of revision {k} is said to be of {opened.origin(k, place)} and not {origins[k][place]}"
+            if fault is None:
+                fault = origin_fault(opened, texts, origins, k, place)
             if fault:
                 return fault
     return lengths_fault(image, data, sources, texts)
+
+
+def origin_fault(opened, texts, origins, k, place):
+    """What is wrong with the origin of a byte: each byte of its run is of that revision, and stood there with this origin."""
+    found = opened.blame(k, place)
+    there = slice(found.place, found.place + found.len)
+    run = slice(place, place + found.len)
+    if found.len < 1 or run.stop > len(texts[k]) or found.revision > k:
+        return f"byte {place} of revision {k} has {found!r}"
+    if origins[k][run] != [found.revision] * found.len or origins[found.revision][there] != [found.revision] * found.len:
+        return f"byte {place} of revision {k} has {found!r}, and is of {origins[k][place]}"
+    if texts[k][run] != texts[found.revision][there]:
+        return f"byte {place} of revision {k} has {found!r}, where other bytes stood"
+    return None
 
 
 def lengths_fault(image, data, sources, texts):

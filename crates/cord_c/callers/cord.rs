@@ -4,7 +4,7 @@
 use std::fmt;
 
 mod sys {
-    use super::{Run, Verdict};
+    use super::{Origin, Run, Verdict};
 
     #[repr(C)]
     pub struct Source {
@@ -29,6 +29,7 @@ mod sys {
         pub fn cord_text_len(image: *const Image, revision: u32, len: *mut u64) -> bool;
         pub fn cord_fetch(image: *const Image, sources: *const Source, count: usize, revision: u32, place: u64, byte: *mut u8) -> u32;
         pub fn cord_locate(image: *const Image, revision: u32, place: u64, run: *mut Run) -> bool;
+        pub fn cord_origin(image: *const Image, revision: u32, place: u64, origin: *mut Origin) -> bool;
         pub fn cord_read(image: *const Image, sources: *const Source, count: usize, revision: u32, place: u64, out: *mut u8, len: usize, got: *mut usize) -> u32;
     }
 }
@@ -89,6 +90,19 @@ pub struct Run {
     pub start: u64,
     pub len: u64,
     pub pattern: [u8; 16],
+}
+
+/// Where a byte comes from: see cord.h.
+#[repr(C)]
+#[derive(Clone, Copy, Debug, Default, PartialEq, Eq)]
+pub struct Origin {
+    pub revision: u32,
+    pub kind: u32,
+    pub source: u32,
+    pub byte: u32,
+    pub place: u64,
+    pub start: u64,
+    pub len: u64,
 }
 
 /// The bytes are of a source that does not hold them.
@@ -159,6 +173,12 @@ impl<'a> Image<'a> {
     pub fn locate(&self, revision: u32, place: u64) -> Option<Run> {
         let mut run = Run::default();
         unsafe { sys::cord_locate(&self.image, revision, place, &mut run) }.then_some(run)
+    }
+
+    /// Where the byte at a place of that text comes from, and for how many bytes that goes on at least.
+    pub fn origin(&self, revision: u32, place: u64) -> Option<Origin> {
+        let mut origin = Origin::default();
+        unsafe { sys::cord_origin(&self.image, revision, place, &mut origin) }.then_some(origin)
     }
 
     /// Writes bytes of that text from a place on, to the end of the run there, and answers how many.

@@ -6,13 +6,12 @@
     image.text(12)                                       # one of them, as bytes
     image.locate(12, 40)                                 # where byte 40 of it stands: pool, source and place, or function
     image.origin(12, 40)                                 # the revision whose command brought it
+    image.blame(12, 40)                                  # that, its place there, what it is, and for how many bytes on
 
 A source is a path, or bytes, or a number: a length, where no byte of it is held. An image that the editor wrote needs no more to be
-checked and located in. Check, texts and places are the library's, and proved there; this file and `origin`, which follows the image's
-commands as docs/FORMAT.md tells them, are tested.
+checked and located in. Check, texts, places and origins are the library's, and proved there; this file is tested.
 """
 
-import bisect
 import ctypes
 import os
 import struct
@@ -57,6 +56,16 @@ class Run(ctypes.Structure):
     def __repr__(self) -> str:
         where = {POOL: "pool", SOURCE: f"source {self.source}", FUNCTION: f"function {self.function} {self.pattern!r}"}[self.kind]
         return f"<{self.len} bytes of {where} from {self.start}>"
+
+
+class Origin(ctypes.Structure):
+    """Where a byte comes from: see cord.h."""
+
+    _fields_ = [(name, ctypes.c_uint32) for name in ("revision", "kind", "source", "byte")]
+    _fields_ += [(name, ctypes.c_uint64) for name in ("place", "start", "len")]
+
+    def __repr__(self) -> str:
+        return f"Origin({', '.join(f'{name}={getattr(self, name)}' for name, _ in self._fields_)})"
 
 
 class _Source(ctypes.Structure):
@@ -118,6 +127,7 @@ def _loaded() -> ctypes.CDLL:
         ("text_len", ctypes.c_bool, [pointer, u32, pointer]),
         ("fetch", u32, [pointer, pointer, size, u32, u64, pointer]),
         ("locate", ctypes.c_bool, [pointer, u32, u64, pointer]),
+        ("origin", ctypes.c_bool, [pointer, u32, u64, pointer]),
         ("read", u32, [pointer, pointer, size, u32, u64, pointer, size, pointer]),
     ]:
         call = getattr(library, "cord_" + name)
@@ -232,50 +242,19 @@ class Image:
 
     def origin(self, k: int, i: int) -> int:
         """The revision whose command brought byte i of the text of revision k: that put it in from the pool, filled it in, or opened its
-        source. It goes back from command to command."""
-        self._try_place(k, i)
-        while True:
-            before = self._before(k, i)
-            if before is None:
-                return k
-            k, i = before
+        source."""
+        return self.blame(k, i).revision
 
-    def _before(self, k: int, i: int) -> Optional[Tuple[int, int]]:
-        """The revision and place that byte i of revision k was taken from; None where the command brought it."""
-        c = self.commands[k]
-        if c.name == "Open":
-            return None
-        if c.name == "Join":
-            first = self.length(c.r)
-            return (c.r, i) if i < first else (c.q, i - first)
-        if c.name == "Cut":
-            return c.r, c.a + i
-        if c.name in ("Back", "Balance"):
-            return c.r, i
-        splices = c.splices
-        if c.name != "Many":
-            splices = (Splice(c.p, c.n if c.name == "Delete" else c.m, c.a, 0 if c.name == "Delete" else c.n),)
-        starts = _starts(splices)
-        j = bisect.bisect_right(starts, i) - 1
-        if j < 0:
-            return c.r, i
-        end = starts[j] + splices[j].n
-        if i < end:
-            return (c.q, c.a + i - starts[j]) if c.name == "Paste" else None
-        return c.r, splices[j].p + splices[j].m + i - end
+    def blame(self, k: int, i: int) -> Origin:
+        """Where byte i of the text of revision k comes from, and for how many bytes that goes on at least."""
+        self._try_place(k, i)
+        found = Origin()
+        _library.cord_origin(ctypes.byref(self._image), k, i, ctypes.byref(found))
+        return found
 
     def _try_place(self, k: int, i: int) -> None:
         if not 0 <= i < self.length(k):
             raise IndexError(f"no byte {i} in revision {k}")
-
-
-def _starts(splices: Tuple[Splice, ...]) -> List[int]:
-    """Where each splice begins in the text that has been changed."""
-    starts, grown = [], 0
-    for splice in splices:
-        starts.append(splice.p + grown)
-        grown += splice.n - splice.m
-    return starts
 
 
 def _commands_of(image: bytes) -> List[Command]:

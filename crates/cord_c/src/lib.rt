@@ -4,6 +4,7 @@
 mod check;
 mod held_sources;
 mod open;
+mod origins;
 mod run;
 mod span;
 #[cfg(test)]
@@ -14,6 +15,7 @@ mod verdict;
 pub use check::{cord_check, cord_looks_bound};
 pub use held_sources::CordSource;
 pub use open::{CordImage, cord_open};
+pub use origins::{CordOrigin, cord_origin};
 pub use run::CordRun;
 pub use text::{cord_counts, cord_fetch, cord_locate, cord_read, cord_text_len};
 pub use verdict::CordVerdict;

@@ -3,6 +3,7 @@
 use crate::check::{cord_check, cord_looks_bound};
 use crate::held_sources::CordSource;
 use crate::open::{CordImage, cord_open};
+use crate::origins::{CordOrigin, cord_origin};
 use crate::run::{CordRun, POOLED, SOURCED};
 use crate::text::{
     NO_PLACE, NOT_HELD, READ, cord_counts, cord_fetch, cord_locate, cord_read, cord_text_len,
@@ -94,6 +95,36 @@ fn looks_are_bounded_by_counts_and_rows(rt: HostRuntime) {
     assert!(rt; cord_looks_bound(OPEN_SOURCE, &mut bound));
     assert_eq!(rt; bound, 1 + 2 + 132 + 132 * 3);
     assert!(rt; !cord_looks_bound(b"CORDSESS", &mut bound));
+}
+
+#[test]
+fn bytes_are_told_by_the_revision_that_put_them_in(rt: HostRuntime) {
+    let mut found = verdict(9, 9, 9, 9, 9);
+    let image = CordImage::open(ONE_INSERT, &[], &mut found).expect(&rt, "it is accepted");
+    let none = CordOrigin {
+        revision: 9,
+        kind: 9,
+        source: 9,
+        byte: 9,
+        place: 9,
+        start: 9,
+        len: 9,
+    };
+    let mut at = none;
+    assert!(rt; !cord_origin(&image, 1, 3, &mut at));
+    assert!(rt; !cord_origin(&image, 2, 0, &mut at));
+    assert_eq!(rt; at, none);
+    assert!(rt; cord_origin(&image, 1, 1, &mut at));
+    let wanted = CordOrigin {
+        revision: 1,
+        kind: POOLED,
+        source: 0,
+        byte: 0,
+        place: 1,
+        start: 1,
+        len: 2,
+    };
+    assert_eq!(rt; at, wanted);
 }
 
 #[test]
