@@ -26,7 +26,7 @@ impl Progress for Untold {
 }
 
 /// Work that is a part of a larger one, of which so many parts were done before it.
-#[derive(Debug)]
+#[derive(Drop)]
 pub struct Within<'p, P> {
     whole: &'p mut P,
     before: u64,
