@@ -1,8 +1,7 @@
-use Rattle.std.proofs.Common.{arith, length, rules, List, ℕ, ◌≡◌, ◌-◌, ◌++◌, take, drop, sym}
+use Rattle.std.proofs.Common.{arith, sym}
 use Rattle.std.proofs.lemmas.List.{length-take-le}
-use Rattle.sha2.specs.Hashers.{Holds256}
 use Rattle.key_journal.specs.declared.headers.TheConstants.{END_SIZE}
-use Rattle.key_journal.proofs.Digests.{all_digested, ends_digested}
+use Rattle.key_journal.proofs.Digests.{ends_digested}
 use Rattle.key_journal.proofs.headers.digest_image.Goals as goal
 
 pub slice_bounds-update-end : goal.slice_bounds-update-end
