@@ -13,7 +13,7 @@ use Rattle.screen_editor.proofs.LaterReadings.{reads_later}
 use Rattle.session_checker.specs.Accepted.{BytesAsk}
 use Rattle.session_checker.specs.RevisionRules.{source_fault_in}
 use Rattle.cord_tools.specs.declared.fault.ToolFault.{ToolFault}
-use Rattle.cord_tools.specs.EditingOnto.{BeginsOnto, IsUntaken}
+use Rattle.cord_tools.specs.EditingOnto.{OpensOnto, IsUntaken}
 
 module _ {old new : Reading} {image : List ℕ} where
   -- what is checked states what it stated
@@ -24,9 +24,9 @@ module _ {old new : Reading} {image : List ℕ} where
   may_be_taken v check = was_checked image v old.stated check.image.0 check.image.1 (check.accepted refl)
 
   -- the session of an accepted image, or why there is none
-  pub begun_answer : (v : ImageValue) (result : Result SessionValue ToolFault) → ChecksWithin None old new image (Ok v) → IfOk result (IsTakenUp v) → IfErr result (IsUntaken v) → BeginsOnto old new image result
-  begun_answer v (Ok session) check takes untaken = BeginsOnto.begun v session check takes refl
-  begun_answer v (Err fault) check takes untaken = BeginsOnto.not_taken v fault check untaken refl
+  pub begun_answer : (v : ImageValue) (result : Result SessionValue ToolFault) → ChecksWithin None old new image (Ok v) → IfOk result (IsTakenUp v) → IfErr result (IsUntaken v) → OpensOnto old new image result
+  begun_answer v (Ok session) check takes untaken = OpensOnto.begun v session check takes refl
+  begun_answer v (Err fault) check takes untaken = OpensOnto.not_taken v fault check untaken refl
 
   pub begun_sizes : (v : ImageValue) (result : Result SessionValue ToolFault) → ChecksWithin None old new image (Ok v) → IfOk result (IsTakenUp v) → IfOk result (λ s. s.held.sources ≡ new.stated.sizes)
   begun_sizes v (Ok session) check takes = takes.takes.sources ∙ check.sources ∙ ap (λ (st : Stated). st.sizes) (sym (states_same (Ok v) check))

@@ -25,26 +25,26 @@ pub record IsUntaken (v : ImageValue) (told : ToolFault) : Type 0 where
   pub told_as : told ≡ take_fault fault
 
 -- An image is checked with these sources, by any number of looks, and taken up; or it is refused, or is not taken up.
-pub data BeginsOnto (old new : Reading) (image : List ℕ) (result : Result SessionValue ToolFault) : Type 0 where
+pub data OpensOnto (old new : Reading) (image : List ℕ) (result : Result SessionValue ToolFault) : Type 0 where
   refused : (fault : CheckFault) → ChecksWithin None old new image (Err fault) → result ≡ Err (check_fault fault)
-      → BeginsOnto old new image result
+      → OpensOnto old new image result
   not_taken : (v : ImageValue) (fault : ToolFault) → ChecksWithin None old new image (Ok v) → IsUntaken v fault
-      → result ≡ Err fault → BeginsOnto old new image result
+      → result ≡ Err fault → OpensOnto old new image result
   begun : (v : ImageValue) (session : SessionValue) → ChecksWithin None old new image (Ok v) → IsTakenUp v session
-      → result ≡ Ok session → BeginsOnto old new image result
+      → result ≡ Ok session → OpensOnto old new image result
 
 -- A session is begun with an image, and an editor is opened over it, from whose first state all runs to its end; or there
 -- is none, for a reason that is told, and all is untouched. A text is told as too long exactly where the session has one.
 pub data EditsOnto {T : Type 0} (reading : T → Reading) (sources : T) (image : List ℕ) (Untouched : Type 0)
     (Runs : SessionValue → EditorValue T → Type 0) (result : Result Status ToolFault) : Type 0 where
-  not_begun : (now : Reading) (fault : ToolFault) → BeginsOnto (reading sources) now image (Err fault)
+  not_begun : (now : Reading) (fault : ToolFault) → OpensOnto (reading sources) now image (Err fault)
       → result ≡ Err fault → Untouched → EditsOnto reading sources image Untouched Runs result
   not_opened : (now : Reading) (begun : SessionValue) (fault : EditorFault)
-      → BeginsOnto (reading sources) now image (Ok begun) → IsOpenFault begun fault
+      → OpensOnto (reading sources) now image (Ok begun) → IsOpenFault begun fault
       → (fault ≡ TooLong) ↔ IsTooLongToOpen begun → result ≡ Err (editor_fault fault) → Untouched
       → EditsOnto reading sources image Untouched Runs result
   ran : (begun : SessionValue) (first : EditorValue T)
-      → BeginsOnto (reading sources) (reading first.sources) image (Ok begun) → ¬ IsTooLongToOpen begun
+      → OpensOnto (reading sources) (reading first.sources) image (Ok begun) → ¬ IsTooLongToOpen begun
       → OpensSession begun first.editing → Runs begun first → EditsOnto reading sources image Untouched Runs result
 
 -- What run_edit_onto does.

@@ -4,7 +4,7 @@ ghost use Rattle.std.specs.Prelude.{◌≡◌, IfErr, IfOk};
 ghost use Rattle.key_journal.specs.Left.{keys_kept, keys_left};
 ghost use Rattle.saved_session.specs.GoneFurther.{IsTakenUp};
 ghost use Rattle.saved_session.specs.TakenUp.{WasChecked};
-ghost use Rattle.cord_tools.specs.EditingOnto.{BeginsOnto, EditsFileOnto, EditsKeptOnto, IsUntaken};
+ghost use Rattle.cord_tools.specs.EditingOnto.{OpensOnto, EditsFileOnto, EditsKeptOnto, IsUntaken};
 
 use crate::edit::conclude;
 use crate::fault::ToolFault;
@@ -37,7 +37,7 @@ fn begun_onto<S: Sources>(
     older: Vec<u8>,
     sources: &mut S,
 ) -> Result<Session, ToolFault>
-    ensures begins { BeginsOnto (S.reading sources.old) (S.reading sources.new) older.items result }
+    ensures begins { OpensOnto (S.reading sources.old) (S.reading sources.new) older.items result }
     ensures stated { (S.reading sources.new).stated ≡ (S.reading sources.old).stated }
     ensures sizes { IfOk result (λ s. s.held.sources ≡ (S.reading sources.new).stated.sizes) }
 {

@@ -3,7 +3,7 @@ use Rattle.std.proofs.lemmas.Result.{err_from_is_err_and}
 use Rattle.lazy_file.specs.SourceTexts.{Stated}
 use Rattle.saved_session.proofs.FurtherSessions.{further_through}
 use Rattle.cord_tools.specs.Editing.{Concludes}
-use Rattle.cord_tools.specs.EditingOnto.{BeginsOnto, EditsOnto}
+use Rattle.cord_tools.specs.EditingOnto.{OpensOnto, EditsOnto}
 use Rattle.cord_tools.proofs.Bytes.{Keeps-same}
 use Rattle.cord_tools.proofs.FurtherKeys.{begins_further, keys_further}
 use Rattle.cord_tools.proofs.edit_onto.run_edit_onto.Goals as goal
@@ -24,7 +24,7 @@ pub returns : goal.returns
 returns g c =
     let begun = c.in_ok-session.session in
     EditsOnto.ran begun c.in_ok-editor.editor
-    (subst (λ s. BeginsOnto (g.S.Sources.reading c.args.sources) (g.S.Sources.reading s) c.args.older.items (Ok begun)) (sym c.in_ok-editor.ensures.sources) c.in_ok-session.ensures.begins)
+    (subst (λ s. OpensOnto (g.S.Sources.reading c.args.sources) (g.S.Sources.reading s) c.args.older.items (Ok begun)) (sym c.in_ok-editor.ensures.sources) c.in_ok-session.ensures.begins)
     (λ long. (let refused = c.in_ok-editor.ensures.too_long.1 long in absurd cc)) c.in_ok-editor.ensures.opens (record {
       last = c.run-end.new.self;
       end = c.run-end.result;
