@@ -104,11 +104,18 @@ fn edit_kept<L: Ledger>(
 {
     let begun = beginning_of(rt, words)?;
     let locked = LockedKeys::open(rt, keys, begun.map(|b| b.keys))?;
+    let older = match opened_older::<L>(rt, words, path, blank) {
+        Ok(older) => older,
+        Err(fault) => {
+            locked.drop_empty(rt, keys);
+            return Err(fault);
+        }
+    };
     let Older {
         file,
         bytes,
         mut sources,
-    } = opened_older::<L>(rt, words, path, blank)?;
+    } = older;
     let journal = Journal::onto(rt, keys, locked, &bytes, &mut sources)?;
     let put = match begun_image(rt, words, &journal, begun) {
         Ok(mut image) => match image.keep_whole(&file) {

@@ -190,8 +190,28 @@ impl LockedKeys {
             Some(keys) => reopen_locked(rt, path, keys)?,
             None => open_locked(rt, path)?,
         };
-        let aside = aside_locked(rt, path)?;
-        Ok(LockedKeys { file, aside })
+        let mut locked = LockedKeys { file, aside: None };
+        match aside_locked(rt, path) {
+            Ok(aside) => {
+                locked.aside = aside;
+                Ok(locked)
+            }
+            Err(fault) => {
+                locked.drop_empty(rt, path);
+                Err(fault)
+            }
+        }
+    }
+
+    /// Takes the file away where it is empty, as one is that was made just now.
+    pub fn drop_empty(&self, rt: &HostRuntime, path: &str) {
+        let is_empty = match self.file.metadata() {
+            Ok(metadata) => metadata.len() == 0,
+            Err(_) => false,
+        };
+        if is_empty && is_named(rt, path, &self.file) {
+            let _ = fs::remove_file(rt, path);
+        }
     }
 }
 
