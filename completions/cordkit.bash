@@ -21,7 +21,7 @@ _cordkit_options() {
         log) echo --at-most --brief --explain --quiet --help ;;
         apply) echo --onto --at-most --explain --quiet --help ;;
         find) echo --all --explain --quiet --help ;;
-        edit) echo --keep --session --no-clobber --discard --explain --quiet --help ;;
+        edit) echo --onto --keep --session --no-clobber --discard --explain --quiet --help ;;
         cordedit) echo -f --copy --text --continue --discard --help ;;
         help) ;;
         '') echo --explain --quiet --help --version ;;

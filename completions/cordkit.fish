@@ -23,6 +23,7 @@ complete -c cordkit -n '__fish_seen_subcommand_from check show migrate log apply
 complete -c cordkit -n '__fish_seen_subcommand_from log' -l brief -d 'Write at most 60 bytes of each text'
 complete -c cordkit -n '__fish_seen_subcommand_from apply' -l onto -r -d 'Go on from this image'
 complete -c cordkit -n '__fish_seen_subcommand_from find' -l all -d 'Print each place'
+complete -c cordkit -n '__fish_seen_subcommand_from edit' -l onto -r -d 'Go on from this image'
 complete -c cordkit -n '__fish_seen_subcommand_from edit' -l keep -r -d 'Keep the keys here until they are saved'
 complete -c cordkit -n '__fish_seen_subcommand_from edit' -l session -r -d 'Go on with the session of this file'
 complete -c cordkit -n '__fish_seen_subcommand_from edit' -l no-clobber -d 'Refuse an image that is there'

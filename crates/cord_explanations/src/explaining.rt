@@ -71,7 +71,10 @@ fn inputs<'a>(alloc: Global, action: &Action<'a>) -> Result<Vec<&'a str>, AllocE
         Action::Cut { file, .. } | Action::Find { file, .. } => inputs.push(*file)?,
         Action::Join { files } => inputs.extend_from_slice(files)?,
         Action::Cmp { first, second } => inputs.extend_from_slice(&[*first, *second])?,
-        Action::Edit { file, .. } => {
+        Action::Edit { onto, file, .. } => {
+            if let Some(older) = onto {
+                inputs.push(*older)?;
+            }
             if let Some(file) = file {
                 inputs.push(*file)?;
             }
@@ -245,14 +248,16 @@ fn refused(
         }
         Action::Discard { keys } => keys,
         Action::Edit {
+            onto,
             keys,
             image,
             file,
             ..
         } => match name {
             "J1" | "J2" | "J5" => keys.unwrap_or(image),
-            "K1" | "N1" | "N3" | "N4" => file.unwrap_or(image),
-            _ => image,
+            "J3" | "J4" | "I3" => image,
+            "K1" | "N1" | "N3" | "N4" => onto.unwrap_or(file.unwrap_or(image)),
+            _ => onto.unwrap_or(image),
         },
         Action::Join { .. } => "the files together",
         _ => return input(alloc, action),

@@ -17,6 +17,8 @@ use Rattle.screen_editor.specs.Refusals.{IsNewFault, IsTooLong}
 use Rattle.screen_editor.specs.Revising.{IsMade}
 use Rattle.screen_editor.specs.Playing.{Resumes}
 use Rattle.screen_editor.specs.Runs.{IsRun}
+use Rattle.edit_commands.specs.Session.{SessionValue}
+use Rattle.saved_session.specs.GoneFurther.{GoesFurther}
 use Rattle.session_image.specs.Written.{IsTrusted, Writes, image_of}
 use Rattle.cord_tools.specs.declared.fault.ToolFault.{ToolFault}
 use Rattle.cord_tools.specs.declared.fault.ToolFault.TheVariants as Tool
@@ -47,6 +49,29 @@ Concludes sizes (Ok Save) last before now result = SavesImage sizes last before 
 Concludes sizes (Ok Leave) last before now result = (result ≡ Ok Success) × Keeps before now
 Concludes sizes (Err fault) last before now result = (result ≡ Err (run_fault fault)) × Keeps before now
 
+-- From this first state on a run takes these keys and shows its states; behind the key Save the image of its last state
+-- is written, which goes further than the session that was begun with.
+pub record RunsToEnd {T : Type 0} (reading : T → Reading) (sizes : List ℕ) (begun : SessionValue) (first : EditorValue T)
+    (keys_before keys_left shown_before shown_now before now : Option (List ℕ)) (result : Result Status ToolFault)
+    : Type 0 where
+  pub last : EditorValue T
+  pub end : Result End RunFault
+  pub run : IsRun keys_before keys_left shown_before shown_now (seen reading first) end (seen reading last)
+  pub further : GoesFurther begun last.editing.session
+  pub concludes : Concludes sizes end last.editing before now result
+
+-- As above, but these keys are played first, and the keys of the run are kept.
+pub record ResumesToEnd {T : Type 0} (reading : T → Reading) (sizes : List ℕ) (begun : SessionValue)
+    (played : List ℕ) (first : EditorValue T)
+    (keys_before keys_left kept_before kept_now shown_before shown_now before now : Option (List ℕ))
+    (result : Result Status ToolFault) : Type 0 where
+  pub last : EditorValue T
+  pub end : Result End RunFault
+  pub resumes : Resumes played keys_before keys_left kept_before kept_now shown_before shown_now (seen reading first) end
+      (seen reading last)
+  pub further : GoesFurther begun last.editing.session
+  pub concludes : Concludes sizes end last.editing before now result
+
 -- Over these sources there is no editor, which is told as a text too long exactly where source 0 is; or source 0 is
 -- not, and there is one whose run takes these keys and shows its states; behind the key Save the image of its last
 -- state is written.
@@ -57,11 +82,10 @@ pub data EditsFile {T : Type 0} (reading : T → Reading) (sources : T)
       → (fault ≡ TooLong) ↔ IsTooLong (reading sources).stated → result ≡ Err (editor_fault fault)
       → Keeps keys_before keys_left → Keeps shown_before shown_now → Keeps before now
       → EditsFile reading sources keys_before keys_left shown_before shown_now before now result
-  ran : (first last : EditorValue T) (end : Result End RunFault)
-      → first.sources ≡ sources → ¬ IsTooLong (reading sources).stated
+  ran : (first : EditorValue T) → first.sources ≡ sources → ¬ IsTooLong (reading sources).stated
       → IsMade (reading sources).stated.sizes first.editing
-      → IsRun keys_before keys_left shown_before shown_now (seen reading first) end (seen reading last)
-      → Concludes (reading sources).stated.sizes end last.editing before now result
+      → RunsToEnd reading (reading sources).stated.sizes first.editing.session first keys_before keys_left
+      shown_before shown_now before now result
       → EditsFile reading sources keys_before keys_left shown_before shown_now before now result
 
 -- As above, but these keys are played first, and the keys of the run are kept.
@@ -73,12 +97,10 @@ pub data EditsKept {T : Type 0} (reading : T → Reading) (sources : T) (played 
       → Keeps keys_before keys_left → Keeps kept_before kept_now → Keeps shown_before shown_now → Keeps before now
       → EditsKept reading sources played keys_before keys_left kept_before kept_now shown_before shown_now before now
       result
-  ran : (first last : EditorValue T) (end : Result End RunFault)
-      → first.sources ≡ sources → ¬ IsTooLong (reading sources).stated
+  ran : (first : EditorValue T) → first.sources ≡ sources → ¬ IsTooLong (reading sources).stated
       → IsMade (reading sources).stated.sizes first.editing
-      → Resumes played keys_before keys_left kept_before kept_now shown_before shown_now (seen reading first) end
-      (seen reading last)
-      → Concludes (reading sources).stated.sizes end last.editing before now result
+      → ResumesToEnd reading (reading sources).stated.sizes first.editing.session played first keys_before keys_left
+      kept_before kept_now shown_before shown_now before now result
       → EditsKept reading sources played keys_before keys_left kept_before kept_now shown_before shown_now before now
       result
 

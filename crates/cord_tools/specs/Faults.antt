@@ -13,6 +13,8 @@ use Rattle.cord_search.specs.declared.fault.PutFault.{PutFault}
 use Rattle.cord_search.specs.declared.fault.PutFault.TheVariants as Put
 use Rattle.session_checker.specs.declared.fault.CheckFault.{CheckFault}
 use Rattle.session_checker.specs.declared.fault.CheckFault.TheVariants as Check
+use Rattle.saved_session.specs.declared.fault.TakeFault.{TakeFault}
+use Rattle.saved_session.specs.declared.fault.TakeFault.TheVariants as Take
 use Rattle.edit_commands.specs.declared.fault.EditFault.{EditFault}
 use Rattle.edit_commands.specs.declared.fault.EditFault.TheVariants as Edit
 use Rattle.screen_editor.specs.declared.fault.EditorFault.{EditorFault}
@@ -86,6 +88,12 @@ edit_fault Edit.SpliceCount = Tool.Edit Edit.SpliceCount
 edit_fault Edit.TooManySplices = Tool.Edit Edit.TooManySplices
 edit_fault Edit.Memory = Memory
 
+-- what keeps a session from going on from an image comes to
+abbrev pub take_fault : TakeFault → ToolFault
+take_fault (Take.OverSource k) = Tool.TakeUp (Take.OverSource k)
+take_fault Take.TooManyRows = Tool.TakeUp Take.TooManyRows
+take_fault Take.Memory = Memory
+
 abbrev pub editor_fault : EditorFault → ToolFault
 editor_fault Editor.TooLong = Tool.TextTooLong
 editor_fault (Editor.Edit fault) = edit_fault fault
@@ -112,6 +120,7 @@ IsJoinFault (Rope fault) = fault ≡ Balance.Node Node.TooLong
 IsJoinFault (Tool.Refused f) = ⊥
 IsJoinFault (Tool.Source f) = ⊥
 IsJoinFault Tool.NoRevision = ⊥
+IsJoinFault (Tool.TakeUp f) = ⊥
 IsJoinFault (Tool.Edit f) = ⊥
 IsJoinFault Tool.TextTooLong = ⊥
 IsJoinFault Tool.TooManyKeys = ⊥

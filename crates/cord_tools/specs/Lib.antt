@@ -10,3 +10,4 @@ pub mod Outcomes
 pub mod Sources
 pub mod Spans
 pub mod Unread
+pub mod EditingOnto

@@ -1,7 +1,7 @@
 -- How a run of the program ends.
 use Rattle.std.specs.Prelude.{ℕ}
 use Rattle.cord_tools.specs.declared.fault.ToolFault.{ToolFault}
-use Rattle.cord_tools.specs.declared.fault.ToolFault.TheVariants.{Memory, Read, Write, Refused, Source, NoRevision, PatternTooLong, Rope, Edit, TextTooLong, TooManyKeys, OtherKeys, KeysInUse, ImageThere, OtherImage, KeysGone}
+use Rattle.cord_tools.specs.declared.fault.ToolFault.TheVariants.{Memory, Read, Write, Refused, Source, NoRevision, PatternTooLong, Rope, TakeUp, Edit, TextTooLong, TooManyKeys, OtherKeys, KeysInUse, ImageThere, OtherImage, KeysGone}
 use Rattle.cord_tools.specs.declared.outcome.Outcome.{Outcome}
 use Rattle.cord_tools.specs.declared.outcome.Outcome.TheVariants.{Answered, Ended, Misused}
 use Rattle.cord_tools.specs.declared.status.Status.TheVariants.{Success, Failure}
@@ -13,6 +13,7 @@ fault_status (Source fault) = 1
 fault_status NoRevision = 1
 fault_status PatternTooLong = 1
 fault_status (Rope fault) = 1
+fault_status (TakeUp fault) = 1
 fault_status (Edit fault) = 1
 fault_status TextTooLong = 1
 fault_status TooManyKeys = 1

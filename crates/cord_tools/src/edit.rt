@@ -31,7 +31,7 @@ fn save<S: Sources + Drop, I: io::Write>(
 }
 
 /// What follows the end of an editor's run: behind the key Save, the image of its session is written.
-fn conclude<S: Sources + Drop, I: io::Write>(
+pub(crate) fn conclude<S: Sources + Drop, I: io::Write>(
     editor: &Editor<S>,
     end: Result<End, RunFault>,
     image: &mut I,

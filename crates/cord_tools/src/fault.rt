@@ -1,7 +1,7 @@
 //! Why a tool ended without its answer.
 
 ghost use Rattle.std.specs.Prelude.{◌≡◌};
-ghost use Rattle.cord_tools.specs.Faults.{add_fault, check_fault, edit_fault, editor_fault, find_fault, put_fault, read_fault, rope_fault, run_fault};
+ghost use Rattle.cord_tools.specs.Faults.{add_fault, check_fault, edit_fault, editor_fault, find_fault, put_fault, read_fault, rope_fault, run_fault, take_fault};
 
 use byte_output::WriteFault;
 use cord_search::{FindFault, PutFault};
@@ -9,6 +9,7 @@ use edit_commands::EditFault;
 use lazy_file::{AddFault, SourceFault};
 use node_table::NodeFault;
 use rebalance::BalanceFault;
+use saved_session::TakeFault;
 use screen_editor::{EditorFault, FrameFault, RunFault};
 use session_checker::CheckFault;
 use std::alloc::AllocError;
@@ -42,6 +43,9 @@ pub enum ToolFault {
     /// The rope of joined files is refused: its text is too long.
     #[error("refused {0}")]
     Rope(BalanceFault),
+    /// No session goes on from the image.
+    #[error("refused {0}")]
+    TakeUp(TakeFault),
     /// The first revision of an edited session is refused.
     #[error("refused {0}")]
     Edit(EditFault),
@@ -162,6 +166,17 @@ impl From<EditFault> for ToolFault {
         match fault {
             EditFault::Memory => ToolFault::Memory,
             _ => ToolFault::Edit(fault),
+        }
+    }
+}
+
+impl From<TakeFault> for ToolFault {
+    ghost from_gives = { λ e f. f ≡ take_fault e };
+
+    fn from(fault: TakeFault) -> ToolFault {
+        match fault {
+            TakeFault::Memory => ToolFault::Memory,
+            TakeFault::OverSource(_) | TakeFault::TooManyRows => ToolFault::TakeUp(fault),
         }
     }
 }

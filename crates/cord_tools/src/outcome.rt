@@ -27,6 +27,7 @@ fn fault_status(fault: ToolFault) -> u8
         | ToolFault::NoRevision
         | ToolFault::PatternTooLong
         | ToolFault::Rope(_)
+        | ToolFault::TakeUp(_)
         | ToolFault::Edit(_)
         | ToolFault::TextTooLong
         | ToolFault::TooManyKeys

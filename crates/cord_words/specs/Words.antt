@@ -99,10 +99,14 @@ keep_rule = record (new_rule (codes "KEYS")) { long = Some (codes "keep") }
 abbrev pub session_rule : Rule
 session_rule = record (new_rule (codes "SESSION")) { long = Some (codes "session") }
 
--- `edit [--keep KEYS] [--session SESSION] [--no-clobber] [--discard] IMAGE [FILE]`
+-- the value of `--onto` that `edit` has, or none
+abbrev pub old_rule : Rule
+old_rule = record (new_rule (codes "OLD")) { long = Some (codes "onto") }
+
+-- `edit [--onto OLD] [--keep KEYS] [--session SESSION] [--no-clobber] [--discard] IMAGE [FILE]`
 abbrev pub edit_app : App
-edit_app = with_rule (with_rule (with_rule (with_rule (with_rule (with_rule (new_app (codes "edit")) keep_rule) session_rule)
-    (flag_rule (codes "no-clobber"))) (flag_rule (codes "discard"))) image_rule) optional_file_rule
+edit_app = with_rule (with_rule (with_rule (with_rule (with_rule (with_rule (with_rule (new_app (codes "edit")) old_rule)
+    keep_rule) session_rule) (flag_rule (codes "no-clobber"))) (flag_rule (codes "discard"))) image_rule) optional_file_rule
 
 -- `migrate [--at-most LOOKS] IMAGE [SOURCE]...`
 abbrev pub migrate_app : App
@@ -174,8 +178,9 @@ Gives given name P = (rows : List Row) × (given ≡ Some (name, rows)) × P row
 
 -- a word of `edit` was given that is for a session
 abbrev pub names_session : List Row → Bool
-names_session rows = is_some (first_of (codes "KEYS") rows) || (is_some (first_of (codes "SESSION") rows)
-    || (is_set rows (codes "no-clobber") || is_some (first_of (codes "FILE") rows)))
+names_session rows = is_some (first_of (codes "OLD") rows) || (is_some (first_of (codes "KEYS") rows)
+    || (is_some (first_of (codes "SESSION") rows) || (is_set rows (codes "no-clobber")
+    || is_some (first_of (codes "FILE") rows))))
 
 -- `apply` has `--at-most` only where it has `--onto`
 abbrev pub limits_a_check : List Row → Bool
@@ -202,8 +207,9 @@ Holds given (Find all start pattern file) = Gives given (codes "find") (λ rows.
     × (pattern.now ≡ text_of rows (codes "PATTERN")) × (file.now ≡ text_of rows (codes "FILE")))
 Holds given (Cmp first second) = Gives given (codes "cmp") (λ rows.
     (first.now ≡ text_of rows (codes "FIRST")) × (second.now ≡ text_of rows (codes "SECOND")))
-Holds given (Edit keys session no_clobber image file) = Gives given (codes "edit") (λ rows.
+Holds given (Edit onto keys session no_clobber image file) = Gives given (codes "edit") (λ rows.
     (is_set rows (codes "discard") ≡ false)
+    × (option_map (λ o. o.now) onto ≡ first_of (codes "OLD") rows)
     × (option_map (λ k. k.now) keys ≡ first_of (codes "KEYS") rows)
     × (option_map (λ s. s.now) session ≡ first_of (codes "SESSION") rows)
     × (no_clobber ≡ is_set rows (codes "no-clobber"))

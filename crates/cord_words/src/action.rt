@@ -50,10 +50,12 @@ pub enum Action<'a> {
         first: &'a str,
         second: &'a str,
     },
-    /// Edit a text on the screen, which begins as that of a file or empty. Save its session as an image. Keep the keys of the terminal
+    /// Edit a text on the screen, which begins as that of a file or empty, or go on with the session of the image `onto`, where there is
+    /// one, which was made over that file. Save its session as an image. Keep the keys of the terminal
     /// in the file `keys`, where there is one, and begin with those that it has. Under `no_clobber` an image that is there is refused.
     /// The file `session`, where there is one, has what there was when the session began, and goes once the image is saved.
     Edit {
+        onto: Option<&'a str>,
         keys: Option<&'a str>,
         session: Option<&'a str>,
         no_clobber: bool,

@@ -4,8 +4,8 @@ ghost use Rattle.std.specs.Prelude.{◌≡◌, IfOk, false};
 ghost use Rattle.clap.specs.Words.{App, Rule, app_of, new_app, rule_of, with_rule};
 ghost use Rattle.clap.specs.declared.builder.command.Command.TheViews.{out-Command as fields_of};
 ghost use Rattle.cord_words.specs.Words.{explain_rule, file_rule, flag_rule, image_rule, keep_rule, limit_rule};
-ghost use Rattle.cord_words.specs.Words.{onto_rule, optional_file_rule, quiet_rule, required_rule, session_rule, sources_rule};
-ghost use Rattle.cord_words.specs.Words.{start_rule, with_flags};
+ghost use Rattle.cord_words.specs.Words.{old_rule, onto_rule, optional_file_rule, quiet_rule, required_rule, session_rule};
+ghost use Rattle.cord_words.specs.Words.{sources_rule, start_rule, with_flags};
 
 use clap::{Arg, ArgAction, Command};
 use std::alloc::{AllocError, Global};
@@ -162,6 +162,16 @@ pub fn session<'a>(alloc: Global) -> Arg<'a>
     Arg::new(alloc, "SESSION").long("session").help(
         "The file that has what there was when the session began, and goes once it is saved: a session that finds it goes on",
     )
+}
+
+/// `--onto OLD`
+pub fn old<'a>(alloc: Global) -> Arg<'a>
+    ensures rule { rule_of result ≡ old_rule }
+    ensures local { result.global ≡ false }
+{
+    Arg::new(alloc, "OLD")
+        .long("onto")
+        .help("The file of the saved session that this one goes on from")
 }
 
 /// `--onto IMAGE`

@@ -1,4 +1,4 @@
-//! `edit [--keep KEYS] [--session SESSION] [--no-clobber] IMAGE [FILE]`, and `edit --discard KEYS`
+//! `edit [--onto OLD] [--keep KEYS] [--session SESSION] [--no-clobber] IMAGE [FILE]`, and `edit --discard KEYS`
 
 ghost use Rattle.std.specs.Prelude.{◌≡◌, ◌∷◌, [], IfErr, IfOk, Some, codes, false};
 ghost use Rattle.clap.specs.Words.{app_of, found_of, new_app, rows_of};
@@ -30,7 +30,8 @@ pub fn command<'a>(alloc: Global) -> Result<Command<'a>, AllocError>
     ensures app { IfOk result (λ c. app_of c ≡ edit_app) }
     ensures local { IfOk result (λ c. (fields_of c).has_globals ≡ false) }
 {
-    let command = args::with(Ok(titled(alloc)), args::keep(alloc));
+    let command = args::with(Ok(titled(alloc)), args::old(alloc));
+    let command = args::with(command, args::keep(alloc));
     let command = args::with(command, args::session(alloc));
     let help = "Refuse an image that is there already";
     let command = args::with(command, args::flag(alloc, "no-clobber", help));
@@ -44,7 +45,8 @@ pub fn command<'a>(alloc: Global) -> Result<Command<'a>, AllocError>
 fn names_session(given: &ArgMatches<'_>) -> bool
     ensures { result ≡ names_session (rows_of (found_of given.now)) }
 {
-    given::has(given, "KEYS")
+    given::has(given, "OLD")
+        || given::has(given, "KEYS")
         || given::has(given, "SESSION")
         || given::flag(given, "no-clobber")
         || given::has(given, "FILE")
@@ -72,6 +74,7 @@ pub fn action<'a>(
         });
     }
     Ok(Action::Edit {
+        onto: given::optional_text(given, "OLD"),
         keys: given::optional_text(given, "KEYS"),
         session: given::optional_text(given, "SESSION"),
         no_clobber: given::flag(given, "no-clobber"),

@@ -3,10 +3,11 @@
 ghost use Rattle.std.specs.Prelude.{◌≡◌, ◌<◌};
 
 use crate::answer::{Answer, Note};
+use crate::editing_onto::edit_onto;
 use crate::file_state::FileState;
 use crate::image_file::{ImageFile, Put};
 use crate::journal::Journal;
-use crate::opening::opened_sources;
+use crate::opening::{OpenedSources, opened_sources};
 use crate::session_file::{Beginning, read_beginning, write_beginning};
 use cord_tools::{Status, ToolFault, run_edit};
 use lazy_file::Sources;
@@ -17,6 +18,7 @@ use std::{fs, io};
 /// What `edit` is asked for.
 #[derive(Clone, Copy)]
 pub struct Editing<'a> {
+    pub onto: Option<&'a str>,
     pub keys: Option<&'a str>,
     pub session: Option<&'a str>,
     pub no_clobber: bool,
@@ -25,7 +27,10 @@ pub struct Editing<'a> {
 }
 
 /// What follows an edit: an image that is whole is put in its place.
-fn finish(status: Result<Status, ToolFault>, image: &ImageFile<'_>) -> Result<Put, ToolFault> {
+pub(crate) fn finish(
+    status: Result<Status, ToolFault>,
+    image: &ImageFile<'_>,
+) -> Result<Put, ToolFault> {
     let put = match status {
         Ok(_) => image.put(),
         Err(fault) => Err(image.cause(fault)),
@@ -37,7 +42,7 @@ fn finish(status: Result<Status, ToolFault>, image: &ImageFile<'_>) -> Result<Pu
 }
 
 /// Whether an image is there that is not to be replaced.
-fn refuse_image(words: Editing<'_>, image: &ImageFile<'_>) -> Result<(), ToolFault> {
+pub(crate) fn refuse_image(words: Editing<'_>, image: &ImageFile<'_>) -> Result<(), ToolFault> {
     if words.no_clobber && image.is_there() {
         Err(ToolFault::ImageThere)
     } else {
@@ -65,7 +70,7 @@ fn begin(
 }
 
 /// The image of a session that has the lock of its keys: it takes the place of what was there when the session began.
-fn begun_image<'a>(
+pub(crate) fn begun_image<'a>(
     rt: &'a HostRuntime,
     words: Editing<'_>,
     journal: &Journal<'_>,
@@ -81,16 +86,18 @@ fn begun_image<'a>(
 }
 
 /// What a session began with that goes on.
-fn beginning_of(rt: &HostRuntime, words: Editing<'_>) -> Result<Option<Beginning>, ToolFault> {
+pub(crate) fn beginning_of(
+    rt: &HostRuntime,
+    words: Editing<'_>,
+) -> Result<Option<Beginning>, ToolFault> {
     match words.session {
         Some(session) => read_beginning(rt, session),
         None => Ok(None),
     }
 }
 
-/// Takes away what a session needs no more that was saved: its keys, and its file.
-fn close(rt: &HostRuntime, words: Editing<'_>, journal: &Journal<'_>) -> Result<(), ToolFault> {
-    journal.remove()?;
+/// Takes away the file of a session, which was saved.
+pub(crate) fn close(rt: &HostRuntime, words: Editing<'_>) -> Result<(), ToolFault> {
     let Some(session) = words.session else {
         return Ok(());
     };
@@ -134,7 +141,10 @@ fn edit_kept<S: Sources + Drop>(
         Err(fault) => Err(fault),
     };
     match &put {
-        Ok(Put::InPlace | Put::Before) => close(rt, words, &journal)?,
+        Ok(Put::InPlace | Put::Before) => {
+            journal.remove()?;
+            close(rt, words)?;
+        }
         _ if journal.only_looks() => journal.remove()?,
         _ => journal.sync(),
     }
@@ -157,7 +167,45 @@ fn edit_unkept<S: Sources + Drop>(
     finish(status, image)
 }
 
-/// Edits a file, or an empty text, and saves the session. The image is looked at before, and opened when it is saved.
+/// Edits a file, or an empty text, by its words, and saves the session.
+fn edit_file<L: Ledger>(
+    rt: &HostRuntime,
+    words: Editing<'_>,
+    image: &mut ImageFile<'_>,
+    blank: Blank,
+) -> Result<Put, ToolFault>
+    requires name { blank.name ≡ L.name }
+    requires parts { blank.parts ≡ L.parts }
+    requires many { 2 < blank.parts }
+{
+    let sources = sources_of::<L>(rt, words.file, blank)?;
+    match words.keys {
+        Some(keys) => edit_kept(rt, words, keys, sources),
+        None => {
+            refuse_image(words, image)?;
+            edit_unkept(rt, sources, image)
+        }
+    }
+}
+
+/// The file as source 0, or no source.
+pub(crate) fn sources_of<L: Ledger>(
+    rt: &HostRuntime,
+    file: Option<&str>,
+    blank: Blank,
+) -> Result<OpenedSources<L>, ToolFault>
+    requires name { blank.name ≡ L.name }
+    requires parts { blank.parts ≡ L.parts }
+    requires many { 2 < blank.parts }
+{
+    match file {
+        Some(file) => opened_sources::<L>(rt, &[file], blank),
+        None => opened_sources::<L>(rt, &[], blank),
+    }
+}
+
+/// Edits a file, or an empty text, or goes on with an image, and saves the session. The image is looked at before, and opened when it is
+/// saved.
 pub fn edit<L: Ledger, W>(
     rt: &HostRuntime,
     words: Editing<'_>,
@@ -169,16 +217,9 @@ pub fn edit<L: Ledger, W>(
     requires many { 2 < blank.parts }
 {
     let mut image = ImageFile::new(rt, words.image)?;
-    let sources = match words.file {
-        Some(file) => opened_sources::<L>(rt, &[file], blank)?,
-        None => opened_sources::<L>(rt, &[], blank)?,
-    };
-    let put = match words.keys {
-        Some(keys) => edit_kept(rt, words, keys, sources)?,
-        None => {
-            refuse_image(words, &image)?;
-            edit_unkept(rt, sources, &mut image)?
-        }
+    let put = match words.onto {
+        Some(older) => edit_onto::<L>(rt, words, older, &mut image, blank)?,
+        None => edit_file::<L>(rt, words, &mut image, blank)?,
     };
     match put {
         Put::Beside(name) => {

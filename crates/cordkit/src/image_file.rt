@@ -51,6 +51,8 @@ pub struct ImageFile<'a> {
     replaced: Replaced,
     /// Whether something else was found there.
     is_other: bool,
+    /// Whether it is not written where it is to stand.
+    never_in_place: bool,
     file: Option<File>,
 }
 
@@ -158,6 +160,7 @@ impl<'a> ImageFile<'a> {
             permissions: None,
             replaced: Replaced::Any,
             is_other: false,
+            never_in_place: false,
             file: None,
         };
         if !is_replaceable(rt, path)? {
@@ -206,6 +209,21 @@ impl<'a> ImageFile<'a> {
         };
     }
 
+    /// Whether an image was written, and is to take the place of what stands there and may be replaced.
+    pub fn takes_place(&self) -> bool {
+        self.file.is_some() && self.is_as_begun()
+    }
+
+    /// Where this file is the one that is to be replaced, it is so by a file beside it alone: what is written where it stands would be lost
+    /// where that fails.
+    pub fn keep_whole(&mut self, older: &File) -> Result<(), ToolFault> {
+        if self.part.is_none() && is_named(self.rt, self.path.as_str(), older) {
+            return Err(ToolFault::Write);
+        }
+        self.never_in_place = is_named(self.rt, self.path.as_str(), older);
+        Ok(())
+    }
+
     /// Whether what is there may be replaced.
     fn is_as_begun(&self) -> bool {
         let now = state_at(self.rt, self.path.as_str());
@@ -246,7 +264,10 @@ impl<'a> ImageFile<'a> {
     fn make(&mut self) -> io::Result<File> {
         if let Some(part) = &self.part {
             match self.make_part(part.as_str()) {
-                Err(error) if error.kind() == ErrorKind::PermissionDenied => self.part = None,
+                Err(error) if error.kind() == ErrorKind::PermissionDenied && !self.never_in_place =>
+                    {
+                        self.part = None;
+                    }
                 made => return made,
             }
         }

@@ -3,9 +3,9 @@
 use crate::file_state::{FileBirth, birth_of, is_named};
 use crate::image_file::ImageFile;
 use crate::opening::{sync_folder, told};
-use crate::saved_before::is_image_of;
-use cord_tools::{Status, ToolFault, only_look, run_kept};
-use key_journal::{Found, HEADER_SIZE, Kept, find_keys, header_over};
+use crate::saved_before::{is_image_of, is_image_onto};
+use cord_tools::{Status, ToolFault, only_look, run_kept, run_kept_onto};
+use key_journal::{Found, HEADER_SIZE, Kept, find_keys, header_onto, header_over};
 use lazy_file::Sources;
 use std::fs::File;
 use std::io::{ErrorKind, Read, Write};
@@ -143,6 +143,78 @@ pub fn discard(rt: &HostRuntime, path: &str) -> Result<Status, ToolFault> {
     }
 }
 
+/// What a file has from its beginning on.
+fn all_of(rt: &HostRuntime, file: &File) -> Result<Vec<u8>, ToolFault> {
+    let mut reader = file;
+    let mut bytes = Vec::new(rt.alloc());
+    let _ = reader.read_to_end(&mut bytes).map_err(told)?;
+    Ok(bytes)
+}
+
+/// The name of a file of keys that is set aside while the image of its session takes its place.
+fn aside_name(rt: &HostRuntime, path: &str) -> Result<String, ToolFault> {
+    Ok(format!(in rt.alloc(); "{path}.saved")?)
+}
+
+/// The file of keys that was set aside at a save, and stays where that did not end. It is locked.
+fn aside_locked(rt: &HostRuntime, path: &str) -> Result<Option<File>, ToolFault> {
+    let name = aside_name(rt, path)?;
+    let mut options = File::options();
+    options.read(true).append(true);
+    match options.open(rt, name.as_str()) {
+        Ok(file) => {
+            lock(rt, name.as_str(), &file)?;
+            Ok(Some(file))
+        }
+        Err(error) if error.kind() == ErrorKind::NotFound => Ok(None),
+        Err(_) => Err(ToolFault::Write),
+    }
+}
+
+/// The file of keys of a session over an image, which is locked before the image is opened; and the one that was set aside, if there is
+/// one.
+#[derive(Drop)]
+pub struct LockedKeys {
+    file: File,
+    aside: Option<File>,
+}
+
+impl LockedKeys {
+    /// Opens the file, or makes it, and locks it. A session that goes on had this file.
+    pub fn open(
+        rt: &HostRuntime,
+        path: &str,
+        had: Option<FileBirth>,
+    ) -> Result<LockedKeys, ToolFault> {
+        let file = match had {
+            Some(keys) => reopen_locked(rt, path, keys)?,
+            None => open_locked(rt, path)?,
+        };
+        let mut locked = LockedKeys { file, aside: None };
+        match aside_locked(rt, path) {
+            Ok(aside) => {
+                locked.aside = aside;
+                Ok(locked)
+            }
+            Err(fault) => {
+                locked.drop_empty(rt, path);
+                Err(fault)
+            }
+        }
+    }
+
+    /// Takes the file away where it is empty, as one is that was made just now.
+    pub fn drop_empty(&self, rt: &HostRuntime, path: &str) {
+        let is_empty = match self.file.metadata() {
+            Ok(metadata) => metadata.len() == 0,
+            Err(_) => false,
+        };
+        if is_empty && is_named(rt, path, &self.file) {
+            let _ = fs::remove_file(rt, path);
+        }
+    }
+}
+
 impl<'a> Journal<'a> {
     /// Opens the file, or makes it, for a session over these sources. A session that goes on had this file.
     pub fn open<S: Sources>(
@@ -152,16 +224,54 @@ impl<'a> Journal<'a> {
         sources: &mut S,
     ) -> Result<Journal<'a>, ToolFault> {
         let header = header_over(sources)?;
-        let mut file = match had {
+        let file = match had {
             Some(keys) => reopen_locked(rt, path, keys)?,
             None => open_locked(rt, path)?,
         };
-        let mut bytes = Vec::new(rt.alloc());
-        let _ = file.read_to_end(&mut bytes).map_err(told)?;
-        match find_keys(&header, &bytes) {
+        let bytes = all_of(rt, &file)?;
+        Journal::begun(rt, path, file, bytes, &header)
+    }
+
+    /// The file that is locked, for a session over an image and these sources. The one that was set aside gets its name back, where its
+    /// keys are over this image and the file has none: the save behind those keys did not end.
+    pub fn onto<S: Sources>(
+        rt: &'a HostRuntime,
+        path: &'a str,
+        locked: LockedKeys,
+        older: &[u8],
+        sources: &mut S,
+    ) -> Result<Journal<'a>, ToolFault> {
+        let header = header_onto(sources, older)?;
+        let LockedKeys { file, aside } = locked;
+        let bytes = all_of(rt, &file)?;
+        let Some(aside) = aside else {
+            return Journal::begun(rt, path, file, bytes, &header);
+        };
+        let kept = all_of(rt, &aside)?;
+        let is_new = bytes.len() <= HEADER_SIZE && find_keys(&header, &bytes) != Found::Other;
+        if !is_new || find_keys(&header, &kept) != Found::Keys {
+            return Journal::begun(rt, path, file, bytes, &header);
+        }
+        let name = aside_name(rt, path)?;
+        fs::rename(rt, name.as_str(), path).map_err(|_| ToolFault::Write)?;
+        sync_folder(rt, path);
+        Journal::begun(rt, path, aside, kept, &header)
+    }
+
+    /// The file that is locked and has these bytes. A header that is torn is written to its end.
+    fn begun(
+        rt: &'a HostRuntime,
+        path: &'a str,
+        file: File,
+        bytes: Vec<u8>,
+        header: &[u8; HEADER_SIZE],
+    ) -> Result<Journal<'a>, ToolFault> {
+        let mut file = file;
+        match find_keys(header, &bytes) {
             Found::Keys => {}
             Found::Torn => {
-                if file.write_all(&header[bytes.len()..]).is_err() {
+                let rest = header.get(bytes.len()..).unwrap_or(&[]);
+                if file.write_all(rest).is_err() {
                     // It has no key.
                     let _ = fs::remove_file(rt, path);
                     return Err(ToolFault::Write);
@@ -197,26 +307,88 @@ impl<'a> Journal<'a> {
         is_image_of(self.rt, path, keys, sources)
     }
 
+    /// The same of an image that its keys make over an older one.
+    pub fn is_saved_onto<S: Sources + Drop>(
+        &self,
+        path: &str,
+        older: Vec<u8>,
+        sources: S,
+    ) -> Result<bool, ToolFault> {
+        let keys = self.keys();
+        if only_look(keys) {
+            return Ok(false);
+        }
+        is_image_onto(self.rt, path, older, keys, sources)
+    }
+
+    /// Where its keys are written.
+    fn synced(&self) -> SyncedFile<'_> {
+        SyncedFile {
+            rt: self.rt,
+            file: &self.file,
+            synced: None,
+            rest: Duration::from_millis(LONGEST_REST),
+        }
+    }
+
     /// Edits behind the keys that it has, and keeps those that follow.
     pub fn edit<S: Sources + Drop>(
         &self,
         sources: S,
         image: &mut ImageFile<'a>,
     ) -> Result<Status, ToolFault> {
-        let file = SyncedFile {
-            rt: self.rt,
-            file: &self.file,
-            synced: None,
-            rest: Duration::from_millis(LONGEST_REST),
-        };
         run_kept(
             self.rt.alloc(),
             sources,
             self.keys(),
-            &mut Kept::new(TerminalKeys::new(self.rt.reader()), file),
+            &mut Kept::new(TerminalKeys::new(self.rt.reader()), self.synced()),
             &mut io::writer(self.rt),
             image,
         )
+    }
+
+    /// Goes on with an older image behind the keys that it has, and keeps those that follow.
+    pub fn edit_onto<S: Sources + Drop>(
+        &self,
+        older: Vec<u8>,
+        sources: S,
+        image: &mut ImageFile<'a>,
+    ) -> Result<Status, ToolFault> {
+        run_kept_onto(
+            self.rt.alloc(),
+            older,
+            sources,
+            self.keys(),
+            &mut Kept::new(TerminalKeys::new(self.rt.reader()), self.synced()),
+            &mut io::writer(self.rt),
+            image,
+        )
+    }
+
+    /// Sets it aside, and syncs its folder: the image of its session is to take the place of the one that its keys are over. A file that
+    /// was set aside before is replaced.
+    pub fn set_aside(&self) -> Result<(), ToolFault> {
+        let name = aside_name(self.rt, self.path)?;
+        if !is_named(self.rt, self.path, &self.file) {
+            return Err(ToolFault::KeysGone);
+        }
+        fs::rename(self.rt, self.path, name.as_str()).map_err(|_| ToolFault::Write)?;
+        sync_folder(self.rt, self.path);
+        Ok(())
+    }
+
+    /// Gives it its name back, where the image is not in its place. What stays aside is found by the next session over the older image.
+    pub fn bring_back(&self) {
+        if let Ok(name) = aside_name(self.rt, self.path) {
+            let _ = fs::rename(self.rt, name.as_str(), self.path);
+            sync_folder(self.rt, self.path);
+        }
+    }
+
+    /// Takes it away, which was set aside.
+    pub fn remove_aside(&self) -> Result<(), ToolFault> {
+        let name = aside_name(self.rt, self.path)?;
+        fs::remove_file(self.rt, name.as_str()).map_err(|_| ToolFault::Write)
     }
 
     /// Whether its keys make no revision, if there are any. One that cannot be read may have some that do.

@@ -3,6 +3,7 @@
 
 mod answer;
 mod editing;
+mod editing_onto;
 mod file_state;
 mod going_on;
 mod image_file;
@@ -303,6 +304,7 @@ fn run<L: Ledger, W: io::Write>(
         } => find::<L>(rt, *all, *start, pattern.as_bytes(), file, meter, blank),
         Action::Cmp { first, second } => compare::<L>(rt, first, second, blank),
         Action::Edit {
+            onto,
             keys,
             session,
             no_clobber,
@@ -311,6 +313,7 @@ fn run<L: Ledger, W: io::Write>(
         } => edit::<L, W>(
             rt,
             Editing {
+                onto: *onto,
                 keys: *keys,
                 session: *session,
                 no_clobber: *no_clobber,

@@ -1,6 +1,6 @@
 //! A session that was saved, and ended before its keys were taken away.
 
-use cord_tools::{ToolFault, run_kept};
+use cord_tools::{Status, ToolFault, run_kept, run_kept_onto};
 use key_journal::Kept;
 use lazy_file::Sources;
 use std::fs::{self, File};
@@ -65,6 +65,15 @@ impl io::Write for Twin {
     }
 }
 
+/// What follows from a run whose image went to a twin: whether the twin has it, and no byte more.
+fn is_twin(run: Result<Status, ToolFault>, twin: &mut Twin) -> Result<bool, ToolFault> {
+    match run {
+        Ok(_) => Ok(matches!(twin.file.read(&mut [0]), Ok(0))),
+        Err(ToolFault::Memory) => Err(ToolFault::Memory),
+        Err(_) => Ok(false),
+    }
+}
+
 /// Whether a file is the image that these keys make of these sources, byte for byte.
 ///
 /// # Errors
@@ -81,16 +90,42 @@ pub fn is_image_of<S: Sources + Drop>(
     };
     let mut twin = Twin { file };
     let mut saving = Kept::new(Saving, Nowhere);
-    match run_kept(
+    let run = run_kept(
         rt.alloc(),
         sources,
         keys,
         &mut saving,
         &mut Nowhere,
         &mut twin,
-    ) {
-        Ok(_) => Ok(matches!(twin.file.read(&mut [0]), Ok(0))),
-        Err(ToolFault::Memory) => Err(ToolFault::Memory),
-        Err(_) => Ok(false),
-    }
+    );
+    is_twin(run, &mut twin)
+}
+
+/// Whether a file is the image that these keys make of an older one over these sources, byte for byte.
+///
+/// # Errors
+///
+/// `Memory`.
+pub fn is_image_onto<S: Sources + Drop>(
+    rt: &HostRuntime,
+    path: &str,
+    older: Vec<u8>,
+    keys: &[u8],
+    sources: S,
+) -> Result<bool, ToolFault> {
+    let Ok(file) = fs::open(rt, path) else {
+        return Ok(false);
+    };
+    let mut twin = Twin { file };
+    let mut saving = Kept::new(Saving, Nowhere);
+    let run = run_kept_onto(
+        rt.alloc(),
+        older,
+        sources,
+        keys,
+        &mut saving,
+        &mut Nowhere,
+        &mut twin,
+    );
+    is_twin(run, &mut twin)
 }

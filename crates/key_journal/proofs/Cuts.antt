@@ -95,20 +95,21 @@ same_front (x ∷ d) (y ∷ e) xs ys len h =
     let short : length d ≡ length e = omega (arith, len) in
     rw (heads, same_front d e xs ys short tails) refl
 
-header_behind : (s n : ℕ) (d keys : List ℕ) → header_of s n d ++ keys ≡ header_of s n (d ++ keys)
-header_behind s n d keys = refl
+header_behind : (i s n : ℕ) (d keys : List ℕ) → header_of i s n d ++ keys ≡ header_of i s n (d ++ keys)
+header_behind i s n d keys = refl
 
--- what stands behind the number of sources and the size
-fields : (s t m n : ℕ) (xs ys : List ℕ) → m < 2 ^ 64 → n < 2 ^ 64 → header_of s m xs ≡ header_of t n ys → (s ≡ t) × (m ≡ n) × (xs ≡ ys)
-fields s t m n xs ys small few is =
+-- what stands behind the format's number, the number of sources and the size
+fields : (i j s t m n : ℕ) (xs ys : List ℕ) → m < 2 ^ 64 → n < 2 ^ 64 → header_of i s m xs ≡ header_of j t n ys → (i ≡ j) × (s ≡ t) × (m ≡ n) × (xs ≡ ys)
+fields i j s t m n xs ys small few is =
     let sizes : to_be_bytes w64 m ++ xs ≡ to_be_bytes w64 n ++ ys = ap (λ (l : List ℕ). drop 16 l) is in
     let size : to_be_bytes w64 m ≡ to_be_bytes w64 n = ap (λ (l : List ℕ). take 8 l) sizes in (
+      ap (λ (l : List ℕ). get_or l 11 0) is,
       ap (λ (l : List ℕ). get_or l 15 0) is,
       sym (from_be_bytes-to_be_bytes_8 m small) ∙ ap (λ (l : List ℕ). from_be_bytes w64 l) size ∙ from_be_bytes-to_be_bytes_8 n few,
       ap (λ (l : List ℕ). drop 8 l) sizes,
     )
 
-pub one_of : (s t m n : ℕ) (d e bytes : List ℕ) → m < 2 ^ 64 → n < 2 ^ 64 → length d ≡ length e → IsJournal (header_of s m d) bytes → IsJournal (header_of t n e) bytes → (s ≡ t) × (m ≡ n) × (d ≡ e)
-one_of s t m n d e bytes small few len h k =
-    let at = fields s t m n (d ++ h.0) (e ++ k.0) small few (sym (header_behind s m d h.0) ∙ sym h.1 ∙ k.1 ∙ header_behind t n e k.0) in
-    (at.0, at.1, same_front d e h.0 k.0 len at.2)
+pub one_of : (i j s t m n : ℕ) (d e bytes : List ℕ) → m < 2 ^ 64 → n < 2 ^ 64 → length d ≡ length e → IsJournal (header_of i s m d) bytes → IsJournal (header_of j t n e) bytes → (i ≡ j) × (s ≡ t) × (m ≡ n) × (d ≡ e)
+one_of i j s t m n d e bytes small few len h k =
+    let at = fields i j s t m n (d ++ h.0) (e ++ k.0) small few (sym (header_behind i s m d h.0) ∙ sym h.1 ∙ k.1 ∙ header_behind j t n e k.0) in
+    (at.0, at.1, at.2, same_front d e h.0 k.0 len at.3)

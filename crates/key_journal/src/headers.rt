@@ -1,18 +1,23 @@
 //! The header of a journal: which session its keys belong to.
 
-ghost use Rattle.std.specs.Prelude.{◌≡◌, ◌+◌, ◌-◌, ◌<◌, ◌≤◌, ◌++◌, length, max, take, drop, IfOk, IfSome, OnOk};
-ghost use Rattle.sha2.specs.Sha256.{sha256};
+ghost use Rattle.std.specs.Prelude.{◌≡◌, ◌+◌, ◌-◌, ◌<◌, ◌≤◌, length, max, IfOk, IfSome, OnOk};
 ghost use Rattle.lazy_file.specs.SourceTexts.{text_at};
 ghost use Rattle.lazy_file.specs.Readings.{InSpan, Reads, fault_in};
 ghost use Rattle.lazy_file.specs.declared.sources.TheConstants.{SOURCE_LIMIT};
-ghost use Rattle.key_journal.specs.declared.headers.TheConstants.{END_SIZE};
-ghost use Rattle.key_journal.specs.Headers.{IsHeader, IsOfFirst, TakesIn, digested, header_of};
+ghost use Rattle.key_journal.specs.declared.headers.TheConstants.{WHOLE_LIMIT};
+ghost use Rattle.key_journal.specs.Headers.{IsHeader, IsHeaderOnto, IsOfFirst, TakesDigested, TakesIn, header_of};
 
 use lazy_file::{SourceFault, Sources};
 use sha2::{Digest, Sha256};
 
 /// The bytes of a header.
 pub const HEADER_SIZE: usize = 56;
+
+/// The format's number, where a session begins from its sources.
+pub const FROM_SOURCES: u8 = 1;
+
+/// The format's number, where a session goes on from an image.
+pub const ONTO_IMAGE: u8 = 2;
 
 /// The most bytes of a text whose digest is of the whole of it.
 pub const WHOLE_LIMIT: u64 = 1 << 24;
@@ -23,9 +28,9 @@ pub const END_SIZE: u64 = 1 << 20;
 /// The most bytes that are read at once.
 const CHUNK: usize = 4096;
 
-/// `CORDKEYS`, and the format's number 1.
+/// `CORDKEYS`.
 const FRONT: [u8; HEADER_SIZE] = [
-    0x43, 0x4F, 0x52, 0x44, 0x4B, 0x45, 0x59, 0x53, 0, 0, 0, 1, 0, 0, 0, 0, 0, 0, 0, 0, 0, 0, 0, 0,
+    0x43, 0x4F, 0x52, 0x44, 0x4B, 0x45, 0x59, 0x53, 0, 0, 0, 0, 0, 0, 0, 0, 0, 0, 0, 0, 0, 0, 0, 0,
     0, 0, 0, 0, 0, 0, 0, 0, 0, 0, 0, 0, 0, 0, 0, 0, 0, 0, 0, 0, 0, 0, 0, 0, 0, 0, 0, 0, 0, 0, 0, 0,
 ];
 
@@ -68,51 +73,59 @@ fn digest_span<S: Sources>(
     Ok(())
 }
 
-/// The digest of the whole of source 0.
-fn digest_whole<S: Sources>(sources: &mut S, size: u64) -> Result<[u8; 32], SourceFault>
-    requires { size ≤ SOURCE_LIMIT }
-    ensures bytes { IfOk result (λ digest. IfSome (text_at (S.reading sources.old).stated 0)
-        (λ t. digest ≡ sha256 (take size t))) }
-    ensures reads { Reads (S.reading sources.old) (S.reading sources.new) (InSpan 0 0 size) (fault_in result) }
-{
-    let mut hasher = Sha256::new();
-    digest_span(sources, 0, size, &mut hasher)?;
-    Ok(hasher.finalize())
-}
-
-/// The digest of both ends of source 0, one behind the other.
-fn digest_ends<S: Sources>(sources: &mut S, size: u64) -> Result<[u8; 32], SourceFault>
-    requires large { END_SIZE ≤ size }
+/// Takes both ends of source 0 into a digest, one behind the other.
+fn digest_ends<S: Sources>(
+    sources: &mut S,
+    size: u64,
+    hasher: &mut Sha256,
+) -> Result<(), SourceFault>
+    requires large { WHOLE_LIMIT < size }
     requires limit { size ≤ SOURCE_LIMIT }
-    ensures bytes { IfOk result (λ digest. IfSome (text_at (S.reading sources.old).stated 0)
-        (λ t. digest ≡ sha256 (take END_SIZE t ++ take END_SIZE (drop (size - END_SIZE) t)))) }
+    ensures bytes { OnOk result (IfSome (text_at (S.reading sources.old).stated 0)
+        (λ t. TakesDigested t size hasher.old hasher.new)) }
     ensures reads { Reads (S.reading sources.old) (S.reading sources.new) (InSpan 0 0 size) (fault_in result) }
 {
-    let mut hasher = Sha256::new();
-    digest_span(sources, 0, END_SIZE, &mut hasher)?;
-    digest_span(sources, size - END_SIZE, END_SIZE, &mut hasher)?;
-    Ok(hasher.finalize())
+    digest_span(sources, 0, END_SIZE, &mut *hasher)?;
+    digest_span(sources, size - END_SIZE, END_SIZE, &mut *hasher)?;
+    Ok(())
 }
 
-/// The digest of source 0.
-fn digest<S: Sources>(sources: &mut S, size: u64) -> Result<[u8; 32], SourceFault>
+/// Takes source 0 into a digest: all of it, or both of its ends.
+fn digest_source<S: Sources>(
+    sources: &mut S,
+    size: u64,
+    hasher: &mut Sha256,
+) -> Result<(), SourceFault>
     requires { size ≤ SOURCE_LIMIT }
-    ensures bytes { IfOk result (λ digest. IfSome (text_at (S.reading sources.old).stated 0)
-        (λ t. digest ≡ sha256 (digested size t))) }
+    ensures bytes { OnOk result (IfSome (text_at (S.reading sources.old).stated 0)
+        (λ t. TakesDigested t size hasher.old hasher.new)) }
     ensures reads { Reads (S.reading sources.old) (S.reading sources.new) (InSpan 0 0 size) (fault_in result) }
 {
     if size <= WHOLE_LIMIT {
-        digest_whole(sources, size)
+        digest_span(sources, 0, size, hasher)
     } else {
-        digest_ends(sources, size)
+        digest_ends(sources, size, hasher)
     }
 }
 
-/// The header of sources so many, of which the first has this size and this digest.
-fn spelled(sources: u8, size: u64, digest: &[u8; 32]) -> [u8; HEADER_SIZE]
-    ensures { result ≡ header_of sources size digest.now }
+/// Takes the bytes of an image into a digest: all of them, or both of their ends.
+fn digest_image(image: &[u8], hasher: &mut Sha256)
+    ensures { TakesDigested image.now (length image.now) hasher.old hasher.new }
+{
+    if image.len() as u64 <= WHOLE_LIMIT {
+        hasher.update(image);
+    } else {
+        hasher.update(&image[..END_SIZE as usize]);
+        hasher.update(&image[image.len() - END_SIZE as usize..]);
+    }
+}
+
+/// The header of this number, of sources so many, of which the first has this size, and this digest.
+fn spelled(number: u8, sources: u8, size: u64, digest: &[u8; 32]) -> [u8; HEADER_SIZE]
+    ensures { result ≡ header_of number sources size digest.now }
 {
     let mut bytes = FRONT;
+    bytes[11] = number;
     bytes[15] = sources;
     bytes[16..24].copy_from_slice(&size.to_be_bytes());
     bytes[24..].copy_from_slice(digest);
@@ -129,11 +142,37 @@ pub fn header_over<S: Sources>(sources: &mut S) -> Result<[u8; HEADER_SIZE], Sou
     ensures header { IfOk result (IsHeader (S.reading sources.old).stated) }
     ensures reads { Reads (S.reading sources.old) (S.reading sources.new) IsOfFirst (fault_in result) }
 {
+    let mut hasher = Sha256::new();
     let count = sources.count();
     if count == 0 {
-        return Ok(spelled(0, 0, &Sha256::new().finalize()));
+        return Ok(spelled(FROM_SOURCES, 0, 0, &hasher.finalize()));
     }
     let size = sources.len(0);
-    let digest = digest(sources, size)?;
-    Ok(spelled(count, size, &digest))
+    digest_source(sources, size, &mut hasher)?;
+    Ok(spelled(FROM_SOURCES, count, size, &hasher.finalize()))
+}
+
+/// The header of the journal of a session that goes on from an image over these sources, of which it reads the first. Its digest is of the
+/// image and of that source, one behind the other: each whole where it has at most `WHOLE_LIMIT` bytes, else `END_SIZE` bytes at each of
+/// its ends.
+///
+/// # Errors
+///
+/// Those of the one read that failed.
+pub fn header_onto<S: Sources>(
+    sources: &mut S,
+    image: &[u8],
+) -> Result<[u8; HEADER_SIZE], SourceFault>
+    ensures header { IfOk result (IsHeaderOnto image.now (S.reading sources.old).stated) }
+    ensures reads { Reads (S.reading sources.old) (S.reading sources.new) IsOfFirst (fault_in result) }
+{
+    let mut hasher = Sha256::new();
+    digest_image(image, &mut hasher);
+    let count = sources.count();
+    if count == 0 {
+        return Ok(spelled(ONTO_IMAGE, 0, 0, &hasher.finalize()));
+    }
+    let size = sources.len(0);
+    digest_source(sources, size, &mut hasher)?;
+    Ok(spelled(ONTO_IMAGE, count, size, &hasher.finalize()))
 }

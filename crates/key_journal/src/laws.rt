@@ -16,8 +16,10 @@ pub fn keeping()
     ensures { (header bytes keys : List ℕ) → IsJournal header bytes → IsJournal header (bytes ++ kept_of keys) }
 {}
 
-/// A journal has one header: it is of one number of sources, of one size, and of one digest.
+/// A journal has one header: it is of one number of the format, of one number of sources, of one size, and of one digest. So no journal of a
+/// session that goes on from an image is one of a session that begins from its sources.
 pub fn one_header()
-    ensures { (s t m n : ℕ) (d e bytes : List ℕ) → m < 2 ^ 64 → n < 2 ^ 64 → length d ≡ length e
-        → IsJournal (header_of s m d) bytes → IsJournal (header_of t n e) bytes → (s ≡ t) × (m ≡ n) × (d ≡ e) }
+    ensures { (i j s t m n : ℕ) (d e bytes : List ℕ) → m < 2 ^ 64 → n < 2 ^ 64 → length d ≡ length e
+        → IsJournal (header_of i s m d) bytes → IsJournal (header_of j t n e) bytes
+        → (i ≡ j) × (s ≡ t) × (m ≡ n) × (d ≡ e) }
 {}

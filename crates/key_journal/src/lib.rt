@@ -7,5 +7,7 @@ mod kept;
 pub mod laws;
 
 pub use finding::{Found, find_keys};
-pub use headers::{END_SIZE, HEADER_SIZE, WHOLE_LIMIT, header_over};
+pub use headers::{
+    END_SIZE, FROM_SOURCES, HEADER_SIZE, ONTO_IMAGE, WHOLE_LIMIT, header_onto, header_over,
+};
 pub use kept::{KeepFault, Kept};

@@ -6,3 +6,4 @@ pub mod SplicesFrom
 pub mod TakenRevisions
 pub mod Turns
 pub mod SameTexts
+pub mod FurtherSessions

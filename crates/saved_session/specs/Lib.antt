@@ -1,3 +1,4 @@
 pub mod Codes
 pub mod TakenUp
 pub mod TakeFaults
+pub mod GoneFurther

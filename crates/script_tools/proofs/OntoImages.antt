@@ -25,10 +25,11 @@ use Rattle.saved_session.specs.TakenUp.{TakesUp}
 use Rattle.saved_session.proofs.SameTexts.{same_commands, same_texts}
 use Rattle.script_tools.specs.declared.fault.OntoFault.{OntoFault}
 use Rattle.script_tools.specs.declared.fault.OntoFault.TheVariants.{Check, TakeUp, Stop, Write}
-use Rattle.script_tools.specs.GoneFurther.{GoesFurther}
-use Rattle.script_tools.specs.Onto.{AppliesOnto, Begins, BeginsOnto, GoesOnBy, IsMadeOnto, IsTakenUp, TakesScript}
+use Rattle.saved_session.specs.GoneFurther.{GoesFurther, IsTakenUp}
+use Rattle.saved_session.proofs.FurtherSessions.{roots_further}
+use Rattle.script_tools.specs.Onto.{AppliesOnto, Begins, BeginsOnto, GoesOnBy, IsMadeOnto, TakesScript}
 use Rattle.script_tools.proofs.AcceptedImages.{all_inside, each_inside, keeps_rules}
-use Rattle.script_tools.proofs.FurtherSessions.{lines_go_further, roots_further}
+use Rattle.script_tools.proofs.FurtherLines.{lines_go_further}
 
 -- ---- the session
 

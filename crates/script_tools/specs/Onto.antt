@@ -13,21 +13,14 @@ use Rattle.image_reader.specs.Spelling.{spelling}
 use Rattle.image_reader.specs.Value.{ImageValue, IsImage}
 use Rattle.session_image.specs.Written.{AreAsMade, IsTrusted, image_of}
 use Rattle.session_checker.specs.declared.fault.CheckFault.{CheckFault}
-use Rattle.session_checker.specs.Faithful.{EachRevision, commands, texts}
+use Rattle.session_checker.specs.Faithful.{commands, texts}
 use Rattle.session_checker.specs.Limits.{ChecksWithin}
-use Rattle.session_checker.specs.RevisionRules.{HasRowsOverNoSource}
-use Rattle.saved_session.specs.TakenUp.{TakesUp}
 use Rattle.saved_session.specs.TakeFaults.{IsTakeFault}
-use Rattle.script_tools.specs.GoneFurther.{GoesFurther}
+use Rattle.saved_session.specs.GoneFurther.{GoesFurther, IsTakenUp}
 use Rattle.script_tools.specs.declared.fault.OntoFault.{OntoFault}
 use Rattle.script_tools.specs.declared.fault.OntoFault.TheVariants.{Check, TakeUp, Stop, Write}
 
 -- ---- the session
-
--- the session of an image, none of whose rows of bytes is over a source
-pub record IsTakenUp (v : ImageValue) (begun : SessionValue) : Type 0 where
-  pub takes : TakesUp v begun
-  pub no_source : EachRevision v (HasRowsOverNoSource v)
 
 -- a session that the script made behind an image's
 pub record IsMadeOnto (v : ImageValue) (script : List ℕ) (made : SessionValue) : Type 0 where

@@ -1,9 +1,10 @@
 //! Keys of a terminal by tables of their bytes, and journals that are torn at each byte.
 
 use crate::fakes::{Flaky, Full, Giver, Taker};
+use crate::images::{ONE_INSERT, ONE_INSERT_IN_TWO};
 use crate::same::assert_same;
 use crate::tools::texts_in;
-use key_journal::{Found, HEADER_SIZE, KeepFault, Kept, find_keys, header_over};
+use key_journal::{Found, HEADER_SIZE, KeepFault, Kept, find_keys, header_onto, header_over};
 use lazy_file::{SourceFault, Sources};
 use std::alloc::AllocGlobal;
 use std::io::{Read, Write};
@@ -175,6 +176,15 @@ const HEADER_OVER_ABC: [u8; HEADER_SIZE] = *b"CORDKEYS\0\0\0\x01\0\0\0\x01\0\0\0
     \xba\x78\x16\xbf\x8f\x01\xcf\xea\x41\x41\x40\xde\x5d\xae\x22\x23\
     \xb0\x03\x61\xa3\x96\x17\x7a\x9c\xb4\x10\xff\x61\xf2\x00\x15\xad";
 
+/// The header over the image `ONE_INSERT_IN_TWO` and no sources, and over `abc` too: its digest is of both.
+const HEADER_ONTO_ONE_INSERT: [u8; HEADER_SIZE] = *b"CORDKEYS\0\0\0\x02\0\0\0\0\0\0\0\0\0\0\0\0\
+    \x1c\x40\x73\x03\x07\xb5\x0b\x9c\x32\x19\x95\x59\xa3\x42\x34\x59\
+    \x80\xef\x4d\x4b\xb8\xf2\xd3\xfd\x9b\xf1\xa9\x04\xe0\x7b\x4a\xa6";
+
+const HEADER_ONTO_BOTH: [u8; HEADER_SIZE] = *b"CORDKEYS\0\0\0\x02\0\0\0\x01\0\0\0\0\0\0\0\x03\
+    \x0c\xc9\xe7\xb7\xa6\x06\x55\xcb\x9d\x6d\x43\xe7\x68\x26\x05\x67\
+    \xd5\xee\x51\x24\x5f\x54\xbc\xe1\x67\xbf\x05\xeb\x17\xef\x82\x2d";
+
 /// The SHA-256 of the first 16,777,216 bytes of `Ramp`.
 const WHOLE_RAMP: [u8; 32] = *b"\x28\x75\x07\xf4\x03\x17\x6f\x1f\x5b\x22\xb9\xa4\xd9\xcb\x49\xf7\
     \xd7\xf8\x8a\xc1\x9e\x40\x6b\x5a\xe8\x7c\xe1\x09\x56\x48\x46\xbd";
@@ -250,6 +260,17 @@ fn a_header_is_of_the_sources(rt: HostRuntime) {
     );
     let again = header_over(&mut flaky);
     assert_same(&rt, &again, &Ok(HEADER_OVER_ABC), &"again");
+}
+
+#[test]
+fn a_header_over_an_image_is_of_its_bytes_too(rt: HostRuntime) {
+    let none = header_onto(&mut texts_in(&rt, &[]), ONE_INSERT_IN_TWO);
+    assert_same(&rt, &none, &Ok(HEADER_ONTO_ONE_INSERT), &"none");
+    let both = header_onto(&mut texts_in(&rt, &[b"abc"]), ONE_INSERT_IN_TWO);
+    assert_same(&rt, &both, &Ok(HEADER_ONTO_BOTH), &"abc");
+    let other = header_onto(&mut texts_in(&rt, &[]), ONE_INSERT).expect(&rt, "a header");
+    let found = find_keys(&HEADER_ONTO_ONE_INSERT, &other);
+    assert_same(&rt, &found, &Found::Other, &"another image");
 }
 
 #[test]

@@ -22,4 +22,6 @@ mod places;
 #[cfg(test)]
 mod same;
 #[cfg(test)]
+mod saved;
+#[cfg(test)]
 mod tools;

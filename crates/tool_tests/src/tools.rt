@@ -12,6 +12,7 @@ use image_reader::ReadFault;
 use lazy_file::{AddFault, MemSources, SourceFault, Sources};
 use node_table::NodeFault;
 use rebalance::BalanceFault;
+use saved_session::TakeFault;
 use session_checker::CheckFault;
 use std::alloc::AllocGlobal;
 use std::io::Write;
@@ -348,6 +349,13 @@ fn a_fault_has_its_word_or_its_code_and_a_status(rt: HostRuntime) {
         (ToolFault::PatternTooLong, "refused F1", 1),
         (ToolFault::from(too_long), "refused N1", 1),
         (ToolFault::from(EditFault::TooManyRows), "refused E6", 1),
+        (
+            ToolFault::from(TakeFault::OverSource(7)),
+            "refused G1(7)",
+            1,
+        ),
+        (ToolFault::from(TakeFault::TooManyRows), "refused E6", 1),
+        (ToolFault::from(TakeFault::Memory), "memory", 3),
         (ToolFault::TextTooLong, "refused K1", 1),
         (ToolFault::TooManyKeys, "refused K2", 1),
         (ToolFault::OtherKeys, "refused J1", 1),

@@ -121,23 +121,27 @@ fn words_over_files_are_read(rt: HostRuntime) -> Result<(), Fail> {
             ("cordkit cmp b a", r#"Cmp { first: "b", second: "a" }"#),
             (
                 "cordkit edit a.cord",
-                r#"Edit { keys: None, session: None, no_clobber: false, image: "a.cord", file: None }"#,
+                r#"Edit { onto: None, keys: None, session: None, no_clobber: false, image: "a.cord", file: None }"#,
             ),
             (
                 "cordkit edit a.cord b.txt",
-                r#"Edit { keys: None, session: None, no_clobber: false, image: "a.cord", file: Some("b.txt") }"#,
+                r#"Edit { onto: None, keys: None, session: None, no_clobber: false, image: "a.cord", file: Some("b.txt") }"#,
             ),
             (
                 "cordkit edit --keep k a.cord b.txt",
-                r#"Edit { keys: Some("k"), session: None, no_clobber: false, image: "a.cord", file: Some("b.txt") }"#,
+                r#"Edit { onto: None, keys: Some("k"), session: None, no_clobber: false, image: "a.cord", file: Some("b.txt") }"#,
             ),
             (
                 "cordkit edit --keep=k -- -a.cord",
-                r#"Edit { keys: Some("k"), session: None, no_clobber: false, image: "-a.cord", file: None }"#,
+                r#"Edit { onto: None, keys: Some("k"), session: None, no_clobber: false, image: "-a.cord", file: None }"#,
             ),
             (
                 "cordkit edit --keep k --no-clobber --session s a.cord",
-                r#"Edit { keys: Some("k"), session: Some("s"), no_clobber: true, image: "a.cord", file: None }"#,
+                r#"Edit { onto: None, keys: Some("k"), session: Some("s"), no_clobber: true, image: "a.cord", file: None }"#,
+            ),
+            (
+                "cordkit edit --onto o --keep k a.cord b.txt",
+                r#"Edit { onto: Some("o"), keys: Some("k"), session: None, no_clobber: false, image: "a.cord", file: Some("b.txt") }"#,
             ),
             ("cordkit edit --discard k", r#"Discard { keys: "k" }"#),
             (
@@ -159,6 +163,9 @@ fn words_are_refused_by_their_kinds(rt: HostRuntime) -> Result<(), Fail> {
             ("cordkit edit --discard --keep j k", "ArgumentConflict"),
             ("cordkit edit k --discard --session s", "ArgumentConflict"),
             ("cordkit edit --discard --no-clobber k", "ArgumentConflict"),
+            ("cordkit edit --discard --onto o k", "ArgumentConflict"),
+            ("cordkit edit --onto o", "MissingRequiredArgument"),
+            ("cordkit edit --onto o --onto p a", "ArgumentConflict"),
             ("cordkit frob", "InvalidSubcommand"),
             ("cordkit show a -1", "UnknownArgument"),
             ("cordkit show a", "MissingRequiredArgument"),

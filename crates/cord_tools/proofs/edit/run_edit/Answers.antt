@@ -3,6 +3,7 @@ use Rattle.std.proofs.lemmas.Result.{err_from_is_err_and}
 use Rattle.lazy_file.specs.SourceTexts.{Stated}
 use Rattle.cord_tools.specs.Editing.{Concludes, EditsFile}
 use Rattle.cord_tools.proofs.Bytes.{Keeps-same}
+use Rattle.cord_tools.proofs.FurtherKeys.{keys_further}
 use Rattle.cord_tools.proofs.edit.run_edit.Goals as goal
 
 pub returns-in_err-editor : goal.returns-in_err-editor
@@ -14,7 +15,12 @@ returns-in_err-editor g c =
 
 pub returns : goal.returns
 returns g c =
-    EditsFile.ran c.in_ok-editor.editor c.run-end.new.self c.run-end.result c.in_ok-editor.ensures.sources
-    (λ long. (let refused = c.in_ok-editor.ensures.too_long.1 long in absurd cc)) c.in_ok-editor.ensures.made c.run-end.ensures.run
-    (subst (λ (st : Stated). Concludes st.sizes c.run-end.result c.run-end.new.self.editing (g.I.Write.contents c.args.image.now) (g.I.Write.contents c.conclude.new.image) c.conclude.result)
-    (c.run-end.ensures.later.same ∙ ap (λ s. (g.S.Sources.reading s).stated) c.in_ok-editor.ensures.sources) c.conclude.ensures)
+    EditsFile.ran c.in_ok-editor.editor c.in_ok-editor.ensures.sources
+    (λ long. (let refused = c.in_ok-editor.ensures.too_long.1 long in absurd cc)) c.in_ok-editor.ensures.made (record {
+      last = c.run-end.new.self;
+      end = c.run-end.result;
+      run = c.run-end.ensures.run;
+      further = keys_further (g.S.Sources.reading c.in_ok-editor.editor.sources) c.run-end.ensures.run.sources c.in_ok-editor.editor.editing c.run-end.new.self.editing c.run-end.ensures.run.keys c.run-end.ensures.run.behind c.run-end.ensures.run.follow c.run-end.ensures.run.last;
+      concludes = subst (λ (st : Stated). Concludes st.sizes c.run-end.result c.run-end.new.self.editing (g.I.Write.contents c.args.image.now) (g.I.Write.contents c.conclude.new.image) c.conclude.result)
+          (c.run-end.ensures.later.same ∙ ap (λ s. (g.S.Sources.reading s).stated) c.in_ok-editor.ensures.sources) c.conclude.ensures;
+    })

@@ -1,8 +1,9 @@
-use Rattle.std.proofs.Common.{Err, subst, refl, ap, ◌∙◌}
+use Rattle.std.proofs.Common.{Err, subst, refl, ap, ◌∙◌, ◌++◌}
 use Rattle.std.proofs.lemmas.Result.{err_from_is_err_and}
 use Rattle.lazy_file.specs.SourceTexts.{Stated}
 use Rattle.cord_tools.specs.Editing.{Concludes, EditsKept}
 use Rattle.cord_tools.proofs.Bytes.{Keeps-same}
+use Rattle.cord_tools.proofs.FurtherKeys.{keys_further}
 use Rattle.cord_tools.proofs.edit.run_kept.Goals as goal
 
 pub returns-in_err-editor : goal.returns-in_err-editor
@@ -14,7 +15,12 @@ returns-in_err-editor g c =
 
 pub returns : goal.returns
 returns g c =
-    EditsKept.ran c.in_ok-editor.editor c.resume-end.new.self c.resume-end.result c.in_ok-editor.ensures.sources
-    (λ long. (let refused = c.in_ok-editor.ensures.too_long.1 long in absurd cc)) c.in_ok-editor.ensures.made c.resume-end.ensures.resumes
-    (subst (λ (st : Stated). Concludes st.sizes c.resume-end.result c.resume-end.new.self.editing (g.I.Write.contents c.args.image.now) (g.I.Write.contents c.conclude.new.image) c.conclude.result)
-    (c.resume-end.ensures.later.same ∙ ap (λ s. (g.S.Sources.reading s).stated) c.in_ok-editor.ensures.sources) c.conclude.ensures)
+    EditsKept.ran c.in_ok-editor.editor c.in_ok-editor.ensures.sources
+    (λ long. (let refused = c.in_ok-editor.ensures.too_long.1 long in absurd cc)) c.in_ok-editor.ensures.made (record {
+      last = c.resume-end.new.self;
+      end = c.resume-end.result;
+      resumes = c.resume-end.ensures.resumes;
+      further = keys_further (g.S.Sources.reading c.in_ok-editor.editor.sources) c.resume-end.ensures.resumes.run.sources c.in_ok-editor.editor.editing c.resume-end.new.self.editing (c.args.played.now ++ c.resume-end.ensures.resumes.run.keys) c.resume-end.ensures.resumes.whole.behind c.resume-end.ensures.resumes.whole.follow c.resume-end.ensures.resumes.whole.last;
+      concludes = subst (λ (st : Stated). Concludes st.sizes c.resume-end.result c.resume-end.new.self.editing (g.I.Write.contents c.args.image.now) (g.I.Write.contents c.conclude.new.image) c.conclude.result)
+          (c.resume-end.ensures.later.same ∙ ap (λ s. (g.S.Sources.reading s).stated) c.in_ok-editor.ensures.sources) c.conclude.ensures;
+    })

@@ -1,5 +1,5 @@
--- A session that takes lines goes further.
-use Rattle.std.proofs.Common.{◌≡◌, ℕ, ◌+◌, List, [], ◌∷◌, ◌++◌, length, map, take, Option, Result, Ok, Err, refl, sym, ap, subst, ◌∙◌, append_assoc, inl, inr}
+-- What goes further than a session.
+use Rattle.std.proofs.Common.{◌≡◌, ℕ, List, [], ◌∷◌, ◌++◌, length, map, take, Option, refl, sym, ap, subst, ◌∙◌, append_assoc}
 use Rattle.std.proofs.lemmas.List.{append-nil, length-map, map-append, take_at}
 use Rattle.function_leaf.specs.Coded.{coded_byte}
 use Rattle.rope_node.specs.declared.node.NodeId.{NodeId}
@@ -8,9 +8,9 @@ use Rattle.node_table.specs.Held.{table_of}
 use Rattle.edit_commands.specs.declared.revision.Revision.{Revision}
 use Rattle.edit_commands.specs.Session.{SessionValue, roots_of}
 use Rattle.edit_commands.proofs.GoingOn.{goes_on_itself, goes_on_through}
-use Rattle.edit_script.specs.declared.fault.Stopped.{Stopped}
-use Rattle.edit_script.specs.Applied.{TakesLines}
-use Rattle.script_tools.specs.GoneFurther.{GoesFurther}
+use Rattle.edit_commands.specs.declared.command.Command.{Command}
+use Rattle.edit_commands.specs.Applying.{Applies}
+use Rattle.saved_session.specs.GoneFurther.{GoesFurther}
 
 -- two functions that give the same of a list give the same of its front
 alike_front : {X Y : Type 0} (f g : X → Y) (front rest : List X) → map f (front ++ rest) ≡ map g (front ++ rest) → map f front ≡ map g front
@@ -42,12 +42,6 @@ further_through {a} {b} {c} x y =
       keeps = record { goes_on = goes_on_through x.keeps.goes_on y.keeps.goes_on; cells = alike ∙ x.keeps.cells };
     }
 
-pub lines_go_further : (old : SessionValue) (k : ℕ) (lines : List (List ℕ)) (result : Result (Unit {0}) Stopped) (new : SessionValue)
-    → result ≡ Ok tt → TakesLines old k lines result new → GoesFurther old new
-lines_go_further old k [] result new ok t = subst (GoesFurther old) (sym t.1) (further_itself old)
-lines_go_further old k (line ∷ lines) result new ok (inr t) = let no : Ok tt ≡ Err (record { line = k + 1; why = t.0 }) = sym ok ∙ t.2 in absurd cc
-lines_go_further old k (line ∷ lines) result new ok (inl (mid, inl blank, rest)) =
-    subst (λ (v : SessionValue). GoesFurther v new) blank.1 (lines_go_further mid (k + 1) lines result new ok rest)
-lines_go_further old k (line ∷ lines) result new ok (inl (mid, inr t, rest)) =
-    let one : GoesFurther old mid = record { more = t.3.applies.made ∷ []; revisions = t.3.applies.revisions; keeps = t.3.applies.keeps } in
-    further_through one (lines_go_further mid (k + 1) lines result new ok rest)
+-- so does one that a command is applied to
+pub further_applied : {old new : SessionValue} {command : Command} {k : ℕ} → Applies old command k new → GoesFurther old new
+further_applied applies = record { more = applies.made ∷ []; revisions = applies.revisions; keeps = applies.keeps }

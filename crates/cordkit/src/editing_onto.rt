@@ -1,0 +1,185 @@
+//! The tool `edit` over a saved session.
+
+ghost use Rattle.std.specs.Prelude.{◌≡◌, ◌<◌};
+
+use crate::editing::{Editing, beginning_of, begun_image, close, finish, refuse_image, sources_of};
+use crate::image_file::{ImageFile, Put};
+use crate::journal::{Journal, LockedKeys};
+use crate::opening::{OpenedSources, open, told_size};
+use cord_tools::{Status, ToolFault, read_image, run_edit_onto};
+use lazy_file::Sources;
+use std::fs::File;
+use std::io;
+use std::sync::ledger::{Blank, Ledger};
+
+/// An image that is gone on from, and its source.
+#[derive(Drop)]
+struct Older<L: Ledger> {
+    file: File,
+    bytes: Vec<u8>,
+    sources: OpenedSources<L>,
+}
+
+/// Opens an image and then its source, and reads the image.
+fn opened_older<L: Ledger>(
+    rt: &HostRuntime,
+    words: Editing<'_>,
+    path: &str,
+    blank: Blank,
+) -> Result<Older<L>, ToolFault>
+    requires name { blank.name ≡ L.name }
+    requires parts { blank.parts ≡ L.parts }
+    requires many { 2 < blank.parts }
+{
+    let file = open(rt, path)?;
+    let expected = told_size(&file);
+    let sources = sources_of::<L>(rt, words.file, blank)?;
+    let bytes = read_image(rt.alloc(), &file, expected)?;
+    Ok(Older {
+        file,
+        bytes,
+        sources,
+    })
+}
+
+/// Puts an image that is whole in its place. Its keys are set aside meanwhile, and gone then: they are over the older image, which may be
+/// the one whose place it takes.
+fn put_behind(journal: &Journal<'_>, image: &ImageFile<'_>) -> Result<Put, ToolFault> {
+    if !image.takes_place() {
+        return image.put();
+    }
+    journal.set_aside()?;
+    let put = image.put();
+    match &put {
+        Ok(Put::InPlace) => journal.remove_aside()?,
+        _ => journal.bring_back(),
+    }
+    put
+}
+
+/// What follows an edit whose keys are kept.
+fn finish_kept(
+    status: Result<Status, ToolFault>,
+    journal: &Journal<'_>,
+    image: &ImageFile<'_>,
+) -> Result<Put, ToolFault> {
+    let put = match status {
+        Ok(_) => put_behind(journal, image),
+        Err(fault) => Err(image.cause(fault)),
+    };
+    if put.is_err() {
+        image.drop_part();
+    }
+    put
+}
+
+/// What becomes of a session whose image may not be replaced: where it is that of its keys, it was saved before.
+fn saved_before<S: Sources + Drop>(
+    rt: &HostRuntime,
+    words: Editing<'_>,
+    journal: &Journal<'_>,
+    older: Vec<u8>,
+    sources: S,
+) -> Result<Put, ToolFault> {
+    if !journal.is_saved_onto(words.image, older, sources)? {
+        return Err(ToolFault::ImageThere);
+    }
+    // It may have a second name.
+    let _ = ImageFile::new(rt, words.image)?.look();
+    Ok(Put::Before)
+}
+
+/// Goes on with an image, and keeps the keys until they are saved. Their file is locked before the image is opened: so no two sessions go on
+/// from one image.
+fn edit_kept<L: Ledger>(
+    rt: &HostRuntime,
+    words: Editing<'_>,
+    keys: &str,
+    path: &str,
+    blank: Blank,
+) -> Result<Put, ToolFault>
+    requires name { blank.name ≡ L.name }
+    requires parts { blank.parts ≡ L.parts }
+    requires many { 2 < blank.parts }
+{
+    let begun = beginning_of(rt, words)?;
+    let locked = LockedKeys::open(rt, keys, begun.map(|b| b.keys))?;
+    let older = match opened_older::<L>(rt, words, path, blank) {
+        Ok(older) => older,
+        Err(fault) => {
+            locked.drop_empty(rt, keys);
+            return Err(fault);
+        }
+    };
+    let Older {
+        file,
+        bytes,
+        mut sources,
+    } = older;
+    let journal = Journal::onto(rt, keys, locked, &bytes, &mut sources)?;
+    let put = match begun_image(rt, words, &journal, begun) {
+        Ok(mut image) => match image.keep_whole(&file) {
+            Ok(()) => {
+                let status = journal.edit_onto(bytes, sources, &mut image);
+                finish_kept(status, &journal, &image)
+            }
+            Err(fault) => Err(fault),
+        },
+        Err(ToolFault::ImageThere) => saved_before(rt, words, &journal, bytes, sources),
+        Err(fault) => Err(fault),
+    };
+    match &put {
+        Ok(Put::InPlace) => close(rt, words)?,
+        Ok(Put::Before) => {
+            journal.remove()?;
+            close(rt, words)?;
+        }
+        _ if journal.only_looks() => journal.remove()?,
+        _ => journal.sync(),
+    }
+    put
+}
+
+/// Goes on with an image, and keeps no keys.
+fn edit_unkept<L: Ledger>(
+    rt: &HostRuntime,
+    words: Editing<'_>,
+    path: &str,
+    image: &mut ImageFile<'_>,
+    blank: Blank,
+) -> Result<Put, ToolFault>
+    requires name { blank.name ≡ L.name }
+    requires parts { blank.parts ≡ L.parts }
+    requires many { 2 < blank.parts }
+{
+    refuse_image(words, image)?;
+    let older = opened_older::<L>(rt, words, path, blank)?;
+    image.keep_whole(&older.file)?;
+    let status = run_edit_onto(
+        rt.alloc(),
+        older.bytes,
+        older.sources,
+        &mut rt.reader(),
+        &mut io::writer(rt),
+        image,
+    );
+    finish(status, image)
+}
+
+/// Goes on with the image at this path, over the file that it was made over, and saves the session as the image of the words.
+pub fn edit_onto<L: Ledger>(
+    rt: &HostRuntime,
+    words: Editing<'_>,
+    path: &str,
+    image: &mut ImageFile<'_>,
+    blank: Blank,
+) -> Result<Put, ToolFault>
+    requires name { blank.name ≡ L.name }
+    requires parts { blank.parts ≡ L.parts }
+    requires many { 2 < blank.parts }
+{
+    match words.keys {
+        Some(keys) => edit_kept::<L>(rt, words, keys, path, blank),
+        None => edit_unkept::<L>(rt, words, path, image, blank),
+    }
+}
