@@ -12,7 +12,7 @@ use rope_node::rope_len;
 use session_checker::Checked;
 
 /// How many splices the revisions before `k` have.
-pub(crate) fn splices_before(image: &Checked, k: u32) -> u32
+pub fn splices_before(image: &Checked, k: u32) -> u32
     requires { k ≤ length image.now.revisions }
     ensures { result ≡ splices_before image.now k }
 {
