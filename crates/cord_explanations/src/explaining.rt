@@ -52,7 +52,8 @@ fn inputs<'a>(alloc: Global, action: &Action<'a>) -> Result<Vec<&'a str>, AllocE
         Action::Check { image, sources, .. }
         | Action::Migrate { image, sources, .. }
         | Action::Show { image, sources, .. }
-        | Action::Log { image, sources, .. } => {
+        | Action::Log { image, sources, .. }
+        | Action::Blame { image, sources, .. } => {
             inputs.push(*image)?;
             inputs.extend_from_slice(sources)?;
         }
@@ -102,6 +103,7 @@ fn image_of<'a, 'b>(action: &'b Action<'a>) -> Option<(&'a str, &'b [&'a str])> 
         | Action::Migrate { image, sources, .. }
         | Action::Show { image, sources, .. }
         | Action::Log { image, sources, .. }
+        | Action::Blame { image, sources, .. }
         | Action::Apply {
             onto: Some(image),
             sources,

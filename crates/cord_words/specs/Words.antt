@@ -13,7 +13,7 @@ use Rattle.clap.specs.declared.builder.action.ArgAction.TheVariants.{Append, Set
 use Rattle.clap.specs.declared.error.kind.ErrorKind.TheVariants.{ArgumentConflict, MissingRequiredArgument, ValueValidation}
 use Rattle.cord_words.specs.declared.request.Request.{Request}
 use Rattle.cord_words.specs.declared.action.Action.{Action}
-use Rattle.cord_words.specs.declared.action.Action.TheVariants.{CheckInput, Check, Show, Cut, Join, Find, Cmp, Edit, Discard, Migrate, Log, Apply}
+use Rattle.cord_words.specs.declared.action.Action.TheVariants.{CheckInput, Check, Show, Cut, Join, Find, Cmp, Edit, Discard, Migrate, Log, Blame, Apply}
 
 -- ---- the words that the program takes
 
@@ -118,6 +118,19 @@ abbrev pub log_app : App
 log_app = with_rule (with_rule (with_rule (with_rule (new_app (codes "log")) limit_rule)
     (flag_rule (codes "brief"))) image_rule) sources_rule
 
+-- the option `--start START`
+abbrev pub from_rule : Rule
+from_rule = record (new_rule (codes "START")) { long = Some (codes "start") }
+
+-- the option `--count COUNT`
+abbrev pub count_rule : Rule
+count_rule = record (new_rule (codes "COUNT")) { long = Some (codes "count") }
+
+-- `blame [--at-most LOOKS] [--start START] [--count COUNT] IMAGE REV [SOURCE]...`
+abbrev pub blame_app : App
+blame_app = with_rule (with_rule (with_rule (with_rule (with_rule (with_rule (new_app (codes "blame")) limit_rule)
+    from_rule) count_rule) image_rule) revision_rule) sources_rule
+
 -- the value of `--onto`, or none
 abbrev pub onto_rule : Rule
 onto_rule = record (new_rule (codes "IMAGE")) { long = Some (codes "onto") }
@@ -137,9 +150,9 @@ with_tool program tool = with_subcommand program (with_flags tool).top
 
 -- the program, as clap is told of it: all its subcommands
 unfoldable pub cordkit_app : App
-cordkit_app = with_tool (with_tool (with_tool (with_tool (with_tool (with_tool (with_tool (with_tool (with_tool
+cordkit_app = with_tool (with_tool (with_tool (with_tool (with_tool (with_tool (with_tool (with_tool (with_tool (with_tool
     (with_tool (with_flags titled_app) check_app) show_app) cut_app) join_app) find_app) cmp_app) edit_app) migrate_app) log_app)
-    apply_app
+    blame_app) apply_app
 
 -- ---- what was given
 
@@ -225,6 +238,11 @@ Holds given (Log at_most brief image sources) = Gives given (codes "log") (λ ro
     MayReadAs (first_of (codes "LOOKS") rows) at_most × (brief ≡ is_set rows (codes "brief"))
     × (image.now ≡ text_of rows (codes "IMAGE"))
     × (map (λ s. s.now) sources.items ≡ texts_of rows (codes "SOURCE")))
+Holds given (Blame at_most start count image revision sources) = Gives given (codes "blame") (λ rows.
+    MayReadAs (first_of (codes "LOOKS") rows) at_most
+    × MayReadAs (first_of (codes "START") rows) start × MayReadAs (first_of (codes "COUNT") rows) count
+    × (image.now ≡ text_of rows (codes "IMAGE")) × ReadsAs (text_of rows (codes "REV")) revision
+    × (map (λ s. s.now) sources.items ≡ texts_of rows (codes "SOURCE")))
 Holds given (Apply onto at_most script sources) = Gives given (codes "apply") (λ rows.
     (limits_a_check rows ≡ true)
     × (option_map (λ i. i.now) onto ≡ first_of (codes "IMAGE") rows)
@@ -252,7 +270,7 @@ IsOneOf (x ∷ xs) n = (n ≡ x) ⊎ IsOneOf xs n
 
 abbrev pub subcommand_names : List Text
 subcommand_names = codes "check" ∷ codes "show" ∷ codes "cut" ∷ codes "join" ∷ codes "find"
-    ∷ codes "cmp" ∷ codes "edit" ∷ codes "migrate" ∷ codes "log" ∷ codes "apply" ∷ []
+    ∷ codes "cmp" ∷ codes "edit" ∷ codes "migrate" ∷ codes "log" ∷ codes "blame" ∷ codes "apply" ∷ []
 
 -- the subcommand that was given, if any, is one of the program's own, and not `help`
 abbrev pub IsKnown : Option (Text × List Row) → Type 0
@@ -273,6 +291,9 @@ pub record NumbersRead (given : Option (Text × List Row)) : Type 0 where
   pub find : WhereGiven given (codes "find") (λ rows. IsNumber (text_of rows (codes "START")))
   pub migrate : WhereGiven given (codes "migrate") (λ rows. IfSome (first_of (codes "LOOKS") rows) IsNumber)
   pub log : WhereGiven given (codes "log") (λ rows. IfSome (first_of (codes "LOOKS") rows) IsNumber)
+  pub blame : WhereGiven given (codes "blame") (λ rows.
+      IfSome (first_of (codes "LOOKS") rows) IsNumber × IfSome (first_of (codes "START") rows) IsNumber
+      × IfSome (first_of (codes "COUNT") rows) IsNumber × IsNumber (text_of rows (codes "REV")))
   pub apply : WhereGiven given (codes "apply") (λ rows. IfSome (first_of (codes "LOOKS") rows) IsNumber)
 
 -- `--discard` stands beside no word that is for a session

@@ -74,6 +74,17 @@ pub enum Action<'a> {
         image: &'a str,
         sources: Vec<&'a str>,
     },
+    /// Write where `count` bytes of the text of a revision of the image of a file come from, from its byte `start` on: all that there are,
+    /// where no count is given, and from its first one, where no start is. The session has these sources. So many looks may its check
+    /// take.
+    Blame {
+        at_most: Option<u64>,
+        start: Option<u64>,
+        count: Option<u64>,
+        image: &'a str,
+        revision: u64,
+        sources: Vec<&'a str>,
+    },
     /// Write the image of the session that a script makes, over files of these lengths: behind the last revision of the image `onto`,
     /// where there is one, whose session has these sources. So many looks may the check of that one take.
     Apply {

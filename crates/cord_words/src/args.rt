@@ -3,9 +3,9 @@
 ghost use Rattle.std.specs.Prelude.{◌≡◌, IfOk, false};
 ghost use Rattle.clap.specs.Words.{App, Rule, app_of, new_app, rule_of, with_rule};
 ghost use Rattle.clap.specs.declared.builder.command.Command.TheViews.{out-Command as fields_of};
-ghost use Rattle.cord_words.specs.Words.{explain_rule, file_rule, flag_rule, image_rule, keep_rule, limit_rule};
-ghost use Rattle.cord_words.specs.Words.{old_rule, onto_rule, optional_file_rule, quiet_rule, required_rule, session_rule};
-ghost use Rattle.cord_words.specs.Words.{sources_rule, start_rule, with_flags};
+ghost use Rattle.cord_words.specs.Words.{count_rule, explain_rule, file_rule, flag_rule, from_rule, image_rule, keep_rule, limit_rule};
+ghost use Rattle.cord_words.specs.Words.{old_rule, onto_rule, optional_file_rule, quiet_rule, required_rule, revision_rule};
+ghost use Rattle.cord_words.specs.Words.{session_rule, sources_rule, start_rule, with_flags};
 
 use clap::{Arg, ArgAction, Command};
 use std::alloc::{AllocError, Global};
@@ -93,6 +93,34 @@ pub fn limit<'a>(alloc: Global) -> Arg<'a>
     Arg::new(alloc, "LOOKS")
         .help("The most looks at nodes that the check may take")
         .long("at-most")
+}
+
+/// `--start START`
+pub fn from<'a>(alloc: Global) -> Arg<'a>
+    ensures rule { rule_of result ≡ from_rule }
+    ensures local { result.global ≡ false }
+{
+    Arg::new(alloc, "START")
+        .help("The place of the first byte that is asked about, counted from 0")
+        .long("start")
+}
+
+/// `--count COUNT`
+pub fn count<'a>(alloc: Global) -> Arg<'a>
+    ensures rule { rule_of result ≡ count_rule }
+    ensures local { result.global ≡ false }
+{
+    Arg::new(alloc, "COUNT")
+        .help("How many bytes are asked about")
+        .long("count")
+}
+
+/// `REV`
+pub fn revision<'a>(alloc: Global) -> Arg<'a>
+    ensures rule { rule_of result ≡ revision_rule }
+    ensures local { result.global ≡ false }
+{
+    required(alloc, "REV", "The number of the revision, counted from 0")
 }
 
 /// `--NAME`, which has no value.

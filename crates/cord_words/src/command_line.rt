@@ -12,7 +12,7 @@ ghost use Rattle.cord_words.specs.Refusals.{FailsAs};
 use crate::action::Action;
 use crate::fault::WordsFault;
 use crate::request::Request;
-use crate::{apply, args, check, cmp, cut, edit, find, given, join, log, migrate, show};
+use crate::{apply, args, blame, check, cmp, cut, edit, find, given, join, log, migrate, show};
 use clap::error::ErrorKind;
 use clap::{ArgMatches, Command, Error};
 use std::alloc::{AllocError, Global};
@@ -102,6 +102,7 @@ fn action_of<'a>(
         Some(("edit", given)) => edit::action(command, given),
         Some(("migrate", given)) => migrate::action(alloc, command, given),
         Some(("log", given)) => log::action(alloc, command, given),
+        Some(("blame", given)) => blame::action(alloc, command, given),
         Some(("apply", given)) => apply::action(alloc, command, given),
         Some(_) => unreachable!(),
     }
@@ -130,6 +131,7 @@ fn alone<'a>(alloc: Global, name: &str) -> Result<Command<'a>, AllocError> {
         "edit" => edit::command(alloc),
         "migrate" => migrate::command(alloc),
         "log" => log::command(alloc),
+        "blame" => blame::command(alloc),
         "apply" => apply::command(alloc),
         _ => Ok(titled(alloc)),
     };
@@ -190,6 +192,7 @@ fn cordkit<'a>(alloc: Global) -> Result<Command<'a>, AllocError>
     let command = add_tool(alloc, command, edit::command(alloc));
     let command = add_tool(alloc, command, migrate::command(alloc));
     let command = add_tool(alloc, command, log::command(alloc));
+    let command = add_tool(alloc, command, blame::command(alloc));
     add_tool(alloc, command, apply::command(alloc))
 }
 

@@ -4,6 +4,7 @@
 mod action;
 mod apply;
 mod args;
+mod blame;
 mod check;
 mod cmp;
 mod command_line;

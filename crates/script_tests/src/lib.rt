@@ -2,6 +2,8 @@
 #![tactic(auto)]
 
 #[cfg(test)]
+mod blames;
+#[cfg(test)]
 mod lines;
 #[cfg(test)]
 mod logs;

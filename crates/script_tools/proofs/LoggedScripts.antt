@@ -33,7 +33,7 @@ shown_whole (Quoted text ∷ ws) =
     ap (λ (t : List ℕ). 32 ∷ t ++ shown_on Whole ws) (append-nil (printed_word (Quoted text))) ∙ ap (λ (t : List ℕ). 32 ∷ printed_word (Quoted text) ++ t) (shown_whole ws)
 
 -- a command has a name
-named : (e : FullEdit) → (w : Word) × (ws : List Word) × (front_of e ≡ w ∷ ws)
+pub named : (e : FullEdit) → (w : Word) × (ws : List Word) × (front_of e ≡ w ∷ ws)
 named New = (_, _, refl)
 named (Open s) = (_, _, refl)
 named (Insert r p a n) = (_, _, refl)

@@ -1,4 +1,4 @@
-//! Why a script gave no image, and an image no log.
+//! Why a script gave no image, and an image no log or blame.
 
 ghost use Rattle.std.specs.Prelude.{◌≡◌};
 ghost use Rattle.script_tools.specs.declared.fault.PieceFault.TheVariants.{Memory, Write};
@@ -40,6 +40,19 @@ pub enum LogFault {
     /// The image was not accepted: it is refused, or a read of a source failed.
     Check(CheckFault),
     /// Memory for a piece of a line was refused.
+    Memory,
+    /// The writer failed, or took no byte.
+    Write,
+}
+
+/// Why it was not told to the end where bytes come from.
+#[derive(Clone, Copy, Debug, PartialEq, Eq)]
+pub enum BlameFault {
+    /// The image was not accepted: it is refused, or a read of a source failed.
+    Check(CheckFault),
+    /// The image has no such revision.
+    NoRevision,
+    /// Memory was refused.
     Memory,
     /// The writer failed, or took no byte.
     Write,

@@ -2,15 +2,19 @@
 #![tactic(auto)]
 
 mod applying;
+mod blaming;
 mod fault;
 mod law;
 mod logging;
 mod onto;
 mod shown;
+mod wanted;
 
 pub use applying::{run_apply, run_apply_told};
-pub use fault::{ApplyFault, LogFault, OntoFault};
+pub use blaming::{run_blame, run_blame_told};
+pub use fault::{ApplyFault, BlameFault, LogFault, OntoFault};
 pub use law::{gives_the_texts_again, has_the_texts, reads_each_line, says_the_commands};
 pub use logging::{run_log, run_log_told};
 pub use onto::run_apply_onto;
 pub use shown::{BRIEF_LEN, LogTexts};
+pub use wanted::BytesOfText;

@@ -14,4 +14,5 @@ returns c =
     let seven = c.add_tool-command-7.ensures _ _ six c.command-7.ensures.app in
     let eight = c.add_tool-command-8.ensures _ _ seven c.command-8.ensures.app in
     let nine = c.add_tool-command-9.ensures _ _ eight c.command-9.ensures.app in
-    c.add_tool.ensures _ _ nine c.command-10.ensures.app
+    let ten = c.add_tool-command-10.ensures _ _ nine c.command-10.ensures.app in
+    c.add_tool.ensures _ _ ten c.command-11.ensures.app
