@@ -4,7 +4,7 @@
 _cordkit_kinds() {
     case $1 in
         check | migrate | log | apply | cordkit-verify) echo file files ;;
-        show) echo file number files ;;
+        show | blame) echo file number files ;;
         cut) echo number number file ;;
         join) echo files ;;
         find) echo number text file ;;
@@ -19,6 +19,7 @@ _cordkit_options() {
         cordkit-verify) echo --text --graph --at-most --help ;;
         check | show | migrate) echo --at-most --explain --quiet --help ;;
         log) echo --at-most --brief --explain --quiet --help ;;
+        blame) echo --at-most --start --count --explain --quiet --help ;;
         apply) echo --onto --at-most --explain --quiet --help ;;
         find) echo --all --explain --quiet --help ;;
         edit) echo --onto --keep --session --no-clobber --discard --explain --quiet --help ;;
@@ -55,7 +56,7 @@ _cordkit_read() {
 }
 
 _cordkit() {
-    local commands='check show cut join find cmp edit migrate log apply help'
+    local commands='check show cut join find cmp edit migrate log blame apply help'
     local IFS=$' \t\n' command='' place=0 ended='' valued='' continued='' redirected='' kind kinds
     COMPREPLY=()
     [[ ${1##*/} == cordkit ]] || command=${1##*/}

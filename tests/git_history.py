@@ -1,7 +1,8 @@
-"""Makes a script of a file's history by examples/from_git, has the built program, or the one that is named, apply it, and compares each revision with
-what `git show` writes of its commit; and the image with the second checker. It does so over a small repository that it makes in a temporary
-folder, one in which the file is renamed, and over the history of this repository's own README.md where that is there: a tarball has none, nor has a
-shallow clone, which is told. Where there is no git nothing is tried. The last line is 'N passed, M failed'; the status is not 0 where one failed.
+"""Makes a script of a file's history by examples/from_git, has the built program, or the one that is named, apply it, and compares each revision with what
+`git show` writes of its commit; and the image with the second checker. It does so over a small repository that it makes in a temporary folder, one in
+which the file is renamed, one in which whole lines come and go, of which it compares where each comes from with `git blame`, and over the history of this
+repository's own README.md where that is there: a tarball has none, nor has a shallow clone, which is told. Where there is no git nothing is tried. The
+last line is 'N passed, M failed'; the status is not 0 where one failed.
 
 git_history.py [PROGRAM]"""
 
@@ -134,6 +135,21 @@ def renamed_repository(folder):
     return made.file, list(zip(subjects, [texts[0], texts[1], texts[2], texts[3], texts[3], texts[4]]))
 
 
+def lines_repository(folder):
+    """A file to which each commit adds whole lines, each with a first byte of its own, or from which it takes some away."""
+    chance = random.Random(7)
+    made, lines, left = Repository(folder, "lines"), [], [b"%c, and so it begins and ends: %c\n" % (byte, byte) for byte in range(48, 123)]
+    for number in range(16):
+        if number % 3 == 2:
+            first = chance.randrange(len(lines) - 1)
+            del lines[first : first + 2]
+        else:
+            first = chance.randrange(len(lines) + 1)
+            lines[first:first] = [left.pop() for _ in range(chance.randrange(2, 5))]
+        made.commit(b"".join(lines), f"commit {number}")
+    return made.file
+
+
 # ---- A history
 
 
@@ -199,6 +215,34 @@ def try_renames(program, folder):
     return len(wanted)
 
 
+def try_origins(program, folder):
+    """Compares where the first byte of each line comes from with what git blames. How many lines there are."""
+    file = lines_repository(folder)
+    script, reason = script_of(file)
+    require(script is not None, reason)
+    told = told_commits(script)
+    image = os.path.join(folder, "image")
+    with open(image, "wb") as output:
+        subprocess.run([program, "apply", "/dev/stdin"], input=script, stdout=output, check=False)
+    answer = subprocess.run([program, "blame", image, str(len(told) - 1)], capture_output=True, check=False)
+    require((answer.returncode, answer.stderr) == (0, b""), f"blame: status {answer.returncode}, {answer.stderr!r}")
+    revisions = []
+    for line in answer.stdout.split(b"\n")[:-1]:
+        place, size, revision, _ = line.split(b" ")[:4]
+        require(int(place) == len(revisions), f"a run begins elsewhere: {line!r}")
+        revisions += [int(revision)] * int(size)
+    blamed = re.findall(rb"^([0-9a-f]{40}) \d+ \d+", git(folder, "blame", "--porcelain", "lines") or b"", re.M)
+    with open(file, "rb") as text:
+        lines = text.readlines()
+    require(len(blamed) == len(lines) > 0, "git blames another number of lines")
+    place = 0
+    for line, commit in zip(lines, blamed):
+        found = told[revisions[place]][0]
+        require(commit.decode().startswith(found), f"{line!r} comes from {found}, and git blames {commit!r}")
+        place += len(line)
+    return len(lines)
+
+
 def main():
     program = os.path.abspath(sys.argv[1] if len(sys.argv) > 1 else PROGRAM)
     if not shutil.which("git"):
@@ -211,6 +255,13 @@ def main():
             passed += 1
         except Wrong as wrong:
             print(f"FAILED: a file that was renamed: {wrong}")
+            failed += 1
+    with tempfile.TemporaryDirectory() as folder:
+        try:
+            print(f"where lines come from: {try_origins(program, folder)} lines")
+            passed += 1
+        except Wrong as wrong:
+            print(f"FAILED: where lines come from: {wrong}")
             failed += 1
     with tempfile.TemporaryDirectory() as folder:
         for name, file in [("a small repository", small_repository(folder)), ("README.md", os.path.join(TOP, "README.md"))]:

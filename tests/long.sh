@@ -49,6 +49,7 @@ try 'damaged images' python3 python3 tests/damaged_images.py 100000
 try 'sessions of keys' python3 python3 tests/random_keys.py 1000
 try 'scripts and logs' python3 python3 tests/random_scripts.py 1000
 try 'scripts behind images' python3 python3 tests/going_on.py 1000
+try 'where bytes come from' python3 python3 tests/random_blames.py 2000
 try 'refused reads and writes' '' sh tests/devices.sh
 try 'the tests of ropes under memcheck' valgrind sh tests/memcheck.sh
 try 'dear refusals' '' sh tests/dear_refusals.sh

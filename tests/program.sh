@@ -588,6 +588,18 @@ an image is not logged beside a source too many;log one_insert abc;;1;;refused C
 an image is not logged beside 256 sources;log one_insert $(yes abc | head -n 256);;1;;refused S4\n
 an image to log that is not there;log missing;;3;;read\n
 a log on a full device;log one_insert;;3;/dev/full;write\n
+where bytes come from;blame one_insert 1;;0;0 3 1 0 insert 0 0 "abc"\n;
+a byte of them;blame --start 1 --count 1 one_insert 1;;0;1 1 1 1 insert 0 0 "b"\n;
+a source shows no bytes;blame bytes_row_over_a_source 0 abc;;0;0 3 0 0 open 0\n;
+an empty text comes from nowhere;blame new_alone 0;;0;;
+no byte of a text;blame --count 0 one_insert 1;;0;;
+a place past the end of a text;blame --start 3 one_insert 1;;0;;
+a revision that is not there to blame;blame one_insert 2;;1;;refused no revision\n
+bytes are not told past the limit;blame --at-most 136 one_insert 1;;1;;refused looks 137\n
+a refused image is not blamed;blame child_not_earlier 0;;1;;refused C4(1)\n
+an image is not blamed beside a source too many;blame one_insert 1 abc;;1;;refused C2\n
+an image to blame that is not there;blame missing 0;;3;;read\n
+runs on a full device;blame one_insert 1;;3;/dev/full;write\n
 keys are shown and saved;edit saved;keys_saved;0;edit.txt;
 the saved image shows its last text;show saved 4;;0;ac;
 the saved image shows what undo gave;show saved 3;;0;a;
@@ -716,6 +728,7 @@ a text in words;log --explain abcde;;1;;refused C1(I1)\nC1(I1): abcde ends too e
 standard input in words;--explain;cut_short_by_one;1;refused C1(I1)\n;C1(I1): standard input ends too early to be an image\n
 a limit of looks in words;check --explain --at-most 136 one_insert;;1;refused looks 137\n;looks 137: the check of one_insert may take 137 looks at nodes, more than --at-most allows\n
 a revision that is not there in words;show --explain one_insert 7;;1;;refused no revision\nno revision: one_insert is accepted, and has no such revision\n
+a revision to blame that is not there in words;blame --explain one_insert 7;;1;;refused no revision\nno revision: one_insert is accepted, and has no such revision\n
 a file that is not there in words;cmp --explain abc missing;;3;;read\nread: there is no file missing\n
 an image that is not there in words;check --explain missing abc;;3;;read\nread: there is no file missing\n
 a folder in words;check --explain folder;;3;;read\nread: folder is a folder\n

@@ -2,6 +2,7 @@
 #![tactic(auto)]
 
 mod answer;
+mod blaming;
 mod editing;
 mod editing_onto;
 mod file_state;
@@ -17,6 +18,7 @@ mod session_file;
 ghost use Rattle.std.specs.Prelude.{◌≡◌, ◌*◌, ◌-◌, ◌^◌, ◌<◌, length};
 
 use crate::answer::Answer;
+use crate::blaming::write_blame;
 use crate::editing::{Editing, edit};
 use crate::going_on::apply_onto;
 use crate::journal::discard;
@@ -30,7 +32,7 @@ use cord_tools::{
 };
 use cord_words::{Action, Request, WordsFault, no_text, words};
 use lazy_file::Sources;
-use script_tools::{ApplyFault, run_apply_told};
+use script_tools::{ApplyFault, BytesOfText, run_apply_told};
 use std::io::ErrorKind;
 use std::marker::Brand;
 use std::process::ExitCode;
@@ -112,6 +114,19 @@ fn log<L: Ledger>(
     let mut image = opened?;
     let bytes = read_image(rt.alloc(), image.file, image.expected)?;
     write_log(rt, &bytes, &mut image.sources, image.at_most, brief, meter)?;
+    Ok(Status::Success)
+}
+
+/// Writes where some bytes of a text come from, of an image that is checked.
+fn blame<L: Ledger>(
+    rt: &HostRuntime,
+    opened: Result<OpenedImage<L>, ToolFault>,
+    wanted: BytesOfText,
+    meter: &mut Meter<'_>,
+) -> Result<Status, ToolFault> {
+    let mut image = opened?;
+    let bytes = read_image(rt.alloc(), image.file, image.expected)?;
+    write_blame(rt, &bytes, &mut image.sources, image.at_most, wanted, meter)?;
     Ok(Status::Success)
 }
 
@@ -271,6 +286,23 @@ fn run_over_image<L: Ledger, W: io::Write>(
             *brief,
             meter,
         ),
+        Action::Blame {
+            at_most,
+            start,
+            count,
+            image,
+            revision,
+            sources,
+        } => blame(
+            rt,
+            opened_image::<L>(rt, *at_most, image, sources, blank),
+            BytesOfText {
+                revision: *revision,
+                start: start.unwrap_or(0),
+                count: count.unwrap_or(u64::MAX),
+            },
+            meter,
+        ),
         _ => run_stdin(rt.alloc(), rt.reader(), answer),
     }
 }
@@ -293,7 +325,8 @@ fn run<L: Ledger, W: io::Write>(
         | Action::Check { .. }
         | Action::Show { .. }
         | Action::Migrate { .. }
-        | Action::Log { .. } => run_over_image::<L, W>(rt, action, answer, meter, blank),
+        | Action::Log { .. }
+        | Action::Blame { .. } => run_over_image::<L, W>(rt, action, answer, meter, blank),
         Action::Cut { start, count, file } => cut::<L>(rt, *start, *count, file, blank),
         Action::Join { files } => join::<L>(rt, files.as_slice(), blank),
         Action::Find {

@@ -33,6 +33,7 @@ fn all_runs<A: AllocGlobal + Abort>(rt: &A, refusals: &mut Refusals) {
     scripts::lines(rt, refusals);
     scripts::image(rt, refusals);
     scripts::images_behind(rt, refusals);
+    scripts::blamed(rt, refusals);
     editors::undo_then_type(rt, refusals);
     editors::cut_and_pasted(rt, refusals);
     editors::edited(rt, refusals);
@@ -173,6 +174,11 @@ fn image(rt: HostRuntime) {
 #[test]
 fn images_behind(rt: HostRuntime) {
     scripts::images_behind(&rt, &mut Refusals::at_most(1));
+}
+
+#[test]
+fn blamed(rt: HostRuntime) {
+    scripts::blamed(&rt, &mut Refusals::at_most(1));
 }
 
 #[test]

@@ -1,4 +1,4 @@
-//! Scripts that are applied, and the image of one.
+//! Scripts that are applied, the image of one, and where its bytes come from.
 
 use crate::fakes::{ONE_INSERT_IN_TWO, Taker};
 use crate::kept::{Reach, session_digest};
@@ -8,7 +8,9 @@ use edit_commands::{EditFault, Session};
 use edit_script::{Room, Stop, Stopped, apply_script};
 use lazy_file::MemSources;
 use saved_session::TakeFault;
-use script_tools::{ApplyFault, OntoFault, run_apply, run_apply_onto};
+use script_tools::{
+    ApplyFault, BlameFault, BytesOfText, OntoFault, run_apply, run_apply_onto, run_blame,
+};
 use std::alloc::AllocGlobal;
 use std::process::Abort;
 use work_progress::Untold;
@@ -145,4 +147,30 @@ pub(crate) fn images_behind<A: AllocGlobal + Abort>(rt: &A, refusals: &mut Refus
     let longer = image_behind(rt, b"new", refusals);
     let wanted = ONE_INSERT_IN_TWO.len() + 56;
     assert_same(rt, &longer.taken().len(), &wanted, &"a revision more");
+}
+
+/// Where the bytes of a text come from. A front of the lines is written where memory is refused.
+pub(crate) fn blamed<A: AllocGlobal + Abort>(rt: &A, refusals: &mut Refusals) {
+    let lines = b"0 3 1 0 insert 0 0 \"abc\"\n".as_slice();
+    let wanted = BytesOfText {
+        revision: 1,
+        start: 0,
+        count: 3,
+    };
+    for _ in 0..TRIES {
+        let mut writer = Taker::new();
+        let mut none = MemSources::new(rt.alloc());
+        let image = ONE_INSERT_IN_TWO;
+        match run_blame(rt.alloc(), image, &mut none, None, wanted, &mut writer) {
+            Ok(()) => {
+                assert_same(rt, &writer.taken(), &lines, &"the lines");
+                return;
+            }
+            Err(fault) => {
+                assert_same(rt, &fault, &BlameFault::Memory, &"the fault");
+                refusals.met(rt, &lines.starts_with(writer.taken()), &true);
+            }
+        }
+    }
+    panic!(rt; "refused each time")
 }

@@ -92,6 +92,14 @@ fn words_over_images_and_scripts_are_read(rt: HostRuntime) -> Result<(), Fail> {
                 "cordkit log a --brief --at-most=7",
                 r#"Log { at_most: Some(7), brief: true, image: "a", sources: [] }"#,
             ),
+            (
+                "cordkit blame a 2 b",
+                r#"Blame { at_most: None, start: None, count: None, image: "a", revision: 2, sources: ["b"] }"#,
+            ),
+            (
+                "cordkit blame --start 4 --count=1 --at-most 7 a 2",
+                r#"Blame { at_most: Some(7), start: Some(4), count: Some(1), image: "a", revision: 2, sources: [] }"#,
+            ),
         ],
     )
 }
