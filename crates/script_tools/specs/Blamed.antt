@@ -1,9 +1,10 @@
 -- What blaming an image writes.
-use Rattle.std.specs.Prelude.{◌≡◌, ◌≢◌, ℕ, ◌+◌, ◌<◌, ◌≤◌, List, [], ◌∷◌, ◌++◌, length, take, drop, slice_get, Option, Some, None, MatchOption, Result, Ok, Err}
+use Rattle.std.specs.Prelude.{◌≡◌, ◌≢◌, ℕ, ◌+◌, ◌<◌, ◌≤◌, List, [], ◌∷◌, ◌++◌, length, map, take, drop, slice_get, Option, Some, None, MatchOption, Result, Ok, Err}
+use Rattle.std.specs.List.{range_with_len}
 use Rattle.std.specs.Io.KnownBytes.{Keeps}
 use Rattle.lazy_file.specs.Readings.{Reading}
 use Rattle.image_reader.specs.Value.{ImageValue}
-use Rattle.image_reader.specs.Accepted.{command_at}
+use Rattle.image_reader.specs.Accepted.{command_at, splices_before}
 use Rattle.session_checker.specs.declared.fault.CheckFault.{CheckFault}
 use Rattle.session_checker.specs.Limits.{ChecksWithin}
 use Rattle.edit_script.specs.Words.{Word, Number, Quoted, line_of}
@@ -63,6 +64,10 @@ pub record IsLongestRun (first : OriginRun) (left : List Origin) (run : OriginRu
   pub same : run_origins first ++ left ≡ run_origins run ++ found_and_left found rest
   pub apart : slice_get (found_and_left found rest) 0 ≢ Some (origin_behind run.first run.len)
   pub told : IsNextFound found rest
+
+-- how many splices the revisions before each revision have
+abbrev pub splice_starts : ImageValue → List ℕ
+splice_starts v = map (splices_before v) (range_with_len 0 (length v.revisions))
 
 -- ---- what is written
 

@@ -4,18 +4,20 @@ ghost use Rattle.std.specs.Prelude.{◌≡◌, ◌∷◌, ◌++◌, ◌+◌, ◌
 ghost use Rattle.std.specs.Fmt.{decimal};
 ghost use Rattle.span_certificate.specs.declared.edit.Splice.{Splice};
 ghost use Rattle.span_certificate.specs.Commands.{with_splices};
+ghost use Rattle.image_reader.specs.Accepted.{splices_before};
 ghost use Rattle.edit_script.specs.Words.{Number, line_of};
 ghost use Rattle.edit_script.specs.Commands.{front_of};
 ghost use Rattle.byte_origins.specs.Stretches.{OriginsLeft};
 ghost use Rattle.script_tools.specs.declared.shown.LogTexts.TheVariants.{Brief};
 ghost use Rattle.script_tools.specs.Logged.{WritesText, shown_on};
-ghost use Rattle.script_tools.specs.Blamed.{BlamesImage, IsLongestRun, WritesBlame, WritesRuns, run_line, run_texts};
+ghost use Rattle.script_tools.specs.Blamed.{BlamesImage, IsLongestRun, WritesBlame, WritesRuns, run_line, run_texts, splice_starts};
 
 use crate::fault::{BlameFault, PieceFault};
 use crate::shown::{LogTexts, write_piece, write_text};
 use crate::wanted::BytesOfText;
-use byte_origins::{Brought, OriginRun, Origins, splices_before};
+use byte_origins::{Brought, OriginRun, Origins};
 use edit_script::{push_front, push_number};
+use image_reader::Revisions;
 use itoa::Buffer;
 use lazy_file::Sources;
 use session_checker::{Checked, check_told};
@@ -89,19 +91,54 @@ fn write_bytes_of<W: io::Write>(
     }
 }
 
+/// How many splices the revisions before the next one have, where those before revision `k` have `first`.
+fn next_start(image: &Checked, k: u32, first: u32) -> u32
+    requires there { k < length image.now.revisions }
+    requires first { first ≡ splices_before image.now k }
+    ensures { result ≡ splices_before image.now (k + 1) }
+{
+    let revisions = Revisions::over(image.image());
+    let _count = revisions.count();
+    first + image.image().splices_of(k)
+}
+
+/// How many splices the revisions before each revision have, so that no line goes through them again.
+fn splice_starts(alloc: Global, image: &Checked) -> Result<Vec<u32>, AllocError>
+    ensures { IfOk result (λ starts. starts.items ≡ splice_starts image.now) }
+{
+    let mut starts = Vec::new(alloc);
+    let mut first = 0;
+    for r in 0..image.revisions() {
+        starts.push(first)?;
+        first = next_start(image, r, first);
+    }
+    Ok(starts)
+}
+
+/// The one of revision `k`.
+fn start_of(image: &Checked, starts: &[u32], k: u32) -> u32
+    requires there { k < length image.now.revisions }
+    requires starts { starts.now ≡ splice_starts image.now }
+    ensures { result ≡ splices_before image.now k }
+{
+    starts[k as usize]
+}
+
 /// Writes the line of a run that stands at a place of a text.
 fn write_run<W: io::Write>(
     piece: &mut Vec<u8>,
     image: &Checked,
+    starts: &[u32],
     place: u64,
     run: OriginRun,
     writer: &mut W,
 ) -> Result<(), PieceFault>
-    requires { run.first.revision < length image.now.revisions }
+    requires there { run.first.revision < length image.now.revisions }
+    requires starts { starts.now ≡ splice_starts image.now }
     ensures { WritesText (W.contents writer.old) (W.contents writer.new) (run_line image.now place run) result }
 {
     let k = run.first.revision;
-    let revision = image.image().revision(k, splices_before(image, k));
+    let revision = image.image().revision(k, start_of(image, starts, k));
     put_run(piece, place, run, &revision.edit)?;
     write_piece(piece, writer)?;
     write_bytes_of(piece, image.image().pool(), run, writer)?;
@@ -124,10 +161,11 @@ fn write_runs<W: io::Write>(
     let mut piece = Vec::new(alloc);
     let mut origins = Origins::of(alloc, image, k, start, count)?;
     let mut next = origins.next()?;
+    let starts = splice_starts(alloc, image)?;
     let mut place = start;
     while let Some(first) = next {
         let (run, behind) = longest(&mut origins, first)?;
-        write_run(&mut piece, image, place, run, writer)?;
+        write_run(&mut piece, image, &starts, place, run, writer)?;
         place += run.len;
         next = behind;
     }

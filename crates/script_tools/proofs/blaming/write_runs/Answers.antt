@@ -17,6 +17,13 @@ returns-in_err-next g c =
     blaming_fails v c.args.k c.args.start c.args.count c.args.start (wanted_origins v c.args.k c.args.start c.args.count) a a c.from_residual-in_err-next.result c.from_residual-in_err-next.ensures.0
     (blaming_begins v c.args.k c.args.start c.args.count (wanted_origins v c.args.k c.args.start c.args.count) a c.requires refl)
 
+pub returns-in_err-starts : goal.returns-in_err-starts
+returns-in_err-starts g c =
+    let v = c.args.image.now in
+    let a = g.W.Write.contents c.args.writer.now in
+    blaming_fails v c.args.k c.args.start c.args.count c.args.start (wanted_origins v c.args.k c.args.start c.args.count) a a c.from_residual-in_err-starts.result c.from_residual-in_err-starts.ensures.0
+    (blaming_begins v c.args.k c.args.start c.args.count (wanted_origins v c.args.k c.args.start c.args.count) a c.requires refl)
+
 pub loop-next-init : goal.loop-next-init
 loop-next-init g c =
     let v = c.args.image.now in
@@ -39,8 +46,8 @@ returns-in_err-run g c =
     let b = g.W.Write.contents c.loop-next.writer in
     blaming_fails v c.args.k c.args.start c.args.count c.loop-next.place (found_and_left c.loop-next.next c.loop-next.origins.left) a b c.from_residual-in_err-run.result c.from_residual-in_err-run.ensures.0 c.loop-next.invariant.1
 
-pub write_run-requires : goal.write_run-requires
-write_run-requires g c =
+pub write_run-requires-clause-there : goal.write_run-requires-clause-there
+write_run-requires-clause-there g c =
     let v = c.args.image.now in
     let a = g.W.Write.contents c.args.writer.now in
     let b = g.W.Write.contents c.loop-next.writer in
