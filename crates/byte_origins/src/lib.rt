@@ -11,5 +11,5 @@ mod walking;
 
 pub use laws::{as_many_as_bytes, brought_by_its_command, names_each_byte, stood_there};
 pub use run::{Brought, Origin, OriginRun};
-pub use tracing::{origin, splices_before};
+pub use tracing::origin;
 pub use walking::Origins;

@@ -11,8 +11,8 @@ use image_reader::Revisions;
 use rope_node::rope_len;
 use session_checker::Checked;
 
-/// How many splices the commands of the revisions before revision `k` name, as `Image::revision` asks for.
-pub fn splices_before(image: &Checked, k: u32) -> u32
+/// How many splices the revisions before `k` have.
+pub(crate) fn splices_before(image: &Checked, k: u32) -> u32
     requires { k ≤ length image.now.revisions }
     ensures { result ≡ splices_before image.now k }
 {
