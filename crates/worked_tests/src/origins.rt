@@ -12,7 +12,8 @@ fn insertion_stands_between_older_bytes()
 
 /// `aabcbc`: what is pasted keeps its origin.
 fn paste_keeps_origins()
-    ensures { AreRuns (origins 3 [] pasted_twice 2) (run 1 0 (Pool 0) 1 ∷ run 1 0 (Pool 0) 3 ∷ run 1 1 (Pool 1) 2 ∷ []) }
+    ensures { AreRuns (origins 3 [] pasted_twice 2) (run 1 0 (Pool 0) 1 ∷ run 1 0 (Pool 0) 3
+        ∷ run 1 1 (Pool 1) 2 ∷ []) }
 {}
 
 /// `the quick fox and the cat`.
