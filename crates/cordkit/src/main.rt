@@ -233,6 +233,40 @@ fn apply<L: Ledger, W>(
     }
 }
 
+/// Tells where bytes of a text come from, where the words ask for it; else checks the image of standard input.
+fn run_blame_or_stdin<L: Ledger, W: io::Write>(
+    rt: &HostRuntime,
+    action: &Action<'_>,
+    answer: &mut Answer<W>,
+    meter: &mut Meter<'_>,
+    blank: Blank,
+) -> Result<Status, ToolFault>
+    requires name { blank.name ≡ L.name }
+    requires parts { blank.parts ≡ L.parts }
+    requires many { blank.parts ≡ 2 ^ 64 - 1 }
+{
+    match action {
+        Action::Blame {
+            at_most,
+            start,
+            count,
+            image,
+            revision,
+            sources,
+        } => blame(
+            rt,
+            opened_image::<L>(rt, *at_most, image, sources, blank),
+            BytesOfText {
+                revision: *revision,
+                start: start.unwrap_or(0),
+                count: count.unwrap_or(u64::MAX),
+            },
+            meter,
+        ),
+        _ => run_stdin(rt.alloc(), rt.reader(), answer),
+    }
+}
+
 /// Does what the words ask for over an image: that of standard input, where they name none.
 fn run_over_image<L: Ledger, W: io::Write>(
     rt: &HostRuntime,
@@ -286,24 +320,7 @@ fn run_over_image<L: Ledger, W: io::Write>(
             *brief,
             meter,
         ),
-        Action::Blame {
-            at_most,
-            start,
-            count,
-            image,
-            revision,
-            sources,
-        } => blame(
-            rt,
-            opened_image::<L>(rt, *at_most, image, sources, blank),
-            BytesOfText {
-                revision: *revision,
-                start: start.unwrap_or(0),
-                count: count.unwrap_or(u64::MAX),
-            },
-            meter,
-        ),
-        _ => run_stdin(rt.alloc(), rt.reader(), answer),
+        _ => run_blame_or_stdin::<L, W>(rt, action, answer, meter, blank),
     }
 }
 
