@@ -26,17 +26,6 @@ fn rows_at(session: &Session, k: u32) -> &[Row]
     }
 }
 
-/// How many rows the revisions have together.
-pub(crate) fn count_rows(session: &Session) -> u32
-    ensures { result ≡ length (rows_in session.now.revisions) }
-{
-    let mut count = 0;
-    for k in 0..session.count() {
-        count += rows_at(session, k).len() as u32;
-    }
-    count
-}
-
 /// Revision `k` as it is recorded, where there is one.
 fn recorded(session: &Session, k: u32) -> Option<Revision>
     ensures { result ≡ slice_get (map recorded_revision session.now.revisions) k }
@@ -78,15 +67,25 @@ fn splices_at(session: &Session, k: u32) -> &[Splice]
     }
 }
 
-/// How many splices the revisions have together.
-pub(crate) fn count_splices(session: &Session) -> u32
-    ensures { result ≡ length (splices_in session.now.revisions) }
+/// How many splices and rows the revisions have together.
+#[derive(Clone, Copy)]
+pub(crate) struct Totals {
+    pub(crate) splices: u32,
+    pub(crate) rows: u32,
+}
+
+/// How many of each the revisions have. They are counted in one pass, since most images are written after each save of a small text.
+pub(crate) fn count_all(session: &Session) -> Totals
+    ensures splices { result.splices ≡ length (splices_in session.now.revisions) }
+    ensures rows { result.rows ≡ length (rows_in session.now.revisions) }
 {
-    let mut count = 0;
+    let mut splices = 0;
+    let mut rows = 0;
     for k in 0..session.count() {
-        count += splices_at(session, k).len() as u32;
+        splices += splices_at(session, k).len() as u32;
+        rows += rows_at(session, k).len() as u32;
     }
-    count
+    Totals { splices, rows }
 }
 
 /// Writes the splices of one revision.
@@ -105,8 +104,8 @@ fn write_each_splice<W: io::Write, const N: usize>(
     Ok(())
 }
 
-/// Writes the splices of all revisions.
-pub(crate) fn write_splices<W: io::Write, const N: usize>(
+/// Writes the splices of all revisions, one after the other.
+fn write_all_splices<W: io::Write, const N: usize>(
     session: &Session,
     writer: &mut Gathered<'_, W, N>,
 ) -> Result<(), WriteFault>
@@ -118,6 +117,23 @@ pub(crate) fn write_splices<W: io::Write, const N: usize>(
         write_each_splice(splices_at(session, k), writer)?;
     }
     Ok(())
+}
+
+/// Writes the splices of all revisions, of which there are so many together: where there are none, no revision is looked at.
+pub(crate) fn write_splices<W: io::Write, const N: usize>(
+    session: &Session,
+    count: u32,
+    writer: &mut Gathered<'_, W, N>,
+) -> Result<(), WriteFault>
+    requires { count ≡ length (splices_in session.now.revisions) }
+    ensures bytes { WritesGathered (output W.contents writer.old) (output W.contents writer.new)
+        (flat_map splice_spelling (splices_in session.now.revisions)) result }
+    ensures fits { OnOk result (AllByRecursion FitsSplice (splices_in session.now.revisions)) }
+{
+    if count == 0 {
+        return Ok(());
+    }
+    write_all_splices(session, writer)
 }
 
 /// Writes the rows of one revision.
@@ -136,8 +152,8 @@ fn write_each_row<W: io::Write, const N: usize>(
     Ok(())
 }
 
-/// Writes the rows of all revisions.
-pub(crate) fn write_rows<W: io::Write, const N: usize>(
+/// Writes the rows of all revisions, one after the other.
+fn write_all_rows<W: io::Write, const N: usize>(
     session: &Session,
     writer: &mut Gathered<'_, W, N>,
 ) -> Result<(), WriteFault>
@@ -149,4 +165,21 @@ pub(crate) fn write_rows<W: io::Write, const N: usize>(
         write_each_row(rows_at(session, k), writer)?;
     }
     Ok(())
+}
+
+/// Writes the rows of all revisions, of which there are so many together: where there are none, no revision is looked at.
+pub(crate) fn write_rows<W: io::Write, const N: usize>(
+    session: &Session,
+    count: u32,
+    writer: &mut Gathered<'_, W, N>,
+) -> Result<(), WriteFault>
+    requires { count ≡ length (rows_in session.now.revisions) }
+    ensures bytes { WritesGathered (output W.contents writer.old) (output W.contents writer.new)
+        (flat_map row_spelling (rows_in session.now.revisions)) result }
+    ensures fits { OnOk result (AllByRecursion FitsRow (rows_in session.now.revisions)) }
+{
+    if count == 0 {
+        return Ok(());
+    }
+    write_all_rows(session, writer)
 }

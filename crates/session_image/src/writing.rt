@@ -9,12 +9,12 @@ ghost use Rattle.image_reader.specs.Layout.{IsBytes, spelled};
 ghost use Rattle.image_reader.specs.Spelling.{header_layout, header_numbers, source_spelling, node_spelling, spelling};
 ghost use Rattle.image_reader.specs.Value.{IsImage};
 ghost use Rattle.session_image.specs.Gathering.{WritesGathered, output};
-ghost use Rattle.session_image.specs.Written.{Writes, HoldsFit, SectionsFit, AreAsMade, IsTrusted, image_of, nodes_of};
+ghost use Rattle.session_image.specs.Written.{Writes, HoldsFit, SectionsFit, AreAsMade, IsTrusted, image_of, nodes_of, rows_in, splices_in};
 
 use crate::gathered::Gathered;
 use crate::nodes::node_record;
 use crate::records::{Counts, header_record, source_record};
-use crate::revisions::{count_rows, count_splices, write_revisions, write_rows, write_splices};
+use crate::revisions::{Totals, count_all, write_revisions, write_rows, write_splices};
 use byte_output::WriteFault;
 use edit_commands::Session;
 use function_leaf::Coded;
@@ -23,8 +23,8 @@ use rope_node::{CodedSpace, NodeId, NodeSpace, NodeView};
 use rope_store::Store;
 use std::io;
 
-/// An image of so many bytes is a few records, and is not gathered.
-const SHORT: u64 = 128;
+/// An image of so many nodes and revisions is not gathered.
+const FEW_RECORDS: u64 = 2;
 
 /// How many bytes of a small image the writer takes at once.
 const SMALL_PIECE: usize = 4096;
@@ -35,8 +35,11 @@ const LARGE_PIECE: usize = 16_384;
 /// Writes the header.
 fn write_header<W: io::Write, const N: usize>(
     session: &Session,
+    totals: Totals,
     writer: &mut Gathered<'_, W, N>,
 ) -> Result<(), WriteFault>
+    requires splices { totals.splices ≡ length (splices_in session.now.revisions) }
+    requires rows { totals.rows ≡ length (rows_in session.now.revisions) }
     ensures { WritesGathered (output W.contents writer.old) (output W.contents writer.new)
         (spelled header_layout (header_numbers (image_of session.now))) result }
 {
@@ -46,8 +49,8 @@ fn write_header<W: io::Write, const N: usize>(
         sources: space.source_count(),
         nodes: space.count(),
         revisions: session.count(),
-        splices: count_splices(session),
-        rows: count_rows(session),
+        splices: totals.splices,
+        rows: totals.rows,
         pool: space.pool_len(),
     };
     writer.put(header_record(counts).as_slice())
@@ -81,8 +84,8 @@ fn function_at(space: &Store<Coded>, id: NodeId, view: NodeView) -> Option<Coded
     }
 }
 
-/// Writes the nodes.
-fn write_nodes<W: io::Write, const N: usize>(
+/// Writes the nodes, one after the other.
+fn write_all_nodes<W: io::Write, const N: usize>(
     space: &Store<Coded>,
     writer: &mut Gathered<'_, W, N>,
 ) -> Result<(), WriteFault>
@@ -101,6 +104,22 @@ fn write_nodes<W: io::Write, const N: usize>(
         writer.put(record.as_slice())?;
     }
     Ok(())
+}
+
+/// Writes the nodes. Where there are none, no room for a record is set up.
+fn write_nodes<W: io::Write, const N: usize>(
+    space: &Store<Coded>,
+    writer: &mut Gathered<'_, W, N>,
+) -> Result<(), WriteFault>
+    requires { IsKept coded_byte space.now }
+    ensures bytes { WritesGathered (output W.contents writer.old) (output W.contents writer.new)
+        (flat_map node_spelling (nodes_of space.now)) result }
+    ensures fits { OnOk result (HoldsFit space.now (length space.now.nodes)) }
+{
+    if space.count() == 0 {
+        return Ok(());
+    }
+    write_all_nodes(space, writer)
 }
 
 /// Writes one block of the pool.
@@ -143,12 +162,13 @@ fn write_sections<W: io::Write, const N: usize>(
     ensures fits { OnOk result (SectionsFit session.now) }
 {
     let space = session.space();
-    write_header(session, writer)?;
+    let totals = count_all(session);
+    write_header(session, totals, writer)?;
     write_sources(space, writer)?;
     write_nodes(space, writer)?;
     write_revisions(session, writer)?;
-    write_splices(session, writer)?;
-    write_rows(session, writer)?;
+    write_splices(session, totals.splices, writer)?;
+    write_rows(session, totals.rows, writer)?;
     write_pool(space, writer)
 }
 
@@ -213,6 +233,21 @@ fn least_len(session: &Session) -> u64 {
         .saturating_add(u64::from(session.count()) * REVISION_SIZE as u64)
 }
 
+/// Writes the image of a session by pieces.
+#[inline(never)]
+fn write_in_pieces<W: io::Write>(session: &Session, writer: &mut W) -> Result<(), WriteFault>
+    requires { IsKept coded_byte session.now.held }
+    ensures written { Writes (W.contents writer.old) (W.contents writer.new)
+        (spelling (image_of session.now)) result }
+    ensures fits { OnOk result (SectionsFit session.now) }
+{
+    if least_len(session) <= SMALL_PIECE as u64 {
+        write_small(session, writer)
+    } else {
+        write_large(session, writer)
+    }
+}
+
 /// Writes the image of a session by pieces that are no longer than is worth while.
 fn write_by_size<W: io::Write>(session: &Session, writer: &mut W) -> Result<(), WriteFault>
     requires { IsKept coded_byte session.now.held }
@@ -220,13 +255,11 @@ fn write_by_size<W: io::Write>(session: &Session, writer: &mut W) -> Result<(), 
         (spelling (image_of session.now)) result }
     ensures fits { OnOk result (SectionsFit session.now) }
 {
-    let len = least_len(session);
-    if len <= SHORT {
+    let records = u64::from(session.count()) + u64::from(session.space().count());
+    if records <= FEW_RECORDS {
         write_short(session, writer)
-    } else if len <= SMALL_PIECE as u64 {
-        write_small(session, writer)
     } else {
-        write_large(session, writer)
+        write_in_pieces(session, writer)
     }
 }
 

@@ -15,5 +15,5 @@ returns g c =
     let nodes : c.count.result ≡ length (nodes_of v.held) = rw length-map-range_with_len (rw c.space-space.ensures.store at c.count.ensures.count) in
     let revisions : c.count-2.result ≡ length (map recorded_revision v.revisions) = rw length-map c.count-2.ensures.value in
     let pool : c.pool_len.result ≡ length v.held.pool.bytes = rw c.space-space.ensures.store at c.pool_len.ensures.value in
-    let same : c.as_slice.result.now ≡ spelled header_layout (header_numbers (image_of v)) = c.as_slice.ensures ∙ (rw (sources, nodes, revisions, c.count_splices.ensures, c.count_rows.ensures, pool) at c.header_record.ensures) in
+    let same : c.as_slice.result.now ≡ spelled header_layout (header_numbers (image_of v)) = c.as_slice.ensures ∙ (rw (sources, nodes, revisions, c.requires.splices, c.requires.rows, pool) at c.header_record.ensures) in
     gathers_slice (output g.W.Write.contents c.args.writer.now) (output g.W.Write.contents c.put.new.self) _ _ c.put.result same c.put.ensures

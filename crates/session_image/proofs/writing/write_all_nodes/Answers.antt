@@ -5,7 +5,7 @@ use Rattle.session_image.specs.Gathering.{output}
 use Rattle.session_image.specs.Written.{nodes_of}
 use Rattle.session_image.proofs.Gathering.{put_failed, sends_slice, put_succeeded, put_all, put_part, put_more}
 use Rattle.session_image.proofs.HeldNodes.{node_found, holds_fit_more}
-use Rattle.session_image.proofs.writing.write_nodes.Goals as goal
+use Rattle.session_image.proofs.writing.write_all_nodes.Goals as goal
 
 pub returns-in_err-put-clause-bytes : goal.returns-in_err-put-clause-bytes
 returns-in_err-put-clause-bytes g c =

@@ -6,7 +6,7 @@ use Rattle.session_image.specs.Gathering.{output}
 use Rattle.session_image.proofs.Sections.{get_some, flat_twice}
 use Rattle.session_image.proofs.Gathering.{put_failed, put_succeeded, sends_slice, put_part, put_more, put_all}
 use Rattle.session_image.proofs.SpliceLists.{splices_spelling, found_splices, splices_fit_more}
-use Rattle.session_image.proofs.revisions.write_splices.Goals as goal
+use Rattle.session_image.proofs.revisions.write_all_splices.Goals as goal
 
 pub returns-in_err-write_each_splice-clause-bytes : goal.returns-in_err-write_each_splice-clause-bytes
 returns-in_err-write_each_splice-clause-bytes g c =
