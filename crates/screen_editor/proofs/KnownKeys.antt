@@ -17,17 +17,18 @@ use Rattle.edit_commands.specs.Session.{HoldsHistory, SessionValue}
 use Rattle.screen_editor.specs.declared.fault.KeyFault.{KeyFault}
 use Rattle.screen_editor.specs.declared.key.Key.{Key}
 use Rattle.screen_editor.specs.declared.key.Key.TheVariants.{Typed, EraseBefore, EraseAt, Left, Right, LineStart, LineEnd, Up, Down, Mark, Cut, Paste, DropCut, Undo, Balance, Save, Leave, Nothing}
-use Rattle.screen_editor.specs.declared.known.KnownLine.{KnownLine}
+use Rattle.text_lines.specs.declared.known.KnownLine.{KnownLine}
 use Rattle.screen_editor.specs.Editing.{Editing, EachCurrent, current_cell, current_len, current_root, state_of}
 use Rattle.screen_editor.specs.Keys.{looks_for_lines}
-use Rattle.screen_editor.specs.KnownLines.{IsKnownIn, IsLineOf}
-use Rattle.screen_editor.specs.KnownTexts.{IsKnownLine, IsToldByOthers, StaysKnown}
+use Rattle.text_lines.specs.KnownLines.{IsKnownIn, IsLineOf}
+use Rattle.text_lines.specs.StatedCells.{IsToldByOthers}
+use Rattle.screen_editor.specs.KnownTexts.{IsKnownLine, StaysKnown}
 use Rattle.screen_editor.specs.LineKeys.{DoesStated}
 use Rattle.screen_editor.specs.Machine.{done, edited, revised}
 use Rattle.screen_editor.specs.Revising.{KeepsAll}
 use Rattle.screen_editor.specs.State.{EditorState, current, last_revision}
 use Rattle.screen_editor.proofs.KeyPlans.{current_text_len}
-use Rattle.screen_editor.proofs.KnownLaws.{before_erased, before_typed, behind_erased, behind_typed}
+use Rattle.text_lines.proofs.KnownLaws.{before_erased, before_typed, behind_erased, behind_typed}
 use Rattle.screen_editor.proofs.LineTurns.{current_text}
 use Rattle.screen_editor.proofs.StatedTexts.{Becomes, stated_before}
 use Rattle.screen_editor.proofs.ToldKeys.{kept_texts}

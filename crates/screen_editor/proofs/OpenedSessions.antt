@@ -1,7 +1,6 @@
 -- A session that is gone on with keeps to the editor's rules; a saved one is opened with the texts and the priors that it had.
-use Rattle.std.proofs.Common.{◌≡◌, ℕ, ◌+◌, ◌<◌, ◌≤◌, List, [], length, map, Option, None, refl, sym, ap, arith, ◌∙◌}
+use Rattle.std.proofs.Common.{◌≡◌, ℕ, ◌<◌, ◌≤◌, List, [], length, Option, None, refl, sym, ap, arith, ◌∙◌}
 use Rattle.std.proofs.lemmas.List.{length-map}
-use Rattle.span_certificate.specs.declared.edit.Edit.{Edit}
 use Rattle.edit_commands.specs.declared.revision.Revision.{Revision}
 use Rattle.edit_commands.specs.Session.{SessionValue, IsSession, length_at, texts_of}
 use Rattle.screen_editor.specs.declared.workspace.TheConstants.{LONGEST_TEXT}
@@ -9,7 +8,7 @@ use Rattle.screen_editor.specs.Editing.{Editing, IsEditing, state_of}
 use Rattle.screen_editor.specs.Opening.{GoesOnFrom, OpensSession, none, at_first_byte, there}
 use Rattle.screen_editor.specs.Priors.{priors_of}
 use Rattle.screen_editor.specs.Recorded.{edits_of}
-use Rattle.screen_editor.specs.State.{EditorState, reopened}
+use Rattle.screen_editor.specs.State.{reopened}
 use Rattle.screen_editor.proofs.PriorLaws.{count_priors, session_earlier}
 
 pub opened_kept : (v : SessionValue) → IsSession v → 1 ≤ length v.revisions → ((k : ℕ) → k < length v.revisions → length_at v k ≤ LONGEST_TEXT) → IsEditing (at_first_byte v)

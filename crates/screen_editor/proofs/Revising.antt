@@ -1,12 +1,10 @@
 -- A session that is edited, with one revision more or with a command refused, still keeps to its rules.
-use Rattle.std.proofs.Common.{◌≡◌, ℕ, zero, suc, ◌+◌, ◌-◌, ◌<◌, ◌≤◌, List, [], ◌∷◌, ◌++◌, length, get_or, map, Option, Some, None, Bool, false, Result, Ok, Err, refl, sym, ap, subst, arith, ◌∙◌, inl, inr, IfSome}
-use Rattle.std.specs.Prelude.{IsErrOf, slice_get, ◌||◌, ◌==◌, if◌then◌else◌, nat_lt}
+use Rattle.std.proofs.Common.{◌≡◌, ℕ, ◌+◌, ◌-◌, ◌<◌, ◌≤◌, List, [], ◌∷◌, ◌++◌, length, get_or, map, Option, Some, None, Bool, false, Result, Ok, Err, refl, sym, ap, subst, arith, ◌∙◌, inl, inr, IfSome}
+use Rattle.std.specs.Prelude.{IsErrOf, ◌||◌, ◌==◌, if◌then◌else◌, nat_lt}
 use Rattle.std.proofs.lemmas.Bool.{cases_lt, cases_Bool, le-leb, lt-leb, le-ltb, leb-true, or_from}
 use Rattle.std.proofs.lemmas.List.{length-append, get_or_append_left}
 use Rattle.std.proofs.Math.Seq.{get_or-append_seam}
 use Rattle.std.proofs.Math.Path.{Path}
-use Rattle.std.proofs.lemmas.Option.{same_Some}
-use Rattle.circular_buffer.proofs.Places.{slice_get-append_left, slice_get-append_right}
 use Rattle.leaf_buffer.specs.declared.block.TheConstants.{BLOCK_SIZE}
 use Rattle.rope_node.specs.declared.limits.TheConstants.{TEXT_LIMIT}
 use Rattle.edit_commands.specs.declared.command.Command.{Command}

@@ -7,8 +7,8 @@ use Rattle.lazy_file.proofs.LaterReads.{reads_told}
 use Rattle.cord_position.specs.Fetched.{InCells}
 use Rattle.lazy_file.specs.declared.faults.SourceFault.TheVariants.{Device}
 use Rattle.screen_editor.specs.declared.fault.End.{End}
-use Rattle.screen_editor.specs.declared.fault.FrameFault.{FrameFault}
-use Rattle.screen_editor.specs.declared.fault.FrameFault.TheVariants as Frames
+use Rattle.text_lines.specs.declared.fault.FrameFault.{FrameFault}
+use Rattle.text_lines.specs.declared.fault.FrameFault.TheVariants as Frames
 use Rattle.screen_editor.specs.declared.fault.KeyFault.{KeyFault}
 use Rattle.screen_editor.specs.declared.fault.KeyFault.TheVariants as Fault
 use Rattle.screen_editor.specs.declared.fault.RunFault.{RunFault}
@@ -16,7 +16,8 @@ use Rattle.screen_editor.specs.declared.fault.RunFault.TheVariants.{Read, Write,
 use Rattle.screen_editor.specs.declared.key.Step.{Step}
 use Rattle.screen_editor.specs.Editing.{Editing, EditorValue, current_cell, current_len}
 use Rattle.screen_editor.specs.Keys.{key_of}
-use Rattle.screen_editor.specs.Refusals.{KeyAsks, frame_source_fault, key_source_fault}
+use Rattle.text_lines.specs.Showing.{frame_source_fault}
+use Rattle.screen_editor.specs.Refusals.{KeyAsks, key_source_fault}
 use Rattle.screen_editor.specs.Runs.{EndsOver, Follow, IsRun}
 
 -- one of these keys told that a device failed

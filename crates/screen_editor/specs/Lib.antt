@@ -1,7 +1,5 @@
 pub mod Recorded
 pub mod Keys
-pub mod Lines
-pub mod Blocks
 pub mod State
 pub mod Machine
 pub mod Frame
@@ -15,7 +13,4 @@ pub mod Runs
 pub mod Turns
 pub mod Playing
 pub mod Priors
-pub mod Rows
-pub mod KnownLines
-pub mod HeldBytes
 pub mod KnownTexts

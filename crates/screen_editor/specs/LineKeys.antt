@@ -12,7 +12,7 @@ use Rattle.screen_editor.specs.declared.fault.KeyFault.TheVariants as Fault
 use Rattle.screen_editor.specs.declared.key.Key.{Key}
 use Rattle.screen_editor.specs.Editing.{Editing, EachCurrent, current_len, current_root, state_of}
 use Rattle.screen_editor.specs.Keys.{looks_for_lines}
-use Rattle.screen_editor.specs.Lines.{line_start, line_end, place_up, place_down}
+use Rattle.text_lines.specs.Lines.{line_start, line_end, place_up, place_down}
 use Rattle.screen_editor.specs.Machine.{done}
 use Rattle.screen_editor.specs.Refusals.{GrowsTooLong, IsPlainFault, KeyAsks, MakesRevision, key_source_fault}
 use Rattle.screen_editor.specs.Revising.{AppliesCommand, KeepsAll}

@@ -8,7 +8,7 @@ use Rattle.screen_editor.specs.declared.key.Key.{Key}
 use Rattle.screen_editor.specs.declared.key.Key.TheVariants.{Typed, EraseBefore, EraseAt, Left, Right, LineStart, LineEnd, Up, Down, Mark, Cut, Paste, DropCut, Undo, Balance, Save, Leave, Nothing}
 use Rattle.screen_editor.specs.declared.cut_span.CutSpan.{CutSpan}
 use Rattle.screen_editor.specs.declared.cut_span.TheConstants.{MOST_CUTS}
-use Rattle.screen_editor.specs.Lines.{line_start, line_end, place_up, place_down}
+use Rattle.text_lines.specs.Lines.{line_start, line_end, place_up, place_down}
 use Rattle.screen_editor.specs.State.{EditorState, last_revision, text_of, prior_of, current}
 
 abbrev pub moved : EditorState → ℕ → EditorState

@@ -1,6 +1,5 @@
 -- The session that an editor begins with.
 use Rattle.std.specs.Prelude.{◌≡◌, ◌⊎◌, ℕ, ◌≤◌, ◌<◌, List, [], ◌∷◌, length, get_or, None, Err}
-use Rattle.edit_commands.specs.declared.fault.EditFault.{EditFault}
 use Rattle.edit_commands.specs.Applying.{Applies, AppliesOrNot}
 use Rattle.edit_commands.specs.Session.{SessionValue, length_at, texts_of}
 use Rattle.screen_editor.specs.declared.fault.EditorFault.{EditorFault}

@@ -1,8 +1,6 @@
--- Why a key is refused, why there is no frame, and why there is no editor.
-use Rattle.std.specs.Prelude.{◌≡◌, ℕ, ◌+◌, ◌≤◌, ◌<◌, List, [], ◌∷◌, length, get_or, Option, Some, None, Result, IsTrue}
-use Rattle.rope_node.specs.Denotes.{Cell}
+-- Why a key is refused, and why there is no editor.
+use Rattle.std.specs.Prelude.{◌≡◌, ℕ, ◌+◌, ◌≤◌, ◌<◌, List, [], ◌∷◌, length, get_or, Option, Some, None, IsTrue}
 use Rattle.lazy_file.specs.SourceTexts.{Stated}
-use Rattle.lazy_file.specs.Readings.{Reading, Reads, fault_by}
 use Rattle.lazy_file.specs.declared.faults.SourceFault.{SourceFault}
 use Rattle.cord_position.specs.Fetched.{InCells}
 use Rattle.edit_commands.specs.declared.command.Command.{Command}
@@ -12,8 +10,6 @@ use Rattle.span_certificate.specs.declared.edit.TheConstants.{MOST_REVISIONS}
 use Rattle.edit_commands.specs.Applying.{IsLaterFault}
 use Rattle.screen_editor.specs.declared.fault.EditorFault.{EditorFault}
 use Rattle.screen_editor.specs.declared.fault.EditorFault.TheVariants as New
-use Rattle.screen_editor.specs.declared.fault.FrameFault.{FrameFault}
-use Rattle.screen_editor.specs.declared.fault.FrameFault.TheVariants as Frame
 use Rattle.screen_editor.specs.declared.fault.KeyFault.{KeyFault}
 use Rattle.screen_editor.specs.declared.fault.KeyFault.TheVariants as Fault
 use Rattle.screen_editor.specs.declared.key.Key.{Key}
@@ -58,18 +54,9 @@ abbrev pub key_source_fault : KeyFault → Option SourceFault
 key_source_fault (Fault.Source fault) = Some fault
 key_source_fault other = None
 
-abbrev pub frame_source_fault : FrameFault → Option SourceFault
-frame_source_fault (Frame.Source fault) = Some fault
-frame_source_fault Frame.Memory = None
-
 -- a place that a key asks for: it looks for line breaks, and some cell of the current text is that place
 abbrev pub KeyAsks : Key → Editing → ℕ → ℕ → Type 0
 KeyAsks key e s p = IsTrue (looks_for_lines key) × InCells (current_cell e) 0 (current_len e) s p
-
--- what a call does that may read these cells, and takes memory
-abbrev pub ReadsToShow : {X : Type 0} → Reading → Reading → (ℕ → Cell) → ℕ → Result X FrameFault → Type 0
-ReadsToShow before after cell len outcome =
-    Reads before after (InCells cell 0 len) (fault_by frame_source_fault outcome)
 
 -- the first source is too long
 abbrev pub IsTooLong : Stated → Type 0

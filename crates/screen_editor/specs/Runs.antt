@@ -8,7 +8,7 @@ use Rattle.lazy_file.specs.Readings.{Reading}
 use Rattle.cord_position.specs.Fetched.{IsStated}
 use Rattle.screen_editor.specs.declared.fault.End.{End}
 use Rattle.screen_editor.specs.declared.fault.End.TheVariants.{Save, Leave}
-use Rattle.screen_editor.specs.declared.fault.FrameFault.{FrameFault}
+use Rattle.text_lines.specs.declared.fault.FrameFault.{FrameFault}
 use Rattle.screen_editor.specs.declared.fault.KeyFault.{KeyFault}
 use Rattle.screen_editor.specs.declared.key.Step.{Step}
 use Rattle.screen_editor.specs.declared.running.TheConstants.{MOST_KEYS}
@@ -19,7 +19,7 @@ use Rattle.screen_editor.specs.Keys.{answer_to, key_of}
 use Rattle.screen_editor.specs.Revising.{TakesKey}
 use Rattle.byte_output.specs.Prefix.{AppendsPrefix}
 use Rattle.screen_editor.specs.Frame.{frame_of}
-use Rattle.screen_editor.specs.Refusals.{ReadsToShow}
+use Rattle.text_lines.specs.Showing.{ReadsToShow}
 
 -- the bytes that show it, whatever bytes the sources have that agree with what they state, where each cell of the text
 -- is stated

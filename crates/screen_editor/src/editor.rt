@@ -1,8 +1,9 @@
 //! The editor: a workspace over the sources that its text may lie in.
 
 ghost use Rattle.std.specs.Prelude.{◌≡◌, ◌↔◌, IfOk, IfErr, IsErrOf, IsTrue, OnErr};
+ghost use Rattle.std.specs.Option.{option_map};
 ghost use Rattle.cord_position.specs.Fetched.{ReadsSpan};
-ghost use Rattle.screen_editor.specs.Editing.{IsEditor, current_cell, current_len, over, seen};
+ghost use Rattle.screen_editor.specs.Editing.{IsEditor, current_cell, current_len, key_code, over, seen};
 ghost use Rattle.screen_editor.specs.Keys.{key_of, looks_for_lines};
 ghost use Rattle.screen_editor.specs.KnownTexts.{IsKnownLine};
 ghost use Rattle.screen_editor.specs.LineKeys.{FindsLinePlace, Takes};
@@ -11,17 +12,16 @@ ghost use Rattle.screen_editor.specs.Revising.{IsMade, TakesKey};
 ghost use Rattle.screen_editor.specs.Refusals.{IsNewFault, IsTooLong};
 ghost use Rattle.screen_editor.specs.Runs.{MakesFrame};
 
-use crate::fault::{EditorFault, FrameFault, KeyFault};
-use crate::frame::frame_about;
+use crate::fault::{EditorFault, KeyFault};
 use crate::key::{Key, Step};
-use crate::known::{KnownLine, known_after};
-use crate::lines::{line_end, line_start, place_down, place_up};
+use crate::known::known_after;
 use crate::opening::{first_session, opened_session};
 use crate::workspace::Workspace;
 use edit_commands::Session;
 use lazy_file::{SourceFault, Sources};
 use std::alloc::Global;
 use std::marker::Model;
+use text_lines::{FrameFault, KnownLine, frame_about, line_end, line_start, place_down, place_up};
 
 /// An editor of a text, over the sources that the text may lie in.
 #[derive(Drop)]
@@ -128,6 +128,16 @@ fn take_key<R: Sources>(
     }
 }
 
+/// The code that a message names, if there is one.
+fn message_code(message: Option<KeyFault>) -> Option<&'static str>
+    ensures { option_map (λ m. m.now) result ≡ option_map key_code message }
+{
+    match message {
+        Some(fault) => Some(fault.code()),
+        None => None,
+    }
+}
+
 /// What the screen shows.
 fn frame_of<R: Sources>(
     alloc: Global,
@@ -141,7 +151,7 @@ fn frame_of<R: Sources>(
         (over (R.reading sources.new) workspace.now) }
 {
     let (root, place) = (workspace.root(), workspace.place());
-    let (last, message) = (workspace.last(), workspace.message());
+    let (last, message) = (workspace.last(), message_code(workspace.message()));
     frame_about(
         alloc,
         workspace.session().space(),

@@ -7,7 +7,8 @@ ghost use Rattle.screen_editor.specs.Editing.{edit_code, key_code};
 use byte_output::WriteFault;
 use edit_commands::EditFault;
 use lazy_file::SourceFault;
-use std::alloc::{AllocError, AllocFailed};
+use std::alloc::AllocError;
+use text_lines::FrameFault;
 
 /// Why no editor was made.
 #[derive(Clone, Copy, Debug, PartialEq, Eq)]
@@ -90,45 +91,6 @@ impl KeyFault {
             KeyFault::Edit(fault) => edit_code(fault),
             KeyFault::Source(fault) => source_code(fault),
         }
-    }
-}
-
-/// Why no frame was made.
-#[derive(Clone, Copy, Debug, PartialEq, Eq)]
-pub enum FrameFault {
-    /// A byte to be shown, or a line break, could not be read.
-    Source(SourceFault),
-    /// Memory was refused.
-    Memory,
-}
-
-impl From<SourceFault> for FrameFault {
-    ghost use Rattle.screen_editor.specs.declared.fault.FrameFault.TheVariants.{Source};
-
-    ghost from_gives = { λ e f. f ≡ Source e };
-
-    fn from(fault: SourceFault) -> FrameFault {
-        FrameFault::Source(fault)
-    }
-}
-
-impl From<AllocError> for FrameFault {
-    ghost use Rattle.screen_editor.specs.declared.fault.FrameFault.TheVariants.{Memory};
-
-    ghost from_gives = { λ _ f. f ≡ Memory };
-
-    fn from(_refused: AllocError) -> FrameFault {
-        FrameFault::Memory
-    }
-}
-
-impl<T: Drop> From<AllocFailed<T>> for FrameFault {
-    ghost use Rattle.screen_editor.specs.declared.fault.FrameFault.TheVariants.{Memory};
-
-    ghost from_gives = { λ _ f. f ≡ Memory };
-
-    fn from(_refused: AllocFailed<T>) -> FrameFault {
-        FrameFault::Memory
     }
 }
 

@@ -13,7 +13,8 @@ ghost use Rattle.screen_editor.specs.State.{reopened};
 /// The keys behind which a run goes on are all kept, and of those of a run that a key ended all but that one.
 pub fn kept_keys()
     ensures going { (keys : List ℕ) → GoesOn keys → kept_of keys ≡ keys }
-    ensures ended { (before : List ℕ) (last : ℕ) → GoesOn before → EndsRun last → kept_of (before ++ last ∷ []) ≡ before }
+    ensures ended { (before : List ℕ) (last : ℕ) → GoesOn before → EndsRun last
+        → kept_of (before ++ last ∷ []) ≡ before }
 {}
 
 /// A session with the commands and the texts of an editor's, where it is gone on with, is in the editor's last state but for the place, the mark, the

@@ -1,7 +1,4 @@
-use Rattle.std.proofs.Common.{◌≡◌, [], List, length, get_or, inl, inr, arith, refl}
-use Rattle.std.proofs.lemmas.Bool.{cases_lt}
-use Rattle.edit_commands.specs.declared.revision.Revision.{Revision}
-use Rattle.screen_editor.specs.declared.workspace.TheConstants.{LONGEST_TEXT}
+use Rattle.std.proofs.Common.{arith, refl}
 use Rattle.screen_editor.proofs.FirstTexts.{first_made, first_short, is_short_source}
 use Rattle.screen_editor.proofs.PriorLaws.{none_there}
 use Rattle.screen_editor.proofs.opening.opened_session.Goals as goal

@@ -1,0 +1,101 @@
+-- A line of a text, and what it is where a byte is put into the text or goes out of it.
+use Rattle.std.proofs.Common.{◌≡◌, ℕ, ◌+◌, ◌-◌, ◌<◌, ◌≤◌, true, not, List, [], ◌∷◌, ◌++◌, length, take, drop, get_or, Option, sym, ap, subst, ◌∙◌, arith}
+use Rattle.std.specs.List.{position_or_len}
+use Rattle.std.proofs.lemmas.List.{get_or-append_right, get_or-drop, get_or-take, get_or_append_left, length-append, length-drop, length-take-le}
+use Rattle.std.proofs.lemmas.List.Sums.{fails_before_first, passes_at_first, position_or_len_is, prefix_len-le-length, suffix_len_is}
+use Rattle.span_certificate.specs.Commands.{replaced}
+use Rattle.text_lines.specs.declared.known.KnownLine.{KnownLine}
+use Rattle.text_lines.specs.KnownLines.{HoldsPlace, IsKnownIn, IsLineOf}
+use Rattle.text_lines.specs.Lines.{is_break, column, line_start, line_end}
+use Rattle.text_lines.specs.Rows.{IsLineStart}
+
+-- ---- a line tells where the line of each of its places begins and ends
+
+pub tells_start : (t : List ℕ) (line : KnownLine) (p : ℕ) → IsLineOf t line → line.start ≤ p → p ≤ line.end → line.start ≡ line_start t p
+tells_start t line p h from to =
+    let long : length (take p t) ≡ p = length-take-le p t (omega (arith, to, h.inside)) in
+    let at : column t p ≡ length (take p t) - line.start =
+    suffix_len_is (λ b. not (is_break b)) (take p t) line.start 0 (omega (arith, long, from))
+    (λ k above below. rw (get_or-take p t k 0 (omega (arith, below, long))) (ap not (h.plain k above (omega (arith, below, long, to)))))
+    (λ some. rw (get_or-take p t (line.start - 1) 0 (omega (arith, some, from))) (ap not (h.begins (omega (arith, some))))) in
+    omega (arith, at, long, from)
+
+pub tells_end : (t : List ℕ) (line : KnownLine) (p : ℕ) → IsLineOf t line → line.start ≤ p → p ≤ line.end → line.end ≡ line_end t p
+tells_end t line p h from to =
+    let rest = length-drop p t in
+    let back : p + (line.end - p) ≡ line.end = omega (arith, to) in
+    let at : position_or_len is_break (drop p t) ≡ line.end - p =
+    position_or_len_is is_break (drop p t) (line.end - p) 0 (omega (arith, rest, h.inside))
+    (λ k below. rw (get_or-drop p t k 0) (h.plain (p + k) (omega (arith, from)) (omega (arith, below, to))))
+    (λ lt. rw (get_or-drop p t (line.end - p) 0, back) (h.ends (omega (arith, lt, rest, to)))) in
+    omega (arith, at, to)
+
+-- ---- a line that was found
+
+-- a break stands where the line of a place ends, or the text ends there
+break_at_end : (t : List ℕ) (s e : ℕ) → e ≡ line_end t s → e < length t → is_break (get_or t e 0) ≡ true
+break_at_end t s e is lt =
+    let width = position_or_len is_break (drop s t) in
+    ap (λ i. is_break (get_or t i 0)) is ∙ ap is_break (sym (get_or-drop s t width 0)) ∙ passes_at_first is_break (drop s t) 0 (omega (arith, is, lt, length-drop s t))
+
+pub line_found : (t : List ℕ) (s e : ℕ) → IsLineStart t s → s ≤ length t → e ≡ line_end t s → IsLineOf t (record { start = s; end = e })
+line_found t s e begins inside is =
+    let rest = length-drop s t in
+    let most = prefix_len-le-length (λ b. not (is_break b)) (drop s t) in
+    record {
+      order = omega (arith, is);
+      inside = omega (arith, is, most, rest, inside);
+      begins = begins;
+      plain = λ k from below.
+          let back : s + (k - s) ≡ k = omega (arith, from) in
+          ap (λ i. is_break (get_or t i 0)) (sym back) ∙ ap is_break (sym (get_or-drop s t (k - s) 0)) ∙ fails_before_first is_break (drop s t) (k - s) 0 (omega (arith, is, from, below));
+      ends = break_at_end t s e is;
+    }
+
+-- the next one begins behind it
+pub next_begins : (t : List ℕ) (s e : ℕ) → e ≡ line_end t s → e < length t → IsLineStart t (e + 1)
+next_begins t s e is lt some =
+    let back : e + 1 - 1 ≡ e = omega arith in
+    rw back (break_at_end t s e is lt)
+
+-- ---- the bytes of a text of which some were replaced
+
+before_replaced : (t : List ℕ) (p m : ℕ) (x : List ℕ) (k : ℕ) → p ≤ length t → k < p → get_or (replaced t p m x) k 0 ≡ get_or t k 0
+before_replaced t p m x k inside lt =
+    let front = length-take-le p t inside in
+    get_or_append_left (take p t ++ x) (drop (p + m) t) 0 k (omega (arith, front, lt, length-append (take p t) x))
+    ∙ get_or_append_left (take p t) x 0 k (omega (arith, front, lt))
+    ∙ get_or-take p t k 0 lt
+
+behind_replaced : (t : List ℕ) (p m : ℕ) (x : List ℕ) (k j : ℕ) → p ≤ length t → p + length x ≤ k → j + (p + length x) ≡ k + (p + m) → get_or (replaced t p m x) k 0 ≡ get_or t j 0
+behind_replaced t p m x k j inside from at =
+    let front = length-take-le p t inside in
+    let n = p + length x in
+    let place : p + m + (k - n) ≡ j = omega (arith, from, at) in
+    get_or-append_right (take p t ++ x) (drop (p + m) t) n k 0 (omega (arith, front, length-append (take p t) x)) from
+    ∙ get_or-drop (p + m) t (k - n) 0
+    ∙ ap (λ i. get_or t i 0) place
+
+-- a byte that was put in
+pub before_typed : (t : List ℕ) (p b k : ℕ) → p ≤ length t → k < p → get_or (replaced t p 0 (b ∷ [])) k 0 ≡ get_or t k 0
+before_typed t p b k inside lt = before_replaced t p 0 (b ∷ []) k inside lt
+
+pub behind_typed : (t : List ℕ) (p b k j : ℕ) → p ≤ length t → p ≤ j → k ≡ j + 1 → get_or (replaced t p 0 (b ∷ [])) k 0 ≡ get_or t j 0
+behind_typed t p b k j inside from at = behind_replaced t p 0 (b ∷ []) k j inside (omega (arith, from, at)) (omega (arith, at))
+
+-- a byte that went out
+pub before_erased : (t : List ℕ) (p k : ℕ) → p < length t → k < p → get_or (replaced t p 1 []) k 0 ≡ get_or t k 0
+before_erased t p k inside lt = before_replaced t p 1 [] k (omega (arith, inside)) lt
+
+pub behind_erased : (t : List ℕ) (p k j : ℕ) → p < length t → p < j → j ≡ k + 1 → get_or (replaced t p 1 []) k 0 ≡ get_or t j 0
+behind_erased t p k j inside from at = behind_replaced t p 1 [] k j (omega (arith, inside)) (omega (arith, from, at)) (omega (arith, at))
+
+-- ---- a line that is known and holds the place
+
+pub known_start : (t : List ℕ) (known : Option KnownLine) (place : ℕ) (line : KnownLine) → HoldsPlace known place line → IsKnownIn known t → line.start ≡ line_start t place
+known_start t known place line h is = tells_start t line place (subst (λ (o : Option KnownLine). IsKnownIn o t) h.is is) h.from h.to
+
+pub known_end : (t : List ℕ) (known : Option KnownLine) (place : ℕ) (line : KnownLine) → HoldsPlace known place line → IsKnownIn known t → (line.end ≡ line_end t place) × (line.end ≤ length t)
+known_end t known place line h is =
+    let there : IsLineOf t line = subst (λ (o : Option KnownLine). IsKnownIn o t) h.is is in
+    (tells_end t line place there h.from h.to, there.inside)

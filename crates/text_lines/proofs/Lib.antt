@@ -1,0 +1,11 @@
+pub mod LineLaws
+pub mod LineSearches
+pub mod NearLaws
+pub mod KnownLaws
+pub mod HeldLaws
+pub mod RowLaws
+pub mod RowWalk
+pub mod Screens
+pub mod Showing
+pub mod Status
+pub mod WindowLaws

@@ -1,0 +1,33 @@
+-- Bytes of a text that are held, to look for line breaks among them.
+use Rattle.std.specs.Prelude.{◌≡◌, ℕ, ◌+◌, ◌-◌, ◌<◌, ◌≤◌, not, nat_lt, if◌then◌else◌, List, [], length, take, drop, Option, IfSome}
+use Rattle.std.specs.List.{suffix_len}
+use Rattle.text_lines.specs.declared.known.KnownLine.{KnownLine}
+use Rattle.text_lines.specs.KnownLines.{IsKnownIn}
+use Rattle.text_lines.specs.Lines.{is_break}
+use Rattle.text_lines.specs.Rows.{IsLineStart}
+
+-- bytes from a place on; a place where a line begins; and a line that is known
+pub record HeldPart : Type 0 where
+  pub from : ℕ
+  pub bytes : List ℕ
+  pub begun : Option ℕ
+  pub known : Option KnownLine
+
+-- those before a place, or none where it is further than right behind the last one
+abbrev pub held_up_to : HeldPart → ℕ → List ℕ
+held_up_to held place = if nat_lt (held.from + length held.bytes) place then [] else take (place - held.from) held.bytes
+
+-- those from a place on, or none where it is before the first one
+abbrev pub held_starting_at : HeldPart → ℕ → List ℕ
+held_starting_at held place = if nat_lt place held.from then [] else drop (place - held.from) held.bytes
+
+-- they are bytes of this text, and these are lines of it
+pub record AreHeld (held : HeldPart) (t : List ℕ) : Type 0 where
+  pub inside : held.from + length held.bytes ≤ length t
+  pub bytes : held.bytes ≡ take (length held.bytes) (drop held.from t)
+  pub begun : IfSome held.begun (IsLineStart t)
+  pub known : IsKnownIn held.known t
+
+-- a line break is among these bytes: not all of them stand behind the last one
+abbrev pub HasBreak : List ℕ → Type 0
+HasBreak bytes = suffix_len (λ b. not (is_break b)) bytes < length bytes

@@ -1,0 +1,8 @@
+pub mod Lines
+pub mod Blocks
+pub mod Screen
+pub mod Rows
+pub mod KnownLines
+pub mod StatedCells
+pub mod HeldBytes
+pub mod Showing

@@ -1,0 +1,146 @@
+//! Asking for the blocks of a text's bytes, without the bytes: so they are read where a search through these bytes would read them.
+
+ghost use Rattle.std.specs.Prelude.{◌≡◌, ◌<◌, ◌≤◌, ◌+◌, ◌-◌, Some, length, OnOk};
+ghost use Rattle.rope_node.specs.declared.node.NodeView.TheVariants.{Src};
+ghost use Rattle.rope_node.specs.Table.{len_at, view_at};
+ghost use Rattle.rope_node.specs.Denotes.{IsRope, cell_at, rope_len};
+ghost use Rattle.cord_position.specs.Fetched.{ReadsSpan, rope_cell};
+ghost use Rattle.text_lines.specs.Blocks.{block_at};
+
+use cord_position::fill_part;
+use lazy_file::{BLOCK_SIZE, SourceFault, Sources};
+use rope_node::{NodeId, NodeSpace, NodeView, Rope, rope_len};
+
+/// A block of a source.
+#[derive(Clone, Copy, Debug, PartialEq, Eq)]
+struct Block {
+    source: u32,
+    number: u64,
+}
+
+impl Block {
+    /// That of a place of a source.
+    fn at(source: u32, place: u64) -> Block
+        ensures { result ≡ block_at source place }
+    {
+        Block {
+            source,
+            number: place / BLOCK_SIZE as u64,
+        }
+    }
+}
+
+/// Reads the byte at `start` of a leaf, where the last byte that was read lies in another block. The leaf is of this source, from its place `a` on.
+fn ask_byte<S: NodeSpace, T: Sources>(
+    space: &S,
+    sources: &mut T,
+    leaf: NodeId,
+    source: u32,
+    a: u64,
+    start: u64,
+    last: &mut Option<Block>,
+) -> Result<(), SourceFault>
+    requires there { leaf.0 < length (S.table space.now).nodes }
+    requires source { view_at (S.table space.now) leaf.0 ≡ Src source a }
+    requires inside { start + 1 ≤ len_at (S.table space.now) leaf.0 }
+    ensures last { OnOk result (last.new ≡ Some (block_at source (a + start))) }
+    ensures reads { ReadsSpan (T.reading sources.old) (T.reading sources.new)
+        (cell_at (S.table space.now) leaf.0) start (start + 1) result }
+{
+    let _sound = space.node(leaf);
+    let _limit = space.len(leaf);
+    let block = Block::at(source, a + start);
+    if *last != Some(block) {
+        fill_part(space, sources, leaf, start, &mut [0])?;
+    }
+    *last = Some(block);
+    Ok(())
+}
+
+/// Asks for the blocks of the bytes that a leaf has from `start` on, `len` of them, which are fewer than a block's: one block or two. The leaf is of this
+/// source, from its place `a` on.
+fn ask_leaf<S: NodeSpace, T: Sources>(
+    space: &S,
+    sources: &mut T,
+    leaf: NodeId,
+    source: u32,
+    a: u64,
+    start: u64,
+    len: u64,
+    last: &mut Option<Block>,
+) -> Result<(), SourceFault>
+    requires there { leaf.0 < length (S.table space.now).nodes }
+    requires source { view_at (S.table space.now) leaf.0 ≡ Src source a }
+    requires some { 1 ≤ len }
+    requires inside { start + len ≤ len_at (S.table space.now) leaf.0 }
+    ensures last { OnOk result (last.new ≡ Some (block_at source (a + (start + (len - 1))))) }
+    ensures reads { ReadsSpan (T.reading sources.old) (T.reading sources.new)
+        (cell_at (S.table space.now) leaf.0) start (start + len) result }
+{
+    let _limit = space.len(leaf);
+    let end = start + (len - 1);
+    ask_byte(space, sources, leaf, source, a, start, last)?;
+    ask_byte(space, sources, leaf, source, a, end, last)?;
+    Ok(())
+}
+
+/// Asks for the blocks of the bytes of a node from `start` on, `len` of them, leaf by leaf. It goes down by calls of itself.
+fn ask_node<S: NodeSpace, T: Sources>(
+    space: &S,
+    sources: &mut T,
+    node: NodeId,
+    start: u64,
+    len: u64,
+    last: &mut Option<Block>,
+) -> Result<(), SourceFault>
+    requires there { node.0 < length (S.table space.now).nodes }
+    requires some { 1 ≤ len }
+    requires inside { start + len ≤ len_at (S.table space.now) node.0 }
+    ensures reads { ReadsSpan (T.reading sources.old) (T.reading sources.new)
+        (cell_at (S.table space.now) node.0) start (start + len) result }
+{
+    match space.node(node) {
+        NodeView::Cat { l, r } => {
+            let left = space.left_len(node, l);
+            if start >= left {
+                return ask_node(space, sources, r, start - left, len, last);
+            }
+            if len <= left - start {
+                return ask_node(space, sources, l, start, len, last);
+            }
+            let cut = left - start;
+            ask_node(space, sources, l, start, cut, last)?;
+            ask_node(space, sources, r, 0, len - cut, last)
+        }
+        NodeView::Sub { b, i } => ask_node(space, sources, b, i + start, len, last),
+        NodeView::Src { s, a } => ask_leaf(space, sources, node, s, a, start, len, last),
+        NodeView::Lit { .. } | NodeView::Fun => Ok(()),
+    }
+}
+
+/// Asks for the blocks of the bytes of a text from `start` up to `end`, leaf by leaf, in the order in which a read of these bytes would. Pieces of a
+/// source that are shorter than a block lie in one of them or in two, and a block that was just asked for is not asked for again.
+///
+/// # Errors
+///
+/// A source's fault, where a byte is one of that source and the read of it failed.
+pub fn ask_part<S: NodeSpace, T: Sources>(
+    space: &S,
+    sources: &mut T,
+    rope: Rope,
+    start: u64,
+    end: u64,
+) -> Result<(), SourceFault>
+    requires rope { IsRope (S.table space.now) rope }
+    requires inside { end ≤ rope_len (S.table space.now) rope }
+    ensures reads { ReadsSpan (T.reading sources.old) (T.reading sources.new)
+        (rope_cell (S.table space.now) rope) start end result }
+{
+    let _len = rope_len(space, rope);
+    match rope {
+        Some(node) if start < end => {
+            ask_node(space, sources, node, start, end - start, &mut None)
+        }
+        _ => Ok(()),
+    }
+}

@@ -1,0 +1,138 @@
+//! Where a place's line begins, looked for in bytes near the place first, which are held for the line above.
+
+ghost use Rattle.std.specs.Prelude.{◌≡◌, ◌↔◌, ◌≤◌, ◌+◌, ◌-◌, ℕ, List, length, IfOk, IfSome, IsSome};
+ghost use Rattle.rope_node.specs.Denotes.{IsRope, rope_len};
+ghost use Rattle.cord_position.specs.Fetched.{ReadsSpan, rope_cell};
+ghost use Rattle.cord_search.specs.declared.runs.TheConstants.{PIECE};
+ghost use Rattle.cord_search.specs.Stated.{OfText};
+ghost use Rattle.text_lines.specs.HeldBytes.{held_up_to, AreHeld, HasBreak};
+ghost use Rattle.text_lines.specs.Lines.{line_start};
+
+use crate::held::{HeldBytes, NEAR};
+use crate::known::known_about;
+use crate::lines::line_start;
+use crate::near::width_behind;
+use cord_search::{PIECE, clear_behind};
+use lazy_file::{SourceFault, Sources};
+use rope_node::{NodeSpace, Rope, rope_len};
+use std::alloc::Global;
+
+/// One behind the last line break below a place, where it is among the bytes that are held.
+fn start_among(held: &HeldBytes, place: u64) -> Option<u64>
+    ensures inside { IfSome result (λ p. p ≤ place) }
+    ensures is { IfSome result (λ p. (t : List ℕ) → AreHeld held.now t → place ≤ length t → p ≡ line_start t place) }
+    ensures told { IsSome result ↔ HasBreak (held_up_to held.now place) }
+{
+    let near = held.up_to(place);
+    let width = width_behind(near);
+    if width < near.len() {
+        Some(place.saturating_sub(width as u64))
+    } else {
+        None
+    }
+}
+
+/// One behind the last line break below a place, or the text's start: among the held bytes, which reach from the window's first byte up to the place, or by
+/// a search from where no byte of the window's leaf can be one.
+fn start_in_window<S: NodeSpace, T: Sources>(
+    alloc: Global,
+    held: &HeldBytes,
+    space: &S,
+    sources: &mut T,
+    rope: Rope,
+    place: u64,
+) -> Result<u64, SourceFault>
+    requires rope { IsRope (S.table space.now) rope }
+    requires place { place ≤ rope_len (S.table space.now) rope }
+    requires held { OfText (S.table space.now) (T.reading sources.old).stated rope (AreHeld held.now) }
+    requires span { (held.now.from ≤ place - PIECE) × (place ≤ held.now.from + length held.now.bytes) }
+    ensures inside { IfOk result (λ p. p ≤ place) }
+    ensures is { IfOk result (λ p.
+        OfText (S.table space.now) (T.reading sources.old).stated rope (λ t. p ≡ line_start t place)) }
+    ensures reads { ReadsSpan (T.reading sources.old) (T.reading sources.new)
+        (rope_cell (S.table space.now) rope) 0 (rope_len (S.table space.now) rope) result }
+{
+    prove!(place <= rope_len(space, rope));
+    let near = held.up_to(place);
+    let width = width_behind(near);
+    if width < near.len() || width as u64 == place {
+        return Ok(place - width as u64);
+    }
+    let from = place.saturating_sub(PIECE as u64);
+    let back = clear_behind(alloc, space, rope, from, place - from);
+    let start = line_start(alloc, space, sources, rope, None, back)?;
+    Ok(start)
+}
+
+/// One behind the last line break below a place, or the text's start, looked for. It asks for the blocks that a search would ask for, and looks among the bytes that are held; where no
+/// break is among them it holds more: the nearest, then the whole window.
+///
+/// # Errors
+///
+/// A source's fault, where a byte is one of that source and the read of it failed.
+fn find_start<S: NodeSpace, T: Sources>(
+    alloc: Global,
+    held: &mut HeldBytes,
+    space: &S,
+    sources: &mut T,
+    rope: Rope,
+    place: u64,
+) -> Result<u64, SourceFault>
+    requires rope { IsRope (S.table space.now) rope }
+    requires place { place ≤ rope_len (S.table space.now) rope }
+    requires held { OfText (S.table space.now) (T.reading sources.old).stated rope (AreHeld held.old) }
+    ensures inside { IfOk result (λ p. p ≤ place) }
+    ensures is { IfOk result (λ p.
+        OfText (S.table space.now) (T.reading sources.old).stated rope (λ t. p ≡ line_start t place)) }
+    ensures held { IfOk result (λ _.
+        OfText (S.table space.now) (T.reading sources.old).stated rope (AreHeld held.new)) }
+    ensures reads { ReadsSpan (T.reading sources.old) (T.reading sources.new)
+        (rope_cell (S.table space.now) rope) 0 (rope_len (S.table space.now) rope) result }
+{
+    prove!(place <= rope_len(space, rope));
+    if place == 0 {
+        return Ok(0);
+    }
+    let straight = held.is_straight(alloc, space, rope, place);
+    held.ask_before(space, sources, rope, place, straight)?;
+    if let Some(start) = start_among(held, place) {
+        return Ok(start);
+    }
+    held.hold_before(space, sources, rope, place, NEAR, straight)?;
+    if let Some(start) = start_among(held, place) {
+        return Ok(start);
+    }
+    held.hold_before(space, sources, rope, place, PIECE as u64, straight)?;
+    let start = start_in_window(alloc, held, space, sources, rope, place)?;
+    Ok(start)
+}
+
+/// One behind the last line break below a place, or the text's start: as a line tells that is known, or looked for.
+///
+/// # Errors
+///
+/// A source's fault, where a byte is one of that source and the read of it failed.
+pub fn near_start<S: NodeSpace, T: Sources>(
+    alloc: Global,
+    held: &mut HeldBytes,
+    space: &S,
+    sources: &mut T,
+    rope: Rope,
+    place: u64,
+) -> Result<u64, SourceFault>
+    requires rope { IsRope (S.table space.now) rope }
+    requires place { place ≤ rope_len (S.table space.now) rope }
+    requires held { OfText (S.table space.now) (T.reading sources.old).stated rope (AreHeld held.old) }
+    ensures inside { IfOk result (λ p. p ≤ place) }
+    ensures is { IfOk result (λ p.
+        OfText (S.table space.now) (T.reading sources.old).stated rope (λ t. p ≡ line_start t place)) }
+    ensures held { IfOk result (λ _.
+        OfText (S.table space.now) (T.reading sources.old).stated rope (AreHeld held.new)) }
+    ensures reads { ReadsSpan (T.reading sources.old) (T.reading sources.new)
+        (rope_cell (S.table space.now) rope) 0 (rope_len (S.table space.now) rope) result }
+{
+    match known_about(held.known(), place) {
+        Some(line) => Ok(line.start),
+        None => find_start(alloc, held, space, sources, rope, place),
+    }
+}

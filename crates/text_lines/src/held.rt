@@ -1,0 +1,433 @@
+//! Bytes of a text about a place that are held, so that the lines about it are read once.
+
+ghost use Rattle.std.specs.Prelude.{◌≡◌, ◌↔◌, ◌<◌, ◌≤◌, ◌+◌, ◌-◌, [], ℕ, List, length, take, drop, Option, None, Some, IsTrue, IfSome, IfOk, OnOk};
+ghost use Rattle.rope_node.specs.Denotes.{IsRope, rope_len};
+ghost use Rattle.cord_position.specs.Fetched.{ReadsSpan, rope_cell};
+ghost use Rattle.cord_search.specs.declared.runs.TheConstants.{PIECE};
+ghost use Rattle.cord_search.specs.Stated.{OfText};
+ghost use Rattle.text_lines.specs.HeldBytes.{held_up_to, held_starting_at, AreHeld};
+ghost use Rattle.text_lines.specs.declared.known.KnownLine.{KnownLine};
+ghost use Rattle.text_lines.specs.Lines.{line_end};
+
+use crate::asking::ask_part;
+use crate::known::KnownLine;
+use crate::lines::line_end_with;
+use crate::near::read_part;
+use cord_position::Pos;
+use cord_search::PIECE;
+use lazy_file::{SourceFault, Sources};
+use rope_node::{NodeSpace, Rope, rope_len};
+use std::alloc::Global;
+use std::marker::Model;
+
+/// So many bytes are held at most: those that a search looks at at once, and the lines before them.
+const ROOM: usize = PIECE + 1_024;
+
+/// So many bytes before a place are held first where they lie in several leaves: mostly a line break is among them.
+pub const NEAR: u64 = 1_024;
+
+/// Bytes of a text from a place on, and what is known of its lines.
+#[derive(Drop)]
+pub struct HeldBytes {
+    from: u64,
+    /// They stand in the array from here on.
+    start: usize,
+    /// They were read leaf by leaf, by blocks that are kept where a leaf has no more of them.
+    kept: bool,
+    /// The blocks from here on up to those of the bytes that are held were asked for.
+    asked: u64,
+    bytes: [u8; ROOM],
+    /// The leaf that was looked for last: from its first place up to its end.
+    leaf_start: u64,
+    leaf_end: u64,
+    /// Room for a search through the text.
+    searched: [u8; PIECE],
+    /// A place where a line begins.
+    begun: Option<u64>,
+    known: Option<KnownLine>,
+}
+
+impl Model for HeldBytes {
+    ghost use Rattle.std.specs.Prelude.{◌≤◌, drop};
+    ghost use Rattle.text_lines.specs.declared.held.TheConstants.{ROOM};
+    ghost use Rattle.text_lines.specs.HeldBytes.{HeldPart};
+
+    ghost Value = { HeldPart };
+
+    ghost view = { λ h. record { from = h.from; bytes = drop h.start h.bytes; begun = h.begun; known = h.known } };
+
+    ghost invariant = { λ h. h.start ≤ ROOM };
+}
+
+impl HeldBytes {
+    /// No bytes, but a line that is known, or none.
+    pub fn new(known: Option<KnownLine>) -> HeldBytes
+        ensures { result ≡ record { from = 0; bytes = []; begun = None; known = known } }
+    {
+        HeldBytes {
+            from: 0,
+            start: ROOM,
+            kept: true,
+            asked: 0,
+            bytes: [0; ROOM],
+            leaf_start: 0,
+            leaf_end: 0,
+            searched: [0; PIECE],
+            begun: None,
+            known,
+        }
+    }
+
+    /// The line that is known, if one is.
+    pub fn known(&self) -> Option<KnownLine>
+        ensures { result ≡ self.now.known }
+    {
+        self.known
+    }
+
+    /// A line begins at a place.
+    pub fn begin_line(&mut self, place: u64)
+        ensures { self.new ≡ record self.old { begun = Some place } }
+    {
+        self.begun = Some(place);
+    }
+
+    /// The line that begins at `start` ends at `end`, in a text of `len` bytes. Where a line is known to begin there, it is known from now on if it is long, and the
+    /// next one begins behind it.
+    pub fn pass_line(&mut self, start: u64, end: u64, len: u64)
+        ensures bytes { self.new ≡ record self.old { begun = self.new.begun; known = self.new.known } }
+        ensures held { (t : List ℕ) → AreHeld self.old t → start ≤ length t → end ≡ line_end t start → len ≡ length t
+            → AreHeld self.new t }
+        ensures learnt { self.old.begun ≡ Some start → PIECE < end - start
+            → self.new.known ≡ Some (record { start = start; end = end }) }
+    {
+        let Some(begun) = self.begun else {
+            return;
+        };
+        if begun != start {
+            return;
+        }
+        let is_long = end.saturating_sub(start) > PIECE as u64;
+        self.known = if is_long {
+            Some(KnownLine { start, end })
+        } else {
+            self.known
+        };
+        self.begun = if end < len { Some(end + 1) } else { None };
+    }
+
+    /// Whether a place is that of a byte that is held, or right behind the last one.
+    fn reaches(&self, place: u64) -> bool
+        ensures { IsTrue result ↔ (self.now.from ≤ place × place ≤ self.now.from + length self.now.bytes) }
+    {
+        self.from <= place && place - self.from <= (ROOM - self.start) as u64
+    }
+
+    /// The bytes that are held before a place: none where that place is further than right behind the last of them.
+    pub fn up_to(&self, place: u64) -> &[u8]
+        ensures { result.now ≡ held_up_to self.now place }
+    {
+        if self.reaches(place) {
+            &self.bytes[self.start..self.start + (place - self.from) as usize]
+        } else {
+            &self.bytes[..0]
+        }
+    }
+
+    /// The bytes that are held from a place on: none where that place is before the first of them.
+    pub fn starting_at(&self, place: u64) -> &[u8]
+        ensures { result.now ≡ held_starting_at self.now place }
+    {
+        if self.reaches(place) {
+            &self.bytes[self.start + (place - self.from) as usize..]
+        } else {
+            &self.bytes[..0]
+        }
+    }
+
+    /// Holds no bytes, but is ready for those before a place.
+    fn begin_at(&mut self, place: u64)
+        ensures { self.new ≡ record self.old { from = place; bytes = [] } }
+    {
+        self.from = place;
+        self.start = ROOM;
+        self.kept = true;
+        self.asked = place;
+    }
+
+    /// Reads the bytes from `from` on before those that are held, leaf by leaf, and holds them too.
+    fn read_before<S: NodeSpace, T: Sources>(
+        &mut self,
+        space: &S,
+        sources: &mut T,
+        rope: Rope,
+        from: u64,
+    ) -> Result<(), SourceFault>
+        requires rope { IsRope (S.table space.now) rope }
+        requires inside { self.old.from ≤ rope_len (S.table space.now) rope }
+        requires room { self.old.from - from + length self.old.bytes ≤ ROOM }
+        requires held { OfText (S.table space.now) (T.reading sources.old).stated rope (AreHeld self.old) }
+        ensures span { OnOk result ((self.new.from + (self.old.from - from) ≡ self.old.from)
+            × (length self.new.bytes ≡ self.old.from - from + length self.old.bytes)) }
+        ensures held { OnOk result (OfText (S.table space.now) (T.reading sources.old).stated rope (AreHeld self.new)) }
+        ensures reads { ReadsSpan (T.reading sources.old) (T.reading sources.new)
+            (rope_cell (S.table space.now) rope) from self.old.from result }
+    {
+        prove!(self.from <= rope_len(space, rope));
+        let count = self.from.saturating_sub(from);
+        let first = self.start - count as usize;
+        let part = &mut self.bytes[first..self.start];
+        read_part(space, sources, rope, self.from - count, part)?;
+        self.from -= count;
+        self.start = first;
+        Ok(())
+    }
+
+    /// Reads the `PIECE` bytes before a place, and holds them alone. They lie in one leaf, so that they come by one read, and not by blocks that are kept.
+    ///
+    /// # Errors
+    ///
+    /// A source's fault, where a byte is one of that source and the read of it failed.
+    pub fn read_window<S: NodeSpace, T: Sources>(
+        &mut self,
+        space: &S,
+        sources: &mut T,
+        rope: Rope,
+        end: u64,
+    ) -> Result<(), SourceFault>
+        requires rope { IsRope (S.table space.now) rope }
+        requires end { end ≤ rope_len (S.table space.now) rope }
+        requires window { PIECE ≤ end }
+        requires held { OfText (S.table space.now) (T.reading sources.old).stated rope (AreHeld self.old) }
+        ensures span { OnOk result ((self.new.from + PIECE ≡ end) × (length self.new.bytes ≡ PIECE)) }
+        ensures held { OnOk result (OfText (S.table space.now) (T.reading sources.old).stated rope (AreHeld self.new)) }
+        ensures reads { ReadsSpan (T.reading sources.old) (T.reading sources.new)
+            (rope_cell (S.table space.now) rope) (end - PIECE) end result }
+    {
+        prove!(end <= rope_len(space, rope));
+        self.begin_at(end);
+        self.read_before(space, sources, rope, end - PIECE as u64)?;
+        self.kept = false;
+        Ok(())
+    }
+
+    /// Whether only the bytes from `from` on before those that are held are read: where these reach up to `end`, came by blocks that are kept, and there is room.
+    fn takes_before(&self, from: u64, end: u64) -> bool
+        ensures reaches { IsTrue result → (self.now.from ≤ end × end ≤ self.now.from + length self.now.bytes) }
+        ensures room { IsTrue result → self.now.from - from + length self.now.bytes ≤ ROOM }
+    {
+        self.kept && self.reaches(end) && self.from.saturating_sub(from) <= self.start as u64
+    }
+
+    /// Holds the nearest of the `PIECE` bytes before a place alone, and asks for the blocks of those before them, from the first on.
+    fn begin_near<S: NodeSpace, T: Sources>(
+        &mut self,
+        space: &S,
+        sources: &mut T,
+        rope: Rope,
+        end: u64,
+    ) -> Result<(), SourceFault>
+        requires rope { IsRope (S.table space.now) rope }
+        requires end { end ≤ rope_len (S.table space.now) rope }
+        requires held { OfText (S.table space.now) (T.reading sources.old).stated rope (AreHeld self.old) }
+        ensures held { OnOk result (OfText (S.table space.now) (T.reading sources.old).stated rope (AreHeld self.new)) }
+        ensures reads { ReadsSpan (T.reading sources.old) (T.reading sources.new)
+            (rope_cell (S.table space.now) rope) (end - PIECE) end result }
+    {
+        prove!(end <= rope_len(space, rope));
+        let from = end.saturating_sub(PIECE as u64);
+        let near = end.saturating_sub(NEAR);
+        ask_part(space, sources, rope, from, near)?;
+        self.begin_at(end);
+        self.read_before(space, sources, rope, near)?;
+        self.asked = from;
+        Ok(())
+    }
+
+    /// Asks for the blocks of the `PIECE` bytes before a place, or of all where there are fewer, from the first on: not again for bytes that it asked for on the way to
+    /// those that are held, and for none where the bytes lie in one leaf, which `straight` says. Where none are held it holds the nearest.
+    ///
+    /// # Errors
+    ///
+    /// A source's fault, where a byte is one of that source and the read of it failed.
+    pub fn ask_before<S: NodeSpace, T: Sources>(
+        &mut self,
+        space: &S,
+        sources: &mut T,
+        rope: Rope,
+        end: u64,
+        straight: bool,
+    ) -> Result<(), SourceFault>
+        requires rope { IsRope (S.table space.now) rope }
+        requires end { end ≤ rope_len (S.table space.now) rope }
+        requires held { OfText (S.table space.now) (T.reading sources.old).stated rope (AreHeld self.old) }
+        ensures held { OnOk result (OfText (S.table space.now) (T.reading sources.old).stated rope (AreHeld self.new)) }
+        ensures reads { ReadsSpan (T.reading sources.old) (T.reading sources.new)
+            (rope_cell (S.table space.now) rope) (end - PIECE) end result }
+    {
+        prove!(end <= rope_len(space, rope));
+        if straight {
+            return Ok(());
+        }
+        if !self.kept || !self.reaches(end) {
+            return self.begin_near(space, sources, rope, end);
+        }
+        let from = end.saturating_sub(PIECE as u64);
+        ask_part(space, sources, rope, from, self.asked.min(end))?;
+        self.asked = self.asked.min(from);
+        Ok(())
+    }
+
+    /// Holds the `count` bytes before a place, at most `PIECE`, or all where there are fewer: where the `PIECE` bytes before it lie in one leaf, which `straight` says, by one
+    /// read of these. Else it reads leaf by leaf, by blocks that are kept. Of bytes that are held already and came so it reads none again.
+    ///
+    /// # Errors
+    ///
+    /// A source's fault, where a byte is one of that source and the read of it failed.
+    pub fn hold_before<S: NodeSpace, T: Sources>(
+        &mut self,
+        space: &S,
+        sources: &mut T,
+        rope: Rope,
+        end: u64,
+        count: u64,
+        straight: bool,
+    ) -> Result<(), SourceFault>
+        requires rope { IsRope (S.table space.now) rope }
+        requires end { end ≤ rope_len (S.table space.now) rope }
+        requires count { count ≤ PIECE }
+        requires straight { IsTrue straight → PIECE ≤ end }
+        requires held { OfText (S.table space.now) (T.reading sources.old).stated rope (AreHeld self.old) }
+        ensures span { OnOk result (self.new.from ≤ end - count × end ≤ self.new.from + length self.new.bytes) }
+        ensures held { OnOk result (OfText (S.table space.now) (T.reading sources.old).stated rope (AreHeld self.new)) }
+        ensures reads { ReadsSpan (T.reading sources.old) (T.reading sources.new)
+            (rope_cell (S.table space.now) rope) (end - PIECE) end result }
+    {
+        prove!(end <= rope_len(space, rope));
+        let from = end.saturating_sub(count);
+        if self.from <= from && self.reaches(end) {
+            return Ok(());
+        }
+        if straight {
+            return self.read_window(space, sources, rope, end);
+        }
+        if !self.takes_before(from, end) {
+            self.begin_at(end);
+        }
+        self.read_before(space, sources, rope, from)
+    }
+
+    /// So many bytes from a place on, where these are held and came by blocks that are kept.
+    pub fn kept_part(&self, place: u64, count: usize) -> Option<&[u8]>
+        ensures count { IfSome result (λ part. length part.now ≡ count) }
+        ensures bytes { IfSome result (λ part. (t : List ℕ) → AreHeld self.now t
+            → part.now ≡ take count (drop place t)) }
+    {
+        let near = self.starting_at(place);
+        if self.kept && count <= near.len() {
+            Some(&near[..count])
+        } else {
+            None
+        }
+    }
+
+    /// How many bytes the leaf at a place has from there on. It goes down to it where the leaf before was another one.
+    pub fn leaf_left<S: NodeSpace>(
+        &mut self,
+        alloc: Global,
+        space: &S,
+        rope: Rope,
+        place: u64,
+    ) -> u64
+        requires rope { IsRope (S.table space.now) rope }
+        requires place { place ≤ rope_len (S.table space.now) rope }
+        ensures same { self.new ≡ self.old }
+        ensures inside { place + result ≤ rope_len (S.table space.now) rope }
+    {
+        let len = rope_len(space, rope);
+        if place < self.leaf_start || self.leaf_end <= place {
+            let pos = Pos::set(alloc, space, rope, place);
+            self.leaf_start = pos.run_start();
+            self.leaf_end = place + pos.run_left();
+        }
+        self.leaf_end.min(len).saturating_sub(place)
+    }
+
+    /// Whether the `PIECE` bytes before a place lie in one leaf.
+    pub fn is_straight<S: NodeSpace>(
+        &mut self,
+        alloc: Global,
+        space: &S,
+        rope: Rope,
+        place: u64,
+    ) -> bool
+        requires rope { IsRope (S.table space.now) rope }
+        requires place { place ≤ rope_len (S.table space.now) rope }
+        ensures same { self.new ≡ self.old }
+        ensures window { IsTrue result → PIECE ≤ place }
+    {
+        let window = PIECE as u64;
+        if place < window {
+            return false;
+        }
+        let from = place - window;
+        // A leaf that ends in between was looked for last.
+        if from < self.leaf_end && self.leaf_end < place {
+            return false;
+        }
+        self.leaf_left(alloc, space, rope, from) >= window
+    }
+
+    /// Whether a search from `start` on for the line break at `end`, which is held, would read nothing else: where it is one read, or where the bytes that are held came
+    /// by blocks that are kept, up to the end of the break's leaf.
+    pub fn tells<S: NodeSpace>(
+        &mut self,
+        alloc: Global,
+        space: &S,
+        rope: Rope,
+        start: u64,
+        end: u64,
+    ) -> bool
+        requires rope { IsRope (S.table space.now) rope }
+        requires start { start ≤ rope_len (S.table space.now) rope }
+        requires end { end ≤ rope_len (S.table space.now) rope }
+        ensures { self.new ≡ self.old }
+    {
+        let len = rope_len(space, rope);
+        if self.kept {
+            // The leaf of the last byte that is held tells it of every break: each leaf before that one is held to its end.
+            let held_end = len.min(self.from.saturating_add((ROOM - self.start) as u64));
+            self.leaf_left(alloc, space, rope, held_end.saturating_sub(1));
+            if end < self.leaf_start || self.leaf_end <= held_end {
+                return true;
+            }
+        }
+        self.leaf_left(alloc, space, rope, start) >= PIECE as u64
+    }
+
+    /// The first line break at a place or behind it, or the text's end, by a search through the text.
+    ///
+    /// # Errors
+    ///
+    /// A source's fault, where a byte is one of that source and the read of it failed.
+    pub fn search_end<S: NodeSpace, T: Sources>(
+        &mut self,
+        alloc: Global,
+        space: &S,
+        sources: &mut T,
+        rope: Rope,
+        place: u64,
+    ) -> Result<u64, SourceFault>
+        requires rope { IsRope (S.table space.now) rope }
+        requires place { place ≤ rope_len (S.table space.now) rope }
+        ensures same { self.new ≡ self.old }
+        ensures from { IfOk result (λ p. place ≤ p) }
+        ensures inside { IfOk result (λ p. p ≤ rope_len (S.table space.now) rope) }
+        ensures is { IfOk result (λ p.
+            OfText (S.table space.now) (T.reading sources.old).stated rope (λ t. p ≡ line_end t place)) }
+        ensures reads { ReadsSpan (T.reading sources.old) (T.reading sources.new)
+            (rope_cell (S.table space.now) rope) 0 (rope_len (S.table space.now) rope) result }
+    {
+        line_end_with(alloc, space, sources, rope, place, &mut self.searched)
+    }
+}

@@ -1,0 +1,19 @@
+//! The lines of a rope's text: where they begin and end, and the screen that shows them about a place.
+#![tactic(auto)]
+
+mod asking;
+mod before;
+mod behind;
+mod fault;
+mod frame;
+mod held;
+mod known;
+mod lines;
+mod near;
+mod rows;
+mod window;
+
+pub use fault::FrameFault;
+pub use frame::frame_about;
+pub use known::{KnownLine, is_told_by_others};
+pub use lines::{line_end, line_start, place_down, place_up};

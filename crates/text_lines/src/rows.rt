@@ -1,0 +1,230 @@
+//! The rows of the screen.
+
+ghost use Rattle.std.specs.Prelude.{◌≡◌, ◌≤◌, ◌+◌, ◌-◌, ◌++◌, length, map, take, drop, IfOk, IfSome, OnOk};
+ghost use Rattle.rope_node.specs.Denotes.{IsRope, rope_len};
+ghost use Rattle.cord_position.specs.Fetched.{rope_cell};
+ghost use Rattle.cord_search.specs.Stated.{OfText};
+ghost use Rattle.text_lines.specs.Screen.{glyph};
+ghost use Rattle.text_lines.specs.HeldBytes.{AreHeld};
+ghost use Rattle.text_lines.specs.Showing.{ReadsToShow};
+ghost use Rattle.text_lines.specs.Rows.{lines_from, rows_in, PushesLine};
+
+use crate::behind::near_end;
+use crate::fault::FrameFault;
+use crate::held::HeldBytes;
+use crate::near::read_part;
+use lazy_file::Sources;
+use rope_node::{NodeSpace, Rope, rope_len};
+use std::alloc::{AllocError, Global};
+
+/// So many lines of the text are shown.
+const SCREEN_ROWS: u32 = 23;
+
+/// So many bytes of a line are shown.
+pub const SCREEN_COLUMNS: u64 = 80;
+
+/// A byte that can be shown, or `?` in its place.
+fn glyph(byte: u8) -> u8
+    ensures { result ≡ glyph byte }
+{
+    match byte {
+        0x20..=0x7E => byte,
+        _ => b'?',
+    }
+}
+
+/// Appends these bytes, at most a row of them, as they are shown.
+fn push_glyphs(bytes: &[u8], out: &mut Vec<u8>) -> Result<(), AllocError>
+    requires { length bytes.now ≤ SCREEN_COLUMNS }
+    ensures { OnOk result (out.new.items ≡ out.old.items ++ map glyph bytes.now) }
+{
+    // An array takes them without a question of room for each.
+    let mut shown = [0; SCREEN_COLUMNS as usize];
+    for k in 0..bytes.len() {
+        shown[k] = glyph(bytes[k]);
+    }
+    out.extend_from_slice(&shown[..bytes.len()])
+}
+
+/// Appends the bytes from `start` up to `end`, at most a row of them, as they are shown.
+fn push_part<S: NodeSpace, T: Sources>(
+    space: &S,
+    sources: &mut T,
+    rope: Rope,
+    start: u64,
+    end: u64,
+    out: &mut Vec<u8>,
+) -> Result<(), FrameFault>
+    requires rope { IsRope (S.table space.now) rope }
+    requires start { start ≤ end }
+    requires end { end ≤ rope_len (S.table space.now) rope }
+    requires row { end ≤ start + SCREEN_COLUMNS }
+    ensures bytes { OnOk result (OfText (S.table space.now) (T.reading sources.old).stated rope
+        (λ t. out.new.items ≡ out.old.items ++ map glyph (take (end - start) (drop start t)))) }
+    ensures reads { ReadsToShow (T.reading sources.old) (T.reading sources.new)
+        (rope_cell (S.table space.now) rope) (rope_len (S.table space.now) rope) result }
+{
+    let mut buffer = [0; SCREEN_COLUMNS as usize];
+    let row = &mut buffer[..(end - start) as usize];
+    read_part(space, sources, rope, start, row)?;
+    push_glyphs(row, out)?;
+    Ok(())
+}
+
+/// Appends the same bytes part by part: so many that the last one of a part is the first for which `out` takes memory, which it does behind the read of that byte.
+fn push_parts<S: NodeSpace, T: Sources>(
+    space: &S,
+    sources: &mut T,
+    rope: Rope,
+    start: u64,
+    end: u64,
+    out: &mut Vec<u8>,
+) -> Result<(), FrameFault>
+    requires rope { IsRope (S.table space.now) rope }
+    requires start { start ≤ end }
+    requires end { end ≤ rope_len (S.table space.now) rope }
+    requires row { end ≤ start + SCREEN_COLUMNS }
+    ensures bytes { OnOk result (OfText (S.table space.now) (T.reading sources.old).stated rope
+        (λ t. out.new.items ≡ out.old.items ++ map glyph (take (end - start) (drop start t)))) }
+    ensures reads { ReadsToShow (T.reading sources.old) (T.reading sources.new)
+        (rope_cell (S.table space.now) rope) (rope_len (S.table space.now) rope) result }
+{
+    let mut place = start;
+    while place < end {
+        let room = out.capacity().saturating_sub(out.len()).saturating_add(1);
+        let to = place + (end - place).min(room as u64);
+        push_part(space, sources, rope, place, to, out)?;
+        place = to;
+    }
+    Ok(())
+}
+
+/// Appends the same bytes: those that are held, where the blocks that they lie in were read for them, and else part by part.
+fn push_row<S: NodeSpace, T: Sources>(
+    held: &HeldBytes,
+    space: &S,
+    sources: &mut T,
+    rope: Rope,
+    start: u64,
+    end: u64,
+    out: &mut Vec<u8>,
+) -> Result<(), FrameFault>
+    requires rope { IsRope (S.table space.now) rope }
+    requires start { start ≤ end }
+    requires end { end ≤ rope_len (S.table space.now) rope }
+    requires row { end ≤ start + SCREEN_COLUMNS }
+    requires held { OfText (S.table space.now) (T.reading sources.old).stated rope (AreHeld held.now) }
+    ensures bytes { OnOk result (OfText (S.table space.now) (T.reading sources.old).stated rope
+        (λ t. out.new.items ≡ out.old.items ++ map glyph (take (end - start) (drop start t)))) }
+    ensures reads { ReadsToShow (T.reading sources.old) (T.reading sources.new)
+        (rope_cell (S.table space.now) rope) (rope_len (S.table space.now) rope) result }
+{
+    match held.kept_part(start, (end - start) as usize) {
+        Some(row) => {
+            push_glyphs(row, out)?;
+            Ok(())
+        }
+        None => push_parts(space, sources, rope, start, end, out),
+    }
+}
+
+/// Appends what is shown of the line that begins at `start`, from the column `left` on. It answers where the next
+/// line begins, or that there is none.
+fn push_line<S: NodeSpace, T: Sources>(
+    alloc: Global,
+    held: &mut HeldBytes,
+    space: &S,
+    sources: &mut T,
+    rope: Rope,
+    start: u64,
+    left: u64,
+    out: &mut Vec<u8>,
+) -> Result<Option<u64>, FrameFault>
+    requires rope { IsRope (S.table space.now) rope }
+    requires start { start ≤ rope_len (S.table space.now) rope }
+    requires held { OfText (S.table space.now) (T.reading sources.old).stated rope (AreHeld held.old) }
+    ensures inside { IfOk result (λ next. IfSome next (λ s. s ≤ rope_len (S.table space.now) rope)) }
+    ensures held { IfOk result (λ _.
+        OfText (S.table space.now) (T.reading sources.old).stated rope (AreHeld held.new)) }
+    ensures line { IfOk result (λ next. OfText (S.table space.now) (T.reading sources.old).stated rope
+        (λ t. PushesLine t (Some start) left next out.old.items out.new.items)) }
+    ensures reads { ReadsToShow (T.reading sources.old) (T.reading sources.new)
+        (rope_cell (S.table space.now) rope) (rope_len (S.table space.now) rope) result }
+{
+    let len = rope_len(space, rope);
+    let end = near_end(alloc, held, space, sources, rope, start)?;
+    held.pass_line(start, end, len);
+    let rest = (end - start).saturating_sub(left);
+    let from = end - rest;
+    push_row(
+        held,
+        space,
+        sources,
+        rope,
+        from,
+        from + rest.min(SCREEN_COLUMNS),
+        out,
+    )?;
+    let next = if end < len { Some(end + 1) } else { None };
+    Ok(next)
+}
+
+/// Appends the same of the line that begins at `start`, or nothing behind the last line.
+fn push_line_at<S: NodeSpace, T: Sources>(
+    alloc: Global,
+    held: &mut HeldBytes,
+    space: &S,
+    sources: &mut T,
+    rope: Rope,
+    start: Option<u64>,
+    left: u64,
+    out: &mut Vec<u8>,
+) -> Result<Option<u64>, FrameFault>
+    requires rope { IsRope (S.table space.now) rope }
+    requires start { IfSome start (λ s. s ≤ rope_len (S.table space.now) rope) }
+    requires held { OfText (S.table space.now) (T.reading sources.old).stated rope (AreHeld held.old) }
+    ensures inside { IfOk result (λ next. IfSome next (λ s. s ≤ rope_len (S.table space.now) rope)) }
+    ensures held { IfOk result (λ _.
+        OfText (S.table space.now) (T.reading sources.old).stated rope (AreHeld held.new)) }
+    ensures line { IfOk result (λ next. OfText (S.table space.now) (T.reading sources.old).stated rope
+        (λ t. PushesLine t start left next out.old.items out.new.items)) }
+    ensures reads { ReadsToShow (T.reading sources.old) (T.reading sources.new)
+        (rope_cell (S.table space.now) rope) (rope_len (S.table space.now) rope) result }
+{
+    match start {
+        Some(start) => push_line(alloc, held, space, sources, rope, start, left, out),
+        None => Ok(None),
+    }
+}
+
+/// Appends the rows of the screen: its first line begins at `top`, and its first column is `left`. It looks among the bytes that are held first.
+///
+/// # Errors
+///
+/// `Source`, where a byte or a line break could not be read. `Memory`, where memory was refused.
+pub fn push_rows<S: NodeSpace, T: Sources>(
+    alloc: Global,
+    held: &mut HeldBytes,
+    space: &S,
+    sources: &mut T,
+    rope: Rope,
+    top: u64,
+    left: u64,
+    out: &mut Vec<u8>,
+) -> Result<(), FrameFault>
+    requires rope { IsRope (S.table space.now) rope }
+    requires top { top ≤ rope_len (S.table space.now) rope }
+    requires held { OfText (S.table space.now) (T.reading sources.old).stated rope (AreHeld held.old) }
+    ensures rows { OnOk result (OfText (S.table space.now) (T.reading sources.old).stated rope
+        (λ t. out.new.items ≡ out.old.items ++ rows_in (lines_from t (Some top)) left)) }
+    ensures held { OnOk result (OfText (S.table space.now) (T.reading sources.old).stated rope (AreHeld held.new)) }
+    ensures reads { ReadsToShow (T.reading sources.old) (T.reading sources.new)
+        (rope_cell (S.table space.now) rope) (rope_len (S.table space.now) rope) result }
+{
+    let mut next = Some(top);
+    for row in 0..SCREEN_ROWS {
+        next = push_line_at(alloc, held, space, sources, rope, next, left, out)?;
+        out.extend_from_slice(b"\r\n")?;
+    }
+    Ok(())
+}
