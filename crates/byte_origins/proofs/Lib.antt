@@ -8,3 +8,10 @@ pub mod NamedBytes
 pub mod StoodThere
 pub mod Stretching
 pub mod Wanted
+pub mod LeafSpanSteps
+pub mod RunOrigins
+pub mod ArrivedRuns
+pub mod NamedOrigins
+pub mod RopeCalls
+pub mod RopeRuns
+pub mod Weaving

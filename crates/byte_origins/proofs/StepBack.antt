@@ -14,7 +14,7 @@ use Rattle.rope_node.specs.Denotes.{rope_cells, rope_len, IsRope}
 use Rattle.rope_node.proofs.Parts.{span_left, span_right}
 use Rattle.span_certificate.specs.declared.part.Part.{Part}
 use Rattle.span_certificate.specs.Commands.{Givens, result_of}
-use Rattle.span_certificate.specs.Parts.{part_len, parts_len, part_things, HasLengths, root_at, parts_of, IsPart, AreParts, IsInRange, givens_of, part_at}
+use Rattle.span_certificate.specs.Parts.{part_len, parts_len, part_things, HasLengths, root_at, IsPart, AreParts, IsInRange, givens_of, part_at}
 use Rattle.span_certificate.proofs.InRange.{in_range}
 use Rattle.span_certificate.proofs.PartsInRange.{parts_in_range}
 use Rattle.span_certificate.proofs.JoinedThings.{things_joined}
@@ -27,7 +27,7 @@ use Rattle.session_checker.proofs.EarlierRevisions.{earlier_ropes, root_before}
 use Rattle.byte_origins.specs.declared.run.Brought.TheVariants.{Pool, Source, Fill}
 use Rattle.byte_origins.specs.declared.run.Origin.{Origin}
 use Rattle.byte_origins.specs.Origins.{Traced, Earlier, Outside, traced_givens, settled, origins_at}
-use Rattle.byte_origins.specs.EarlierTexts.{len_of_text, texts_table, root_of_text, texts_roots}
+use Rattle.byte_origins.specs.EarlierTexts.{len_of_text, texts_table, root_of_text, texts_roots, texts_parts}
 use Rattle.byte_origins.proofs.Steps.{length-settled}
 use Rattle.byte_origins.proofs.Lengths.{all_origins, traced_result, origins_step, length-all_origins, root_lens, as_long}
 use Rattle.byte_origins.proofs.EarlierTexts.{count_is, roots_count, root_is, root_some, root_none, root_long, len_is, texts_ropes, texts_sound, texts_true}
@@ -94,10 +94,6 @@ traced_text v x (Some j) = padded x (get_or (all_origins v) j.0 [])
 
 abbrev pub traced : ImageValue → Givens Traced
 traced v = traced_givens (length v.pool) v.sources
-
--- the parts of revision k's command over the texts before it
-abbrev pub texts_parts : ImageValue → ℕ → List Part
-texts_parts v k = parts_of (texts_table v k) (texts_roots v k) (command_at v k)
 
 is_some_by : {A B : Type 0} (o : Option (List A)) (p : Option (List B)) → option_map (λ (l : List A). length l) o ≡ option_map (λ (l : List B). length l) p → IsSome o → IsSome p
 is_some_by None p e some = absurd cc

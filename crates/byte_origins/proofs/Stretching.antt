@@ -107,3 +107,10 @@ pub stretch_fits : (v : ImageValue) → HasTrueRecordsOf v → (x : Stretch) →
 stretch_fits v is x s =
     let short = rope_short (image_table v) is.sound (revision_at v x.revision).root (is.roots x.revision s.there) in
     omega (arith, short, s.inside)
+
+-- put together again, the stretches have the same origins
+pub back_stays : (v : ImageValue) (old : List Origin) (top : Stretch) (left : List Stretch) → IsGoingBack v old top left → left_origins v (left ++ top ∷ []) ≡ old
+back_stays v old top left is = left_push v left top ∙ sym is.same
+
+pub all_stay : (v : ImageValue) (old : List Origin) (top : Stretch) (left : List Stretch) → IsGoingBack v old top left → AllByRecursion (IsStretch v) (left ++ top ∷ [])
+all_stay v old top left is = all_push v left top is.each is.is

@@ -16,11 +16,11 @@ use Rattle.byte_origins.specs.declared.run.Brought.{Brought}
 use Rattle.byte_origins.specs.declared.run.Brought.TheVariants.{Pool, Source, Fill}
 use Rattle.byte_origins.specs.declared.run.Origin.{Origin}
 use Rattle.byte_origins.specs.Origins.{Traced, Earlier, Outside, settled, origins_at, run_origins}
-use Rattle.byte_origins.specs.EarlierTexts.{len_of_text, texts_table}
+use Rattle.byte_origins.specs.EarlierTexts.{len_of_text, texts_table, texts_parts}
 use Rattle.byte_origins.specs.StepsBack.{IsBrought, IsStepBack, taken_of}
 use Rattle.byte_origins.proofs.Lengths.{all_origins}
 use Rattle.byte_origins.proofs.EarlierTexts.{count_is, len_is, texts_sound, texts_true}
-use Rattle.byte_origins.proofs.StepBack.{traced, traced_text, padded, padded_some, texts_parts, traced_lengths, long, as_long_as_leaves, same_things, texts_are_parts, origins_are, parts_long}
+use Rattle.byte_origins.proofs.StepBack.{traced, traced_text, padded, padded_some, traced_lengths, long, as_long_as_leaves, same_things, texts_are_parts, origins_are, parts_long}
 
 -- ---- settling
 

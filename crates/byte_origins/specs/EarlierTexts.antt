@@ -6,7 +6,9 @@ use Rattle.rope_node.specs.declared.node.NodeView.TheVariants.{Fun}
 use Rattle.rope_node.specs.Table.{Node, Table}
 use Rattle.rope_node.specs.Denotes.{rope_len}
 use Rattle.image_reader.specs.Value.{ImageValue, image_table}
-use Rattle.image_reader.specs.Accepted.{revision_at}
+use Rattle.span_certificate.specs.declared.part.Part.{Part}
+use Rattle.span_certificate.specs.Parts.{parts_of}
+use Rattle.image_reader.specs.Accepted.{revision_at, command_at}
 
 -- how long the text of revision j is
 abbrev pub len_of_text : ImageValue → ℕ → ℕ
@@ -32,3 +34,7 @@ root_of_text v j = if nat_lt 0 (len_of_text v j) then Some (record { 0 = j }) el
 -- the texts before revision k as ropes
 abbrev pub texts_roots : ImageValue → ℕ → List (Option NodeId)
 texts_roots v k = map (root_of_text v) (range_with_len 0 k)
+
+-- the parts of revision k's command over the texts before it
+abbrev pub texts_parts : ImageValue → ℕ → List Part
+texts_parts v k = parts_of (texts_table v k) (texts_roots v k) (command_at v k)

@@ -3,3 +3,5 @@ pub mod Origins
 pub mod EarlierTexts
 pub mod StepsBack
 pub mod Stretches
+pub mod Arrivals
+pub mod OriginTexts

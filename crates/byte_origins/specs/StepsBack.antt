@@ -23,6 +23,11 @@ pub record IsBrought (v : ImageValue) (k place : ℕ) (run : OriginRun) : Type 0
   pub fits : place + run.len ≤ len_of_text v k
   pub is_run : IsOriginRun (origins_at v k) place run
 
+-- how many bytes came from one place
+abbrev pub came_len : CameFrom → ℕ
+came_len (FromText j p n) = n
+came_len (Run run) = run.len
+
 -- what stands at a place of text k
 abbrev pub IsStepBack : ImageValue → ℕ → ℕ → CameFrom → Type 0
 IsStepBack v k place (FromText j p n) = IsFromText v k place j p n

@@ -1,7 +1,11 @@
 //! Where each byte of a text comes from.
 #![tactic(auto)]
 
+mod arrivals;
+mod descent;
 mod laws;
+mod origin_store;
+mod ropes;
 mod run;
 mod stretch;
 mod taking;
@@ -9,6 +13,7 @@ mod texts;
 mod tracing;
 mod walking;
 
+pub use descent::leaf_span;
 pub use laws::{as_many_as_bytes, brought_by_its_command, names_each_byte, stood_there};
 pub use run::{Brought, Origin, OriginRun};
 pub use tracing::origin;

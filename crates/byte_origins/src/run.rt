@@ -1,7 +1,7 @@
 //! Where a byte comes from.
 
-ghost use Rattle.std.specs.Prelude.{◌≡◌, ◌↔◌, IsTrue};
-ghost use Rattle.byte_origins.specs.Behind.{brought_behind, origin_behind};
+ghost use Rattle.std.specs.Prelude.{◌≡◌, ◌↔◌, ◌-◌, ◌^◌, ◌<◌, ◌≤◌, IsTrue};
+ghost use Rattle.byte_origins.specs.Behind.{brought_behind, brought_end, origin_behind, FitsNumbers};
 
 /// A byte as a command brings it from outside the earlier texts.
 #[derive(Clone, Copy, Debug, PartialEq, Eq)]
@@ -43,7 +43,42 @@ pub struct OriginRun {
     pub len: u64,
 }
 
+/// The byte that is brought `n` places behind one.
+fn behind(first: Brought, n: u64) -> Brought
+    requires { brought_end first n < 2 ^ 64 }
+    ensures { result ≡ brought_behind first n }
+{
+    match first {
+        Brought::Pool { a } => Brought::Pool { a: a + n },
+        Brought::Source { s, p } => Brought::Source { s, p: p + n },
+        Brought::Fill { c } => Brought::Fill { c },
+    }
+}
+
 impl OriginRun {
+    /// It without its first `n` bytes.
+    pub(crate) fn rest_from(self, n: u64) -> OriginRun
+        requires fits { FitsNumbers self }
+        requires inside { n ≤ self.len }
+        ensures first { result.first ≡ origin_behind self.first n }
+        ensures len { result.len ≡ self.len - n }
+    {
+        let Origin {
+            revision,
+            place,
+            brought,
+        } = self.first;
+        let first = Origin {
+            revision,
+            place: place + n,
+            brought: behind(brought, n),
+        };
+        OriginRun {
+            first,
+            len: self.len - n,
+        }
+    }
+
     /// Whether it goes on where the other begins.
     pub fn goes_on(&self, other: &OriginRun) -> bool
         ensures { IsTrue result ↔ (origin_behind self.now.first self.now.len ≡ other.now.first) }

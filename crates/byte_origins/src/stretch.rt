@@ -1,10 +1,13 @@
 //! Stretches of texts whose origins are still to be told.
 
-ghost use Rattle.std.specs.Prelude.{◌≡◌, ◌+◌, ◌<◌, ◌≤◌, ◌^◌, ◌++◌, [], length, IfOk, OnOk, OnErr, MatchOption};
+ghost use Rattle.std.specs.Prelude.{◌≡◌, ◌+◌, ◌<◌, ◌≤◌, ◌^◌, ◌++◌, [], IfOk, OnErr, MatchOption, vec_len, vec_capacity};
 ghost use Rattle.std.specs.List.{AllByRecursion};
 ghost use Rattle.byte_origins.specs.Origins.{run_origins};
+ghost use Rattle.byte_origins.specs.OriginTexts.{NameTexts};
+ghost use Rattle.byte_origins.specs.StepsBack.{IsStepBack};
 ghost use Rattle.byte_origins.specs.Stretches.{IsStretch, left_origins, put_back};
 
+use crate::ropes::Ropes;
 use crate::run::OriginRun;
 use crate::taking::{CameFrom, taken};
 use crate::tracing::lowered;
@@ -21,50 +24,72 @@ pub(crate) struct Stretch {
 }
 
 /// Puts back what lies behind the first `n` bytes of a stretch, where there is something.
-fn put_back(left: &mut Vec<Stretch>, x: Stretch, n: u64) -> Result<(), AllocError>
-    requires { x.place + x.len < 2 ^ 64 }
-    ensures ok { OnOk result (left.new.items ≡ put_back left.old.items x n) }
-    ensures err { OnErr result (left.new.items ≡ left.old.items) }
+fn put_back(left: &mut Vec<Stretch>, x: Stretch, n: u64)
+    requires fits { x.place + x.len < 2 ^ 64 }
+    requires room { vec_len left.old + 2 ≤ vec_capacity left.old }
+    ensures items { left.new.items ≡ put_back left.old.items x n }
+    ensures room { vec_len left.new + 1 ≤ vec_capacity left.new }
 {
     if n < x.len {
         let place = x.place + n;
         let len = x.len - n;
-        left.push(Stretch { place, len, ..x })?;
+        left.push_reserved(Stretch { place, len, ..x });
     }
-    Ok(())
 }
 
-/// The next run of the stretches that are left, the last one first.
+/// One step back from a stretch: to its run, where its text has a rope, and else by its command.
+fn step_back(image: &Checked, ropes: &Ropes, x: Stretch) -> CameFrom
+    requires stretch { IsStretch image.now x }
+    requires ropes { NameTexts image.now ropes.now.texts ropes.now.roots.items }
+    ensures { IsStepBack image.now x.revision x.place result }
+{
+    let _count = image.revisions();
+    match ropes.run_at(x.revision, x.place) {
+        Some(run) => CameFrom::Run(run),
+        None => taken(image, x.revision, x.first, x.place),
+    }
+}
+
+/// The next run of the stretches that are left, the last one first. How many steps back it took is added to `steps`.
 pub(crate) fn next_run(
     image: &Checked,
+    ropes: &Ropes,
     left: &mut Vec<Stretch>,
+    steps: &mut u64,
 ) -> Result<Option<OriginRun>, AllocError>
-    requires { AllByRecursion (IsStretch image.now) left.old.items }
+    requires left { AllByRecursion (IsStretch image.now) left.old.items }
+    requires ropes { NameTexts image.now ropes.now.texts ropes.now.roots.items }
     ensures stretches { AllByRecursion (IsStretch image.now) left.new.items }
     ensures next { IfOk result (λ found. MatchOption found
         ((left_origins image.now left.old.items ≡ []) × (left_origins image.now left.new.items ≡ []))
         (λ run. (1 ≤ run.len)
         × (left_origins image.now left.old.items ≡ run_origins run ++ left_origins image.now left.new.items))) }
+    ensures err { OnErr result (left_origins image.now left.new.items ≡ left_origins image.now left.old.items) }
 {
     let _count = image.revisions();
     let Some(last) = left.pop() else {
         return Ok(None);
     };
     let mut top = last;
-    loop {
-        match taken(image, top.revision, top.first, top.place) {
+    'back: loop {
+        // Room for what is put back is there before anything changes.
+        let Ok(()) = left.reserve(2) else {
+            left.push_reserved(top);
+            return Err(AllocError);
+        };
+        *steps = steps.saturating_add(1);
+        let came = step_back(image, ropes, top);
+        let len = top.len.min(came.len());
+        put_back(left, top, len);
+        match came {
             CameFrom::Run(run) => {
-                let len = top.len.min(run.len);
-                put_back(left, top, len)?;
                 let first = run.first;
                 return Ok(Some(OriginRun { first, len }));
             }
-            CameFrom::FromText(j, place, n) => {
-                let len = top.len.min(n);
-                put_back(left, top, len)?;
-                let first = lowered(image, top.revision, top.first, j);
+            CameFrom::FromText(revision, place, _) => {
+                let first = lowered(image, top.revision, top.first, revision);
                 top = Stretch {
-                    revision: j,
+                    revision,
                     place,
                     len,
                     first,

@@ -3,8 +3,8 @@
 ghost use Rattle.std.specs.Prelude.{◌≡◌, ◌<◌, length};
 ghost use Rattle.image_reader.specs.Accepted.{splices_before};
 ghost use Rattle.span_certificate.specs.Parts.{part_at, part_len, IsPart};
-ghost use Rattle.byte_origins.specs.EarlierTexts.{len_of_text, texts_table};
-ghost use Rattle.byte_origins.specs.StepsBack.{IsStepBack, run_of, taken_of};
+ghost use Rattle.byte_origins.specs.EarlierTexts.{len_of_text, texts_parts, texts_table};
+ghost use Rattle.byte_origins.specs.StepsBack.{came_len, IsStepBack, run_of, taken_of};
 
 use crate::run::{Brought, Origin, OriginRun};
 use crate::texts::TextsBefore;
@@ -20,6 +20,18 @@ pub(crate) enum CameFrom {
     FromText(u32, u64, u64),
     /// The text's command brought them.
     Run(OriginRun),
+}
+
+impl CameFrom {
+    /// How many bytes there are.
+    pub(crate) fn len(self) -> u64
+        ensures { result ≡ came_len self }
+    {
+        match self {
+            CameFrom::FromText(_, _, n) => n,
+            CameFrom::Run(run) => run.len,
+        }
+    }
 }
 
 /// The part that holds a place, and the place inside that part.
@@ -51,7 +63,7 @@ fn run_of(k: u32, place: u64, brought: Brought, len: u64) -> CameFrom
 }
 
 /// What the bytes at `place` of text `k` are, where that stands `off` bytes inside this part.
-fn taken_of(texts: &TextsBefore, place: u64, part: Part, off: u64) -> CameFrom
+pub(crate) fn taken_of(texts: &TextsBefore, place: u64, part: Part, off: u64) -> CameFrom
     requires part { IsPart (texts_table texts.now.image.now texts.now.k) part }
     requires inside { off < part_len part }
     ensures { result ≡ taken_of texts.now.k place part off }
@@ -71,6 +83,24 @@ fn taken_of(texts: &TextsBefore, place: u64, part: Part, off: u64) -> CameFrom
     }
 }
 
+/// The parts of the command of text `k` over the texts before it, where the revisions before it have `first` splices.
+pub(crate) fn command_parts<'p, 'i, 'a>(
+    image: &Checked,
+    revisions: &'p Revisions<'i, 'a>,
+    k: u32,
+    first: u32,
+) -> PartIter<'p, Revisions<'i, 'a>>
+    requires same { revisions.now ≡ image.now }
+    requires there { k < length image.now.revisions }
+    requires first { first ≡ splices_before image.now k }
+    ensures { result ≡ texts_parts image.now k }
+{
+    let _count = image.revisions();
+    let texts = TextsBefore::of(image, k);
+    let revision = revisions.revision(k, first);
+    parts(&texts, &texts, revisions, &revision.edit)
+}
+
 /// What the bytes at `place` of text `k` are, where the revisions before it have `first` splices.
 pub(crate) fn taken(image: &Checked, k: u32, first: u32, place: u64) -> CameFrom
     requires there { k < length image.now.revisions }
@@ -81,9 +111,7 @@ pub(crate) fn taken(image: &Checked, k: u32, first: u32, place: u64) -> CameFrom
     let _count = image.revisions();
     let texts = TextsBefore::of(image, k);
     let revisions = Revisions::over(image.image());
-    let revision = revisions.revision(k, first);
-    let parts = parts(&texts, &texts, &revisions, &revision.edit);
-    match held(parts, place) {
+    match held(command_parts(image, &revisions, k, first), place) {
         Some((part, off)) => taken_of(&texts, place, part, off),
         None => unreachable!(),
     }

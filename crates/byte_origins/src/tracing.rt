@@ -11,16 +11,26 @@ use image_reader::Revisions;
 use rope_node::rope_len;
 use session_checker::Checked;
 
+/// How many splices the revisions before the next one have, where those before revision `k` have `first`.
+pub(crate) fn next_start(image: &Checked, k: u32, first: u32) -> u32
+    requires there { k < length image.now.revisions }
+    requires first { first ≡ splices_before image.now k }
+    ensures { result ≡ splices_before image.now (k + 1) }
+{
+    let revisions = Revisions::over(image.image());
+    let _count = revisions.count();
+    first + image.image().splices_of(k)
+}
+
 /// How many splices the revisions before `k` have.
 pub(crate) fn splices_before(image: &Checked, k: u32) -> u32
     requires { k ≤ length image.now.revisions }
     ensures { result ≡ splices_before image.now k }
 {
-    let revisions = Revisions::over(image.image());
-    let _count = revisions.count();
+    let _count = image.revisions();
     let mut first = 0;
     for r in 0..k {
-        first += image.image().splices_of(r);
+        first = next_start(image, r, first);
     }
     first
 }

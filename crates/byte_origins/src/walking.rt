@@ -1,8 +1,9 @@
 //! All origins of a text from a place on, run by run.
 
-ghost use Rattle.std.specs.Prelude.{◌≡◌, ◌<◌, ◌≤◌, ◌++◌, [], length, take, drop, IfOk, MatchOption};
+ghost use Rattle.std.specs.Prelude.{◌≡◌, ◌<◌, ◌≤◌, ◌++◌, [], length, take, drop, IfOk, OnErr, MatchOption};
 ghost use Rattle.byte_origins.specs.Origins.{origins_at, run_origins};
 
+use crate::ropes::Ropes;
 use crate::run::OriginRun;
 use crate::stretch::{Stretch, next_run};
 use crate::tracing::splices_before;
@@ -16,17 +17,25 @@ use std::marker::Model;
 pub struct Origins<'i, 'a> {
     image: &'i Checked<'a>,
     left: Vec<Stretch>,
+    /// The revision that was asked for.
+    revision: u32,
+    /// How many steps back were taken.
+    steps: u64,
+    ropes: Ropes,
 }
 
 impl<'i, 'a> Model for Origins<'i, 'a> {
+    ghost use Rattle.std.specs.Prelude.{◌<◌, length};
     ghost use Rattle.std.specs.List.{AllByRecursion};
+    ghost use Rattle.byte_origins.specs.OriginTexts.{NameTexts};
     ghost use Rattle.byte_origins.specs.Stretches.{IsStretch, OriginsLeft, left_origins};
 
     ghost Value = { OriginsLeft };
 
     ghost view = { λ s. record { image = s.image.now; left = left_origins s.image.now s.left.items } };
 
-    ghost invariant = { λ s. AllByRecursion (IsStretch s.image.now) s.left.items };
+    ghost invariant = { λ s. AllByRecursion (IsStretch s.image.now) s.left.items
+        × NameTexts s.image.now s.ropes.texts s.ropes.roots.items × (s.revision < length s.image.now.revisions) };
 }
 
 impl<'i, 'a> Origins<'i, 'a> {
@@ -59,19 +68,28 @@ impl<'i, 'a> Origins<'i, 'a> {
                 first,
             })?;
         }
-        Ok(Origins { image, left })
+        Ok(Origins {
+            image,
+            left,
+            revision: k,
+            steps: 0,
+            ropes: Ropes::new(alloc),
+        })
     }
 
     /// The next run, where there is one.
     ///
     /// # Errors
     ///
-    /// Where there is no memory.
+    /// Where there is no memory. What is left is then as before, so it can be asked again.
     pub fn next(&mut self) -> Result<Option<OriginRun>, AllocError>
         ensures image { self.new.image ≡ self.old.image }
         ensures next { IfOk result (λ found. MatchOption found ((self.old.left ≡ []) × (self.new.left ≡ []))
             (λ run. (1 ≤ run.len) × (self.old.left ≡ run_origins run ++ self.new.left))) }
+        ensures err { OnErr result (self.new.left ≡ self.old.left) }
     {
-        next_run(self.image, &mut self.left)
+        let _count = self.image.revisions();
+        self.ropes.make(self.image, self.revision + 1, self.steps);
+        next_run(self.image, &self.ropes, &mut self.left, &mut self.steps)
     }
 }

@@ -1,4 +1,3 @@
 mod HeldLemmas
 mod CheckedImages
-mod LeafSpanSteps
 mod RunLaws

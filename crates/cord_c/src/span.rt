@@ -2,48 +2,15 @@
 
 ghost use Rattle.std.specs.Prelude.{◌≡◌, ◌↔◌, ◌<◌, ◌≤◌, ◌+◌, None, Some, length, IfSome};
 ghost use Rattle.rope_node.specs.Table.{len_at, view_at, IsLeaf};
-ghost use Rattle.rope_node.specs.Path.{span_at};
 ghost use Rattle.cord_position.specs.Runs.{rope_span, IsRun};
 ghost use Rattle.image_reader.specs.Value.{coded_at, image_table};
 ghost use Rattle.span_certificate.specs.Leads.{leaf_description, Describes};
 ghost use Rattle.cord_c.specs.Runs.{text_root, revision_len};
 
-use rope_node::{LeafSpan, NodeId, NodeSpace, NodeView};
+use byte_origins::leaf_span;
+use rope_node::{LeafSpan, NodeSpace};
 use session_checker::Checked;
 use span_certificate::{Description, describe_leaf};
-
-/// The leaf span that the bytes of a node from a place on begin with. It costs one descent.
-fn leaf_span<S: NodeSpace>(space: &S, node: NodeId, place: u64) -> LeafSpan
-    requires there { node.0 < length (S.table space.now).nodes }
-    requires inside { place < len_at (S.table space.now) node.0 }
-    ensures { result ≡ span_at (S.table space.now) node.0 place }
-{
-    let mut leaf = node;
-    let mut start = place;
-    let mut len = space.len(node) - place;
-    'down: loop {
-        let view = space.node(leaf);
-        match view {
-            NodeView::Cat { l, r } => {
-                let left = space.left_len(leaf, l);
-                if start < left {
-                    leaf = l;
-                    len = len.min(left - start);
-                } else {
-                    leaf = r;
-                    start -= left;
-                }
-            }
-            NodeView::Sub { b, i } => {
-                leaf = b;
-                start += i;
-            }
-            NodeView::Lit { .. } | NodeView::Src { .. } | NodeView::Fun => {
-                return LeafSpan { leaf, start, len };
-            }
-        }
-    }
-}
 
 /// The leaf span that the text of a revision has from a place on; at its end and past it, none.
 pub fn span_of(image: &Checked, revision: u32, place: u64) -> Option<LeafSpan>

@@ -1,5 +1,5 @@
-use Rattle.cord_c.proofs.LeafSpanSteps.{IsOnWay}
-use Rattle.cord_c.proofs.span.leaf_span.Given as goal
+use Rattle.byte_origins.proofs.LeafSpanSteps.{IsOnWay}
+use Rattle.byte_origins.proofs.descent.leaf_span.Given as goal
 
 abbrev pub invariant-down : goal.invariant-down
 invariant-down g l = IsOnWay (g.S.NodeSpace.table l.space) l.fn.node.0 l.place l.leaf.0 l.start l.len

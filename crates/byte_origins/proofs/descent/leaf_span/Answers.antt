@@ -1,6 +1,6 @@
 use Rattle.std.proofs.Common.{sym, arith}
-use Rattle.cord_c.proofs.LeafSpanSteps.{begins_way, way_down, way_left, way_right}
-use Rattle.cord_c.proofs.span.leaf_span.Goals as goal
+use Rattle.byte_origins.proofs.LeafSpanSteps.{begins_way, way_down, way_left, way_right}
+use Rattle.byte_origins.proofs.descent.leaf_span.Goals as goal
 
 pub down-init : goal.down-init
 down-init g c =

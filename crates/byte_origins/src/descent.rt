@@ -1,0 +1,40 @@
+//! The way down from a node to the leaf span that its bytes from a place on begin with.
+
+ghost use Rattle.std.specs.Prelude.{◌≡◌, ◌<◌, length};
+ghost use Rattle.rope_node.specs.Table.{len_at};
+ghost use Rattle.rope_node.specs.Path.{span_at};
+
+use rope_node::{LeafSpan, NodeId, NodeSpace, NodeView};
+
+/// The leaf span that the bytes of a node from a place on begin with. It costs one descent.
+pub fn leaf_span<S: NodeSpace>(space: &S, node: NodeId, place: u64) -> LeafSpan
+    requires there { node.0 < length (S.table space.now).nodes }
+    requires inside { place < len_at (S.table space.now) node.0 }
+    ensures { result ≡ span_at (S.table space.now) node.0 place }
+{
+    let mut leaf = node;
+    let mut start = place;
+    let mut len = space.len(node) - place;
+    'down: loop {
+        let view = space.node(leaf);
+        match view {
+            NodeView::Cat { l, r } => {
+                let left = space.left_len(leaf, l);
+                if start < left {
+                    leaf = l;
+                    len = len.min(left - start);
+                } else {
+                    leaf = r;
+                    start -= left;
+                }
+            }
+            NodeView::Sub { b, i } => {
+                leaf = b;
+                start += i;
+            }
+            NodeView::Lit { .. } | NodeView::Src { .. } | NodeView::Fun => {
+                return LeafSpan { leaf, start, len };
+            }
+        }
+    }
+}
