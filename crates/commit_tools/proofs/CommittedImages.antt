@@ -1,0 +1,130 @@
+-- What is written of a commit.
+use Rattle.std.proofs.Common.{◌≡◌, ℕ, List, [], ◌++◌, length, map, take, Option, None, Result, Ok, Err, sym, ap, subst, ◌∙◌, arith}
+use Rattle.std.specs.Io.KnownBytes.{Appends, Keeps}
+use Rattle.std.proofs.lemmas.List.{length-map, map-append, take_at}
+use Rattle.byte_output.specs.Prefix.{AppendsPrefix}
+use Rattle.lazy_file.specs.SourceTexts.{Agrees, Stated, stated_in_memory}
+use Rattle.lazy_file.specs.Readings.{Reading}
+use Rattle.lazy_file.proofs.LaterReads.{reads_same}
+use Rattle.rope_node.specs.declared.node.NodeId.{NodeId}
+use Rattle.rope_node.specs.Denotes.{rope_cells, text}
+use Rattle.edit_commands.specs.Session.{SessionValue, HoldsHistory, roots_of, session_table, texts_of}
+use Rattle.edit_commands.specs.declared.revision.Revision as Kept
+use Rattle.image_reader.specs.declared.revision.Revision.{Revision}
+use Rattle.image_reader.specs.Spelling.{spelling}
+use Rattle.image_reader.specs.Value.{ImageValue, IsImage}
+use Rattle.session_image.specs.Written.{AreAsMade, IsTrusted, image_of}
+use Rattle.session_checker.specs.declared.fault.CheckFault.{CheckFault}
+use Rattle.session_checker.specs.Accepted.{BytesAsk}
+use Rattle.session_checker.specs.Faithful.{texts}
+use Rattle.session_checker.specs.Limits.{ChecksWithin}
+use Rattle.saved_session.specs.TakenUp.{TakesUp}
+use Rattle.saved_session.specs.GoneFurther.{GoesFurther, IsTakenUp}
+use Rattle.saved_session.proofs.SameTexts.{same_texts}
+use Rattle.saved_session.proofs.FurtherSessions.{roots_further}
+use Rattle.commit_tools.specs.declared.answer.Commit.{Commit}
+use Rattle.commit_tools.specs.declared.answer.Commit.TheVariants.{Same, Added}
+use Rattle.commit_tools.specs.declared.fault.CommitFault.{CommitFault}
+use Rattle.commit_tools.specs.declared.fault.CommitFault.TheVariants.{Check, TakeUp, Read, Edit, Memory, Write}
+use Rattle.commit_tools.specs.Commits.{BeginsCommit, BeginsBehind, CommitsAnew, CommitsOnto, CommitsText, IsCommitted, IsCommittedAnew, IsEmptySession}
+use Rattle.commit_tools.specs.Texts.{ReadsLast}
+use Rattle.commit_tools.proofs.CommittedTexts.{no_cells}
+use Rattle.commit_tools.proofs.LastRoots.{last_none}
+
+-- the texts before are the image's
+earlier_texts : (v : ImageValue) (begun made : SessionValue) (source : ℕ → ℕ → ℕ) → TakesUp v begun → GoesFurther begun made → take (length v.revisions) (texts_of source made) ≡ texts v source
+earlier_texts v begun made source takes x =
+    let cells = rope_cells (session_table made) in
+    let shows = text source in
+    let front = map shows (map cells (roots_of begun.revisions)) in
+    let rest = map shows (map cells (roots_of x.more)) in
+    let whole : texts_of source made ≡ front ++ rest =
+    ap (λ (rs : List (Option NodeId)). map shows (map cells rs)) (roots_further x)
+    ∙ ap (map shows) (map-append cells (roots_of begun.revisions) (roots_of x.more))
+    ∙ map-append shows (map cells (roots_of begun.revisions)) (map cells (roots_of x.more)) in
+    let many : length front ≡ length v.revisions =
+    length-map (map cells (roots_of begun.revisions)) shows ∙ length-map (roots_of begun.revisions) cells
+    ∙ ap length takes.roots ∙ length-map v.revisions (λ (r : Revision). r.root) in
+    ap (take (length v.revisions)) whole ∙ take_at front rest (length v.revisions) many
+    ∙ ap (map shows) x.keeps.cells ∙ same_texts v begun source takes
+
+as_many : (v : ImageValue) (begun : SessionValue) → TakesUp v begun → length begun.revisions ≡ length v.revisions
+as_many v begun takes =
+    sym (length-map begun.revisions (λ (r : Kept.Revision). r.root)) ∙ ap length takes.roots ∙ length-map v.revisions (λ (r : Revision). r.root)
+
+-- what begins a session is accepted, and no source was read otherwise
+pub record WasBegun (at_most : Option ℕ) (old new : Reading) (bytes : List ℕ) (begun : SessionValue) : Type 0 where
+  pub v : ImageValue
+  pub check : ChecksWithin at_most old new bytes (Ok v)
+  pub from_image : IsTakenUp v begun
+  pub stated : new.stated ≡ old.stated
+
+pub was_begun : (at_most : Option ℕ) (old new : Reading) (bytes : List ℕ) (begun : SessionValue) → BeginsBehind at_most old new bytes (Ok begun) → WasBegun at_most old new bytes begun
+was_begun at_most old new bytes begun b = by_answer b.checked b.check b.begins
+  where
+    by_answer : (checked : Result ImageValue CheckFault) → ChecksWithin at_most old new bytes checked → BeginsCommit checked (Ok begun) → WasBegun at_most old new bytes begun
+    by_answer (Ok v) check begins = record { v = v; check = check; from_image = begins; stated = reads_same old new (BytesAsk old.stated bytes) None check.reads }
+    by_answer (Err f) check begins = absurd cc
+
+module _ {at_most : Option ℕ} {old mid : Reading} {bytes file : List ℕ} {begun : SessionValue} (w : WasBegun at_most old mid bytes begun) where
+  pub committed_onto : (revision : ℕ) (made : SessionValue) → CommitsText mid.stated begun file (Ok (Added revision)) made → HoldsHistory made → IsCommitted old.stated w.v file revision made
+  committed_onto revision made commits history =
+      let here = subst (λ (st : Stated). CommitsText st begun file (Ok (Added revision)) made) w.stated commits in
+      record {
+        begun = begun;
+        from_image = w.from_image;
+        reaches = here.0;
+        earlier = λ source. earlier_texts w.v begun made source w.from_image.takes here.0.further;
+        other = λ some. here.1 (omega (arith, some, as_many w.v begun w.from_image.takes));
+        history = history;
+      }
+
+  pub same_onto : (new : Reading) (revision : ℕ) (made : SessionValue) (before : Option (List ℕ)) → CommitsText mid.stated begun file (Ok (Same revision)) made
+      → ReadsLast {X = Commit} begun mid new (Ok (Same revision)) → Keeps before before → CommitsOnto at_most old new bytes file before before (Ok (Same revision))
+  same_onto new revision made before commits reads keeps =
+      let here = subst (λ (st : Stated). CommitsText st begun file (Ok (Same revision)) made) w.stated commits in
+      record {
+        checked = Ok w.v;
+        between = mid;
+        check = w.check;
+        reads = (begun, w.from_image, reads);
+        written = (keeps, record { begun = begun; from_image = w.from_image; reaches = here.1 });
+      }
+
+  pub failed_onto : (new : Reading) (fault : CommitFault) (made : SessionValue) (before : Option (List ℕ)) → CommitsText mid.stated begun file (Err fault) made
+      → ReadsLast {X = Commit} begun mid new (Err fault) → Keeps before before → CommitsOnto at_most old new bytes file before before (Err fault)
+  failed_onto new (Edit fault) made before commits reads keeps =
+      record { checked = Ok w.v; between = mid; check = w.check; reads = (begun, w.from_image, reads); written = (keeps, record { begun = begun; from_image = w.from_image; stops = commits }) }
+  failed_onto new (Read fault) made before commits reads keeps = record { checked = Ok w.v; between = mid; check = w.check; reads = (begun, w.from_image, reads); written = keeps }
+  failed_onto new Memory made before commits reads keeps = record { checked = Ok w.v; between = mid; check = w.check; reads = (begun, w.from_image, reads); written = keeps }
+  failed_onto new (Check fault) made before commits reads keeps = absurd commits
+  failed_onto new (TakeUp fault) made before commits reads keeps = absurd commits
+  failed_onto new Write made before commits reads keeps = absurd commits
+
+-- ---- anew
+
+-- nothing is stated of no sources
+pub nothing_stated : (source : ℕ → ℕ → ℕ) → Agrees (stated_in_memory []) source
+nothing_stated source s p t stated lt = absurd cc
+
+committed_anew : (st : Stated) (begun made : SessionValue) (file : List ℕ) (revision : ℕ) → st ≡ stated_in_memory [] → IsEmptySession begun → HoldsHistory made
+    → CommitsText st begun file (Ok (Added revision)) made → IsCommittedAnew file revision made
+committed_anew st begun made file revision none empty history commits = record {
+  begun = begun;
+  empty = empty;
+  further = commits.0.further;
+  last = commits.0.last;
+  text = λ source. commits.0.text source (subst (λ (s : Stated). Agrees s source) (sym none) (nothing_stated source)) (no_cells st begun source (last_none begun (ap length empty.revisions)));
+  history = history;
+}
+
+pub written_anew : (st : Stated) (begun made : SessionValue) (file : List ℕ) (commit : Commit) (before after : Option (List ℕ)) → st ≡ stated_in_memory [] → IsEmptySession begun → HoldsHistory made
+    → CommitsText st begun file (Ok commit) made → IsImage (image_of made) → IsTrusted made → AreAsMade (image_of made) → Appends before after (spelling (image_of made)) → CommitsAnew file before after (Ok commit)
+written_anew st begun made file (Added revision) before after none empty history commits image trusted as_made appends =
+    (made, committed_anew st begun made file revision none empty history commits, image, trusted, as_made, appends)
+written_anew st begun made file (Same revision) before after none empty history commits image trusted as_made appends = absurd (omega (arith, commits.1.last, ap length empty.revisions))
+
+pub cut_anew : (st : Stated) (begun made : SessionValue) (file : List ℕ) (commit : Commit) (before after : Option (List ℕ)) → st ≡ stated_in_memory [] → IsEmptySession begun → HoldsHistory made
+    → CommitsText st begun file (Ok commit) made → AppendsPrefix before after (spelling (image_of made)) → CommitsAnew file before after (Err Write)
+cut_anew st begun made file (Added revision) before after none empty history commits prefix = (made, revision, committed_anew st begun made file revision none empty history commits, prefix)
+cut_anew st begun made file (Same revision) before after none empty history commits prefix = absurd (omega (arith, commits.1.last, ap length empty.revisions))

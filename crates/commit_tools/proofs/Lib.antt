@@ -1,0 +1,9 @@
+pub mod SameEnds
+pub mod RopeReads
+pub mod HandedBatches
+pub mod AppliedTexts
+pub mod LastRoots
+pub mod FoundTexts
+pub mod PutBatches
+pub mod CommittedTexts
+pub mod CommittedImages

@@ -1,0 +1,22 @@
+use Rattle.std.proofs.Common.{◌≡◌, ℕ, length, arith, subst}
+use Rattle.std.proofs.lemmas.Result.{err_from_is_err_and}
+use Rattle.commit_tools.specs.Put.{GoesOnTo}
+use Rattle.commit_tools.proofs.PutBatches.{fails_later, goes_through}
+use Rattle.commit_tools.proofs.batches.put_changes.Goals as goal
+
+pub returns-in_err-put_batch : goal.returns-in_err-put_batch
+returns-in_err-put_batch c =
+    let p = err_from_is_err_and c.from_residual.result c.from_residual.ensures.1 in
+    rw (p.1, p.2) (fails_later c.args.found.now c.args.file.now c.batch_start-first.result c.loop-left.left 0 (length c.args.found.now.changes.items) c.args.session.now c.loop-left.session c.put_batch.new.session
+    c.in_err-put_batch.field-0.0 c.loop-left.invariant.goes.further c.in_err-put_batch.ensures)
+
+pub loop-left-preserved : goal.loop-left-preserved
+loop-left-preserved c = record {
+  inside = omega (arith, c.batch_start-first.ensures, c.loop-left.invariant.inside);
+  goes = goes_through c.loop-left.invariant.goes c.in_ok-put_batch.ensures;
+}
+
+pub returns : goal.returns
+returns c =
+    let none : c.loop-left.left ≡ 0 = omega (arith, c.loop-left-test.false) in
+    subst (λ (n : ℕ). GoesOnTo c.args.found.now c.args.file.now n (length c.args.found.now.changes.items) c.args.session.now c.loop-left.session) none c.loop-left.invariant.goes

@@ -1,0 +1,30 @@
+use Rattle.std.proofs.Common.{◌≡◌, Bool, true, false, length, sym, ◌∙◌}
+use Rattle.std.proofs.lemmas.Result.{err_from_is_err_and}
+use Rattle.commit_tools.specs.Texts.{read_fault_of}
+use Rattle.commit_tools.proofs.CommittedTexts.{goes_there, over_found, reads_last, stays_there}
+use Rattle.commit_tools.proofs.texts.commit_behind.Goals as goal
+
+not_both : (b : Bool) → b ≡ true → b ≡ false → ⊥
+not_both b holds fails = (let off : true ≡ false = sym holds ∙ fails in cc)
+
+pub returns-in_err-found-clause-reads : goal.returns-in_err-found-clause-reads
+returns-in_err-found-clause-reads g c =
+    let p = err_from_is_err_and c.from_residual.result c.from_residual.ensures.1 in
+    rw (p.1, p.2) (reads_last c.args.session.now c.space.result.now c.last_root-rope.result (g.T.Sources.reading c.args.sources.now) (g.T.Sources.reading c.found_beside.new.sources) (read_fault_of c.in_err-found.field-0.0)
+    c.space.ensures.store c.last_root-rope.ensures.root c.in_err-found.ensures.reads)
+
+pub returns-then-is_same-clause-text : goal.returns-then-is_same-clause-text
+returns-then-is_same-clause-text g c =
+    let v = c.args.session.now in
+    let st = (g.T.Sources.reading c.args.sources.now).stated in
+    let found = c.in_ok-found.found in
+    let over = over_found v c.space.result.now c.last_root-rope.result st found c.args.file.now (length found.changes.items) c.space.ensures.store c.last_root-rope.ensures.root c.in_ok-found.ensures.text in
+    stays_there st v found c.args.file.now c.in_ok-found.ensures.found over (c.is_same.ensures.0 c.if-is_same.true)
+
+pub returns-clause-text : goal.returns-clause-text
+returns-clause-text g c =
+    let v = c.args.session.now in
+    let st = (g.T.Sources.reading c.args.sources.now).stated in
+    let found = c.in_ok-found.found in
+    let over = over_found v c.space.result.now c.last_root-rope.result st found c.args.file.now (length found.changes.items) c.space.ensures.store c.last_root-rope.ensures.root c.in_ok-found.ensures.text in
+    goes_there st v c.put_changes.new.session found c.args.file.now c.in_ok-found.ensures.found over (λ none. not_both c.is_same.result (c.is_same.ensures.1 none) c.if-is_same.false) c.in_ok-put_changes.ensures

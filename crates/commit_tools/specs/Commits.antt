@@ -1,0 +1,144 @@
+-- What a commit makes of a session and of an image.
+use Rattle.std.specs.Prelude.{◌≡◌, ◌≢◌, ℕ, ◌+◌, ◌≤◌, List, [], length, take, Option, Result, Ok, Err}
+use Rattle.std.specs.Io.KnownBytes.{Appends, Keeps}
+use Rattle.byte_output.specs.Prefix.{AppendsPrefix}
+use Rattle.lazy_file.specs.SourceTexts.{Stated}
+use Rattle.lazy_file.specs.Readings.{Reading}
+use Rattle.edit_commands.specs.Session.{SessionValue, HoldsHistory, texts_of}
+use Rattle.edit_commands.specs.declared.fault.EditFault.{EditFault}
+use Rattle.image_reader.specs.Spelling.{spelling}
+use Rattle.image_reader.specs.Value.{ImageValue, IsImage}
+use Rattle.session_image.specs.Written.{AreAsMade, IsTrusted, image_of}
+use Rattle.session_checker.specs.declared.fault.CheckFault.{CheckFault}
+use Rattle.session_checker.specs.Faithful.{texts}
+use Rattle.session_checker.specs.Limits.{ChecksWithin}
+use Rattle.saved_session.specs.TakeFaults.{IsTakeFault}
+use Rattle.saved_session.specs.GoneFurther.{GoesFurther, IsTakenUp}
+use Rattle.commit_tools.specs.Stops.{StopsAtCommand}
+use Rattle.commit_tools.specs.Texts.{OverLast, ReadsLast, last_text}
+use Rattle.commit_tools.specs.declared.answer.Commit.{Commit}
+use Rattle.commit_tools.specs.declared.answer.Commit.TheVariants.{Same, Added}
+use Rattle.commit_tools.specs.declared.fault.CommitFault.{CommitFault}
+use Rattle.commit_tools.specs.declared.fault.CommitFault.TheVariants.{Check, TakeUp, Read, Edit, Memory, Write}
+
+-- ---- a session
+
+-- a session goes further, up to a revision whose text is the file's
+pub record ReachesText (st : Stated) (begun : SessionValue) (file : List ℕ) (revision : ℕ) (made : SessionValue)
+    : Type 0 where
+  pub further : GoesFurther begun made
+  pub last : length made.revisions ≡ revision + 1
+  pub text : OverLast st begun (λ source. last_text source made ≡ file)
+
+-- Where the last text is the file's already, nothing changes. Else the session reaches it, and had another before, or
+-- none.
+abbrev pub CommitsText : Stated → SessionValue → List ℕ → Result Commit CommitFault → SessionValue → Type 0
+CommitsText st begun file (Ok (Same revision)) made = (made ≡ begun) × ReachesText st begun file revision begun
+CommitsText st begun file (Ok (Added revision)) made =
+    ReachesText st begun file revision made
+    × (1 ≤ length begun.revisions → OverLast st begun (λ source. last_text source begun ≢ file))
+CommitsText st begun file (Err (Edit fault)) made = StopsAtCommand begun fault
+CommitsText st begun file (Err (Read fault)) made = Unit {0}
+CommitsText st begun file (Err Memory) made = Unit {0}
+CommitsText st begun file (Err other) made = ⊥
+
+-- ---- behind an image
+
+-- a session of an accepted image, or why there is none
+abbrev pub BeginsCommit : Result ImageValue CheckFault → Result SessionValue CommitFault → Type 0
+BeginsCommit (Ok v) (Ok begun) = IsTakenUp v begun
+BeginsCommit (Ok v) (Err (TakeUp fault)) = IsTakeFault v fault
+BeginsCommit (Ok v) _ = ⊥
+BeginsCommit (Err fault) outcome = outcome ≡ Err (Check fault)
+
+-- an image is checked, and taken up where it is accepted
+pub record BeginsBehind (at_most : Option ℕ) (old new : Reading) (bytes : List ℕ)
+    (outcome : Result SessionValue CommitFault) : Type 0 where
+  pub checked : Result ImageValue CheckFault
+  pub check : ChecksWithin at_most old new bytes checked
+  pub begins : BeginsCommit checked outcome
+
+-- a session whose last text is the file's, the texts before it as the image has them
+pub record IsCommitted (st : Stated) (v : ImageValue) (file : List ℕ) (revision : ℕ) (made : SessionValue)
+    : Type 0 where
+  pub begun : SessionValue
+  pub from_image : IsTakenUp v begun
+  pub reaches : ReachesText st begun file revision made
+  pub earlier : (source : ℕ → ℕ → ℕ) → take (length v.revisions) (texts_of source made) ≡ texts v source
+  pub other : 1 ≤ length v.revisions → OverLast st begun (λ source. last_text source begun ≢ file)
+  pub history : HoldsHistory made
+
+-- the session of the image has the file's text already
+pub record IsSameText (st : Stated) (v : ImageValue) (file : List ℕ) (revision : ℕ) : Type 0 where
+  pub begun : SessionValue
+  pub from_image : IsTakenUp v begun
+  pub reaches : ReachesText st begun file revision begun
+
+-- the session of the image does not take a command on the way
+pub record IsStoppedCommit (v : ImageValue) (fault : EditFault) : Type 0 where
+  pub begun : SessionValue
+  pub from_image : IsTakenUp v begun
+  pub stops : StopsAtCommand begun fault
+
+-- Of an accepted image that is taken up, and whose last text is not the file's, the image of a session that goes on to
+-- it was written, or a prefix of that; and else nothing.
+abbrev pub WritesCommit : Stated → Result ImageValue CheckFault → List ℕ → Option (List ℕ) → Option (List ℕ)
+    → Result Commit CommitFault → Type 0
+WritesCommit st (Ok v) file before after (Ok (Same revision)) = Keeps before after × IsSameText st v file revision
+WritesCommit st (Ok v) file before after (Ok (Added revision)) =
+    (made : SessionValue) × IsCommitted st v file revision made × IsImage (image_of made) × IsTrusted made
+    × AreAsMade (image_of made) × Appends before after (spelling (image_of made))
+WritesCommit st (Ok v) file before after (Err Write) =
+    (made : SessionValue) × (revision : ℕ) × IsCommitted st v file revision made
+    × AppendsPrefix before after (spelling (image_of made))
+WritesCommit st (Ok v) file before after (Err (Edit fault)) = Keeps before after × IsStoppedCommit v fault
+WritesCommit st (Ok v) file before after (Err (TakeUp fault)) = Keeps before after × IsTakeFault v fault
+WritesCommit st (Ok v) file before after (Err (Read fault)) = Keeps before after
+WritesCommit st (Ok v) file before after (Err Memory) = Keeps before after
+WritesCommit st (Ok v) file before after (Err (Check fault)) = ⊥
+WritesCommit st (Err fault) file before after outcome = Keeps before after × (outcome ≡ Err (Check fault))
+
+-- what is read of the sources behind the check: cells of the last text alone, and `Read` is told of a read that failed
+abbrev pub ReadsToCompare : Result ImageValue CheckFault → Reading → Reading → Result Commit CommitFault → Type 0
+ReadsToCompare (Ok v) between after (Err (TakeUp fault)) = after ≡ between
+ReadsToCompare (Ok v) between after outcome =
+    (begun : SessionValue) × IsTakenUp v begun × ReadsLast begun between after outcome
+ReadsToCompare (Err fault) between after outcome = after ≡ between
+
+-- what run_commit does: it checks the image, takes it up, goes on to the file's text, and writes
+pub record CommitsOnto (at_most : Option ℕ) (old new : Reading) (bytes file : List ℕ) (before after : Option (List ℕ))
+    (outcome : Result Commit CommitFault) : Type 0 where
+  pub checked : Result ImageValue CheckFault
+  pub between : Reading
+  pub check : ChecksWithin at_most old between bytes checked
+  pub reads : ReadsToCompare checked between new outcome
+  pub written : WritesCommit old.stated checked file before after outcome
+
+-- ---- anew
+
+-- a session without revisions and sources
+pub record IsEmptySession (v : SessionValue) : Type 0 where
+  pub revisions : v.revisions ≡ []
+  pub sources : v.held.sources ≡ []
+
+-- a new session whose last text is the file's
+pub record IsCommittedAnew (file : List ℕ) (revision : ℕ) (made : SessionValue) : Type 0 where
+  pub begun : SessionValue
+  pub empty : IsEmptySession begun
+  pub further : GoesFurther begun made
+  pub last : length made.revisions ≡ revision + 1
+  pub text : (source : ℕ → ℕ → ℕ) → last_text source made ≡ file
+  pub history : HoldsHistory made
+
+-- the image of a new session with the file's text was written, or a prefix of it; or nothing
+abbrev pub CommitsAnew : List ℕ → Option (List ℕ) → Option (List ℕ) → Result Commit CommitFault → Type 0
+CommitsAnew file before after (Ok (Added revision)) =
+    (made : SessionValue) × IsCommittedAnew file revision made × IsImage (image_of made) × IsTrusted made
+    × AreAsMade (image_of made) × Appends before after (spelling (image_of made))
+CommitsAnew file before after (Err Write) =
+    (made : SessionValue) × (revision : ℕ) × IsCommittedAnew file revision made
+    × AppendsPrefix before after (spelling (image_of made))
+CommitsAnew file before after (Err (Edit fault)) =
+    Keeps before after × ((begun : SessionValue) × IsEmptySession begun × StopsAtCommand begun fault)
+CommitsAnew file before after (Err Memory) = Keeps before after
+CommitsAnew file before after other = ⊥

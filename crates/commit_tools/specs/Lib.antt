@@ -1,0 +1,7 @@
+pub mod Texts
+pub mod Found
+pub mod Handed
+pub mod Stops
+pub mod Put
+pub mod Commits
+pub mod Codes

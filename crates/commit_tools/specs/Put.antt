@@ -1,0 +1,56 @@
+-- What handing changes in makes of a session.
+use Rattle.std.specs.Prelude.{◌≡◌, ◌≢◌, ℕ, ◌≤◌, Bool, true, false, List, length, None, Result, Ok, Err}
+use Rattle.lazy_file.specs.SourceTexts.{Stated}
+use Rattle.edit_commands.specs.Session.{SessionValue}
+use Rattle.edit_commands.specs.Applying.{Applies, AppliesOrNot}
+use Rattle.edit_commands.specs.declared.command.Command.{Command}
+use Rattle.saved_session.specs.GoneFurther.{GoesFurther}
+use Rattle.commit_tools.specs.Texts.{OverLast, last_root, last_text}
+use Rattle.commit_tools.specs.Found.{text_from}
+use Rattle.commit_tools.specs.Stops.{StopsAtCommand}
+use Rattle.commit_tools.specs.declared.fault.CommitFault.{CommitFault}
+use Rattle.commit_tools.specs.declared.fault.CommitFault.TheVariants.{Edit, Memory, Read}
+use Rattle.commit_tools.specs.declared.found.Found.{Found}
+
+-- a command makes its revision, or the session does not take it, or memory is refused
+abbrev pub TakesCommand : SessionValue → Command → Result (Unit {0}) CommitFault → SessionValue → Type 0
+TakesCommand old command (Ok u) new = (k : ℕ) × Applies old command k new
+TakesCommand old command (Err (Edit fault)) new = AppliesOrNot old command (Err fault) new
+TakesCommand old command (Err Memory) new = Unit {0}
+TakesCommand old command (Err other) new = ⊥
+
+-- a session goes on from the text with the changes behind number `left` made to that with those behind `first` made
+pub record GoesOnTo (found : Found) (file : List ℕ) (first left : ℕ) (old new : SessionValue) : Type 0 where
+  pub further : GoesFurther old new
+  pub some : 1 ≤ length new.revisions
+  pub text : (source : ℕ → ℕ → ℕ) → last_text source old ≡ text_from found file left
+      → last_text source new ≡ text_from found file first
+
+-- it does so, or stops at a command, or memory is refused
+abbrev pub PutsBatch : Found → List ℕ → ℕ → ℕ → SessionValue → Result (Unit {0}) CommitFault → SessionValue → Type 0
+PutsBatch found file first left old (Ok u) new = GoesOnTo found file first left old new
+PutsBatch found file first left old (Err (Edit fault)) new = StopsAtCommand old fault
+PutsBatch found file first left old (Err Memory) new = Unit {0}
+PutsBatch found file first left old (Err other) new = ⊥
+
+-- so with the changes from number `first` on
+abbrev pub PutsFrom : Found → List ℕ → ℕ → SessionValue → Result (Unit {0}) CommitFault → SessionValue → Type 0
+PutsFrom found file first old result new = PutsBatch found file first (length found.changes.items) old result new
+
+-- a session without revisions has an empty text then, which is no rope; or it stops, or memory is refused
+abbrev pub BeginsEmpty : SessionValue → Result (Unit {0}) CommitFault → SessionValue → Type 0
+BeginsEmpty old (Ok u) new = GoesFurther old new × (length new.revisions ≡ 1) × (last_root new ≡ None)
+BeginsEmpty old (Err (Edit fault)) new = StopsAtCommand old fault
+BeginsEmpty old (Err Memory) new = Unit {0}
+BeginsEmpty old (Err other) new = ⊥
+
+-- A session goes on to a file's text, where its last text is another; and stays as it is, where it is that.
+abbrev pub GoesOnToText : Stated → SessionValue → List ℕ → Result Bool CommitFault → SessionValue → Type 0
+GoesOnToText st old file (Ok true) new =
+    GoesFurther old new × (1 ≤ length new.revisions) × OverLast st old (λ source. last_text source new ≡ file)
+    × OverLast st old (λ source. last_text source old ≢ file)
+GoesOnToText st old file (Ok false) new = (new ≡ old) × OverLast st old (λ source. last_text source old ≡ file)
+GoesOnToText st old file (Err (Edit fault)) new = StopsAtCommand old fault
+GoesOnToText st old file (Err (Read fault)) new = Unit {0}
+GoesOnToText st old file (Err Memory) new = Unit {0}
+GoesOnToText st old file (Err other) new = ⊥

@@ -1,0 +1,14 @@
+//! The text of a file as the next state of a session.
+#![tactic(auto)]
+
+mod answer;
+mod batches;
+mod committing;
+mod fault;
+mod found;
+mod stretches;
+mod texts;
+
+pub use answer::Commit;
+pub use committing::{run_commit, run_commit_anew};
+pub use fault::CommitFault;
