@@ -19,7 +19,7 @@ use Rattle.edit_commands.specs.declared.fault.EditFault.{EditFault}
 use Rattle.edit_commands.specs.declared.fault.EditFault.TheVariants as Edit
 use Rattle.screen_editor.specs.declared.fault.EditorFault.{EditorFault}
 use Rattle.screen_editor.specs.declared.fault.EditorFault.TheVariants as Editor
-use Rattle.screen_editor.specs.declared.fault.FrameFault.TheVariants as Frame
+use Rattle.text_lines.specs.declared.fault.FrameFault.TheVariants as Frame
 use Rattle.screen_editor.specs.declared.fault.RunFault.{RunFault}
 use Rattle.screen_editor.specs.declared.fault.RunFault.TheVariants as Run
 use Rattle.cord_tools.specs.declared.fault.ToolFault.{ToolFault}

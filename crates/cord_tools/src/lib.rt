@@ -12,6 +12,7 @@ mod find;
 mod find_all;
 mod input;
 mod join;
+pub mod laws;
 mod looking;
 mod migrate;
 mod outcome;

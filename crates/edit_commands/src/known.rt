@@ -45,11 +45,13 @@ pub fn longest_rows(
     requires few { length splices.now < 2 ^ 32 }
     ensures certified { IfOk result (λ made. IsCertified store.now revisions.now edit splices.now root made.items) }
     ensures longest { IfOk result (λ made. AreLongest (table_of coded_byte store.now)
-        (parts_of (table_of coded_byte store.now) (roots_of revisions.now) (with_splices splices.now edit)) root made.items) }
+        (parts_of (table_of coded_byte store.now) (roots_of revisions.now) (with_splices splices.now edit))
+        root made.items) }
     ensures kept { AreLongest (table_of coded_byte store.now)
-        (parts_of (table_of coded_byte store.now) (roots_of revisions.now) (with_splices splices.now edit)) root rows.items
-        → result ≡ Ok rows }
-    ensures too_many { IsErrOf result MakeFault.TooManyRows → IsCutShort (table_of coded_byte store.now) (coded_at store.now)
+        (parts_of (table_of coded_byte store.now) (roots_of revisions.now) (with_splices splices.now edit))
+        root rows.items → result ≡ Ok rows }
+    ensures too_many { IsErrOf result MakeFault.TooManyRows
+        → IsCutShort (table_of coded_byte store.now) (coded_at store.now)
         (parts_of (table_of coded_byte store.now) (roots_of revisions.now) (with_splices splices.now edit)) root }
 {
     // The store keeps its rules, as its count says.

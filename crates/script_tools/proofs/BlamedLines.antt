@@ -24,7 +24,8 @@ use Rattle.script_tools.specs.Blamed.{IsNextFound, IsLongestRun, WritesRuns, bla
 use Rattle.script_tools.proofs.Pieces.{front_alone, front_and_part, stopped}
 use Rattle.script_tools.proofs.Printables.{all_drop, all_take}
 use Rattle.script_tools.proofs.LoggedScripts.{named}
-use Rattle.script_tools.proofs.BlamedRuns.{has_runs, length-run, no_runs, run_and_more, run_begins}
+use Rattle.byte_origins.proofs.RunOrigins.{length-run}
+use Rattle.script_tools.proofs.BlamedRuns.{has_runs, no_runs, run_and_more, run_begins}
 
 -- ---- the wanted origins
 

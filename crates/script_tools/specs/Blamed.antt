@@ -46,6 +46,13 @@ abbrev pub blame_lines : ImageValue → ℕ → List OriginRun → List ℕ
 blame_lines v place [] = []
 blame_lines v place (x ∷ xs) = run_line v place x ++ blame_lines v (place + x.len) xs
 
+-- what runs from a place on have in quotes are the bytes of a text at each one's place
+abbrev pub ShowBytes : List ℕ → List ℕ → ℕ → List OriginRun → Type 0
+ShowBytes pool text place [] = Unit {0}
+ShowBytes pool text place (x ∷ xs) =
+    ((shown : List ℕ) → run_texts pool x ≡ Quoted shown ∷ [] → shown ≡ take x.len (drop place text))
+    × ShowBytes pool text (place + x.len) xs
+
 -- ---- the longest run
 
 -- the origins of a run that is found already, and those behind it

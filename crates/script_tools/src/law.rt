@@ -1,6 +1,6 @@
-//! What a log is worth.
+//! What a log and a script without a command are worth, and what a line of blame shows.
 
-ghost use Rattle.std.specs.Prelude.{◌≡◌, ◌≢◌, ℕ, List, All, Ok, Option, length, map};
+ghost use Rattle.std.specs.Prelude.{◌≡◌, ◌≢◌, ℕ, List, [], All, Ok, Option, length, map, take, drop};
 ghost use Rattle.edit_commands.specs.Session.{SessionValue, texts_of};
 ghost use Rattle.edit_script.specs.declared.fault.Stop.TheVariants.{NoCommand};
 ghost use Rattle.edit_script.specs.declared.fault.Stopped.{Stopped};
@@ -8,13 +8,18 @@ ghost use Rattle.edit_script.specs.Commands.{StandsInside, words_of};
 ghost use Rattle.edit_script.specs.Applied.{lines_of};
 ghost use Rattle.edit_script.specs.Scripts.{ReadsScript};
 ghost use Rattle.script_tools.specs.Applied.{IsMadeByScript, IsStopped};
+ghost use Rattle.script_tools.specs.Blamed.{ShowBytes};
 ghost use Rattle.script_tools.specs.Logged.{log_of};
+ghost use Rattle.script_tools.specs.Onto.{IsMadeOnto};
 ghost use Rattle.script_tools.specs.declared.shown.LogTexts.TheVariants.{Whole};
+ghost use Rattle.byte_origins.specs.declared.run.OriginRun.{OriginRun};
+ghost use Rattle.byte_origins.specs.Origins.{AreRuns, origins_at};
 ghost use Rattle.image_reader.specs.Value.{ImageValue};
 ghost use Rattle.lazy_file.specs.Readings.{Reading};
-ghost use Rattle.session_checker.specs.Faithful.{EachRevision, givens, commands, texts};
+ghost use Rattle.session_checker.specs.Faithful.{EachRevision, givens, commands, revision_text, texts};
 ghost use Rattle.session_checker.specs.Limits.{ChecksWithin};
 ghost use Rattle.session_checker.specs.RevisionRules.{HasSameBytes};
+ghost use Rattle.session_image.specs.Written.{AreAsMade, image_of};
 ghost use Rattle.span_certificate.specs.Commands.{IsHistory};
 ghost use Rattle.span_certificate.specs.Covers.{SameOver};
 
@@ -63,3 +68,19 @@ pub fn gives_the_texts_again()
     has_the_texts();
     says_the_commands();
 }
+
+/// What the lines of a text's runs have in quotes, before it is cut short, are the text's bytes at the runs' places, whatever bytes the
+/// sources hold over which the texts are the history of the image's commands.
+pub fn shows_the_bytes()
+    ensures { (w : ImageValue) (source : ℕ → ℕ → ℕ) → IsHistory (givens w source) (commands w) (texts w source)
+        → EachRevision w (λ k. (start count : ℕ) (runs : List OriginRun)
+        → AreRuns (take count (drop start (origins_at w k))) runs
+        → ShowBytes w.pool (revision_text w source k) start runs) }
+{}
+
+/// A script without a command gives the image of a session back, and so the same bytes: the session that goes on from it has that image.
+pub fn gives_the_image_again()
+    ensures { (x made : SessionValue) (script : List ℕ) → AreAsMade (image_of x)
+        → IsMadeOnto (image_of x) script made → ReadsScript (lines_of script) []
+        → image_of made ≡ image_of x }
+{}

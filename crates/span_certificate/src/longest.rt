@@ -109,7 +109,8 @@ fn both_lead<S: CountedSpace<L>, W: Way, L: Ledger>(
     requires inside_root { place + len ≤ rope_len (S.table space.now) root }
     requires some { 1 ≤ len }
     ensures lead { IsTrue result
-        ↔ (PartLeads (S.table space.now) len node.0 at part off × RopeLeads (S.table space.now) len node.0 at root place) }
+        ↔ (PartLeads (S.table space.now) len node.0 at part off
+        × RopeLeads (S.table space.now) len node.0 at root place) }
     ensures ways { AreWays W.is_way (S.table space.now) ways.new }
 {
     let other = Part::Old {
@@ -175,7 +176,8 @@ fn is_longest<S: CountedSpace<L>, W: Way, L: Ledger>(
     requires ways { AreWays W.is_way (S.table space.now) ways.old }
     requires part { ForSome part (λ p. IsPart (S.table space.now) p × (off < part_len p)) }
     requires root { IsRope (S.table space.now) root }
-    requires whole { ForSome part (λ p. (n : ℕ) → off + n ≤ part_len p → place + n ≤ rope_len (S.table space.now) root) }
+    requires whole { ForSome part
+        (λ p. (n : ℕ) → off + n ≤ part_len p → place + n ≤ rope_len (S.table space.now) root) }
     ensures longest { (parts : List Part) → part_at parts place ≡ held part off
         → (IsTrue result ↔ IsLongest (S.table space.now) parts root place row) }
     ensures ways { AreWays W.is_way (S.table space.now) ways.new }
