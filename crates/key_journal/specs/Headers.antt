@@ -13,6 +13,11 @@ header_of number sources size digest =
     0x43 ∷ 0x4F ∷ 0x52 ∷ 0x44 ∷ 0x4B ∷ 0x45 ∷ 0x59 ∷ 0x53 ∷ 0 ∷ 0 ∷ 0 ∷ number ∷ 0 ∷ 0 ∷ 0 ∷ sources
     ∷ to_be_bytes w64 size ++ digest
 
+-- what a header over sources of these sizes begins with, up to its digest
+abbrev pub front_over : ℕ → List ℕ → List ℕ
+front_over number [] = header_of number 0 0 []
+front_over number (size ∷ sizes) = header_of number (length (size ∷ sizes)) size []
+
 -- the bytes of a text of this size that are digested: all of them, or both of its ends
 abbrev pub digested : ℕ → List ℕ → List ℕ
 digested size text =

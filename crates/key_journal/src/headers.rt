@@ -1,17 +1,20 @@
 //! The header of a journal: which session its keys belong to.
 
-ghost use Rattle.std.specs.Prelude.{◌≡◌, ◌+◌, ◌-◌, ◌<◌, ◌≤◌, length, max, IfOk, IfSome, OnOk};
+ghost use Rattle.std.specs.Prelude.{◌≡◌, ◌+◌, ◌-◌, ◌<◌, ◌≤◌, [], length, max, take, IfOk, IfSome, OnOk};
 ghost use Rattle.lazy_file.specs.SourceTexts.{text_at};
 ghost use Rattle.lazy_file.specs.Readings.{InSpan, Reads, fault_in};
 ghost use Rattle.lazy_file.specs.declared.sources.TheConstants.{SOURCE_LIMIT};
-ghost use Rattle.key_journal.specs.declared.headers.TheConstants.{WHOLE_LIMIT};
-ghost use Rattle.key_journal.specs.Headers.{IsHeader, IsHeaderOnto, IsOfFirst, TakesDigested, TakesIn, header_of};
+ghost use Rattle.key_journal.specs.declared.headers.TheConstants.{FROM_SOURCES, FRONT_SIZE, ONTO_IMAGE, WHOLE_LIMIT};
+ghost use Rattle.key_journal.specs.Headers.{IsHeader, IsHeaderOnto, IsOfFirst, TakesDigested, TakesIn, front_over, header_of};
 
 use lazy_file::{SourceFault, Sources};
 use sha2::{Digest, Sha256};
 
 /// The bytes of a header.
 pub const HEADER_SIZE: usize = 56;
+
+/// The bytes of a header in front of its digest.
+pub const FRONT_SIZE: usize = 24;
 
 /// The format's number, where a session begins from its sources.
 pub const FROM_SOURCES: u8 = 1;
@@ -122,7 +125,8 @@ fn digest_image(image: &[u8], hasher: &mut Sha256)
 
 /// The header of this number, of sources so many, of which the first has this size, and this digest.
 fn spelled(number: u8, sources: u8, size: u64, digest: &[u8; 32]) -> [u8; HEADER_SIZE]
-    ensures { result ≡ header_of number sources size digest.now }
+    ensures header { result ≡ header_of number sources size digest.now }
+    ensures front { take FRONT_SIZE result ≡ header_of number sources size [] }
 {
     let mut bytes = FRONT;
     bytes[11] = number;
@@ -140,6 +144,8 @@ fn spelled(number: u8, sources: u8, size: u64, digest: &[u8; 32]) -> [u8; HEADER
 /// Those of the one read that failed.
 pub fn header_over<S: Sources>(sources: &mut S) -> Result<[u8; HEADER_SIZE], SourceFault>
     ensures header { IfOk result (IsHeader (S.reading sources.old).stated) }
+    ensures front { IfOk result
+        (λ header. take FRONT_SIZE header ≡ front_over FROM_SOURCES (S.reading sources.old).stated.sizes) }
     ensures reads { Reads (S.reading sources.old) (S.reading sources.new) IsOfFirst (fault_in result) }
 {
     let mut hasher = Sha256::new();
@@ -164,6 +170,8 @@ pub fn header_onto<S: Sources>(
     image: &[u8],
 ) -> Result<[u8; HEADER_SIZE], SourceFault>
     ensures header { IfOk result (IsHeaderOnto image.now (S.reading sources.old).stated) }
+    ensures front { IfOk result
+        (λ header. take FRONT_SIZE header ≡ front_over ONTO_IMAGE (S.reading sources.old).stated.sizes) }
     ensures reads { Reads (S.reading sources.old) (S.reading sources.new) IsOfFirst (fault_in result) }
 {
     let mut hasher = Sha256::new();
