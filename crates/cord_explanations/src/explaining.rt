@@ -123,11 +123,21 @@ fn is_of_line(action: &Action<'_>, name: &str, numbers: &str) -> bool {
     }
 }
 
-/// From how many sources an image was made, and how many are given.
+/// From how many sources an image was made, and how many are given; and from how long a one, where it is one.
 fn other_count<R: Files + AllocGlobal>(rt: &R, image: &str, sources: &[&str]) -> Option<Sentence> {
-    let text = "the sources of % are # in number, and # are given";
     let made = source_count(rt, image)?;
     let given = sources.len();
+    if made == 1 {
+        let len = source_len(rt, image, 0)?;
+        let numbers = format!(in rt.alloc(); "{len},{given}").ok()?;
+        return Sentence::new(
+            rt.alloc(),
+            "% was made over one source, of # bytes, and # are given",
+            image,
+            &numbers,
+        );
+    }
+    let text = "the sources of % are # in number, and # are given";
     let numbers = format!(in rt.alloc(); "{made},{given}").ok()?;
     Sentence::new(rt.alloc(), text, image, &numbers)
 }
@@ -160,18 +170,39 @@ fn too_long<R: Files + AllocGlobal>(rt: &R, action: &Action<'_>) -> Option<Sente
     Sentence::new(rt.alloc(), meaning("S5"), path, "")
 }
 
+/// What an image says of the sources that are given with it.
+fn other_given<R: Files + AllocGlobal>(
+    rt: &R,
+    image: &str,
+    sources: &[&str],
+    numbers: &str,
+) -> Option<Sentence> {
+    if numbers.is_empty() {
+        other_count(rt, image, sources)
+    } else {
+        other_len(rt, image, sources, numbers)
+    }
+}
+
 /// What the files of a run over an image say of its sources.
 fn other_sources<R: Files + AllocGlobal>(
     rt: &R,
     action: &Action<'_>,
     numbers: &str,
 ) -> Option<Sentence> {
-    let (image, sources) = image_of(action)?;
-    if numbers.is_empty() {
-        other_count(rt, image, sources)
-    } else {
-        other_len(rt, image, sources, numbers)
+    if let Action::Edit {
+        onto: Some(older),
+        file,
+        ..
+    } = action
+    {
+        return match file {
+            Some(file) => other_given(rt, older, &[*file], numbers),
+            None => other_given(rt, older, &[], numbers),
+        };
     }
+    let (image, sources) = image_of(action)?;
+    other_given(rt, image, sources, numbers)
 }
 
 /// Which file of an edit is no image, and stays: the image, or the one beside it that was to be the image.
@@ -258,7 +289,11 @@ fn refused(
         } => match name {
             "J1" | "J2" | "J5" => keys.unwrap_or(image),
             "J3" | "J4" | "I3" => image,
-            "K1" | "N1" | "N3" | "N4" => onto.unwrap_or(file.unwrap_or(image)),
+            "K1" => match onto {
+                Some(older) => return format!(in alloc; "a text of {older}"),
+                None => file.unwrap_or(image),
+            },
+            "N1" | "N3" | "N4" => onto.unwrap_or(file.unwrap_or(image)),
             _ => onto.unwrap_or(image),
         },
         Action::Join { .. } => "the files together",

@@ -76,7 +76,7 @@ fn of_texts(code: &str) -> &'static str {
 fn of_files(code: &str) -> &'static str {
     match code {
         "F1" => "the pattern has more than 4,096 bytes",
-        "J1" => "% has the keys of another file, or something else",
+        "J1" => "% has the keys of another file or image, or something else",
         "J2" => "another session keeps its keys in %",
         "J3" =>
             "% is there already: cordedit -f replaces it, and cordedit --continue % NEW begins with its last text",

@@ -3,19 +3,22 @@
 ghost use Rattle.std.specs.Prelude.{◌≡◌, ◌<◌};
 
 use crate::editing::{Editing, beginning_of, begun_image, close, finish, refuse_image, sources_of};
+use crate::file_state::{FileState, state_of};
 use crate::image_file::{ImageFile, Put};
 use crate::journal::{Journal, LockedKeys};
 use crate::opening::{OpenedSources, open, told_size};
+use crate::session_file::Beginning;
 use cord_tools::{Status, ToolFault, read_image, run_edit_onto};
 use lazy_file::Sources;
 use std::fs::File;
 use std::io;
 use std::sync::ledger::{Blank, Ledger};
 
-/// An image that is gone on from, and its source.
+/// An image that is gone on from, as it was when it was opened, and its source.
 #[derive(Drop)]
 struct Older<L: Ledger> {
     file: File,
+    state: Option<FileState>,
     bytes: Vec<u8>,
     sources: OpenedSources<L>,
 }
@@ -32,18 +35,41 @@ fn opened_older<L: Ledger>(
     requires many { 2 < blank.parts }
 {
     let file = open(rt, path)?;
+    let state = state_of(&file);
     let expected = told_size(&file);
     let sources = sources_of::<L>(rt, words.file, blank)?;
     let bytes = read_image(rt.alloc(), &file, expected)?;
     Ok(Older {
         file,
+        state,
         bytes,
         sources,
     })
 }
 
-/// Puts an image that is whole in its place. Its keys are set aside meanwhile, and gone then: they are over the older image, which may be
-/// the one whose place it takes.
+/// The image of a session over an older one. Where a session begins that is to take the older one's place, that one has to be there still, as
+/// it was when it was opened.
+fn image_over<'a>(
+    rt: &'a HostRuntime,
+    words: Editing<'_>,
+    journal: &Journal<'_>,
+    begun: Option<Beginning>,
+    older: &File,
+    state: Option<FileState>,
+) -> Result<ImageFile<'a>, ToolFault> {
+    let mut image = begun_image(rt, words, journal, begun)?;
+    image.keep_whole(older)?;
+    match state {
+        Some(state)
+            if begun.is_none() && words.onto == Some(words.image) && !image.replaces(state) => {
+            Err(ToolFault::OtherImage)
+        }
+        _ => Ok(image),
+    }
+}
+
+/// Puts an image that is whole in its place. Its keys are set aside meanwhile: they are over the older image, which may be the one whose
+/// place it takes.
 fn put_behind(journal: &Journal<'_>, image: &ImageFile<'_>) -> Result<Put, ToolFault> {
     if !image.takes_place() {
         return image.put();
@@ -51,7 +77,7 @@ fn put_behind(journal: &Journal<'_>, image: &ImageFile<'_>) -> Result<Put, ToolF
     journal.set_aside()?;
     let put = image.put();
     match &put {
-        Ok(Put::InPlace) => journal.remove_aside()?,
+        Ok(Put::InPlace) => {}
         _ => journal.bring_back(),
     }
     put
@@ -113,23 +139,25 @@ fn edit_kept<L: Ledger>(
     };
     let Older {
         file,
+        state,
         bytes,
         mut sources,
     } = older;
     let journal = Journal::onto(rt, keys, locked, &bytes, &mut sources)?;
-    let put = match begun_image(rt, words, &journal, begun) {
-        Ok(mut image) => match image.keep_whole(&file) {
-            Ok(()) => {
-                let status = journal.edit_onto(bytes, sources, &mut image);
-                finish_kept(status, &journal, &image)
-            }
-            Err(fault) => Err(fault),
-        },
+    let put = match image_over(rt, words, &journal, begun, &file, state) {
+        Ok(mut image) => {
+            let status = journal.edit_onto(bytes, sources, &mut image);
+            finish_kept(status, &journal, &image)
+        }
         Err(ToolFault::ImageThere) => saved_before(rt, words, &journal, bytes, sources),
         Err(fault) => Err(fault),
     };
     match &put {
-        Ok(Put::InPlace) => close(rt, words)?,
+        // Whoever finds no keys finds an image that no session holds any more.
+        Ok(Put::InPlace) => {
+            journal.remove_saved()?;
+            close(rt, words)?;
+        }
         Ok(Put::Before) => {
             journal.remove()?;
             close(rt, words)?;

@@ -30,10 +30,16 @@ pub struct FileState {
     pub changed: Moment,
 }
 
-/// The state of what stands under a name, where something does. A link is not followed. Of what is no regular file only its number and
-/// that of its device count.
-pub fn state_at(rt: &HostRuntime, path: &str) -> Option<FileState> {
-    let found = fs::symlink_metadata(rt, path).ok()?;
+impl FileState {
+    /// Whether the file is the one that it was then, with the bytes that it had. It may have got or lost a name.
+    pub fn has_bytes_of(&self, then: FileState) -> bool {
+        (self.device, self.inode, self.size) == (then.device, then.inode, then.size)
+            && self.modified == then.modified
+    }
+}
+
+/// The state that is told of a file. Of what is no regular file only its number and that of its device count.
+fn state(found: &Metadata) -> FileState {
     let mut state = FileState {
         device: found.dev(),
         inode: found.ino(),
@@ -46,7 +52,17 @@ pub fn state_at(rt: &HostRuntime, path: &str) -> Option<FileState> {
         state.modified = moment_of(found.mtime(), found.mtime_nsec());
         state.changed = moment_of(found.ctime(), found.ctime_nsec());
     }
-    Some(state)
+    state
+}
+
+/// The state of what stands under a name, where something does. A link is not followed.
+pub fn state_at(rt: &HostRuntime, path: &str) -> Option<FileState> {
+    Some(state(&fs::symlink_metadata(rt, path).ok()?))
+}
+
+/// The state of a file that is open.
+pub fn state_of(file: &File) -> Option<FileState> {
+    Some(state(&file.metadata().ok()?))
 }
 
 /// Which file this is, whatever becomes of its bytes: another one that gets its number is born later.

@@ -209,6 +209,14 @@ impl<'a> ImageFile<'a> {
         };
     }
 
+    /// Whether it is to take the place of a file that has the bytes that it had in this state.
+    pub fn replaces(&self, state: FileState) -> bool {
+        match self.replaced {
+            Replaced::This(there) => there.has_bytes_of(state),
+            _ => false,
+        }
+    }
+
     /// Whether an image was written, and is to take the place of what stands there and may be replaced.
     pub fn takes_place(&self) -> bool {
         self.file.is_some() && self.is_as_begun()

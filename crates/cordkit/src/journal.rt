@@ -73,6 +73,8 @@ impl io::Write for SyncedFile<'_> {
 pub struct Journal<'a> {
     rt: &'a HostRuntime,
     path: &'a str,
+    /// Its name while it is set aside: nothing wants memory then.
+    aside: String,
     file: File,
     /// What it had when it was opened.
     bytes: Vec<u8>,
@@ -172,10 +174,10 @@ fn aside_locked(rt: &HostRuntime, path: &str) -> Result<Option<File>, ToolFault>
 }
 
 /// The file of keys of a session over an image, which is locked before the image is opened; and the one that was set aside, if there is
-/// one.
+/// one. A session that goes on has that one alone, where its Save did not end.
 #[derive(Drop)]
 pub struct LockedKeys {
-    file: File,
+    file: Option<File>,
     aside: Option<File>,
 }
 
@@ -187,15 +189,18 @@ impl LockedKeys {
         had: Option<FileBirth>,
     ) -> Result<LockedKeys, ToolFault> {
         let file = match had {
-            Some(keys) => reopen_locked(rt, path, keys)?,
+            Some(keys) => match reopen_locked(rt, path, keys) {
+                Err(ToolFault::KeysGone) => return LockedKeys::of_save(rt, path, keys),
+                file => file?,
+            },
             None => open_locked(rt, path)?,
         };
-        let mut locked = LockedKeys { file, aside: None };
-        match aside_locked(rt, path) {
-            Ok(aside) => {
-                locked.aside = aside;
-                Ok(locked)
-            }
+        let mut locked = LockedKeys {
+            file: Some(file),
+            aside: None,
+        };
+        match locked.find_aside(rt, path) {
+            Ok(()) => Ok(locked),
             Err(fault) => {
                 locked.drop_empty(rt, path);
                 Err(fault)
@@ -203,16 +208,46 @@ impl LockedKeys {
         }
     }
 
+    /// Locks the file that was set aside. A session that could not save may have given it its name back meanwhile, so that the file that
+    /// was made here has none.
+    fn find_aside(&mut self, rt: &HostRuntime, path: &str) -> Result<(), ToolFault> {
+        self.aside = aside_locked(rt, path)?;
+        match &self.file {
+            Some(file) if is_named(rt, path, file) => Ok(()),
+            _ => Err(ToolFault::KeysInUse),
+        }
+    }
+
+    /// The file that a session had which goes on, and that its Save set aside.
+    fn of_save(rt: &HostRuntime, path: &str, keys: FileBirth) -> Result<LockedKeys, ToolFault> {
+        match aside_locked(rt, path)? {
+            Some(file) if birth_of(&file) == Some(keys) => Ok(LockedKeys {
+                file: None,
+                aside: Some(file),
+            }),
+            _ => Err(ToolFault::KeysGone),
+        }
+    }
+
     /// Takes the file away where it is empty, as one is that was made just now.
     pub fn drop_empty(&self, rt: &HostRuntime, path: &str) {
-        let is_empty = match self.file.metadata() {
+        let Some(file) = &self.file else {
+            return;
+        };
+        let is_empty = match file.metadata() {
             Ok(metadata) => metadata.len() == 0,
             Err(_) => false,
         };
-        if is_empty && is_named(rt, path, &self.file) {
+        if is_empty && is_named(rt, path, file) {
             let _ = fs::remove_file(rt, path);
         }
     }
+}
+
+/// Whether a file of keys has none: it ends with a header, or within one.
+fn has_no_key(header: &[u8; HEADER_SIZE], bytes: &[u8]) -> bool {
+    bytes.len() <= HEADER_SIZE
+        && (find_keys(header, bytes) != Found::Other || bytes.starts_with(FRONT))
 }
 
 impl<'a> Journal<'a> {
@@ -243,22 +278,27 @@ impl<'a> Journal<'a> {
     ) -> Result<Journal<'a>, ToolFault> {
         let header = header_onto(sources, older)?;
         let LockedKeys { file, aside } = locked;
-        let bytes = all_of(rt, &file)?;
-        let Some(aside) = aside else {
-            return Journal::begun(rt, path, file, bytes, &header);
+        let bytes = match &file {
+            Some(file) => all_of(rt, file)?,
+            None => Vec::new(rt.alloc()),
         };
-        let kept = all_of(rt, &aside)?;
-        let is_new = bytes.len() <= HEADER_SIZE && find_keys(&header, &bytes) != Found::Other;
-        if !is_new || find_keys(&header, &kept) != Found::Keys {
-            return Journal::begun(rt, path, file, bytes, &header);
+        if let Some(aside) = aside {
+            let kept = all_of(rt, &aside)?;
+            if has_no_key(&header, &bytes) && find_keys(&header, &kept) == Found::Keys {
+                let name = aside_name(rt, path)?;
+                fs::rename(rt, name.as_str(), path).map_err(|_| ToolFault::Write)?;
+                sync_folder(rt, path);
+                return Journal::begun(rt, path, aside, kept, &header);
+            }
         }
-        let name = aside_name(rt, path)?;
-        fs::rename(rt, name.as_str(), path).map_err(|_| ToolFault::Write)?;
-        sync_folder(rt, path);
-        Journal::begun(rt, path, aside, kept, &header)
+        match file {
+            Some(file) => Journal::begun(rt, path, file, bytes, &header),
+            None => Err(ToolFault::KeysGone),
+        }
     }
 
-    /// The file that is locked and has these bytes. A header that is torn is written to its end.
+    /// The file that is locked and has these bytes. A header that is torn is written to its end, and the header of a session over another
+    /// text, which took no key, is written anew.
     fn begun(
         rt: &'a HostRuntime,
         path: &'a str,
@@ -267,22 +307,29 @@ impl<'a> Journal<'a> {
         header: &[u8; HEADER_SIZE],
     ) -> Result<Journal<'a>, ToolFault> {
         let mut file = file;
-        match find_keys(header, &bytes) {
-            Found::Keys => {}
-            Found::Torn => {
-                let rest = header.get(bytes.len()..).unwrap_or(&[]);
-                if file.write_all(rest).is_err() {
-                    // It has no key.
-                    let _ = fs::remove_file(rt, path);
-                    return Err(ToolFault::Write);
-                }
-                sync_folder(rt, path);
+        let aside = aside_name(rt, path)?;
+        let there = match find_keys(header, &bytes) {
+            Found::Keys => HEADER_SIZE,
+            Found::Torn => bytes.len(),
+            Found::Other if has_no_key(header, &bytes) => {
+                file.set_len(0).map_err(|_| ToolFault::Write)?;
+                0
             }
             Found::Other => return Err(ToolFault::OtherKeys),
+        };
+        if there < HEADER_SIZE {
+            let rest = header.get(there..).unwrap_or(&[]);
+            if file.write_all(rest).is_err() {
+                // It has no key.
+                let _ = fs::remove_file(rt, path);
+                return Err(ToolFault::Write);
+            }
+            sync_folder(rt, path);
         }
         Ok(Journal {
             rt,
             path,
+            aside,
             file,
             bytes,
         })
@@ -368,27 +415,26 @@ impl<'a> Journal<'a> {
     /// Sets it aside, and syncs its folder: the image of its session is to take the place of the one that its keys are over. A file that
     /// was set aside before is replaced.
     pub fn set_aside(&self) -> Result<(), ToolFault> {
-        let name = aside_name(self.rt, self.path)?;
         if !is_named(self.rt, self.path, &self.file) {
             return Err(ToolFault::KeysGone);
         }
-        fs::rename(self.rt, self.path, name.as_str()).map_err(|_| ToolFault::Write)?;
+        fs::rename(self.rt, self.path, self.aside.as_str()).map_err(|_| ToolFault::Write)?;
         sync_folder(self.rt, self.path);
         Ok(())
     }
 
     /// Gives it its name back, where the image is not in its place. What stays aside is found by the next session over the older image.
     pub fn bring_back(&self) {
-        if let Ok(name) = aside_name(self.rt, self.path) {
-            let _ = fs::rename(self.rt, name.as_str(), self.path);
-            sync_folder(self.rt, self.path);
-        }
+        let _ = fs::rename(self.rt, self.aside.as_str(), self.path);
+        sync_folder(self.rt, self.path);
     }
 
-    /// Takes it away, which was set aside.
-    pub fn remove_aside(&self) -> Result<(), ToolFault> {
-        let name = aside_name(self.rt, self.path)?;
-        fs::remove_file(self.rt, name.as_str()).map_err(|_| ToolFault::Write)
+    /// Takes it away behind its Save, for which it was set aside.
+    pub fn remove_saved(&self) -> Result<(), ToolFault> {
+        if is_named(self.rt, self.path, &self.file) {
+            return self.remove();
+        }
+        fs::remove_file(self.rt, self.aside.as_str()).map_err(|_| ToolFault::Write)
     }
 
     /// Whether its keys make no revision, if there are any. One that cannot be read may have some that do.
