@@ -294,12 +294,12 @@ fn are_frames(screen: &[u8], count: usize) -> bool {
 }
 
 /// How many frames a screen has.
-fn frame_count(screen: &[u8]) -> usize {
+pub(crate) fn frame_count(screen: &[u8]) -> usize {
     screen.iter().filter(|byte| **byte == b'J').count()
 }
 
 /// Whether an image's revisions have the texts, as many as it has.
-fn has_texts(image: &Checked<'_>, texts: &[&[u8]], none: &mut MemSources<'_>) -> bool {
+pub(crate) fn has_texts(image: &Checked<'_>, texts: &[&[u8]], none: &mut MemSources<'_>) -> bool {
     let mut is_so = image.revisions() as usize == texts.len();
     for (k, text) in (0u32..).zip(texts.iter()) {
         for (i, byte) in (0u64..).zip(text.iter()) {
@@ -363,7 +363,7 @@ pub(crate) fn edited<A: AllocGlobal + Abort>(rt: &A, refusals: &mut Refusals) {
 }
 
 /// Whether a frame of the screen has the message `Memory`.
-fn has_message(screen: &[u8]) -> bool {
+pub(crate) fn has_message(screen: &[u8]) -> bool {
     let mut told = false;
     for window in screen.windows(7) {
         told = told || window == b" Memory".as_slice();

@@ -10,6 +10,8 @@ mod files;
 #[cfg(test)]
 mod kept;
 #[cfg(test)]
+mod onto;
+#[cfg(test)]
 mod pools;
 #[cfg(test)]
 mod refusals;

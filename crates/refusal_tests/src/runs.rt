@@ -2,7 +2,7 @@
 //! one call, or two.
 
 use crate::refusals::Refusals;
-use crate::{editors, files, pools, ropes, saved, scripts, searches, sessions, tools, words};
+use crate::{editors, files, onto, pools, ropes, saved, scripts, searches, sessions, tools, words};
 use std::alloc::AllocGlobal;
 use std::process::Abort;
 
@@ -38,6 +38,7 @@ fn all_runs<A: AllocGlobal + Abort>(rt: &A, refusals: &mut Refusals) {
     editors::cut_and_pasted(rt, refusals);
     editors::edited(rt, refusals);
     editors::run_again(rt, refusals);
+    onto::edited_onto(rt, refusals);
     editors::lines_of_a_file(rt, refusals);
     tools::checked(rt, refusals);
     tools::shown(rt, refusals);
@@ -199,6 +200,11 @@ fn edited(rt: HostRuntime) {
 #[test]
 fn run_again(rt: HostRuntime) {
     editors::run_again(&rt, &mut Refusals::at_most(1));
+}
+
+#[test]
+fn edited_onto(rt: HostRuntime) {
+    onto::edited_onto(&rt, &mut Refusals::at_most(1));
 }
 
 #[test]

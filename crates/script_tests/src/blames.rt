@@ -17,6 +17,24 @@ const FOX_BLAMED: &[u8] = b"0 4 1 0 insert 0 0 \"the \"
 10 3 1 4 insert 0 0 \"fox\"
 ";
 
+/// `ab`, in whose place two changes of one command put `x` and `y`, where the pool has `y` in front of `x`: its header, four nodes, three revisions, two
+/// splices, three rows and pool, worked by hand.
+const EXCHANGED: &[u8] =
+    b"CORDSESS\0\0\0\x02\0\0\0\0\0\0\0\x04\0\0\0\x03\0\0\0\x03\0\0\0\x02\0\0\0\0\0\0\0\x04\
+    \x01\0\0\0\0\0\0\0\0\0\0\0\0\0\0\x02\0\0\0\0\0\0\0\0\0\0\0\0\0\0\0\0\
+    \x01\0\0\0\0\0\0\0\0\0\0\0\0\0\0\x01\0\0\0\0\0\0\0\x03\0\0\0\0\0\0\0\0\
+    \x01\0\0\0\0\0\0\0\0\0\0\0\0\0\0\x01\0\0\0\0\0\0\0\x02\0\0\0\0\0\0\0\0\
+    \x04\x01\0\0\0\0\0\x01\0\0\0\0\0\0\0\x02\0\0\0\x02\0\0\0\0\0\0\0\0\0\0\0\0\
+    \x01\0\0\0\xff\xff\xff\xff\0\0\0\0\0\0\0\0\0\0\0\0\0\0\0\0\0\0\0\0\0\0\0\0\0\0\0\0\0\0\0\0\0\0\0\0\0\0\0\0\0\0\0\0\0\0\0\0\
+    \x03\x01\0\0\0\0\0\0\0\0\0\0\0\0\0\0\0\0\0\0\0\0\0\0\0\0\0\0\0\0\0\0\0\0\0\0\0\0\0\0\0\0\0\0\0\0\0\x02\0\0\0\x01\0\0\0\0\
+    \x0c\x01\0\0\0\0\0\x03\0\0\0\x01\0\0\0\x02\0\0\0\0\0\0\0\0\0\0\0\0\0\0\0\0\0\0\0\0\0\0\0\0\0\0\0\0\0\0\0\0\0\0\0\x02\0\0\0\0\
+    \0\0\0\0\0\0\0\0\0\0\0\0\0\0\0\x01\0\0\0\0\0\0\0\x03\0\0\0\0\0\0\0\x01\
+    \0\0\0\0\0\0\0\x01\0\0\0\0\0\0\0\x01\0\0\0\0\0\0\0\x02\0\0\0\0\0\0\0\x01\
+    \x02\0\0\0\0\0\0\0\0\0\0\0\0\0\0\x02\0\0\0\0\0\0\0\0\
+    \x02\0\0\0\0\0\0\0\0\0\0\0\0\0\0\x01\0\0\0\0\0\0\0\0\
+    \x02\0\0\0\0\0\0\0\0\0\0\0\0\0\0\x01\0\0\0\0\0\0\0\0\
+    abyx";
+
 /// All bytes of the text of a revision.
 fn whole(revision: u64) -> BytesOfText {
     BytesOfText {
@@ -116,6 +134,17 @@ fn changes_side_by_side_are_one_run(rt: HostRuntime) {
         whole(2),
         b"0 2 2 0 many 1 \"xy\"\n",
     );
+}
+
+/// The same text, where the two bytes stand in the pool the other way round.
+#[test]
+fn changes_that_the_pool_has_in_another_order_are_two_runs(rt: HostRuntime) {
+    let mut none = sources_of(&rt, &[]);
+    let mut lines: Vec<u8> = Vec::new(rt.alloc());
+    let answer = run_blame(rt.alloc(), EXCHANGED, &mut none, None, whole(2), &mut lines);
+    assert_same(&rt, &answer, &Ok(()));
+    let wanted = b"0 1 2 0 many 1 \"x\"\n1 1 2 1 many 1 \"y\"\n".as_slice();
+    assert_same(&rt, &lines.as_slice(), &wanted);
 }
 
 #[test]

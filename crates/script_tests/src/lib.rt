@@ -4,6 +4,8 @@
 #[cfg(test)]
 mod blames;
 #[cfg(test)]
+mod commits;
+#[cfg(test)]
 mod lines;
 #[cfg(test)]
 mod logs;

@@ -164,22 +164,24 @@ fn images_that_are_not_accepted(rt: HostRuntime) {
 fn writers_that_fail_in_a_log(rt: HostRuntime) {
     let image = applied(&rt, EACH, &[10]).expect(&rt, "an image");
     for left in 0..EACH_LOGGED.len() {
-        let mut taken: Vec<u8> = Vec::new(rt.alloc());
-        let mut writer = Taker {
-            left,
-            fails: true,
-            taken: &mut taken,
-        };
-        let mut sources = sources_of(&rt, &[SOURCE]);
-        let answer = run_log(
-            rt.alloc(),
-            &image,
-            &mut sources,
-            None,
-            LogTexts::Whole,
-            &mut writer,
-        );
-        assert_same(&rt, &answer, &Err(LogFault::Write));
-        assert_same(&rt, &Some(taken.as_slice()), &EACH_LOGGED.get(..left));
+        for fails in [true, false] {
+            let mut taken: Vec<u8> = Vec::new(rt.alloc());
+            let mut writer = Taker {
+                left,
+                fails,
+                taken: &mut taken,
+            };
+            let mut sources = sources_of(&rt, &[SOURCE]);
+            let answer = run_log(
+                rt.alloc(),
+                &image,
+                &mut sources,
+                None,
+                LogTexts::Whole,
+                &mut writer,
+            );
+            assert_same(&rt, &answer, &Err(LogFault::Write));
+            assert_same(&rt, &Some(taken.as_slice()), &EACH_LOGGED.get(..left));
+        }
     }
 }

@@ -179,23 +179,25 @@ fn scripts_that_do_not_go_on(rt: HostRuntime) {
 #[test]
 fn writers_that_fail_behind_an_image(rt: HostRuntime) {
     for left in 0..TWO_INSERTS.len() {
-        let older = ONE_INSERT.to_vec(rt.alloc()).expect(&rt, "room");
-        let mut taken: Vec<u8> = Vec::new(rt.alloc());
-        let mut writer = Taker {
-            left,
-            fails: true,
-            taken: &mut taken,
-        };
-        let answer = run_apply_onto(
-            rt.alloc(),
-            older,
-            &mut sources_of(&rt, &[]),
-            None,
-            b"insert 1 3 \"d\"",
-            &mut writer,
-            &mut Untold,
-        );
-        assert_same(&rt, &answer, &Err(OntoFault::Write));
-        assert_same(&rt, &Some(taken.as_slice()), &TWO_INSERTS.get(..left));
+        for fails in [true, false] {
+            let older = ONE_INSERT.to_vec(rt.alloc()).expect(&rt, "room");
+            let mut taken: Vec<u8> = Vec::new(rt.alloc());
+            let mut writer = Taker {
+                left,
+                fails,
+                taken: &mut taken,
+            };
+            let answer = run_apply_onto(
+                rt.alloc(),
+                older,
+                &mut sources_of(&rt, &[]),
+                None,
+                b"insert 1 3 \"d\"",
+                &mut writer,
+                &mut Untold,
+            );
+            assert_same(&rt, &answer, &Err(OntoFault::Write));
+            assert_same(&rt, &Some(taken.as_slice()), &TWO_INSERTS.get(..left));
+        }
     }
 }

@@ -103,3 +103,51 @@ fn codes_of_a_script_behind_an_image_are_explained(rt: HostRuntime) -> Result<()
         ],
     )
 }
+
+#[test]
+fn codes_of_an_edit_behind_an_image_are_explained(rt: HostRuntime) -> Result<(), Fail> {
+    let edit = || Action::Edit {
+        onto: Some("missing/a.cord"),
+        keys: Some("a.keys"),
+        session: None,
+        no_clobber: false,
+        image: "b.cord",
+        file: Some("a.txt"),
+    };
+    assert_explained(
+        &rt,
+        &[
+            (
+                edit(),
+                "C1(I4)",
+                "C1(I4): missing/a.cord is of a version of the format that is not known",
+            ),
+            (
+                edit(),
+                "C3(0)",
+                "C3(0): source 0 is not as long as it was when missing/a.cord was made",
+            ),
+            (
+                edit(),
+                "G1(4)",
+                "G1(4): revision 4 of missing/a.cord has a row that compares bytes of a source: a session of its commands is made by cordkit log missing/a.cord SOURCE.. | cordkit apply /dev/stdin SOURCE..",
+            ),
+            (
+                edit(),
+                "K1",
+                "K1: a text of missing/a.cord has more than 2,147,483,647 bytes",
+            ),
+            (
+                edit(),
+                "J1",
+                "J1: a.keys has the keys of another file or image, or something else",
+            ),
+            (
+                edit(),
+                "J4",
+                "J4: b.cord is not what was there when the session began, and stays as it is",
+            ),
+            (edit(), "read", "read: there is no file missing/a.cord"),
+        ],
+    )
+}

@@ -2,10 +2,11 @@
 
 ghost use Rattle.std.specs.Prelude.{◌≡◌, ◌∷◌, [], ◌++◌, codes, length, replicate, Some, None};
 ghost use Rattle.worked_tests.specs.Keys.{cut_of_ab, seventeen_cuts, typed};
-ghost use Rattle.screen_editor.specs.Lines.{line_end, line_start, place_down, place_up};
+ghost use Rattle.text_lines.specs.Lines.{line_end, line_start, place_down, place_up};
 ghost use Rattle.screen_editor.specs.State.{current, last_revision, start_of, text_of};
 ghost use Rattle.screen_editor.specs.Machine.{refused};
-ghost use Rattle.screen_editor.specs.Frame.{cursor_of, frame_of, row_of, status_of};
+ghost use Rattle.text_lines.specs.Screen.{cursor_of, row_of, status_of};
+ghost use Rattle.screen_editor.specs.Frame.{frame_of};
 
 /// The last frame of `a`, `b`, undo, `c`.
 const FRAME: &[u8] =

@@ -238,8 +238,84 @@ fn long_and_short_reads_agree(rt: HostRuntime) {
     }
 }
 
-/// Reads a file whose reads, and those that failed, are counted in the book of a blank.
-fn read_a_file<R: AllocGlobal + Abort, L: Ledger>(rt: &R, file: File, blank: Blank)
+/// Sources with room for so many blocks, over this device.
+fn with_room<'a>(
+    rt: &(impl AllocGlobal + Abort),
+    blocks: usize,
+    device: Slice<'a>,
+) -> FileSources<Slice<'a>> {
+    let room = NonZeroUsize::new(blocks).expect(rt, "a block or more");
+    let mut sources = FileSources::new(rt.alloc(), room, ()).expect(rt, "room for blocks");
+    assert!(rt; sources.add(device).is_ok());
+    sources
+}
+
+/// The first byte of a block.
+fn byte_of_block(
+    rt: &impl Abort,
+    sources: &mut FileSources<Slice<'_>>,
+    block: usize,
+) -> Result<[u8; 5], SourceFault> {
+    let place = (BLOCK_SIZE as u64).saturating_mul(block as u64);
+    read(rt, sources, 0, place, 1)
+}
+
+/// So many blocks of `x`.
+fn blocks_of_x(rt: &(impl AllocGlobal + Abort), blocks: usize) -> Vec<u8> {
+    let mut text = Vec::new(rt.alloc());
+    let size = BLOCK_SIZE.saturating_mul(blocks);
+    text.resize(size, b'x').expect(rt, "memory");
+    text
+}
+
+// The device fails at the call for one block more than there is room for: so each of the others was read once. That one is not kept, and
+// takes no other's place.
+#[test]
+fn as_many_blocks_are_kept_as_there_is_room_for(rt: HostRuntime) {
+    let text = blocks_of_x(&rt, 258);
+    for blocks in [1usize, 2, 256, 257] {
+        let device = Slice::new(&text).failing_at((blocks as u64).saturating_add(1));
+        let mut sources = with_room(&rt, blocks, device);
+        for _ in 0..2 {
+            for block in 0..blocks {
+                let found = byte_of_block(&rt, &mut sources, block);
+                assert_same_at(&rt, &found, &Ok(*b"x...."), &(blocks, block));
+            }
+        }
+        let found = byte_of_block(&rt, &mut sources, blocks);
+        assert_same_at(&rt, &found, &Err(SourceFault::Device), &blocks);
+        let found = byte_of_block(&rt, &mut sources, 0);
+        assert_same_at(&rt, &found, &Ok(*b"x...."), &blocks);
+    }
+}
+
+// One block more takes the place of the first one, and the others are kept: the device fails where the first is read again.
+#[test]
+fn the_block_used_longest_ago_is_let_go(rt: HostRuntime) {
+    let text = blocks_of_x(&rt, 258);
+    for blocks in [1usize, 2, 256, 257] {
+        let device = Slice::new(&text).failing_at((blocks as u64).saturating_add(2));
+        let mut sources = with_room(&rt, blocks, device);
+        for block in 0..=blocks {
+            let found = byte_of_block(&rt, &mut sources, block);
+            assert_same_at(&rt, &found, &Ok(*b"x...."), &(blocks, block));
+        }
+        for block in 1..=blocks {
+            let found = byte_of_block(&rt, &mut sources, block);
+            assert_same_at(&rt, &found, &Ok(*b"x...."), &(blocks, block));
+        }
+        let found = byte_of_block(&rt, &mut sources, 0);
+        assert_same_at(&rt, &found, &Err(SourceFault::Device), &blocks);
+    }
+}
+
+/// Reads three bytes of a file of five, whose reads, and those that failed, are counted in the book of a blank.
+fn read_a_file<R: AllocGlobal + Abort, L: Ledger>(
+    rt: &R,
+    file: File,
+    blank: Blank,
+    wanted: Result<(), SourceFault>,
+)
     requires name { blank.name ≡ L.name }
     requires parts { blank.parts ≡ L.parts }
     requires some { 2 < blank.parts }
@@ -255,8 +331,10 @@ fn read_a_file<R: AllocGlobal + Abort, L: Ledger>(rt: &R, file: File, blank: Bla
             .is_ok()
     );
     let mut buffer = *b"abc";
-    assert_same(rt, &sources.read(0, 2, &mut buffer), &Ok(()));
-    assert_same(rt, &buffer, &[0; 3]);
+    assert_same(rt, &sources.read(0, 2, &mut buffer), &wanted);
+    if wanted.is_ok() {
+        assert_same(rt, &buffer, &[0; 3]);
+    }
     assert_same(
         rt,
         &sources.read(0, 3, &mut buffer),
@@ -267,5 +345,17 @@ fn read_a_file<R: AllocGlobal + Abort, L: Ledger>(rt: &R, file: File, blank: Bla
 #[test]
 fn a_file_is_a_device(rt: HostRuntime) {
     let file = File::open(&rt, "/dev/zero").expect(&rt, "a file");
-    read_a_file::<HostRuntime, Brand>(&rt, file, Blank::new(3));
+    read_a_file::<HostRuntime, Brand>(&rt, file, Blank::new(3), Ok(()));
+}
+
+#[test]
+fn a_file_that_has_ended_is_short(rt: HostRuntime) {
+    let file = File::open(&rt, "/dev/null").expect(&rt, "a file");
+    read_a_file::<HostRuntime, Brand>(&rt, file, Blank::new(3), Err(SourceFault::Short));
+}
+
+#[test]
+fn a_folder_fails_as_a_device(rt: HostRuntime) {
+    let folder = File::open(&rt, "/").expect(&rt, "a folder");
+    read_a_file::<HostRuntime, Brand>(&rt, folder, Blank::new(3), Err(SourceFault::Device));
 }

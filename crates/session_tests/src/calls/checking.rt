@@ -1,6 +1,6 @@
 //! Images that are accepted or refused, and what is fetched of them.
 
-use super::fakes::{CutShort, FailsOnce, Unreadable};
+use super::fakes::{CutShort, FailsFirst, FailsOnce, Unreadable};
 use super::records::{
     Node, Records, compared, empty, filled, image_of, insert, inserted, joined, leaf, literal,
     longest_opened, one_insert, open, opened, part, shared, two_opened,
@@ -279,6 +279,48 @@ fn source_is_read_for_rows_of_bytes_alone(rt: HostRuntime) {
         assert_same_at(&rt, &counts(&image, &mut sources), &answer, &rows);
         assert_same_at(&rt, &sources.is_read, &is_read, &rows);
     }
+}
+
+/// The image of a source of so many bytes, opened with one row of bytes.
+fn one_compared<A: AllocGlobal + Abort>(rt: &A, size: u64) -> Vec<u8> {
+    let records = Records {
+        version: 1,
+        sources: &[[size]],
+        nodes: &[opened(0, size)],
+        revisions: &[open(0, 0, 0, 1)],
+        splices: &[],
+        rows: &[compared(size)],
+        pool: b"",
+    };
+    image_of(rt, &records)
+}
+
+#[test]
+fn a_device_that_fails_once_is_told_and_then_accepted(rt: HostRuntime) {
+    let room = FileSources::new(rt.alloc(), NonZeroUsize::MIN, ());
+    let mut sources = room.expect(&rt, "room for a block");
+    let device = FailsFirst {
+        calls: 0,
+        failed: 0,
+    };
+    assert!(&rt; sources.add(device).is_ok());
+    let image = one_compared(&rt, 3);
+    let fault = Err(CheckFault::Source(SourceFault::Device));
+    assert_same(&rt, &counts(&image, &mut sources), &fault);
+    assert_same(&rt, &counts(&image, &mut sources), &Ok((1, 1)));
+    let longer = one_compared(&rt, 4);
+    let fault = Err(CheckFault::SourceLength(0));
+    assert_same(&rt, &counts(&longer, &mut sources), &fault);
+}
+
+#[test]
+fn a_row_of_bytes_over_a_file_that_was_cut_short_is_short(rt: HostRuntime) {
+    let room = FileSources::new(rt.alloc(), NonZeroUsize::MIN, ());
+    let mut sources = room.expect(&rt, "room for a block");
+    assert!(&rt; sources.add(CutShort).is_ok());
+    let image = one_compared(&rt, 5);
+    let fault = Err(CheckFault::Source(SourceFault::Short));
+    assert_same(&rt, &counts(&image, &mut sources), &fault);
 }
 
 #[test]

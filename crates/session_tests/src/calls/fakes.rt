@@ -89,6 +89,42 @@ impl Sources for FailsOnce {
     }
 }
 
+/// A file of the three bytes `abc`, whose first read fails.
+#[derive(Clone, Copy)]
+pub struct FailsFirst {
+    pub calls: u64,
+    pub failed: u64,
+}
+
+impl Device for FailsFirst {
+    type Book = ();
+
+    ghost use Rattle.lazy_file.specs.DeviceTexts.{unstated};
+
+    ghost reading = { λ d. record { stated = unstated 3; failures = d.failed; calls = d.calls } };
+
+    fn size(&self) -> u64 {
+        3
+    }
+
+    fn read_at(
+        &mut self,
+        _book: &mut (),
+        off: u64,
+        buffer: &mut [u8],
+    ) -> Result<usize, DeviceError> {
+        self.calls = self.calls.saturating_add(1);
+        if self.failed == 0 {
+            self.failed = 1;
+            return Err(DeviceError);
+        }
+        let rest = b"abc".get(off as usize..).unwrap_or(&[]);
+        let count = rest.len().min(buffer.len());
+        buffer[..count].copy_from_slice(&rest[..count]);
+        Ok(count)
+    }
+}
+
 /// A file that had five bytes when it was opened, and has three now.
 #[derive(Clone, Copy)]
 pub struct CutShort;

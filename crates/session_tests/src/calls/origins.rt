@@ -3,9 +3,10 @@
 use super::many::three_changes;
 use super::texts::{made, two_texts, written};
 use super::{assert_same, assert_same_at};
-use byte_origins::{Brought, Origin, OriginRun, Origins, origin};
-use edit_commands::{Command, Session};
+use byte_origins::{Brought, Origin, OriginRun, Origins, leaf_span, origin};
+use edit_commands::{Change, Command, Session};
 use lazy_file::{MemSources, Sources};
+use rope_node::{LeafSpan, NodeId, NodeSpace};
 use session_checker::{Checked, check};
 use std::alloc::AllocGlobal;
 use std::process::Abort;
@@ -237,5 +238,76 @@ fn a_source_and_a_fill_are_told_apart(rt: HostRuntime) {
     ] {
         let found = origin(&image, 1, place).map(|run| run.first.brought);
         assert_same_at(&rt, &found, &Some(brought), &place);
+    }
+}
+
+/// How many bytes the longer text has, of which each second one is changed.
+const LONG: usize = 800;
+
+/// Each second byte of a text gives way to another one, so that a run is one byte long: more of them than are walked for so few revisions.
+#[test]
+fn many_runs_are_told_in_their_order(rt: HostRuntime) {
+    let mut session = two_texts(&rt, &[b'a'; LONG]);
+    let mut changes = [Change { p: 0, m: 1, n: 1 }; LONG / 2];
+    let mut place = 0u64;
+    for change in changes.iter_mut() {
+        change.p = place;
+        place = place.saturating_add(2);
+    }
+    let command = Command::Many {
+        r: 1,
+        changes: &changes,
+        bytes: &[b'b'; LONG / 2],
+    };
+    assert_same(&rt, &made(&rt, &mut session, command), &2);
+    assert_same(
+        &rt,
+        &made(&rt, &mut session, Command::Join { r: 2, q: 1 }),
+        &3,
+    );
+    let bytes = written(&rt, &session);
+    let mut none = MemSources::new(rt.alloc());
+    let image = check(&bytes, &mut none).expect(&rt, "the image is accepted");
+    assert!(&rt; 3 < image.revisions());
+    let mut left = Origins::of(rt.alloc(), &image, 3, 0, u64::MAX).expect(&rt, "memory");
+    for place in 0..LONG as u64 {
+        let run = left.next().expect(&rt, "memory").expect(&rt, "a run");
+        let revision = if place % 2 == 0 { 2 } else { 1 };
+        assert_same_at(&rt, &run.len, &1, &place);
+        assert_same_at(&rt, &run.first.revision, &revision, &place);
+        assert_same_at(&rt, &run.first.place, &place, &place);
+        assert_same_at(&rt, &origin(&image, 3, place), &Some(run), &place);
+    }
+    let run = left.next().expect(&rt, "memory").expect(&rt, "a run");
+    assert_same(
+        &rt,
+        &(run.first.revision, run.first.place, run.len),
+        &(1, 0, LONG as u64),
+    );
+    assert_same(&rt, &left.next().expect(&rt, "memory"), &None);
+}
+
+/// A node's bytes from a place on lie in one leaf up to the leaf's end.
+#[test]
+fn a_way_leads_down_to_a_leaf(rt: HostRuntime) {
+    let mut session = two_texts(&rt, &[b'a'; 40]);
+    assert_same(
+        &rt,
+        &made(&rt, &mut session, Command::Join { r: 1, q: 1 }),
+        &2,
+    );
+    let bytes = written(&rt, &session);
+    let mut none = MemSources::new(rt.alloc());
+    let image = check(&bytes, &mut none).expect(&rt, "the image is accepted");
+    let root = image.root(2).expect(&rt, "a root").expect(&rt, "a text");
+    for (place, start, len) in [(0, 0, 40), (39, 39, 1), (40, 0, 40), (45, 5, 35)] {
+        let leaf = NodeId(0);
+        assert!(&rt; root.0 < image.count() && place < image.len(root));
+        assert_same_at(
+            &rt,
+            &leaf_span(&image, root, place),
+            &LeafSpan { leaf, start, len },
+            &place,
+        );
     }
 }
