@@ -34,21 +34,23 @@ is_stopped "no input" read
 status=0
 "$program" < . > "$out" 2> "$err" || status=$?
 is_stopped "a folder as input" read
-for words in "check . $folder/abc" "show . 1" "show stdin 1 ." "migrate ." "apply ." "apply --onto stdin ." "apply --onto . $folder/abc" "cut 0 1 ." "join $folder/abc ." "find 0 c ." "cmp $folder/abc ."; do
+for words in "check . $folder/abc" "show . 1" "show stdin 1 ." "migrate ." "apply ." "apply --onto stdin ." "apply --onto . $folder/abc" "cut 0 1 ." \
+    "join $folder/abc ." "find 0 c ." "cmp $folder/abc ." "edit $folder/image ." "edit --onto . $folder/image" \
+    "edit --onto stdin $folder/image ." "edit --onto . --keep $folder/keys $folder/image" "edit --onto stdin --keep $folder/keys $folder/image ."; do
     status=0
-    "$program" $words > "$out" 2> "$err" || status=$?
+    "$program" $words < /dev/null > "$out" 2> "$err" || status=$?
     is_stopped "a folder: $words" read
 done
 
 # No output, and one that has no room.
 : > "$out"
 for words in "check stdin" "show stdin 1" "migrate stdin" "cut 0 1 $folder/abc" "join $folder/abc" "find 0 c $folder/abc" \
-    "cmp $folder/abc $folder/b"; do
+    "cmp $folder/abc $folder/b" "edit --onto stdin $folder/image"; do
     status=0
-    "$program" $words >&- 2> "$err" || status=$?
+    "$program" $words < /dev/null >&- 2> "$err" || status=$?
     is_stopped "no output: $words" write
     status=0
-    "$program" $words > /dev/full 2> "$err" || status=$?
+    "$program" $words < /dev/null > /dev/full 2> "$err" || status=$?
     is_stopped "a full device: $words" write
 done
 
@@ -66,6 +68,37 @@ while [ "$taken" -le "${#answer}" ]; do
     is_stopped "room for $taken bytes" write "$(printf %s "$answer" | head -c "$taken")"
     taken=$((taken + 1))
 done
+
+# A session that takes the place of the image that it goes on from: no file takes its keys; and there is room for these and not for the image, which is as
+# it was then. The same command plays what was kept, and saves it.
+cp stdin "$folder/image"
+printf 'abcdefgh\030' > "$folder/typed"
+printf '\030' > "$folder/save"
+goes_on() {
+    status=0
+    "$program" edit --onto "$folder/image" --keep "$1" "$folder/image" < "$folder/$2" > /dev/null 2> "$err" || status=$?
+    : > "$out"
+}
+for keys in "$folder" "$folder/abc/keys" "$folder/missing/keys"; do
+    goes_on "$keys" typed
+    is_stopped "no file for keys: $keys" write
+done
+(
+    trap '' XFSZ
+    ulimit -f 1
+    goes_on "$folder/keys" typed
+    exit "$status"
+) || status=$?
+is_stopped "no room for an image" write
+cmp -s stdin "$folder/image" && [ ! -e "$folder/image.new" ] && [ ! -e "$folder/keys.saved" ] && tail -c +57 "$folder/keys" > "$out"
+status=3
+echo write > "$err"
+is_stopped "the image is as it was, and the keys are kept" write abcdefgh
+goes_on "$folder/keys" save
+[ ! -e "$folder/keys" ] && [ "$status" = 0 ] && "$program" show "$folder/image" 9 > "$out"
+status=3
+echo write > "$err"
+is_stopped "they are saved then" write abcdefghabc
 
 echo "$passed passed, $failed failed"
 [ "$failed" = 0 ]

@@ -1,9 +1,9 @@
-"""docs/HEADLINE.md: the clause of the checker that says what an accepted image is, and every definition that it rests on, in reading order, and
-nothing else; behind it how much the contract of each public call rests on. Where the page is not what specs/ say now, the last line says so, and
-the status is 1.
+"""Two pages that are made from specs/. docs/HEADLINE.md: the clause of the checker that says what an accepted image is, and every definition that it
+rests on, in reading order, and nothing else; behind it how much the contract of each public call rests on. docs/DEFINITIONS.md: each other definition
+that the contract of a public call rests on, by the comment above it. Where a page is not what specs/ say now, a line says so, and the status is 1.
 
-headline.py                        compares the page with what it would write
-headline.py --write                writes it
+headline.py                        compares the pages with what it would write
+headline.py --write                writes them
 headline.py CRATE CALL [CLAUSE]    prints what another call rests on, or one clause of it: headline.py rope_store Store::append
 headline.py --bare                 prints which definitions have no comment, of those in the page and of those that public calls cite"""
 
@@ -14,8 +14,13 @@ import textwrap
 sys.dont_write_bytecode = True
 from definitions import TOP, Crates
 
-PAGE = os.path.join(TOP, "docs/HEADLINE.md")
+HEADLINE, DEFINITIONS = "docs/HEADLINE.md", "docs/DEFINITIONS.md"
 CRATE, CALL, CLAUSE = "session_checker", "check", "faithful"
+
+
+def read(name):
+    with open(os.path.join(TOP, name), encoding="utf-8") as file:
+        return file.read()
 
 
 def is_code(key):
@@ -76,6 +81,10 @@ def filled(text):
     return textwrap.fill(" ".join(text.split()), 150, break_on_hyphens=False)
 
 
+def listed(text):
+    return textwrap.fill(f"- {text}", 150, subsequent_indent="  ", break_on_hyphens=False)
+
+
 def found(crates, crate, name):
     return next((call for call in crates.calls if (call.crate, call.name) == (crate, name)), None)
 
@@ -107,18 +116,21 @@ def call_lists(crates):
     for crate in crates.names:
         sizes = [f"`{call.name}` {crates.size(rested(crates, call))}" for call in crates.calls if call.crate == crate]
         if sizes:
-            told.append(textwrap.fill(f"- **{crate}**: {', '.join(sizes)}", 150, subsequent_indent="  ", break_on_hyphens=False))
+            told.append(listed(f"**{crate}**: {', '.join(sizes)}"))
     return "\n".join(told) + "\n"
 
 
 def page(crates):
     call = found(crates, CRATE, CALL)
     keys = rested(crates, call, CLAUSE)
-    opening = f"""What a sceptic reads. The program says `accepted` of an image where `{CALL}` of `{CRATE}` accepts it, and what that means is the
-        clause `{CLAUSE}` below. This page has that clause and every definition that it rests on, each behind those that it uses, and nothing
-        else: {counted(crates, keys)}. Whoever would rather go from the claim down begins at the last one. That the code keeps to the clause is
-        what the gate proves. Words that stand nowhere here, as `length`, `take`, `map`, `get_or` or `Option`, are those of Rattle's standard
-        library."""
+    opening = f"""For readers who want to know exactly what `accepted` claims. The program prints it where `{CALL}` of `{CRATE}` accepts an image;
+        the clause `{CLAUSE}` below says what that means, and the gate proves that the code keeps to it. This page has the clause and every
+        definition that it rests on, and nothing else: {counted(crates, keys)}."""
+    how = """How to read it. From the top, each definition comes after those that it uses. From the claim down, begin at `IsFaithful`, the last
+        definition before "The other clauses", and search the page for each name that you meet. The line above a definition says it in words;
+        `a ≡ b` is equality, `→` "implies", `×` "and", `∀` "for each", `λ x. ..` a function of x. Names that are defined nowhere here, such as
+        `length`, `take`, `map`, `get_or` or `Option`, are those of Rattle's standard library. [START](START.md) explains rope, session and image,
+        [FORMAT](FORMAT.md) the bytes."""
     closing = """The lines of definitions, with their comments, and of types and limits of the code, that the contract of each call rests on. How a
         type of the code is seen as a value (`ghost view`) is not counted. `python3 tests/headline.py CRATE CALL` prints them, as `python3
         tests/headline.py rope_store Store::append`."""
@@ -127,6 +139,8 @@ def page(crates):
 Made from the crates' `specs/` by `python3 tests/headline.py --write`; `make check` fails where it is stale.
 
 {filled(opening)}
+
+{filled(how)}
 
 ## The clause
 
@@ -142,6 +156,47 @@ Made from the crates' `specs/` by `python3 tests/headline.py --write`; `make che
 {call_lists(crates)}"""
 
 
+def said(crates, key):
+    """A definition by the comment above it."""
+    return " ".join(" ".join(line[2:] for line in crates.comments[key]).split())
+
+
+def words_page(crates):
+    """Each definition that the contract of a public call rests on and that the other page has not, file by file."""
+    inside = rested(crates, found(crates, CRATE, CALL), CLAUSE)
+    keys = crates.closure(set().union(*(crates.met(call.place, call.text()) for call in crates.calls))) - inside
+    opening = """What the contracts of the public calls rest on, in the words of the comments in `specs/`: a reference, to be searched for a name.
+        Those that the meaning of `accepted` rests on are left out, since [HEADLINE](HEADLINE.md) has them in full. `python3 tests/headline.py CRATE CALL`
+        prints the definitions of one call with their text. Numbers in definitions have no upper bound, and `-` stops at 0."""
+    worked = """They share with the code only the names of its cases and its limits. `crates/worked_tests` computes them on worked examples, whose
+        expected values come from outside the code: from stored images, and by hand."""
+    told, crate = [], None
+    for place in in_order(crates, {key for key in keys if not is_code(key)}):
+        of, file = place.split(".", 1)
+        if of != crate:
+            told.append(f"## {of}\n")
+            crate = of
+        here = [key for key in crates.lines if key[0] == place and key in keys]
+        intro = " ".join(crates.intros[place]).strip()
+        told.append(filled(f"**{file}**" + (f": {intro}" if intro else "")))
+        told += [listed(f"`{key[1]}`: {said(crates, key)}") for key in here if crates.comments[key]]
+        bare_names = ", ".join(f"`{key[1]}`" for key in here if not crates.comments[key])
+        told += [listed(f"by their names alone: {bare_names}")] if bare_names else []
+        told[-1] += "\n"
+    return f"""# The definitions, in words
+
+Made from the crates' `specs/` by `python3 tests/headline.py --write`; `make check` fails where it is stale.
+
+{filled(opening)}
+
+{filled(worked)}
+
+""" + "\n".join(told)
+
+
+PAGES = {HEADLINE: page, DEFINITIONS: words_page}
+
+
 def bare(crates):
     """Which definitions have no comment."""
     inside = rested(crates, found(crates, CRATE, CALL), CLAUSE)
@@ -154,8 +209,9 @@ def bare(crates):
 def main(words):
     crates = Crates()
     if words == ["--write"]:
-        with open(PAGE, "w", encoding="utf-8") as file:
-            file.write(page(crates))
+        for name, made in PAGES.items():
+            with open(os.path.join(TOP, name), "w", encoding="utf-8") as file:
+                file.write(made(crates))
     elif words == ["--bare"]:
         bare(crates)
     elif words:
@@ -165,10 +221,9 @@ def main(words):
         keys = rested(crates, call, *words[2:])
         print(f"{head(call, *words[2:])}\n{counted(crates, keys)}\n\n{definitions(crates, keys)}", end="")
     else:
-        with open(PAGE, encoding="utf-8") as file:
-            is_new = file.read() == page(crates)
-        print("docs/HEADLINE.md is what specs/ say" if is_new else "docs/HEADLINE.md is stale: python3 tests/headline.py --write")
-        return not is_new
+        stale = [name for name, made in PAGES.items() if read(name) != made(crates)]
+        print(f"stale: {' and '.join(stale)}: python3 tests/headline.py --write" if stale else f"{' and '.join(PAGES)} are what specs/ say")
+        return bool(stale)
     return 0
 
 

@@ -12,7 +12,7 @@ if ! [ -x "$CORDKIT" ]; then
     echo "0 passed, 1 failed"
     exit 1
 fi
-pipes='over_another discarding gone_on two_files_of_keys left_behind no_room words_of_the_script'
+pipes='over_another discarding gone_on two_files_of_keys left_behind no_room words_of_the_script goes_on between_renames two_over_one'
 if ! command -v tmux > /dev/null; then
     echo "there is no tmux here: nothing was tried in a terminal"
     # shellcheck disable=SC2086 # words
@@ -70,8 +70,10 @@ basic() {
     clean; ready image; type_text abc; await shows 'rev 3'; is 'kept' "$(body)" abc
     keys C-x; ended; is 'saved' "$(cat status) $(text) $(echo image*)" '0 restored abc image'
     type_text next; keys Enter; await test -s answer; is 'no key is eaten after Save' "$(cat answer)" next
-    wanted='1 refused J3
-J3: image is there already: cordedit -f replaces it, and cordedit --continue image NEW begins with its last text'; refused 'there already' image
+    start image; await shows 'rev 3 byte 0 of 3'; type_text d; await shows 'rev 4'; keys C-x; ended; is 'goes on with what is there' "$(cat status) $(text) $(echo image*)" '0 restored dabc image'
+    start image; await shows 'rev 4 byte 0 of 4'; keys C-u; await shows 'rev 5 byte 0 of 3'; keys C-c; ended; is 'undo crosses Save' "$(cat status) $(tail -c 1 image.keys | od -An -tx1) $(text)" '0 restored  15 dabc'
+    wanted="2 cordedit: image.keys has keys over the image that is there: without -f the same command goes on from there, and cordedit --discard 'image' drops them"; refused 'they are not over the file' -f image
+    start image; await shows 'rev 5 byte 0 of 3'; keys C-x; ended; is 'goes on from there' "$(cat status) $(text) $(echo image*)" '0 restored abc image'
     ready -f image; type_text new; keys C-x; ended; is 'replaced' "$(text) $(echo image*)" 'new image'
     clean; ready image; type_text abc; await shows 'rev 3'; keys C-c; ended; is 'left' "$(cat status) $(body) $(echo image*)" '0 restored abc image.keys'; sed 's/^/    /' said
     start image; await shows 'rev 3 byte 3 of 3'; type_text d; await shows 'rev 4'; is 'goes on' "$(body)" abcd; keys C-x; ended; is 'saved' "$(text) $(echo image*)" 'abcd image'
@@ -85,9 +87,9 @@ C1(I3): image.new is no image, and stays as it is: move it away or remove it, an
     : > image.new; ready image; type_text a; await shows 'rev 1'; keys C-x; ended; is 'an empty one is replaced' "$(text) $(echo image*)" 'a image'; printf 'prose' > image
     "$CORDKIT" edit image < /dev/null > out 2> err; is 'prose, without the option' "$? $(cat err) $(wc -c < out) $(cat image)" '1 refused C1(I3) 0 prose'
     rm -f image; echo mine > image.keys; wanted='1 refused J1
-J1: image.keys has the keys of another file, or something else'; refused 'no journal' image; is 'as it was' "$(cat image.keys)" mine; clean
+J1: image.keys has the keys of another file or image, or something else'; refused 'no journal' image; is 'as it was' "$(cat image.keys)" mine; clean
     printf 'one\ntwo\n' > file; ready image file; type_text x; await shows 'rev 1'; keys C-c; ended; echo three >> file; wanted='1 refused J1
-J1: image.keys has the keys of another file, or something else
+J1: image.keys has the keys of another file or image, or something else
 cordedit: not saved; the keys are kept: the same command goes on from there, and cordedit --discard '"'image'"' drops them'; refused 'another text' image file
     printf 'one\ntwo\n' > file; start image file; await shows 'rev 1'; keys C-x; ended; printf 'xone\ntwo\n' > want; "$CORDKIT" show image 1 file | cmp - want && is 'the same text again' '' ''
     clean; ready image; type_text a; await shows 'rev 1'; mkdir -p other; "$CORDKIT" edit --keep=image.keys image < /dev/null > /dev/null 2> err; is 'in use' "$? $(cat err)" '1 refused J2'; keys C-x; ended; is 'not disturbed' "$(text)" a
@@ -153,6 +155,15 @@ signals() {
     ready --text out image; type_text abc; await shows 'rev 3'; start_beside image; await grep -q J2 said_beside; keys C-x; ended
     is 'a second session takes nothing away' "$(cat status) $(cat out) $(files) $(grep -c discard said_beside)" '0 restored abc image 0'; rm -f out said_beside; clean
     ready --text missing/out image; type_text abc; await shows 'rev 3'; keys C-x; ended; is 'what was asked for is not written' "$(cat status) $(tail -n 1 said) $(text)" '3 restored cordedit: missing/out could not be written abc'; clean
+    printf 'xy\030' | "$CORDKIT" edit image > /dev/null; start image; await shows 'rev 2'; type_text abc; await shows 'rev 5'; kill -s TSTP "$(cat wrapper)"; await is_stopped; is 'stopped over an image' "$(program_id)$(body)" abc
+    kill -s CONT "$(cat wrapper)"; await shows 'rev 5 byte 3 of 5'; type_text d; await shows 'rev 6'; keys C-x; ended; is 'and gone on' "$(cat status) $(text) $(files)" '0 restored abcdxy image'
+    start image; await shows 'rev 6'; type_text e; await shows 'rev 7'; cat other.cord > image; keys C-x; ended; is 'another image meanwhile, over an image' "$(cat status) $(head -n 1 said) $(tail -n 1 said) $(image_of image) $(image_of image.saved-1) $(body)" \
+        "1 restored refused J4 cordedit: not saved; the keys are kept: they belong to the image that was there, and cordedit --discard 'image' drops them theirs eabcdxy e"
+    start image; ended; is 'keys over what is gone' "$(cat status) $(head -n 1 said) $(tail -n 1 said)" "1 restored refused J1 cordedit: not saved; the keys are kept: over the image and the file that they belong to the same command goes on from there, and cordedit --discard 'image' drops them"; clean
+    printf 'xy\030' | "$CORDKIT" edit image > /dev/null; printf abc | "$CORDKIT" edit --onto=image --keep=image.keys image > /dev/null
+    printf '#!/bin/sh\nmv image.keys image.keys.saved\nkill -9 $$\n' > within_save; chmod +x within_save; program=$CORDKIT; CORDKIT=$room/within_save; start image; ended; CORDKIT=$program
+    is 'killed within Save' "$(cat status) $(grep cordedit said)" '137 restored cordedit: ended within Save: the same command goes on with the image, or with its keys where it is not in its place'
+    start image; await shows 'rev 5 byte 3 of 5'; keys C-x; ended; is 'and saved' "$(cat status) $(text) $(files)" '0 restored abcxy image'; rm -f within_save; clean
     wanted='2 cordedit: the terminal has fewer than 80 columns or 24 rows'
     size='-x 79 -y 24'; refused narrow image; size='-x 80 -y 23'; refused low image; size='-x 80 -y 24'; clean
 }
@@ -175,8 +186,8 @@ parents() {
 random_keys() { head -c 20000 /dev/urandom | LC_ALL=C tr -dc 'a-z\r\002\006\001\005\020\016\000\027\031\024\025\014\177\004' | head -c 600; }
 kills() {
     for i in $(seq 1 "${KILLS:-10}"); do
-        clean; rm -f plain; random_keys > all; printf '\030' | cat all - > saving; "$CORDKIT" edit plain < saving > /dev/null
-        ready image; took=0 rounds=0
+        clean; rm -f plain; random_keys > all; printf '\030' | cat all - > saving; "$CORDKIT" edit ${1:+--onto="$1"} plain < saving > /dev/null
+        [ $# = 0 ] || cp "$1" image; start image; await shows byte; took=0 rounds=0
         while :; do
             tail -c +$((took + 1)) all > rest
             [ -s rest ] || break
@@ -195,6 +206,9 @@ kills() {
     n=$(last); k=0; while [ "$k" -le "$n" ]; do "$CORDKIT" show image "$k" > a; "$CORDKIT" show plain "$k" > b; cmp -s a b || echo "revision $k differs"; k=$((k + 1)); done; echo "    $n revisions of the last session compared"
     clean
 }
+
+# The same over an image that is there.
+kills_onto() { random_keys > all; printf '\030' | cat all - | "$CORDKIT" edit older > /dev/null; kills older; rm -f older; }
 
 devices() {
     if mkdir -p small && mount -t tmpfs -o size=64k tmpfs small 2> /dev/null; then
@@ -400,7 +414,7 @@ words_of_the_script() {
     printf 'abc' | "$CORDEDIT" "it's" > /dev/null; "$CORDEDIT" --discard "it's"; is 'a name with a quote' "$? $(echo it*)" '0 it*'
     printf 'one' > file; printf 'x\030' | "$CORDEDIT" --copy --text out image file > /dev/null; is 'a text and a copy, without a terminal' "$? $(cat out image.0)" '0 xoneone'
     printf 'x\030' | "$CORDEDIT" -f --text missing/out image file > /dev/null 2> said; is 'what was asked for and not written' "$? $(tail -n 1 said)" '3 cordedit: missing/out could not be written'
-    printf 'x\030' | "$CORDEDIT" --text out2 image file > /dev/null 2> said; is 'nothing is asked of what was not saved' "$? $(head -n 1 said) $(echo out2*)" '1 refused J3 out2*'
+    printf 'x\030' | "$CORDEDIT" --text out2 image image > /dev/null 2> said; is 'nothing is asked of what was not saved' "$? $(head -n 1 said) $(echo out2*)" '1 refused C3(0) out2*'
     printf 'x\030' | "$CORDEDIT" file > /dev/null 2> said; is 'a file that is no image' "$? $(head -n 1 said) $(cat file)" '1 refused C1(I3) one'
     printf 'y\030' | "$CORDEDIT" --continue missing next > /dev/null 2> said; is 'no image to go on from' "$? $(echo next*)" '2 next*'
     printf 'y\030' | "$CORDEDIT" --continue image next file > /dev/null; is 'goes on from the last text' "$? $("$CORDKIT" show next 1 next.0)" '0 yxone'
@@ -410,8 +424,164 @@ words_of_the_script() {
     rm -f -- -i.cord* out* next* file; clean
 }
 
+# An image that is there is gone on from, by the script without a terminal.
+edits() { "$CORDEDIT" "$@" 2> said | tail -n 1 | sed "s/^.*\(rev [0-9]* byte [0-9]* of [0-9]*\).*/\1/"; }
+texts() { k=0 && while [ "$k" -le "$(last "$@")" ]; do "$CORDKIT" show image "$k" "$@" && printf '.' && k=$((k + 1)); done; }
+number() { od -An -tu1 -j 11 -N 1 image.keys | tr -d ' '; }
+told_by() { head -n 2 said | tr '\n' ' '; }
+goes_on() {
+    clean; rm -f file next*; is 'no image' "$(printf 'ab' | edits image) $(number)" 'rev 2 byte 2 of 2 1'; is 'its keys' "$(printf '\030' | edits image) $(texts)" 'rev 2 byte 2 of 2 .a.ab.'
+    is 'an image' "$(printf 'c\025\030' | edits image) $(texts)" 'rev 4 byte 1 of 2 .a.ab.cab.ab.'; is 'and again' "$(printf '\025\025\030' | edits image) $(texts) $(files)" 'rev 6 byte 0 of 0 .a.ab.cab.ab.a.. image'
+    before=$(cksum < image); is 'only looked' "$(printf '\005' | edits image) $(files)" 'rev 6 byte 0 of 0 image'; printf 'x' | edits image > out; is 'keys over it' "$(cat out) $(number) $(body) $(cksum < image)" "rev 7 byte 1 of 1 2 x $before"
+    printf 'y' | edits -f image > out; is 'they are not over the file' "$(cat said)" "cordedit: image.keys has keys over the image that is there: without -f the same command goes on from there, and cordedit --discard 'image' drops them"
+    printf 'y' | edits --continue next image > out; is 'nor over another text' "$(cat said) $(echo image*)" "cordedit: image.keys has keys over image itself: cordedit 'image' goes on from there, and cordedit --discard 'image' drops them image image.keys"
+    cp image older; printf 'insert 6 0 "theirs"\n' > script; "$CORDKIT" apply --onto older script > image
+    printf 'y\030' | edits image > out; is 'another image' "$(told_by)$(body) $(text)" 'refused J1 J1: image.keys has the keys of another file or image, or something else x theirs'
+    cp older image; is 'the image again' "$(printf 'y\030' | edits image) $(text) $(files)" 'rev 8 byte 2 of 2 xy image'; rm -f older
+    printf 'z' | edits image > out; "$CORDEDIT" --discard image; is 'its keys are dropped' "$? $(files)" '0 image'; is 'and it is gone on from' "$(edits image < /dev/null)" 'rev 8 byte 0 of 2'
+    # A file of keys without a key is in nobody's way: of a session over the image, or from a file, or torn
+    printf 'k' | "$CORDKIT" edit --keep=image.keys none > /dev/null; mv image.keys from_file; printf 'k' | edits image > out; mv image.keys over_it; cp image older; printf 'k\030' | edits image > out
+    for n in 0 1 8 11 12 30 55 56; do for kept in from_file over_it; do
+        head -c $n $kept > image.keys; is "$n bytes of $kept" "$(printf 'l\003' | edits image) $(number) $(body) $(files)" 'rev 10 byte 1 of 4 2 l image image.keys'; rm image.keys
+        head -c $n $kept > image.keys; is "$n bytes of $kept, and the file" "$(printf 'l\003' | edits -f image) $(number) $(body)" 'rev 1 byte 1 of 1 1 l'; rm image.keys
+    done; done
+    cat from_file > image.keys; printf '\030' | edits image > out; is 'keys from the file, and another image' "$(told_by)$(body)" 'refused J3 J3: image is there already: cordedit -f replaces it, and cordedit --continue image NEW begins with its last text k'
+    is 'they may replace it' "$(printf '\030' | edits -f image) $(texts) $(files)" 'rev 1 byte 1 of 1 .k. image'; rm -f from_file over_it older out
+    # A file, and its copy
+    clean; printf one > file; printf 'x\030' | edits --copy image file > out; is 'a copy is the file' "$(printf 'y\030' | edits --text out image) $(texts file) $(cat out)" 'rev 2 byte 1 of 5 one.xone.yxone. yxone'
+    rm image.0; printf 'z' | edits image > out; is 'no file' "$(told_by)$(files)" 'refused C2 C2: image was made over one source, of 3 bytes, and 0 are given image'
+    printf four > four; printf 'z' | edits image four > out; is 'a longer file' "$(told_by)$(files)" 'refused C3(0) C3(0): source 0, four, has 4 bytes, and the image was made over 3 image'
+    is 'its file' "$(printf 'z' | edits image file)" 'rev 3 byte 1 of 6'; printf two > four; printf '\030' | edits image four > out; is 'keys of another text' "$(told_by)$(body)" 'refused J1 J1: image.keys has the keys of another file or image, or something else z'
+    is 'and of this one' "$(printf '\030' | edits image file) $(text file)" 'rev 3 byte 1 of 6 zyxone'
+    printf 'new\n' | "$CORDKIT" apply /dev/stdin file four > image; printf 'z' | edits image file > out; is 'two files' "$(told_by)$(files)" 'refused C2 C2: the sources of image are 2 in number, and 1 are given image'; rm -f four
+    # What is no session, or one that cannot be gone on from
+    printf prose > image; printf 'z' | edits image > out; is 'prose' "$(told_by)$(cat image) $(files)" 'refused C1(I3) C1(I3): image is no image, and stays as it is: move it away or remove it, and give the same command again prose image'
+    : > image; is 'an empty one is begun' "$(printf 'z\030' | edits image) $(files)" 'rev 1 byte 1 of 1 image'
+    tr -d '[:space:]' < "$here/tests/vectors/bytes_row_over_a_source.hex" | tr a-f A-F | basenc --base16 -d > image; before=$(cksum < image); printf abc > file
+    printf 'z\030' | edits image file > out; is 'a row of bytes over a source' "$(head -n 1 said) $(cksum < image) $(files)" "refused G1(0) $before image"; rm -f file
+    clean; printf 'a\030' | edits real > out; chmod 640 real; ln -s real image; is 'a link' "$(printf 'b\030' | edits image) $(text) $(stat -c %a real) $(readlink image) $(files)" 'rev 2 byte 1 of 2 ba 640 real image'; rm -f real; clean
+}
+
+# Every state between the steps of a Save over an image, laid out by hand: the same command ends with the image of the run that nothing ended.
+lay_out() { clean; cp older image && cp taken "$1" && { [ $# = 1 ] || cp "$2" "$3"; }; }
+resumes() { name=$1; shift; printf '\030' | "$CORDKIT" edit --onto=image --keep=image.keys "$@" image > /dev/null 2> A.said; got=$?; is "$name" "$got $(cat A.said)$(cksum < image) $(files)" "0 $(cksum < newer) image"; }
+between_renames() {
+    clean; printf 'xy\030' | "$CORDKIT" edit older > /dev/null; printf 'abc' | "$CORDKIT" edit --onto=older --keep=taken newer > /dev/null; printf 'abc\030' | "$CORDKIT" edit --onto=older newer > /dev/null
+    printf 'k' | "$CORDKIT" edit --keep=from_file none > /dev/null; head -c 56 from_file > keyless; head -c 56 taken > fresh; : > empty
+    lay_out image.keys; resumes 'the keys alone'; lay_out image.keys newer image.new; resumes 'a whole part'
+    lay_out image.keys.saved newer image.new; resumes 'set aside, and a whole part'; lay_out image.keys.saved; resumes 'set aside alone'
+    for begun in empty fresh keyless; do lay_out image.keys.saved $begun image.keys; resumes "set aside, and another session that began: $begun"; done
+    lay_out image.keys.saved; printf '\003' | "$CORDEDIT" image > /dev/null; is 'a session that leaves' "$? $(body) $(cksum < image) $(files)" "0 abc $(cksum < older) image image.keys"; resumes 'and goes on'
+    lay_out image.keys.saved; printf 'k' | "$CORDEDIT" -f image > /dev/null 2> said; is 'nothing is begun over it' "$? $(cat said) $(files)" "2 cordedit: image.keys.saved has keys of a Save that may not have ended: without -f the same command finds out, and cordedit --discard 'image' drops them image image.keys.saved"
+    "$CORDEDIT" --discard image; is 'it is dropped' "$? $(files)" '0 image'; lay_out image.keys.saved taken image.keys; "$CORDEDIT" --discard image; is 'both are dropped' "$? $(files)" '0 image'
+    # The image was in its place
+    lay_out image.keys.saved newer image; resumes 'saved, and not taken away'; lay_out image.keys.saved newer image; printf 'd' | "$CORDEDIT" image > /dev/null
+    is 'the newer image is gone on from' "$? $(body) $(cksum < image) $(files)" "0 d $(cksum < newer) image image.keys image.keys.saved"; printf '\030' | "$CORDEDIT" image > /dev/null; is 'and what was set aside goes' "$? $(text) $(files)" '0 dabcxy image'
+    # Keys of a file are not taken for those of an image
+    lay_out image.keys.saved; cp from_file image.keys.saved; printf '\030' | "$CORDKIT" edit --onto=image --keep=image.keys image > /dev/null; is 'keys of something else' "$? $(cksum < image) $(files)" "0 $(cksum < older) image"
+    # A session that goes on has what it set aside, and only that
+    for at in older newer; do
+        lay_out image.keys; : > state; begin A --onto=image --keep=image.keys --session=state image; await grep -q 'rev 5' A.out; kill -9 "$a"; close A
+        mv image.keys image.keys.saved; cp $at image.other && mv image.other image
+        begin A --onto=image --keep=image.keys --session=state image; type_keys A '\030'; close A
+        case $at in
+        newer) is 'saved, and the session goes on' "$(refusal A) $(cksum < image) $(files)" "1 refused J5 $(cksum < newer) image image.keys.saved" ;;
+        older) is 'a session goes on, over another file of these bytes' "$(refusal A) $(cksum < image.saved-1) $(files)" "1 refused J4 $(cksum < newer) image image.keys image.saved-1" ;;
+        esac
+    done
+    lay_out image.keys; : > state; begin A --onto=image --keep=image.keys --session=state image; await grep -q 'rev 5' A.out; kill -9 "$a"; close A
+    mv image.keys image.keys.saved; resumes 'a session goes on' --session=state; is 'and is saved' "$(echo state*)" 'state*'
+    lay_out image.keys; : > state; begin A --onto=image --keep=image.keys --session=state image; await grep -q 'rev 5' A.out; kill -9 "$a"; close A
+    mv image.keys other.saved; cp taken image.keys.saved; begin A --onto=image --keep=image.keys --session=state image; type_keys A '\030'; close A
+    is 'another one was set aside' "$(refusal A) $(cksum < image) $(files)" "1 refused J5 $(cksum < older) image image.keys.saved"
+    rm -f state other.saved older newer taken from_file keyless fresh empty; clean
+}
+
+# Two sessions over one image: neither loses what the other saved.
+two_over_one() {
+    clean; printf 'xy\030' | "$CORDKIT" edit image > /dev/null; rm -f other.keys
+    begin A --onto=image --keep=image.keys image; type_keys A abc; await has_keys image.keys abc
+    begin B --onto=image --keep=image.keys image; close B; is 'two sessions over one file of keys' "$(refusal B) $(cat B.out)" '1 refused J2 '
+    type_keys A '\030'; close A; is 'the first saves' "$got $(text) $(files)" '0 abcxy image'
+    begin B --onto=image --keep=image.keys image; type_keys B 'd\030'; close B; is 'the second goes on from there' "$got $(text) $(files)" '0 dabcxy image'
+    begin A --onto=image --keep=image.keys image; type_keys A one; await has_keys image.keys one; begin B --onto=image --keep=other.keys image; type_keys B two; await has_keys other.keys two
+    type_keys A '\030'; close A; type_keys B '\030'; close B; is 'two files of keys' "$(refusal B) $(text) $(image_of image.saved-1) $(files) $(ls other.keys)" '1 refused J4 onedabcxy twodabcxy image image.saved-1 other.keys'; rm -f other.keys image.saved-1
+    begin A --onto=image --keep=image.keys image; type_keys A e; await has_keys image.keys e; printf 'new\n' > script; "$CORDKIT" apply --onto image script > further; cat further > image; before=$(cksum < image)
+    type_keys A '\030'; close A; is 'a script meanwhile' "$(refusal A) $(cksum < image) $(image_of image.saved-1) $(body) $(files)" "1 refused J4 $before eonedabcxy e image image.keys image.saved-1"
+    begin A --onto=image --keep=image.keys image; type_keys A '\030'; close A; is 'keys over what is gone' "$(refusal A) $(cksum < image) $(body)" "1 refused J1 $before e"; rm -f further
+    clean; printf 'xy\030' | "$CORDKIT" edit other > /dev/null; cp other image; begin A --onto=other --keep=image.keys image; type_keys A 'z\030'; close A; is 'an image by another name' "$got $(text) $(image_of other) $(files)" '0 zxy xy image'; rm -f other; clean
+}
+
+# A goes on from an image, and is killed before each of its calls of the system: the same command ends with the image of as many keys, and of those that a frame told.
+onto_each_call() {
+    command -v strace > /dev/null || { echo '    there is no strace here'; return; }
+    clean; printf 'xy\030' | "$CORDKIT" edit older > /dev/null; printf 'abc\030' > saving; runs=0 lost=0
+    for n in 0 1 2 3; do { head -c $n saving && printf '\030'; } | "$CORDKIT" edit --onto=older with$n > /dev/null; done
+    for call in openat read write statx flock fsync fdatasync link unlink rename; do
+        k=1
+        while clean; cp older image; ! strace -qq -o /dev/null -e "inject=$call:signal=KILL:when=$k" "$CORDKIT" edit --onto=image --keep=image.keys image < saving > out 2> said; do
+            printf '\030' | "$CORDKIT" edit --onto=image --keep=image.keys image > /dev/null 2> A.said; got=$?
+            n=3; while [ "$n" -ge 0 ] && ! cmp -s image with$n; do n=$((n - 1)); done
+            [ "$got $(cat A.said)" = '0 ' ] && [ "$(files)" = image ] && [ $((n + 2)) -ge "$(told out)" ] ||
+                { lost=$((lost + 1)); echo "    $call $k: $got $(cat A.said) '$(text)', told $(told out), $(files)"; }
+            k=$((k + 1)) runs=$((runs + 1))
+        done
+    done
+    echo "    killed at $runs calls"; is 'killed before each call, over an image' "$lost" 0; clean; rm -f out said older with*
+}
+
+# Each call of the system fails in turn: the image is the one of these keys, or as it was, and the same command ends with it.
+onto_each_fault() {
+    command -v strace > /dev/null || { echo '    there is no strace here'; return; }
+    clean; printf 'xy\030' | "$CORDKIT" edit older > /dev/null; printf 'abc\030' > saving; runs=0 lost=0
+    printf 'abc\030' | "$CORDKIT" edit --onto=older newer > /dev/null
+    for call in openat read write statx flock fsync fdatasync link unlink rename; do
+        k=1
+        while clean; cp older image; strace -qq -o trace -e "inject=$call:error=EIO:when=$k" "$CORDKIT" edit --onto=image --keep=image.keys image < saving > out 2> said; got=$?; grep -q INJECTED trace; do
+            there=$(cksum < image)
+            printf '\030' | "$CORDKIT" edit --onto=image --keep=image.keys image > /dev/null 2> A.said; again=$?
+            case "$got $(head -n 1 said)" in
+            '0 ') cmp -s image newer ;;
+            '3 read' | '3 write') [ "$there" = "$(cksum < newer)" ] || [ "$there" = "$(cksum < older)" ] ;;
+            '1 refused J'[245] | '127 '*'error while loading shared libraries'*) [ "$there" = "$(cksum < older)" ] ;;
+            *) false ;;
+            esac && [ "$again $(cat A.said)" = '0 ' ] && case $(last) in
+            2 | 3 | 4 | 5) [ "$(last)" -ge "$(told out)" ] || [ "$(files)" = 'image image.saved-1' ] ;;
+            *) false ;;
+            esac || { lost=$((lost + 1)); echo "    $call $k: $got $(cat said), then $again $(cat A.said) '$(text)', told $(told out), $(files)"; }
+            k=$((k + 1)) runs=$((runs + 1))
+        done
+    done
+    echo "    $runs calls failed"; is 'each call fails, over an image' "$lost" 0; clean; rm -f out said trace older newer
+}
+
+# A stops before each of its calls of the system, and B, the same command, begins and ends meanwhile. What either told as saved is in the image.
+onto_each_stop() {
+    command -v strace > /dev/null || { echo '    there is no strace here'; return; }
+    clean; printf '.\030' | "$CORDKIT" edit older > /dev/null; printf 'abc\030' > saving; printf 'xy\030' > other; runs=0 lost=0
+    for call in openat read write statx flock fsync fdatasync link unlink rename; do
+        k=1
+        while :; do
+            clean; cp older image; strace -qq -o /dev/null -e "inject=$call:signal=STOP:when=$k" "$CORDKIT" edit --onto=image --keep=image.keys image < saving > out 2> A.said & a=$!
+            n=0; until child=$(pgrep -P "$a") && ps -o stat= -p "$child" | grep -q '^[tT]'; do kill -0 "$a" 2> /dev/null && [ "$n" -lt 500 ] || break; n=$((n + 1)); sleep 0.01; done
+            kill -0 "$a" 2> /dev/null || break
+            "$CORDKIT" edit --onto=image --keep=image.keys image < other > out2 2> B.said; of_b=$?
+            kill -CONT "$child"; wait "$a"; of_a=$?
+            [ ! -e image.keys ] || [ "$of_a" = 0 ] || printf '\030' | "$CORDKIT" edit --onto=image --keep=image.keys image > /dev/null 2>&1
+            all=$(text 2> /dev/null)
+            case "$of_a$of_b $all" in
+            '00 xyabc.' | '00 abcxy.' | '01 abc.' | '10 xy.') [ "$(files)" = image ] ;;
+            *) false ;;
+            esac || { lost=$((lost + 1)); echo "    $call $k: $of_a $(head -n 1 A.said), $of_b $(head -n 1 B.said), $all, $(files)"; }
+            k=$((k + 1)) runs=$((runs + 1))
+        done
+        wait "$a"
+    done
+    echo "    stopped at $runs calls"; is 'a second session at each call, over an image' "$lost" 0; a=''; clean; rm -f out out2 other older
+}
+
 # shellcheck disable=SC2086 # words
 [ "$*" != pipes ] || set -- $pipes
-for test in ${*:-$pipes each_call each_stop basic sequences pastes options folders signals parents kills devices speed}; do echo "$test"; "$test"; done
+for test in ${*:-$pipes each_call each_stop onto_each_call onto_each_fault onto_each_stop basic sequences pastes options folders signals parents kills kills_onto devices speed}; do echo "$test"; "$test"; done
 echo "$passed passed, $failed failed"
 [ "$failed" = 0 ]

@@ -150,6 +150,9 @@ changes() { printf '\nmany 1' && seq 0 "$1" | awk '{ printf " %d 1 \"b\"", $1 * 
 { cat script_of_most_bytes && changes 4095; } > script_of_most_changes
 { cat script_of_most_bytes && changes 4096; } > script_of_more_changes
 { yes ba | head -n 4096 | tr -d '\n' && tail -c 57344 most_bytes; } > most_changes
+{ printf 'new\ninsert 0 0 "' && head -c 800 most_bytes && printf '"' && changes 399; } > script_of_changes
+"$program" apply script_of_changes > second_bytes
+seq 0 399 | awk '{ printf "%d 1 2 %d many 1 \"b\"\n%d 1 1 %d insert 0 0 \"a\"\n", 2 * $1, 2 * $1, 2 * $1 + 1, 2 * $1 + 1 }' > second_bytes_blamed
 printf 'open 0\njoin 0 0\n' > script_of_a_double
 seq 0 4999 | awk 'BEGIN { print "new" } { print "insert " $1 " 0 \"x\"" }' > script_of_5000
 { printf 'CORDSESS\0\0\0\2' && head -c 28 /dev/zero; } > no_revisions_in_two
@@ -157,6 +160,19 @@ printf 'ab\025c\030' > keys_saved
 printf 'ab\025c\003' > keys_left
 printf 'ab\025c' > keys_ended
 printf '\030' > key_save
+printf '\025\003' > key_undo
+printf x > key_x
+printf 'new\nfill 0 0 0 2147483648' > script_of_2_31
+printf 'new\nfill 0 0 0 2147483647' > script_of_less_than_2_31
+# frames over an image whose last text is abc: of those keys, of Undo, and of no key over what those keys gave; and over as long a text as there may be
+frame() { printf '\033[2J\033[H%s\r\n' "$1" && yes "$(printf '\r')" | head -n 22 && printf '%s\033[1;%dH' "$2" "$3"; }
+frame aacbc 'rev 5 byte 3 of 5' 4 > last_frame_onto
+{ frame abc 'rev 1 byte 0 of 3' 1 && frame aabc 'rev 2 byte 1 of 4' 2 && frame ababc 'rev 3 byte 2 of 5' 3 && frame aabc 'rev 4 byte 2 of 4' 3; } > frames_onto
+cat last_frame_onto >> frames_onto
+{ frame abc 'rev 1 byte 0 of 3' 1 && frame '' 'rev 2 byte 0 of 0' 1; } > frames_of_undo
+frame aacbc 'rev 5 byte 0 of 5' 1 > first_frame_onto
+of_zeros=$(yes '?' | head -n 80 | tr -d '\n')
+{ frame "$of_zeros" 'rev 1 byte 0 of 2147483647' 1 && frame "$of_zeros" 'rev 1 byte 0 of 2147483647 K1' 1; } > frames_of_zeros
 awk 'BEGIN { RS = "\033\\[2J" } { last = $0 } END { printf "\033[2J%s", last }' "$top/tests/data/edit.txt" > last_frame
 # the insertion of abc with a pool of 1,048,576 bytes, which begins with abc; the same a byte shorter, longer, and with a row of bytes
 { head -c 32 one_insert && printf '\0\0\0\0\0\020\0\0' && tail -c +41 one_insert && head -c 1048573 /dev/zero; } > long_pool
@@ -168,6 +184,10 @@ for image in one_insert new_alone bytes_row_over_a_source; do
     { head -c 11 "$image" && printf '\002' && tail -c +13 "$image"; } > "${image}_in_two" || exit 1
 done
 { head -c 11 one_insert && printf '\003' && tail -c +13 one_insert | head -c 28; } > header_in_three
+# what is kept of keys over an image, and over one with a file: a header with a digest of both, and then the keys
+digest() { cat "$@" | sha256sum | head -c 64 | tr a-f A-F | basenc --base16 -d; }
+{ printf 'CORDKEYS\0\0\0\2\0\0\0\0\0\0\0\0\0\0\0\0' && digest one_insert_in_two && printf 'ab\025c'; } > keys_onto_one_insert
+{ printf 'CORDKEYS\0\0\0\2\0\0\0\1\0\0\0\0\0\0\0\3' && digest one_source abc && printf 'ab\025c'; } > keys_onto_one_source
 cp one_insert too_much
 truncate -s 1099511627776 too_much || exit 1
 mkfifo pipe pipe_of_a_script || exit 1
@@ -593,6 +613,7 @@ a byte of them;blame --start 1 --count 1 one_insert 1;;0;1 1 1 1 insert 0 0 "b"\
 a source shows no bytes;blame bytes_row_over_a_source 0 abc;;0;0 3 0 0 open 0\n;
 an empty text comes from nowhere;blame new_alone 0;;0;;
 no byte of a text;blame --count 0 one_insert 1;;0;;
+each second byte is of another command;blame second_bytes 2;;0;@second_bytes_blamed;
 a place past the end of a text;blame --start 3 one_insert 1;;0;;
 a revision that is not there to blame;blame one_insert 2;;1;;refused no revision\n
 bytes are not told past the limit;blame --at-most 136 one_insert 1;;1;;refused looks 137\n
@@ -626,6 +647,40 @@ the image has what was typed before;show kept 4;;0;ac;
 keys that were saved are not kept;cut 0 1 keys;;3;;read\n
 keys that cannot be kept;edit --keep missing/keys kept;keys_saved;3;;write\n
 an image that is there;edit --no-clobber saved;keys_saved;1;;refused J3\n
+keys go on from an image;edit --onto one_insert saved_onto;keys_saved;0;@frames_onto;
+its last text is what they gave;show saved_onto 5;;0;aacbc;
+its texts are in it;show saved_onto 1;;0;abc;
+undo crosses what was made before;edit --onto one_insert unsaved;key_undo;0;@frames_of_undo;
+an image takes its own place;edit --onto saved_onto saved_onto;key_save;0;@first_frame_onto;
+it is as it was;show saved_onto 5;;0;aacbc;
+it has no revision more;show saved_onto 6;;1;;refused no revision\n
+keys over an image are kept;edit --keep keys_onto --onto one_insert_in_two unsaved;keys_left;0;@frames_onto;
+they have a digest of the image;cut 0 99 keys_onto;;0;@keys_onto_one_insert;
+they are not those of the image in version 1;edit --keep keys_onto --onto one_insert unsaved;key_save;1;;refused J1\n
+nor of that image and a file;edit --keep keys_onto --onto one_insert_in_two unsaved abc;key_save;1;;refused J1\n
+nor of a session from no file;edit --keep keys_onto unsaved;key_save;1;;refused J1\n
+they are played before the first frame;edit --keep keys_onto --onto one_insert_in_two saved_onto;key_save;0;@last_frame_onto;
+the image has what was typed over it;show saved_onto 5;;0;aacbc;
+those are not kept then;cut 0 1 keys_onto;;3;;read\n
+keys over an image and its file are kept;edit --keep=keys_onto --onto=one_source unsaved abc;keys_left;0;edit.txt;
+they have a digest of both;cut 0 99 keys_onto;;0;@keys_onto_one_source;
+an image to go on from that is not there, by keys;edit --onto missing unsaved;keys_saved;3;;read\n
+an image to go on from that is a folder, by keys;edit --onto folder unsaved;keys_saved;3;;read\n
+a file beside an image that is not there;edit --onto one_insert unsaved missing;keys_saved;3;;read\n
+a file beside an image that is too long;edit --onto one_insert unsaved too_long;keys_saved;1;;refused S5\n
+an image to go on from that is none;edit --onto abcde unsaved;keys_saved;1;;refused C1(I1)\n
+an image to go on from that is refused;edit --onto child_not_earlier unsaved;keys_saved;1;;refused C4(1)\n
+an image without its file;edit --onto one_source unsaved;keys_saved;1;;refused C2\n
+an image with a file that is shorter;edit --onto one_source unsaved ab;keys_saved;1;;refused C3(0)\n
+a row of bytes over a file;edit --onto bytes_row_over_a_source unsaved abc;keys_saved;1;;refused G1(0)\n
+a text that is too long to edit;edit --onto $("$program" apply script_of_2_31 > long_text && echo long_text) unsaved;keys_saved;1;;refused K1\n
+a key that makes a text too long;edit --onto $("$program" apply script_of_less_than_2_31 > longest_text && echo longest_text) unsaved;key_x;0;@frames_of_zeros;
+an image is there, and another is gone on from;edit --no-clobber --onto one_insert saved;keys_saved;1;;refused J3\n
+what stands there is looked at first;edit --onto child_not_earlier abc;keys_saved;1;;refused C1(I3)\n
+the keys are looked at before an image is;edit --keep=abcde --onto child_not_earlier unsaved;keys_saved;1;;refused J1\n
+keys behind an image on a full device;edit --onto one_insert /dev/full;keys_saved;3;@frames_onto;write\n
+frames behind an image on a full device;edit --onto one_insert unsaved;keys_saved;3;/dev/full;write\n
+nothing is saved of all these;check unsaved;;3;;read\n
 keys to be dropped;edit --keep dropped unsaved;keys_left;0;edit.txt;
 with a file;edit --discard dropped ab;;2;;error: the argument '--discard' cannot be used with a word for a session: it takes the file of keys alone\n\nUsage: cordkit edit [OPTIONS] <IMAGE> [FILE]\n\nFor more information, try '--help'.\n
 with keys to be kept;edit --keep kept --discard dropped;;2;;error: the argument '--discard' cannot be used with a word for a session: it takes the file of keys alone\n\nUsage: cordkit edit [OPTIONS] <IMAGE> [FILE]\n\nFor more information, try '--help'.\n
@@ -719,7 +774,7 @@ nor a usage fault;cmp --explain ab;;2;;error: the following required arguments w
 * a source of another length in words;check --explain one_source ab;;1;refused C3(0)\n;C3(0): source 0, ab, has 2 bytes, and the image was made over 3\n
 the flag before the command;--explain check one_source ab;;1;refused C3(0)\n;C3(0): source 0, ab, has 2 bytes, and the image was made over 3\n
 standard input of another length in words;check --explain one_source /dev/stdin;ab;1;refused C3(0)\n;C3(0): source 0, /dev/stdin, has 2 bytes, and the image was made over 3\n
-a source that is not given in words;check --explain one_source;;1;refused C2\n;C2: the sources of one_source are 1 in number, and 0 are given\n
+a source that is not given in words;check --explain one_source;;1;refused C2\n;C2: one_source was made over one source, of 3 bytes, and 0 are given\n
 a source too many in words;migrate --explain one_insert abc;;1;;refused C2\nC2: the sources of one_insert are 0 in number, and 1 are given\n
 256 sources in words;check --explain one_source $(yes abc | head -n 256);;1;refused S4\n;S4: there are more than 255 files\n
 a damaged image in words;show --explain child_not_earlier 0;;1;;refused C4(1)\nC4(1): node 1 of child_not_earlier names one that is not earlier, or a source that is not there\n
@@ -760,8 +815,17 @@ a script that is not there, behind an image, in words;apply --explain --onto one
 a file that is too long in words;cut --explain 0 1 too_long;;1;;refused S5\nS5: too_long has more than 2^40 - 1 bytes\n
 files that are too long together in words;join --explain half half;;1;;refused N1\nN1: the files together would make a text of 2^40 bytes or more\n
 a pattern that is too long in words;find --explain 0 $(yes a | head -n 4097 | tr -d '\n') abcde;;1;;refused F1\nF1: the pattern has more than 4,096 bytes\n
-keys of another file in words;edit --explain --keep=abcde kept;keys_saved;1;;refused J1\nJ1: abcde has the keys of another file, or something else\n
+keys of another file in words;edit --explain --keep=abcde kept;keys_saved;1;;refused J1\nJ1: abcde has the keys of another file or image, or something else\n
 an image that is there in words;edit --explain --no-clobber saved;keys_saved;1;;refused J3\nJ3: saved is there already: cordedit -f replaces it, and cordedit --continue saved NEW begins with its last text\n
+keys of another image in words;edit --explain --keep=abcde --onto one_insert unsaved;keys_saved;1;;refused J1\nJ1: abcde has the keys of another file or image, or something else\n
+an image to go on from that is not there, by keys, in words;edit --explain --onto missing unsaved;keys_saved;3;;read\nread: there is no file missing\n
+an image to go on from that is none, in words;edit --explain --onto abcde unsaved;keys_saved;1;;refused C1(I1)\nC1(I1): abcde ends too early to be an image\n
+an image to go on from that is refused, by keys, in words;edit --explain --onto child_not_earlier unsaved;keys_saved;1;;refused C4(1)\nC4(1): node 1 of child_not_earlier names one that is not earlier, or a source that is not there\n
+an image without its file in words;edit --explain --onto one_source unsaved;keys_saved;1;;refused C2\nC2: one_source was made over one source, of 3 bytes, and 0 are given\n
+an image with a file that is not its own in words;edit --explain --onto one_insert unsaved abc;keys_saved;1;;refused C2\nC2: the sources of one_insert are 0 in number, and 1 are given\n
+an image with a file that is shorter in words;edit --explain --onto one_source unsaved ab;keys_saved;1;;refused C3(0)\nC3(0): source 0, ab, has 2 bytes, and the image was made over 3\n
+a row of bytes over a file in words;edit --explain --onto bytes_row_over_a_source unsaved abc;keys_saved;1;;refused G1(0)\nG1(0): revision 0 of bytes_row_over_a_source has a row that compares bytes of a source: a session of its commands is made by cordkit log bytes_row_over_a_source SOURCE.. | cordkit apply /dev/stdin SOURCE..\n
+a text that is too long to edit in words;edit --explain --onto long_text unsaved;keys_saved;1;;refused K1\nK1: a text of long_text has more than 2,147,483,647 bytes\n
 keys that are not there in words;edit --explain --discard missing;;1;;refused J5\nJ5: missing is not there, or not the one that the session had\n
 a file that is no image in words;edit --explain abc;keys_saved;1;;refused C1(I3)\nC1(I3): abc is no image, and stays as it is: move it away or remove it, and give the same command again\n
 

@@ -1,8 +1,9 @@
 #!/usr/bin/env python3
 """Types keys into the built cordkit, and compares with an editor of plain lists: every frame with its message, and the image that is saved, which
 is of version 2, keeps the rules of the second checker, and has every revision's text. What chance types: a few keys over a few bytes; more
-cut spans than are kept; hundreds of revisions; a file of thousands of lines. Beside these: images whose every byte is known, and the
-refusals that a long session meets.
+cut spans than are kept; hundreds of revisions; a file of thousands of lines. Each session that is saved, and some that a script makes, are gone on
+from, up to three times: the editor of plain lists then has what the second checker reads of the older image, whose sections are fronts of the newer
+one's. Beside these: images whose every byte is known, sessions by hand, and the refusals that a long session meets.
 
 Usage: tests/random_keys.py [RUNS [PROGRAM [FIRST]]]; FIRST is the number of the first run. The last line is 'N passed, M failed'.
 """
@@ -15,6 +16,8 @@ import subprocess
 import sys
 import tempfile
 
+from going_on import front_fault
+from random_scripts import Session, lines_of
 from second_checker import PROGRAM, TOP, verify
 
 ROWS, COLUMNS, ABOVE, CUTS = 23, 80, 11, 16
@@ -227,14 +230,23 @@ class Room:
         self.program, self.folder, self.sources = program, folder, [] if text is None else [text]
         self.image, self.files = os.path.join(folder, "image"), []
         if text is not None:
-            self.files = [os.path.join(folder, "file")]
-            with open(self.files[0], "wb") as file:
-                file.write(text)
+            self.files = [self.put("file", text)]
 
     def run(self, command, *words, keys=b""):
         words = [self.program, command, self.image, *words, *self.files]
         done = subprocess.run(words, input=keys, capture_output=True, check=False)
         return done.returncode, done.stdout, done.stderr
+
+    def apply(self, script):
+        """The image of the session that a script makes."""
+        done = subprocess.run([self.program, "apply", self.put("script", script), *self.files], capture_output=True, check=False)
+        return done.returncode, done.stdout, done.stderr
+
+    def put(self, name, data):
+        path = os.path.join(self.folder, name)
+        with open(path, "wb") as file:
+            file.write(data)
+        return path
 
     def saved(self):
         """The bytes of the image, or nothing where there is none."""
@@ -244,8 +256,7 @@ class Room:
             return file.read()
 
     def save(self, data):
-        with open(self.image, "wb") as file:
-            file.write(data)
+        self.put("image", data)
 
 
 def typed(plain, keys, refusals=None):
@@ -309,9 +320,68 @@ def run(program, seed):
         elif end != SAVE and room.saved() != older:
             fault = "an image was written without Save"
         elif end == SAVE:
-            fault = image_fault(room, room.saved(), plain)
+            fault = image_fault(room, room.saved(), plain) or onto_faults(room, chance)
         note = f"run {seed}, {kind.__name__}: {fault}" if fault else None
         return kind.__name__, plain.dropped, len(plain.texts), note
+
+
+# ---- Sessions that are gone on from
+
+LONGEST_MADE = 1 << 16
+
+
+def reopened(image, sources):
+    """What the editor holds that goes on from an image: its texts, and what undo leads back to, by its commands alone; or where it has no revision, the
+    text with which a session begins. It stands at the first byte, without a mark or a cut span."""
+    plain, priors = Plain(sources[0] if sources else b""), []
+    for revision in image.revisions:
+        if revision.command in (verify.NEW, verify.OPEN):
+            priors.append(None)
+        else:
+            priors.append(priors[revision.r] if revision.command == verify.BACK else revision.r)
+    if priors:
+        plain.texts, plain.priors = verify.all_texts(image, sources), priors
+    return plain
+
+
+def onto_fault(room, chance):
+    """What is wrong with a session that goes on from the image that stands there, by its name or by another one, or nothing."""
+    older = room.saved()
+    plain = reopened(verify.checked(older, room.sources), room.sources)
+    undone = bytes(chance.choice(b"\x15\x15\x15\x15ab\x05") for _ in range(chance.randrange(20)))
+    keys, end = chance.choice([random_keys(chance, 60), undone, undone]), chance.choice([SAVE, SAVE, LEAVE, b""])
+    wanted = typed(plain, keys)
+    answer = room.run("edit", "--onto", chance.choice([room.image, room.put("older", older)]), keys=keys + end)
+    if answer != (0, wanted, b""):
+        return f"other frames behind an image: status {answer[0]}, {answer[2]!r}"
+    if end != SAVE:
+        return None if room.saved() == older else "an image was written without Save"
+    return image_fault(room, room.saved(), plain) or front_fault(older, room.saved())
+
+
+def onto_faults(room, chance):
+    """What is wrong with sessions that go on one from the other, or nothing."""
+    for _ in range(chance.choice([1, 1, 2, 3])):
+        fault = onto_fault(room, chance)
+        if fault:
+            return fault
+    return None
+
+
+def run_scripted(program, seed):
+    """The same of sessions that go on from one that a script made."""
+    chance = random.Random(f"script {seed}")
+    text = random_text(chance) if chance.random() < 0.7 else None
+    with tempfile.TemporaryDirectory() as folder:
+        room = Room(program, folder, text)
+        session = Session(room.sources)
+        script = b"\n".join(lines_of(chance, session, chance.randrange(chance.choice([2, 12, 40]))))
+        if max(map(len, session.texts), default=0) > LONGEST_MADE:
+            return "a script of long texts", 0, 0, None
+        status, image, told = room.apply(script)
+        room.save(image)
+        fault = f"a script: status {status}, {told!r}" if status else onto_faults(room, chance)
+        return "a script", 0, len(session.texts), f"run {seed}, behind a script: {fault}" if fault else None
 
 
 # ---- Images whose every byte is known
@@ -343,6 +413,39 @@ def known(program):
             room.run("edit", keys=keys + SAVE)
             if room.saved() != wanted:
                 found.append(f"the image of the keys {keys!r} has other bytes")
+    return found
+
+
+# ---- Sessions by hand
+
+TWO_OF_ONE = b'new\ninsert 0 0 "abc"\ninsert 1 0 "x"\ninsert 1 3 "y"\n'
+
+
+def known_sessions():
+    """A script, if a session begins by one, the file that it is made over, if any, the keys of each session that goes on from the one before, how the
+    last frame ends, and the texts in the end. Undo follows the commands: from `abcy` to `abc`, of which `y` was made, and not to `xabc`."""
+    yield None, None, [b"ab", b"c\x15", b"\x15\x15"], b"rev 6 byte 0 of 0\x1b[1;1H", [b"", b"a", b"ab", b"cab", b"ab", b"a", b""]
+    yield TWO_OF_ONE, None, [b"\x15"], b"rev 4 byte 0 of 3\x1b[1;1H", [b"", b"abc", b"xabc", b"abcy", b"abc"]
+    yield TWO_OF_ONE, None, [b"\x15\x15\x15"], b"rev 5 byte 0 of 0\x1b[1;1H", [b"", b"abc", b"xabc", b"abcy", b"abc", b""]
+    yield TWO_OF_ONE, None, [b"\x15", b"\x15\x15"], b"rev 5 byte 0 of 0\x1b[1;1H", [b"", b"abc", b"xabc", b"abcy", b"abc", b""]
+    yield b"", b"abc", [b""], b"rev 0 byte 0 of 3\x1b[1;1H", [b"abc"]
+    yield b"", None, [b"", b"z\x15"], b"rev 2 byte 0 of 0\x1b[1;1H", [b"", b"z", b""]
+
+
+def known_onto(program):
+    """What is wrong with sessions by hand."""
+    found = []
+    for script, text, parts, end, texts in known_sessions():
+        with tempfile.TemporaryDirectory() as folder:
+            room = Room(program, folder, text)
+            if script is not None:
+                room.save(room.apply(script)[1])
+            for keys in parts:
+                words = ["--onto", room.image] if room.saved() is not None else []
+                answer = room.run("edit", *words, keys=keys + SAVE)
+            image = verify.checked(room.saved(), room.sources)
+            if answer[0] or not answer[1].endswith(end) or verify.all_texts(image, room.sources) != texts:
+                found.append(f"behind {script or b'nothing'!r}, the keys {parts}: status {answer[0]}, {answer[1][-40:]!r}")
     return found
 
 
@@ -388,18 +491,25 @@ def batch(given):
     return run(*given)
 
 
+def batch_scripted(given):
+    return run_scripted(*given)
+
+
 def main():
     runs = int(sys.argv[1]) if len(sys.argv) > 1 else 1000
     program = sys.argv[2] if len(sys.argv) > 2 else PROGRAM
     first = int(sys.argv[3]) if len(sys.argv) > 3 else 0
-    found, kinds, dropped, revisions = known(program), collections.Counter(), 0, 0
+    found, kinds, dropped, revisions = known(program) + known_onto(program), collections.Counter(), 0, 0
+    seeds = [(program, seed) for seed in range(first, first + runs)]
+    scripted = seeds[: -(-runs // 4)]
     with multiprocessing.Pool() as pool:
-        for kind, spans, texts, fault in pool.imap_unordered(batch, [(program, seed) for seed in range(first, first + runs)]):
-            kinds[kind] += 1
-            dropped += spans
-            revisions += texts
-            found += [fault] if fault else []
-    tried = runs + len(list(known_images()))
+        for results in pool.imap_unordered(batch, seeds), pool.imap_unordered(batch_scripted, scripted):
+            for kind, spans, texts, fault in results:
+                kinds[kind] += 1
+                dropped += spans
+                revisions += texts
+                found += [fault] if fault else []
+    tried = len(seeds) + len(scripted) + len(list(known_images())) + len(list(known_sessions()))
     if runs >= LONG_FROM:
         for session in long_sessions():
             fault = long_session(program, *session)

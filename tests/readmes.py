@@ -1,10 +1,14 @@
-"""What the documents name of the code. The README.md of each crate: at most ten lines; each call that it names is a public call of the crate, the words in
-brackets behind a call are clauses of its contract or words of it, and the files where to begin are there. docs/PROVED.md: a table for each crate that has
-public calls, whose rows name such calls and what of their contracts carries the claim, or a law and its file. docs/ARCHITECTURE.md: a row for each crate,
-as in crates.txt. What is not so is told, and the status is 1.
+"""What the documents name of the code. The README.md of each crate: at most ten lines; each call that it names is a public call of the crate, the
+words in brackets behind a call are clauses of its contract or words of it, and the files where to begin are there. docs/PROVED.md: for each crate
+that has public calls rows behind its name, which name such calls and what of their contracts carries the claim, or a law and its file; and an edit
+that must be refused and a test, which are there, or `-`. docs/ARCHITECTURE.md: a row for each crate, as in crates.txt. All pages: each link leads
+to a file, and to a heading of it, that is there, and no line but a table's has more than 165 columns. What is not so is told, and the status is 1;
+how many claims have no edit, laws left out, or no test is told too.
 
-readmes.py"""
+readmes.py
+readmes.py --bare    also prints these claims"""
 
+import glob
 import os
 import re
 import sys
@@ -95,19 +99,70 @@ def faults_of_row(crates, crate, call_cell, clause_cell):
     yield from (f"`{clause}` carries nothing of {call_cell}" for clause in clauses if clause not in carry)
 
 
-def faults_of_proved(crates):
-    crate, told = None, set()
+def edits_of(crate):
+    """The edits of a crate, each by its function and what it does."""
+    paths = glob.glob(f"{TOP}/crates/{crate}/must-fail/*.edit") + glob.glob(f"{TOP}/audit/{crate}/*.edit")
+    return {os.path.basename(path)[: -len(".edit")].split(".", 1)[1] for path in paths}
+
+
+def all_tests():
+    """The names of the tests of all crates of tests."""
+    texts = [read(path) for path in glob.glob(f"{TOP}/crates/*_tests/src/**/*.rt", recursive=True)]
+    return {name for text in texts for name in re.findall(r"#\[test\]\s+(?:#\[[^\n]*\s+)*(?:pub )?fn (\w+)", text)}
+
+
+def read(path):
+    with open(path, encoding="utf-8") as file:
+        return file.read()
+
+
+def is_test(tests, name):
+    """A test by its name, a file of worked examples, or a script."""
+    if name.startswith("worked_tests/"):
+        return is_there("crates", name.replace("/", "/src/", 1) + ".rt")
+    return is_there(name) if "/" in name else name in tests
+
+
+def faults_of_tries(crate, tests, edit_cell, test_cell):
+    """What a row says of its edit and its test that is not so. An edit of another crate stands behind that one's name."""
+    for name in re.findall(r"`([^`]+)`", edit_cell):
+        of, _, edit = name.rpartition("/")
+        if edit not in edits_of(of or crate):
+            yield f"`{name}` is no edit"
+    yield from (f"`{name}` is no test" for name in re.findall(r"`([^`]+)`", test_cell) if not is_test(tests, name))
+
+
+def rows_of_proved():
+    """The rows of the tables, each with its line's number, its crate, and its cells. A crate's rows stand behind the one with its name."""
+    crate = None
     for number, line in enumerate(lines_of(PROVED), 1):
-        if line.startswith("#"):
-            crate = line[4:] if line.startswith("### ") and line[4:] in crates.names else None
-        elif crate and line.startswith("| ") and not line.startswith("| Claim "):
-            told.add(crate)
-            cells = [cell.strip() for cell in line.strip("|").split("|")]
-            faults = faults_of_row(crates, crate, *cells[1:]) if len(cells) == 3 else ["a row has three columns"]
-            yield from (f"line {number}, {crate}: {fault}" for fault in faults)
-        elif len(line) > 160 and not line.startswith("|"):
-            yield f"line {number} has {len(line)} columns, and may have 160"
-    yield from (f"{crate} has no table" for crate in sorted({call.crate for call in crates.calls} - told))
+        named = re.match(r'\| <a id="(\w+)"></a>', line)
+        if named or not line.startswith("|"):
+            crate = named and named.group(1)
+        elif crate:
+            yield number, crate, [cell.strip() for cell in line.strip("|").split("|")]
+
+
+def untried():
+    """The claims of docs/PROVED.md without an edit, laws left out, and those without a test."""
+    bare = {"edit": [], "test": []}
+    for _, crate, (claim, call, _, edit, test) in rows_of_proved():
+        if edit == "-" and not call.startswith("law "):
+            bare["edit"].append(f"{crate}: {claim}")
+        if test == "-":
+            bare["test"].append(f"{crate}: {claim}")
+    return bare
+
+
+def faults_of_proved(crates):
+    told, tests = set(), all_tests()
+    for number, crate, cells in rows_of_proved():
+        told.add(crate)
+        faults = ["a row has five columns"]
+        if len(cells) == 5:
+            faults = [*faults_of_row(crates, crate, *cells[1:3]), *faults_of_tries(crate, tests, *cells[3:])]
+        yield from (f"line {number}, {crate}: {fault}" for fault in faults)
+    yield from (f"{crate} has no rows" for crate in sorted({call.crate for call in crates.calls} - told))
 
 
 def faults_of_map(crates):
@@ -117,12 +172,44 @@ def faults_of_map(crates):
         yield f"its rows are not the crates of crates.txt in their order: {', '.join(sorted(set(rows) ^ set(crates.names))) or 'the order'}"
 
 
+# -- all pages
+
+
+def anchors_of(path):
+    """The headings of a page, as links name them, and the names that stand in it."""
+    text = read(path)
+    headings = re.findall(r"^#+ (.*)", text, re.M)
+    named = {re.sub(r"[^\w\- ]", "", heading).strip().lower().replace(" ", "-") for heading in headings}
+    return named | set(re.findall(r'<a id="(\w+)">', text))
+
+
+def faults_of_page(page):
+    folder, inside = os.path.dirname(os.path.join(TOP, page)), False
+    for number, line in enumerate(lines_of(page), 1):
+        inside = inside != line.startswith("```")
+        if not inside and len(line) > 165 and not line.startswith("|"):
+            yield f"line {number} has {len(line)} columns, and may have 165"
+        for link in [] if inside else re.findall(r"\]\(([^)\s]+)\)", line):
+            path, _, anchor = link.partition("#")
+            target = os.path.join(folder, path) if path else os.path.join(TOP, page)
+            if not re.match(r"\w+:", link) and (not os.path.exists(target) or anchor and anchor not in anchors_of(target)):
+                yield f"line {number}: there is no {link}"
+
+
 def main():
     crates = Crates()
+    in_docs = sorted(name for name in os.listdir(f"{TOP}/docs") if name.endswith(".md"))
+    pages = ["README.md", "CONTRIBUTING.md", "CHANGELOG.md", *(f"docs/{name}" for name in in_docs)]
     faults = [f"{crate}/README.md: {fault}" for crate in crates.names for fault in faults_of(crates, crate)]
     faults += [f"{PROVED}: {fault}" for fault in faults_of_proved(crates)]
     faults += [f"{MAP}: {fault}" for fault in faults_of_map(crates)]
-    print("\n".join([*faults, f"{len(crates.names)} crates, {len(faults)} faults of what their README.md, {PROVED} and {MAP} name"]))
+    faults += [f"{page}: {fault}" for page in pages if page != "docs/HEADLINE.md" for fault in faults_of_page(page)]
+    bare = {} if faults else untried()
+    if sys.argv[1:] == ["--bare"]:
+        print("\n".join(f"no {of}: {claim}" for of, claims in bare.items() for claim in claims))
+    lacks = "".join(f", {len(claims)} claims without {of}" for of, claims in bare.items())
+    said = f"{len(crates.names)} crates, {len(faults)} faults of what their README.md, {PROVED} and {MAP} name, and of pages{lacks}"
+    print("\n".join([*faults, said]))
     return bool(faults)
 
 

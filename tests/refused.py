@@ -4,7 +4,10 @@
 - in each run of refusal_tests, which makes the call that was refused once more and looks at what it left; in the runs whose names begin with
   `twice_` each two of them;
 - in runs of the built cordkit, each a row of the table of tests/program.sh. A run gives what the row says, or ends with `memory` and the status 3
-  behind a front of that; the editor may also refuse a key, which a frame tells, and then saves an image of the other keys.
+  behind a front of that; the editor may also refuse a key, which a frame tells, and then saves an image of the other keys. A run of the editor is
+  made once more with each allocation, and then gives what the row says;
+- in a session whose keys are kept, over an image whose place it takes: where it ended with `memory` that image is as it was, and the same command with
+  each allocation plays what was kept and saves it.
 
 Usage: tests/refused.py [PROGRAM [TESTS]], the built program and the built tests, which `rt test` builds where they are not there. Where there is no
 gcc nothing is tried, which is told. The last line says how many allocations were refused; the status is not 0 where a run failed.
@@ -41,15 +44,37 @@ a part of standard input
 files are joined in their order
 a script goes on from an image
 a row of bytes over a source
+where bytes come from
+a byte of them
+a source shows no bytes
+a revision that is not there to blame
+each second byte is of another command
 a pattern is found
 a pattern that does not occur
 a prefix is less
 equal files
 keys are shown and saved
 a file is shown where no key comes
+keys go on from an image
+an image with a file that is shorter
+a row of bytes over a file
 """
 
 MEMORY = b"memory\n"
+
+
+def frame(line, status, column):
+    return f"\x1b[2J\x1b[H{line}\r\n".encode() + b"\r\n" * 22 + f"{status}\x1b[1;{column}H".encode()
+
+
+# The frames of keys_saved over the text abc of revision 1.
+FRAMES_ONTO = (
+    frame("abc", "rev 1 byte 0 of 3", 1)
+    + frame("aabc", "rev 2 byte 1 of 4", 2)
+    + frame("ababc", "rev 3 byte 2 of 5", 3)
+    + frame("aabc", "rev 4 byte 2 of 4", 3)
+    + frame("aacbc", "rev 5 byte 3 of 5", 4)
+)
 
 
 def image_of(name):
@@ -66,12 +91,21 @@ def files():
     made = {name: image_of(name) for name in ("one_insert", "one_source", "child_not_earlier", "bytes_row_over_a_source")}
     for name in ("one_insert", "bytes_row_over_a_source"):
         made[f"{name}_in_two"] = in_version_two(made[name])
-    made |= {"abcde": b"abcde", "abc": b"abc", "ab": b"ab", "highest": b"\xff", "nothing": b"", "keys_saved": b"ab\x15c\x18"}
+    made |= {"abcde": b"abcde", "abc": b"abc", "ab": b"ab", "highest": b"\xff", "nothing": b"", "keys_saved": b"ab\x15c\x18", "key_save": SAVE}
     made["script_of_abc"] = b'new\n\n# the fox\ninsert 0 0 "abc" # revision 1\r\n'
     made["script_past_the_end"] = b'new\n\ninsert 0 1 "x"\n'
     made["script_of_d"] = b'# one more byte\ninsert 1 3 "d"\n'
     made["two_inserts"] = image_of("version2/two_inserts")
+    made["frames_onto"] = FRAMES_ONTO
     return made
+
+
+def changed(program):
+    """A text of which each second byte is changed, as tests/program.sh makes it, and where its bytes come from."""
+    script = b'new\ninsert 0 0 "' + b"a" * 800 + b'"\nmany 1' + b"".join(b' %d 1 "b"' % place for place in range(0, 800, 2))
+    image = subprocess.run([program, "apply", "/dev/stdin"], input=script, stdout=subprocess.PIPE, check=True).stdout
+    lines = (b'%d 1 2 %d many 1 "b"\n%d 1 1 %d insert 0 0 "a"\n' % (place, place, place + 1, place + 1) for place in range(0, 800, 2))
+    return {"second_bytes": image, "second_bytes_blamed": b"".join(lines)}
 
 
 def text_of(column, made):
@@ -94,16 +128,20 @@ def rows(made):
         yield name, words.split(), given, int(status), text_of(out, made), text_of(err, made)
 
 
+# A session that goes on from an image, and takes its place.
+ONTO = ["edit", "--onto=image", "--keep=image.keys", "image"]
+SAVE = b"\x18"
+
+
 class Room:
     """A folder with the files of the rows and the library, in which the program is run."""
 
     def __init__(self, program, library, folder):
         self.program, self.library, self.folder = program, library, folder
-        self.made = files()
+        self.made = files() | changed(program)
         self.failed = 0
         for name, content in self.made.items():
-            with open(f"{folder}/{name}", "wb") as file:
-                file.write(content)
+            self.put(name, content)
 
     def run(self, words, given="", refused=0):
         """The status, what was written, and how many allocations there were."""
@@ -136,10 +174,12 @@ class Room:
         return found[0] == 0 and b" Memory\x1b[" in found[1] and image is not None and self.run(["check", "others"])[0] == 0
 
     def is_well(self, row, found, saved):
-        """Whether a run of which an allocation was refused did what it may."""
-        _, words, _, status, out, err = row
+        """Whether a run of which an allocation was refused did what it may, and again with each allocation what it has to."""
+        _, words, given, status, out, err = row
         is_edit = words[0:1] == ["edit"]
-        image = self.image(words[1]) if is_edit else None
+        image = self.image(image_name(words)) if is_edit else None
+        if is_edit and (self.run(words, given)[:3] != (status, out, err) or self.image(image_name(words)) != saved):
+            return False
         if found[:3] == (status, out, err) and image == saved:
             return True
         if found[0] == 3 and found[2] == MEMORY and out.startswith(found[1]) and image is None:
@@ -152,7 +192,7 @@ class Room:
         """How many allocations of the row's run were refused, and in how many of these runs it could live without."""
         name, words, given, status, out, err = row
         found = self.run(words, given)
-        saved = self.image(words[1]) if words[0:1] == ["edit"] else None
+        saved = self.image(image_name(words)) if words[0:1] == ["edit"] else None
         if found[:3] != (status, out, err):
             self.fail(name, 0, found)
             return 0, 0
@@ -165,6 +205,58 @@ class Room:
                 return refused, spared
             refused += 1
             spared += found[0] == status and found[2] == err
+
+    def put(self, name, content):
+        with open(f"{self.folder}/{name}", "wb") as file:
+            file.write(content)
+
+    def begun_onto(self, older):
+        """The older image stands there, and no key is kept."""
+        for name in ("image.keys", "image.keys.saved", "image.new"):
+            self.image(name)
+        self.put("image", older)
+
+    def images_onto(self, older):
+        """The images of the first of keys_saved behind the older one."""
+        images = []
+        for n in range(len(self.made["keys_saved"])):
+            self.begun_onto(older)
+            self.put("first_keys", self.made["keys_saved"][:n] + SAVE)
+            self.run(ONTO, "first_keys")
+            images.append(self.image("image"))
+        return images
+
+    def is_well_onto(self, found, older, images):
+        """Whether a session over an image, of which an allocation was refused, and the same command behind it did what they may."""
+        there = self.image("image")
+        if found[0] == 0:
+            return not self.image("image.keys") and (found[2] == b"" and there == images[-1] or self.has_refused_a_key(found, there))
+        if found[0] != 3 or found[2] != MEMORY or there != older:
+            return False
+        self.put("image", there)
+        again = self.run(ONTO, "key_save")
+        left = [name for name in ("image.keys", "image.keys.saved", "image.new") if self.image(name) is not None]
+        told = found[1].count(b"\x1b[2J") - 1
+        return again[0] == 0 and again[2] == b"" and not left and self.image("image") in images[max(told, 0) :]
+
+    def try_onto(self):
+        """How many allocations of a session were refused whose keys are kept over an image, and in how many of these runs it could live without."""
+        older = self.made["one_insert_in_two"]
+        images, spared, refused = self.images_onto(older), 0, 0
+        while True:
+            self.begun_onto(older)
+            found = self.run(ONTO, "keys_saved", refused + 1)
+            if not self.is_well_onto(found, older, images):
+                self.fail("keys kept over an image", refused + 1, found)
+            if found[3] <= refused:
+                return refused, spared
+            refused += 1
+            spared += found[0] == 0
+
+
+def image_name(words):
+    """Where an edit saves its image."""
+    return words[3] if words[1] == "--onto" else words[1]
 
 
 def tests_of(tests):
@@ -206,6 +298,9 @@ def main():
             count, spared = room.try_row(row)
             print(f"{row[0]}: {count} allocations refused, {spared} of them spared")
             refused += count
+        count, spared = room.try_onto()
+        print(f"keys kept over an image: {count} allocations refused, {spared} of them spared")
+        refused += count
     failed += room.failed
     print(f"{refused} refused, {failed} runs failed")
     return 1 if failed else 0

@@ -1,6 +1,6 @@
-"""Runs what docs/SCRIPTS.md shows, block by block, with the built program, or the one that is named, as `cordkit`, and compares what each block writes
-with what stands there. A block that writes nothing there is no example to be run. Where the program has no `log`, or no `find --all`, what needs
-them is not tried, nor is what needs git where there is none: that is told. The last line is 'N passed, M failed'.
+"""Runs what docs/START.md and docs/SCRIPTS.md show, block by block, with the built program, or the one that is named, as `cordkit`, and compares what
+each block writes with what stands there. A block that writes nothing there is no example to be run. Where the program has no `log`, or no
+`find --all`, what needs them is not tried, nor is what needs git where there is none: that is told. The last line is 'N passed, M failed'.
 
 script_tour.py [PROGRAM]"""
 
@@ -13,7 +13,7 @@ import tempfile
 
 from second_checker import PROGRAM, TOP
 
-PAGE = os.path.join(TOP, "docs/SCRIPTS.md")
+PAGES = ["docs/START.md", "docs/SCRIPTS.md"]
 NEEDS = {r"cordkit log|cord.textconv": ("log", "x"), r"find --all": ("find", "--all", "0", "x", "/dev/null")}
 
 
@@ -38,10 +38,10 @@ def missing(program, script):
     return "there is no git" if "git " in script and not shutil.which("git") else None
 
 
-def main():
-    program = os.path.abspath(sys.argv[1] if len(sys.argv) > 1 else PROGRAM)
+def try_page(page, program):
+    """How many blocks of a page write what stands there, and how many do not."""
     passed = failed = 0
-    with open(PAGE, encoding="utf-8") as file:
+    with open(os.path.join(TOP, page), encoding="utf-8") as file:
         blocks = list(blocks_of(file.read()))
     with tempfile.TemporaryDirectory() as room, tempfile.TemporaryDirectory() as tools:
         os.symlink(program, os.path.join(tools, "cordkit"))
@@ -50,16 +50,23 @@ def main():
         for script, wanted in blocks:
             reason = missing(program, script)
             if reason:
-                print(f"LEFT OUT: what begins with {script.splitlines()[0]!r}: {reason}")
+                print(f"LEFT OUT: {page}: what begins with {script.splitlines()[0]!r}: {reason}")
                 continue
             done = subprocess.run(["sh", "-e"], input=script, capture_output=True, text=True, cwd=room, env=plain, check=False)
             if (done.returncode, done.stdout, done.stderr) == (0, wanted, ""):
                 passed += 1
             else:
                 failed += 1
-                print(f"FAILED: status {done.returncode}, it wrote:\n{done.stdout}{done.stderr}for:\n{wanted}")
+                print(f"FAILED: {page}: status {done.returncode}, it wrote:\n{done.stdout}{done.stderr}for:\n{wanted}")
+    return passed, failed, not blocks
+
+
+def main():
+    program = os.path.abspath(sys.argv[1] if len(sys.argv) > 1 else PROGRAM)
+    tried = [try_page(page, program) for page in PAGES]
+    passed, failed = sum(page[0] for page in tried), sum(page[1] for page in tried)
     print(f"{passed} passed, {failed} failed")
-    return failed != 0 or passed + failed == 0 and not blocks
+    return failed != 0 or any(page[2] for page in tried)
 
 
 if __name__ == "__main__":

@@ -1,17 +1,17 @@
 #!/bin/sh
 # A slice of what `make long` and `make fuzz` run with python, with fixed seeds, in some seconds: the second checker on the worked images, damaged
-# images, keys, scripts, scripts behind images, where bytes come from, the inputs that the fuzzer kept, and sources of any size, over the program that
-# `make run` built or the one that $1 names; the history of README.md as a session, and what docs/SCRIPTS.md shows; what the build before the pass for
-# speed answered, beside the program cord_answers, as the gate built it; images by the C library, through its Python module, where `make library` built it;
-# where there is gcc, each allocation of that program's runs refused, and of those of refusal_tests, as the gate built them; and whether docs/HEADLINE.md
-# is what specs/ say, each new name there one thing, and each call and clause there that a crate's README.md or docs/PROVED.md names, and whether wrong
-# edits keep the names that proofs cite. Where there is no python3 nothing of it is tried, which is told. What a test left out is told too. The last line
-# is 'N passed, M failed'; the status is not 0 where one failed.
+# images, keys, scripts, scripts behind images, where bytes come from, the inputs that the fuzzer kept, and sources of any size, over the program
+# that `make run` built or the one that $1 names; the history of README.md as a session, and what docs/START.md and docs/SCRIPTS.md show; what the
+# build before the pass for speed answered, beside the program cord_answers, as the gate built it; images by the C library, through its Python
+# module, where `make library` built it; where there is gcc, each allocation of that program's runs refused, and of those of refusal_tests, as the
+# gate built them; and whether docs/HEADLINE.md and docs/DEFINITIONS.md are what specs/ say, each new name there one thing, and each call and clause
+# there that a crate's README.md or docs/PROVED.md names, and whether wrong edits keep the names that proofs cite. Where there is no python3 nothing
+# of it is tried, which is told. What a test left out is told too. The last line is 'N passed, M failed'; the status is not 0 where one failed.
 set -u
 top=$(cd "$(dirname "$0")/.." && pwd)
 program=${1:-$top/crates/cordkit/out/cordkit}
 if ! command -v python3 > /dev/null; then
-    echo "LEFT OUT: the second checker, damaged images, keys, scripts, scripts behind images, where bytes come from, the history of README.md, the inputs of the fuzzer, large sources, the answers of the start, refused allocations, docs/HEADLINE.md, names, README.md and docs/PROVED.md, wrong edits: there is no python3 here"
+    echo "LEFT OUT: the second checker, damaged images, keys, scripts, scripts behind images, where bytes come from, the history of README.md, the inputs of the fuzzer, large sources, the answers of the start, refused allocations, docs/HEADLINE.md and docs/DEFINITIONS.md, names, README.md and docs/PROVED.md, wrong edits: there is no python3 here"
     echo "0 passed, 0 failed"
     exit 0
 fi
@@ -42,7 +42,7 @@ try 'scripts' "$top/tests/random_scripts.py" 60 "$program"
 try 'scripts behind images' "$top/tests/going_on.py" 60 "$program"
 try 'where bytes come from' "$top/tests/random_blames.py" 60 "$program"
 try 'the history of a file' "$top/tests/git_history.py" "$program"
-try 'what docs/SCRIPTS.md shows' "$top/tests/script_tour.py" "$program"
+try 'what docs/START.md and docs/SCRIPTS.md show' "$top/tests/script_tour.py" "$program"
 try 'the inputs of the fuzzer' "$top/tests/fuzz_images.py" 0 "$program"
 try 'sources of any size' "$top/tests/large_sources.py" "$program"
 if [ -f "$top/crates/cord_c/out/libcord_c.so" ]; then
@@ -57,7 +57,7 @@ else
     echo "LEFT OUT: the answers of the start: there is no crates/cord_answers/out/cord_answers: make check builds it"
 fi
 try 'each allocation refused' "$top/tests/refused.py" "$program"
-try 'the page of definitions' "$top/tests/headline.py"
+try 'the pages of definitions' "$top/tests/headline.py"
 try 'names' "$top/tests/names.py"
 try 'what README.md files and docs/PROVED.md name' "$top/tests/readmes.py"
 try 'wrong edits' "$top/tests/edit_names.py"

@@ -222,8 +222,29 @@ start missing/image
 ended 'a folder that is not there' write 'write: the image missing/image, the file of keys or standard output could not be' \
     ' written' 'status 3, mode restored'
 start image
-ended 'an image that is there' 'refused J3' 'J3: image is there already: cordedit -f replaces it, and cordedit --continue ima' \
-    'ge NEW begins with its last text' 'status 1, mode restored'
+screen 'an image that is there' 'rev 13 byte 0 of 4' '0 0' abde
+press C-e
+type_text f
+screen 'a byte behind its text' 'rev 14 byte 5 of 5' '5 0' abdef
+press C-u C-u C-u
+screen 'undo crosses what was saved' 'rev 17 byte 4 of 5' '4 0' abcde
+press C-x
+ended 'saved again' 'status 0, mode restored'
+is_same 'the text before and behind' "$(text_of image 13) $(text_of image 14) $(text_of image 17)" '61626465 6162646566 6162636465'
+start -f image
+screen 'an image that is replaced' 'rev 0 byte 0 of 0' '0 0'
+press C-c
+ended 'it stays until Save' 'status 0, mode restored'
+case $("$program" check image) in
+'accepted 18 revisions '*) passes ;;
+*) fails 'the image is as it was' ;;
+esac
+start copy
+ended 'an image without its file' 'refused C2' 'C2: copy was made over one source, of 9 bytes, and 0 are given' 'status 1, mode restored'
+start copy file
+screen 'an image with its file' 'rev 1 byte 0 of 10' '0 0' xone '?two'
+press C-c
+ended 'left' 'status 0, mode restored'
 start none missing
 ended 'a message comes behind the screen' read 'read: there is no file missing' 'status 3, mode restored'
 start none
