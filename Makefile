@@ -8,7 +8,7 @@
 # make hostile   has the program check images at the format's limits: ten minutes, 5 GB of memory and of disk
 # make fuzz MINUTES=60  has the program and the second checker answer images that are made from those that reached something new
 # make audit     the edits that must be refused and that the gate has no time for
-# make bench     times the program beside the usual tools, on data that it makes
+# make bench     times the program beside the usual tools, on data that it makes, and a check over the size of its image
 # make speed OLD=..  times the jobs and the tools over files beside those of another built checkout; an error names what lost a twentieth in two runs
 # make instructions  counts the instructions of each job, where valgrind is installed, and compares them with bench/instructions.txt
 # make refuse    refuses each allocation of the tests' runs and of the program's in turn, and fails its reads and writes by real devices
@@ -71,7 +71,9 @@ bench:
 	sh bench/tools.sh
 	sh bench/scripts.sh
 	sh bench/onto.sh
+	sh bench/blame.sh
 	sh bench/edit.sh
+	python3 bench/plot.py "$(PROGRAM)"
 
 speed:
 	@[ -d "$(OLD)" ] || { echo "make speed OLD=CHECKOUT: CONTRIBUTING.md tells how one is built" >&2; exit 2; }

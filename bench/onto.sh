@@ -1,9 +1,11 @@
 #!/bin/sh
-# Times `apply --onto` of one line, beside the check of the same image and `log` of it applied again with that line, in one run: the least of seven by
-# turns, in milliseconds, and the most memory that each held beside the image, where /usr/bin/time is installed. The sessions: keys at one place of an
-# empty text, keys in the middle of 2,000 bytes, ten bytes anywhere in a megabyte, `many` of 4,096 places, and thirty-nine doublings of a byte. Both ways
-# give the same last text. COUNT is how many keys there are, 300,000 where it is not given.
-# onto.sh [COUNT]
+# Times `apply --onto` of one line and `edit --onto` up to its first frame, with keys to be kept, beside the check of the same image and `log` of it applied
+# again with that line, in one run: the least of seven by turns, in milliseconds, and the most memory that each held beside the image, where /usr/bin/time
+# is installed. The sessions: keys at one place of an empty text, keys in the middle of 2,000 bytes, ten bytes anywhere in a megabyte, `many` of 4,096
+# places, and thirty-nine doublings of a byte, which are too long to edit. Both ways give the same last text. The first line is SHA-256 of 32 MB, by
+# sha256sum: keys that are kept name a digest of 16 MB of the image and of the file at most. COUNT is how many keys there are, 300,000 where it is not given;
+# with `first` only the first session is measured.
+# onto.sh [COUNT [first]]
 set -eu
 cd "$(dirname "$0")/.."
 program=$PWD/crates/cordkit/out/cordkit
@@ -22,6 +24,7 @@ took() {
 }
 
 checked() { "$program" check image $source; }
+shown() { "$program" edit --onto image --keep keys edited $source < /dev/null; }
 onto() { "$program" apply --onto image line $source; }
 again() {
     { "$program" log image $source && cat line; } > longer
@@ -34,7 +37,7 @@ least() { sort -n "$1" | head -n 1; }
 # The most memory of a run beside the image, in kilobytes.
 held() {
     [ -x /usr/bin/time ] || return 0
-    /usr/bin/time -f %M -o held "$program" "$@" > out
+    /usr/bin/time -f %M -o held "$program" "$@" < /dev/null > out
     echo ", $(($(cat held) - $(wc -c < image) / 1024)) kB beside the image"
 }
 
@@ -47,6 +50,7 @@ measure() {
     rm -f times_*
     for _ in 1 2 3 4 5 6 7; do
         for run in checked onto again; do took "$run" >> "times_$run"; done
+        [ "$name" = doublings ] || took shown >> times_shown
     done
     onto > further
     again > remade
@@ -58,10 +62,17 @@ measure() {
     echo "  check         $(least times_checked)$(held check image $source)"
     echo "  apply --onto  $(least times_onto)$(held apply --onto image line $source)"
     echo "  log, apply    $(least times_again)"
+    [ "$name" = doublings ] || echo "  edit --onto   $(least times_shown)$(held edit --onto image --keep keys edited $source)"
 }
+
+head -c 33554432 /dev/zero > zeros
+for _ in 1 2 3 4 5 6 7; do took sha256sum zeros >> times_digest; done
+echo "SHA-256 of 32 MB: $(least times_digest)"
+rm zeros
 
 awk -v n="$count" 'BEGIN { print "new"; for (k = 0; k < n; k++) printf "insert %d %d \"%c\"\n", k, k, 97 + k % 26 }' > script
 measure 'keys at one place'
+[ "${2:-all}" != first ] || exit 0
 yes abcdefghi | head -c 2000 > text_of_2000
 awk -v n="$count" 'BEGIN { print "open 0"; for (k = 0; k < n; k++) printf "insert %d %d \"%c\"\n", k, 1000 + k, 97 + k % 26 }' > script
 measure 'keys in the middle' text_of_2000
