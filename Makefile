@@ -72,6 +72,7 @@ bench:
 	sh bench/scripts.sh
 	sh bench/onto.sh
 	sh bench/blame.sh
+	sh bench/commit.sh
 	sh bench/edit.sh
 	python3 bench/plot.py "$(PROGRAM)"
 

@@ -5,6 +5,7 @@ _cordkit_kinds() {
     case $1 in
         check | migrate | log | apply | cordkit-verify) echo file files ;;
         show | blame) echo file number files ;;
+        commit) echo file file files ;;
         cut) echo number number file ;;
         join) echo files ;;
         find) echo number text file ;;
@@ -17,7 +18,7 @@ _cordkit_kinds() {
 _cordkit_options() {
     case $1 in
         cordkit-verify) echo --text --graph --at-most --help ;;
-        check | show | migrate) echo --at-most --explain --quiet --help ;;
+        check | show | migrate | commit) echo --at-most --explain --quiet --help ;;
         log) echo --at-most --brief --explain --quiet --help ;;
         blame) echo --at-most --start --count --explain --quiet --help ;;
         apply) echo --onto --at-most --explain --quiet --help ;;
@@ -56,7 +57,7 @@ _cordkit_read() {
 }
 
 _cordkit() {
-    local commands='check show cut join find cmp edit migrate log blame apply help'
+    local commands='check show cut join find cmp edit migrate log blame apply commit help'
     local IFS=$' \t\n' command='' place=0 ended='' valued='' continued='' redirected='' kind kinds
     COMPREPLY=()
     [[ ${1##*/} == cordkit ]] || command=${1##*/}

@@ -1,6 +1,6 @@
 # Completions of cordkit for fish. Files are offered where no rule says otherwise.
 
-set --local commands check show cut join find cmp edit migrate log blame apply help
+set --local commands check show cut join find cmp edit migrate log blame apply commit help
 set --local none "not __fish_seen_subcommand_from $commands"
 
 complete -c cordkit -n $none -f
@@ -19,8 +19,9 @@ complete -c cordkit -n $none -a migrate -d 'Write a saved session anew, in the l
 complete -c cordkit -n $none -a log -d 'Write a saved session as a script of its commands'
 complete -c cordkit -n $none -a blame -d 'Tell where each byte of a text comes from'
 complete -c cordkit -n $none -a apply -d 'Write the session that a script of commands makes'
+complete -c cordkit -n $none -a commit -d 'Keep what a file holds now as the next state of a saved session'
 complete -c cordkit -n $none -a help -d 'Print the help of the program or of a command'
-complete -c cordkit -n '__fish_seen_subcommand_from check show migrate log blame apply' -l at-most -x -d 'The most looks at nodes that the check may take'
+complete -c cordkit -n '__fish_seen_subcommand_from check show migrate log blame apply commit' -l at-most -x -d 'The most looks at nodes that the check may take'
 complete -c cordkit -n '__fish_seen_subcommand_from log' -l brief -d 'Write at most 60 bytes of each text'
 complete -c cordkit -n '__fish_seen_subcommand_from blame' -l start -x -d 'The place of the first byte'
 complete -c cordkit -n '__fish_seen_subcommand_from blame' -l count -x -d 'How many bytes'

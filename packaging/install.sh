@@ -52,7 +52,8 @@ files="755 lib/cordkit/cordkit $program
 644 share/fish/vendor_completions.d/cordkit.fish completions/cordkit.fish
 644 share/fish/vendor_completions.d/cordkit-verify.fish completions/cordkit-verify.fish
 644 share/cordkit/magic packaging/magic
-755 share/doc/cordkit/examples/from_git examples/from_git"
+755 share/doc/cordkit/examples/from_git examples/from_git
+755 share/doc/cordkit/examples/keep_file examples/keep_file"
 
 # Those of the C library, and those of the Python module, which loads it.
 c_files="644 lib/libcord_c.a $library

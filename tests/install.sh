@@ -97,6 +97,7 @@ wanted_files() {
 644 share/man/man5/cord-image.5
 644 share/zsh/site-functions/_cordkit
 755 share/doc/cordkit/examples/from_git
+755 share/doc/cordkit/examples/keep_file
 755 bin/cordedit
 755 bin/cordkit
 755 bin/cordkit-verify

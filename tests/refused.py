@@ -6,6 +6,8 @@
 - in runs of the built cordkit, each a row of the table of tests/program.sh. A run gives what the row says, or ends with `memory` and the status 3
   behind a front of that; the editor may also refuse a key, which a frame tells, and then saves an image of the other keys. A run of the editor is
   made once more with each allocation, and then gives what the row says;
+- in a commit of a file, behind an image and anew: where it ended with `memory` the image is as it was, or none, and the same command with each allocation
+  commits the file;
 - in a session whose keys are kept, over an image whose place it takes: where it ended with `memory` that image is as it was, and the same command with
   each allocation plays what was kept and saves it.
 
@@ -128,6 +130,9 @@ def rows(made):
         yield name, words.split(), given, int(status), text_of(out, made), text_of(err, made)
 
 
+# A file that is committed, and the answers behind an image of two revisions and anew.
+COMMIT = ["commit", "kept", "abcde"]
+
 # A session that goes on from an image, and takes its place.
 ONTO = ["edit", "--onto=image", "--keep=image.keys", "image"]
 SAVE = b"\x18"
@@ -209,6 +214,32 @@ class Room:
     def put(self, name, content):
         with open(f"{self.folder}/{name}", "wb") as file:
             file.write(content)
+
+    def committed(self, older, refused):
+        """What a commit behind an image, or anew, tells, and which image is there then, where so many of its allocations are refused."""
+        if older is not None:
+            self.put("kept", older)
+        found = self.run(COMMIT, refused=refused)
+        left = self.image("kept.new")
+        return found, self.image("kept") if left is None else b"a part of an image"
+
+    def try_commit(self, older, answer):
+        """How many allocations of a commit behind an image, or anew, were refused, and in how many of these runs it could live without."""
+        whole = (0, answer, b"")
+        found, newer = self.committed(older, 0)
+        if found[:3] != whole or newer is None:
+            self.fail("a commit", 0, found)
+        spared, refused = 0, 0
+        while True:
+            found, there = self.committed(older, refused + 1)
+            again, image = self.committed(there, 0)
+            stopped = found[:3] == (3, b"", MEMORY) and there == older and (again[:3], image) == (whole, newer)
+            if not stopped and (found[:3] != whole or there != newer):
+                self.fail("a commit", refused + 1, found)
+            if found[3] <= refused:
+                return refused, spared
+            refused += 1
+            spared += found[0] == 0
 
     def begun_onto(self, older):
         """The older image stands there, and no key is kept."""
@@ -297,6 +328,10 @@ def main():
         for row in rows(room.made):
             count, spared = room.try_row(row)
             print(f"{row[0]}: {count} allocations refused, {spared} of them spared")
+            refused += count
+        for older, answer in (room.made["one_insert_in_two"], b"committed 2\n"), (None, b"committed 1\n"):
+            count, spared = room.try_commit(older, answer)
+            print(f"a commit {'anew' if older is None else 'behind an image'}: {count} allocations refused, {spared} of them spared")
             refused += count
         count, spared = room.try_onto()
         print(f"keys kept over an image: {count} allocations refused, {spared} of them spared")

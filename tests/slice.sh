@@ -1,6 +1,6 @@
 #!/bin/sh
 # A slice of what `make long` and `make fuzz` run with python, with fixed seeds, in some seconds: the second checker on the worked images, damaged
-# images, keys, scripts, scripts behind images, where bytes come from, the inputs that the fuzzer kept, and sources of any size, over the program
+# images, keys, scripts, scripts behind images, commits, where bytes come from, the inputs that the fuzzer kept, and sources of any size, over the program
 # that `make run` built or the one that $1 names; the history of README.md as a session, and what docs/START.md and docs/SCRIPTS.md show; what the
 # build before the pass for speed answered, beside the program cord_answers, as the gate built it; images by the C library, through its Python
 # module, where `make library` built it; where there is gcc, each allocation of that program's runs refused, and of those of refusal_tests, as the
@@ -11,7 +11,7 @@ set -u
 top=$(cd "$(dirname "$0")/.." && pwd)
 program=${1:-$top/crates/cordkit/out/cordkit}
 if ! command -v python3 > /dev/null; then
-    echo "LEFT OUT: the second checker, damaged images, keys, scripts, scripts behind images, where bytes come from, the history of README.md, the inputs of the fuzzer, large sources, the answers of the start, refused allocations, docs/HEADLINE.md and docs/DEFINITIONS.md, names, README.md and docs/PROVED.md, wrong edits: there is no python3 here"
+    echo "LEFT OUT: the second checker, damaged images, keys, scripts, scripts behind images, commits, where bytes come from, the history of README.md, the inputs of the fuzzer, large sources, the answers of the start, refused allocations, docs/HEADLINE.md and docs/DEFINITIONS.md, names, README.md and docs/PROVED.md, wrong edits: there is no python3 here"
     echo "0 passed, 0 failed"
     exit 0
 fi
@@ -40,6 +40,7 @@ try 'damaged images' "$top/tests/damaged_images.py" 1050 "$program"
 try 'keys' "$top/tests/random_keys.py" 25 "$program"
 try 'scripts' "$top/tests/random_scripts.py" 60 "$program"
 try 'scripts behind images' "$top/tests/going_on.py" 60 "$program"
+try 'commits' "$top/tests/commits.py" 40 "$program"
 try 'where bytes come from' "$top/tests/random_blames.py" 60 "$program"
 try 'the history of a file' "$top/tests/git_history.py" "$program"
 try 'what docs/START.md and docs/SCRIPTS.md show' "$top/tests/script_tour.py" "$program"

@@ -69,6 +69,15 @@ fn inputs<'a>(alloc: Global, action: &Action<'a>) -> Result<Vec<&'a str>, AllocE
             inputs.push(*script)?;
             inputs.extend_from_slice(sources)?;
         }
+        Action::Commit {
+            image,
+            file,
+            sources,
+            ..
+        } => {
+            inputs.extend_from_slice(&[*file, *image])?;
+            inputs.extend_from_slice(sources)?;
+        }
         Action::Cut { file, .. } | Action::Find { file, .. } => inputs.push(*file)?,
         Action::Join { files } => inputs.extend_from_slice(files)?,
         Action::Cmp { first, second } => inputs.extend_from_slice(&[*first, *second])?,
@@ -104,6 +113,7 @@ fn image_of<'a, 'b>(action: &'b Action<'a>) -> Option<(&'a str, &'b [&'a str])> 
         | Action::Show { image, sources, .. }
         | Action::Log { image, sources, .. }
         | Action::Blame { image, sources, .. }
+        | Action::Commit { image, sources, .. }
         | Action::Apply {
             onto: Some(image),
             sources,
@@ -113,13 +123,16 @@ fn image_of<'a, 'b>(action: &'b Action<'a>) -> Option<(&'a str, &'b [&'a str])> 
     }
 }
 
-/// Whether a code is of a line of a script, and not of an image.
-fn is_of_line(action: &Action<'_>, name: &str, numbers: &str) -> bool {
+/// Whether a code is of the image, and not of what is put behind it, a line of a script or a file, nor of keys.
+fn is_of_image(action: &Action<'_>, name: &str, numbers: &str) -> bool {
     match action {
         Action::Apply { .. } => {
-            !numbers.is_empty() && matches!(name.as_bytes(), [b'E' | b'N' | b'P', ..])
+            numbers.is_empty() || !matches!(name.as_bytes(), [b'E' | b'N' | b'P', ..])
         }
-        _ => false,
+        Action::Commit { .. } => {
+            !matches!(name, "J2" | "J6") && !matches!(name.as_bytes(), [b'E' | b'N', ..])
+        }
+        _ => true,
     }
 }
 
@@ -205,7 +218,7 @@ fn other_sources<R: Files + AllocGlobal>(
     other_given(rt, image, sources, numbers)
 }
 
-/// Which file of an edit is no image, and stays: the image, or the one beside it that was to be the image.
+/// Which file is no image, and stays: the image, or the one beside it that was to be the image.
 fn no_image<R: Files + AllocGlobal>(rt: &R, image: &str) -> Option<Sentence> {
     let text =
         "% is no image, and stays as it is: move it away or remove it, and give the same command again";
@@ -227,7 +240,7 @@ fn seen<R: Files + AllocGlobal>(
         "read" => unread(rt, action),
         "S5" => too_long(rt, action),
         "I3" => match action {
-            Action::Edit { image, .. } => no_image(rt, image),
+            Action::Edit { image, .. } | Action::Commit { image, .. } => no_image(rt, image),
             _ => None,
         },
         "C2" | "C3" => other_sources(rt, action, numbers),
@@ -246,6 +259,7 @@ fn output(alloc: Global, action: &Action<'_>) -> Result<String, AllocError> {
             format!(in alloc; "the image {image}, the file of keys or standard output")
         }
         Action::Discard { keys } => String::from_str(alloc, keys),
+        Action::Commit { image, .. } => format!(in alloc; "the image {image} or standard output"),
         _ => String::from_str(alloc, "standard output"),
     }
 }
@@ -276,9 +290,14 @@ fn refused(
     numbers: &str,
 ) -> Result<String, AllocError> {
     let text = match action {
-        Action::Apply { script, .. } if is_of_line(action, name, numbers) => {
+        Action::Apply { script, .. } if !is_of_image(action, name, numbers) => {
             return format!(in alloc; "line {numbers} of {script}");
         }
+        Action::Commit { image, file, .. } => match name {
+            "J2" => return format!(in alloc; "{image}.keys"),
+            "J6" => file,
+            _ => return format!(in alloc; "the commit of {file}"),
+        },
         Action::Discard { keys } => keys,
         Action::Edit {
             onto,
@@ -313,7 +332,7 @@ fn about(
         "write" => output(alloc, action),
         "read" => input(alloc, action),
         _ => match image_of(action) {
-            Some((image, _)) if !is_of_line(action, name, numbers) => {
+            Some((image, _)) if is_of_image(action, name, numbers) => {
                 String::from_str(alloc, image)
             }
             _ => refused(alloc, action, name, numbers),

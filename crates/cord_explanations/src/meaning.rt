@@ -82,6 +82,8 @@ fn of_files(code: &str) -> &'static str {
             "% is there already: cordedit -f replaces it, and cordedit --continue % NEW begins with its last text",
         "J4" => "% is not what was there when the session began, and stays as it is",
         "J5" => "% is not there, or not the one that the session had",
+        "J6" =>
+            "% is the image itself, the file beside it that is to be the image, or a source of its session",
         "K1" => "% has more than 2,147,483,647 bytes",
         "K2" => "16,777,216 keys were taken, and none of them ended the editor",
         "S4" => "there are more than 255 files",

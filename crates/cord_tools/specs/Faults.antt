@@ -129,4 +129,5 @@ IsJoinFault Tool.KeysInUse = ⊥
 IsJoinFault Tool.ImageThere = ⊥
 IsJoinFault Tool.OtherImage = ⊥
 IsJoinFault Tool.KeysGone = ⊥
+IsJoinFault Tool.OwnFile = ⊥
 IsJoinFault PatternTooLong = ⊥

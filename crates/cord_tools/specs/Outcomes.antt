@@ -1,7 +1,7 @@
 -- How a run of the program ends.
 use Rattle.std.specs.Prelude.{ℕ}
 use Rattle.cord_tools.specs.declared.fault.ToolFault.{ToolFault}
-use Rattle.cord_tools.specs.declared.fault.ToolFault.TheVariants.{Memory, Read, Write, Refused, Source, NoRevision, PatternTooLong, Rope, TakeUp, Edit, TextTooLong, TooManyKeys, OtherKeys, KeysInUse, ImageThere, OtherImage, KeysGone}
+use Rattle.cord_tools.specs.declared.fault.ToolFault.TheVariants.{Memory, Read, Write, Refused, Source, NoRevision, PatternTooLong, Rope, TakeUp, Edit, TextTooLong, TooManyKeys, OtherKeys, KeysInUse, ImageThere, OtherImage, KeysGone, OwnFile}
 use Rattle.cord_tools.specs.declared.outcome.Outcome.{Outcome}
 use Rattle.cord_tools.specs.declared.outcome.Outcome.TheVariants.{Answered, Ended, Misused}
 use Rattle.cord_tools.specs.declared.status.Status.TheVariants.{Success, Failure}
@@ -22,6 +22,7 @@ fault_status KeysInUse = 1
 fault_status ImageThere = 1
 fault_status OtherImage = 1
 fault_status KeysGone = 1
+fault_status OwnFile = 1
 fault_status Memory = 3
 fault_status Read = 3
 fault_status Write = 3

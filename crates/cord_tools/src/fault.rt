@@ -70,6 +70,9 @@ pub enum ToolFault {
     /// The file of keys of the session is gone, or another one has its name.
     #[error("refused J5")]
     KeysGone,
+    /// The file to be committed is the image, or a source of its session.
+    #[error("refused J6")]
+    OwnFile,
 }
 
 impl From<AddFault> for ToolFault {

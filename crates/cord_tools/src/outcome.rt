@@ -35,7 +35,8 @@ fn fault_status(fault: ToolFault) -> u8
         | ToolFault::KeysInUse
         | ToolFault::ImageThere
         | ToolFault::OtherImage
-        | ToolFault::KeysGone => 1,
+        | ToolFault::KeysGone
+        | ToolFault::OwnFile => 1,
         ToolFault::Memory | ToolFault::Read | ToolFault::Write => 3,
     }
 }

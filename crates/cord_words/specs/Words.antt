@@ -13,7 +13,7 @@ use Rattle.clap.specs.declared.builder.action.ArgAction.TheVariants.{Append, Set
 use Rattle.clap.specs.declared.error.kind.ErrorKind.TheVariants.{ArgumentConflict, MissingRequiredArgument, ValueValidation}
 use Rattle.cord_words.specs.declared.request.Request.{Request}
 use Rattle.cord_words.specs.declared.action.Action.{Action}
-use Rattle.cord_words.specs.declared.action.Action.TheVariants.{CheckInput, Check, Show, Cut, Join, Find, Cmp, Edit, Discard, Migrate, Log, Blame, Apply}
+use Rattle.cord_words.specs.declared.action.Action.TheVariants.{CheckInput, Check, Show, Cut, Join, Find, Cmp, Edit, Discard, Migrate, Log, Blame, Apply, Commit}
 
 -- ---- the words that the program takes
 
@@ -140,6 +140,11 @@ abbrev pub apply_app : App
 apply_app = with_rule (with_rule (with_rule (with_rule (new_app (codes "apply")) onto_rule) limit_rule)
     (required_rule (codes "SCRIPT"))) sources_rule
 
+-- `commit [--at-most LOOKS] IMAGE FILE [SOURCE]...`
+abbrev pub commit_app : App
+commit_app = with_rule (with_rule (with_rule (with_rule (new_app (codes "commit")) limit_rule) image_rule) file_rule)
+    sources_rule
+
 -- the program's name, and that it has a version
 abbrev pub titled_app : App
 titled_app = on_top (λ s. record s { has_version = true }) (new_app (codes "cordkit"))
@@ -150,9 +155,9 @@ with_tool program tool = with_subcommand program (with_flags tool).top
 
 -- the program, as clap is told of it: all its subcommands
 unfoldable pub cordkit_app : App
-cordkit_app = with_tool (with_tool (with_tool (with_tool (with_tool (with_tool (with_tool (with_tool (with_tool (with_tool
+cordkit_app = with_tool (with_tool (with_tool (with_tool (with_tool (with_tool (with_tool (with_tool (with_tool (with_tool (with_tool
     (with_tool (with_flags titled_app) check_app) show_app) cut_app) join_app) find_app) cmp_app) edit_app) migrate_app) log_app)
-    blame_app) apply_app
+    blame_app) apply_app) commit_app
 
 -- ---- what was given
 
@@ -249,6 +254,10 @@ Holds given (Apply onto at_most script sources) = Gives given (codes "apply") (�
     × MayReadAs (first_of (codes "LOOKS") rows) at_most
     × (script.now ≡ text_of rows (codes "SCRIPT"))
     × (map (λ s. s.now) sources.items ≡ texts_of rows (codes "SOURCE")))
+Holds given (Commit at_most image file sources) = Gives given (codes "commit") (λ rows.
+    MayReadAs (first_of (codes "LOOKS") rows) at_most
+    × (image.now ≡ text_of rows (codes "IMAGE")) × (file.now ≡ text_of rows (codes "FILE"))
+    × (map (λ s. s.now) sources.items ≡ texts_of rows (codes "SOURCE")))
 
 -- the matches of the program's own arguments
 abbrev pub own_rows : List Text → List Row
@@ -270,7 +279,8 @@ IsOneOf (x ∷ xs) n = (n ≡ x) ⊎ IsOneOf xs n
 
 abbrev pub subcommand_names : List Text
 subcommand_names = codes "check" ∷ codes "show" ∷ codes "cut" ∷ codes "join" ∷ codes "find"
-    ∷ codes "cmp" ∷ codes "edit" ∷ codes "migrate" ∷ codes "log" ∷ codes "blame" ∷ codes "apply" ∷ []
+    ∷ codes "cmp" ∷ codes "edit" ∷ codes "migrate" ∷ codes "log" ∷ codes "blame" ∷ codes "apply"
+    ∷ codes "commit" ∷ []
 
 -- the subcommand that was given, if any, is one of the program's own, and not `help`
 abbrev pub IsKnown : Option (Text × List Row) → Type 0
@@ -295,6 +305,7 @@ pub record NumbersRead (given : Option (Text × List Row)) : Type 0 where
       IfSome (first_of (codes "LOOKS") rows) IsNumber × IfSome (first_of (codes "START") rows) IsNumber
       × IfSome (first_of (codes "COUNT") rows) IsNumber × IsNumber (text_of rows (codes "REV")))
   pub apply : WhereGiven given (codes "apply") (λ rows. IfSome (first_of (codes "LOOKS") rows) IsNumber)
+  pub commit : WhereGiven given (codes "commit") (λ rows. IfSome (first_of (codes "LOOKS") rows) IsNumber)
 
 -- `--discard` stands beside no word that is for a session
 abbrev pub DiscardsAlone : Option (Text × List Row) → Type 0

@@ -85,6 +85,14 @@ pub enum Action<'a> {
         revision: u64,
         sources: Vec<&'a str>,
     },
+    /// Make the bytes of a file the last text of the image of a file, whose session has these sources: the image is made where there is
+    /// none. So many looks may its check take.
+    Commit {
+        at_most: Option<u64>,
+        image: &'a str,
+        file: &'a str,
+        sources: Vec<&'a str>,
+    },
     /// Write the image of the session that a script makes, over files of these lengths: behind the last revision of the image `onto`,
     /// where there is one, whose session has these sources. So many looks may the check of that one take.
     Apply {

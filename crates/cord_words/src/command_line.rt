@@ -12,7 +12,9 @@ ghost use Rattle.cord_words.specs.Refusals.{FailsAs};
 use crate::action::Action;
 use crate::fault::WordsFault;
 use crate::request::Request;
-use crate::{apply, args, blame, check, cmp, cut, edit, find, given, join, log, migrate, show};
+use crate::{
+    apply, args, blame, check, cmp, commit, cut, edit, find, given, join, log, migrate, show,
+};
 use clap::error::ErrorKind;
 use clap::{ArgMatches, Command, Error};
 use std::alloc::{AllocError, Global};
@@ -104,6 +106,7 @@ fn action_of<'a>(
         Some(("log", given)) => log::action(alloc, command, given),
         Some(("blame", given)) => blame::action(alloc, command, given),
         Some(("apply", given)) => apply::action(alloc, command, given),
+        Some(("commit", given)) => commit::action(alloc, command, given),
         Some(_) => unreachable!(),
     }
 }
@@ -133,6 +136,7 @@ fn alone<'a>(alloc: Global, name: &str) -> Result<Command<'a>, AllocError> {
         "log" => log::command(alloc),
         "blame" => blame::command(alloc),
         "apply" => apply::command(alloc),
+        "commit" => commit::command(alloc),
         _ => Ok(titled(alloc)),
     };
     let path = format!(in alloc; "cordkit {name}")?;
@@ -193,7 +197,8 @@ fn cordkit<'a>(alloc: Global) -> Result<Command<'a>, AllocError>
     let command = add_tool(alloc, command, migrate::command(alloc));
     let command = add_tool(alloc, command, log::command(alloc));
     let command = add_tool(alloc, command, blame::command(alloc));
-    add_tool(alloc, command, apply::command(alloc))
+    let command = add_tool(alloc, command, apply::command(alloc));
+    add_tool(alloc, command, commit::command(alloc))
 }
 
 /// The refusal of words that are no text, with the usage of the program. It is `Memory`, where there was none for it.

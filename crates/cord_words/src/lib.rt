@@ -8,6 +8,7 @@ mod blame;
 mod check;
 mod cmp;
 mod command_line;
+mod commit;
 mod cut;
 mod edit;
 mod fault;

@@ -60,6 +60,11 @@ pub fn state_at(rt: &HostRuntime, path: &str) -> Option<FileState> {
     Some(state(&fs::symlink_metadata(rt, path).ok()?))
 }
 
+/// The state of what a name leads to, where something stands there: a link is followed.
+pub fn state_behind(rt: &HostRuntime, path: &str) -> Option<FileState> {
+    Some(state(&fs::metadata(rt, path).ok()?))
+}
+
 /// The state of a file that is open.
 pub fn state_of(file: &File) -> Option<FileState> {
     Some(state(&file.metadata().ok()?))

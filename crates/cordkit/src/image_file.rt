@@ -51,6 +51,8 @@ pub struct ImageFile<'a> {
     replaced: Replaced,
     /// Whether something else was found there.
     is_other: bool,
+    /// Whether another run was writing an image beside it.
+    is_busy: bool,
     /// Whether it is not written where it is to stand.
     never_in_place: bool,
     file: Option<File>,
@@ -160,6 +162,7 @@ impl<'a> ImageFile<'a> {
             permissions: None,
             replaced: Replaced::Any,
             is_other: false,
+            is_busy: false,
             never_in_place: false,
             file: None,
         };
@@ -185,6 +188,15 @@ impl<'a> ImageFile<'a> {
             Ok(metadata) => metadata.len() > 0,
             Err(_) => false,
         }
+    }
+
+    /// Whether an open file is the one of the image, or the one in which the image is written first.
+    pub fn has(&self, file: &File) -> bool {
+        let is_part = match &self.part {
+            Some(part) => is_named(self.rt, part.as_str(), file),
+            None => false,
+        };
+        is_part || is_named(self.rt, self.path.as_str(), file)
     }
 
     /// What is there. A second name of it is taken away first, where one stands beside it as a crash leaves it behind the first image
@@ -276,6 +288,10 @@ impl<'a> ImageFile<'a> {
                     {
                         self.part = None;
                     }
+                Err(error) => {
+                    self.is_busy = error.kind() == ErrorKind::WouldBlock;
+                    return Err(error);
+                }
                 made => return made,
             }
         }
@@ -287,6 +303,11 @@ impl<'a> ImageFile<'a> {
             Replaced::Nothing => File::create_new(self.rt, self.path.as_str()),
             _ => File::create(self.rt, self.path.as_str()),
         }
+    }
+
+    /// Whether another run writes an image that is to stand here.
+    pub fn is_busy(&self) -> bool {
+        self.is_busy
     }
 
     /// Why no image was written.
@@ -320,17 +341,36 @@ impl<'a> ImageFile<'a> {
         Err(ToolFault::Write)
     }
 
-    /// Puts an image that is whole in its place.
-    pub fn put(&self) -> Result<Put, ToolFault> {
-        let Some(file) = &self.file else {
-            return Ok(Put::None);
-        };
-        let Some(part) = &self.part else {
-            return Ok(Put::InPlace);
+    /// The file of an image that is whole, synced, where it does not stand in its place already.
+    fn synced(&self) -> Result<Option<&String>, ToolFault> {
+        let (Some(file), Some(part)) = (&self.file, &self.part) else {
+            return Ok(None);
         };
         if file.sync_all().is_err() || !is_named(self.rt, part.as_str(), file) {
             return Err(ToolFault::Write);
         }
+        Ok(Some(part))
+    }
+
+    /// Puts an image that is whole in its place, and nowhere else: where something else is there, it is refused.
+    pub fn put_here(&self) -> Result<(), ToolFault> {
+        if let Some(part) = self.synced()? {
+            if !self.put_part(part.as_str())? {
+                return Err(ToolFault::OtherImage);
+            }
+            sync_folder(self.rt, self.path.as_str());
+        }
+        Ok(())
+    }
+
+    /// Puts an image that is whole in its place.
+    pub fn put(&self) -> Result<Put, ToolFault> {
+        if self.file.is_none() {
+            return Ok(Put::None);
+        }
+        let Some(part) = self.synced()? else {
+            return Ok(Put::InPlace);
+        };
         let put = if self.put_part(part.as_str())? {
             Put::InPlace
         } else {

@@ -3,6 +3,7 @@
 
 mod answer;
 mod blaming;
+mod committing;
 mod editing;
 mod editing_onto;
 mod file_state;
@@ -19,6 +20,7 @@ ghost use Rattle.std.specs.Prelude.{◌≡◌, ◌*◌, ◌-◌, ◌^◌, ◌<�
 
 use crate::answer::Answer;
 use crate::blaming::write_blame;
+use crate::committing::{Committing, commit};
 use crate::editing::{Editing, edit};
 use crate::going_on::apply_onto;
 use crate::journal::discard;
@@ -374,6 +376,22 @@ fn run<L: Ledger, W: io::Write>(
             blank,
         ),
         Action::Discard { keys } => discard(rt, keys),
+        Action::Commit {
+            at_most,
+            image,
+            file,
+            sources,
+        } => commit::<L>(
+            rt,
+            Committing {
+                at_most: *at_most,
+                image,
+                file,
+                sources,
+            },
+            meter,
+            blank,
+        ),
         Action::Apply {
             onto: Some(image),
             at_most,

@@ -2,7 +2,9 @@
 //! one call, or two.
 
 use crate::refusals::Refusals;
-use crate::{editors, files, onto, pools, ropes, saved, scripts, searches, sessions, tools, words};
+use crate::{
+    commits, editors, files, onto, pools, ropes, saved, scripts, searches, sessions, tools, words,
+};
 use std::alloc::AllocGlobal;
 use std::process::Abort;
 
@@ -34,6 +36,7 @@ fn all_runs<A: AllocGlobal + Abort>(rt: &A, refusals: &mut Refusals) {
     scripts::image(rt, refusals);
     scripts::images_behind(rt, refusals);
     scripts::blamed(rt, refusals);
+    commits::committed(rt, refusals);
     editors::undo_then_type(rt, refusals);
     editors::cut_and_pasted(rt, refusals);
     editors::edited(rt, refusals);
@@ -180,6 +183,11 @@ fn images_behind(rt: HostRuntime) {
 #[test]
 fn blamed(rt: HostRuntime) {
     scripts::blamed(&rt, &mut Refusals::at_most(1));
+}
+
+#[test]
+fn committed(rt: HostRuntime) {
+    commits::committed(&rt, &mut Refusals::at_most(1));
 }
 
 #[test]

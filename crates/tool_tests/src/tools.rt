@@ -363,6 +363,7 @@ fn a_fault_has_its_word_or_its_code_and_a_status(rt: HostRuntime) {
         (ToolFault::ImageThere, "refused J3", 1),
         (ToolFault::OtherImage, "refused J4", 1),
         (ToolFault::KeysGone, "refused J5", 1),
+        (ToolFault::OwnFile, "refused J6", 1),
     ] {
         let printed = format!(in rt.alloc(); "{fault}").expect(&rt, "a line");
         assert_same(&rt, &printed.as_str(), &words, &fault);

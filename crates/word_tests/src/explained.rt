@@ -151,3 +151,48 @@ fn codes_of_an_edit_behind_an_image_are_explained(rt: HostRuntime) -> Result<(),
         ],
     )
 }
+
+#[test]
+fn codes_of_a_commit_are_explained(rt: HostRuntime) -> Result<(), Fail> {
+    let commit = || Action::Commit {
+        at_most: None,
+        image: "missing/a.cord",
+        file: "a.txt",
+        sources: Vec::new(rt.alloc()),
+    };
+    assert_explained(
+        &rt,
+        &[
+            (
+                commit(),
+                "C4(1)",
+                "C4(1): node 1 of missing/a.cord names one that is not earlier, or a source that is not there",
+            ),
+            (
+                commit(),
+                "E5",
+                "E5: the commit of a.txt would be more than 1,048,576 revisions",
+            ),
+            (
+                commit(),
+                "E7(N4)",
+                "E7(N4): the commit of a.txt would put in more bytes than there may be",
+            ),
+            (
+                commit(),
+                "J2",
+                "J2: another session keeps its keys in missing/a.cord.keys",
+            ),
+            (
+                commit(),
+                "J4",
+                "J4: missing/a.cord is not what was there when the session began, and stays as it is",
+            ),
+            (
+                commit(),
+                "J6",
+                "J6: a.txt is the image itself, the file beside it that is to be the image, or a source of its session",
+            ),
+        ],
+    )
+}

@@ -100,6 +100,14 @@ fn words_over_images_and_scripts_are_read(rt: HostRuntime) -> Result<(), Fail> {
                 "cordkit blame --start 4 --count=1 --at-most 7 a 2",
                 r#"Blame { at_most: Some(7), start: Some(4), count: Some(1), image: "a", revision: 2, sources: [] }"#,
             ),
+            (
+                "cordkit commit a b",
+                r#"Commit { at_most: None, image: "a", file: "b", sources: [] }"#,
+            ),
+            (
+                "cordkit commit --at-most=7 a b c d",
+                r#"Commit { at_most: Some(7), image: "a", file: "b", sources: ["c", "d"] }"#,
+            ),
         ],
     )
 }
