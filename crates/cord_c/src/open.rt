@@ -49,7 +49,7 @@ impl<'a> CordImage<'a> {
         }
     }
 
-    /// The same image, to be asked.
+    /// The image as one that was checked, which answers questions.
     pub fn checked(&self) -> Checked<'a>
         ensures { result ≡ opened_image self.now }
     {

@@ -93,7 +93,7 @@ pub fn run_check<R: io::Read + Drop, S: Sources, W: io::Write>(
     )
 }
 
-/// The same as `run_check`, and tells on the way how many of the image's records are done, and before it writes that it is over.
+/// Does what `run_check` does, and tells on the way how many of the image's records are done, and before it writes that it is over.
 ///
 /// # Errors
 ///

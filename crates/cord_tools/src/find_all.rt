@@ -60,7 +60,7 @@ fn found_in(
     Ok(first + at.max(clear) as u64)
 }
 
-/// The same of a pattern of one byte.
+/// Puts down the lines of the places of a pattern of one byte, and answers the place from which on to go on.
 fn found_byte(lines: &mut Vec<u8>, byte: u8, bytes: &[u8], first: u64) -> Result<u64, AllocError>
     requires empty { lines.old.items ≡ [] }
     requires limit { first + length bytes.now < 2 ^ 41 }
@@ -75,7 +75,7 @@ fn found_byte(lines: &mut Vec<u8>, byte: u8, bytes: &[u8], first: u64) -> Result
     Ok(first + bytes.len() as u64)
 }
 
-/// The same of each pattern, by the search that is fast for it, and in place of other lines.
+/// Puts down the lines of a pattern's places in place of other lines, by the search that is fast for it, and answers where to go on.
 fn found_places(
     lines: &mut Vec<u8>,
     finder: &Finder<'_>,
@@ -139,7 +139,7 @@ fn tell_part<P: Progress>(progress: &mut P, lines: &[u8], from: u64) {
     }
 }
 
-/// The same as `found_from`, which is told as long as no line was found.
+/// Does what `found_from` does, and tells how far it is as long as no line was found.
 fn found_told<T: Sources, P: Progress>(
     lines: &mut Vec<u8>,
     finder: &Finder<'_>,
@@ -197,8 +197,8 @@ pub fn run_find_all<T: Sources, W: io::Write>(
     run_find_all_told(alloc, sources, start, pattern, writer, &mut Untold)
 }
 
-/// The same as `run_find_all`, and tells on the way how many of the source's bytes are done, to the first line, which it writes behind the
-/// end of that.
+/// Does what `run_find_all` does, and tells on the way how many of the source's bytes are done, up to the first line, which it writes
+/// behind the end of that.
 ///
 /// # Errors
 ///

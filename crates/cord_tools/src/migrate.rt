@@ -41,7 +41,7 @@ pub fn run_migrate<R: io::Read + Drop, S: Sources, W: io::Write>(
     )
 }
 
-/// The same as `run_migrate`, and tells on the way how many of the image's records are checked, and before it writes that they are.
+/// Does what `run_migrate` does, and tells on the way how many of the image's records are checked, and before it writes that they are.
 ///
 /// # Errors
 ///

@@ -354,7 +354,7 @@ impl<'a> Journal<'a> {
         is_image_of(self.rt, path, keys, sources)
     }
 
-    /// The same of an image that its keys make over an older one.
+    /// Whether a file is the image that its keys make over an older one, if they make one.
     pub fn is_saved_onto<S: Sources + Drop>(
         &self,
         path: &str,

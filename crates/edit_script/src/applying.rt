@@ -13,7 +13,7 @@ use edit_commands::{EditFault, Session};
 use span_certificate::Edit;
 use work_progress::{Progress, Untold};
 
-/// TakesWords the revision of a command that was read into a room.
+/// Makes the revision of a command that was read into a room.
 fn apply_edit(session: &mut Session, edit: &Edit, room: &Room) -> Result<(), EditFault>
     requires { IsInRoom room.now edit.now }
     ensures made { OnOk result
@@ -27,7 +27,7 @@ fn apply_edit(session: &mut Session, edit: &Edit, room: &Room) -> Result<(), Edi
     }
 }
 
-/// TakesWords the revision that a line asks for, if it asks for one.
+/// Makes the revision that a line asks for, if it asks for one.
 fn apply_line(session: &mut Session, line: &[u8], room: &mut Room) -> Result<(), Stop>
     ensures taken { OnOk result (TakesLine session.old line.now session.new) }
     ensures stopped { IfErr result (λ why. StopsLine session.old line.now why session.new) }
@@ -67,7 +67,7 @@ pub fn apply_script(session: &mut Session, script: &[u8], room: &mut Room) -> Re
     apply_script_told(session, script, room, &mut Untold)
 }
 
-/// The same as `apply_script`, and tells before each line how many of the script's bytes are done.
+/// Does what `apply_script` does, and tells before each line how many of the script's bytes are done.
 ///
 /// # Errors
 ///

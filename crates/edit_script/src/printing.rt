@@ -120,7 +120,7 @@ fn push_splice(out: &mut Vec<u8>, pool: &[u8], splice: Splice) -> Result<(), All
     push_quoted(out, span(pool, splice.a, splice.n))
 }
 
-/// The same of several.
+/// The words of several splices, one behind the other.
 fn push_splices(out: &mut Vec<u8>, pool: &[u8], splices: &[Splice]) -> Result<(), AllocError>
     requires { AllByRecursion (λ (s : Splice). s.a + s.n ≤ length pool.now) splices.now }
     ensures { OnOk result (out.new.items ≡ out.old.items ++ spelled_on (splice_words pool.now splices.now)) }

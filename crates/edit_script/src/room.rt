@@ -24,7 +24,7 @@ impl Room {
         }
     }
 
-    /// The same room, with nothing in it.
+    /// Empties the room, and keeps its memory.
     pub fn clear(&mut self)
         ensures bytes { self.new.bytes.items ≡ [] }
         ensures changes { self.new.changes.items ≡ [] }

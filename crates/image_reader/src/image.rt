@@ -139,7 +139,7 @@ impl<'a> Image<'a> {
         }
     }
 
-    /// The same image once more. It takes no memory.
+    /// Another image over these bytes, equal to this one. It takes no memory.
     pub fn same(&self) -> Image<'a>
         ensures { result ≡ self.now }
     {

@@ -64,7 +64,7 @@ pub fn run_apply<W: io::Write>(
     run_apply_told(alloc, script, lens, writer, &mut Untold)
 }
 
-/// The same as `run_apply`, and tells on the way how many of the script's bytes are done, and before it writes that they are.
+/// Does what `run_apply` does, and tells on the way how many of the script's bytes are done, and before it writes that they are.
 ///
 /// # Errors
 ///

@@ -172,7 +172,7 @@ fn write_runs<W: io::Write>(
     Ok(())
 }
 
-/// The same, where the image has the revision.
+/// Writes where the bytes of a revision come from, where the image has it.
 fn blame_checked<W: io::Write>(
     alloc: Global,
     wanted: BytesOfText,
@@ -215,7 +215,7 @@ pub fn run_blame<S: Sources, W: io::Write>(
     run_blame_told(alloc, image, sources, at_most, wanted, writer, &mut Untold)
 }
 
-/// The same as `run_blame`, and tells on the way how many of the image's records are checked, and before it writes that they are.
+/// Does what `run_blame` does, and tells on the way how many of the image's records are checked, and before it writes that they are.
 ///
 /// # Errors
 ///

@@ -209,7 +209,7 @@ fn write_log<W: io::Write>(
     Ok(())
 }
 
-/// The same, for an image that was checked.
+/// Writes the script of an image that was checked.
 fn log_checked<W: io::Write>(
     alloc: Global,
     texts: LogTexts,
@@ -249,7 +249,7 @@ pub fn run_log<S: Sources, W: io::Write>(
     run_log_told(alloc, image, sources, at_most, texts, writer, &mut Untold)
 }
 
-/// The same as `run_log`, and tells on the way how many of the image's records are checked, and before it writes that they are.
+/// Does what `run_log` does, and tells on the way how many of the image's records are checked, and before it writes that they are.
 ///
 /// # Errors
 ///

@@ -200,7 +200,7 @@ fn record_count(image: &Image) -> u64 {
     image.node_count() as u64 + image.revision_count() as u64 + image.row_count() as u64
 }
 
-/// The same as `check_counted`, and tells how many records are done.
+/// Does what `check_counted` does, and tells how many records are done.
 fn told_counted<'a, S: Sources, L: Ledger, P: Progress>(
     bytes: &'a [u8],
     sources: &mut S,
@@ -223,7 +223,7 @@ fn told_counted<'a, S: Sources, L: Ledger, P: Progress>(
     Ok(Checked { tables })
 }
 
-/// The same as `check_at_most`, with each look at a node counted. They are at most as many as `looks_bound` gives for the image, and as the
+/// Does what `check_at_most` does, and counts each look at a node. They are at most as many as `looks_bound` gives for the image, and as the
 /// limit, where there is one, and none where that is why the image is refused.
 ///
 /// # Errors
@@ -241,7 +241,7 @@ pub fn check_counted<'a, S: Sources, L: Ledger>(
     told_counted(bytes, sources, at_most, count, &mut Untold)
 }
 
-/// The same as `check_told` with a count that begins here.
+/// Does what `check_told` does, with a count that begins here.
 fn check_with<'a, S: Sources, L: Ledger, P: Progress>(
     bytes: &'a [u8],
     sources: &mut S,
@@ -261,7 +261,7 @@ fn check_with<'a, S: Sources, L: Ledger, P: Progress>(
     )
 }
 
-/// The same as `check_at_most`, and tells on the way how many of the image's records are done: nodes, revisions and rows.
+/// Does what `check_at_most` does, and tells on the way how many of the image's records are done: nodes, revisions and rows.
 ///
 /// # Errors
 ///

@@ -176,7 +176,7 @@ fn check_revision<S: Sources, L: Ledger, G: Progress>(
     )
 }
 
-/// The same as `revisions_counted`, and tells before each revision and each row how many records are done: the nodes, and the revisions with
+/// Does what `revisions_counted` does, and tells before each revision and each row how many records are done: the nodes, and the revisions with
 /// their rows.
 pub(crate) fn revisions_told<S: Sources, L: Ledger, P: Progress>(
     looks: &mut Looks<'_, '_, Tables<'_>, L>,

@@ -162,7 +162,7 @@ fn check_nodes<L: Ledger, P: Progress>(
     Ok(())
 }
 
-/// The same as `tables_counted`, and tells how many nodes are done.
+/// Does what `tables_counted` does, and tells how many nodes are done.
 fn tables_told<S: Sources, L: Ledger, P: Progress>(
     records: &mut Records<'_, '_, '_, L>,
     sources: &S,
@@ -218,7 +218,7 @@ fn check_bound(image: &Image, at_most: Option<u64>) -> Result<(), CheckFault>
     Ok(())
 }
 
-/// The same as `tables_told`, where an image with such sources is refused first if its check may take more looks than the limit.
+/// Does what `tables_told` does, but first refuses an image whose check with these sources may take more looks than the limit.
 pub fn tables_within<S: Sources, L: Ledger, P: Progress>(
     image: &Image,
     sources: &S,
@@ -251,7 +251,7 @@ pub fn passed<'a>(image: &Image<'a>) -> Tables<'a>
     }
 }
 
-/// The same as `check_tables` with a count that begins here.
+/// Does what `check_tables` does, with a count that begins here.
 fn check_tables_with<'a, S: Sources, L: Ledger>(
     image: &Image<'a>,
     sources: &S,
