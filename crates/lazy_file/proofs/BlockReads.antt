@@ -1,5 +1,5 @@
 -- What a read by a block gives, and that each block that is kept stays one of its source.
-use Rattle.std.proofs.Common.{◌≡◌, ℕ, ◌+◌, ◌*◌, ◌-◌, ◌/◌, ◌≤◌, Bool, true, Contains, List, Vec, drop, get_or, length, take, arith, ap, refl, subst, sym, inl, inr, ◌∙◌, drop-drop, length-take, length-drop}
+use Rattle.std.proofs.Common.{◌≡◌, ℕ, ◌+◌, ◌*◌, ◌-◌, ◌/◌, ◌≤◌, Bool, true, false, Contains, List, Vec, drop, get_or, length, take, arith, ap, refl, subst, sym, inl, inr, ◌∙◌, drop-drop, length-take, length-drop}
 use Rattle.std.specs.Prelude.{◌++◌, Option, Some, None, Result, OnOk}
 use Rattle.std.proofs.lemmas.List.{take-take}
 use Rattle.std.proofs.lemmas.Result.{on_ok_weaker}
@@ -55,13 +55,25 @@ two_parts r ds after s off place next front back same here there first second =
     on_ok_weaker r (λ h. bytes_then (source_text (get_or ds s no_device)) off front back one (rw (same, there) at h)) second
 
 -- a kept block has all bytes of its source that are asked of it
-pub long_enough : {A : Type 0} (ds : List DeviceText) (kept : Kept A) (key : ℕ × ℕ) (from n : ℕ) → AreKept ds kept → HasSpan ds key.0 (key.1 * BLOCK_SIZE + from) n → from + n ≤ BLOCK_SIZE
+long_enough : {A : Type 0} (ds : List DeviceText) (kept : Kept A) (key : ℕ × ℕ) (from n : ℕ) → AreKept ds kept → HasSpan ds key.0 (key.1 * BLOCK_SIZE + from) n → from + n ≤ BLOCK_SIZE
     → (block : Vec ℕ A) → Contains kept (key, block) → from + n ≤ length block.items
 long_enough ds kept key from n are span fits block there = let is = are key block there in omega (arith, is.whole, span.inside, fits)
+
+-- a block of which nothing was copied is not kept
+pub missed_block : {A : Type 0} (ds : List DeviceText) (kept new : Kept A) (key : ℕ × ℕ) (from : ℕ) (part : List ℕ) (n : ℕ) → AreKept ds kept → HasSpan ds key.0 (key.1 * BLOCK_SIZE + from) n
+    → from + n ≤ BLOCK_SIZE → length part ≡ n → CopiesKept kept new key from part false → IsKept kept key → ⊥
+missed_block ds kept new key from part n are span fits same copies there =
+    let copied = copies.copied_if there (λ block is. omega (arith, long_enough ds kept key from n are span fits block is, same)) in
+    absurd cc
 
 -- nothing is told of a read of a block that is not kept
 pub block_unkept : {A D : Type 0} (before after : List D) (old new : Kept A) (key : ℕ × ℕ) → (IsKept old key → ⊥) → ReadsBlock before after old new key
 block_unkept before after old new key away = record { unread = λ there. absurd (away there); stays = λ there. absurd (away there) }
+
+-- where the blocks of all bytes are kept, and are one, that is not read
+pub one_unread : {A D : Type 0} (ds es : List D) (old new : Kept A) (s off n block : ℕ) → 1 ≤ n → off / BLOCK_SIZE ≡ block
+    → ReadsBlock ds es old new (s, block) → AreKeptFor (keys_of old) s off n → es ≡ ds
+one_unread ds es old new s off n block some first one are = one.unread (subst (λ b. IsKept old (s, b)) first (are off (omega arith) (omega (arith, some))))
 
 -- where the blocks of all bytes are kept, neither of two is read
 pub both_unread : {A D : Type 0} (ds mid es : List D) (old kept new : Kept A) (s off n block : ℕ) → 1 ≤ n → off / BLOCK_SIZE ≡ block → (off + n - 1) / BLOCK_SIZE ≡ block + 1

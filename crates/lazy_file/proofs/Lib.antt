@@ -7,3 +7,4 @@ pub mod KeptLists
 pub mod LaterReads
 pub mod MemoryTexts
 pub mod ReadOutcomes
+pub mod UsedBlocks

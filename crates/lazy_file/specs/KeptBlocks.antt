@@ -1,5 +1,6 @@
 -- Blocks of devices that are kept, and what a read makes of them.
-use Rattle.std.specs.Prelude.{◌≡◌, ◌<◌, ◌≤◌, ℕ, ◌+◌, ◌-◌, ◌*◌, ◌/◌, min, ◌⊎◌, Bool, IsTrue, List, Vec, Contains, drop, get_or, length, take}
+use Rattle.std.specs.Prelude.{◌≡◌, ◌<◌, ◌≤◌, ℕ, zero, suc, ◌+◌, ◌-◌, ◌*◌, ◌/◌, ◌%◌, min, max, nat_eq, ◌⊎◌, Bool, ◌&&◌, not, IsTrue, List, ◌∷◌, Vec, Contains, drop, filter, get_or, length, take, Result, OnErr, OnOk}
+use Rattle.std.specs.List.{IsDistinct}
 use Rattle.std.specs.Map.{keys_of}
 use Rattle.lazy_file.specs.DeviceTexts.{AreBytesOf, DeviceText, no_device}
 use Rattle.lazy_file.specs.declared.kept_blocks.TheConstants.{BLOCK_SIZE}
@@ -53,7 +54,47 @@ AreKeptFor keys s off n = (p : ℕ) → off ≤ p → p < off + n → Contains k
 abbrev pub last_block : ℕ → ℕ → ℕ → ℕ × ℕ
 last_block s off n = (s, (off + n - 1) / BLOCK_SIZE)
 
--- sources that are devices, and the blocks of them that are kept, each by its source's number and its own
+-- whether two keys are of the same block
+abbrev pub is_same_block : ℕ × ℕ → ℕ × ℕ → Bool
+is_same_block x y = nat_eq x.0 y.0 && nat_eq x.1 y.1
+
+-- these blocks, but for that one
+abbrev pub but_block : ℕ × ℕ → List (ℕ × ℕ) → List (ℕ × ℕ)
+but_block key keys = filter (λ k. not (is_same_block key k)) keys
+
+-- Blocks that are kept, the last used first, once this one is used: it comes first, and where they are more than most
+-- then, the one that was used longest ago goes.
+abbrev pub used_block : ℕ → List (ℕ × ℕ) → ℕ × ℕ → List (ℕ × ℕ)
+used_block most keys key = take most (key ∷ but_block key keys)
+
+-- and once the block of each of n places of source s from off on is used, in turn
+abbrev pub used_for : ℕ → List (ℕ × ℕ) → ℕ → ℕ → ℕ → List (ℕ × ℕ)
+used_for most keys s off zero = keys
+used_for most keys s off (suc n) = used_block most (used_for most keys s off n) (s, (off + n) / BLOCK_SIZE)
+
+-- different blocks, of which there may be one and no more than most
+pub record AreWithin (most : ℕ) (keys : List (ℕ × ℕ)) : Type 0 where
+  pub some : 0 < most
+  pub fit : length keys ≤ most
+  pub different : IsDistinct is_same_block keys
+
+-- a read of one block uses it, or leaves what is kept as it is and fails
+pub record UsesBlock {X E : Type 0} (most : ℕ) (old new : List (ℕ × ℕ)) (key : ℕ × ℕ) (outcome : Result X E)
+    : Type 0 where
+  pub ok : OnOk outcome (new ≡ used_block most old key)
+  pub err : OnErr outcome (new ≡ old)
+
+-- A read of n places of source s from off on by blocks uses the block of each; or it fails at the first place or at
+-- one where a block begins, and has used the blocks before that one alone.
+pub record UsesBlocks {X E : Type 0} (most : ℕ) (old new : List (ℕ × ℕ)) (s off n : ℕ) (outcome : Result X E)
+    : Type 0 where
+  pub ok : OnOk outcome (new ≡ used_for most old s off n)
+  pub err : OnErr outcome ((m : ℕ) × (m < max 1 n) × (m ≡ 0 ⊎ (off + m) % BLOCK_SIZE ≡ 0)
+      × (new ≡ used_for most old s off m))
+
+-- sources that are devices, how many blocks of them may be kept, and those that are, each by its source's number and
+-- its own, the last used first
 pub record Files (D : Type 0) : Type 0 where
   pub devices : List D
+  pub most : ℕ
   pub kept : List (ℕ × ℕ)

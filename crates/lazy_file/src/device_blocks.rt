@@ -3,7 +3,7 @@ ghost use Rattle.std.specs.Prelude.{◌≡◌, ◌↔◌, ◌+◌, ◌*◌, ◌<
 ghost use Rattle.lazy_file.specs.SourceTexts.{AreSizes, holds_span, text_at};
 ghost use Rattle.lazy_file.specs.Readings.{fault_in, InSpan, Reads};
 ghost use Rattle.lazy_file.specs.DeviceTexts.{AreBytesOf, calls_of, HasSpan, KeepsOthers, ReadsSource, blocks_in, no_device, reading_by, texts_of};
-ghost use Rattle.lazy_file.specs.KeptBlocks.{AreKept, AreKeptFor, IsKept, last_block, ReadsBlock};
+ghost use Rattle.lazy_file.specs.KeptBlocks.{AreKept, AreKeptFor, AreWithin, IsKept, last_block, ReadsBlock, UsesBlock, UsesBlocks};
 ghost use Rattle.std.specs.Map.{keys_of};
 
 use crate::device::Device;
@@ -73,11 +73,14 @@ fn read_anew<D: Device>(
         (key.1 * BLOCK_SIZE + from) (length part.old) }
     requires block { from + length part.old ≤ BLOCK_SIZE }
     requires kept { AreKept (texts_of (map D.reading devices.old)) kept.old.entries }
+    requires within { AreWithin kept.old.cap (keys_of kept.old.entries) }
     ensures reads { ReadsSource D.reading devices.old devices.new key.0 BLOCK_SIZE result }
     ensures bytes { OnOk result
         (AreBytesOf (texts_of (map D.reading devices.old)) key.0 (key.1 * BLOCK_SIZE + from) part.new) }
     ensures kept { AreKept (texts_of (map D.reading devices.new)) kept.new.entries }
     ensures keeps { OnOk result (IsKept kept.new.entries key) }
+    ensures uses { UsesBlock kept.old.cap (keys_of kept.old.entries) (keys_of kept.new.entries) key result }
+    ensures most { kept.new.cap ≡ kept.old.cap }
 {
     let start = key.1 * BLOCK_SIZE as u64;
     let len = (source_size(devices, key.0) - start).min(BLOCK_SIZE as u64) as usize;
@@ -103,12 +106,15 @@ fn read_in_block<D: Device>(
         (key.1 * BLOCK_SIZE + from) (length part.old) }
     requires block { from + length part.old ≤ BLOCK_SIZE }
     requires kept { AreKept (texts_of (map D.reading devices.old)) kept.old.entries }
+    requires within { AreWithin kept.old.cap (keys_of kept.old.entries) }
     ensures reads { ReadsSource D.reading devices.old devices.new key.0 BLOCK_SIZE result }
     ensures bytes { OnOk result
         (AreBytesOf (texts_of (map D.reading devices.old)) key.0 (key.1 * BLOCK_SIZE + from) part.new) }
     ensures kept { AreKept (texts_of (map D.reading devices.new)) kept.new.entries }
     ensures keeps { OnOk result (IsKept kept.new.entries key) }
     ensures block { ReadsBlock devices.old devices.new kept.old.entries kept.new.entries key }
+    ensures uses { UsesBlock kept.old.cap (keys_of kept.old.entries) (keys_of kept.new.entries) key result }
+    ensures most { kept.new.cap ≡ kept.old.cap }
 {
     if copy_kept(kept, key, from, part) {
         return Ok(());
@@ -130,6 +136,7 @@ fn read_short<D: Device>(
     requires some { 1 ≤ length buffer.old }
     requires short { length buffer.old ≤ BLOCK_SIZE }
     requires kept { AreKept (texts_of (map D.reading devices.old)) kept.old.entries }
+    requires within { AreWithin kept.old.cap (keys_of kept.old.entries) }
     ensures reads { ReadsSource D.reading devices.old devices.new s
         (BLOCK_SIZE * blocks_in off (length buffer.old)) result }
     ensures bytes { OnOk result (AreBytesOf (texts_of (map D.reading devices.old)) s off buffer.new) }
@@ -138,6 +145,9 @@ fn read_short<D: Device>(
         (IsKept kept.new.entries (last_block s off (length buffer.old))) }
     ensures unread { AreKeptFor (keys_of kept.old.entries) s off (length buffer.old)
         → devices.new ≡ devices.old }
+    ensures uses { UsesBlocks kept.old.cap (keys_of kept.old.entries) (keys_of kept.new.entries)
+        s off (length buffer.old) result }
+    ensures most { kept.new.cap ≡ kept.old.cap }
 {
     let block = off / BLOCK_SIZE as u64;
     let from = (off % BLOCK_SIZE as u64) as usize;
@@ -162,6 +172,7 @@ fn read_inside<D: Device>(
 ) -> Result<(), SourceFault>
     requires span { HasSpan (texts_of (map D.reading devices.old)) s off (length buffer.old) }
     requires kept { AreKept (texts_of (map D.reading devices.old)) kept.old.entries }
+    requires within { AreWithin kept.old.cap (keys_of kept.old.entries) }
     ensures reads { ReadsSource D.reading devices.old devices.new s
         (BLOCK_SIZE * blocks_in off (length buffer.old)) result }
     ensures bytes { OnOk result (AreBytesOf (texts_of (map D.reading devices.old)) s off buffer.new) }
@@ -171,6 +182,12 @@ fn read_inside<D: Device>(
     ensures unread { length buffer.old < BLOCK_SIZE
         → AreKeptFor (keys_of kept.old.entries) s off (length buffer.old)
         → devices.new ≡ devices.old }
+    ensures uses { length buffer.old < BLOCK_SIZE
+        → UsesBlocks kept.old.cap (keys_of kept.old.entries) (keys_of kept.new.entries)
+        s off (length buffer.old) result }
+    ensures straight { BLOCK_SIZE ≤ length buffer.old
+        → keys_of kept.new.entries ≡ keys_of kept.old.entries }
+    ensures most { kept.new.cap ≡ kept.old.cap }
 {
     if buffer.is_empty() {
         return Ok(());
@@ -209,6 +226,7 @@ pub(crate) fn read_source<D: Device>(
 ) -> Result<(), SourceFault>
     requires sizes { AreSizes (reading_by (map D.reading devices.old)).stated.sizes }
     requires kept { AreKept (texts_of (map D.reading devices.old)) kept.old.entries }
+    requires within { AreWithin kept.old.cap (keys_of kept.old.entries) }
     ensures same { texts_of (map D.reading devices.new) ≡ texts_of (map D.reading devices.old) }
     ensures others { KeepsOthers devices.old devices.new s }
     ensures calls { calls_of (map D.reading devices.new) s
@@ -227,6 +245,12 @@ pub(crate) fn read_source<D: Device>(
     ensures unread { length buffer.old < BLOCK_SIZE
         → AreKeptFor (keys_of kept.old.entries) s off (length buffer.old)
         → devices.new ≡ devices.old }
+    ensures uses { length buffer.old < BLOCK_SIZE
+        → UsesBlocks kept.old.cap (keys_of kept.old.entries) (keys_of kept.new.entries)
+        s off (length buffer.old) result }
+    ensures straight { BLOCK_SIZE ≤ length buffer.old
+        → keys_of kept.new.entries ≡ keys_of kept.old.entries }
+    ensures most { kept.new.cap ≡ kept.old.cap }
 {
     if !has_span(devices, s, off, buffer.len()) {
         return Err(SourceFault::BadSource);

@@ -1,11 +1,12 @@
 //! Sources that are devices, such as files.
 ghost use Rattle.std.specs.Prelude.{◌≡◌, ◌↔◌, ◌<◌, ◌≤◌, ◌+◌, ◌*◌, ◌++◌, ◌∷◌, [], false, IfErr, IfOk, IfSome, IsErrAnd, IsErrOf, OnErr, OnOk, Contains, drop, length, map, max, take};
+ghost use Rattle.std.specs.NonZero.{non_zero_usize_get};
 ghost use Rattle.lazy_file.specs.declared.sources.TheConstants.{COUNT_LIMIT, SOURCE_LIMIT};
 ghost use Rattle.lazy_file.specs.SourceTexts.{holds_span, text_at};
 ghost use Rattle.lazy_file.specs.Readings.{fault_in, InSpan, Reads};
 ghost use Rattle.lazy_file.specs.DeviceTexts.{blocks_in, calls_of, KeepsOthers, reading_by};
 ghost use Rattle.lazy_file.specs.declared.kept_blocks.TheConstants.{BLOCK_SIZE};
-ghost use Rattle.lazy_file.specs.KeptBlocks.{AreKeptFor, last_block};
+ghost use Rattle.lazy_file.specs.KeptBlocks.{AreKeptFor, last_block, UsesBlocks};
 
 use crate::device::Device;
 use crate::device_blocks::{read_source, source_size};
@@ -31,14 +32,15 @@ impl<D: Device> Model for FileSources<D> {
     ghost use Rattle.std.specs.Map.{keys_of};
     ghost use Rattle.lazy_file.specs.SourceTexts.{AreSizes};
     ghost use Rattle.lazy_file.specs.DeviceTexts.{reading_by, texts_of};
-    ghost use Rattle.lazy_file.specs.KeptBlocks.{AreKept, Files};
+    ghost use Rattle.lazy_file.specs.KeptBlocks.{AreKept, AreWithin, Files};
 
     ghost Value = { Files D };
 
-    ghost view = { λ a. record { devices = a.devices.items; kept = keys_of a.kept.entries } };
+    ghost view = { λ a. record { devices = a.devices.items; most = a.kept.cap; kept = keys_of a.kept.entries } };
 
     ghost invariant = { λ a. AreSizes (reading_by (map D.reading a.devices.items)).stated.sizes
-        × AreKept (texts_of (map D.reading a.devices.items)) a.kept.entries };
+        × AreKept (texts_of (map D.reading a.devices.items)) a.kept.entries
+        × AreWithin a.kept.cap (keys_of a.kept.entries) };
 }
 
 impl<D: Device> FileSources<D> {
@@ -52,7 +54,8 @@ impl<D: Device> FileSources<D> {
         blocks: NonZeroUsize,
         book: D::Book,
     ) -> Result<FileSources<D>, AllocError>
-        ensures { IfOk result (λ sources. sources ≡ record { devices = []; kept = [] }) }
+        ensures { IfOk result (λ sources. sources
+            ≡ record { devices = []; most = non_zero_usize_get blocks; kept = [] }) }
     {
         Ok(FileSources {
             devices: Vec::new(alloc),
@@ -129,6 +132,10 @@ impl<D: Device> Sources for FileSources<D> {
         ensures unread { length buffer.old < BLOCK_SIZE
             → AreKeptFor self.old.kept s off (length buffer.old)
             → self.new.devices ≡ self.old.devices }
+        ensures uses { length buffer.old < BLOCK_SIZE
+            → UsesBlocks self.old.most self.old.kept self.new.kept s off (length buffer.old) result }
+        ensures straight { BLOCK_SIZE ≤ length buffer.old → self.new.kept ≡ self.old.kept }
+        ensures most { self.new.most ≡ self.old.most }
         ensures others { KeepsOthers self.old.devices self.new.devices s }
         ensures calls { calls_of (map D.reading self.new.devices) s
             ≤ calls_of (map D.reading self.old.devices) s + BLOCK_SIZE * blocks_in off (length buffer.old) }
