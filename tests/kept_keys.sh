@@ -359,6 +359,7 @@ left_behind() {
 
 no_room() {
     clean; printf 'abc\030' > saving
+    "$CORDKIT" edit --keep=image.keys image < saving >&- 2> A.said; got=$?; is 'a closed output, which the keys would be' "$got $(cat A.said) $(wc -c < image.keys)" '3 write 0'; clean
     (trap '' XFSZ; ulimit -f 0; "$CORDKIT" edit image < saving 2>&1 > /dev/null) | cat > A.said; is 'no part of 0 bytes stays' "$(cat A.said) $(files)" 'write '
     (trap '' XFSZ; ulimit -f 0; "$CORDKIT" edit --keep=image.keys image < saving 2>&1 > /dev/null) | cat > A.said; is 'no room at the start' "$(cat A.said) $(files)" 'write '; clean
 }

@@ -726,6 +726,7 @@ a key that makes a text too long;edit --onto $("$program" apply script_of_less_t
 an image is there, and another is gone on from;edit --no-clobber --onto one_insert saved;keys_saved;1;;refused J3\n
 what stands there is looked at first;edit --onto child_not_earlier abc;keys_saved;1;;refused C1(I3)\n
 the keys are looked at before an image is;edit --keep=abcde --onto child_not_earlier unsaved;keys_saved;1;;refused J1\n
+keys in a device;edit --keep /dev/zero unsaved;keys_left;1;;refused J1\n
 keys behind an image on a full device;edit --onto one_insert /dev/full;keys_saved;3;@frames_onto;write\n
 frames behind an image on a full device;edit --onto one_insert unsaved;keys_saved;3;/dev/full;write\n
 nothing is saved of all these;check unsaved;;3;;read\n
