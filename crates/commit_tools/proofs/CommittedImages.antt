@@ -20,8 +20,7 @@ use Rattle.session_checker.specs.Faithful.{texts}
 use Rattle.session_checker.specs.Limits.{ChecksWithin}
 use Rattle.saved_session.specs.TakenUp.{TakesUp}
 use Rattle.saved_session.specs.GoneFurther.{GoesFurther, IsTakenUp}
-use Rattle.saved_session.proofs.SameTexts.{same_texts}
-use Rattle.saved_session.proofs.FurtherSessions.{roots_further}
+use Rattle.saved_session.proofs.EarlierTexts.{earlier_texts}
 use Rattle.commit_tools.specs.declared.answer.Commit.{Commit}
 use Rattle.commit_tools.specs.declared.answer.Commit.TheVariants.{Same, Added}
 use Rattle.commit_tools.specs.declared.fault.CommitFault.{CommitFault}
@@ -30,23 +29,6 @@ use Rattle.commit_tools.specs.Commits.{BeginsCommit, BeginsBehind, CommitsAnew, 
 use Rattle.commit_tools.specs.Texts.{ReadsLast}
 use Rattle.commit_tools.proofs.CommittedTexts.{no_cells}
 use Rattle.commit_tools.proofs.LastRoots.{last_none}
-
--- the texts before are the image's
-earlier_texts : (v : ImageValue) (begun made : SessionValue) (source : ℕ → ℕ → ℕ) → TakesUp v begun → GoesFurther begun made → take (length v.revisions) (texts_of source made) ≡ texts v source
-earlier_texts v begun made source takes x =
-    let cells = rope_cells (session_table made) in
-    let shows = text source in
-    let front = map shows (map cells (roots_of begun.revisions)) in
-    let rest = map shows (map cells (roots_of x.more)) in
-    let whole : texts_of source made ≡ front ++ rest =
-    ap (λ (rs : List (Option NodeId)). map shows (map cells rs)) (roots_further x)
-    ∙ ap (map shows) (map-append cells (roots_of begun.revisions) (roots_of x.more))
-    ∙ map-append shows (map cells (roots_of begun.revisions)) (map cells (roots_of x.more)) in
-    let many : length front ≡ length v.revisions =
-    length-map (map cells (roots_of begun.revisions)) shows ∙ length-map (roots_of begun.revisions) cells
-    ∙ ap length takes.roots ∙ length-map v.revisions (λ (r : Revision). r.root) in
-    ap (take (length v.revisions)) whole ∙ take_at front rest (length v.revisions) many
-    ∙ ap (map shows) x.keeps.cells ∙ same_texts v begun source takes
 
 as_many : (v : ImageValue) (begun : SessionValue) → TakesUp v begun → length begun.revisions ≡ length v.revisions
 as_many v begun takes =

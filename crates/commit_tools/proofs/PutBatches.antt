@@ -19,7 +19,7 @@ use Rattle.commit_tools.specs.declared.found.Found.{Found}
 use Rattle.commit_tools.specs.Found.{IsBeside, file_middle, text_from}
 use Rattle.commit_tools.specs.Handed.{IsHandedBatch, shifted, with_handed}
 use Rattle.commit_tools.specs.Put.{BeginsEmpty, GoesOnTo, TakesCommand, PutsBatch}
-use Rattle.commit_tools.specs.Stops.{StopsAtCommand}
+use Rattle.commit_tools.specs.Stops.{IsOfCommit, StopsAtCommand}
 use Rattle.commit_tools.proofs.AppliedTexts.{IsManyAt, IsNew, applied_text, empty_root}
 use Rattle.commit_tools.proofs.HandedBatches.{batch_made, batch_takes, batch_then, turns_from}
 
@@ -77,6 +77,7 @@ stops_later further stops = record {
   last = stops.last;
   further = further_through further stops.further;
   command = stops.command;
+  commits = stops.commits;
   after = stops.after;
   stops = stops.stops;
 }
@@ -91,14 +92,23 @@ fails_later found file first left first' end a b c Write further stops = absurd 
 
 -- ---- what was made of a command
 
-pub stops_here : (old new : SessionValue) (command : Command) (fault : EditFault) → AppliesOrNot old command (Err fault) new → StopsAtCommand old fault
-stops_here old new command fault stops = record { last = old; further = further_itself old; command = command; after = new; stops = stops }
+pub stops_here : (old new : SessionValue) (command : Command) (fault : EditFault) → IsOfCommit old command → AppliesOrNot old command (Err fault) new → StopsAtCommand old fault
+stops_here old new command fault commits stops = record { last = old; further = further_itself old; command = command; commits = commits; after = new; stops = stops }
+
+many_commits : (old : SessionValue) (command : Command) (changes : List Session.Change) (bytes : List ℕ) → 1 ≤ length old.revisions
+    → IsManyAt (length old.revisions - 1) changes bytes command → IsOfCommit old command
+many_commits old (Command.Many r changes bytes) cs bs some (at, of_changes, of_bytes) = omega (arith, at, some)
+many_commits old command cs bs some is = absurd is
+
+new_commits : (old : SessionValue) (command : Command) → old.revisions ≡ [] → IsNew command → IsOfCommit old command
+new_commits old Command.New none is = none
+new_commits old command none is = absurd is
 
 pub put_made : (found : Found) (file : List ℕ) (first left : ℕ) (batch : Batch) (old new : SessionValue) (command : Command) (result : Result (Unit {0}) CommitFault) → IsBeside found file → first ≤ left
     → IsHandedBatch found file (slice_range found.changes.items first left) batch → 1 ≤ length old.revisions
     → IsManyAt (length old.revisions - 1) batch.changes.items batch.bytes.items command → TakesCommand old command result new → PutsBatch found file first left old result new
 put_made found file first left batch old new command (Ok u) is order handed some many makes = put_applied found file first left batch old new makes.0 command is order handed some many makes.1
-put_made found file first left batch old new command (Err (Edit fault)) is order handed some many makes = stops_here old new command fault makes
+put_made found file first left batch old new command (Err (Edit fault)) is order handed some many makes = stops_here old new command fault (many_commits old command batch.changes.items batch.bytes.items some many) makes
 put_made found file first left batch old new command (Err Memory) is order handed some many makes = tt
 put_made found file first left batch old new command (Err (Check fault)) is order handed some many makes = absurd makes
 put_made found file first left batch old new command (Err (TakeUp fault)) is order handed some many makes = absurd makes
@@ -109,7 +119,7 @@ pub begun_empty : (old new : SessionValue) (command : Command) (result : Result 
 begun_empty old new command (Ok u) none is makes =
     let applies = makes.1 in
     (further_applied applies, omega (arith, ap length applies.revisions, length_push old.revisions applies.made, ap length none), empty_root old new makes.0 command is applies)
-begun_empty old new command (Err (Edit fault)) none is makes = stops_here old new command fault makes
+begun_empty old new command (Err (Edit fault)) none is makes = stops_here old new command fault (new_commits old command none is) makes
 begun_empty old new command (Err Memory) none is makes = tt
 begun_empty old new command (Err (Check fault)) none is makes = absurd makes
 begun_empty old new command (Err (TakeUp fault)) none is makes = absurd makes

@@ -7,3 +7,4 @@ pub mod TakenRevisions
 pub mod Turns
 pub mod SameTexts
 pub mod FurtherSessions
+pub mod EarlierTexts

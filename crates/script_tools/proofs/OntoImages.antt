@@ -26,28 +26,12 @@ use Rattle.saved_session.proofs.SameTexts.{same_commands, same_texts}
 use Rattle.script_tools.specs.declared.fault.OntoFault.{OntoFault}
 use Rattle.script_tools.specs.declared.fault.OntoFault.TheVariants.{Check, TakeUp, Stop, Write}
 use Rattle.saved_session.specs.GoneFurther.{GoesFurther, IsTakenUp}
-use Rattle.saved_session.proofs.FurtherSessions.{roots_further}
+use Rattle.saved_session.proofs.EarlierTexts.{earlier_texts}
 use Rattle.script_tools.specs.Onto.{AppliesOnto, Begins, BeginsOnto, GoesOnBy, IsMadeOnto, TakesScript}
 use Rattle.script_tools.proofs.AcceptedImages.{all_inside, each_inside, keeps_rules}
 use Rattle.script_tools.proofs.FurtherLines.{lines_go_further}
 
 -- ---- the session
-
-pub earlier_texts : (v : ImageValue) (begun made : SessionValue) (source : ℕ → ℕ → ℕ) → TakesUp v begun → GoesFurther begun made → take (length v.revisions) (texts_of source made) ≡ texts v source
-earlier_texts v begun made source takes x =
-    let cells = rope_cells (session_table made) in
-    let shows = text source in
-    let front = map shows (map cells (roots_of begun.revisions)) in
-    let rest = map shows (map cells (roots_of x.more)) in
-    let whole : texts_of source made ≡ front ++ rest =
-    ap (λ (rs : List (Option NodeId)). map shows (map cells rs)) (roots_further x)
-    ∙ ap (map shows) (map-append cells (roots_of begun.revisions) (roots_of x.more))
-    ∙ map-append shows (map cells (roots_of begun.revisions)) (map cells (roots_of x.more)) in
-    let many : length front ≡ length v.revisions =
-    length-map (map cells (roots_of begun.revisions)) shows ∙ length-map (roots_of begun.revisions) cells
-    ∙ ap length takes.roots ∙ length-map v.revisions (λ (r : Revision). r.root) in
-    ap (take (length v.revisions)) whole ∙ take_at front rest (length v.revisions) many
-    ∙ ap (map shows) x.keeps.cells ∙ same_texts v begun source takes
 
 each_by_recursion : {X : Type 0} (P : X → Type 0) (xs : List X) → All P xs → AllByRecursion P xs
 each_by_recursion P [] h = tt
