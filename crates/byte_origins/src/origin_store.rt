@@ -1,5 +1,7 @@
 //! A store of texts of origins, as ropes over all that commands brought.
 
+// The lines `let _count = self.ropes.count();` are for the proof: the ropes keep their rules, as their count says.
+
 ghost use Rattle.std.specs.Prelude.{◌≡◌, ◌+◌, ◌<◌, ◌≤◌, ◌++◌, [], List, length, map, take, drop, IfSome};
 ghost use Rattle.rope_node.specs.Denotes.{IsRope};
 ghost use Rattle.rope_node.specs.Table.{len_at, IsSound};
@@ -33,8 +35,8 @@ fn place_of(ropes: &Store<Coded>, span: LeafSpan) -> Option<u64>
     }
 }
 
-/// Texts of origins. Each byte that a command brought has a place in one source, of which no byte exists, and a text is a rope of such
-/// places. Where a call answers nothing, memory or the store's room was refused.
+/// Texts of origins. Each byte that a command brought has a place in one source, of which no byte exists, and a text is
+/// a rope of such places. Where a call answers nothing, memory or the store's room was refused.
 #[derive(Drop)]
 pub(crate) struct OriginStore {
     ropes: Store<Coded>,

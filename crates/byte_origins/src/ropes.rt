@@ -1,5 +1,8 @@
 //! The origins of the texts of an image's first revisions, as ropes.
 
+// The lines `let _count = ..` and `let _brought = ..` are for the proof: the
+// image's records are true, and the ropes are sound, as these calls say.
+
 ghost use Rattle.std.specs.Prelude.{◌≡◌, ◌+◌, ◌<◌, ◌≤◌, ℕ, [], length, take, drop, get_or, None, IfSome};
 ghost use Rattle.image_reader.specs.Value.{ImageValue};
 ghost use Rattle.image_reader.specs.Accepted.{splices_before};
@@ -85,8 +88,8 @@ impl Ropes {
         }
     }
 
-    /// Makes ropes of the first `count` texts, as far as there is memory, and room in the store: once, and where so many steps were
-    /// walked back that this takes less.
+    /// Makes ropes of the first `count` texts, as far as there is memory, and room in the store: once, and where so
+    /// many steps were walked back that this takes less.
     pub(crate) fn make(&mut self, image: &Checked, count: u32, steps: u64)
         requires there { count ≤ length image.now.revisions }
         requires ropes { NameTexts image.now self.old.texts self.old.roots.items }

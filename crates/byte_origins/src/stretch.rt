@@ -1,5 +1,7 @@
 //! Stretches of texts whose origins are still to be told.
 
+// The lines `let _count = image.revisions();` are for the proof: the image's records are true, as this call says.
+
 ghost use Rattle.std.specs.Prelude.{◌≡◌, ◌+◌, ◌<◌, ◌≤◌, ◌^◌, ◌++◌, [], IfOk, OnErr, MatchOption, vec_len, vec_capacity};
 ghost use Rattle.std.specs.List.{AllByRecursion};
 ghost use Rattle.byte_origins.specs.Origins.{run_origins};

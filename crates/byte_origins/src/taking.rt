@@ -1,5 +1,8 @@
 //! One step back from a place of a text.
 
+// The lines `let _count = ..` are for the proof: the image's records
+// are true, and its texts a sound table, as these calls say.
+
 ghost use Rattle.std.specs.Prelude.{◌≡◌, ◌<◌, length};
 ghost use Rattle.image_reader.specs.Accepted.{splices_before};
 ghost use Rattle.span_certificate.specs.Parts.{part_at, part_len, IsPart};

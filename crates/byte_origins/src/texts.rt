@@ -1,5 +1,8 @@
 //! The texts before a revision, each as one leaf of its length.
 
+// The lines `let _count = image.revisions();` are for the proof: the image's records are true, as this call says.
+// `let _ = id;`: each text is a leaf of a function, so the answer is the same for each.
+
 ghost use Rattle.std.specs.Prelude.{◌≡◌, ◌<◌, ◌≤◌, length};
 ghost use Rattle.rope_node.specs.declared.limits.TheConstants.{TEXT_LIMIT};
 ghost use Rattle.rope_node.specs.Table.{IsSound, HasTrueRecords};

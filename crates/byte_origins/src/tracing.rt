@@ -1,5 +1,7 @@
 //! Where a byte of a text comes from: step by step back, until a command brought it.
 
+// The lines `let _count = ..` are for the proof: the value is an image whose records are true, as these calls say.
+
 ghost use Rattle.std.specs.Prelude.{◌≡◌, ◌↔◌, ◌+◌, ◌<◌, ◌≤◌, length, IfSome, IsSome};
 ghost use Rattle.image_reader.specs.Accepted.{splices_before};
 ghost use Rattle.byte_origins.specs.EarlierTexts.{len_of_text};
@@ -80,7 +82,8 @@ fn walked(image: &Checked, k: u32, place: u64, most: u64) -> OriginRun
     }
 }
 
-/// Where the byte at `place` of the text of revision `k` comes from, and for how many bytes that goes on at least. It takes no memory.
+/// Where the byte at `place` of the text of revision `k` comes from,
+/// and for how many bytes that goes on at least. It takes no memory.
 pub fn origin(image: &Checked, k: u32, place: u64) -> Option<OriginRun>
     ensures there { IsSome result ↔ place < length (origins_at image.now k) }
     ensures run { IfSome result (IsOriginRun (origins_at image.now k) place) }

@@ -1,5 +1,7 @@
 //! All origins of a text from a place on, run by run.
 
+// The lines `let _count = image.revisions();` are for the proof: the image's records are true, as this call says.
+
 ghost use Rattle.std.specs.Prelude.{◌≡◌, ◌<◌, ◌≤◌, ◌++◌, [], length, take, drop, IfOk, OnErr, MatchOption};
 ghost use Rattle.byte_origins.specs.Origins.{origins_at, run_origins};
 

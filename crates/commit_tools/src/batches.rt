@@ -20,7 +20,8 @@ pub struct Batch {
     pub bytes: Vec<u8>,
 }
 
-/// The first of the changes before number `left` that one command takes: each stands behind the one before it, with something between.
+/// The first of the changes before number `left` that one command
+/// takes: each stands behind the one before it, with something between.
 fn batch_start(found: &Found, left: usize) -> usize
     requires some { 1 ≤ left }
     requires inside { left ≤ length found.now.changes.items }

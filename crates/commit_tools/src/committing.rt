@@ -43,16 +43,16 @@ fn begun_onto<S: Sources, P: Progress>(
     }
 }
 
-/// Makes a file's text the last one of an image, once that is checked with these sources, by so many looks at nodes at most, if there is a
-/// limit: where it is another, writes the image of a session that goes on to it, in version 2. It tells on the way how many of the image's
-/// records are checked. The image's bytes are given back before the last text is compared; of that only what stands between the lines that
-/// it has in common with the file at both ends is held.
+/// Makes a file's text the last one of an image, once that is checked with these sources, by so many looks at nodes at
+/// most, if there is a limit: where it is another, writes the image of a session that goes on to it, in version 2. It
+/// tells on the way how many of the image's records are checked. The image's bytes are given back before the last text
+/// is compared; of that only what stands between the lines that it has in common with the file at both ends is held.
 ///
 /// # Errors
 ///
-/// In this order: `Check`, with the fault of an image that is not accepted; `TakeUp`, where no session goes on from it; `Read`, where a byte of
-/// the last text could not be read; `Edit`, where a limit of the session is met; and `Memory`: nothing was written then. `Write`, where the
-/// writer failed or took no byte: a prefix of the image was written.
+/// In this order: `Check`, with the fault of an image that is not accepted; `TakeUp`, where no session goes on from it;
+/// `Read`, where a byte of the last text could not be read; `Edit`, where a limit of the session is met; and `Memory`:
+/// nothing was written then. `Write`, where the writer failed or took no byte: a prefix of the image was written.
 pub fn run_commit<S: Sources, W: io::Write, P: Progress>(
     alloc: Global,
     image: Vec<u8>,
@@ -83,8 +83,8 @@ pub fn run_commit<S: Sources, W: io::Write, P: Progress>(
 ///
 /// # Errors
 ///
-/// `Edit`, where a limit of the session is met, and `Memory`: nothing was written then. `Write`, where the writer failed or took no byte: a
-/// prefix of the image was written.
+/// `Edit`, where a limit of the session is met, and `Memory`: nothing was written then. `Write`, where the writer
+/// failed or took no byte: a prefix of the image was written.
 pub fn run_commit_anew<W: io::Write>(
     alloc: Global,
     file: &[u8],
@@ -94,6 +94,7 @@ pub fn run_commit_anew<W: io::Write>(
 {
     let mut session = Session::new(alloc);
     let commit = commit_text(alloc, &mut session, &mut MemSources::new(alloc), file)?;
+    // The session keeps its rules, as its count says.
     let _made = session.count();
     match write(&session, writer) {
         Ok(()) => Ok(commit),

@@ -56,8 +56,8 @@ impl Watch {
         }
     }
 
-    /// Reports the reads and forgets them: the place of each, where as many bytes as a block came; or `place+asked`; `=came` behind it where
-    /// fewer came, `!` where the read failed.
+    /// Reports the reads and forgets them: the place of each, where as many bytes as a block came; or `place+asked`;
+    /// `=came` behind it where fewer came, `!` where the read failed.
     pub fn tell(&self, report: &mut Report) -> Result<()> {
         if self.lost.get() {
             bail!("a read was not recorded");

@@ -158,7 +158,7 @@ fn doubled(store: &mut Store<Coded>, text: Rope, times: u64) -> Result<Rope, Nod
     Ok(text)
 }
 
-/// The same of parts that leave the first or the last byte out.
+/// A part of a rope, then a part of that, and so on: each leaves the first or the last byte out.
 fn narrowed(
     store: &mut Store<Coded>,
     chance: &mut Chance,

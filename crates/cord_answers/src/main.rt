@@ -1,5 +1,6 @@
-//! What calls answer, on inputs that it makes of numbers: `cord_answers GROUP SEED CASES` prints so many cases of a group, from that seed on, each
-//! in lines that a script compares with those of another build. With no words it prints some cases of each group but frames.
+//! What calls answer, on inputs that it makes of numbers: `cord_answers GROUP SEED CASES`
+//! prints so many cases of a group, from that seed on, each in lines that a script compares
+//! with those of another build. With no words it prints some cases of each group but frames.
 #![tactic(auto)]
 
 mod chance;

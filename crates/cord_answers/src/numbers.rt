@@ -109,7 +109,7 @@ fn tell_word(alloc: Global, form: (&str, &str), word: &[u8], report: &mut Report
     report.end()
 }
 
-/// The same of a number.
+/// What a script that has a number there gives.
 fn tell_number(alloc: Global, form: (&str, &str), n: u64, report: &mut Report) -> Result<()> {
     let mut word = Report::new(alloc);
     word.number(n)?;

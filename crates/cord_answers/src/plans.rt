@@ -38,7 +38,8 @@ fn cut_behind(alloc: Global, line: u64, down: u64) -> Result<Plan> {
     })
 }
 
-/// A file that is unreadable at a byte and cut behind it, before the place that is shown: of two faults the start told the first.
+/// A file that is unreadable at a byte and cut behind it, before
+/// the place that is shown: of two faults the start told the first.
 fn cut_and_unreadable(alloc: Global) -> Result<Plan> {
     let mut turns = Turns::new(alloc);
     turns.press(DOWN, 200)?;

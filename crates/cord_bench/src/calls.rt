@@ -1,5 +1,7 @@
 //! Small calls that sessions and checks make again and again, each repeated until it takes long enough to be told.
 
+// The lines `let _count = store.count();` are for the proof: the store keeps its rules, as its count says.
+
 ghost use Rattle.std.specs.Prelude.{◌≡◌, ◌<◌, ◌≤◌, length, IfOk, IsTrue};
 ghost use Rattle.std.specs.List.{AllByRecursion};
 ghost use Rattle.function_leaf.specs.Coded.{coded_byte};
@@ -282,7 +284,7 @@ fn verify_often(alloc: Global, store: &Store<Coded>, text: Rope, times: u32) -> 
     Ok(())
 }
 
-/// The same by looks, which are counted.
+/// The row of a text taken back, verified so often by looks, which are counted.
 fn verify_counted_often<L: Ledger>(
     alloc: Global,
     store: &Store<Coded>,
@@ -308,7 +310,8 @@ fn verify_counted_often<L: Ledger>(
     Ok(())
 }
 
-/// Bytes of a part described so often, from where the one before leads to, and the places of all of them in the pool in one number.
+/// Bytes of a part described so often, from where the one before
+/// leads to, and the places of all of them in the pool in one number.
 fn describe_often(store: &Store<Coded>, part: Part, times: u32) -> Result<u64>
     requires part { IsPart (table_of coded_byte store.now) part }
     requires long { 60 ≤ part_len part }
@@ -349,7 +352,8 @@ fn describe_pool(store: &Store<Coded>, times: u32) -> Result<u64> {
     describe_often(store, Part::Pool { a: 0, n }, times)
 }
 
-/// The image of a session, written anew: whether it was written. It is not made inline, so that no part of the work is done once for many images.
+/// The image of a session, written anew: whether it was written. It is not
+/// made inline, so that no part of the work is done once for many images.
 #[inline(never)]
 fn write_anew(session: &Session, image: &mut Vec<u8>) -> bool {
     image.clear();

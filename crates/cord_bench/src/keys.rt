@@ -77,8 +77,8 @@ fn typed_until_refused(editor: &mut Editor<MemSources<'_>>) -> u64 {
     u64::MAX
 }
 
-/// Types at the end and in the middle of a text of 1 MB and of one of 64 MB, and then in the middle of the first, without frames, until
-/// a key is refused.
+/// Types at the end and in the middle of a text of 1 MB and of one of 64 MB,
+/// and then in the middle of the first, without frames, until a key is refused.
 pub fn time(rt: &HostRuntime) -> Result<()> {
     for len in [1 << 20, 1 << 26] {
         let text = lines(rt, len)?;

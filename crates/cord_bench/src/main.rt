@@ -1,7 +1,7 @@
-//! Times what runs often. The numbers differ from run to run, so they go to standard error.
-//! With the word `image` it writes an image to standard output instead, with `keys` it times the editor, with `store` a million of each of the
-//! store's operations, with `many` many replacements by one command, and with `calls` small calls that are made again and again. With `limits`
-//! it fills a store and a pool, and tells on standard output how each refuses more.
+//! Times what runs often. The numbers differ from run to run, so they go to standard error. With the word `image` it
+//! writes an image to standard output instead, with `keys` it times the editor, with `store` a million of each of the
+//! store's operations, with `many` many replacements by one command, and with `calls` small calls that are made again
+//! and again. With `limits` it fills a store and a pool, and tells on standard output how each refuses more.
 #![tactic(auto)]
 
 mod balancing;

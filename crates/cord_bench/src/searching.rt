@@ -144,7 +144,8 @@ fn time_literals(rt: &HostRuntime, bytes: &[u8], len: usize, insertions: u32) ->
     time_text(rt, name.as_str(), &store, &mut sources, text)
 }
 
-/// Times searches for a pattern at the end of a megabyte: of a source and of long literals after so many insertions, and of short literals.
+/// Times searches for a pattern at the end of a megabyte: of a source
+/// and of long literals after so many insertions, and of short literals.
 pub fn time(rt: &HostRuntime) -> Result<()> {
     let bytes = letters(rt)?;
     for insertions in INSERTIONS {

@@ -11,8 +11,8 @@ use crate::verdict::CordVerdict;
 use image_reader::{Image, looks_bound};
 use session_checker::check;
 
-/// How many looks at nodes the check of an image takes at most, by its counts and its rows, before any node is looked at. Where the
-/// bytes are no image, so that the check's answer is `C1`, `bound` stays.
+/// How many looks at nodes the check of an image takes at most, by its counts and its rows, before any node is looked
+/// at. Where the bytes are no image, so that the check's answer is `C1`, `bound` stays.
 #[unsafe(no_mangle)]
 pub extern "C" fn cord_looks_bound(image: &[u8], bound: &mut u64) -> bool
     ensures there { IsTrue result ↔ (fault_of image.now ≡ None) }
@@ -28,8 +28,8 @@ pub extern "C" fn cord_looks_bound(image: &[u8], bound: &mut u64) -> bool
     }
 }
 
-/// Accepts or refuses a session image with its sources, and says why or how large it is. It reads of the sources what rows of bytes
-/// compare; where such bytes are not held, the answer is `C12(S2)`. It takes no memory.
+/// Accepts or refuses a session image with its sources, and says why or how large it is. It reads of the sources what
+/// rows of bytes compare; where such bytes are not held, the answer is `C12(S2)`. It takes no memory.
 #[unsafe(no_mangle)]
 pub extern "C" fn cord_check(
     image: &[u8],

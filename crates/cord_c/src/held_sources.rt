@@ -9,8 +9,8 @@ ghost use Rattle.lazy_file.specs.declared.sources.TheConstants.{SOURCE_LIMIT};
 use lazy_file::{AddFault, COUNT_LIMIT, SOURCE_LIMIT, SourceFault, Sources};
 use std::marker::Model;
 
-/// A source of a session: how many bytes it has, and those that are held of it, from its first on. Where none are held, its length
-/// alone is known.
+/// A source of a session: how many bytes it has, and those that are held of
+/// it, from its first on. Where none are held, its length alone is known.
 #[repr(C)]
 #[derive(Clone, Copy, Drop)]
 pub struct CordSource<'a> {

@@ -1,4 +1,5 @@
-//! The checker of session images for other languages: a static library of C functions, which take no memory of their own.
+//! The checker of session images for other languages: a static
+//! library of C functions, which take no memory of their own.
 #![tactic(auto)]
 
 mod check;

@@ -57,8 +57,8 @@ impl<'a> CordImage<'a> {
     }
 }
 
-/// The check of an image, as `cord_check` makes it. An image that is accepted is put into `opened`, which then borrows its bytes; else
-/// `opened` stays.
+/// The check of an image, as `cord_check` makes it. An image that is accepted
+/// is put into `opened`, which then borrows its bytes; else `opened` stays.
 #[unsafe(no_mangle)]
 pub extern "C" fn cord_open<'a>(
     image: &'a [u8],

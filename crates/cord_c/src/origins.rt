@@ -54,8 +54,8 @@ impl CordOrigin {
     }
 }
 
-/// Where the byte at a place of the text of a revision comes from. Where there is no such place, or no such revision, `run` stays. It takes
-/// no memory and no source.
+/// Where the byte at a place of the text of a revision comes from. Where there is no such place, or no such revision,
+/// `run` stays. It takes no memory and no source.
 #[unsafe(no_mangle)]
 pub extern "C" fn cord_origin(
     image: &CordImage,

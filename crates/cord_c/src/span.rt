@@ -18,6 +18,7 @@ pub fn span_of(image: &Checked, revision: u32, place: u64) -> Option<LeafSpan>
     ensures run { IfSome result (IsRun (image_table image.now) (text_root image.now revision) place) }
     ensures none { result ≡ None ↔ revision_len image.now revision ≤ place }
 {
+    // The nodes are a sound table, as their count says.
     let _count = image.count();
     match image.root(revision) {
         Some(Some(node)) if place < image.len(node) => Some(leaf_span(image, node, place)),

@@ -80,8 +80,8 @@ pub extern "C" fn cord_fetch(
     }
 }
 
-/// Where the byte at a place of the text of a revision stands, and how many bytes of the text follow it there: all up to the end of its
-/// leaf's span. Where there is no such place, or no such revision, `run` stays.
+/// Where the byte at a place of the text of a revision stands, and how many bytes of the text follow it there: all up
+/// to the end of its leaf's span. Where there is no such place, or no such revision, `run` stays.
 #[unsafe(no_mangle)]
 pub extern "C" fn cord_locate(
     image: &CordImage,
@@ -103,12 +103,13 @@ pub extern "C" fn cord_locate(
     }
 }
 
-/// Writes the bytes of a text from a place to the end of its leaf's span there into the buffer, as many as it takes, and answers how
-/// many.
+/// Writes the bytes of a text from a place to the end of its leaf's span
+/// there into the buffer, as many as it takes, and answers how many.
 ///
 /// # Errors
 ///
-/// A source's fault, where they are of that source and the read of them failed. They may then be any bytes in the buffer.
+/// A source's fault, where they are of that source and the read
+/// of them failed. They may then be any bytes in the buffer.
 fn fill_run<T: Sources>(
     image: &Checked,
     sources: &mut T,
@@ -133,9 +134,9 @@ fn fill_run<T: Sources>(
     Ok(n)
 }
 
-/// Writes the bytes of the text of a revision from a place on into `out`: as many as it takes, up to the end of the run that
-/// `cord_locate` tells, and answers how many by `count`. `READ`: they were written. `NOT_HELD`: none is counted, and `out` may hold any
-/// bytes.
+/// Writes the bytes of the text of a revision from a place on into `out`: as many as it
+/// takes, up to the end of the run that `cord_locate` tells, and answers how many by `count`.
+/// `READ`: they were written. `NOT_HELD`: none is counted, and `out` may hold any bytes.
 #[unsafe(no_mangle)]
 pub extern "C" fn cord_read(
     image: &CordImage,

@@ -350,8 +350,8 @@ fn with_code<'a>(told: &'a str, sentence: Sentence) -> Explanation<'a>
     }
 }
 
-/// What the code means that a run of this action ended with, as the files say that it reads. There is nothing to tell where memory has no
-/// room for it.
+/// What the code means that a run of this action ended with, as the files say
+/// that it reads. There is nothing to tell where memory has no room for it.
 pub fn explained<'a, R: Files + AllocGlobal>(
     rt: &R,
     action: &Action<'_>,

@@ -1,5 +1,5 @@
-//! What the program's codes mean: sentences in which a `%` stands for the file or the line that a code is about, and each `#` for the next
-//! of its numbers.
+//! What the program's codes mean: sentences in which a `%` stands for the file
+//! or the line that a code is about, and each `#` for the next of its numbers.
 
 /// The bytes are no image.
 fn of_bytes(code: &str) -> &'static str {

@@ -1,4 +1,5 @@
-//! Images that are made field by field: a text of many literals that is changed all over, and rows that compare bytes of deep ropes.
+//! Images that are made field by field: a text of many literals that
+//! is changed all over, and rows that compare bytes of deep ropes.
 
 ghost use Rattle.std.specs.Prelude.{◌<◌};
 
@@ -192,8 +193,8 @@ fn compare_again(image: &mut Image, root: u32) -> Result<()> {
     image.revise(BACK, Some(root), Fields { r, ..NO_FIELDS })
 }
 
-/// One byte doubled so often, below substrings that chance puts between, down to the greatest depth; and all of the text compared so many
-/// times.
+/// One byte doubled so often, below substrings that chance puts between,
+/// down to the greatest depth; and all of the text compared so many times.
 pub fn deepest(alloc: Global, chance: &mut Chance, doublings: u8, times: u64) -> Result<Vec<u8>> {
     let mut image = Image::with_room(alloc, 4096)?;
     let mut root = sown(&mut image, chance)?;
@@ -231,8 +232,8 @@ pub fn deepest(alloc: Global, chance: &mut Chance, doublings: u8, times: u64) ->
     image.bytes(alloc)
 }
 
-/// A text of many literals of a few bytes each under trees of two shapes, one even, one that grows at its left end; and each compared with
-/// the other so many times.
+/// A text of many literals of a few bytes each under trees of two shapes, one even,
+/// one that grows at its left end; and each compared with the other so many times.
 pub fn two_shapes(
     alloc: Global,
     chance: &mut Chance,

@@ -85,7 +85,8 @@ pub fn opened(alloc: Global, bytes: Vec<u8>) -> Result<FileSources<File>>
     Ok(sources)
 }
 
-/// So many bytes of words, in lines of up to 100 bytes or in one: pieces of letters that chance picks out of 64 KB of them.
+/// So many bytes of words, in lines of up to 100 bytes or in one:
+/// pieces of letters that chance picks out of 64 KB of them.
 pub fn prose(alloc: Global, chance: &mut Chance, len: u64, in_lines: bool) -> Result<Vec<u8>> {
     let mut letters = Vec::new(alloc);
     for _ in 0..LETTERS {
@@ -159,7 +160,7 @@ fn press_some(alloc: Global, chance: &mut Chance, scale: u64, digest: &mut Diges
     edit(alloc, opened(alloc, text)?, &pressed, digest)
 }
 
-/// The same for two pairs of texts, and of small ones for one pair.
+/// Keys in two pairs of such texts, and in one pair where they are small.
 pub fn press_keys(
     alloc: Global,
     chance: &mut Chance,

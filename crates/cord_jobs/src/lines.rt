@@ -27,7 +27,8 @@ fn type_here(keys: &mut Vec<u8>, chance: &mut Chance) -> Result<()> {
     Ok(())
 }
 
-/// Letters at the place, which is in the long line, at its end, in a line below, near its start, at its start, and in a line above.
+/// Letters at the place, which is in the long line, at its end, in
+/// a line below, near its start, at its start, and in a line above.
 fn type_about(keys: &mut Vec<u8>, chance: &mut Chance) -> Result<()> {
     type_here(keys, chance)?;
     for leads in [LINE_END, DOWN, UP, LINE_START, UP] {

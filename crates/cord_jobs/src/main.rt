@@ -1,6 +1,6 @@
-//! The jobs that people wait for, each on inputs that it makes of a number: `cord_jobs JOB SEED [SCALE]`, where the last word says how large they
-//! are (100). It prints how many bytes came of a job and a digest of them, and no times; with no words it runs each job on small inputs.
-//! bench/workloads.txt has the jobs, docs/PERF.md what they take.
+//! The jobs that people wait for, each on inputs that it makes of a number: `cord_jobs JOB SEED [SCALE]`, where the
+//! last word says how large they are (100). It prints how many bytes came of a job and a digest of them, and no times;
+//! with no words it runs each job on small inputs. bench/workloads.txt has the jobs, docs/PERF.md what they take.
 #![tactic(auto)]
 
 mod chance;

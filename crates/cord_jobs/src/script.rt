@@ -120,7 +120,8 @@ impl Script {
         self.end(self.len(r))
     }
 
-    /// Puts `n` bytes in place of as many at each of `count` places of the last text, which lie `step` bytes apart or a little less.
+    /// Puts `n` bytes in place of as many at each of `count` places of
+    /// the last text, which lie `step` bytes apart or a little less.
     pub fn many(&mut self, chance: &mut Chance, count: u64, step: u64, n: u64) -> Result<()> {
         let r = self.last();
         self.name("many")?;

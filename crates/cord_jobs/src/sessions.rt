@@ -1,4 +1,5 @@
-//! Scripts that become sessions, every revision kept with its rows: keys typed at one place, a day of editing, changes all over a text.
+//! Scripts that become sessions, every revision kept with its rows:
+//! keys typed at one place, a day of editing, changes all over a text.
 
 use crate::chance::Chance;
 use crate::digest::Digest;

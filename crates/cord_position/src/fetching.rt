@@ -12,8 +12,8 @@ use lazy_file::{SourceFault, Sources};
 use leaf_buffer::Run;
 use rope_node::{NodeSpace, Rope, find_leaf};
 
-/// The byte at `i` of a rope, and how many nodes were visited for it, from the root to the leaf. At the end and past it, no byte
-/// and no node. It takes no memory of its own.
+/// The byte at `i` of a rope, and how many nodes were visited for it, from the root to the leaf. At the end and past
+/// it, no byte and no node. It takes no memory of its own.
 ///
 /// # Errors
 ///

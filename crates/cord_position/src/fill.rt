@@ -42,6 +42,7 @@ fn fill_answers<S: NodeSpace>(space: &S, leaf: NodeId, start: u64, buffer: &mut 
     ensures { buffer.new
         ≡ map ((S.table space.now).answer leaf.0) (range_with_len start (length buffer.old)) }
 {
+    // No leaf is longer than a text may be, as its length says.
     let _limit = space.len(leaf);
     for k in 0..buffer.len() {
         buffer[k] = space.fun_byte(leaf, start + k as u64);
@@ -52,8 +53,8 @@ fn fill_answers<S: NodeSpace>(space: &S, leaf: NodeId, start: u64, buffer: &mut 
 ///
 /// # Errors
 ///
-/// A source's fault, where the leaf is a part of that source and the read of these bytes failed. They may then be any bytes in the
-/// buffer.
+/// A source's fault, where the leaf is a part of that source and the
+/// read of these bytes failed. They may then be any bytes in the buffer.
 pub fn fill_part<S: NodeSpace, T: Sources>(
     space: &S,
     sources: &mut T,

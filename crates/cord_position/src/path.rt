@@ -93,8 +93,8 @@ fn side_of(fork: Fork, place: u64) -> Step
     }
 }
 
-/// Takes the forks that do not hold the place off the path's end, and gives the step from the last one that does to the child that
-/// holds it. Where none does, that is the root's.
+/// Takes the forks that do not hold the place off the path's end, and gives the step from the last one that does to the
+/// child that holds it. Where none does, that is the root's.
 fn climb<S: NodeSpace>(space: &S, root: NodeId, path: &mut Path, place: u64) -> Step
     requires there { root.0 < length (S.table space.now).nodes }
     requires inside { place < len_at (S.table space.now) root.0 }
@@ -103,6 +103,7 @@ fn climb<S: NodeSpace>(space: &S, root: NodeId, path: &mut Path, place: u64) -> 
     ensures step { IsStepAt (S.table space.now) (Some root) (small_vec_len path.new) result }
     ensures holds { Holds result place }
 {
+    // The table is sound, as its count says.
     let _count = space.count();
     'up: while let Some(fork) = path.pop() {
         if holds(fork.step, place) {
@@ -118,8 +119,8 @@ fn climb<S: NodeSpace>(space: &S, root: NodeId, path: &mut Path, place: u64) -> 
     }
 }
 
-/// Goes down from a step that holds the place to a leaf's, and puts the forks between them on the path: the concatenations of which
-/// the step has bytes of both children.
+/// Goes down from a step that holds the place to a leaf's, and puts the forks between them on the path: the
+/// concatenations of which the step has bytes of both children.
 fn descend<S: NodeSpace>(space: &S, root: NodeId, path: &mut Path, from: Step, place: u64) -> Step
     requires path { IsPath (S.table space.now) (Some root) path.old }
     requires step { IsStepAt (S.table space.now) (Some root) (small_vec_len path.old) from }

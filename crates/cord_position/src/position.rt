@@ -24,7 +24,8 @@ pub struct Pos<'a, S: NodeSpace> {
     space: &'a S,
     rope: Rope,
     place: u64,
-    /// The step to the leaf that holds the place, below the path's last fork. At the end it may be the last leaf's, or empty.
+    /// The step to the leaf that holds the place, below the path's
+    /// last fork. At the end it may be the last leaf's, or empty.
     here: Step,
     /// A cursor at the place, in the bytes of that step where its leaf is a literal; else in none.
     run: Run<'a>,
@@ -50,6 +51,7 @@ impl<'a, S: NodeSpace> Pos<'a, S> {
         ensures rope { result.rope ≡ rope }
         ensures index { result.index ≡ min i (rope_len (S.table space.now) rope) }
     {
+        // The table is sound, as its count says.
         let _count = space.count();
         let end = rope_len(space, rope);
         let mut pos = Pos {
@@ -205,7 +207,8 @@ impl<'a, S: NodeSpace> Pos<'a, S> {
         }
     }
 
-    /// After how many bytes those from here to the end of the present leaf's span repeat, where the leaf is a function that says so.
+    /// After how many bytes those from here to the end of the present
+    /// leaf's span repeat, where the leaf is a function that says so.
     pub fn run_period(&self) -> Option<u64>
         ensures { IfSome result
             (IsRunPeriod (S.table self.now.space) self.now.rope self.now.index) }
@@ -213,7 +216,8 @@ impl<'a, S: NodeSpace> Pos<'a, S> {
         find_period(self.space, self.rope, self.here, self.place)
     }
 
-    /// The bytes from here to the end of the present leaf's span, where the leaf is a literal; elsewhere and at the end, none.
+    /// The bytes from here to the end of the present leaf's span,
+    /// where the leaf is a literal; elsewhere and at the end, none.
     #[inline]
     pub fn run_bytes(&self) -> &[u8]
         ensures exact { result.now ≡ bytes_here S.table self.now }
@@ -223,13 +227,13 @@ impl<'a, S: NodeSpace> Pos<'a, S> {
         literal_run(self.space, self.rope, self.here, &self.run, self.place)
     }
 
-    /// Writes the bytes from here to the end of the present leaf's span into the buffer, as many as it takes, and answers how many.
-    /// The position stays.
+    /// Writes the bytes from here to the end of the present leaf's span into the
+    /// buffer, as many as it takes, and answers how many. The position stays.
     ///
     /// # Errors
     ///
-    /// A source's fault, where the leaf is a part of that source and the read of these bytes failed. They may then be any bytes in the
-    /// buffer.
+    /// A source's fault, where the leaf is a part of that source and the
+    /// read of these bytes failed. They may then be any bytes in the buffer.
     pub fn fill<T: Sources>(&self, sources: &mut T, buffer: &mut [u8]) -> Result<usize, SourceFault>
         ensures count { IfOk result
             (λ n. n ≡ min (left_here S.table self.now) (length buffer.old)) }

@@ -1,5 +1,5 @@
-//! The run of a rope's bytes from a place to the end of its leaf's span. Where a step is known, the space and the rope are there for
-//! the contract alone.
+//! The run of a rope's bytes from a place to the end of its leaf's span. Where
+//! a step is known, the space and the rope are there for the contract alone.
 
 ghost use Rattle.std.specs.Prelude.{◌≡◌, ◌↔◌, ◌<◌, ◌≤◌, ◌+◌, None, map, length, IfSome};
 ghost use Rattle.rope_node.specs.Table.{len_at};
@@ -12,7 +12,8 @@ use crate::path::Step;
 use leaf_buffer::Run;
 use rope_node::{LeafSpan, NodeSpace, NodeView, Rope};
 
-/// The leaf span that the bytes of a rope from a place on begin with, by the step that holds the place; at the end, none.
+/// The leaf span that the bytes of a rope from a place on begin
+/// with, by the step that holds the place; at the end, none.
 #[inline]
 pub fn find_run<S: NodeSpace>(space: &S, rope: Rope, here: Step, place: u64) -> Option<LeafSpan>
     requires { IsHere (S.table space.now) rope place here }
@@ -31,7 +32,8 @@ pub fn find_run<S: NodeSpace>(space: &S, rope: Rope, here: Step, place: u64) -> 
     })
 }
 
-/// After how many bytes those from a place to the end of its leaf's span repeat, where the leaf is a function that says so.
+/// After how many bytes those from a place to the end of its
+/// leaf's span repeat, where the leaf is a function that says so.
 pub fn find_period<S: NodeSpace>(space: &S, rope: Rope, here: Step, place: u64) -> Option<u64>
     requires { IsHere (S.table space.now) rope place here }
     ensures { IfSome result (IsRunPeriod (S.table space.now) rope place) }

@@ -45,6 +45,7 @@ pub fn ncmp<S: NodeSpace, T: Sources>(
         (rope_cell (S.table space.now) x) i
         (rope_cell (S.table space.now) y) j n result }
 {
+    // No text is longer than a text may be, as its length says.
     let _lens = (rope_len(space, x), rope_len(space, y));
     let mut first = Pos::set(alloc, space, x, i);
     let mut second = Pos::set(alloc, space, y, j);

@@ -12,8 +12,8 @@ use cord_position::fill_part;
 use lazy_file::{SourceFault, Sources};
 use rope_node::{NodeId, NodeSpace, NodeView};
 
-/// Hands the search `len` bytes of a leaf, from its byte `start` on, as many at once as the buffer takes. Where the leaf repeats after
-/// `period` bytes, only its first and last ones are handed over.
+/// Hands the search `len` bytes of a leaf, from its byte `start` on, as many at once as the buffer takes. Where the
+/// leaf repeats after `period` bytes, only its first and last ones are handed over.
 fn look_in_leaf<S: NodeSpace, T: Sources>(
     space: &S,
     sources: &mut T,
@@ -41,6 +41,7 @@ fn look_in_leaf<S: NodeSpace, T: Sources>(
     ensures reads { ReadsSpan (T.reading sources.old) (T.reading sources.new)
         (cell_at (S.table space.now) leaf.0) start (start + len) result }
 {
+    // No leaf is longer than a text may be, as its length says.
     let _limit = space.len(leaf);
     let first = seeker.place();
     let mut done = 0;

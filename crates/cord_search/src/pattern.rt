@@ -76,12 +76,13 @@ fn find_some<S: NodeSpace, T: Sources>(
     }
 }
 
-/// The first place from `start` on at which the pattern stands. An empty pattern stands at each place up to the text's end.
+/// The first place from `start` on at which the pattern stands.
+/// An empty pattern stands at each place up to the text's end.
 ///
 /// # Errors
 ///
-/// `F1` for a pattern longer than `PATTERN_LIMIT`. `Memory` where the ring for a pattern of some bytes is refused. A source's fault,
-/// where a byte is one of that source and the read of it failed.
+/// `F1` for a pattern longer than `PATTERN_LIMIT`. `Memory` where the ring for a pattern of some bytes is refused. A
+/// source's fault, where a byte is one of that source and the read of it failed.
 pub fn find<S: NodeSpace, T: Sources>(
     alloc: Global,
     space: &S,

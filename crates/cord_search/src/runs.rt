@@ -17,7 +17,8 @@ pub const PIECE: usize = 4096;
 /// How many bytes are read at once where the whole text is gone through.
 pub const WINDOW: usize = 65_536;
 
-/// Writes the bytes from a position to the end of its leaf's span into the buffer, as many as it takes, and answers how many.
+/// Writes the bytes from a position to the end of its leaf's span
+/// into the buffer, as many as it takes, and answers how many.
 fn fill_run<S: NodeSpace, T: Sources>(
     pos: &Pos<'_, S>,
     sources: &mut T,
@@ -33,6 +34,7 @@ fn fill_run<S: NodeSpace, T: Sources>(
     ensures reads { ReadsSpan (T.reading sources.old) (T.reading sources.new)
         (cell_of S.table pos.now) pos.now.index (pos.now.index + length buffer.old) result }
 {
+    // The position stands in its text, as what is left of the run says.
     let _left = pos.run_left();
     pos.fill(sources, buffer)
 }
@@ -66,7 +68,8 @@ pub fn next_run<'r, S: NodeSpace, T: Sources>(
     Ok(&buffer[..n])
 }
 
-/// Writes the bytes of a node from its byte `start` on into the whole buffer, leaf by leaf. It goes down by calls of itself.
+/// Writes the bytes of a node from its byte `start` on into the
+/// whole buffer, leaf by leaf. It goes down by calls of itself.
 ///
 /// # Errors
 ///
@@ -125,6 +128,7 @@ pub fn part_of<'r, S: NodeSpace, T: Sources>(
     ensures reads { ReadsSpan (T.reading sources.old) (T.reading sources.new)
         (rope_cell (S.table space.now) x) from (from + count) result }
 {
+    // No text is longer than a text may be, as its length says.
     let _len = rope_len(space, x);
     match x {
         Some(node) => gather(space, sources, node, from, &mut buffer[..count])?,
@@ -133,8 +137,8 @@ pub fn part_of<'r, S: NodeSpace, T: Sources>(
     Ok(&buffer[..count])
 }
 
-/// The next bytes from a position on, at least `need` and at most `most`: a literal's where they lie, if they are enough, and else
-/// those of as many runs as the buffer takes.
+/// The next bytes from a position on, at least `need` and at most `most`: a literal's where they lie, if they are
+/// enough, and else those of as many runs as the buffer takes.
 pub fn next_window<'r, S: NodeSpace, T: Sources>(
     pos: &'r Pos<'_, S>,
     space: &S,

@@ -24,8 +24,8 @@ fn may_begin(pattern: &[u8], bytes: &[u8], place: usize) -> bool
     pattern.len() < 2 || place + 1 >= bytes.len() || bytes[place + 1] == pattern[1]
 }
 
-/// How many of these bytes lie before the first at which the pattern may begin, by its first two bytes. All of them, where it can
-/// begin nowhere.
+/// How many of these bytes lie before the first at which the pattern may
+/// begin, by its first two bytes. All of them, where it can begin nowhere.
 fn before_first(finder: &Finder<'_>, bytes: &[u8]) -> usize
     requires some { 1 ≤ length finder.now }
     ensures most { result ≤ length bytes.now }
@@ -63,8 +63,8 @@ fn before_first_in_ring(finder: &Finder<'_>, ring: &mut HeapCircularBuffer<u8>) 
     before_first(finder, bytes)
 }
 
-/// A search for a pattern in a text that it is handed run by run. A run that is as long as the pattern is searched where it lies; what
-/// stands at a joint of runs is found in a ring, which holds at most twice the pattern's length.
+/// A search for a pattern in a text that it is handed run by run. A run that is as long as the pattern is searched
+/// where it lies; what stands at a joint of runs is found in a ring, which holds at most twice the pattern's length.
 #[derive(Drop)]
 pub struct Seeker<'p> {
     finder: Finder<'p>,
@@ -106,8 +106,8 @@ impl<'p> Seeker<'p> {
         self.finder.needle().len()
     }
 
-    /// Searches the ring. Where the pattern does not stand there, the ring keeps the bytes from the first place on at which it may
-    /// still begin, fewer than the pattern has.
+    /// Searches the ring. Where the pattern does not stand there, the ring keeps the bytes from the first place on at
+    /// which it may still begin, fewer than the pattern has.
     pub fn search_ring(&mut self) -> Option<u64>
         requires kept { IsSeeker self.old }
         ensures kept { IsSeeker self.new }
@@ -130,8 +130,8 @@ impl<'p> Seeker<'p> {
         }
     }
 
-    /// Takes the next bytes, fewer than the pattern has, where the ring is empty. It gets the bytes from the first place on at which
-    /// the pattern may begin.
+    /// Takes the next bytes, fewer than the pattern has, where the ring is empty.
+    /// It gets the bytes from the first place on at which the pattern may begin.
     fn keep(&mut self, run: &[u8])
         requires kept { IsSeeker self.old }
         requires empty { self.old.ring.items ≡ [] }
@@ -197,8 +197,8 @@ impl<'p> Seeker<'p> {
         self.search_ring()
     }
 
-    /// Searches the joint of the ring's bytes and the next ones, as many as the pattern has or more, of which none is taken. Where the
-    /// pattern does not stand there, the ring is empty.
+    /// Searches the joint of the ring's bytes and the next ones, as many as the pattern has or more, of which none is
+    /// taken. Where the pattern does not stand there, the ring is empty.
     fn search_joint(&mut self, run: &[u8]) -> Option<u64>
         requires kept { IsSeeker self.old }
         requires long { length self.old.finder ≤ length run.now }
@@ -289,8 +289,8 @@ impl<'p> Seeker<'p> {
         self.place = place;
     }
 
-    /// Goes on near the end of a leaf of `len` bytes from place `first` on, where the leaf repeats after `period` bytes and the pattern stands
-    /// at none of so many of its places. Answers how many of the leaf's bytes are passed.
+    /// Goes on near the end of a leaf of `len` bytes from place `first` on, where the leaf repeats after `period` bytes
+    /// and the pattern stands at none of so many of its places. Answers how many of the leaf's bytes are passed.
     pub fn skip_repeats(&mut self, first: u64, len: u64, period: Option<u64>) -> u64
         requires kept { IsSeeker self.old }
         requires inside { (first ≤ self.old.place) × (self.old.place ≤ first + len) }

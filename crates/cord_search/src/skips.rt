@@ -1,5 +1,7 @@
 //! How far a search skips places of a leaf that repeats.
 
+// The lines `let _len = ..` are for the proof: no text is longer than a text may be, as its length says.
+
 ghost use Rattle.std.specs.Prelude.{◌≡◌, ◌<◌, ◌≤◌, ◌+◌};
 ghost use Rattle.rope_node.specs.Denotes.{IsRope, rope_len};
 ghost use Rattle.cord_position.specs.Position.{text_len};
@@ -9,8 +11,9 @@ use cord_position::Pos;
 use rope_node::{NodeSpace, NodeView, Rope, find_leaf, rope_len};
 use std::alloc::Global;
 
-/// At how many places from a position on a pattern of `need` bytes cannot stand, where it stands at none of the first `count`: at all
-/// whose bytes are in the present leaf's span, if the leaf repeats within these, and else at these alone.
+/// At how many places from a position on a pattern of `need` bytes cannot stand,
+/// where it stands at none of the first `count`: at all whose bytes are in the
+/// present leaf's span, if the leaf repeats within these, and else at these alone.
 pub fn clear_ahead<S: NodeSpace>(pos: &Pos<'_, S>, need: u64, count: u64) -> u64
     requires some { 1 ≤ need }
     requires inside { pos.now.index + count + need ≤ text_len S.table pos.now + 1 }
@@ -29,8 +32,8 @@ pub fn clear_ahead<S: NodeSpace>(pos: &Pos<'_, S>, need: u64, count: u64) -> u64
     }
 }
 
-/// The first place from which on a byte cannot stand, where it stands at none of `count` places from a position on: the first of the
-/// present leaf's span, if the leaf repeats within these, and else the position's.
+/// The first place from which on a byte cannot stand, where it stands at none of `count` places from a position on: the
+/// first of the present leaf's span, if the leaf repeats within these, and else the position's.
 fn clear_behind_position<S: NodeSpace>(
     alloc: Global,
     pos: &Pos<'_, S>,
@@ -69,8 +72,9 @@ fn repeats_at<S: NodeSpace>(space: &S, x: Rope, place: u64) -> bool
     }
 }
 
-/// The first place from which on a byte cannot stand, where it stands at none of `count` places from `from` on: the first of the leaf's
-/// span there, if the leaf repeats within these, and else `from`. It sets a position where the leaf repeats, and nowhere else.
+/// The first place from which on a byte cannot stand, where it stands at none of `count`
+/// places from `from` on: the first of the leaf's span there, if the leaf repeats within
+/// these, and else `from`. It sets a position where the leaf repeats, and nowhere else.
 pub fn clear_behind<S: NodeSpace>(alloc: Global, space: &S, x: Rope, from: u64, count: u64) -> u64
     requires rope { IsRope (S.table space.now) x }
     ensures before { result ≤ from }

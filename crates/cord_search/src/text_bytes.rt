@@ -29,6 +29,7 @@ pub fn byte_at<S: NodeSpace, T: Sources>(
     ensures reads { ReadsSpan (T.reading sources.old) (T.reading sources.new)
         (rope_cell (S.table space.now) rope) place (place + 1) result }
 {
+    // No text is longer than a text may be, as its length says.
     let _len = rope_len(space, rope);
     pos.fetch(sources)
 }

@@ -22,7 +22,8 @@ use std::io;
 ///
 /// # Errors
 ///
-/// `Write`, where the writer failed or took no byte. A source's fault, where a byte is one of that source and the read of it failed.
+/// `Write`, where the writer failed or took no byte. A source's fault,
+/// where a byte is one of that source and the read of it failed.
 pub fn put<S: NodeSpace, T: Sources, W: io::Write>(
     alloc: Global,
     space: &S,

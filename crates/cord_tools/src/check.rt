@@ -63,14 +63,15 @@ fn answer_with<S: Sources, P: Progress>(
     }
 }
 
-/// Checks the image that the reader gives, with these sources, and writes one line: `accepted R revisions N nodes K rows`
-/// or `refused CODE`. It reads sources only where rows compare their bytes. Room for `expected` bytes of the image is taken first.
-/// Where the check may take more than `at_most` looks at nodes, the line is `refused looks N`, with that number.
+/// Checks the image that the reader gives, with these sources, and writes one line:
+/// `accepted R revisions N nodes K rows` or `refused CODE`. It reads sources only where rows
+/// compare their bytes. Room for `expected` bytes of the image is taken first. Where the check
+/// may take more than `at_most` looks at nodes, the line is `refused looks N`, with that number.
 ///
 /// # Errors
 ///
-/// `Read`, where the reader failed, or a source that a row compares, and `Memory`: nothing was written then. `Write`, where the writer
-/// failed or took no byte: a prefix of the line was.
+/// `Read`, where the reader failed, or a source that a row compares, and `Memory`: nothing was written then. `Write`,
+/// where the writer failed or took no byte: a prefix of the line was.
 pub fn run_check<R: io::Read + Drop, S: Sources, W: io::Write>(
     alloc: Global,
     reader: R,
@@ -93,7 +94,8 @@ pub fn run_check<R: io::Read + Drop, S: Sources, W: io::Write>(
     )
 }
 
-/// Does what `run_check` does, and tells on the way how many of the image's records are done, and before it writes that it is over.
+/// Does what `run_check` does, and tells on the way how many of the
+/// image's records are done, and before it writes that it is over.
 ///
 /// # Errors
 ///
@@ -131,13 +133,13 @@ pub fn run_stdin<R: io::Read + Drop, W: io::Write>(
     run_check(alloc, reader, 0, &mut MemSources::new(alloc), None, writer)
 }
 
-/// Answers a check whose sources are refused, before the image's bytes are looked at: it writes the line `refused CODE`, and answers
-/// `Failure`.
+/// Answers a check whose sources are refused, before the image's bytes are
+/// looked at: it writes the line `refused CODE`, and answers `Failure`.
 ///
 /// # Errors
 ///
-/// `Memory`, also where that is why a source was not added: nothing was written then. `Write`, where the writer failed or took no
-/// byte: a prefix of the line was.
+/// `Memory`, also where that is why a source was not added: nothing was written
+/// then. `Write`, where the writer failed or took no byte: a prefix of the line was.
 pub fn refuse_check<W: io::Write>(
     alloc: Global,
     refusal: AddFault,

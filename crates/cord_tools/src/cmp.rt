@@ -51,8 +51,8 @@ fn order_of<T: Sources>(alloc: Global, sources: &mut T) -> Result<Ordering, Tool
     Ok(cmp(alloc, &store, sources, first, second)?)
 }
 
-/// Compares the bytes of the first two sources. It writes the line `less`, `equal` or `greater`, and answers `Success` where they are
-/// equal, else `Failure`. Where the writer fails, a prefix of the line was written.
+/// Compares the bytes of the first two sources. It writes the line `less`, `equal` or `greater`, and answers `Success`
+/// where they are equal, else `Failure`. Where the writer fails, a prefix of the line was written.
 ///
 /// # Errors
 ///

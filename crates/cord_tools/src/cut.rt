@@ -10,8 +10,8 @@ use lazy_file::Sources;
 use std::alloc::Global;
 use std::io;
 
-/// Writes at most `count` bytes of the first source, from its byte `start` on, and nothing else. Where it fails, a prefix of them was
-/// written.
+/// Writes at most `count` bytes of the first source, from its byte `start`
+/// on, and nothing else. Where it fails, a prefix of them was written.
 ///
 /// # Errors
 ///

@@ -45,15 +45,16 @@ pub(crate) fn conclude<S: Sources + Drop, I: io::Write>(
     }
 }
 
-/// Edits the text of source 0, or an empty one where there is no source: writes a frame to the screen, takes a key, and so on, to the
-/// key Save or Leave or the last key. Behind Save alone, it writes the image of the session.
+/// Edits the text of source 0, or an empty one where there is no source: writes a frame to the screen, takes a key, and
+/// so on, to the key Save or Leave or the last key. Behind Save alone, it writes the image of the session.
 ///
 /// # Errors
 ///
-/// `TextTooLong`, where source 0 has more than 2,147,483,647 bytes, `Edit`, where the session has no room for the first revision, and
-/// `Memory`: nothing was written then. `Read`, where the keys could not be read, or a byte that a frame shows. `TooManyKeys`, and
-/// `Memory`: all frames before were written then, and no image. `Write`, where the screen failed or took no byte: a prefix of the
-/// frames was written, and no image; or where the image did: a prefix of it was written.
+/// `TextTooLong`, where source 0 has more than 2,147,483,647 bytes, `Edit`, where the session has
+/// no room for the first revision, and `Memory`: nothing was written then. `Read`, where the keys
+/// could not be read, or a byte that a frame shows. `TooManyKeys`, and `Memory`: all frames before
+/// were written then, and no image. `Write`, where the screen failed or took no byte: a prefix of
+/// the frames was written, and no image; or where the image did: a prefix of it was written.
 pub fn run_edit<S: Sources + Drop, K: io::Read, W: io::Write, I: io::Write>(
     alloc: Global,
     sources: S,
@@ -69,8 +70,8 @@ pub fn run_edit<S: Sources + Drop, K: io::Read, W: io::Write, I: io::Write>(
     conclude(&editor, end, image)
 }
 
-/// Edits as `run_edit` does, but behind keys that are played first, and with keys that are kept: each is written to the journal before
-/// it is taken, but for one that ends the run.
+/// Edits as `run_edit` does, but behind keys that are played first, and with keys that are kept: each is written to the
+/// journal before it is taken, but for one that ends the run.
 ///
 /// # Errors
 ///
@@ -99,7 +100,8 @@ pub fn run_kept<
     conclude(&editor, end, image)
 }
 
-/// Whether the file of an image may be replaced, of which these are the first bytes: it is empty, or begins as an image does.
+/// Whether the file of an image may be replaced, of which these
+/// are the first bytes: it is empty, or begins as an image does.
 ///
 /// # Errors
 ///

@@ -47,16 +47,17 @@ fn begun_onto<S: Sources>(
     }
 }
 
-/// Goes on with the session of an image, which is checked with the sources, by any number of looks at nodes, as `run_edit` goes on with the
-/// text of source 0: it begins at the first byte of the session's last text. The bytes of the older image are given back before the first
-/// frame. Behind the key Save it writes the image of the whole session, whose first revisions are the older image's.
+/// Goes on with the session of an image, which is checked with the sources, by any number of looks at
+/// nodes, as `run_edit` goes on with the text of source 0: it begins at the first byte of the
+/// session's last text. The bytes of the older image are given back before the first frame. Behind the
+/// key Save it writes the image of the whole session, whose first revisions are the older image's.
 ///
 /// # Errors
 ///
-/// In this order: `Refused`, where the older image is not accepted, and `Read`, where a row compares a byte of a source that could not be
-/// read; `TakeUp`, where no session goes on from it; `TextTooLong`, where some text of it has more than 2,147,483,647 bytes, or where it
-/// has no revision and source 0 has; `Edit`, where it has no revision and refuses its first; `Memory`: nothing was written then, and no
-/// key taken. Those of `run_edit` then.
+/// In this order: `Refused`, where the older image is not accepted, and `Read`, where a row compares a byte of a source
+/// that could not be read; `TakeUp`, where no session goes on from it; `TextTooLong`, where some text of it has more
+/// than 2,147,483,647 bytes, or where it has no revision and source 0 has; `Edit`, where it has no revision and refuses
+/// its first; `Memory`: nothing was written then, and no key taken. Those of `run_edit` then.
 pub fn run_edit_onto<S: Sources + Drop, K: io::Read, W: io::Write, I: io::Write>(
     alloc: Global,
     older: Vec<u8>,
@@ -75,8 +76,8 @@ pub fn run_edit_onto<S: Sources + Drop, K: io::Read, W: io::Write, I: io::Write>
     conclude(&editor, end, image)
 }
 
-/// Goes on as `run_edit_onto` does, but behind keys that are played first, and with keys that are kept: each is written to the journal
-/// before it is taken, but for one that ends the run.
+/// Goes on as `run_edit_onto` does, but behind keys that are played first, and with keys that are kept: each is written
+/// to the journal before it is taken, but for one that ends the run.
 ///
 /// # Errors
 ///

@@ -15,8 +15,8 @@ use session_checker::CheckFault;
 use std::alloc::AllocError;
 use thiserror::Error;
 
-/// A tool that refused its input or was stopped. The program prints the words on standard error; it ends with status 1 after a
-/// refusal, and with status 3 where it was stopped.
+/// A tool that refused its input or was stopped. The program prints the words on standard error; it ends with status 1
+/// after a refusal, and with status 3 where it was stopped.
 #[derive(Clone, Copy, Debug, PartialEq, Eq, Error)]
 pub enum ToolFault {
     /// An allocation was refused.

@@ -29,7 +29,8 @@ pub fn push_line(lines: &mut Vec<u8>, place: u64) -> Result<(), AllocError>
     lines.extend_from_slice(&line[start..])
 }
 
-/// The first place of the pattern in the first source, from its byte `start` on. The fault is `PatternTooLong`, `Read` or `Memory`.
+/// The first place of the pattern in the first source, from its byte
+/// `start` on. The fault is `PatternTooLong`, `Read` or `Memory`.
 fn first_place<T: Sources>(
     alloc: Global,
     sources: &mut T,
@@ -52,13 +53,13 @@ fn first_place<T: Sources>(
     Ok(find(alloc, &store, sources, file, start, pattern)?)
 }
 
-/// Writes the line of the first place of the pattern in the first source, from its byte `start` on, and answers `Success`. Where the
-/// pattern stands nowhere, it writes nothing, and answers `Failure`.
+/// Writes the line of the first place of the pattern in the first source, from its byte `start` on, and answers
+/// `Success`. Where the pattern stands nowhere, it writes nothing, and answers `Failure`.
 ///
 /// # Errors
 ///
-/// `PatternTooLong` for a pattern of more than 4,096 bytes. `Write`, where the writer failed or took no byte: a prefix of the line was
-/// written. `Read`, where the source could not be read. `Memory`.
+/// `PatternTooLong` for a pattern of more than 4,096 bytes. `Write`, where the writer failed or took no byte: a prefix
+/// of the line was written. `Read`, where the source could not be read. `Memory`.
 pub fn run_find<T: Sources, W: io::Write>(
     alloc: Global,
     sources: &mut T,

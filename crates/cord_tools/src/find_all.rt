@@ -36,8 +36,8 @@ fn next_in(finder: &Finder<'_>, bytes: &[u8], at: usize) -> Option<usize>
     }
 }
 
-/// Puts down the lines of the pattern's places in these bytes, which are those of a text from its place `first` on, and answers
-/// the place from which on to go on.
+/// Puts down the lines of the pattern's places in these bytes, which are those of
+/// a text from its place `first` on, and answers the place from which on to go on.
 fn found_in(
     lines: &mut Vec<u8>,
     finder: &Finder<'_>,
@@ -75,7 +75,8 @@ fn found_byte(lines: &mut Vec<u8>, byte: u8, bytes: &[u8], first: u64) -> Result
     Ok(first + bytes.len() as u64)
 }
 
-/// Puts down the lines of a pattern's places in place of other lines, by the search that is fast for it, and answers where to go on.
+/// Puts down the lines of a pattern's places in place of other lines,
+/// by the search that is fast for it, and answers where to go on.
 fn found_places(
     lines: &mut Vec<u8>,
     finder: &Finder<'_>,
@@ -108,8 +109,8 @@ fn read_part<T: Sources>(sources: &mut T, from: u64, part: &mut [u8]) -> Result<
     Ok(sources.read(0, from, part)?)
 }
 
-/// Puts down the lines of the pattern's places in the first source from its byte `from` on, as far as the window takes its bytes, in
-/// place of other lines, and answers the place from which on to go on.
+/// Puts down the lines of the pattern's places in the first source from its byte `from` on, as far as the window takes
+/// its bytes, in place of other lines, and answers the place from which on to go on.
 fn found_from<T: Sources>(
     lines: &mut Vec<u8>,
     finder: &Finder<'_>,
@@ -175,14 +176,15 @@ fn status_with(status: Status, lines: &[u8]) -> Status
     }
 }
 
-/// Writes the line of each place of the pattern in the first source, from its byte `start` on and each behind the end of the one
-/// before, and answers `Success`. Where the pattern stands nowhere, it writes nothing, and answers `Failure`. An empty pattern stands
-/// at each place up to the source's end.
+/// Writes the line of each place of the pattern in the first source, from its byte `start` on and each behind the end
+/// of the one before, and answers `Success`. Where the pattern stands nowhere, it writes nothing, and answers
+/// `Failure`. An empty pattern stands at each place up to the source's end.
 ///
 /// # Errors
 ///
-/// `PatternTooLong` for a pattern of more than 4,096 bytes. `Write`, where the writer failed or took no byte: a prefix of the lines
-/// was written. `Read`, where the source could not be read, and `Memory`: the lines of the first places were written.
+/// `PatternTooLong` for a pattern of more than 4,096 bytes. `Write`, where the writer
+/// failed or took no byte: a prefix of the lines was written. `Read`, where the source
+/// could not be read, and `Memory`: the lines of the first places were written.
 pub fn run_find_all<T: Sources, W: io::Write>(
     alloc: Global,
     sources: &mut T,
@@ -197,8 +199,8 @@ pub fn run_find_all<T: Sources, W: io::Write>(
     run_find_all_told(alloc, sources, start, pattern, writer, &mut Untold)
 }
 
-/// Does what `run_find_all` does, and tells on the way how many of the source's bytes are done, up to the first line, which it writes
-/// behind the end of that.
+/// Does what `run_find_all` does, and tells on the way how many of the source's
+/// bytes are done, up to the first line, which it writes behind the end of that.
 ///
 /// # Errors
 ///

@@ -33,7 +33,8 @@ fn read_some<R: Read>(reader: &mut R, buffer: &mut [u8]) -> Result<usize, ToolFa
     Err(ToolFault::Read)
 }
 
-/// Reads one piece, of at most `count` bytes, behind those that are there. It answers how many: 0 where the reader ended.
+/// Reads one piece, of at most `count` bytes, behind those that
+/// are there. It answers how many: 0 where the reader ended.
 fn read_piece<R: Read>(
     reader: &mut R,
     buffer: &mut [u8],
@@ -54,7 +55,8 @@ fn read_piece<R: Read>(
     Ok(read)
 }
 
-/// Reads behind the bytes that are there, until they are `limit`, or the reader ends. Room for `expected` of them is taken first.
+/// Reads behind the bytes that are there, until they are `limit`,
+/// or the reader ends. Room for `expected` of them is taken first.
 fn read_on<R: Read>(
     reader: &mut R,
     bytes: &mut Vec<u8>,
@@ -80,8 +82,9 @@ fn read_on<R: Read>(
     Ok(())
 }
 
-/// Reads an image: its header, and the rest where that has no fault by itself, up to one byte more than it states. A longer image is
-/// refused by what was read. Room for `expected` bytes is taken before the rest is read, but for no more than the header states.
+/// Reads an image: its header, and the rest where that has no fault by itself, up to one
+/// byte more than it states. A longer image is refused by what was read. Room for `expected`
+/// bytes is taken before the rest is read, but for no more than the header states.
 pub fn read_image<R: Read + Drop>(
     alloc: Global,
     reader: R,

@@ -24,7 +24,8 @@ use rope_store::Store;
 use std::alloc::Global;
 use std::io;
 
-/// The rope of `count` sources from source `first` on, in their order. It is made of the ropes of both halves, so it is not deep.
+/// The rope of `count` sources from source `first` on, in their
+/// order. It is made of the ropes of both halves, so it is not deep.
 fn join_range(store: &mut Store<Coded>, first: u32, count: u32) -> Result<Rope, BalanceFault>
     requires some { 1 ≤ count }
     requires there { first + count ≤ length store.old.sources }
@@ -47,6 +48,7 @@ fn join_range(store: &mut Store<Coded>, first: u32, count: u32) -> Result<Rope, 
     ensures kept { Extends (table_of coded_byte store.old) (table_of coded_byte store.new) }
     ensures sources { store.new.sources ≡ store.old.sources }
 {
+    // The store keeps its rules, as its count says, before and behind each half.
     let _count = store.count();
     if count == 1 {
         let len = store.source_len(first);
@@ -60,8 +62,8 @@ fn join_range(store: &mut Store<Coded>, first: u32, count: u32) -> Result<Rope, 
     cat_any(store, left, right)
 }
 
-/// The rope of all the store's sources in their order. Where they have 2^40 bytes or more together, it is refused, and else only memory
-/// is in the way.
+/// The rope of all the store's sources in their order. Where they have 2^40
+/// bytes or more together, it is refused, and else only memory is in the way.
 fn join_sources(store: &mut Store<Coded>) -> Result<Rope, BalanceFault>
     requires few { length store.old.sources ≤ MOST_SOURCES }
     requires no_nodes { store.old.nodes ≡ [] }
@@ -81,13 +83,14 @@ fn join_sources(store: &mut Store<Coded>) -> Result<Rope, BalanceFault>
     join_range(store, 0, count)
 }
 
-/// Writes the bytes of all the sources in their order, and nothing else. They are one rope before the first of them is written, so
-/// where they have 2^40 bytes or more together nothing is. Where a write or a read fails, a prefix of them was written.
+/// Writes the bytes of all the sources in their order, and nothing else. They are one
+/// rope before the first of them is written, so where they have 2^40 bytes or more
+/// together nothing is. Where a write or a read fails, a prefix of them was written.
 ///
 /// # Errors
 ///
-/// `Rope` with `TooLong`, and with no other refusal, where they have 2^40 bytes or more together. `Write`, where the writer failed or
-/// took no byte. `Read`, where a source could not be read. `Memory`.
+/// `Rope` with `TooLong`, and with no other refusal, where they have 2^40 bytes or more together. `Write`, where the
+/// writer failed or took no byte. `Read`, where a source could not be read. `Memory`.
 pub fn run_join<T: Sources, W: io::Write>(
     alloc: Global,
     sources: &mut T,

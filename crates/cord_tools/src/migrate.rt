@@ -11,14 +11,15 @@ use std::alloc::Global;
 use std::io;
 use work_progress::{Progress, Untold};
 
-/// Writes the image that the reader gives anew in version 2, with these sources, and nothing else, once it is checked by at most so many
-/// looks at nodes, if there is a limit. What is written is
-/// accepted with the same sources, and its texts are the image's. Room for `expected` bytes of the image is taken first.
+/// Writes the image that the reader gives anew in version 2, with these sources, and nothing else, once it is checked
+/// by at most so many looks at nodes, if there is a limit. What is written is accepted with the same sources, and its
+/// texts are the image's. Room for `expected` bytes of the image is taken first.
 ///
 /// # Errors
 ///
-/// `Refused`, with the fault of a refused image. `Read`, where the reader failed, or a source that a row compares, and `Memory`. Nothing
-/// was written then. `Write`, where the writer failed or took no byte: a prefix of the image in version 2 was written.
+/// `Refused`, with the fault of a refused image. `Read`, where the reader failed, or a
+/// source that a row compares, and `Memory`. Nothing was written then. `Write`, where
+/// the writer failed or took no byte: a prefix of the image in version 2 was written.
 pub fn run_migrate<R: io::Read + Drop, S: Sources, W: io::Write>(
     alloc: Global,
     reader: R,
@@ -41,7 +42,8 @@ pub fn run_migrate<R: io::Read + Drop, S: Sources, W: io::Write>(
     )
 }
 
-/// Does what `run_migrate` does, and tells on the way how many of the image's records are checked, and before it writes that they are.
+/// Does what `run_migrate` does, and tells on the way how many of the
+/// image's records are checked, and before it writes that they are.
 ///
 /// # Errors
 ///

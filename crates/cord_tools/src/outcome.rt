@@ -41,8 +41,8 @@ fn fault_status(fault: ToolFault) -> u8
     }
 }
 
-/// The status that the program ends with: 0 for accepted, found or equal; 1 for refused, not found or different; 2 for words that
-/// it does not know; 3 where it was stopped by want of memory, or by an input or an output that failed.
+/// The status that the program ends with: 0 for accepted, found or equal; 1 for refused, not found or different; 2 for
+/// words that it does not know; 3 where it was stopped by want of memory, or by an input or an output that failed.
 pub fn exit_status(outcome: Outcome) -> u8
     ensures { result ≡ exit_status outcome }
 {

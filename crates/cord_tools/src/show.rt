@@ -10,13 +10,15 @@ use session_checker::check_at_most;
 use std::alloc::Global;
 use std::io;
 
-/// Writes the text of revision `revision` of the image that the reader gives, with these sources, and nothing else, once the image
-/// is checked by at most so many looks at nodes, if there is a limit. Room for `expected` bytes of the image is taken first.
+/// Writes the text of revision `revision` of the image that the reader gives, with these
+/// sources, and nothing else, once the image is checked by at most so many looks at
+/// nodes, if there is a limit. Room for `expected` bytes of the image is taken first.
 ///
 /// # Errors
 ///
-/// `Refused`, with the fault of a refused image. `NoRevision`, where there is no such revision. `Read`, where the reader failed, or a
-/// source that a row compares, and `Memory`. Nothing was written then. `Write`, where the writer failed or took no byte. `Read` and
+/// `Refused`, with the fault of a refused image. `NoRevision`, where there is no such
+/// revision. `Read`, where the reader failed, or a source that a row compares, and `Memory`.
+/// Nothing was written then. `Write`, where the writer failed or took no byte. `Read` and
 /// `Memory` also where a source's read failed so. Then a prefix of the text was written.
 pub fn run_show<R: io::Read + Drop, S: Sources, W: io::Write>(
     alloc: Global,

@@ -11,8 +11,8 @@ use lazy_file::SOURCE_LIMIT;
 use std::alloc::Global;
 use std::io;
 
-/// Reads the text of a source that tells no size, and at most 2^40 bytes of it. That is one more than a source may have, so a longer
-/// one is refused by what was read.
+/// Reads the text of a source that tells no size, and at most 2^40 bytes of it. That is one more than a source may
+/// have, so a longer one is refused by what was read.
 ///
 /// # Errors
 ///

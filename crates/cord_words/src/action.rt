@@ -37,8 +37,8 @@ pub enum Action<'a> {
     Join {
         files: Vec<&'a str>,
     },
-    /// Write the place at which a pattern first occurs in a file, from its byte `start` on, or all such places, each behind the end of
-    /// the one before.
+    /// Write the place at which a pattern first occurs in a file, from its byte
+    /// `start` on, or all such places, each behind the end of the one before.
     Find {
         all: bool,
         start: u64,
@@ -50,10 +50,11 @@ pub enum Action<'a> {
         first: &'a str,
         second: &'a str,
     },
-    /// Edit a text on the screen, which begins as that of a file or empty, or go on with the session of the image `onto`, where there is
-    /// one, which was made over that file. Save its session as an image. Keep the keys of the terminal
-    /// in the file `keys`, where there is one, and begin with those that it has. Under `no_clobber` an image that is there is refused.
-    /// The file `session`, where there is one, has what there was when the session began, and goes once the image is saved.
+    /// Edit a text on the screen, which begins as that of a file or empty, or go on with the session of
+    /// the image `onto`, where there is one, which was made over that file. Save its session as an
+    /// image. Keep the keys of the terminal in the file `keys`, where there is one, and begin with
+    /// those that it has. Under `no_clobber` an image that is there is refused. The file `session`,
+    /// where there is one, has what there was when the session began, and goes once the image is saved.
     Edit {
         onto: Option<&'a str>,
         keys: Option<&'a str>,
@@ -66,17 +67,17 @@ pub enum Action<'a> {
     Discard {
         keys: &'a str,
     },
-    /// Write the script of the image of a file, whose session has these sources. So many looks may its check take. Where it is `brief`,
-    /// long texts are cut short.
+    /// Write the script of the image of a file, whose session has these sources. So many looks may its check take.
+    /// Where it is `brief`, long texts are cut short.
     Log {
         at_most: Option<u64>,
         brief: bool,
         image: &'a str,
         sources: Vec<&'a str>,
     },
-    /// Write where `count` bytes of the text of a revision of the image of a file come from, from its byte `start` on: all that there are,
-    /// where no count is given, and from its first one, where no start is. The session has these sources. So many looks may its check
-    /// take.
+    /// Write where `count` bytes of the text of a revision of the image of a file come from,
+    /// from its byte `start` on: all that there are, where no count is given, and from its first
+    /// one, where no start is. The session has these sources. So many looks may its check take.
     Blame {
         at_most: Option<u64>,
         start: Option<u64>,
@@ -85,16 +86,16 @@ pub enum Action<'a> {
         revision: u64,
         sources: Vec<&'a str>,
     },
-    /// Make the bytes of a file the last text of the image of a file, whose session has these sources: the image is made where there is
-    /// none. So many looks may its check take.
+    /// Make the bytes of a file the last text of the image of a file, whose session has these sources: the image is
+    /// made where there is none. So many looks may its check take.
     Commit {
         at_most: Option<u64>,
         image: &'a str,
         file: &'a str,
         sources: Vec<&'a str>,
     },
-    /// Write the image of the session that a script makes, over files of these lengths: behind the last revision of the image `onto`,
-    /// where there is one, whose session has these sources. So many looks may the check of that one take.
+    /// Write the image of the session that a script makes, over files of these lengths: behind the last revision of the
+    /// image `onto`, where there is one, whose session has these sources. So many looks may the check of that one take.
     Apply {
         onto: Option<&'a str>,
         at_most: Option<u64>,

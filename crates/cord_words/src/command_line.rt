@@ -27,14 +27,14 @@ const VERSION: &str = "1.0.0 (rattle-kit-13f logic dac8208d650f15bf)";
 ///
 /// # Errors
 ///
-/// `Usage`, where `clap` does not take the words, a number does not read, `--discard` stands beside a word for a session, or `--at-most` of
-/// `apply` without `--onto`, with the text for the user. `Version`, with the text that
-/// was asked for. `Memory`.
+/// `Usage`, where `clap` does not take the words, a number does not read, `--discard`
+/// stands beside a word for a session, or `--at-most` of `apply` without `--onto`,
+/// with the text for the user. `Version`, with the text that was asked for. `Memory`.
 pub fn words<'a>(alloc: Global, words: &'a [String]) -> Result<Request<'a>, WordsFault>
     ensures asks { IfOk result (Asks (line_of words.entry.now)) }
 
-    // A request is read only of words in which `clap` finds no fault, and where it takes them, each number reads, `--discard` stands
-    // alone and `--at-most` beside an image, nothing but memory is in the way.
+    // A request is read only of words in which `clap` finds no fault, and where it takes them, each number reads,
+    // `--discard` stands alone and `--at-most` beside an image, nothing but memory is in the way.
     ensures faultless { OnOk result (fault_of cordkit_app (line_of words.entry.now) ≡ []) }
     ensures only_memory { IfErr result (λ f. takes cordkit_app (line_of words.entry.now) ≡ true
         → NumbersRead (subcommand_of cordkit_app (line_of words.entry.now))
@@ -80,7 +80,8 @@ fn is_said(matches: &ArgMatches<'_>, flag: &str) -> bool
     }
 }
 
-// The action that the matches ask for. Where a number does not read, or words do not go together, the fault is one of `command`.
+// The action that the matches ask for. Where a number does not
+// read, or words do not go together, the fault is one of `command`.
 fn action_of<'a>(
     alloc: Global,
     command: &mut Command<'a>,

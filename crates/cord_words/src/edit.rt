@@ -52,7 +52,8 @@ fn names_session(given: &ArgMatches<'_>) -> bool
         || given::has(given, "FILE")
 }
 
-/// The action of what was given. Where `--discard` stands beside a word that is for a session, the fault is one of `command`.
+/// The action of what was given. Where `--discard` stands beside
+/// a word that is for a session, the fault is one of `command`.
 pub fn action<'a>(
     command: &mut Command<'a>,
     given: &ArgMatches<'a>,

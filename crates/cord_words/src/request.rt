@@ -2,7 +2,8 @@
 
 use crate::action::Action;
 
-/// What the program is to do, whether it tells nothing of how far it is, and whether it then explains a refusal or a fault.
+/// What the program is to do, whether it tells nothing of how
+/// far it is, and whether it then explains a refusal or a fault.
 #[derive(Debug, Drop, PartialEq, Eq)]
 pub struct Request<'a> {
     pub explain: bool,

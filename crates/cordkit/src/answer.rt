@@ -26,7 +26,8 @@ impl fmt::Display for Note {
     }
 }
 
-/// A writer, of which the first bytes that it takes are kept, and so is a refusal that is told elsewhere: it is what is explained.
+/// A writer, of which the first bytes that it takes are kept, and
+/// so is a refusal that is told elsewhere: it is what is explained.
 #[derive(Drop)]
 pub struct Answer<W> {
     writer: W,

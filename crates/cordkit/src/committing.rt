@@ -146,8 +146,8 @@ fn committed<L: Ledger>(
     commit_onto::<L>(rt, words, older, text, image, meter, blank)
 }
 
-/// Makes what a file holds now the last text of an image, and puts the new image in the place of the one that was there when it was read.
-/// Answers on standard output which revision has it.
+/// Makes what a file holds now the last text of an image, and puts the new image in the place of the one that was there
+/// when it was read. Answers on standard output which revision has it.
 pub fn commit<L: Ledger>(
     rt: &HostRuntime,
     words: Committing<'_>,

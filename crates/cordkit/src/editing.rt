@@ -204,8 +204,8 @@ pub(crate) fn sources_of<L: Ledger>(
     }
 }
 
-/// Edits a file, or an empty text, or goes on with an image, and saves the session. The image is looked at before, and opened when it is
-/// saved.
+/// Edits a file, or an empty text, or goes on with an image, and saves the
+/// session. The image is looked at before, and opened when it is saved.
 pub fn edit<L: Ledger, W>(
     rt: &HostRuntime,
     words: Editing<'_>,

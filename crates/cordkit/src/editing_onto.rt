@@ -47,8 +47,8 @@ fn opened_older<L: Ledger>(
     })
 }
 
-/// The image of a session over an older one. Where a session begins that is to take the older one's place, that one has to be there still, as
-/// it was when it was opened.
+/// The image of a session over an older one. Where a session begins that is to take the older one's place, that one has
+/// to be there still, as it was when it was opened.
 fn image_over<'a>(
     rt: &'a HostRuntime,
     words: Editing<'_>,
@@ -68,8 +68,8 @@ fn image_over<'a>(
     }
 }
 
-/// Puts an image that is whole in its place. Its keys are set aside meanwhile: they are over the older image, which may be the one whose
-/// place it takes.
+/// Puts an image that is whole in its place. Its keys are set aside meanwhile:
+/// they are over the older image, which may be the one whose place it takes.
 fn put_behind(journal: &Journal<'_>, image: &ImageFile<'_>) -> Result<Put, ToolFault> {
     if !image.takes_place() {
         return image.put();
@@ -115,8 +115,8 @@ fn saved_before<S: Sources + Drop>(
     Ok(Put::Before)
 }
 
-/// Goes on with an image, and keeps the keys until they are saved. Their file is locked before the image is opened: so no two sessions go on
-/// from one image.
+/// Goes on with an image, and keeps the keys until they are saved. Their file is
+/// locked before the image is opened: so no two sessions go on from one image.
 fn edit_kept<L: Ledger>(
     rt: &HostRuntime,
     words: Editing<'_>,
@@ -194,7 +194,8 @@ fn edit_unkept<L: Ledger>(
     finish(status, image)
 }
 
-/// Goes on with the image at this path, over the file that it was made over, and saves the session as the image of the words.
+/// Goes on with the image at this path, over the file that it was
+/// made over, and saves the session as the image of the words.
 pub fn edit_onto<L: Ledger>(
     rt: &HostRuntime,
     words: Editing<'_>,

@@ -50,8 +50,8 @@ fn refuse_taking<W>(
     Ok(Status::Failure)
 }
 
-/// Writes the image of the session that a script makes behind the last revision of an image, which is checked by so many looks at most, if
-/// there is a limit. The files are opened in this order: the image, the script, the sources.
+/// Writes the image of the session that a script makes behind the last revision of an image, which is checked by so
+/// many looks at most, if there is a limit. The files are opened in this order: the image, the script, the sources.
 pub fn apply_onto<L: Ledger, W>(
     rt: &HostRuntime,
     image: &str,

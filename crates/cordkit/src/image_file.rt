@@ -37,8 +37,9 @@ pub enum Put {
     Beside(String),
 }
 
-/// The file of an image, which is made when its first byte is written: beside the one that it is to replace, which is as it was until
-/// the image is whole. What is there and is no regular file is written where it is, and so is one in a folder that takes no new file.
+/// The file of an image, which is made when its first byte is written: beside the one that
+/// it is to replace, which is as it was until the image is whole. What is there and is no
+/// regular file is written where it is, and so is one in a folder that takes no new file.
 #[derive(Drop)]
 pub struct ImageFile<'a> {
     rt: &'a HostRuntime,
@@ -58,7 +59,8 @@ pub struct ImageFile<'a> {
     file: Option<File>,
 }
 
-/// Whether a regular file is empty or an image. One that is not is refused, and one that cannot be read may not be replaced.
+/// Whether a regular file is empty or an image. One that is not
+/// is refused, and one that cannot be read may not be replaced.
 fn is_image(rt: &HostRuntime, path: &str) -> Result<bool, ToolFault> {
     let mut front = Vec::new(rt.alloc());
     let read = match open(rt, path) {
@@ -134,8 +136,8 @@ fn rename(rt: &HostRuntime, part: &str, path: &str) -> Result<bool, ToolFault> {
     }
 }
 
-/// Gives the file `part` the name of a file that is still as it was. Answers whether it was so. Sessions that save to one name at once
-/// hold a lock on what is there: one of them finds what the other has put there.
+/// Gives the file `part` the name of a file that is still as it was. Answers whether it was so. Sessions that save to
+/// one name at once hold a lock on what is there: one of them finds what the other has put there.
 fn put_over(rt: &HostRuntime, part: &str, path: &str, state: FileState) -> Result<bool, ToolFault> {
     if state_at(rt, path) != Some(state) {
         return Ok(false);
@@ -199,8 +201,8 @@ impl<'a> ImageFile<'a> {
         is_part || is_named(self.rt, self.path.as_str(), file)
     }
 
-    /// What is there. A second name of it is taken away first, where one stands beside it as a crash leaves it behind the first image
-    /// of a name.
+    /// What is there. A second name of it is taken away first, where one
+    /// stands beside it as a crash leaves it behind the first image of a name.
     pub fn look(&self) -> Option<FileState> {
         let state = state_at(self.rt, self.path.as_str())?;
         let Some(part) = &self.part else {
@@ -209,6 +211,7 @@ impl<'a> ImageFile<'a> {
         if state_at(self.rt, part.as_str()) != Some(state) {
             return Some(state);
         }
+        // What stays is the image itself, which no session writes to.
         let _ = fs::remove_file(self.rt, part.as_str());
         state_at(self.rt, self.path.as_str())
     }
@@ -234,8 +237,8 @@ impl<'a> ImageFile<'a> {
         self.file.is_some() && self.is_as_begun()
     }
 
-    /// Where this file is the one that is to be replaced, it is so by a file beside it alone: what is written where it stands would be lost
-    /// where that fails.
+    /// Where this file is the one that is to be replaced, it is so by a file beside
+    /// it alone: what is written where it stands would be lost where that fails.
     pub fn keep_whole(&mut self, older: &File) -> Result<(), ToolFault> {
         if self.part.is_none() && is_named(self.rt, self.path.as_str(), older) {
             return Err(ToolFault::Write);
@@ -268,12 +271,13 @@ impl<'a> ImageFile<'a> {
         }
     }
 
-    /// Makes the file beside the one that it is to replace. One that a session left there is taken away first, and not written to: it
-    /// may be the image itself by a second name.
+    /// Makes the file beside the one that it is to replace. One that a session left there is taken away first, and not
+    /// written to: it may be the image itself by a second name.
     fn make_part(&self, part: &str) -> io::Result<File> {
         remove_left(self.rt, part)?;
         let file = File::create_new(self.rt, part)?;
         if let Err(error) = self.prepare(&file) {
+            // What stays is replaced by the next image.
             let _ = fs::remove_file(self.rt, part);
             return Err(error);
         }

@@ -13,12 +13,14 @@ use std::time::{Duration, Instant};
 use std::{fs, io};
 use terminal_keys::TerminalKeys;
 
-/// A key is synced where the last sync is over for so many times as long as it took, and for so many milliseconds at most.
+/// A key is synced where the last sync is over for so many times
+/// as long as it took, and for so many milliseconds at most.
 const REST: u32 = 16;
 
 const LONGEST_REST: u64 = 1000;
 
-/// A file that is synced as keys come: each one, where they come no faster than the device syncs them with rests between.
+/// A file that is synced as keys come: each one, where they come
+/// no faster than the device syncs them with rests between.
 #[derive(Drop)]
 struct SyncedFile<'a> {
     rt: &'a HostRuntime,
@@ -94,7 +96,8 @@ fn is_regular(file: &File) -> bool {
     }
 }
 
-/// Locks a file of keys that was opened. A session that ended meanwhile may have taken it away, so that another one has its name.
+/// Locks a file of keys that was opened. A session that ended
+/// meanwhile may have taken it away, so that another one has its name.
 fn lock(rt: &HostRuntime, path: &str, file: &File) -> Result<(), ToolFault> {
     if !is_regular(file) {
         return Err(ToolFault::OtherKeys);
@@ -140,8 +143,8 @@ fn reopen_locked(rt: &HostRuntime, path: &str, keys: FileBirth) -> Result<File, 
 ///
 /// # Errors
 ///
-/// `KeysGone`, where there is none, `OtherKeys`, where it is no file of keys, and `KeysInUse`, where a session has it. `Read`, `Write` and
-/// `Memory`.
+/// `KeysGone`, where there is none, `OtherKeys`, where it is no file of keys,
+/// and `KeysInUse`, where a session has it. `Read`, `Write` and `Memory`.
 pub fn discard(rt: &HostRuntime, path: &str) -> Result<Status, ToolFault> {
     let file = match fs::open(rt, path) {
         Ok(file) => file,
@@ -166,6 +169,7 @@ pub fn discard(rt: &HostRuntime, path: &str) -> Result<Status, ToolFault> {
 fn all_of(rt: &HostRuntime, file: &File) -> Result<Vec<u8>, ToolFault> {
     let mut reader = file;
     let mut bytes = Vec::new(rt.alloc());
+    // The bytes tell how many they are.
     let _ = reader.read_to_end(&mut bytes).map_err(told)?;
     Ok(bytes)
 }
@@ -190,8 +194,8 @@ fn aside_locked(rt: &HostRuntime, path: &str) -> Result<Option<File>, ToolFault>
     }
 }
 
-/// The file of keys of a session over an image, which is locked before the image is opened; and the one that was set aside, if there is
-/// one. A session that goes on has that one alone, where its Save did not end.
+/// The file of keys of a session over an image, which is locked before the image is opened; and the one that was set
+/// aside, if there is one. A session that goes on has that one alone, where its Save did not end.
 #[derive(Drop)]
 pub struct LockedKeys {
     file: Option<File>,
@@ -225,8 +229,8 @@ impl LockedKeys {
         }
     }
 
-    /// Locks the file that was set aside. A session that could not save may have given it its name back meanwhile, so that the file that
-    /// was made here has none.
+    /// Locks the file that was set aside. A session that could not save may have given
+    /// it its name back meanwhile, so that the file that was made here has none.
     fn find_aside(&mut self, rt: &HostRuntime, path: &str) -> Result<(), ToolFault> {
         self.aside = aside_locked(rt, path)?;
         match &self.file {
@@ -256,6 +260,7 @@ impl LockedKeys {
             Err(_) => false,
         };
         if is_empty && is_named(rt, path, file) {
+            // One that stays has no key.
             let _ = fs::remove_file(rt, path);
         }
     }
@@ -284,8 +289,8 @@ impl<'a> Journal<'a> {
         Journal::begun(rt, path, file, bytes, &header)
     }
 
-    /// The file that is locked, for a session over an image and these sources. The one that was set aside gets its name back, where its
-    /// keys are over this image and the file has none: the save behind those keys did not end.
+    /// The file that is locked, for a session over an image and these sources. The one that was set aside gets its name
+    /// back, where its keys are over this image and the file has none: the save behind those keys did not end.
     pub fn onto<S: Sources>(
         rt: &'a HostRuntime,
         path: &'a str,
@@ -314,8 +319,8 @@ impl<'a> Journal<'a> {
         }
     }
 
-    /// The file that is locked and has these bytes. A header that is torn is written to its end, and the header of a session over another
-    /// text, which took no key, is written anew.
+    /// The file that is locked and has these bytes. A header that is torn is written to its end, and the header of a
+    /// session over another text, which took no key, is written anew.
     fn begun(
         rt: &'a HostRuntime,
         path: &'a str,
@@ -362,7 +367,8 @@ impl<'a> Journal<'a> {
         self.bytes.get(HEADER_SIZE..).unwrap_or(&[])
     }
 
-    /// Whether a file is the image of its keys, if they make one: a session that was saved may have ended before they were taken away.
+    /// Whether a file is the image of its keys, if they make one: a
+    /// session that was saved may have ended before they were taken away.
     pub fn is_saved<S: Sources + Drop>(&self, path: &str, sources: S) -> Result<bool, ToolFault> {
         let keys = self.keys();
         if only_look(keys) {
@@ -429,8 +435,8 @@ impl<'a> Journal<'a> {
         )
     }
 
-    /// Sets it aside, and syncs its folder: the image of its session is to take the place of the one that its keys are over. A file that
-    /// was set aside before is replaced.
+    /// Sets it aside, and syncs its folder: the image of its session is to take the place of the one that its keys are
+    /// over. A file that was set aside before is replaced.
     pub fn set_aside(&self) -> Result<(), ToolFault> {
         if !is_named(self.rt, self.path, &self.file) {
             return Err(ToolFault::KeysGone);
@@ -440,7 +446,8 @@ impl<'a> Journal<'a> {
         Ok(())
     }
 
-    /// Gives it its name back, where the image is not in its place. What stays aside is found by the next session over the older image.
+    /// Gives it its name back, where the image is not in its place. What
+    /// stays aside is found by the next session over the older image.
     pub fn bring_back(&self) {
         let _ = fs::rename(self.rt, self.aside.as_str(), self.path);
         sync_folder(self.rt, self.path);

@@ -326,8 +326,8 @@ fn run_over_image<L: Ledger, W: io::Write>(
     }
 }
 
-/// Does what the words ask for. Files are opened in the order of the words before anything is written, the image of `edit` when it is
-/// saved.
+/// Does what the words ask for. Files are opened in the order of the words
+/// before anything is written, the image of `edit` when it is saved.
 fn run<L: Ledger, W: io::Write>(
     rt: &HostRuntime,
     action: &Action<'_>,
@@ -474,6 +474,7 @@ fn refused_words(rt: &HostRuntime, fault: WordsFault) -> Outcome {
             Err(_) => outcome(rt, Err(ToolFault::Write)),
         },
         WordsFault::Usage(error) => {
+            // There is no other place to tell that standard error is closed.
             let _ = rt.eprint(error);
             Outcome::Misused
         }

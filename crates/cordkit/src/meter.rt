@@ -12,8 +12,8 @@ const MOST: u64 = 16_384;
 
 const LONG: u64 = 100;
 
-/// A line on the terminal of standard error, which says what part of some work is done once the work has run for a second, and then
-/// once a second. It is wiped before anything is written. Where the meter is quiet there is none.
+/// A line on the terminal of standard error, which says what part of some work is done once the work has run for a
+/// second, and then once a second. It is wiped before anything is written. Where the meter is quiet there is none.
 #[derive(Drop)]
 pub struct Meter<'a> {
     rt: &'a HostRuntime,
@@ -23,7 +23,8 @@ pub struct Meter<'a> {
     all: u64,
     /// When the line was written last, or the work began, where there is somebody to tell.
     told: Option<Instant>,
-    /// When the clock was asked last, how many parts were to pass then, and how many parts there are when it is asked next.
+    /// When the clock was asked last, how many parts were to pass
+    /// then, and how many parts there are when it is asked next.
     asked: Option<Instant>,
     step: u64,
     next: u64,
@@ -117,6 +118,7 @@ impl Progress for Meter<'_> {
     fn end(&mut self) {
         self.told = None;
         if self.stands {
+            // There is no other place to tell that standard error is closed.
             let _ = self.rt.eprint("\r\x1b[K");
             self.stands = false;
         }

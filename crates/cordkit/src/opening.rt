@@ -49,8 +49,8 @@ pub struct OpenedImage<L: Ledger> {
     pub sources: OpenedSources<L>,
 }
 
-/// A file that tells its size is read where it lies, and its reads are counted by two parts of these. Another one is read now, to its
-/// end.
+/// A file that tells its size is read where it lies, and its reads are
+/// counted by two parts of these. Another one is read now, to its end.
 fn opened_device<L: Ledger>(
     rt: &HostRuntime,
     path: &str,

@@ -1,4 +1,5 @@
-//! The file of a session: what there was when it began. A session that goes on finds it, and it goes once the image is saved.
+//! The file of a session: what there was when it began. A session
+//! that goes on finds it, and it goes once the image is saved.
 
 use crate::file_state::{FileBirth, FileState, Moment};
 use crate::opening::told;
@@ -64,7 +65,8 @@ fn parsed(numbers: &[u64]) -> Option<Beginning> {
     Some(Beginning { keys, image })
 }
 
-/// What a session began with that goes on, as its file tells. Where the file is not there, or is empty, the session begins.
+/// What a session began with that goes on, as its file tells.
+/// Where the file is not there, or is empty, the session begins.
 ///
 /// # Errors
 ///

@@ -1,5 +1,8 @@
 //! Roots built from earlier ones, from left to right.
 
+// The lines `let _count = store.count();` and `let _more = ..` are
+// for the proof: the store keeps its rules, as its count says.
+
 ghost use Rattle.std.specs.Prelude.{◌≡◌, ◌+◌, ◌<◌, ◌≤◌, [], ◌∷◌, ◌++◌, length, take, get_or, None};
 ghost use Rattle.function_leaf.specs.Coded.{coded_byte};
 ghost use Rattle.rope_node.specs.Denotes.{rope_len, IsRope};
@@ -268,8 +271,8 @@ pub fn times_handed(command: &Command<'_>) -> usize
     }
 }
 
-/// The root that a command in range gives over the roots of these revisions. The places of the bytes that it hands in are
-/// written down in their order.
+/// The root that a command in range gives over the roots of these revisions.
+/// The places of the bytes that it hands in are written down in their order.
 pub fn build(
     store: &mut Store<Coded>,
     revisions: &[Revision],

@@ -215,6 +215,7 @@ fn kept_and_added(store: &Store<Coded>, revisions: &[Revision], command: &Comman
         }
         Command::Join { r, q } => (len_at(store, revisions, r), len_at(store, revisions, q)),
         Command::Cut { r, n, .. } => {
+            // What is cut lies in a text that is short enough, as its length says.
             let _whole = len_at(store, revisions, r);
             (n, 0)
         }

@@ -241,6 +241,7 @@ pub fn revise(
     requires room { room + rows_held revisions.now ≡ ROWS_LIMIT }
     ensures { Revises store.old revisions.now command.now result store.new }
 {
+    // The store keeps its rules, as its count says.
     let _nodes = store.count();
     let times = times_handed(command);
     // Most commands hand in bytes once, and take no memory for their place.

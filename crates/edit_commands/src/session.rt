@@ -92,10 +92,11 @@ impl Session {
     ///
     /// # Errors
     ///
-    /// Before anything changes, the first that there is of `NoRevision`, `SpliceCount`, `NoSource`, `Range`, `EmptyText`,
-    /// `TooManyRevisions`, `TooManySplices`, and `Node` with `TooLong` where the text would have 2^40 bytes or more or more than
-    /// 65,536 were handed in at once, for `Many` by one change. Else what is met on the way: `Node` with `TableFull` or `PoolFull`, `TooManyPieces`,
-    /// `TooManyRows`, `Memory`. Every earlier revision is then as before.
+    /// Before anything changes, the first that there is of `NoRevision`, `SpliceCount`, `NoSource`,
+    /// `Range`, `EmptyText`, `TooManyRevisions`, `TooManySplices`, and `Node` with `TooLong` where
+    /// the text would have 2^40 bytes or more or more than 65,536 were handed in at once, for
+    /// `Many` by one change. Else what is met on the way: `Node` with `TableFull` or `PoolFull`,
+    /// `TooManyPieces`, `TooManyRows`, `Memory`. Every earlier revision is then as before.
     pub fn apply(&mut self, command: Command<'_>) -> Result<u32, EditFault>
         requires { TakesAll command }
         ensures { AppliesOrNot self.old command.entry result self.new }
@@ -145,8 +146,8 @@ impl Session {
         Ok(count)
     }
 
-    /// Puts a revision behind the others whose command, root and rows are certified, with the exact mark, and answers its number. The rows are
-    /// these where each is the longest, and else made anew.
+    /// Puts a revision behind the others whose command, root and rows are certified, with the exact mark, and answers
+    /// its number. The rows are these where each is the longest, and else made anew.
     ///
     /// # Errors
     ///

@@ -59,8 +59,8 @@ fn split_line(script: &[u8]) -> (&[u8], Option<&[u8]>)
 ///
 /// # Errors
 ///
-/// The first line that is not taken, and why: it has words that are no command, the session refused its command, or memory was. The
-/// commands of the lines before it are applied then.
+/// The first line that is not taken, and why: it has words that are no command, the session refused its command, or
+/// memory was. The commands of the lines before it are applied then.
 pub fn apply_script(session: &mut Session, script: &[u8], room: &mut Room) -> Result<(), Stopped>
     ensures { TakesLines session.old 0 (lines_of script.now) result session.new }
 {

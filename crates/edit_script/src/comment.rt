@@ -5,8 +5,8 @@ ghost use Rattle.edit_script.specs.Scripts.{comment_of, noted_in};
 
 use std::alloc::{AllocError, Global};
 
-/// What is told of a revision: its number, its text's length in bytes, its rope's depth, whether it is marked as balanced, and how many
-/// rows it has.
+/// What is told of a revision: its number, its text's length in bytes, its
+/// rope's depth, whether it is marked as balanced, and how many rows it has.
 #[derive(Clone, Copy, Debug, PartialEq, Eq)]
 pub struct Note {
     pub number: u32,

@@ -10,8 +10,8 @@ ghost use Rattle.edit_script.specs.Texts.{SayTheSame};
 ghost use Rattle.edit_script.specs.Applied.{TakesLines, lines_of};
 ghost use Rattle.edit_script.specs.Scripts.{AreInside, ReadsScript, words_held, Printed, IsPrinted, script_of};
 
-/// A command stands in the line that it is printed as, whatever comment follows; and no line is two commands. So what was printed
-/// is read again, and as no other command.
+/// A command stands in the line that it is printed as, whatever comment follows; and no line is two commands. So what
+/// was printed is read again, and as no other command.
 pub fn reads_as_printed()
     ensures printed { (ws : List Word) (tail : List ℕ) → IsPrintable ws → IsTail tail
         → HasWords (line_of ws ++ tail) ws }
@@ -19,7 +19,8 @@ pub fn reads_as_printed()
         → HasWords line ws → HasWords line vs → ws ≡ vs }
 {}
 
-/// Commands that say the same, over the same sources, have the same history, wherever the bytes that they hand in stand.
+/// Commands that say the same, over the same sources, have the
+/// same history, wherever the bytes that they hand in stand.
 pub fn says_the_texts()
     ensures { (g h : Givens ℕ) (es fs : List FullEdit) (xs ys : List (List ℕ)) → SayTheSame g h es fs
         → IsHistory g es xs → IsHistory h fs ys → xs ≡ ys }

@@ -26,12 +26,13 @@ fn read_line(line: &[u8], room: &mut Room) -> Result<Option<Edit>, LineFault>
     Ok(Some(edit))
 }
 
-/// The command that a line says, none where it has no words. The bytes and the changes that it hands in are put into the room, in place
-/// of what was there, and the command names their place in it.
+/// The command that a line says, none where it has no words. The bytes and the changes that it hands in are put into
+/// the room, in place of what was there, and the command names their place in it.
 ///
 /// # Errors
 ///
-/// `NoCommand`, where the line has words that are no command. `Memory`, where memory was refused, or there are 2^32 changes or more.
+/// `NoCommand`, where the line has words that are no command. `Memory`,
+/// where memory was refused, or there are 2^32 changes or more.
 pub fn parse_line(line: &[u8], room: &mut Room) -> Result<Option<Edit>, LineFault>
     // What is read stands in the line.
     ensures found { IfOk result (λ x. IsLine (said room.new x) × HasWords line.now (said room.new x)) }

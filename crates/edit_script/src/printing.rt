@@ -150,8 +150,8 @@ fn push_texts(
     }
 }
 
-/// Puts a command's line behind what is in `out`, without the line's end. The bytes that it names are those of the pool, its splices
-/// these.
+/// Puts a command's line behind what is in `out`, without the line's end.
+/// The bytes that it names are those of the pool, its splices these.
 ///
 /// # Errors
 ///

@@ -32,8 +32,9 @@ fn compared_bytes(image: &Image) -> u64
     bytes
 }
 
-/// The most looks at nodes that the check of an image takes: one for each node, two for each revision, `LOOKS_LIMIT` for each row, and
-/// as many for each byte of the rows that compare bytes, of which each counts for at most `BYTES_LIMIT`.
+/// The most looks at nodes that the check of an image takes: one for each node,
+/// two for each revision, `LOOKS_LIMIT` for each row, and as many for each byte of
+/// the rows that compare bytes, of which each counts for at most `BYTES_LIMIT`.
 pub fn looks_bound(image: &Image) -> u64
     ensures { result ≡ looks_bound image.now }
 {

@@ -38,8 +38,8 @@ pub fn numbers_in(bytes: &[u8]) -> Numbers
     }
 }
 
-/// The command of a code, over these numbers, where the commands before it have `first` splices. A code that stands for none is
-/// read as that of an empty text.
+/// The command of a code, over these numbers, where the commands before it have
+/// `first` splices. A code that stands for none is read as that of an empty text.
 pub fn edit_by(first: u32, code: u8, numbers: Numbers) -> Edit
     ensures { result ≡ edit_by first code (field_of numbers) }
 {

@@ -93,8 +93,8 @@ pub fn read_header(bytes: &[u8]) -> Result<Header, ReadFault>
     Ok(header)
 }
 
-/// How many bytes of an image are judged, by its header: those of the header, where that has a fault by itself, else one more than it
-/// states. No byte behind them changes whether it is an image, nor its first fault.
+/// How many bytes of an image are judged, by its header: those of the header, where that has a fault by itself, else
+/// one more than it states. No byte behind them changes whether it is an image, nor its first fault.
 pub fn judged_len(header: &[u8]) -> u64
     requires { length header.now ≡ HEADER_SIZE }
     ensures value { result ≡ judged_len header.now }

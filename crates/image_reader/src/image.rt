@@ -257,6 +257,7 @@ impl<'a> Image<'a> {
         requires { id.0 < length (image_table self.now).nodes }
         ensures { result ≡ function_at self.now id.0 }
     {
+        // The value is an image, as its count says.
         let _nodes = self.node_count();
         if is_function(self.node(id)) {
             Some(self.coded(id))

@@ -32,6 +32,7 @@ impl<'i, 'a> Revisions<'i, 'a> {
     pub fn over(image: &'i Image<'a>) -> Revisions<'i, 'a>
         ensures { result ≡ image.now }
     {
+        // The value is an image, as its count says.
         let _nodes = image.node_count();
         Revisions { image }
     }

@@ -136,8 +136,8 @@ fn spelled(number: u8, sources: u8, size: u64, digest: &[u8; 32]) -> [u8; HEADER
     bytes
 }
 
-/// The header of the journal of a session over these sources, of which it reads the first: all of it where that has at most
-/// `WHOLE_LIMIT` bytes, else `END_SIZE` bytes at each of its ends.
+/// The header of the journal of a session over these sources, of which it reads the first: all of it where that has at
+/// most `WHOLE_LIMIT` bytes, else `END_SIZE` bytes at each of its ends.
 ///
 /// # Errors
 ///
@@ -158,9 +158,9 @@ pub fn header_over<S: Sources>(sources: &mut S) -> Result<[u8; HEADER_SIZE], Sou
     Ok(spelled(FROM_SOURCES, count, size, &hasher.finalize()))
 }
 
-/// The header of the journal of a session that goes on from an image over these sources, of which it reads the first. Its digest is of the
-/// image and of that source, one behind the other: each whole where it has at most `WHOLE_LIMIT` bytes, else `END_SIZE` bytes at each of
-/// its ends.
+/// The header of the journal of a session that goes on from an image over these sources, of which it reads the first.
+/// Its digest is of the image and of that source, one behind the other: each whole where it has at most `WHOLE_LIMIT`
+/// bytes, else `END_SIZE` bytes at each of its ends.
 ///
 /// # Errors
 ///

@@ -103,6 +103,7 @@ impl NodeTable<Coded> {
         let pool = Pool::holding(alloc, bytes)?;
         let sources = source_lengths(alloc, space)?;
         let entries = entries_of(alloc, space)?;
+        // The table that is copied is sound, as its count says.
         let _count = space.count();
         Ok(NodeTable {
             entries,

@@ -89,7 +89,8 @@ impl<F: LeafFn> NodeTable<F> {
         Ok(number as u8)
     }
 
-    /// Whether this piece of the pool can grow in place by `count` bytes: it ends at the pool's end, and its block takes them.
+    /// Whether this piece of the pool can grow in place by `count`
+    /// bytes: it ends at the pool's end, and its block takes them.
     pub fn can_grow(&self, piece: Piece, count: usize) -> bool
         ensures { IsTrue result ↔ CanExtend self.now.pool piece count }
     {
@@ -121,8 +122,8 @@ impl<F: LeafFn> NodeTable<F> {
         (count as u64) < POOL_LIMIT - self.pool.len()
     }
 
-    /// Puts these bytes at the pool's end, in one block, and these nodes behind the others, and answers the last of them: all of it
-    /// or nothing.
+    /// Puts these bytes at the pool's end, in one block, and these nodes
+    /// behind the others, and answers the last of them: all of it or nothing.
     ///
     /// # Errors
     ///
@@ -147,8 +148,8 @@ impl<F: LeafFn> NodeTable<F> {
         Ok(Some(NodeId(first + (count - 1))))
     }
 
-    /// Lets the pool's last piece grow in place by these bytes, puts these nodes behind the others, and answers the last of them: all
-    /// of it or nothing. The nodes that were there keep their texts.
+    /// Lets the pool's last piece grow in place by these bytes, puts these nodes behind the others, and answers the
+    /// last of them: all of it or nothing. The nodes that were there keep their texts.
     ///
     /// # Errors
     ///

@@ -1,5 +1,7 @@
 //! The store's calls, for ropes that may be too deep for them.
 
+// The lines `let _count = store.count();` are for the proof: the store keeps its rules, as its count says.
+
 ghost use Rattle.std.specs.Prelude.{◌≡◌, ◌↔◌, ◌+◌, ◌<◌, ◌≤◌, length, [], Some, IsTrue, IfOk, IsErrOf};
 ghost use Rattle.rope_node.specs.declared.limits.TheConstants.{TEXT_LIMIT};
 ghost use Rattle.rope_node.specs.Table.{len_at};
@@ -41,14 +43,14 @@ fn lift(plain: Result<Rope, NodeFault>) -> Result<Rope, BalanceFault>
     }
 }
 
-/// `cat` of the store. Where the node over both would be too deep, `l` and then `r` are balanced first, from leaf spans and from whole
-/// nodes whose length is at least the Fibonacci number at their depth and three.
+/// `cat` of the store. Where the node over both would be too deep, `l` and then `r` are balanced first, from leaf spans
+/// and from whole nodes whose length is at least the Fibonacci number at their depth and three.
 ///
 /// # Errors
 ///
-/// `TooManyPieces` where the ropes have to be balanced and one of them goes through more than 1,048,576 such pieces, and the store is then
-/// as before; `TooLong`, `TableFull`, `PoolFull`, `Memory` of the store. Where a rope was balanced the store may then have more nodes and
-/// bytes.
+/// `TooManyPieces` where the ropes have to be balanced and one of them goes through more than 1,048,576 such pieces,
+/// and the store is then as before; `TooLong`, `TableFull`, `PoolFull`, `Memory` of the store. Where a rope was
+/// balanced the store may then have more nodes and bytes.
 pub fn cat_any<F: LeafFn>(store: &mut Store<F>, l: Rope, r: Rope) -> Result<Rope, BalanceFault>
     requires left { IsRope (table_of F.meaning store.old) l }
     requires right { IsRope (table_of F.meaning store.old) r }
@@ -89,13 +91,13 @@ fn cat_anew<F: LeafFn>(store: &mut Store<F>, l: Rope, r: Rope) -> Result<Rope, B
     Ok(store.cat(left, right)?)
 }
 
-/// `substr` of the store, taken of the lowest node that all the bytes lie in: all of a node gives that node. Where the part would be too
-/// deep, the bytes are balanced alone, from pieces as in `cat_any`.
+/// `substr` of the store, taken of the lowest node that all the bytes lie in: all of a node gives that node. Where the
+/// part would be too deep, the bytes are balanced alone, from pieces as in `cat_any`.
 ///
 /// # Errors
 ///
-/// `TooManyPieces` where the bytes have to be balanced and go through more than 1,048,576 pieces; `TableFull`, `PoolFull`, `Memory` of
-/// the store. Where they were balanced the store may then have more nodes and bytes.
+/// `TooManyPieces` where the bytes have to be balanced and go through more than 1,048,576 pieces; `TableFull`,
+/// `PoolFull`, `Memory` of the store. Where they were balanced the store may then have more nodes and bytes.
 pub fn substr_any<F: LeafFn>(
     store: &mut Store<F>,
     x: Rope,
@@ -186,13 +188,14 @@ fn lowest<F: LeafFn>(store: &Store<F>, node: NodeId, start: u64, len: u64) -> Sp
     }
 }
 
-/// `append` of the store, and the length that the pool had just before the bytes were put at its end, 0 for none. Where the node over both would be too deep, `x`
-/// is balanced first.
+/// `append` of the store, and the length that the pool had just before the bytes were put at its end, 0 for none. Where
+/// the node over both would be too deep, `x` is balanced first.
 ///
 /// # Errors
 ///
-/// `TooManyPieces` where the rope has to be balanced and goes through more than 1,048,576 such pieces; `TooLong`, `TableFull`,
-/// `PoolFull`, `Memory` of the store. Where the rope was balanced the store may then have more nodes and bytes.
+/// `TooManyPieces` where the rope has to be balanced and goes through more than
+/// 1,048,576 such pieces; `TooLong`, `TableFull`, `PoolFull`, `Memory` of the
+/// store. Where the rope was balanced the store may then have more nodes and bytes.
 pub fn append_any<F: LeafFn>(
     store: &mut Store<F>,
     x: Rope,

@@ -1,5 +1,7 @@
 //! A rope put together anew.
 
+// The lines `let _count = store.count();` are for the proof: the store keeps its rules, as its count says.
+
 ghost use Rattle.std.specs.Prelude.{◌+◌, ◌<◌, ◌≤◌, ◌↔◌, length, IfOk, IsTrue};
 ghost use Rattle.rope_node.specs.declared.limits.TheConstants.{TEXT_LIMIT};
 ghost use Rattle.rope_node.specs.Table.{len_at};
@@ -18,14 +20,14 @@ use node_table::NodeFault;
 use rope_node::{NodeId, NodeSpace, Rope};
 use rope_store::Store;
 
-/// A rope of the same text that is about as shallow as its length allows: it is at least as long, in bytes, as the Fibonacci number at
-/// its depth and one. It is put together from the leaf spans that the text goes through, one after the other, by Boehm, Atkinson and
-/// Plass's rule. Nil gives nil.
+/// A rope of the same text that is about as shallow as its length allows: it is at least as long, in bytes, as the
+/// Fibonacci number at its depth and one. It is put together from the leaf spans that the text goes through, one after
+/// the other, by Boehm, Atkinson and Plass's rule. Nil gives nil.
 ///
 /// # Errors
 ///
-/// `TooManyPieces` for more than 1,048,576 leaf spans, and the store is then as before; `TableFull`, `PoolFull`, `Memory` of the store,
-/// and then it may have more nodes and bytes.
+/// `TooManyPieces` for more than 1,048,576 leaf spans, and the store is then as before; `TableFull`, `PoolFull`,
+/// `Memory` of the store, and then it may have more nodes and bytes.
 pub fn balance<F: LeafFn>(store: &mut Store<F>, rope: Rope) -> Result<Rope, BalanceFault>
     requires { IsRope (table_of F.meaning store.old) rope }
     ensures { Rebalances F.meaning store.old rope result store.new }
@@ -124,8 +126,8 @@ fn rebuild<F: LeafFn>(store: &mut Store<F>, keep: bool, span: Span) -> Result<Ro
     join_below(store, &mut slots, SLOTS)
 }
 
-/// Puts a span's pieces behind the text of the slots. It goes to each node on the way once, and calls itself as deep as the node is,
-/// which is at most 64.
+/// Puts a span's pieces behind the text of the slots. It goes to each node on
+/// the way once, and calls itself as deep as the node is, which is at most 64.
 fn fill<F: LeafFn>(
     store: &mut Store<F>,
     slots: &mut Slots,

@@ -1,4 +1,5 @@
-//! Ropes made shallow: a new rope of the same text whose depth its length asks for, and calls that do so where a rope would be too deep.
+//! Ropes made shallow: a new rope of the same text whose depth its
+//! length asks for, and calls that do so where a rope would be too deep.
 #![tactic(auto)]
 
 mod any;

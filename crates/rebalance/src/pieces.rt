@@ -1,5 +1,8 @@
 //! The pieces that a rope's text is put together from.
 
+// The lines `let _count = store.count();` and `let _len = ..` are for the proof: the store keeps its rules, and no leaf
+// is longer than a text may be, as these calls say.
+
 ghost use Rattle.std.specs.Prelude.{◌≡◌, ◌↔◌, ◌+◌, ◌<◌, ◌≤◌, length, take, IsTrue, IfOk};
 ghost use Rattle.rope_node.specs.Table.{view_at, len_at, IsLeaf, IsFunction};
 ghost use Rattle.node_table.specs.Held.{table_of};
@@ -135,9 +138,9 @@ fn longer_first<F: LeafFn>(
     }
 }
 
-/// Counts a span's pieces behind `count` others, where `behind` bytes more are to be counted. Each piece has a byte, so it ends where the bytes
-/// that are left can be no pieces too many: early, as it goes to the longer child first. It goes past no more pieces than a rope is put
-/// together from, and calls itself as deep as the node is.
+/// Counts a span's pieces behind `count` others, where `behind` bytes more are to be counted. Each piece has a byte, so
+/// it ends where the bytes that are left can be no pieces too many: early, as it goes to the longer child first. It
+/// goes past no more pieces than a rope is put together from, and calls itself as deep as the node is.
 fn count_on<F: LeafFn>(store: &Store<F>, keep: bool, span: Span, count: u32, behind: u64) -> Tally
     requires span { IsSpan (table_of F.meaning store.now) span }
     requires few { count ≤ MOST_PIECES }

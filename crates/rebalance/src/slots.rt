@@ -1,5 +1,7 @@
 //! Slots for ropes: a longer rope in a slot of a higher number, and more to the left in the text.
 
+// The lines `let _count = store.count();` are for the proof: the store keeps its rules, as its count says.
+
 ghost use Rattle.std.specs.Prelude.{◌≡◌, ◌+◌, ◌<◌, ◌≤◌, None, length, replicate, IfOk};
 ghost use Rattle.rope_node.specs.declared.limits.TheConstants.{MOST_DEPTH, TEXT_LIMIT};
 ghost use Rattle.rope_node.specs.Balance.{fibonacci};
@@ -18,7 +20,8 @@ use rope_store::Store;
 /// How many slots there are: a rope shorter than 2^40 bytes has its own among them.
 pub const SLOTS: u8 = 60;
 
-/// A slot that is not above that of a rope of this length, and mostly just below it: Fibonacci numbers double after some 23 / 16 steps.
+/// A slot that is not above that of a rope of this length, and mostly
+/// just below it: Fibonacci numbers double after some 23 / 16 steps.
 fn slot_near(len: u64) -> u8
     requires { 1 ≤ len }
     ensures some { 2 ≤ result }
@@ -111,7 +114,8 @@ pub(crate) fn join_below<F: LeafFn>(
     Ok(rope)
 }
 
-/// Puts a rope into the first slot from `first` on that is empty and fits it, behind the ropes of the full ones before that.
+/// Puts a rope into the first slot from `first` on that is empty
+/// and fits it, behind the ropes of the full ones before that.
 fn settle<F: LeafFn>(
     store: &mut Store<F>,
     slots: &mut Slots,

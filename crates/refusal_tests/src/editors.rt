@@ -127,8 +127,8 @@ fn kept<S: Sources + Drop, A: AllocGlobal + Abort>(
     session_digest(rt, editor.session(), &mut none, reach)
 }
 
-/// Presses a key, whose frame is `after`; where it was refused memory, the frame has that message and else all of `before`, and
-/// the key is typed again.
+/// Presses a key, whose frame is `after`; where it was refused memory, the
+/// frame has that message and else all of `before`, and the key is typed again.
 fn pressed<S: Sources + Drop, A: AllocGlobal + Abort>(
     rt: &A,
     editor: &mut Editor<S>,
@@ -310,8 +310,8 @@ pub(crate) fn has_texts(image: &Checked<'_>, texts: &[&[u8]], none: &mut MemSour
     is_so
 }
 
-/// Looks at what a run that ended well has shown and saved. Where its texts are not those of the keys, a key was refused, and the
-/// screen says so; that is told.
+/// Looks at what a run that ended well has shown and saved. Where its texts are not those of the keys, a key was
+/// refused, and the screen says so; that is told.
 fn is_saved<A: AllocGlobal + Abort>(
     rt: &A,
     screen: &[u8],
@@ -331,7 +331,8 @@ fn is_saved<A: AllocGlobal + Abort>(
     false
 }
 
-/// One run of the tool: whether it did all that the keys say. Where it was refused memory, it wrote frames and no image.
+/// One run of the tool: whether it did all that the keys say.
+/// Where it was refused memory, it wrote frames and no image.
 fn is_edited<A: AllocGlobal + Abort>(rt: &A, refusals: &mut Refusals) -> bool {
     let mut screen = Taker::new();
     let mut image = Taker::new();

@@ -18,8 +18,8 @@ const TEXTS: [&[u8]; 4] = [b"", b"abc", b"dabc", b"abc"];
 /// The end of the last frame.
 const END: &[u8] = b"rev 3 byte 1 of 3\x1b[1;2H";
 
-/// Looks at what a run that ended well has shown and saved. Where its texts are not those of the image and the keys, a key was refused, and
-/// the screen says so; that is told.
+/// Looks at what a run that ended well has shown and saved. Where its texts are not those of the image and the keys, a
+/// key was refused, and the screen says so; that is told.
 fn is_saved<A: AllocGlobal + Abort>(
     rt: &A,
     screen: &[u8],

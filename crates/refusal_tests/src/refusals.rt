@@ -32,7 +32,8 @@ impl Refusals {
     }
 }
 
-/// Fails the test where the two differ, and prints both, and at what. It stands for `assert_eq!`, which would be proved anew in each test.
+/// Fails the test where the two differ, and prints both, and at what.
+/// It stands for `assert_eq!`, which would be proved anew in each test.
 pub(crate) fn assert_same<A: Abort, T: PartialEq + Debug, L: Debug>(
     rt: &A,
     found: &T,

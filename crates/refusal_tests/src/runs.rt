@@ -1,5 +1,5 @@
-//! The runs, each as a test. With ample memory none of their calls may be refused. A driver refuses one allocation of a run, and so
-//! one call, or two.
+//! The runs, each as a test. With ample memory none of their calls may be
+//! refused. A driver refuses one allocation of a run, and so one call, or two.
 
 use crate::refusals::Refusals;
 use crate::{

@@ -124,7 +124,7 @@ fn behind<A: AllocGlobal + Abort>(
     )
 }
 
-/// The same, once more where that was refused memory.
+/// What is written of a script behind an image, which is made again where memory was refused.
 fn image_behind<A: AllocGlobal + Abort>(rt: &A, script: &[u8], refusals: &mut Refusals) -> Taker {
     for _ in 0..TRIES {
         let mut writer = Taker::new();
@@ -139,8 +139,8 @@ fn image_behind<A: AllocGlobal + Abort>(rt: &A, script: &[u8], refusals: &mut Re
     panic!(rt; "refused each time")
 }
 
-/// The images of scripts behind an image: of one without a command, which is the image itself, and of one with a command, which has a revision of 56
-/// bytes more and no row.
+/// The images of scripts behind an image: of one without a command, which is the image itself, and of one with a
+/// command, which has a revision of 56 bytes more and no row.
 pub(crate) fn images_behind<A: AllocGlobal + Abort>(rt: &A, refusals: &mut Refusals) {
     let again = image_behind(rt, b"", refusals);
     assert_same(rt, &again.taken(), &ONE_INSERT_IN_TWO, &"the image");

@@ -109,7 +109,8 @@ fn size<A: Abort>(rt: &A, session: &Session, k: u32) -> (u64, u8) {
     size_of(rt, session.space(), root)
 }
 
-/// Fails the test where a session's image is not accepted with its numbers of revisions and rows, or has more than 100 rows.
+/// Fails the test where a session's image is not accepted with
+/// its numbers of revisions and rows, or has more than 100 rows.
 fn assert_accepted<A: AllocGlobal + Abort>(rt: &A, session: &Session) {
     let taker = image_of(rt, session);
     let mut none = MemSources::new(rt.alloc());

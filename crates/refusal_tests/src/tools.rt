@@ -1,4 +1,5 @@
-//! The tools on worked inputs, each run again where it was refused memory: what was written then is a front of its answer.
+//! The tools on worked inputs, each run again where it was refused
+//! memory: what was written then is a front of its answer.
 
 use crate::fakes::{Giver, ONE_INSERT, ONE_INSERT_IN_TWO, Taker};
 use crate::refusals::{Refusals, TRIES, assert_same};
@@ -92,6 +93,7 @@ fn answers<A: AllocGlobal + Abort>(
 ) {
     let mut sources = MemSources::new(rt.alloc());
     for text in texts {
+        // The texts get the numbers of their order.
         let _ = added(rt, &mut sources, *text, refusals);
     }
     let (answer, line) = wanted;

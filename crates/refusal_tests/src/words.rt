@@ -15,7 +15,7 @@ fn line_of<A: AllocGlobal>(rt: &A, text: &str) -> Result<Vec<String>, AllocError
     Ok(words)
 }
 
-/// The same, with memory of the test's own, which may be refused too.
+/// The words of a line, in memory of the test's own, which may be refused too.
 fn line<A: AllocGlobal + Abort>(rt: &A, text: &str, refusals: &mut Refusals) -> Vec<String> {
     for _ in 0..TRIES {
         match line_of(rt, text) {

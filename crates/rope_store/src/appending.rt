@@ -1,5 +1,7 @@
 //! Bytes put behind a text.
 
+// The lines `let _kept = &self.table;` are for the proof: the table keeps its rules, as a look at it says.
+
 ghost use Rattle.std.specs.Prelude.{◌≡◌, ◌+◌, ◌-◌, ◌<◌, ◌≤◌, ◌++◌, length, take, IfSome, IfNone};
 ghost use Rattle.rope_node.specs.Table.{IsLiteral, view_at, len_at};
 ghost use Rattle.rope_node.specs.Denotes.{rope_len, rope_depth, IsRope};
@@ -39,13 +41,13 @@ fn copy_three(bytes: &[u8], piece: &[u8], all: &mut [u8])
 }
 
 impl<F: LeafFn> Store<F> {
-    /// The text of `x` followed by these bytes. No bytes give `x`. The literal that `x` is, or has as its right child, grows in place
-    /// where it can. Otherwise it is `cat` of `x` and the bytes as a literal.
+    /// The text of `x` followed by these bytes. No bytes give `x`. The literal that `x` is, or has as its right child,
+    /// grows in place where it can. Otherwise it is `cat` of `x` and the bytes as a literal.
     ///
     /// # Errors
     ///
-    /// `TooLong` for more than 65,536 bytes and where the result would have 2^40 bytes or more, `TooDeep` where the node over both would
-    /// be deeper than 64, `TableFull`, `PoolFull`, `Memory`. The store is then as before.
+    /// `TooLong` for more than 65,536 bytes and where the result would have 2^40 bytes or more, `TooDeep` where the
+    /// node over both would be deeper than 64, `TableFull`, `PoolFull`, `Memory`. The store is then as before.
     pub fn append(&mut self, x: Rope, bytes: &[u8]) -> Result<Rope, NodeFault>
         requires { IsRope (table_of F.meaning self.old) x }
         ensures { Appends F.meaning self.old x bytes.now result self.new }

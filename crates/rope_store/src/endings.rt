@@ -48,6 +48,7 @@ impl<F: LeafFn> Store<F> {
         ensures exact { result ≡ ending_with (table_of F.meaning self.now) x count }
         ensures sound { IfSome result (IsShortEnding (table_of F.meaning self.now) x count) }
     {
+        // The table keeps its rules, as a look at it says.
         let _kept = &self.table;
         match self.ending(x) {
             Some(ending) => {

@@ -15,8 +15,8 @@ impl<F: LeafFn> Store<F> {
     ///
     /// # Errors
     ///
-    /// `TooLong` where both together have 2^40 bytes or more, `TooDeep` where one of them has depth 64, `TableFull`, `Memory`. The
-    /// store is then as before.
+    /// `TooLong` where both together have 2^40 bytes or more, `TooDeep` where one
+    /// of them has depth 64, `TableFull`, `Memory`. The store is then as before.
     pub fn cat_plain(&mut self, l: NodeId, r: NodeId) -> Result<Rope, NodeFault>
         requires left { l.0 < length self.old.nodes }
         requires right { r.0 < length self.old.nodes }
@@ -33,18 +33,20 @@ impl<F: LeafFn> Store<F> {
         self.make(&[], NewNodes::One(Record::concatenation(l, r, len, depth)))
     }
 
-    /// The text of `l` followed by that of `r`. A nil side gives the other side. Two literals of together at most 31 bytes become one,
-    /// and so do a literal on the right and the literal that `l` has as its right child. Otherwise it is one node over both.
+    /// The text of `l` followed by that of `r`. A nil side gives the other side. Two
+    /// literals of together at most 31 bytes become one, and so do a literal on the right
+    /// and the literal that `l` has as its right child. Otherwise it is one node over both.
     ///
     /// # Errors
     ///
-    /// `TooLong` where both together have 2^40 bytes or more, `TooDeep` where the node over both would be deeper than 64, `TableFull`,
-    /// `PoolFull`, `Memory`. The store is then as before.
+    /// `TooLong` where both together have 2^40 bytes or more, `TooDeep` where the node over both would be deeper than
+    /// 64, `TableFull`, `PoolFull`, `Memory`. The store is then as before.
     pub fn cat(&mut self, l: Rope, r: Rope) -> Result<Rope, NodeFault>
         requires left { IsRope (table_of F.meaning self.old) l }
         requires right { IsRope (table_of F.meaning self.old) r }
         ensures { Cats F.meaning self.old l r result self.new }
     {
+        // The table keeps its rules, as a look at it says.
         let _kept = &self.table;
         match (l, r) {
             (None, _) => Ok(r),

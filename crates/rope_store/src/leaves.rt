@@ -37,6 +37,7 @@ impl<F: LeafFn> Store<F> {
     pub fn from_fn(&mut self, f: F, n: u64) -> Result<Rope, NodeFault>
         ensures { MakesFunction F.meaning self.old f n result self.new }
     {
+        // The table keeps its rules, as a look at it says.
         let _kept = &self.table;
         if n == 0 {
             return Ok(None);
@@ -51,7 +52,8 @@ impl<F: LeafFn> Store<F> {
     ///
     /// # Errors
     ///
-    /// `BadSpan` where there is no such source or the span is not inside it, `TableFull`, `Memory`. The store is then as before.
+    /// `BadSpan` where there is no such source or the span is not
+    /// inside it, `TableFull`, `Memory`. The store is then as before.
     pub fn from_source(&mut self, s: u32, a: u64, n: u64) -> Result<Rope, NodeFault>
         ensures { MakesSource F.meaning self.old s a n result self.new }
     {

@@ -12,9 +12,9 @@ use node_table::{NewNodes, NodeFault, Record};
 use rope_node::{MOST_DEPTH, NodeId, NodeSpace, NodeView, Rope};
 
 impl<F: LeafFn> Store<F> {
-    /// The bytes of `x` from `i` on, at most `n`: nil where `i` is at or past the end, and `x` itself where all of it is asked for. A
-    /// part of a literal or of a source leaf is such a leaf, a part of a part is one of its base, and of another node it is a part over
-    /// that.
+    /// The bytes of `x` from `i` on, at most `n`: nil where `i` is at or past the end, and `x`
+    /// itself where all of it is asked for. A part of a literal or of a source leaf is such a
+    /// leaf, a part of a part is one of its base, and of another node it is a part over that.
     ///
     /// # Errors
     ///
@@ -23,6 +23,7 @@ impl<F: LeafFn> Store<F> {
         requires { IsRope (table_of F.meaning self.old) x }
         ensures { TakesPart F.meaning self.old x i n result self.new }
     {
+        // The table keeps its rules, as a look at it says.
         let _kept = &self.table;
         match x {
             None => Ok(None),

@@ -15,7 +15,8 @@ use std::alloc::Global;
 use std::marker::Model;
 
 /// A store of ropes. Its nodes, bytes and sources only grow, so a rope denotes the same text for good.
-// What a store keeps is known to the check where a field of it is read. A method that reads none names the table for that, as `_kept`.
+// What a store keeps is known to the check where a field of it is
+// read. A method that reads none names the table for that, as `_kept`.
 #[derive(Drop)]
 pub struct Store<F: LeafFn> {
     pub(crate) table: NodeTable<F>,
@@ -96,7 +97,8 @@ impl<F: LeafFn> Store<F> {
         self.table.put(bytes, nodes)
     }
 
-    /// Lets the pool's last piece grow in place by these bytes, puts these nodes behind the others, and answers the last of them.
+    /// Lets the pool's last piece grow in place by these bytes, puts
+    /// these nodes behind the others, and answers the last of them.
     #[inline(always)]
     pub(crate) fn make_grown(&mut self, bytes: &[u8], nodes: NewNodes<F>) -> Result<Rope, NodeFault>
         requires takes { Takes self.old.pool (length bytes.now) }

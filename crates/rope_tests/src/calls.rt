@@ -21,12 +21,13 @@ mod walks;
 use std::fmt::Debug;
 use std::process::Abort;
 
-/// Fails the test where the two differ, and prints both. It stands for `assert_eq!`, which would be proved anew in each test.
+/// Fails the test where the two differ, and prints both. It stands
+/// for `assert_eq!`, which would be proved anew in each test.
 fn assert_same<A: Abort, T: PartialEq + Debug>(rt: &A, found: &T, wanted: &T) {
     assert_eq!(rt; found, wanted);
 }
 
-/// The same of one of several tries: `at` says of which.
+/// Fails one of several tries where the two differ: `at` says which try.
 fn assert_same_at<A: Abort, T: PartialEq + Debug, L: Debug>(rt: &A, found: &T, wanted: &T, at: &L) {
     assert_eq!(rt; found, wanted, "{at:?}");
 }

@@ -1,5 +1,8 @@
 //! A session that is taken up from an accepted image.
 
+// The lines `let _count = ..` and their like are for the proof:
+// image, session and store keep their rules, as these calls say.
+
 ghost use Rattle.std.specs.Prelude.{◌≡◌, ◌+◌, ◌<◌, ◌≤◌, length, take, drop, IfOk, IfErr, OnOk, OnErr};
 ghost use Rattle.span_certificate.specs.Commands.{named_splices, NamesSplices};
 ghost use Rattle.image_reader.specs.Accepted.{rows_before, splices_before};
@@ -123,12 +126,13 @@ fn take_nodes(alloc: Global, checked: &Checked<'_>) -> Result<Session, TakeFault
     Ok(Session::over(alloc, store))
 }
 
-/// A session that says what an accepted image says, by the same nodes. Its revisions are the image's: each mark is set to what the rule says, and
-/// rows of which some could be longer are made anew.
+/// A session that says what an accepted image says, by the same nodes. Its revisions are the image's: each mark is set
+/// to what the rule says, and rows of which some could be longer are made anew.
 ///
 /// # Errors
 ///
-/// Revision by revision, `OverSource`, where a row of bytes is over a source, and `TooManyRows`, where rows that are made anew are too many; `Memory`.
+/// Revision by revision, `OverSource`, where a row of bytes is over a source,
+/// and `TooManyRows`, where rows that are made anew are too many; `Memory`.
 pub fn take_up(alloc: Global, checked: &Checked<'_>) -> Result<Session, TakeFault>
     requires { WasChecked checked.now }
     ensures taken { IfOk result (TakesUp checked.now) }

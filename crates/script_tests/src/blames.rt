@@ -17,8 +17,8 @@ const FOX_BLAMED: &[u8] = b"0 4 1 0 insert 0 0 \"the \"
 10 3 1 4 insert 0 0 \"fox\"
 ";
 
-/// `ab`, in whose place two changes of one command put `x` and `y`, where the pool has `y` in front of `x`: its header, four nodes, three revisions, two
-/// splices, three rows and pool, worked by hand.
+/// `ab`, in whose place two changes of one command put `x` and `y`, where the pool has `y` in front of `x`: its header,
+/// four nodes, three revisions, two splices, three rows and pool, worked by hand.
 const EXCHANGED: &[u8] =
     b"CORDSESS\0\0\0\x02\0\0\0\0\0\0\0\x04\0\0\0\x03\0\0\0\x03\0\0\0\x02\0\0\0\0\0\0\0\x04\
     \x01\0\0\0\0\0\0\0\0\0\0\0\0\0\0\x02\0\0\0\0\0\0\0\0\0\0\0\0\0\0\0\0\
@@ -136,7 +136,7 @@ fn changes_side_by_side_are_one_run(rt: HostRuntime) {
     );
 }
 
-/// The same text, where the two bytes stand in the pool the other way round.
+/// The text `xy`, whose two bytes the pool has the other way round.
 #[test]
 fn changes_that_the_pool_has_in_another_order_are_two_runs(rt: HostRuntime) {
     let mut none = sources_of(&rt, &[]);

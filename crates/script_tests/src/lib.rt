@@ -1,4 +1,5 @@
-//! Tests of scripts by the public calls of the crates below. The values that a test wants are worked by hand from the grammar.
+//! Tests of scripts by the public calls of the crates below. The
+//! values that a test wants are worked by hand from the grammar.
 #![tactic(auto)]
 
 #[cfg(test)]

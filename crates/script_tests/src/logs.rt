@@ -1,4 +1,5 @@
-//! Images logged as scripts. What a log tells of each revision was found by hand or by `bin/cordkit-verify`, on other bytes than the log's.
+//! Images logged as scripts. What a log tells of each revision was found
+//! by hand or by `bin/cordkit-verify`, on other bytes than the log's.
 
 use super::tools::{ONE_INSERT, ONE_INSERT_LINES, Taker, applied, assert_same};
 use image_reader::ReadFault;

@@ -12,8 +12,8 @@ use std::alloc::AllocGlobal;
 use std::process::Abort;
 use work_progress::Untold;
 
-/// The insertion of `abc` and behind it that of `d`: the block of the bytes that were there takes no more, so the `d` is a literal by
-/// itself, and then one with the three before it.
+/// The insertion of `abc` and behind it that of `d`: the block of the bytes that were there takes no more, so the `d`
+/// is a literal by itself, and then one with the three before it.
 const TWO_INSERTS: &[u8] = b"CORDSESS\0\0\0\x02\0\0\0\0\0\0\0\x03\0\0\0\x03\0\0\0\x03\
     \0\0\0\0\0\0\0\0\0\0\0\x08\
     \x01\0\0\0\0\0\0\0\0\0\0\0\0\0\0\x03\0\0\0\0\0\0\0\0\

@@ -47,12 +47,13 @@ fn made<P: Progress>(
     }
 }
 
-/// Applies the commands of a script, line by line, to a new session with sources of these lengths, and writes its image.
+/// Applies the commands of a script, line by line, to a new
+/// session with sources of these lengths, and writes its image.
 ///
 /// # Errors
 ///
-/// `Source`, where a source is refused, and `Stop`, where a line is not taken: nothing was written then. `Write`, where the writer failed
-/// or took no byte: a prefix of the image was written.
+/// `Source`, where a source is refused, and `Stop`, where a line is not taken: nothing was written then. `Write`, where
+/// the writer failed or took no byte: a prefix of the image was written.
 pub fn run_apply<W: io::Write>(
     alloc: Global,
     script: &[u8],
@@ -64,7 +65,8 @@ pub fn run_apply<W: io::Write>(
     run_apply_told(alloc, script, lens, writer, &mut Untold)
 }
 
-/// Does what `run_apply` does, and tells on the way how many of the script's bytes are done, and before it writes that they are.
+/// Does what `run_apply` does, and tells on the way how many of the
+/// script's bytes are done, and before it writes that they are.
 ///
 /// # Errors
 ///

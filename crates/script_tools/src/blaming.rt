@@ -98,6 +98,7 @@ fn next_start(image: &Checked, k: u32, first: u32) -> u32
     ensures { result ≡ splices_before image.now (k + 1) }
 {
     let revisions = Revisions::over(image.image());
+    // The value is an image, as its count says.
     let _count = revisions.count();
     first + image.image().splices_of(k)
 }
@@ -157,6 +158,7 @@ fn write_runs<W: io::Write>(
     requires { k < length image.now.revisions }
     ensures { WritesRuns image.now k start count (W.contents writer.old) (W.contents writer.new) result }
 {
+    // The image's records are true, as this call says.
     let _count = image.revisions();
     let mut piece = Vec::new(alloc);
     let mut origins = Origins::of(alloc, image, k, start, count)?;
@@ -192,15 +194,17 @@ fn blame_checked<W: io::Write>(
     }
 }
 
-/// Writes where some bytes of a text come from, once its image is checked with these sources, by so many looks at nodes at most, if there
-/// is a limit: a line for each run of bytes that came in side by side, as `4 6 2 4 insert 1 4 "brown "`: its place in the text, how many
-/// bytes it has, the revision whose command put it in, its place in that revision's text, and that command, by name and numbers. Where the
-/// bytes were handed in, at most the first 60 are shown behind it. No run goes on where the next one begins.
+/// Writes where some bytes of a text come from, once its image is checked with these sources, by so many looks at nodes
+/// at most, if there is a limit: a line for each run of bytes that came in side by side, as
+/// `4 6 2 4 insert 1 4 "brown "`: its place in the text, how many bytes it has, the revision whose command put it in,
+/// its place in that revision's text, and that command, by name and numbers. Where the bytes were handed in, at most
+/// the first 60 are shown behind it. No run goes on where the next one begins.
 ///
 /// # Errors
 ///
-/// `Check`, with the fault of an image that is not accepted, and `NoRevision`, where it has no such revision: nothing was written then.
-/// `Memory`, where memory was refused, and `Write`, where the writer failed or took no byte: a prefix of the lines was written.
+/// `Check`, with the fault of an image that is not accepted, and `NoRevision`, where it
+/// has no such revision: nothing was written then. `Memory`, where memory was refused, and
+/// `Write`, where the writer failed or took no byte: a prefix of the lines was written.
 pub fn run_blame<S: Sources, W: io::Write>(
     alloc: Global,
     image: &[u8],
@@ -215,7 +219,8 @@ pub fn run_blame<S: Sources, W: io::Write>(
     run_blame_told(alloc, image, sources, at_most, wanted, writer, &mut Untold)
 }
 
-/// Does what `run_blame` does, and tells on the way how many of the image's records are checked, and before it writes that they are.
+/// Does what `run_blame` does, and tells on the way how many of the
+/// image's records are checked, and before it writes that they are.
 ///
 /// # Errors
 ///

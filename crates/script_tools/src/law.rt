@@ -25,8 +25,8 @@ ghost use Rattle.span_certificate.specs.Covers.{SameOver};
 
 use edit_script::says_the_texts;
 
-/// A session that a script made which says what an image's commands say, over sources of the image's lengths, has the image's texts,
-/// whatever bytes the sources hold over which those are the history of its commands.
+/// A session that a script made which says what an image's commands say, over sources of the image's lengths, has the
+/// image's texts, whatever bytes the sources hold over which those are the history of its commands.
 pub fn has_the_texts()
     ensures { (script : List ℕ) (v : SessionValue) (w : ImageValue) (source : ℕ → ℕ → ℕ)
         → IsMadeByScript w.sources script v
@@ -45,7 +45,8 @@ pub fn says_the_commands()
         → ReadsScript (lines_of (log_of Whole w)) (map (words_of w.pool) (commands w)) }
 {}
 
-/// Where a session does not take the log of an accepted image, it refuses a command or is out of memory: each line says a command.
+/// Where a session does not take the log of an accepted image, it
+/// refuses a command or is out of memory: each line says a command.
 pub fn reads_each_line()
     ensures { (at_most : Option ℕ) (old new : Reading) (bytes : List ℕ) (w : ImageValue) (at : Stopped)
         → ChecksWithin at_most old new bytes (Ok w)
@@ -55,8 +56,8 @@ pub fn reads_each_line()
     says_the_commands();
 }
 
-/// A session that the log of an accepted image made, over sources of the image's lengths, has the image's texts, whatever bytes the
-/// sources hold over which the image's rows of bytes have the same bytes on both sides.
+/// A session that the log of an accepted image made, over sources of the image's lengths, has the image's texts,
+/// whatever bytes the sources hold over which the image's rows of bytes have the same bytes on both sides.
 pub fn gives_the_texts_again()
     ensures { (at_most : Option ℕ) (old new : Reading) (bytes : List ℕ) (w : ImageValue) (v : SessionValue)
         (source : ℕ → ℕ → ℕ)
@@ -69,8 +70,8 @@ pub fn gives_the_texts_again()
     says_the_commands();
 }
 
-/// What the lines of a text's runs have in quotes, before it is cut short, are the text's bytes at the runs' places, whatever bytes the
-/// sources hold over which the texts are the history of the image's commands.
+/// What the lines of a text's runs have in quotes, before it is cut short, are the text's bytes at the runs' places,
+/// whatever bytes the sources hold over which the texts are the history of the image's commands.
 pub fn shows_the_bytes()
     ensures { (w : ImageValue) (source : ℕ → ℕ → ℕ) → IsHistory (givens w source) (commands w) (texts w source)
         → EachRevision w (λ k. (start count : ℕ) (runs : List OriginRun)
@@ -78,7 +79,8 @@ pub fn shows_the_bytes()
         → ShowBytes w.pool (revision_text w source k) start runs) }
 {}
 
-/// A script without a command gives the image of a session back, and so the same bytes: the session that goes on from it has that image.
+/// A script without a command gives the image of a session back, and
+/// so the same bytes: the session that goes on from it has that image.
 pub fn gives_the_image_again()
     ensures { (x made : SessionValue) (script : List ℕ) → AreAsMade (image_of x)
         → IsMadeOnto (image_of x) script made → ReadsScript (lines_of script) []

@@ -1,5 +1,8 @@
 //! The script of an image.
 
+// The lines `let _nodes = ..` and `let _count = ..` are for the proof:
+// the value is an image whose records are true, as these calls say.
+
 ghost use Rattle.std.specs.Prelude.{◌≡◌, ◌∷◌, ◌++◌, ◌+◌, ◌<◌, ◌≤◌, ◌^◌, [], List, length, take, drop, Ok, OnOk};
 ghost use Rattle.std.specs.List.{AllByRecursion};
 ghost use Rattle.rope_node.specs.Denotes.{IsRope, rope_depth};
@@ -226,15 +229,16 @@ fn log_checked<W: io::Write>(
     }
 }
 
-/// Writes the script of an image, once it is checked with these sources, by so many looks at nodes at most, if there is a limit: a line
-/// for each revision, its command as `push_line` prints it and behind it what is known of the revision, as
-/// ` # 2: 7 bytes, depth 1, balanced, 3 rows`; a revision that is not marked as balanced has no word for that. Texts are shown as
-/// `texts` says. However long a line is, a piece of it is in memory at a time, of at most 16,384 bytes of a text.
+/// Writes the script of an image, once it is checked with these sources, by so many looks at nodes
+/// at most, if there is a limit: a line for each revision, its command as `push_line` prints it and
+/// behind it what is known of the revision, as ` # 2: 7 bytes, depth 1, balanced, 3 rows`; a
+/// revision that is not marked as balanced has no word for that. Texts are shown as `texts` says.
+/// However long a line is, a piece of it is in memory at a time, of at most 16,384 bytes of a text.
 ///
 /// # Errors
 ///
-/// `Check`, with the fault of an image that is not accepted: nothing was written then. `Memory`, where room for a piece was refused, and
-/// `Write`, where the writer failed or took no byte: a prefix of the log was written.
+/// `Check`, with the fault of an image that is not accepted: nothing was written then. `Memory`, where room for a piece
+/// was refused, and `Write`, where the writer failed or took no byte: a prefix of the log was written.
 pub fn run_log<S: Sources, W: io::Write>(
     alloc: Global,
     image: &[u8],
@@ -249,7 +253,8 @@ pub fn run_log<S: Sources, W: io::Write>(
     run_log_told(alloc, image, sources, at_most, texts, writer, &mut Untold)
 }
 
-/// Does what `run_log` does, and tells on the way how many of the image's records are checked, and before it writes that they are.
+/// Does what `run_log` does, and tells on the way how many of the
+/// image's records are checked, and before it writes that they are.
 ///
 /// # Errors
 ///

@@ -62,15 +62,16 @@ fn go_on<P: Progress>(
     }
 }
 
-/// Applies the commands of a script, line by line, behind the last revision of an image, once that is checked with these sources, by so
-/// many looks at nodes at most, if there is a limit; and writes the image of all revisions, in version 2. It tells on the way how many of
-/// the image's records are checked, then how many of the script's bytes are done, and before it writes that they are. The image's bytes
-/// are given back before the first line is read.
+/// Applies the commands of a script, line by line, behind the last revision of an image, once that is checked with
+/// these sources, by so many looks at nodes at most, if there is a limit; and writes the image of all revisions, in
+/// version 2. It tells on the way how many of the image's records are checked, then how many of the script's bytes are
+/// done, and before it writes that they are. The image's bytes are given back before the first line is read.
 ///
 /// # Errors
 ///
-/// In this order: `Check`, with the fault of an image that is not accepted; `TakeUp`, where no session goes on from it; `Stop`, where a
-/// line is not taken: nothing was written then. `Write`, where the writer failed or took no byte: a prefix of the image was written.
+/// In this order: `Check`, with the fault of an image that is not accepted; `TakeUp`, where
+/// no session goes on from it; `Stop`, where a line is not taken: nothing was written then.
+/// `Write`, where the writer failed or took no byte: a prefix of the image was written.
 pub fn run_apply_onto<S: Sources, W: io::Write, P: Progress>(
     alloc: Global,
     image: Vec<u8>,

@@ -102,13 +102,14 @@ impl<'a> Checked<'a> {
         }
     }
 
-    /// The byte at `i` of the text of revision `k`, and how many nodes were visited for it, from the root to the leaf. Past the
-    /// end of the text, and where there is no such revision, no byte and no node. It takes no memory of its own.
+    /// The byte at `i` of the text of revision `k`, and how many nodes were visited
+    /// for it, from the root to the leaf. Past the end of the text, and where there
+    /// is no such revision, no byte and no node. It takes no memory of its own.
     ///
     /// # Errors
     ///
-    /// A source's fault, where the byte is one of that source and the read of it failed. Sources that never fail, and hold
-    /// the byte's place, give none.
+    /// A source's fault, where the byte is one of that source and the read of it
+    /// failed. Sources that never fail, and hold the byte's place, give none.
     pub fn fetch<S: Sources>(
         &self,
         sources: &mut S,
@@ -223,8 +224,8 @@ fn told_counted<'a, S: Sources, L: Ledger, P: Progress>(
     Ok(Checked { tables })
 }
 
-/// Does what `check_at_most` does, and counts each look at a node. They are at most as many as `looks_bound` gives for the image, and as the
-/// limit, where there is one, and none where that is why the image is refused.
+/// Does what `check_at_most` does, and counts each look at a node. They are at most as many as `looks_bound` gives for
+/// the image, and as the limit, where there is one, and none where that is why the image is refused.
 ///
 /// # Errors
 ///
@@ -261,7 +262,8 @@ fn check_with<'a, S: Sources, L: Ledger, P: Progress>(
     )
 }
 
-/// Does what `check_at_most` does, and tells on the way how many of the image's records are done: nodes, revisions and rows.
+/// Does what `check_at_most` does, and tells on the way how many
+/// of the image's records are done: nodes, revisions and rows.
 ///
 /// # Errors
 ///
@@ -279,13 +281,13 @@ pub fn check_told<'a, S: Sources, P: Progress>(
     checked
 }
 
-/// Accepts or refuses a session image with its sources, as `check` does, where its check may take no more looks at nodes than the limit,
-/// if there is one: `looks_bound` gives that number for each image, by its counts and its rows.
+/// Accepts or refuses a session image with its sources, as `check` does, where its check may take no more looks at
+/// nodes than the limit, if there is one: `looks_bound` gives that number for each image, by its counts and its rows.
 ///
 /// # Errors
 ///
-/// `Looks`, with that number, where it is over the limit. It comes behind `C1` to `C3`, and before any node is looked at. Else as those
-/// of `check`.
+/// `Looks`, with that number, where it is over the limit. It comes behind
+/// `C1` to `C3`, and before any node is looked at. Else as those of `check`.
 pub fn check_at_most<'a, S: Sources>(
     bytes: &'a [u8],
     sources: &mut S,
@@ -296,13 +298,13 @@ pub fn check_at_most<'a, S: Sources>(
     check_told(bytes, sources, at_most, &mut Untold)
 }
 
-/// Accepts or refuses a session image with its sources. It goes over the bytes section by section, reads of the sources what rows of
-/// bytes compare, and takes no memory of its own.
+/// Accepts or refuses a session image with its sources. It goes over the bytes section by section, reads of the sources
+/// what rows of bytes compare, and takes no memory of its own.
 ///
 /// # Errors
 ///
-/// The first fault of the bytes, the sources, the nodes, and then of each revision: `C1` to `C11`. `C12` where a read for a row of
-/// bytes over a source failed, and all before that row is as accepted.
+/// The first fault of the bytes, the sources, the nodes, and then of each revision: `C1` to `C11`. `C12` where a read
+/// for a row of bytes over a source failed, and all before that row is as accepted.
 pub fn check<'a, S: Sources>(bytes: &'a [u8], sources: &mut S) -> Result<Checked<'a>, CheckFault>
     // What is accepted is faithful, it is what the bytes spell, and the sources are its own.
     ensures faithful { IfOk result (λ v. IsFaithful v (S.reading sources.old).stated) }

@@ -1,5 +1,7 @@
 //! The rules that each revision has to keep, tested by its record, its root's and its rows.
 
+// The lines `let _count = revisions.count();` are for the proof: the value is an image, as its count says.
+
 ghost use Rattle.std.specs.Prelude.{◌≡◌, ◌+◌, ◌*◌, ◌<◌, ◌≤◌, ◌↔◌, None, length, IsTrue, IsOk, IfOk, IfErr};
 ghost use Rattle.rope_node.specs.Denotes.{IsRope};
 ghost use Rattle.lazy_file.specs.Readings.{Reads};
@@ -96,7 +98,8 @@ fn check_rules<L: Ledger>(
     Ok(())
 }
 
-/// Tests whether the rows of revision `k`, which is this one and whose rows begin at row `from`, cover its command's parts and its root.
+/// Tests whether the rows of revision `k`, which is this one and whose
+/// rows begin at row `from`, cover its command's parts and its root.
 fn check_rows<S: Sources, P: Splices, L: Ledger, G: Progress>(
     looks: &mut Looks<'_, '_, Tables<'_>, L>,
     trails: &mut Trails,
@@ -176,8 +179,8 @@ fn check_revision<S: Sources, L: Ledger, G: Progress>(
     )
 }
 
-/// Does what `revisions_counted` does, and tells before each revision and each row how many records are done: the nodes, and the revisions with
-/// their rows.
+/// Does what `revisions_counted` does, and tells before each revision and each
+/// row how many records are done: the nodes, and the revisions with their rows.
 pub(crate) fn revisions_told<S: Sources, L: Ledger, P: Progress>(
     looks: &mut Looks<'_, '_, Tables<'_>, L>,
     revisions: &Revisions,

@@ -44,7 +44,8 @@ fn are_splices<P: Splices>(splices: &P, first: u32, count: u32, pool_len: u64, l
     true
 }
 
-/// Whether each of `count` splices from place `first` on, but for the last one, stands before the next one, and ends there or before.
+/// Whether each of `count` splices from place `first` on, but for the
+/// last one, stands before the next one, and ends there or before.
 fn are_apart<P: Splices>(splices: &P, first: u32, count: u32) -> bool
     requires there { first + count ≤ length (P.splices splices.now) }
     requires fit { first + count < 2 ^ 32 }
@@ -64,7 +65,8 @@ fn are_apart<P: Splices>(splices: &P, first: u32, count: u32) -> bool
     true
 }
 
-/// How many bytes of a text `count` splices from place `first` on take away, and how many they put in, each counted up to what a number holds.
+/// How many bytes of a text `count` splices from place `first` on take
+/// away, and how many they put in, each counted up to what a number holds.
 pub fn bytes_spliced<P: Splices>(splices: &P, first: u32, count: u32) -> (u64, u64)
     requires there { first + count ≤ length (P.splices splices.now) }
     requires fit { first + count < 2 ^ 32 }

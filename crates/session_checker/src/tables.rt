@@ -47,6 +47,7 @@ impl<'a> Tables<'a> {
         requires true_records { HasTrueRecords (image_table image) }
         ensures { result ≡ image.entry }
     {
+        // The value is an image, as its count says.
         let _nodes = image.node_count();
         Tables { image }
     }
@@ -218,7 +219,8 @@ fn check_bound(image: &Image, at_most: Option<u64>) -> Result<(), CheckFault>
     Ok(())
 }
 
-/// Does what `tables_told` does, but first refuses an image whose check with these sources may take more looks than the limit.
+/// Does what `tables_told` does, but first refuses an image whose
+/// check with these sources may take more looks than the limit.
 pub fn tables_within<S: Sources, L: Ledger, P: Progress>(
     image: &Image,
     sources: &S,
@@ -245,6 +247,7 @@ pub fn passed<'a>(image: &Image<'a>) -> Tables<'a>
     ensures value { result ≡ image.now }
     ensures image { IsImage image.now }
 {
+    // The value is an image, as its count says.
     let _nodes = image.node_count();
     Tables {
         image: image.same(),

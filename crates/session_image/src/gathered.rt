@@ -44,8 +44,8 @@ impl<'w, W: io::Write, const N: usize> Gathered<'w, W, N> {
         }
     }
 
-    /// Holds these bytes behind those that are held. Where there is no room those are written first, and then these too, if there are
-    /// more than can be held.
+    /// Holds these bytes behind those that are held. Where there is no room those
+    /// are written first, and then these too, if there are more than can be held.
     ///
     /// # Errors
     ///
@@ -78,6 +78,7 @@ impl<'w, W: io::Write, const N: usize> Gathered<'w, W, N> {
     pub(crate) fn flush(&mut self) -> Result<(), WriteFault>
         ensures { Flushes (output W.contents self.old) (output W.contents self.new) result }
     {
+        // No more is held than there is room for, as the room says.
         let _room = self.held.room();
         // As in `put`: where there is no room nothing is held.
         if N == 0 {

@@ -1,4 +1,5 @@
-//! Bytes held one behind the other, in a buffer of fixed size: the fields of a record, and records that a writer takes together.
+//! Bytes held one behind the other, in a buffer of fixed size: the
+//! fields of a record, and records that a writer takes together.
 
 ghost use Rattle.std.specs.Prelude.{◌≡◌, ◌+◌, ◌≤◌, ◌++◌, [], length};
 ghost use Rattle.std.specs.Int.{w8, w16, w32, w64, to_be_bytes};

@@ -39,6 +39,7 @@ pub fn restate<W: io::Write>(image: &Image, writer: &mut W) -> Result<(), WriteF
     // So what is written is read as that value.
     ensures image { IsImage (in_version_two image.now) }
 {
+    // The value is an image, as its count says.
     let _nodes = image.node_count();
     write_bytes(writer, restated_header(image).as_slice())?;
     write_bytes(writer, image.records())?;

@@ -30,6 +30,7 @@ fn rows_at(session: &Session, k: u32) -> &[Row]
 fn recorded(session: &Session, k: u32) -> Option<Revision>
     ensures { result ≡ slice_get (map recorded_revision session.now.revisions) k }
 {
+    // The session keeps its rules, as its count says.
     let _count = session.count();
     Some(Revision {
         edit: session.edit(k)?,
@@ -74,7 +75,8 @@ pub(crate) struct Totals {
     pub(crate) rows: u32,
 }
 
-/// How many of each the revisions have. They are counted in one pass, since most images are written after each save of a small text.
+/// How many of each the revisions have. They are counted in one pass,
+/// since most images are written after each save of a small text.
 pub(crate) fn count_all(session: &Session) -> Totals
     ensures splices { result.splices ≡ length (splices_in session.now.revisions) }
     ensures rows { result.rows ≡ length (rows_in session.now.revisions) }
@@ -119,7 +121,8 @@ fn write_all_splices<W: io::Write, const N: usize>(
     Ok(())
 }
 
-/// Writes the splices of all revisions, of which there are so many together: where there are none, no revision is looked at.
+/// Writes the splices of all revisions, of which there are so
+/// many together: where there are none, no revision is looked at.
 pub(crate) fn write_splices<W: io::Write, const N: usize>(
     session: &Session,
     count: u32,
@@ -167,7 +170,8 @@ fn write_all_rows<W: io::Write, const N: usize>(
     Ok(())
 }
 
-/// Writes the rows of all revisions, of which there are so many together: where there are none, no revision is looked at.
+/// Writes the rows of all revisions, of which there are so many
+/// together: where there are none, no revision is looked at.
 pub(crate) fn write_rows<W: io::Write, const N: usize>(
     session: &Session,
     count: u32,

@@ -263,8 +263,8 @@ fn write_by_size<W: io::Write>(session: &Session, writer: &mut W) -> Result<(), 
     }
 }
 
-/// Writes the image of a session: its header, then its sources, nodes, revisions, splices, rows and the bytes of its pool. It takes no
-/// memory: the bytes are gathered on the stack, and the writer takes them in large pieces.
+/// Writes the image of a session: its header, then its sources, nodes, revisions, splices, rows and the bytes of its
+/// pool. It takes no memory: the bytes are gathered on the stack, and the writer takes them in large pieces.
 ///
 /// # Errors
 ///
@@ -276,6 +276,7 @@ pub fn write<W: io::Write>(session: &Session, writer: &mut W) -> Result<(), Writ
     ensures trusted { IsTrusted session.now }
     ensures as_made { AreAsMade (image_of session.now) }
 {
+    // The session and its store keep their rules, as their counts say.
     let _count = session.count();
     let _nodes = session.space().count();
     write_by_size(session, writer)

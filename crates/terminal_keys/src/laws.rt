@@ -54,8 +54,8 @@ pub fn known_keys()
     ensures modified { Types (0x1B ∷ 0x5B ∷ 0x31 ∷ 0x3B ∷ 0x35 ∷ 0x43 ∷ []) (0x06 ∷ []) }
 {}
 
-/// Between the marks of a paste no byte is a command: what is no text is nothing, and each byte of text is itself, but that
-/// the end of a line that CR and LF make is one.
+/// Between the marks of a paste no byte is a command: what is no text is nothing, and each byte of text is itself, but
+/// that the end of a line that CR and LF make is one.
 pub fn pastes()
     ensures begins { (rest : List ℕ) → keys_of (0x1B ∷ 0x5B ∷ 0x32 ∷ 0x30 ∷ 0x30 ∷ 0x7E ∷ rest) ≡ keys_in Pasted rest }
     ensures ends { (mode : Mode) (rest : List ℕ)

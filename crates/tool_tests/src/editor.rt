@@ -486,8 +486,9 @@ fn a_text_of_two_gibibytes_is_too_long(rt: HostRuntime) {
     assert_shown(&rt, &mut editor, b"\r\nrev 0 byte 0 of 2147483647\x1b[1;1H");
 }
 
-/// Presses the keys Right, five times, Up and Down over two files of which one fails once, behind so many of its reads, and tells how many
-/// keys and frames said so. Each that did is tried again, and what was there before the refusal still is.
+/// Presses the keys Right, five times, Up and Down over two files of which one fails
+/// once, behind so many of its reads, and tells how many keys and frames said so.
+/// Each that did is tried again, and what was there before the refusal still is.
 fn refusals<R: AllocGlobal + Abort>(rt: &R, broken: u8, left: u64) -> u64 {
     let files = Flaky {
         texts: texts_in(rt, &[b"ab\ncde", b"fg"]),

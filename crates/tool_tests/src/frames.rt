@@ -49,6 +49,7 @@ impl<'a> Device for Recorded<'a> {
         buffer: &mut [u8],
     ) -> Result<usize, DeviceError> {
         let len = buffer.len();
+        // A read that could not be noted is missed below.
         let _ = self.reads.push(Span { off, len });
         let rest = self.bytes.get(off as usize..).unwrap_or(&[]);
         let count = rest.len().min(len);
@@ -109,8 +110,9 @@ fn assert_reads<R: AllocGlobal + Abort>(rt: &R, keys: &[u8], expected: &[u64]) {
     }
 }
 
-/// The place is 10,000, and the first row begins at 4,500. Windows end at 10,000 and at 5,999, and begin at 5,500, 9,500 and 13,500, where the first line is that
-/// does not end in the one before; the rows' bytes lie in the blocks from 4,096, 8,192 and 12,288 on.
+/// The place is 10,000, and the first row begins at 4,500. Windows end at 10,000 and at
+/// 5,999, and begin at 5,500, 9,500 and 13,500, where the first line is that does not end
+/// in the one before; the rows' bytes lie in the blocks from 4,096, 8,192 and 12,288 on.
 #[test]
 fn a_frame_reads_windows_once_and_rows_by_blocks(rt: HostRuntime) {
     assert_reads(
@@ -120,9 +122,10 @@ fn a_frame_reads_windows_once_and_rows_by_blocks(rt: HostRuntime) {
     );
 }
 
-/// A byte was typed at place 10,000. The 4,096 bytes before the cursor lie in two leaves: their blocks are asked for, from 4,096 and 8,192 on, and the line
-/// break at 8,999 is the first of the nearest 1,024 bytes. Windows before it end at 8,999 and at 4,999, and the first row begins at 4,500. The cursor's line is
-/// looked through behind that byte, from the file's place 10,000 on. Each is a read that a frame with a window for each line makes too, in its order.
+/// A byte was typed at place 10,000. The 4,096 bytes before the cursor lie in two leaves: their blocks are asked for,
+/// from 4,096 and 8,192 on, and the line break at 8,999 is the first of the nearest 1,024 bytes. Windows before it end
+/// at 8,999 and at 4,999, and the first row begins at 4,500. The cursor's line is looked through behind that byte, from
+/// the file's place 10,000 on. Each is a read that a frame with a window for each line makes too, in its order.
 #[test]
 fn a_frame_reads_the_rest_of_a_leaf_by_blocks(rt: HostRuntime) {
     assert_reads(
@@ -132,8 +135,8 @@ fn a_frame_reads_the_rest_of_a_leaf_by_blocks(rt: HostRuntime) {
     );
 }
 
-/// The cursor stands at the end of a line of 20,000 bytes. Where it begins and ends is known behind the first frame, so that the second one reads no more than
-/// its row, whose block is kept.
+/// The cursor stands at the end of a line of 20,000 bytes. Where it begins and ends is known behind the first frame, so
+/// that the second one reads no more than its row, whose block is kept.
 #[test]
 fn a_second_frame_of_a_long_line_reads_nothing(rt: HostRuntime) {
     let mut text = Vec::new(rt.alloc());

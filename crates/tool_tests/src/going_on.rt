@@ -58,7 +58,8 @@ fn press<S: Sources + Drop, A: Abort>(rt: &A, editor: &mut Editor<S>, byte: u8) 
     assert_same(rt, &editor.key(byte), &Ok(Step::Going), &byte);
 }
 
-// Undo follows the commands: from the text with `y` to `abc`, from there to the empty one. The text with `x` is not met.
+// Undo follows the commands: from the text with `y` to `abc`,
+// from there to the empty one. The text with `x` is not met.
 #[test]
 fn undo_crosses_what_was_made_before(rt: HostRuntime) {
     let mut editor = going_on(&rt, two_of_one(&rt)).expect(&rt, "an editor");

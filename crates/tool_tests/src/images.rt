@@ -14,7 +14,7 @@ pub const ONE_INSERT: &[u8] = b"CORDSESS\0\0\0\x01\0\0\0\0\0\0\0\x01\0\0\0\x02\
     \x02\0\0\0\0\0\0\0\0\0\0\0\0\0\0\x03\0\0\0\0\0\0\0\0\
     abc";
 
-/// The same in version 2.
+/// The insertion of `abc` in version 2.
 pub const ONE_INSERT_IN_TWO: &[u8] = b"CORDSESS\0\0\0\x02\0\0\0\0\0\0\0\x01\0\0\0\x02\
     \0\0\0\x01\0\0\0\0\0\0\0\0\0\0\0\x03\
     \x01\0\0\0\0\0\0\0\0\0\0\0\0\0\0\x03\0\0\0\0\0\0\0\0\

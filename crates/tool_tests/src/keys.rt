@@ -50,7 +50,8 @@ const SEQUENCES: [(&[u8], &[u8]); 67] = [
     (b"\x1b[12;34Rz", b"z"),
     (b"\x1b[Zz", b"z"),
     (b"\x1b[33~z", b"z"),
-    // Escape sequences: Alt and x, a character set, a keypad's mode, a reset, an index, and one of two intermediate bytes.
+    // Escape sequences: Alt and x, a character set, a keypad's
+    // mode, a reset, an index, and one of two intermediate bytes.
     (b"\x1bxz", b"z"),
     (b"\x1b(Bz", b"z"),
     (b"\x1b=z", b"z"),
@@ -61,8 +62,8 @@ const SEQUENCES: [(&[u8], &[u8]); 67] = [
     (b"\x1b\x18z", b"\x18z"),
     (b"\x1b\x7fz", b"\x7fz"),
     (b"\x1b\x1b[Az", b"\x10z"),
-    // Control strings: a colour that was asked for, by ST and by BEL, a title in UTF-8 with a tab and a line end, a terminal's name, its
-    // capabilities, and the three others.
+    // Control strings: a colour that was asked for, by ST and by BEL, a title in UTF-8 with a tab and a line end, a
+    // terminal's name, its capabilities, and the three others.
     (b"\x1b]11;rgb:0000/0000/0000\x1b\\z", b"z"),
     (b"\x1b]11;rgb:0000/0000/0000\x07z", b"z"),
     (b"\x1b]lcaf\xc3\xa9\t[201~\r\nA\x1b\\z", b"z"),
@@ -72,7 +73,8 @@ const SEQUENCES: [(&[u8], &[u8]); 67] = [
     (b"\x1b^abc\x1b\\z", b"z"),
     (b"\x1b_Gi=31;OK\x1b\\z", b"z"),
     (b"\x1b]\x1b\\z", b"z"),
-    // Strings that a byte breaks off: CAN, SUB, a key of the editor, Backspace, an arrow, and the mark that ends a paste.
+    // Strings that a byte breaks off: CAN, SUB, a key of the
+    // editor, Backspace, an arrow, and the mark that ends a paste.
     (b"\x1b]0;a\x18z", b"\x18z"),
     (b"\x1bPa\x1az", b"\x1az"),
     (b"\x1b_a\x01z", b"\x01z"),
@@ -171,7 +173,7 @@ const HEADER_OVER_NONE: [u8; HEADER_SIZE] = *b"CORDKEYS\0\0\0\x01\0\0\0\0\0\0\0\
     \xe3\xb0\xc4\x42\x98\xfc\x1c\x14\x9a\xfb\xf4\xc8\x99\x6f\xb9\x24\
     \x27\xae\x41\xe4\x64\x9b\x93\x4c\xa4\x95\x99\x1b\x78\x52\xb8\x55";
 
-/// The same over one source, whose text is `abc`.
+/// The header over one source, whose text is `abc`.
 const HEADER_OVER_ABC: [u8; HEADER_SIZE] = *b"CORDKEYS\0\0\0\x01\0\0\0\x01\0\0\0\0\0\0\0\x03\
     \xba\x78\x16\xbf\x8f\x01\xcf\xea\x41\x41\x40\xde\x5d\xae\x22\x23\
     \xb0\x03\x61\xa3\x96\x17\x7a\x9c\xb4\x10\xff\x61\xf2\x00\x15\xad";
@@ -293,6 +295,7 @@ fn a_journal_is_found_as_far_as_it_was_written(rt: HostRuntime) {
         journal.push(last).expect(&rt, "a key");
         let found = find_keys(&HEADER_OVER_ABC, &journal);
         assert_same(&rt, &found, &Found::Other, &last);
+        // It was put there just now.
         let _ = journal.pop();
     }
     assert_same(

@@ -11,7 +11,8 @@ use std::process::Abort;
 /// A key, and the end of the screen behind it.
 type Shown = (u8, &'static str);
 
-/// Over a line of 5,000 bytes, which stands at 3 and ends at 5,003: bytes typed and erased at its end, at its start, and in the line above.
+/// Over a line of 5,000 bytes, which stands at 3 and ends at 5,003: bytes
+/// typed and erased at its end, at its start, and in the line above.
 const ABOUT_BORDERS: [Shown; 13] = [
     (0x0E, "\r\nrev 0 byte 3 of 5006\x1b[2;1H"),
     (0x05, "\r\nrev 0 byte 5003 of 5006\x1b[2;41H"),

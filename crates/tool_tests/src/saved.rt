@@ -90,7 +90,8 @@ fn a_session_that_is_saved_untouched_is_in_version_two(rt: HostRuntime) {
     assert_same(&rt, &image.as_slice(), &b"".as_slice(), &"left");
 }
 
-// Keys that were kept over an image are played over it, and the others are kept behind them. Undo leaves the place where it is.
+// Keys that were kept over an image are played over it, and the
+// others are kept behind them. Undo leaves the place where it is.
 #[test]
 fn kept_keys_are_played_over_the_image(rt: HostRuntime) {
     let all = b"xy\x15z";

@@ -211,6 +211,7 @@ fn cases() -> [Case<'static>; 11] {
 pub(crate) fn texts_in<'a, R: AllocGlobal + Abort>(rt: &R, texts: &[&'a [u8]]) -> MemSources<'a> {
     let mut sources = MemSources::new(rt.alloc());
     for text in texts {
+        // The texts get the numbers of their order.
         let _ = sources.add(*text).expect(rt, "a source");
     }
     sources
@@ -295,8 +296,8 @@ fn an_image_that_ends_too_early_is_refused(rt: HostRuntime) {
     }
 }
 
-/// Runs the tool over files of which one fails once, behind so many of its reads, and tells whether it did. The tool says so then, and
-/// run again, it writes its answer.
+/// Runs the tool over files of which one fails once, behind so many of its reads, and tells whether it did. The tool
+/// says so then, and run again, it writes its answer.
 fn has_failed<R: AllocGlobal + Abort>(rt: &R, case: &Case<'_>, broken: u8, left: u64) -> bool {
     let mut files = Flaky {
         texts: texts_in(rt, case.texts),
@@ -329,6 +330,7 @@ fn each_read_of_a_file_that_fails_is_told(rt: HostRuntime) {
             let wanted = case.read.contains(&s);
             assert_same(&rt, &has_failed(&rt, &case, s, 0), &wanted, &case.tool);
             for left in 1..8 {
+                // Whether a later read is made depends on the tool.
                 let _ = has_failed(&rt, &case, s, left);
             }
         }

@@ -16,8 +16,8 @@ fn line<A: AllocGlobal>(rt: &A, text: &str) -> Result<Vec<String>, AllocError> {
     Ok(words)
 }
 
-/// What is read of a line, as it is written in Rust, behind a word where it is to be explained, and one where nothing is told on the way;
-/// the kind of the refusal alone; the version.
+/// What is read of a line, as it is written in Rust, behind a word where it is to be explained, and one where nothing
+/// is told on the way; the kind of the refusal alone; the version.
 fn told<A: AllocGlobal>(rt: &A, text: &str) -> Result<String, AllocError> {
     let alloc = rt.alloc();
     let line = line(rt, text)?;

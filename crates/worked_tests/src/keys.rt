@@ -29,7 +29,8 @@ fn long_line_is_shown_from_its_81st_byte()
     ensures cursor { cursor_of (replicate 80 0x78 ++ 0 ∷ []) 81 ≡ 0x1B ∷ codes "[1;2H" }
 {}
 
-/// From the second byte of `cde` to the end of `ab`, and back; nowhere from the first line up and from the last one down.
+/// From the second byte of `cde` to the end of `ab`, and back;
+/// nowhere from the first line up and from the last one down.
 fn up_and_down_keep_the_column()
     ensures start { line_start (codes "ab" ++ 0x0A ∷ codes "cde") 5 ≡ 3 }
     ensures up { place_up (codes "ab" ++ 0x0A ∷ codes "cde") 5 ≡ 2 }

@@ -45,8 +45,8 @@ fn limits_of_sources()
     ensures longest { SOURCE_LIMIT ≡ 1099511627775 }
 {}
 
-/// Of images: what they begin with, the root that is none, and the largest, which has as many records of each kind, and of bytes, as
-/// there may be.
+/// Of images: what they begin with, the root that is none, and the largest,
+/// which has as many records of each kind, and of bytes, as there may be.
 fn limits_of_images()
     ensures magic { MAGIC ≡ 0x434F524453455353 }
     ensures one { VERSION_ONE ≡ 1 }

@@ -35,7 +35,8 @@ fn undo_gives_the_old_ones_back()
         ∷ run 1 2 (Pool 2) 1 ∷ []) }
 {}
 
-/// Two splices side by side in the text and in the pool are one run, and two where the pool has them the other way round.
+/// Two splices side by side in the text and in the pool are one
+/// run, and two where the pool has them the other way round.
 fn splices_side_by_side_are_one_run()
     ensures one { AreRuns (origins 4 [] (exchanged 2 3) 2) (run 2 0 (Pool 2) 2 ∷ []) }
     ensures two { AreRuns (origins 4 [] (exchanged 3 2) 2) (run 2 0 (Pool 3) 1 ∷ run 2 1 (Pool 2) 1 ∷ []) }

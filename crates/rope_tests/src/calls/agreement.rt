@@ -49,8 +49,8 @@ fn plain_last(bytes: &[u8], i: u64, byte: u8) -> Option<u64> {
     last
 }
 
-/// The bytes of a source as a rope of at most 64 leaves, each of at most `most` bytes but for the last: every second is a part of the
-/// source where `mixed` says so, and the others are literals.
+/// The bytes of a source as a rope of at most 64 leaves, each of at most `most` bytes but for the last: every second is
+/// a part of the source where `mixed` says so, and the others are literals.
 fn cut_up(
     rt: &impl Abort,
     store: &mut Store<Coded>,

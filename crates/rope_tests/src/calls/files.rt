@@ -37,7 +37,7 @@ impl<'a> Slice<'a> {
         }
     }
 
-    /// The same device, which fails at this call.
+    /// This device, but it fails at this call.
     pub(super) fn failing_at(self, call: u64) -> Slice<'a> {
         Slice {
             fails_at: call,
@@ -268,8 +268,8 @@ fn blocks_of_x(rt: &(impl AllocGlobal + Abort), blocks: usize) -> Vec<u8> {
     text
 }
 
-// The device fails at the call for one block more than there is room for: so each of the others was read once. That one is not kept, and
-// takes no other's place.
+// The device fails at the call for one block more than there is room for: so each
+// of the others was read once. That one is not kept, and takes no other's place.
 #[test]
 fn as_many_blocks_are_kept_as_there_is_room_for(rt: HostRuntime) {
     let text = blocks_of_x(&rt, 258);
@@ -289,7 +289,8 @@ fn as_many_blocks_are_kept_as_there_is_room_for(rt: HostRuntime) {
     }
 }
 
-// One block more takes the place of the first one, and the others are kept: the device fails where the first is read again.
+// One block more takes the place of the first one, and the others
+// are kept: the device fails where the first is read again.
 #[test]
 fn the_block_used_longest_ago_is_let_go(rt: HostRuntime) {
     let text = blocks_of_x(&rt, 258);

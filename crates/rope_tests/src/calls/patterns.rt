@@ -48,7 +48,8 @@ fn word<'a>(rt: &impl Abort, all: &'a [u8], number: u64, len: u64) -> &'a [u8] {
         .expect(rt, "at most 8 letters")
 }
 
-/// Bytes of a source in leaves: one ends where a bit of `ends` is set, the lowest for the first byte, and one at the last byte.
+/// Bytes of a source in leaves: one ends where a bit of `ends` is
+/// set, the lowest for the first byte, and one at the last byte.
 fn cut_up(
     rt: &impl Abort,
     store: &mut Store<Coded>,

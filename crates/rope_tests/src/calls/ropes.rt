@@ -194,8 +194,8 @@ fn assert_grows<R: AllocGlobal + Abort>(
     assert_same(rt, &(store.count(), store.pool_len()), &counts);
 }
 
-// The bytes that a copy begins with stand in a block that takes no more, so its last literal does not grow in place: the byte that comes is a
-// literal by itself, and then one with the three before it.
+// The bytes that a copy begins with stand in a block that takes no more, so its last literal does not grow in place:
+// the byte that comes is a literal by itself, and then one with the three before it.
 #[test]
 fn a_copied_store_goes_on(rt: HostRuntime) {
     let mut store: Store<Coded> = Store::new(rt.alloc());

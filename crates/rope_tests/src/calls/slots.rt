@@ -1,5 +1,5 @@
-//! Which nodes balancing makes: contracts say how shallow and how many, and these which, beside slots that are gone through from the first
-//! on, one by one.
+//! Which nodes balancing makes: contracts say how shallow and how many, and these
+//! which, beside slots that are gone through from the first on, one by one.
 
 use super::agreement::below;
 use super::stores::{add_source, joined, size_of, source_leaf};

@@ -170,7 +170,8 @@ fn go_on<A: AllocGlobal + Abort>(
     texts.push(wanted).expect(rt, "memory");
 }
 
-/// A session over sources of these texts, which opens each and makes at most forty revisions more, and its texts as lists.
+/// A session over sources of these texts, which opens each and
+/// makes at most forty revisions more, and its texts as lists.
 fn random_session<A: AllocGlobal + Abort>(
     rt: &A,
     seed: &mut u64,

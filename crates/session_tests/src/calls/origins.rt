@@ -85,7 +85,7 @@ fn assert_runs<A: AllocGlobal + Abort, S: Sources>(
     assert_same_at(rt, &origin(&image, k, place), &None, &k);
 }
 
-/// The same of a session without sources.
+/// The longest runs of text `k` of a session without sources are these.
 fn assert_runs_alone<A: AllocGlobal + Abort>(rt: &A, session: &Session, k: u32, wanted: &[Told]) {
     let mut none = MemSources::new(rt.alloc());
     assert_runs(rt, session, &mut none, k, wanted);
@@ -244,7 +244,8 @@ fn a_source_and_a_fill_are_told_apart(rt: HostRuntime) {
 /// How many bytes the longer text has, of which each second one is changed.
 const LONG: usize = 800;
 
-/// Each second byte of a text gives way to another one, so that a run is one byte long: more of them than are walked for so few revisions.
+/// Each second byte of a text gives way to another one, so that a run
+/// is one byte long: more of them than are walked for so few revisions.
 #[test]
 fn many_runs_are_told_in_their_order(rt: HostRuntime) {
     let mut session = two_texts(&rt, &[b'a'; LONG]);

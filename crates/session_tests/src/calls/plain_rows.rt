@@ -55,7 +55,8 @@ fn left<A: Abort>(rt: &A, len: u64, place: u64) -> u64 {
     len.checked_sub(place).expect(rt, "a place inside")
 }
 
-/// Where the first bytes of a span lie in a child or a base of its node: as many of them as lie in one. A leaf has none.
+/// Where the first bytes of a span lie in a child or a base of
+/// its node: as many of them as lie in one. A leaf has none.
 fn down<A: Abort>(rt: &A, store: &Store<Coded>, x: Span) -> Option<Span> {
     match view(rt, store, x.node) {
         NodeView::Cat { l, r } => {
@@ -98,6 +99,7 @@ fn leaf_of<A: Abort>(rt: &A, store: &Store<Coded>, x: Span) -> Span {
 /// What a leaf span is described by.
 fn described<A: Abort>(rt: &A, store: &Store<Coded>, x: Span) -> Description {
     assert!(rt; store.has(Some(x.node)));
+    // The store keeps its rules, as its count says.
     let _count = store.count();
     assert!(rt; x.start <= store.len(Some(x.node)));
     let description = describe_leaf(store, x.node, store.node(x.node), x.start);
@@ -119,8 +121,9 @@ fn described_row(d: Description, e: Description, len: u64) -> Row {
     }
 }
 
-/// The row for the first bytes of two spans: over the first node that both lead to at one place, or over two leaf spans.
-/// Where neither side is a leaf, that of the greater number goes down, and the first one where both are of one number.
+/// The row for the first bytes of two spans: over the first node that both lead
+/// to at one place, or over two leaf spans. Where neither side is a leaf, that of
+/// the greater number goes down, and the first one where both are of one number.
 fn next_old<A: Abort>(rt: &A, store: &Store<Coded>, x: Span, y: Span) -> Row {
     let (mut a, mut b) = (x, y);
     for _ in 0..MOST_STEPS {

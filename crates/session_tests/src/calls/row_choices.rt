@@ -245,7 +245,7 @@ fn depth_of<A: Abort>(rt: &A, session: &Session, k: u32) -> u8 {
     space.depth(rope)
 }
 
-/// The same of each revision of a session, whose ropes are shallow and deep.
+/// The rows of each revision of a session, whose ropes are shallow and deep, are those of the plainest walk.
 fn assert_all_rows<A: AllocGlobal + Abort>(rt: &A, session: &Session) {
     let (mut has_shallow, mut has_deep) = (false, false);
     for k in 0..session.count() {

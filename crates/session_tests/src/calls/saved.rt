@@ -70,7 +70,8 @@ fn a_session_goes_on_behind_its_image(rt: HostRuntime) {
         bytes: b"d",
     };
     assert_same(&rt, &made(&rt, &mut session, more), &2);
-    // The block of the bytes that were there takes no more, so the `d` is a literal by itself, and then one with the three before it.
+    // The block of the bytes that were there takes no more, so the `d`
+    // is a literal by itself, and then one with the three before it.
     let wanted = Records {
         version: 2,
         sources: &[],

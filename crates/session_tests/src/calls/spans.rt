@@ -1,5 +1,7 @@
 //! What spans are described by, the parts of commands, and the rows that are kept.
 
+// The lines `let _count = store.count();` are for the proof: the store keeps its rules, as its count says.
+
 use super::texts::{made, two_texts};
 use super::{assert_same, assert_same_at};
 use edit_commands::Command;

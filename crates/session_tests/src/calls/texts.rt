@@ -125,7 +125,7 @@ pub(crate) fn counts<S: Sources>(
     Ok((checked.revisions(), checked.rows() as usize))
 }
 
-/// The same without sources.
+/// How many revisions and rows an accepted image without sources has.
 pub(crate) fn counts_alone<A: AllocGlobal>(
     rt: &A,
     image: &[u8],

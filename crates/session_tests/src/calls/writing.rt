@@ -134,7 +134,8 @@ fn image_of_version_1_is_written_anew_in_version_2(rt: HostRuntime) {
     assert_same(&rt, &restated(&rt, &second), &second);
 }
 
-/// What a writer takes that has room for so many bytes, and then fails or takes nothing, of a session or of an image written anew.
+/// What a writer takes that has room for so many bytes, and then
+/// fails or takes nothing, of a session or of an image written anew.
 fn prefixes<A: AllocGlobal + Abort>(
     rt: &A,
     session: &Session,
