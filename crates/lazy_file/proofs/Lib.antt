@@ -1,5 +1,6 @@
 pub mod AgreedBytes
 pub mod BlockReads
+pub mod BlockRuns
 pub mod DeviceLists
 pub mod DeviceReads
 pub mod FileLists
