@@ -1,6 +1,7 @@
 //! Sources that are devices.
 
-ghost use Rattle.std.specs.Prelude.{◌≡◌, ◌<◌};
+ghost use Rattle.std.specs.Prelude.{◌≡◌, ◌<◌, [], OnOk};
+ghost use Rattle.lazy_file.specs.KeptBlocks.{used_block};
 
 use super::{assert_same, assert_same_at};
 use lazy_file::{
@@ -241,23 +242,27 @@ fn long_and_short_reads_agree(rt: HostRuntime) {
 /// Sources with room for so many blocks, over this device.
 fn with_room<'a>(
     rt: &(impl AllocGlobal + Abort),
-    blocks: usize,
+    blocks: u16,
     device: Slice<'a>,
-) -> FileSources<Slice<'a>> {
-    let room = NonZeroUsize::new(blocks).expect(rt, "a block or more");
+) -> FileSources<Slice<'a>>
+    ensures room { result.most ≡ blocks }
+    ensures none { result.kept ≡ [] }
+{
+    let room = NonZeroUsize::new(usize::from(blocks)).expect(rt, "a block or more");
     let mut sources = FileSources::new(rt.alloc(), room, ()).expect(rt, "room for blocks");
-    assert!(rt; sources.add(device).is_ok());
+    let added = sources.add(device);
+    assert!(rt; added.is_ok());
     sources
 }
 
-/// The first byte of a block.
-fn byte_of_block(
-    rt: &impl Abort,
-    sources: &mut FileSources<Slice<'_>>,
-    block: usize,
-) -> Result<[u8; 5], SourceFault> {
-    let place = (BLOCK_SIZE as u64).saturating_mul(block as u64);
-    read(rt, sources, 0, place, 1)
+/// The first byte of a block, which is used then.
+fn byte_of_block(sources: &mut FileSources<Slice<'_>>, block: u16) -> Result<u8, SourceFault>
+    ensures { OnOk result
+        (sources.new.kept ≡ used_block sources.old.most sources.old.kept (0, block)) }
+{
+    let mut byte = [0];
+    sources.read(0, u64::from(block) * BLOCK_SIZE as u64, &mut byte)?;
+    Ok(byte[0])
 }
 
 /// So many blocks of `x`.
@@ -273,19 +278,19 @@ fn blocks_of_x(rt: &(impl AllocGlobal + Abort), blocks: usize) -> Vec<u8> {
 #[test]
 fn as_many_blocks_are_kept_as_there_is_room_for(rt: HostRuntime) {
     let text = blocks_of_x(&rt, 258);
-    for blocks in [1usize, 2, 256, 257] {
-        let device = Slice::new(&text).failing_at((blocks as u64).saturating_add(1));
+    for blocks in [1u16, 2, 256, 257] {
+        let device = Slice::new(&text).failing_at(u64::from(blocks) + 1);
         let mut sources = with_room(&rt, blocks, device);
         for _ in 0..2 {
             for block in 0..blocks {
-                let found = byte_of_block(&rt, &mut sources, block);
-                assert_same_at(&rt, &found, &Ok(*b"x...."), &(blocks, block));
+                let found = byte_of_block(&mut sources, block);
+                assert_same_at(&rt, &found, &Ok(b'x'), &(blocks, block));
             }
         }
-        let found = byte_of_block(&rt, &mut sources, blocks);
+        let found = byte_of_block(&mut sources, blocks);
         assert_same_at(&rt, &found, &Err(SourceFault::Device), &blocks);
-        let found = byte_of_block(&rt, &mut sources, 0);
-        assert_same_at(&rt, &found, &Ok(*b"x...."), &blocks);
+        let found = byte_of_block(&mut sources, 0);
+        assert_same_at(&rt, &found, &Ok(b'x'), &blocks);
     }
 }
 
@@ -294,20 +299,40 @@ fn as_many_blocks_are_kept_as_there_is_room_for(rt: HostRuntime) {
 #[test]
 fn the_block_used_longest_ago_is_let_go(rt: HostRuntime) {
     let text = blocks_of_x(&rt, 258);
-    for blocks in [1usize, 2, 256, 257] {
-        let device = Slice::new(&text).failing_at((blocks as u64).saturating_add(2));
+    for blocks in [1u16, 2, 256, 257] {
+        let device = Slice::new(&text).failing_at(u64::from(blocks) + 2);
         let mut sources = with_room(&rt, blocks, device);
-        for block in 0..=blocks {
-            let found = byte_of_block(&rt, &mut sources, block);
-            assert_same_at(&rt, &found, &Ok(*b"x...."), &(blocks, block));
+        for block in (0..=blocks).chain(1..=blocks) {
+            let found = byte_of_block(&mut sources, block);
+            assert_same_at(&rt, &found, &Ok(b'x'), &(blocks, block));
         }
-        for block in 1..=blocks {
-            let found = byte_of_block(&rt, &mut sources, block);
-            assert_same_at(&rt, &found, &Ok(*b"x...."), &(blocks, block));
-        }
-        let found = byte_of_block(&rt, &mut sources, 0);
+        let found = byte_of_block(&mut sources, 0);
         assert_same_at(&rt, &found, &Err(SourceFault::Device), &blocks);
     }
+}
+
+/// Reads two blocks at once, and whether there were `x` in them.
+fn two_at_once(sources: &mut FileSources<Slice<'_>>, block: u16) -> Result<bool, SourceFault> {
+    let mut bytes = [0; 2 * BLOCK_SIZE];
+    sources.read(0, u64::from(block) * BLOCK_SIZE as u64, &mut bytes)?;
+    Ok(bytes == [b'x'; 2 * BLOCK_SIZE])
+}
+
+// Two calls fill the two blocks that are read at once then. The third call is that of a long read past them, which keeps none of its
+// blocks and lets none go: the fourth one is that for its second block, and fails.
+#[test]
+fn a_long_read_of_kept_blocks_reads_no_device(rt: HostRuntime) {
+    let text = blocks_of_x(&rt, 3);
+    let mut sources = with_room(&rt, 2, Slice::new(&text).failing_at(4));
+    for block in 0..2 {
+        let found = byte_of_block(&mut sources, block);
+        assert_same_at(&rt, &found, &Ok(b'x'), &block);
+    }
+    for block in [0, 1, 0] {
+        assert_same_at(&rt, &two_at_once(&mut sources, block), &Ok(true), &block);
+    }
+    let found = byte_of_block(&mut sources, 2);
+    assert_same(&rt, &found, &Err(SourceFault::Device));
 }
 
 /// Reads three bytes of a file of five, whose reads, and those that failed, are counted in the book of a blank.
