@@ -1,5 +1,6 @@
 pub mod Descents
 pub mod Cells
+pub mod Contents
 pub mod Describing
 pub mod Depths
 pub mod Ways

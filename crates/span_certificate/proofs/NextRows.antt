@@ -1,48 +1,25 @@
 -- Rows for the first bytes of a part and of the root.
 use Rattle.std.proofs.Common.{◌≡◌, ℕ, ◌+◌, ◌<◌, ◌≤◌, List, length, map, take, drop, Some, sym, ap, subst, ◌∙◌, arith}
-use Rattle.std.specs.Prelude.{replicate}
-use Rattle.std.specs.List.{range_with_len, drop-map}
 use Rattle.std.proofs.lemmas.List.{take-take}
 use Rattle.function_leaf.specs.declared.coded.Coded.{Coded}
 use Rattle.rope_node.specs.declared.node.NodeId.{NodeId}
 use Rattle.rope_node.specs.Table.{Table, len_at, IsSound, HasTrueRecords}
 use Rattle.rope_node.specs.Denotes.{Cell, Byte, Place, cells, text}
-use Rattle.rope_node.proofs.Parts.{span_within, span-map, span-range_with_len}
+use Rattle.span_certificate.specs.declared.content.Content.TheVariants.{Within}
 use Rattle.span_certificate.specs.declared.describe.Description.{Description}
 use Rattle.span_certificate.specs.declared.part.Part.{Part}
-use Rattle.span_certificate.specs.declared.part.Part.TheVariants.{Old, Pool, Source, Fill}
+use Rattle.span_certificate.specs.declared.part.Part.TheVariants.{Old}
 use Rattle.span_certificate.specs.declared.row.Row.{Row}
 use Rattle.span_certificate.specs.declared.row.RowKind.{RowKind}
 use Rattle.span_certificate.specs.declared.row.RowKind.TheVariants.{Shared, Leaf, Bytes}
 use Rattle.span_certificate.specs.Parts.{part_len, part_cells}
-use Rattle.span_certificate.specs.Leads.{PartHasDescription}
+use Rattle.span_certificate.specs.Leads.{content_from, PartHasDescription}
 use Rattle.span_certificate.specs.Covers.{KindFits}
 use Rattle.span_certificate.specs.Descents.{first_of}
 use Rattle.span_certificate.specs.Longest.{GoesToLeafEnd, SpansStayWithin, StayWithin}
 use Rattle.span_certificate.specs.Steps.{SpansFit, IsRowOf, DescribedFits, IsDescribedRow, IsNext, AreBytes}
 use Rattle.span_certificate.proofs.RowEnds.{beside_end}
-use Rattle.span_certificate.proofs.Walks.{bytes_take}
-use Rattle.span_certificate.proofs.MappedResults.{map-replicate}
-
-bytes_drop : (n : ℕ) (cs : List Cell) → AreBytes cs → AreBytes (drop n cs)
-bytes_drop n cs (bytes, e) = (drop n bytes, ap (drop n) e ∙ drop-map Byte n bytes)
-
--- the bytes of a pool part and of a fill, and the places of a source part
-pub pool_next : (t : Table) (part : Part) (a n off left : ℕ) (cs : List Cell) → part ≡ Pool a n → take left (drop off (part_cells t part)) ≡ cs → AreBytes cs
-pool_next t part a n off left cs is same =
-    let here : take left (drop off (part_cells t part)) ≡ map Byte (take left (drop off (take n (drop a t.pool)))) = rw is (span-map Byte left off (take n (drop a t.pool))) in
-    (take left (drop off (take n (drop a t.pool))), sym same ∙ here)
-
-pub fill_next : (t : Table) (part : Part) (c n off left : ℕ) (cs : List Cell) → part ≡ Fill c n → take left (drop off (part_cells t part)) ≡ cs → AreBytes cs
-fill_next t part c n off left cs is same =
-    let here : AreBytes (take left (drop off (part_cells t part))) = rw is (bytes_take left (drop off (replicate n (Byte c))) (bytes_drop off (replicate n (Byte c)) (replicate n c, map-replicate Byte n c))) in
-    subst AreBytes same here
-
-pub source_next : (t : Table) (part : Part) (s n off left : ℕ) (cs : List Cell) → part ≡ Source s n → off + left ≤ n → take left (drop off (part_cells t part)) ≡ cs → cs ≡ map (Place s) (range_with_len off left)
-source_next t part s n off left cs is fits same =
-    let here : take left (drop off (part_cells t part)) ≡ map (Place s) (range_with_len off left) =
-    rw is (span-map (Place s) left off (range_with_len 0 n) ∙ ap (map (Place s)) (span-range_with_len left off 0 n fits ∙ ap (λ (j : ℕ). range_with_len j left) (omega arith))) in
-    sym same ∙ here
+use Rattle.span_certificate.proofs.Contents.{of_node}
 
 -- fewer of the same cells
 pub fewer_same : (n left off place : ℕ) (xs ys : List Cell) → n ≤ left → take left (drop off xs) ≡ take left (drop place ys) → take n (drop off xs) ≡ take n (drop place ys)
@@ -59,13 +36,14 @@ old_fits t coded node root i m off place left n Bytes few same fits = (
   λ e. fits.1,
 )
 
-pub old_next : (t : Table) (coded : ℕ → Coded) (part : Part) (node root : NodeId) (i m off place left : ℕ) (row : Row) → part ≡ Old (Some node) i m
+pub old_next : (t : Table) (coded : ℕ → Coded) (part : Part) (node root : NodeId) (start off place left : ℕ) (row : Row) → content_from part off ≡ Some (Within node start)
     → take left (drop off (part_cells t part)) ≡ take left (drop place (cells t root.0))
-    → IsRowOf t coded (record { node = node; start = i + off; len = left }) (record { node = root; start = place; len = left }) row
+    → IsRowOf t coded (record { node = node; start = start; len = left }) (record { node = root; start = place; len = left }) row
     → IsNext t coded part off root place left row
-old_next t coded part node root i m off place left row is same r =
-    let fit = old_fits t coded node root i m off place left row.len row.kind r.few (rw is at same) r.fits in
-    rw is (record { some = r.some; few = r.few; fits = fit.0; bytes = fit.1 })
+old_next t coded part node root start off place left row is same r =
+    let of = of_node part off node start is in
+    let fit = old_fits t coded node root of.i of.m off place left row.len row.kind r.few (rw of.is at same) (rw of.at at r.fits) in
+    rw of.is (record { some = r.some; few = r.few; fits = fit.0; bytes = fit.1 })
 
 described_fits : (t : Table) (coded : ℕ → Coded) (part : Part) (d : Description) (root : NodeId) (off place left n : ℕ) (kind : RowKind) → n ≤ left
     → take left (drop off (part_cells t part)) ≡ take left (drop place (cells t root.0))
@@ -88,14 +66,6 @@ described_next t coded part d root off place left row same own r =
     let fit = described_fits t coded part d root off place left row.len row.kind r.few same own r.fits in
     record { some = r.some; few = r.few; fits = fit.0; bytes = fit.1 }
 
-pub old_same : (t : Table) (part : Part) (node : NodeId) (i m off left : ℕ) (cs : List Cell) → part ≡ Old (Some node) i m → off + left ≤ part_len part → take left (drop off (part_cells t part)) ≡ cs
-    → take left (drop (i + off) (cells t node.0)) ≡ cs
-old_same t part node i m off left cs is fits same =
-    let fits' : off + left ≤ m = rw is at fits in
-    let here : take left (drop off (part_cells t part)) ≡ take left (drop (i + off) (cells t node.0)) =
-    rw is (span_within left off m i (cells t node.0) fits' ∙ ap (λ (j : ℕ). take left (drop j (cells t node.0))) (omega arith)) in
-    sym here ∙ same
-
 -- ---- the longest
 
 stay_in_old : (t : Table) (node root : NodeId) (i m off place left n : ℕ) (kind : RowKind) → StayWithin t n (Old (Some node) i m) off (Some root) place kind
@@ -105,11 +75,12 @@ stay_in_old t node root i m off place left n Leaf stay = stay
 stay_in_old t node root i m off place left n Bytes stay = stay
 
 -- a row that is the longest over the span of an earlier text is over its part
-pub old_longest : (t : Table) (part : Part) (node root : NodeId) (i m off place left n : ℕ) (kind : RowKind) → part ≡ Old (Some node) i m
-    → (n < left → ¬ SpansStayWithin t (n + 1) (record { node = node; start = i + off; len = left }) (record { node = root; start = place; len = left }) kind)
+pub old_longest : (t : Table) (part : Part) (node root : NodeId) (start off place left n : ℕ) (kind : RowKind) → content_from part off ≡ Some (Within node start)
+    → (n < left → ¬ SpansStayWithin t (n + 1) (record { node = node; start = start; len = left }) (record { node = root; start = place; len = left }) kind)
     → n < left → ¬ StayWithin t (n + 1) part off (Some root) place kind
-old_longest t part node root i m off place left n kind is longest short stay =
-    longest short (stay_in_old t node root i m off place left (n + 1) kind (rw is at stay))
+old_longest t part node root start off place left n kind is longest short stay =
+    let of = of_node part off node start is in
+    longest short (rw of.at (stay_in_old t node root of.i of.m off place left (n + 1) kind (rw of.is at stay)))
 
 -- beside a part that is itself a leaf span the root's leaf span is the longest
 pub beside_longest : (t : Table) → IsSound t → HasTrueRecords t → (part : Part) (root : NodeId) (off place left n : ℕ) (kind : RowKind) → root.0 < length t.nodes → place + left ≤ len_at t root.0

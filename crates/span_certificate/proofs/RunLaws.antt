@@ -1,18 +1,17 @@
 -- Runs of parts, and the bytes of descriptions.
 use Rattle.std.proofs.Common.{◌≡◌, ℕ, zero, suc, ◌+◌, ◌-◌, ◌^◌, ◌<◌, ◌≤◌, List, ◌∷◌, ◌++◌, length, map, take, drop, Some, refl, sym, ap, subst, ◌∙◌, arith, min}
-use Rattle.std.specs.Prelude.{replicate, ◌↔◌, Bool, true, false, IsTrue, Result}
+use Rattle.std.specs.Prelude.{◌↔◌, Bool, true, false, IsTrue, Result}
 use Rattle.std.specs.List.{range_with_len}
-use Rattle.std.proofs.lemmas.List.{take-replicate, drop-replicate, drop-drop, map-append}
+use Rattle.std.proofs.lemmas.List.{drop-drop, map-append}
 use Rattle.std.proofs.Math.Seq.{take-add}
 use Rattle.std.proofs.lemmas.Slice.{take-put_mid}
 use borrow.Rule.Slice.PartMut.{put_mid}
 use Rattle.function_leaf.specs.declared.coded.Coded.{Coded}
-use Rattle.function_leaf.specs.declared.coded.Coded.TheVariants as Function
 use Rattle.function_leaf.specs.Coded.{coded_byte}
 use Rattle.rope_node.specs.declared.node.NodeId.{NodeId}
 use Rattle.rope_node.specs.Table.{Table, IsSound, HasTrueRecords}
 use Rattle.rope_node.specs.Denotes.{Cell, Byte, Place, cells, cell_byte, text}
-use Rattle.rope_node.proofs.Parts.{span_within, span-map, span-range_with_len}
+use Rattle.rope_node.proofs.Parts.{span_within, span-map}
 use Rattle.lazy_file.specs.SourceTexts.{Agrees, Stated}
 use Rattle.lazy_file.specs.Readings.{Reading}
 use Rattle.cord_position.specs.Fetched.{AreStated, IsStated}
@@ -21,72 +20,41 @@ use Rattle.span_certificate.specs.declared.bytes.Run.{Run}
 use Rattle.cord_position.specs.Runs.{AreBytesOf}
 use Rattle.cord_position.proofs.LeafParts.{bytes_of_bytes, bytes_of_map}
 use Rattle.span_certificate.specs.declared.describe.Description.{Description}
-use Rattle.span_certificate.specs.declared.describe.Description.TheVariants.{Pooled, Sourced, Computed}
+use Rattle.span_certificate.specs.declared.content.Content.TheVariants.{Within, Described}
+use Rattle.span_certificate.specs.declared.describe.Description.TheVariants.{Pooled, Computed}
 use Rattle.span_certificate.specs.declared.part.Part.{Part}
-use Rattle.span_certificate.specs.declared.part.Part.TheVariants.{Old, Pool, Source, Fill}
 use Rattle.span_certificate.specs.declared.walk.Span.{Span}
 use Rattle.span_certificate.specs.Parts.{part_len, part_cells, IsPart}
-use Rattle.span_certificate.specs.Leads.{described_cells, Describes}
-use Rattle.span_certificate.specs.Steps.{IsReached}
+use Rattle.span_certificate.specs.Leads.{content_from, described_cells, Describes}
+use Rattle.span_certificate.specs.Steps.{IsReached, IsSpan}
 use Rattle.span_certificate.specs.Runs.{IsRunOf, ReadsCells, TellsSame}
 use Rattle.span_certificate.proofs.ComparedCells.{AreAmong, among_first, among_second, among_span, among_through, among_both, all_among, cells_among}
 use Rattle.span_certificate.proofs.Cells.{leads_cells}
+use Rattle.span_certificate.proofs.Contents.{part_content, described_room}
 use Rattle.span_certificate.proofs.NextRows.{fewer_same}
 
-pub old_run : (t : Table) → IsSound t → HasTrueRecords t → (part : Part) (node : NodeId) (i m off left : ℕ) (z : Span) (what : Description) → part ≡ Old (Some node) i m → IsPart t part → 1 ≤ left → off + left ≤ part_len part
-    → IsReached t (record { node = node; start = i + off; len = left }) z → Describes t z.node.0 z.start what → IsRunOf t part off left (record { what = what; len = z.len })
-old_run t s h part node i m off left z what is is_part some fits reached d =
-    let held : IsPart t (Old (Some node) i m) = subst (IsPart t) is is_part in
-    let fits' : off + left ≤ m = rw is at fits in
-    let same = leads_cells t s h reached.is_span.some reached.leads held.1.0 (omega (arith, held.1.1, fits', reached.few)) in
+pub old_run : (t : Table) → IsSound t → HasTrueRecords t → (part : Part) (node : NodeId) (start off left : ℕ) (z : Span) (what : Description) → content_from part off ≡ Some (Within node start) → off + left ≤ part_len part
+    → IsSpan t (record { node = node; start = start; len = left }) → IsReached t (record { node = node; start = start; len = left }) z → Describes t z.node.0 z.start what → IsRunOf t part off left (record { what = what; len = z.len })
+old_run t s h part node start off left z what is fits of_node reached d =
+    let same = leads_cells t s h reached.is_span.some reached.leads of_node.there (omega (arith, of_node.inside, reached.few)) in
     record {
       some = reached.is_span.some;
       few = reached.few;
       cells = λ n le.
-          rw is (span_within n off m i (cells t node.0) (omega (arith, le, reached.few, fits')) ∙ ap (λ (j : ℕ). take n (drop j (cells t node.0))) (omega arith)
-          ∙ fewer_same n z.len (i + off) z.start (cells t node.0) (cells t z.node.0) le same
-          ∙ d.cells n (omega (arith, le, reached.is_span.inside)));
+          part_content t part off n (Within node start) is (omega (arith, le, reached.few, fits))
+          ∙ fewer_same n z.len start z.start (cells t node.0) (cells t z.node.0) le same
+          ∙ d.cells n (omega (arith, le, reached.is_span.inside));
       room = λ n le. d.room n (omega (arith, le, reached.is_span.inside));
     }
 
-pub pool_run : (t : Table) → IsSound t → (part : Part) (a m off left : ℕ) → part ≡ Pool a m → IsPart t part → 1 ≤ left → off + left ≤ part_len part → IsRunOf t part off left (record { what = Pooled (a + off); len = left })
-pool_run t s part a m off left is is_part some fits =
-    let held : IsPart t (Pool a m) = subst (IsPart t) is is_part in
-    let fits' : off + left ≤ m = rw is at fits in
-    record {
-      some = some;
-      few = omega arith;
-      cells = λ n le. rw is (span-map Byte n off (take m (drop a t.pool)) ∙ ap (map Byte) (span_within n off m a t.pool (omega (arith, le, fits')) ∙ ap (λ (j : ℕ). take n (drop j t.pool)) (omega arith)));
-      room = λ n le. omega (arith, held.1, le, fits');
-    }
-
-pub source_run : (t : Table) → IsSound t → (part : Part) (r m off left : ℕ) → part ≡ Source r m → IsPart t part → 1 ≤ left → off + left ≤ part_len part → IsRunOf t part off left (record { what = Sourced r off; len = left })
-source_run t s part r m off left is is_part some fits =
-    let held : IsPart t (Source r m) = subst (IsPart t) is is_part in
-    let fits' : off + left ≤ m = rw is at fits in
-    record {
-      some = some;
-      few = omega arith;
-      cells = λ n le. rw is (span-map (Place r) n off (range_with_len 0 m) ∙ ap (map (Place r)) (span-range_with_len n off 0 m (omega (arith, le, fits')) ∙ ap (λ (j : ℕ). range_with_len j n) (omega arith)));
-      room = λ n le. omega (arith, held.1.1, s.sources r, le, fits');
-    }
-
-constant : (y : Cell) (n a : ℕ) → replicate n y ≡ map (λ k. y) (range_with_len a n)
-constant y zero a = refl
-constant y (suc n) a = ap (λ l. y ∷ l) (constant y n (a + 1))
-
-pub fill_cells : (t : Table) (c m off n : ℕ) → off + n ≤ m → take n (drop off (part_cells t (Fill c m))) ≡ described_cells t n (Computed (Function.Fill c) 0)
-fill_cells t c m off n fits = ap (take n) (drop-replicate off m (Byte c)) ∙ take-replicate n (m - off) (Byte c) (omega arith) ∙ constant (Byte c) n 0
-
-pub fill_run : (t : Table) (part : Part) (c m off left : ℕ) → left < 2 ^ 64 → part ≡ Fill c m → 1 ≤ left → off + left ≤ part_len part → IsRunOf t part off left (record { what = Computed (Function.Fill c) 0; len = left })
-fill_run t part c m off left short is some fits =
-    let fits' : off + left ≤ m = rw is at fits in
-    record {
-      some = some;
-      few = omega arith;
-      cells = λ n le. rw is (fill_cells t c m off n (omega (arith, le, fits')));
-      room = λ n le. omega (arith, le, short);
-    }
+pub described_run : (t : Table) → IsSound t → (part : Part) (off left : ℕ) (what : Description) → content_from part off ≡ Some (Described what) → IsPart t part → 1 ≤ left → left < 2 ^ 64 → off + left ≤ part_len part
+    → IsRunOf t part off left (record { what = what; len = left })
+described_run t s part off left what is is_part some short fits = record {
+  some = some;
+  few = omega arith;
+  cells = λ n le. part_content t part off n (Described what) is (omega (arith, le, fits));
+  room = λ n le. described_room t s part off n what is is_part (omega (arith, le, fits)) (omega (arith, le, short));
+}
 
 -- a further piece of the pool, written behind the first bytes
 pub filled_more : (pool buffer piece : List ℕ) (a done n k : ℕ) → done + n ≤ length buffer → length piece ≡ n → piece ≡ take n (drop (a + done) pool) → take done buffer ≡ take done (drop a pool)

@@ -4,11 +4,14 @@ use Rattle.std.proofs.lemmas.List.{take_all, length-map, map-id}
 use Rattle.std.proofs.lemmas.Simd.{map-map}
 use Rattle.std.proofs.Math.Seq.{take-add}
 use Rattle.function_leaf.specs.declared.coded.Coded.{Coded}
+use Rattle.function_leaf.specs.declared.coded.Coded.TheVariants as Function
 use Rattle.rope_node.specs.declared.node.NodeId.{NodeId}
 use Rattle.rope_node.specs.Table.{Table, view_at, IsSound, HasTrueRecords}
 use Rattle.rope_node.specs.Denotes.{Cell, Byte, cells, cell_byte, rope_cells, rope_len, IsRope, text}
 use Rattle.rope_node.proofs.Parts.{span_within, span-map}
+use Rattle.span_certificate.specs.declared.content.Content.TheVariants.{Described}
 use Rattle.span_certificate.specs.declared.describe.Description.{Description}
+use Rattle.span_certificate.specs.declared.describe.Description.TheVariants.{Pooled, Sourced, Computed}
 use Rattle.span_certificate.specs.declared.part.Part.{Part}
 use Rattle.span_certificate.specs.declared.part.Part.TheVariants.{Old, Pool, Source, Fill}
 use Rattle.span_certificate.specs.declared.row.Row.{Row}
@@ -22,7 +25,7 @@ use Rattle.span_certificate.proofs.ComparedCells.{bytes_of_each, compared_all}
 use Rattle.span_certificate.proofs.Cells.{leads_cells, leads_inside}
 use Rattle.span_certificate.proofs.Describing.{leaf_cells}
 use Rattle.span_certificate.proofs.Covering.{holds_place, length-parts_cells, place_of_more, place_of_all}
-use Rattle.span_certificate.proofs.RunLaws.{pool_run, source_run, fill_cells}
+use Rattle.span_certificate.proofs.Contents.{part_content}
 use Rattle.rope_node.proofs.Ropes.{rope_length}
 
 -- ---- one row
@@ -51,9 +54,9 @@ part_leads_cells t s h n k o (Fill c m) off some is fits lead = absurd lead
 part_described : (t : Table) → IsSound t → HasTrueRecords t → (coded : ℕ → Coded) → AreAnswered t coded → (n : ℕ) (part : Part) (off : ℕ) (d : Description) → 1 ≤ n → IsPart t part → off + n ≤ part_len part → PartHasDescription t coded n part off d
     → take n (drop off (part_cells t part)) ≡ described_cells t n d
 part_described t s h coded answers n (Old rope i m) off d some is fits of_part = old_cells t rope i m off n fits ∙ rope_described t s h coded answers n rope (i + off) d some is.1.0 (omega (arith, is.1.1, fits)) of_part
-part_described t s h coded answers n (Pool a m) off d some is fits of_part = (pool_run t s (Pool a m) a m off n refl is some fits).cells n (omega arith) ∙ ap (described_cells t n) of_part
-part_described t s h coded answers n (Source r m) off d some is fits of_part = (source_run t s (Source r m) r m off n refl is some fits).cells n (omega arith) ∙ ap (described_cells t n) of_part
-part_described t s h coded answers n (Fill c m) off d some is fits of_part = fill_cells t c m off n fits ∙ ap (described_cells t n) of_part
+part_described t s h coded answers n (Pool a m) off d some is fits of_part = part_content t (Pool a m) off n (Described (Pooled (a + off))) refl fits ∙ ap (described_cells t n) of_part
+part_described t s h coded answers n (Source r m) off d some is fits of_part = part_content t (Source r m) off n (Described (Sourced r off)) refl fits ∙ ap (described_cells t n) of_part
+part_described t s h coded answers n (Fill c m) off d some is fits of_part = part_content t (Fill c m) off n (Described (Computed (Function.Fill c) 0)) refl fits ∙ ap (described_cells t n) of_part
 
 -- spans of parts that have one description have the same cells
 pub one_description_cells : (t : Table) → IsSound t → HasTrueRecords t → (coded : ℕ → Coded) → AreAnswered t coded → (n : ℕ) (part : Part) (off : ℕ) (other : Part) (place : ℕ)

@@ -12,6 +12,8 @@ use Rattle.rope_node.specs.Denotes.{Cell, Byte, Place, cells}
 use Rattle.rope_node.specs.Coded.{AnswersCoded}
 use Rattle.span_certificate.specs.declared.describe.Description.{Description}
 use Rattle.span_certificate.specs.declared.describe.Description.TheVariants.{Pooled, Sourced, Computed}
+use Rattle.span_certificate.specs.declared.content.Content.{Content}
+use Rattle.span_certificate.specs.declared.content.Content.TheVariants.{Within, Described}
 use Rattle.span_certificate.specs.declared.part.Part.{Part}
 use Rattle.span_certificate.specs.declared.part.Part.TheVariants.{Old, Pool, Source, Fill}
 
@@ -70,6 +72,19 @@ PartHasDescription t coded n (Old rope i m) off d = RopeHasDescription t coded n
 PartHasDescription t coded n (Pool a m) off d = Pooled (a + off) ≡ d
 PartHasDescription t coded n (Source s m) off d = Sourced s off ≡ d
 PartHasDescription t coded n (Fill c m) off d = Computed (Function.Fill c) 0 ≡ d
+
+-- what the bytes of a part from off on are: those of a node from a place on, or of a description
+abbrev pub content_from : Part → ℕ → Option Content
+content_from (Old None i m) off = None
+content_from (Old (Some x) i m) off = Some (Within x (i + off))
+content_from (Pool a m) off = Some (Described (Pooled (a + off)))
+content_from (Source s m) off = Some (Described (Sourced s off))
+content_from (Fill c m) off = Some (Described (Computed (Function.Fill c) 0))
+
+-- n bytes from the place on lie in the node
+abbrev pub LiesWithin : Table → ℕ → Content → Type 0
+LiesWithin t n (Within x p) = (x.0 < length t.nodes) × (p + n ≤ len_at t x.0)
+LiesWithin t n (Described d) = Unit {0}
 
 -- what a description of n bytes denotes
 abbrev pub described_cells : Table → ℕ → Description → List Cell

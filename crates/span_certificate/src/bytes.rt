@@ -9,13 +9,14 @@ ghost use Rattle.span_certificate.specs.Runs.{IsRunOf, ReadsCells, TellsSame};
 ghost use Rattle.span_certificate.specs.Trails.{AreWays};
 ghost use Rattle.span_certificate.specs.declared.looks.TheConstants.{LOOKS_LIMIT};
 
+use crate::content::{Content, content_of};
 use crate::describe::{Description, describe};
 use crate::looks::{Count, CountedSpace};
 use crate::part::Part;
 use crate::walk::Span;
 use crate::way::{Way, Ways};
 use cord_position::fill_source;
-use function_leaf::{Coded, fill};
+use function_leaf::fill;
 use lazy_file::{SourceFault, Sources};
 use std::sync::ledger::Ledger;
 
@@ -48,43 +49,23 @@ pub fn run_of<S: CountedSpace<L>, W: Way, L: Ledger>(
     ensures way { W.is_way (S.table space.now) way.new }
     ensures few { count.new ≤ count.old + 66 }
 {
-    match part {
-        Part::Old { rope, i, n: _ } => match rope {
-            None => unreachable!(),
-            Some(node) => {
-                let z = way.first_leaf(
-                    space,
-                    Span {
-                        node,
-                        start: i + off,
-                        len: left,
-                    },
-                    count,
-                );
-                match describe(space, z.span.node, z.view, z.span.start, count) {
-                    None => unreachable!(),
-                    Some(what) => Run {
-                        what,
-                        len: z.span.len,
-                    },
-                }
+    match content_of::<S, L>(space, part, off) {
+        Content::Described(what) => Run { what, len: left },
+        Content::Within(node, start) => {
+            let x = Span {
+                node,
+                start,
+                len: left,
+            };
+            let z = way.first_leaf(space, x, count);
+            match describe(space, z.span.node, z.view, z.span.start, count) {
+                None => unreachable!(),
+                Some(what) => Run {
+                    what,
+                    len: z.span.len,
+                },
             }
-        },
-        Part::Pool { a, n: _ } => Run {
-            what: Description::Pooled { a: a + off },
-            len: left,
-        },
-        Part::Source { s, n: _ } => Run {
-            what: Description::Sourced { s, a: off },
-            len: left,
-        },
-        Part::Fill { c, n: _ } => Run {
-            what: Description::Computed {
-                f: Coded::Fill(c),
-                i: 0,
-            },
-            len: left,
-        },
+        }
     }
 }
 

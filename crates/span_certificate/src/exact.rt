@@ -9,13 +9,13 @@ ghost use Rattle.span_certificate.specs.Steps.{IsSpan};
 ghost use Rattle.span_certificate.specs.Trails.{IsTrail};
 ghost use Rattle.span_certificate.specs.declared.describe.Description.{Description};
 
+use crate::content::{Content, content_of};
 use crate::describe::{Description, describe};
 use crate::looks::{Count, CountedSpace};
 use crate::part::Part;
 use crate::trail::Trail;
 use crate::walk::Span;
 use crate::way::{FromRoot, Way};
-use function_leaf::Coded;
 use rope_node::{CodedSpace, NodeId, NodeView};
 use std::marker::Brand;
 use std::sync::ledger::{Blank, Ledger};
@@ -156,17 +156,9 @@ pub fn describe_span<S: CountedSpace<L>, W: Way, L: Ledger>(
     ensures way { W.is_way (S.table space.now) way.new }
     ensures few { count.new ≤ count.old + 66 }
 {
-    match part {
-        Part::Old { rope, i, n: _ } => match rope {
-            None => None,
-            Some(node) => describe_node(space, way, node, i + off, len, count),
-        },
-        Part::Pool { a, n: _ } => Some(Description::Pooled { a: a + off }),
-        Part::Source { s, n: _ } => Some(Description::Sourced { s, a: off }),
-        Part::Fill { c, n: _ } => Some(Description::Computed {
-            f: Coded::Fill(c),
-            i: 0,
-        }),
+    match content_of::<S, L>(space, part, off) {
+        Content::Within(node, place) => describe_node(space, way, node, place, len, count),
+        Content::Described(d) => Some(d),
     }
 }
 

@@ -3,6 +3,7 @@
 
 mod bytes;
 pub mod codes;
+mod content;
 mod cover;
 mod descent;
 mod describe;

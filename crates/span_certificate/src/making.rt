@@ -1,17 +1,17 @@
 //! Rows made for the parts of a command and its root.
 
 ghost use Rattle.std.specs.Prelude.{◌≡◌, ◌+◌, ◌<◌, ◌≤◌, length, take, drop, Some, IfOk, IsErrOf};
-ghost use Rattle.rope_node.specs.Table.{len_at, IsSound, HasTrueRecords};
+ghost use Rattle.rope_node.specs.Table.{IsSound, HasTrueRecords};
 ghost use Rattle.rope_node.specs.Denotes.{cells, rope_cells, IsRope};
-ghost use Rattle.span_certificate.specs.Parts.{part_at, part_len, part_cells, parts_cells, IsPart, AreParts};
+ghost use Rattle.span_certificate.specs.Parts.{part_len, part_cells, parts_cells, IsPart, AreParts};
 ghost use Rattle.span_certificate.specs.Covers.{CoversAlways, MeetsNoSource};
 ghost use Rattle.span_certificate.specs.Longest.{AreLongest, IsCutShort, StayWithin};
 ghost use Rattle.span_certificate.specs.declared.making.TheConstants.{ROWS_LIMIT};
 ghost use Rattle.span_certificate.specs.Looks.{BeginsCount};
-ghost use Rattle.span_certificate.specs.Steps.{IsNext};
+ghost use Rattle.span_certificate.specs.Steps.{IsNext, IsSpan, span_cells};
 ghost use Rattle.span_certificate.specs.Trails.{AreWays};
 
-use crate::describe::Description;
+use crate::content::{Content, content_of};
 use crate::looks::{Count, CountedSpace};
 use crate::part::Part;
 use crate::part_iter::PartIter;
@@ -20,7 +20,6 @@ use crate::row::Row;
 use crate::splices::Splices;
 use crate::walk::{Span, next_leaf};
 use crate::way::{Trails, Way, Ways, are_short};
-use function_leaf::Coded;
 use rope_node::{CodedSpace, NodeId, NodeSpace, Rope};
 use std::alloc::Global;
 use std::marker::Brand;
@@ -38,75 +37,35 @@ pub enum MakeFault {
     Memory,
 }
 
-/// The longest row for the first of the next `left` bytes, where they have the same cells on both sides.
+/// The longest row for the first bytes of a span of the root, which has the same cells as the part's next ones.
 fn next_row<S: CountedSpace<L>, W: Way, L: Ledger>(
     space: &S,
     ways: &mut Ways<W>,
     part: Part,
     off: u64,
-    root: NodeId,
-    place: u64,
-    left: u64,
+    y: Span,
     count: &mut Count<L>,
 ) -> Row
     requires sound { IsSound (S.table space.now) }
     requires true_records { HasTrueRecords (S.table space.now) }
     requires ways { AreWays W.is_way (S.table space.now) ways.old }
     requires part { IsPart (S.table space.now) part }
-    requires some { 1 ≤ left }
-    requires inside_part { off + left ≤ part_len part }
-    requires there { root.0 < length (S.table space.now).nodes }
-    requires inside_root { place + left ≤ len_at (S.table space.now) root.0 }
-    requires same { take left (drop off (part_cells (S.table space.now) part))
-        ≡ take left (drop place (cells (S.table space.now) root.0)) }
-    ensures next { IsNext (S.table space.now) (S.coded space.now)
-        part off root place left result }
-    ensures longest { result.len < left
-        → ¬ StayWithin (S.table space.now) (result.len + 1) part off (Some root) place result.kind }
+    requires inside { off + y.len ≤ part_len part }
+    requires y { IsSpan (S.table space.now) y }
+    requires same { take y.len (drop off (part_cells (S.table space.now) part))
+        ≡ span_cells (S.table space.now) y }
+    ensures next { IsNext (S.table space.now) (S.coded space.now) part off y.node y.start y.len result }
+    ensures longest { result.len < y.len
+        → ¬ StayWithin (S.table space.now) (result.len + 1) part off (Some y.node) y.start result.kind }
     ensures ways { AreWays W.is_way (S.table space.now) ways.new }
 {
-    let y = Span {
-        node: root,
-        start: place,
-        len: left,
-    };
     let Ways { of_part, of_root } = ways;
-    match part {
-        Part::Old { rope, i, n: _ } => match rope {
-            Some(node) => {
-                let x = Span {
-                    node,
-                    start: i + off,
-                    len: left,
-                };
-                of_part.next_old(of_root, space, x, y, count)
-            }
-            None => unreachable!(),
-        },
-        Part::Pool { a, n: _ } => next_leaf(
-            space,
-            of_root,
-            Description::Pooled { a: a + off },
-            y,
-            count,
-        ),
-        Part::Source { s, n: _ } => next_leaf(
-            space,
-            of_root,
-            Description::Sourced { s, a: off },
-            y,
-            count,
-        ),
-        Part::Fill { c, n: _ } => next_leaf(
-            space,
-            of_root,
-            Description::Computed {
-                f: Coded::Fill(c),
-                i: 0,
-            },
-            y,
-            count,
-        ),
+    match content_of::<S, L>(space, part, off) {
+        Content::Described(d) => next_leaf(space, of_root, d, y, count),
+        Content::Within(node, start) => {
+            let len = y.len;
+            of_part.next_old(of_root, space, Span { node, start, len }, y, count)
+        }
     }
 }
 
@@ -149,16 +108,12 @@ fn make_for<S: CodedSpace, P: Splices, W: Way, L: Ledger>(
         match at.part {
             None => unreachable!(),
             Some(part) => {
-                let row = next_row(
-                    space,
-                    ways,
-                    part,
-                    at.off,
-                    root,
-                    place,
-                    part.len() - at.off,
-                    &mut count,
-                );
+                let y = Span {
+                    node: root,
+                    start: place,
+                    len: part.len() - at.off,
+                };
+                let row = next_row(space, ways, part, at.off, y, &mut count);
                 rows.push(row).map_err(|_| MakeFault::Memory)?;
                 place += row.len;
                 at.skip(row.len);

@@ -35,11 +35,11 @@ next_row-row-requires-clause-part g c =
     c.requires.parts c.requires.root c.requires.same c.loop-place.invariant.at c.in-Some.is c.len-in-Some.ensures in
     s.is_part
 
-pub next_row-row-requires-clause-inside_root : goal.next_row-row-requires-clause-inside_root
-next_row-row-requires-clause-inside_root g c =
+pub next_row-row-requires-clause-y : goal.next_row-row-requires-clause-y
+next_row-row-requires-clause-y g c =
     let s = step_here (g.S.NodeSpace.table c.args.space.now) c.requires.sound c.requires.true_records c.args.parts c.args.root c.loop-place.place c.loop-place.at.part c.loop-place.at.off c.loop-place.at.rest c.in-Some.part c.len-in-Some.result
     c.requires.parts c.requires.root c.requires.same c.loop-place.invariant.at c.in-Some.is c.len-in-Some.ensures in
-    s.inside_root
+    record { there = c.requires.root; some = s.some; inside = s.inside_root }
 
 pub next_row-row-requires-clause-same : goal.next_row-row-requires-clause-same
 next_row-row-requires-clause-same g c =
