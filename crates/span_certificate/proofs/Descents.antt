@@ -4,9 +4,7 @@ use Rattle.rope_node.specs.declared.node.NodeId.{NodeId}
 use Rattle.rope_node.specs.declared.node.NodeView.{NodeView}
 use Rattle.rope_node.specs.declared.node.NodeView.TheVariants.{Lit, Src, Fun, Cat, Sub}
 use Rattle.rope_node.specs.Table.{Table, view_at, len_at, IsLeaf, IsSound, HasTrueRecords}
-use Rattle.span_certificate.specs.declared.descent.SpanPlace.{SpanPlace}
 use Rattle.span_certificate.specs.Leads.{Leads, here, in_left, in_right, in_base, LeadsToLeaf}
-use Rattle.span_certificate.specs.Descents.{LeadsToSpan}
 
 -- a concatenation is no leaf
 pub not_leaf_cat : (v : NodeView) (l r : NodeId) → v ≡ Cat l r → IsLeaf v → ⊥
@@ -53,13 +51,6 @@ at_leaf {t} {n} {k} {o} {x} (in_left l r e fits lead) leaf = absurd (not_leaf_ca
 at_leaf {t} {n} {k} {o} {x} (in_right l r e past lead) leaf = absurd (not_leaf_cat (view_at t x) l r e leaf)
 at_leaf {t} {n} {k} {o} {x} (in_base b i e lead) leaf = absurd (not_leaf_sub (view_at t x) b i e leaf)
 
--- the span of n bytes from p in node x is where the span from q in node y leads on its way down
-pub record IsOnTheWay (t : Table) (n y q x p : ℕ) : Type 0 where
-  pub there : x < length t.nodes
-  pub inside : p + n ≤ len_at t x
-  pub forth : (k o : ℕ) → LeadsToLeaf t n k o y q → LeadsToLeaf t n k o x p
-  pub back : (k o : ℕ) → LeadsToLeaf t n k o x p → LeadsToLeaf t n k o y q
-
 -- what is known of a concatenation, and of a substring, in a sound table with true records
 pub children_of_cat : (t : Table) → IsSound t → HasTrueRecords t → (x : ℕ) → x < length t.nodes → (l r : NodeId) → view_at t x ≡ Cat l r → (l.0 < x) × (r.0 < x) × (len_at t x ≡ len_at t l.0 + len_at t r.0)
 children_of_cat t s h x inside l r e =
@@ -72,50 +63,3 @@ base_of_sub t s x inside b i e =
     let base = rw e at (s.nodes x inside).references in
     let held = rw e at (s.nodes x inside).span in
     (base, held)
-
-pub goes_left : (t : Table) → IsSound t → HasTrueRecords t → (n y q x p : ℕ) (l r : NodeId) → 1 ≤ n → view_at t x ≡ Cat l r → p + n ≤ len_at t l.0 → IsOnTheWay t n y q x p → IsOnTheWay t n y q l.0 p
-goes_left t s h n y q x p l r some e fits way =
-    let c = children_of_cat t s h x way.there l r e in
-    record {
-      there = omega (arith, c.0, way.there);
-      inside = fits;
-      forth = λ k o lead. let down = way.forth k o lead in
-          elim (after_cat l r down.0 down.1 e) [ inl w ↦ (w.1, down.1) | inr w ↦ absurd (omega (arith, w.0)) ];
-      back = λ k o lead. way.back k o (in_left l r e fits lead.0, lead.1);
-    }
-
-pub goes_right : (t : Table) → IsSound t → HasTrueRecords t → (n y q x p : ℕ) (l r : NodeId) → 1 ≤ n → view_at t x ≡ Cat l r → len_at t l.0 ≤ p → IsOnTheWay t n y q x p → IsOnTheWay t n y q r.0 (p - len_at t l.0)
-goes_right t s h n y q x p l r some e past way =
-    let c = children_of_cat t s h x way.there l r e in
-    record {
-      there = omega (arith, c.1, way.there);
-      inside = omega (arith, c.2, way.inside);
-      forth = λ k o lead. let down = way.forth k o lead in
-          elim (after_cat l r down.0 down.1 e) [ inl w ↦ absurd (omega (arith, w.0)) | inr w ↦ (w.1, down.1) ];
-      back = λ k o lead. way.back k o (in_right l r e past lead.0, lead.1);
-    }
-
-pub goes_down : (t : Table) → IsSound t → (n y q x p : ℕ) (b : NodeId) (i : ℕ) → view_at t x ≡ Sub b i → IsOnTheWay t n y q x p → IsOnTheWay t n y q b.0 (p + i)
-goes_down t s n y q x p b i e way =
-    let base = base_of_sub t s x way.there b i e in
-    record {
-      there = omega (arith, base.0, way.there);
-      inside = omega (arith, base.1, way.inside);
-      forth = λ k o lead. let down = way.forth k o lead in (after_sub b i down.0 down.1 e, down.1);
-      back = λ k o lead. way.back k o (in_base b i e lead.0, lead.1);
-    }
-
--- a span over the border of two children leads to no leaf
-pub over_border : (t : Table) (n y q x p k o : ℕ) (l r : NodeId) → view_at t x ≡ Cat l r → p < len_at t l.0 → len_at t l.0 < p + n → IsOnTheWay t n y q x p → LeadsToLeaf t n k o y q → ⊥
-over_border t n y q x p k o l r e before behind way lead =
-    let down = way.forth k o lead in
-    elim (after_cat l r down.0 down.1 e) [ inl w ↦ absurd (omega (arith, w.0)) | inr w ↦ absurd (omega (arith, w.0)) ]
-
--- a descent that has come to a leaf has found the one leaf span
-pub same_span : (t : Table) (n y q : ℕ) (x : NodeId) (p : ℕ) (v : NodeView) (s : SpanPlace) → IsLeaf (view_at t x.0) → v ≡ view_at t x.0 → IsOnTheWay t n y q x.0 p → LeadsToSpan t n y q s
-    → record { leaf = x; start = p; view = v } ≡ s
-same_span t n y q x p v s leaf is way lead =
-    let same = at_leaf (way.forth s.leaf.0 s.start lead.leads).0 leaf in
-    let node : x ≡ s.leaf = ap (λ k. record { 0 = k }) same.0 in
-    let view : v ≡ s.view = is ∙ ap (view_at t) same.0 ∙ sym lead.view in
-    ap (λ z. record { leaf = z; start = p; view = v }) node ∙ ap (λ o. record { leaf = s.leaf; start = o; view = v }) same.1 ∙ ap (λ w. record { leaf = s.leaf; start = s.start; view = w }) view

@@ -8,10 +8,9 @@ use Rattle.rope_node.specs.Table.{Table, view_at, len_at, IsLeaf, IsSound, HasTr
 use Rattle.rope_node.specs.Path.{span_at, shortened, rest_of}
 use Rattle.rope_node.proofs.LeafSpans.{span_step, begins}
 use Rattle.span_certificate.specs.declared.walk.Span.{Span}
-use Rattle.span_certificate.specs.Steps.{IsSpan, IsReached, cat_span, child_span}
+use Rattle.span_certificate.specs.Steps.{IsSpan, cat_span, child_span}
 use Rattle.span_certificate.specs.Descents.{first_of, as_leaf_span}
 use Rattle.span_certificate.proofs.Descents.{children_of_cat}
-use Rattle.span_certificate.proofs.Steps.{reached_itself, reached_through}
 
 -- the child span of a concatenation, on either side of its border
 pub span_in_left : (t : Table) (x : Span) (l r : NodeId) → x.start < len_at t l.0 → cat_span t x l r ≡ record { node = l; start = x.start; len = min x.len (len_at t l.0 - x.start) }
@@ -65,17 +64,3 @@ first_of_leaf t s x (Src s' a) is e leaf = rest_is t x is ∙ ap (shortened x.le
 first_of_leaf t s x Fun is e leaf = rest_is t x is ∙ ap (shortened x.len) (sym (span_step t s x.node.0 x.start is.there Fun (sym e)))
 first_of_leaf t s x (Cat l r) is e leaf = absurd leaf
 first_of_leaf t s x (Sub b i) is e leaf = absurd leaf
-
--- the first bytes of span x lead to span y, and both begin with the same
-pub record IsOnDescent (t : Table) (x y : Span) : Type 0 where
-  pub reached : IsReached t x y
-  pub first : first_of t y ≡ first_of t x
-
-pub descent_begins : (t : Table) (x : Span) → IsSpan t x → IsOnDescent t x x
-descent_begins t x is = record { reached = reached_itself t x is; first = refl }
-
-pub descent_goes : (t : Table) → IsSound t → HasTrueRecords t → (x y z : Span) (v : NodeView) → IsOnDescent t x y → v ≡ view_at t y.node.0 → Some z ≡ child_span t y v → IsReached t y z → IsOnDescent t x z
-descent_goes t s h x y z v way e is below = record {
-  reached = reached_through t x y z way.reached below;
-  first = first_of_child t s h y z v way.reached.is_span (sym e) is ∙ way.first;
-}

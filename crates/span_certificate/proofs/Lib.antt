@@ -8,6 +8,7 @@ pub mod Steps
 pub mod FirstLeaves
 pub mod Walks
 pub mod RowEnds
+pub mod Stands
 pub mod Stops
 pub mod NextRows
 pub mod ComparedCells

@@ -11,17 +11,14 @@ use Rattle.span_certificate.specs.declared.row.RowKind.{RowKind}
 use Rattle.span_certificate.specs.declared.row.RowKind.TheVariants.{Shared, Leaf, Bytes}
 use Rattle.span_certificate.specs.declared.walk.Span.{Span}
 use Rattle.span_certificate.specs.Leads.{Leads, here, in_left, in_right, in_base}
+use Rattle.span_certificate.specs.Descents.{OnlyAbove}
 use Rattle.span_certificate.specs.Longest.{LieInLeaf, SpansStayWithin, GoesToLeafEnd}
 use Rattle.span_certificate.specs.Steps.{IsSpan, IsReached, IsBelow, cat_span, child_span}
 use Rattle.span_certificate.proofs.Descents.{children_of_cat, base_of_sub, at_leaf}
 use Rattle.span_certificate.proofs.FirstLeaves.{span_in_left, span_in_right}
 use Rattle.span_certificate.proofs.Steps.{leads_shorter}
-use Rattle.span_certificate.proofs.Walks.{AreReached, are_reached_none, first_below, second_below}
+use Rattle.span_certificate.proofs.Walks.{AreReached}
 use Rattle.span_certificate.proofs.Ways.{after_cat_to, after_sub_to}
-
--- one byte more than n of span x leads to no node from this one down
-abbrev pub OnlyAbove : Table → ℕ → Span → NodeId → Type 0
-OnlyAbove t n x node = (k o : ℕ) → Leads t (n + 1) k o x.node.0 x.start → node.0 < k
 
 -- the spans that x and y lead to are as long as they, or one byte more of one side leads only to nodes above
 pub record AreWalked (t : Table) (x y a b : Span) : Type 0 where
@@ -96,37 +93,6 @@ module _ (t : Table) (s : IsSound t) (h : HasTrueRecords t) where
             let on = leads_on (omega arith) there (omega (arith, le, below.lower)) (leads_shorter (omega (arith, short)) reached.leads) lead in
             cut_at_child a z v (sym e) is below.lower short k o on
       ]
-
-  pub walked_none : (x y : Span) → IsSpan t x → IsSpan t y → y.len ≡ x.len → AreWalked t x y x y
-  walked_none x y is_x is_y e = record { reached = are_reached_none t x y is_x is_y e; cut = λ short. absurd (omega (arith, short)) }
-
-  pub first_walked : (x y a b z : Span) (v : NodeView) → IsSpan t x → v ≡ view_at t a.node.0 → Some z ≡ child_span t a v → AreWalked t x y a b → IsBelow t a z → AreWalked t x y z (record b { len = z.len })
-  first_walked x y a b z v is_x e is are below = record {
-    reached = first_below t x y a b z are.reached below;
-    cut = λ short. elim (cases_lt z.len a.len) [
-      | inl cut ↦ inl (cut_through x a z v is_x.there e is are.reached.first below cut)
-      | inr whole ↦
-          let same : a.len ≡ z.len = omega (arith, whole, below.reached.few) in
-          elim (rw same at (are.cut (omega (arith, same, short)))) [
-            | inl above ↦ inl (λ k o lead. omega (arith, above k o lead, below.lower))
-            | inr above ↦ inr above
-          ]
-    ];
-  }
-
-  pub second_walked : (x y a b z : Span) (v : NodeView) → IsSpan t y → v ≡ view_at t b.node.0 → Some z ≡ child_span t b v → AreWalked t x y a b → IsBelow t b z → AreWalked t x y (record a { len = z.len }) z
-  second_walked x y a b z v is_y e is are below = record {
-    reached = second_below t x y a b z are.reached below;
-    cut = λ short. elim (cases_lt z.len b.len) [
-      | inl cut ↦ inr (cut_through y b z v is_y.there e is are.reached.second below cut)
-      | inr whole ↦
-          let same : a.len ≡ z.len = omega (arith, whole, below.reached.few, are.reached.len) in
-          elim (rw same at (are.cut (omega (arith, same, short)))) [
-            | inl above ↦ inl above
-            | inr above ↦ inr (λ k o lead. omega (arith, above k o lead, below.lower))
-          ]
-    ];
-  }
 
   -- one byte more does not stay in the node that both lead to
   pub shared_ends : (x y a b : Span) → AreWalked t x y a b → a.node.0 ≡ b.node.0 → a.len < x.len → ¬ SpansStayWithin t (a.len + 1) x y (Shared a.node a.start)

@@ -22,8 +22,8 @@ use Rattle.span_certificate.specs.declared.row.RowKind.TheVariants.{Shared, Leaf
 use Rattle.span_certificate.specs.declared.walk.Span.{Span}
 use Rattle.span_certificate.specs.Leads.{here, leaf_description, coded_description}
 use Rattle.span_certificate.specs.declared.walk.TheConstants.{BYTES_LIMIT}
-use Rattle.span_certificate.specs.Steps.{IsSpan, span_cells, IsReached, IsBelow, SpansFit, IsRowOf, CellsAs, DescribedFits, IsDescribedRow, AreBytes}
-use Rattle.span_certificate.proofs.Steps.{leads_shorter, leads_through, reached_itself, reached_through, reached_shorter}
+use Rattle.span_certificate.specs.Steps.{IsSpan, span_cells, IsReached, SpansFit, IsRowOf, CellsAs, DescribedFits, IsDescribedRow, AreBytes}
+use Rattle.span_certificate.proofs.Steps.{leads_shorter, leads_through}
 use Rattle.span_certificate.proofs.Cells.{leads_cells}
 
 -- the first bytes of x and y lead to a and b, of one length
@@ -31,23 +31,6 @@ pub record AreReached (t : Table) (x y a b : Span) : Type 0 where
   pub first : IsReached t x a
   pub second : IsReached t y b
   pub len : b.len ≡ a.len
-
-pub are_reached_none : (t : Table) (x y : Span) → IsSpan t x → IsSpan t y → y.len ≡ x.len → AreReached t x y x y
-are_reached_none t x y is_x is_y e = record { first = reached_itself t x is_x; second = reached_itself t y is_y; len = e }
-
-pub first_below : (t : Table) (x y a b z : Span) → AreReached t x y a b → IsBelow t a z → AreReached t x y z (record b { len = z.len })
-first_below t x y a b z are below = record {
-  first = reached_through t x a z are.first below.reached;
-  second = reached_shorter t y b z.len below.reached.is_span.some (omega (arith, below.reached.few, are.len)) are.second;
-  len = refl;
-}
-
-pub second_below : (t : Table) (x y a b z : Span) → AreReached t x y a b → IsBelow t b z → AreReached t x y (record a { len = z.len }) z
-second_below t x y a b z are below = record {
-  first = reached_shorter t x a z.len below.reached.is_span.some (omega (arith, below.reached.few, are.len)) are.first;
-  second = reached_through t y b z are.second below.reached;
-  len = refl;
-}
 
 -- the cells of what is reached are the first ones of where it is reached from
 pub reached_cells : (t : Table) → IsSound t → HasTrueRecords t → (x z : Span) → IsSpan t x → IsReached t x z → span_cells t z ≡ take z.len (span_cells t x)

@@ -11,13 +11,6 @@ use Rattle.span_certificate.specs.Leads.{Leads, here, in_left, in_right, in_base
 use Rattle.span_certificate.specs.Descents.{LeadsToSpan}
 use Rattle.span_certificate.proofs.Descents.{children_of_cat, base_of_sub, not_leaf_cat, not_leaf_sub}
 
--- the n bytes of node x from p on are where those of node y from q on lead on their way to offset o of node k
-pub record IsOnWayTo (t : Table) (n k o y q x p : ℕ) : Type 0 where
-  pub there : x < length t.nodes
-  pub inside : p + n ≤ len_at t x
-  pub forth : Leads t n k o y q → Leads t n k o x p
-  pub back : Leads t n k o x p → Leads t n k o y q
-
 -- a test of two equations that failed
 pub away_of : (x k p o : ℕ) → ((x ≡ k) × (p ≡ o → ⊥)) ⊎ (x ≡ k → ⊥) → ¬ ((x ≡ k) × (p ≡ o))
 away_of x k p o (inl w) both = w.1 both.1
@@ -44,49 +37,11 @@ after_sub_to {t} {n} {k} {o} {x} {p} b i (in_base b' i' e lead) away is =
     let same_i : i' ≡ i = cc in
     subst (λ (y : NodeId). Leads t n k o y.0 (p + i)) same_b (subst (λ (j : ℕ). Leads t n k o b'.0 (p + j)) same_i lead)
 
-at_leaf_to : {t : Table} {n k o x p : ℕ} → Leads t n k o x p → IsLeaf (view_at t x) → ¬ ((x ≡ k) × (p ≡ o)) → ⊥
+pub at_leaf_to : {t : Table} {n k o x p : ℕ} → Leads t n k o x p → IsLeaf (view_at t x) → ¬ ((x ≡ k) × (p ≡ o)) → ⊥
 at_leaf_to (here e f) leaf away = away (e, f)
 at_leaf_to {t} {n} {k} {o} {x} (in_left l r e fits lead) leaf away = not_leaf_cat (view_at t x) l r e leaf
 at_leaf_to {t} {n} {k} {o} {x} (in_right l r e past lead) leaf away = not_leaf_cat (view_at t x) l r e leaf
 at_leaf_to {t} {n} {k} {o} {x} (in_base b i e lead) leaf away = not_leaf_sub (view_at t x) b i e leaf
-
--- a leaf leads to itself alone
-pub ends_at_leaf : {t : Table} {n k o y q x p : ℕ} → IsOnWayTo t n k o y q x p → IsLeaf (view_at t x) → ¬ ((x ≡ k) × (p ≡ o)) → ¬ Leads t n k o y q
-ends_at_leaf {t} {n} {k} {o} {y} {q} {x} {p} way leaf away lead = at_leaf_to (way.forth lead) leaf away
-
-pub way_left : (t : Table) → IsSound t → HasTrueRecords t → (n k o y q x p : ℕ) (l r : NodeId) → 1 ≤ n → ¬ ((x ≡ k) × (p ≡ o)) → view_at t x ≡ Cat l r → p + n ≤ len_at t l.0 → IsOnWayTo t n k o y q x p → IsOnWayTo t n k o y q l.0 p
-way_left t s h n k o y q x p l r some away e fits way =
-    let c = children_of_cat t s h x way.there l r e in
-    record {
-      there = omega (arith, c.0, way.there);
-      inside = fits;
-      forth = λ lead. elim (after_cat_to l r (way.forth lead) away e) [ inl w ↦ w.1 | inr w ↦ absurd (omega (arith, w.0)) ];
-      back = λ lead. way.back (in_left l r e fits lead);
-    }
-
-pub way_right : (t : Table) → IsSound t → HasTrueRecords t → (n k o y q x p : ℕ) (l r : NodeId) → 1 ≤ n → ¬ ((x ≡ k) × (p ≡ o)) → view_at t x ≡ Cat l r → len_at t l.0 ≤ p → IsOnWayTo t n k o y q x p → IsOnWayTo t n k o y q r.0 (p - len_at t l.0)
-way_right t s h n k o y q x p l r some away e past way =
-    let c = children_of_cat t s h x way.there l r e in
-    record {
-      there = omega (arith, c.1, way.there);
-      inside = omega (arith, c.2, way.inside);
-      forth = λ lead. elim (after_cat_to l r (way.forth lead) away e) [ inl w ↦ absurd (omega (arith, w.0)) | inr w ↦ w.1 ];
-      back = λ lead. way.back (in_right l r e past lead);
-    }
-
-pub way_down : (t : Table) → IsSound t → (n k o y q x p : ℕ) (b : NodeId) (i : ℕ) → ¬ ((x ≡ k) × (p ≡ o)) → view_at t x ≡ Sub b i → IsOnWayTo t n k o y q x p → IsOnWayTo t n k o y q b.0 (p + i)
-way_down t s n k o y q x p b i away e way =
-    let base = base_of_sub t s x way.there b i e in
-    record {
-      there = omega (arith, base.0, way.there);
-      inside = omega (arith, base.1, way.inside);
-      forth = λ lead. after_sub_to b i (way.forth lead) away e;
-      back = λ lead. way.back (in_base b i e lead);
-    }
-
-pub over_border_to : (t : Table) (n k o y q x p : ℕ) (l r : NodeId) → ¬ ((x ≡ k) × (p ≡ o)) → view_at t x ≡ Cat l r → p < len_at t l.0 → len_at t l.0 < p + n → IsOnWayTo t n k o y q x p → ¬ Leads t n k o y q
-over_border_to t n k o y q x p l r away e before behind way lead =
-    elim (after_cat_to l r (way.forth lead) away e) [ inl w ↦ absurd (omega (arith, w.0)) | inr w ↦ absurd (omega (arith, w.0)) ]
 
 -- where a descent ends, its leaf's description is the span's
 pub described_by_leaf : (t : Table) (coded : ℕ → Coded) (n x p : ℕ) (s : SpanPlace) → ((s' : SpanPlace) → (Some s ≡ Some s') ↔ LeadsToSpan t n x p s') → (d : Description)

@@ -14,8 +14,6 @@ use Rattle.span_certificate.specs.declared.row.Row.{Row}
 use Rattle.span_certificate.specs.declared.row.RowKind.{RowKind}
 use Rattle.span_certificate.specs.declared.row.RowKind.TheVariants.{Shared, Leaf, Bytes}
 use Rattle.span_certificate.specs.declared.walk.Span.{Span}
-use Rattle.span_certificate.specs.declared.shallow.Step.{Step}
-use Rattle.span_certificate.specs.declared.shallow.Step.TheVariants.{First, Second, Neither}
 use Rattle.span_certificate.specs.Leads.{Leads, HasDescription}
 use Rattle.span_certificate.specs.Covers.{KindFits}
 use Rattle.span_certificate.specs.declared.walk.TheConstants.{BYTES_LIMIT}
@@ -99,9 +97,3 @@ pub record IsNext (t : Table) (coded : ℕ → Coded) (part : Part) (off : ℕ) 
   pub few : row.len ≤ left
   pub fits : (source : ℕ → ℕ → ℕ) → KindFits t coded source row.len part off (Some root) place row.kind
   pub bytes : row.kind ≡ Bytes → AreBytes (take row.len (drop place (cells t root.0)))
-
--- a walk goes down to the child span of one of two spans, or both are of leaves
-abbrev pub GoesDownTo : Table → Span → NodeView → Span → NodeView → Step → Type 0
-GoesDownTo t a of_a b of_b (First z) = (Some z ≡ child_span t a of_a) × IsBelow t a z
-GoesDownTo t a of_a b of_b (Second w) = (Some w ≡ child_span t b of_b) × IsBelow t b w
-GoesDownTo t a of_a b of_b Neither = IsLeaf of_a × IsLeaf of_b

@@ -2,50 +2,38 @@
 use Rattle.std.specs.Prelude.{◌≡◌, ℕ, ◌+◌, ◌-◌, ◌<◌, ◌≤◌, List, length, get_or, min}
 use Rattle.rope_node.specs.declared.limits.TheConstants.{MOST_DEPTH}
 use Rattle.rope_node.specs.declared.node.NodeId.{NodeId}
-use Rattle.rope_node.specs.declared.node.NodeView.{NodeView}
-use Rattle.rope_node.specs.Table.{Table, len_at, depth_at, IsLeaf}
+use Rattle.rope_node.specs.Table.{Table, len_at, depth_at}
 use Rattle.span_certificate.specs.declared.stop.Stop.{Stop}
 use Rattle.span_certificate.specs.declared.trail.Trail.{Trail}
 use Rattle.span_certificate.specs.declared.way.Ways.{Ways}
 use Rattle.span_certificate.specs.declared.stop.TheConstants.{MOST_STOPS}
-use Rattle.span_certificate.specs.declared.walk.Descent.{Descent}
-use Rattle.span_certificate.specs.declared.walk.Descent.TheVariants.{First, Second, Neither}
+use Rattle.span_certificate.specs.declared.way.Descent.{Descent}
+use Rattle.span_certificate.specs.declared.way.Descent.TheVariants.{Below, Leaf, Border}
 use Rattle.span_certificate.specs.declared.walk.Span.{Span}
-use Rattle.span_certificate.specs.Descents.{first_of}
-use Rattle.span_certificate.specs.Leads.{Leads}
+use Rattle.span_certificate.specs.Descents.{IsStand}
+use Rattle.span_certificate.specs.Steps.{IsSpan}
 
 -- where the rope's byte at p stands in a stop's node
 abbrev pub place_in : Stop → ℕ → ℕ
 place_in stop p = stop.start + (p - stop.from)
 
--- what is left of a stop from the root's byte at p on, and of the root
-abbrev pub stop_span : Stop → ℕ → Span
-stop_span stop p = record { node = stop.node; start = place_in stop p; len = stop.end - p }
+-- the bytes of a stop's node to which the first bytes of span x of its root lead
+abbrev pub span_in : Span → Stop → Span
+span_in x stop = record { node = stop.node; start = place_in stop x.start; len = min x.len (stop.end - x.start) }
 
-abbrev pub rest_span : Table → ℕ → ℕ → Span
-rest_span t root p = record { node = record { 0 = root }; start = p; len = len_at t root - p }
+-- the n bytes from p on lie in the stop
+pub record Holds (stop : Stop) (p n : ℕ) : Type 0 where
+  pub behind : stop.from ≤ p
+  pub before : p + n ≤ stop.end
 
--- A stop and its root begin with the same leaf spans, and one byte more than to the stop's end leads only to nodes above.
-pub record HasEnd (t : Table) (root : ℕ) (stop : Stop) : Type 0 where
-  pub root_there : root < length t.nodes
-  pub first : (p : ℕ) → stop.from ≤ p → p < stop.end → first_of t (stop_span stop p) ≡ first_of t (rest_span t root p)
-  pub cut : (p k o : ℕ) → stop.from ≤ p → p < stop.end → stop.end < len_at t root → Leads t (stop.end - p + 1) k o root p
-      → stop.node.0 < k
-
--- The root's bytes from `from` up to `end` lead to the stop's node, which is the ith below the root.
+-- Each way down a span of the root that begins between `from` and `end` stands at the stop, which is the ith below the root.
 pub record IsTrailStop (t : Table) (root i : ℕ) (stop : Stop) : Type 0 where
   pub there : stop.node.0 < length t.nodes
   pub some : stop.from < stop.end
   pub inside : stop.start + (stop.end - stop.from) ≤ len_at t stop.node.0
   pub within : stop.end ≤ len_at t root
   pub shallow : depth_at t stop.node.0 + i ≤ MOST_DEPTH
-  pub leads : (n p : ℕ) → stop.from ≤ p → p + n ≤ stop.end → Leads t n stop.node.0 (place_in stop p) root p
-  pub ends : HasEnd t root stop
-
--- the n bytes from p on lie in the stop
-pub record Holds (stop : Stop) (p n : ℕ) : Type 0 where
-  pub behind : stop.from ≤ p
-  pub before : p + n ≤ stop.end
+  pub stands : (x : Span) → x.node.0 ≡ root → IsSpan t x → Holds stop x.start 1 → IsStand t x (span_in x stop)
 
 abbrev pub no_stop : Stop
 no_stop = record { node = record { 0 = 0 }; from = 0; end = 0; start = 0 }
@@ -105,14 +93,17 @@ pub record IsFound (t : Table) (root p : ℕ) (node : NodeId) (start : ℕ) (sto
   pub holds : Holds stop p 1
   pub at : place_in stop p ≡ start
 
--- a stop below another that holds the byte at p, whichever the root
-pub record IsStopBelow (t : Table) (p : ℕ) (stop z : Stop) : Type 0 where
-  pub stops : (root c : ℕ) → 1 ≤ c → IsTrailStop t root (c - 1) stop → IsTrailStop t root c z
-  pub holds : Holds z p 1
-  pub lower : z.node.0 < stop.node.0
+-- a trail down span x has come to this stop, the ith below the root
+pub record IsStopOf (t : Table) (x : Span) (way : Trail) (i : ℕ) (z : Stop) : Type 0 where
+  pub trail : IsTrailOf t x.node way
+  pub stop : IsTrailStop t x.node.0 i z
+  pub holds : Holds z x.start 1
 
--- a walk goes down one side by a step, or both are leaves
-abbrev pub GoesDown : Table → ℕ → Stop → NodeView → ℕ → Stop → NodeView → Descent → Type 0
-GoesDown t p a of_a q b of_b (First z) = IsStopBelow t p a z
-GoesDown t p a of_a q b of_b (Second w) = IsStopBelow t q b w
-GoesDown t p a of_a q b of_b Neither = IsLeaf of_a × IsLeaf of_b
+abbrev pub IsLastStop : Table → Span → Trail → Stop → Type 0
+IsLastStop t x trail stop = IsStopOf t x trail (trail.count - 1) stop
+
+-- a step down leads to a stop that goes behind the last one
+abbrev pub GoesBehind : Table → Span → Trail → Descent Stop → Type 0
+GoesBehind t x trail (Below z) = IsStopOf t x trail trail.count z
+GoesBehind t x trail Leaf = Unit {0}
+GoesBehind t x trail Border = Unit {0}

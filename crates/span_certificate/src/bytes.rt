@@ -10,6 +10,7 @@ ghost use Rattle.span_certificate.specs.Trails.{AreWays};
 ghost use Rattle.span_certificate.specs.declared.looks.TheConstants.{LOOKS_LIMIT};
 
 use crate::content::{Content, content_of};
+use crate::descent::first_leaf;
 use crate::describe::{Description, describe};
 use crate::looks::{Count, CountedSpace};
 use crate::part::Part;
@@ -57,7 +58,7 @@ pub fn run_of<S: CountedSpace<L>, W: Way, L: Ledger>(
                 start,
                 len: left,
             };
-            let z = way.first_leaf(space, x, count);
+            let z = first_leaf(space, way, x, count);
             match describe(space, z.span.node, z.view, z.span.start, count) {
                 None => unreachable!(),
                 Some(what) => Run {

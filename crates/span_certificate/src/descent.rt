@@ -1,15 +1,15 @@
-//! The way from a span of a node down to the leaf that it lies in.
+//! Ways from a span down: to the leaf that it begins in, to the leaf that it lies in, to one place.
 
-ghost use Rattle.std.specs.Prelude.{◌≡◌, ◌+◌, ◌<◌, ◌≤◌, ◌↔◌, length, Some, IfSome};
-ghost use Rattle.rope_node.specs.Table.{len_at, IsSound, HasTrueRecords};
+ghost use Rattle.std.specs.Prelude.{◌≡◌, ◌↔◌, ◌+◌, ◌≤◌, Some, IfSome, IsTrue};
+ghost use Rattle.rope_node.specs.Table.{IsSound, HasTrueRecords};
 ghost use Rattle.span_certificate.specs.Descents.{IsLeafOf, IsSpanPlace, LeadsToSpan};
+ghost use Rattle.span_certificate.specs.Leads.{Leads};
 ghost use Rattle.span_certificate.specs.Steps.{IsSpan};
-ghost use Rattle.span_certificate.specs.Trails.{IsTrail};
 ghost use Rattle.span_certificate.specs.declared.descent.SpanPlace.{SpanPlace};
 
 use crate::looks::{Count, CountedSpace};
-use crate::trail::Trail;
 use crate::walk::{Reached, Span};
+use crate::way::{Descent, Way};
 use rope_node::{NodeId, NodeView};
 use std::sync::ledger::Ledger;
 
@@ -23,105 +23,96 @@ pub struct SpanPlace {
     pub view: NodeView,
 }
 
-/// The leaf span to which the `len` bytes of `node` from `place` on lead, or nothing where they lie in
-/// no one leaf: found from the last stop of the trail that holds them.
-pub fn leaf_span_by<S: CountedSpace<L>, L: Ledger>(
+/// The leaf span that a span begins with, as far as it goes.
+pub fn first_leaf<S: CountedSpace<L>, W: Way, L: Ledger>(
     space: &S,
-    trail: &mut Trail,
-    node: NodeId,
-    place: u64,
-    len: u64,
-    count: &mut Count<L>,
-) -> Option<SpanPlace>
-    requires sound { IsSound (S.table space.now) }
-    requires true_records { HasTrueRecords (S.table space.now) }
-    requires trail { IsTrail (S.table space.now) trail.old }
-    requires there { node.0 < length (S.table space.now).nodes }
-    requires not_empty { 1 ≤ len }
-    requires inside { place + len ≤ len_at (S.table space.now) node.0 }
-    ensures inside { IfSome result (IsSpanPlace (S.table space.now) len) }
-    ensures leads { (s : SpanPlace)
-        → (result ≡ Some s) ↔ LeadsToSpan (S.table space.now) len node.0 place s }
-    ensures trail { IsTrail (S.table space.now) trail.new }
-    ensures few { count.new ≤ count.old + 65 }
-{
-    trail.begin(space, node);
-    let mut stop = trail.back_to(space, node, place, len, 0);
-    'down: loop {
-        let start = stop.place_in(place);
-        let view = space.look(stop.node, count);
-        match view {
-            NodeView::Cat { l, r } => {
-                let left = space.left_length(stop.node, l);
-                if left <= start {
-                    stop = stop.in_right(r, left);
-                    trail.push(space, node, stop);
-                } else if len <= left - start {
-                    stop = stop.in_left(l, left);
-                    trail.push(space, node, stop);
-                } else {
-                    return None;
-                }
-            }
-            NodeView::Sub { b, i } => {
-                stop = stop.in_base(b, i);
-                trail.push(space, node, stop);
-            }
-            NodeView::Lit { .. } | NodeView::Src { .. } | NodeView::Fun => {
-                return Some(SpanPlace {
-                    leaf: stop.node,
-                    start,
-                    view,
-                });
-            }
-        }
-    }
-}
-
-/// The leaf span that a span begins with, as far as it goes: found from the last stop of the trail that holds
-/// its first byte.
-pub fn first_leaf_by<S: CountedSpace<L>, L: Ledger>(
-    space: &S,
-    trail: &mut Trail,
+    way: &mut W,
     x: Span,
     count: &mut Count<L>,
 ) -> Reached
     requires sound { IsSound (S.table space.now) }
     requires true_records { HasTrueRecords (S.table space.now) }
-    requires trail { IsTrail (S.table space.now) trail.old }
+    requires way { W.is_way (S.table space.now) way.old }
     requires span { IsSpan (S.table space.now) x }
     ensures leaf { IsLeafOf (S.table space.now) x result }
-    ensures trail { IsTrail (S.table space.now) trail.new }
+    ensures way { W.is_way (S.table space.now) way.new }
     ensures few { count.new ≤ count.old + 65 }
 {
-    trail.begin(space, x.node);
-    let mut at = trail.back_to(space, x.node, x.start, 1, 0);
+    let mut here = way.begin(space, x, 1, 0);
     'down: loop {
-        let start = at.place_in(x.start);
+        let span = way.span(space, x, here);
+        let view = space.look(span.node, count);
+        match way.step(space, x, here, view, 1) {
+            Descent::Below(below) => here = below,
+            Descent::Leaf => return Reached { span, view },
+            Descent::Border => unreachable!(),
+        }
+    }
+}
+
+/// The leaf span to which a span leads, or nothing where it lies in no one leaf.
+pub fn leaf_span<S: CountedSpace<L>, W: Way, L: Ledger>(
+    space: &S,
+    way: &mut W,
+    x: Span,
+    count: &mut Count<L>,
+) -> Option<SpanPlace>
+    requires sound { IsSound (S.table space.now) }
+    requires true_records { HasTrueRecords (S.table space.now) }
+    requires way { W.is_way (S.table space.now) way.old }
+    requires span { IsSpan (S.table space.now) x }
+    ensures inside { IfSome result (IsSpanPlace (S.table space.now) x.len) }
+    ensures leads { (s : SpanPlace)
+        → (result ≡ Some s) ↔ LeadsToSpan (S.table space.now) x.len x.node.0 x.start s }
+    ensures way { W.is_way (S.table space.now) way.new }
+    ensures few { count.new ≤ count.old + 65 }
+{
+    let mut here = way.begin(space, x, x.len, 0);
+    'down: loop {
+        let at = way.span(space, x, here);
         let view = space.look(at.node, count);
-        match view {
-            NodeView::Cat { l, r } => {
-                let left = space.left_length(at.node, l);
-                if left <= start {
-                    at = at.in_right(r, left);
-                    trail.push(space, x.node, at);
-                } else {
-                    at = at.in_left(l, left);
-                    trail.push(space, x.node, at);
-                }
+        match way.step(space, x, here, view, x.len) {
+            Descent::Below(below) => here = below,
+            Descent::Leaf => {
+                return Some(SpanPlace {
+                    leaf: at.node,
+                    start: at.start,
+                    view,
+                });
             }
-            NodeView::Sub { b, i } => {
-                at = at.in_base(b, i);
-                trail.push(space, x.node, at);
-            }
-            NodeView::Lit { .. } | NodeView::Src { .. } | NodeView::Fun => {
-                let span = Span {
-                    node: at.node,
-                    start,
-                    len: x.len.min(at.end - x.start),
-                };
-                return Reached { span, view };
-            }
+            Descent::Border => return None,
+        }
+    }
+}
+
+/// Whether a span leads to the bytes of a node from a place on.
+pub fn leads_to<S: CountedSpace<L>, W: Way, L: Ledger>(
+    space: &S,
+    way: &mut W,
+    x: Span,
+    node: NodeId,
+    at: u64,
+    count: &mut Count<L>,
+) -> bool
+    requires sound { IsSound (S.table space.now) }
+    requires true_records { HasTrueRecords (S.table space.now) }
+    requires way { W.is_way (S.table space.now) way.old }
+    requires span { IsSpan (S.table space.now) x }
+    ensures leads { IsTrue result ↔ Leads (S.table space.now) x.len node.0 at x.node.0 x.start }
+    ensures way { W.is_way (S.table space.now) way.new }
+    ensures few { count.new ≤ count.old + 65 }
+{
+    let mut here = way.begin(space, x, x.len, node.0);
+    'down: loop {
+        let there = way.span(space, x, here);
+        if there.node.0 == node.0 && there.start == at {
+            return true;
+        }
+        let view = space.look(there.node, count);
+        match way.step(space, x, here, view, x.len) {
+            Descent::Below(below) => here = below,
+            Descent::Leaf => return false,
+            Descent::Border => return false,
         }
     }
 }

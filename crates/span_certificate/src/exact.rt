@@ -1,71 +1,23 @@
 //! Whether spans lead to one node, and what the leaf spans are that they lead to.
 
-ghost use Rattle.std.specs.Prelude.{◌≡◌, ◌↔◌, ◌+◌, ◌<◌, ◌≤◌, length, Some, IsTrue};
-ghost use Rattle.rope_node.specs.Table.{len_at, IsSound, HasTrueRecords};
+ghost use Rattle.std.specs.Prelude.{◌≡◌, ◌↔◌, ◌+◌, ◌≤◌, Some, IsTrue};
+ghost use Rattle.rope_node.specs.Table.{IsSound, HasTrueRecords};
 ghost use Rattle.span_certificate.specs.Parts.{part_len, IsPart};
-ghost use Rattle.span_certificate.specs.Leads.{Leads, PartLeads, HasDescription, PartHasDescription};
+ghost use Rattle.span_certificate.specs.Leads.{PartLeads, HasDescription, PartHasDescription};
 ghost use Rattle.span_certificate.specs.Looks.{BeginsCount};
 ghost use Rattle.span_certificate.specs.Steps.{IsSpan};
-ghost use Rattle.span_certificate.specs.Trails.{IsTrail};
 ghost use Rattle.span_certificate.specs.declared.describe.Description.{Description};
 
 use crate::content::{Content, content_of};
+use crate::descent::{leads_to, leaf_span};
 use crate::describe::{Description, describe};
 use crate::looks::{Count, CountedSpace};
 use crate::part::Part;
-use crate::trail::Trail;
 use crate::walk::Span;
 use crate::way::{FromRoot, Way};
-use rope_node::{CodedSpace, NodeId, NodeView};
+use rope_node::{CodedSpace, NodeId};
 use std::marker::Brand;
 use std::sync::ledger::{Blank, Ledger};
-
-/// Whether a span leads to the bytes of a node from a place on. It is looked for from the last stop of the trail that
-/// holds the span and is no lower than the node.
-pub fn leads_by<S: CountedSpace<L>, L: Ledger>(
-    space: &S,
-    trail: &mut Trail,
-    x: Span,
-    node: NodeId,
-    at: u64,
-    count: &mut Count<L>,
-) -> bool
-    requires sound { IsSound (S.table space.now) }
-    requires true_records { HasTrueRecords (S.table space.now) }
-    requires trail { IsTrail (S.table space.now) trail.old }
-    requires span { IsSpan (S.table space.now) x }
-    ensures leads { IsTrue result ↔ Leads (S.table space.now) x.len node.0 at x.node.0 x.start }
-    ensures trail { IsTrail (S.table space.now) trail.new }
-    ensures few { count.new ≤ count.old + 65 }
-{
-    trail.begin(space, x.node);
-    let mut stop = trail.back_to(space, x.node, x.start, x.len, node.0);
-    'down: loop {
-        let start = stop.place_in(x.start);
-        if stop.node.0 == node.0 && start == at {
-            return true;
-        }
-        match space.look(stop.node, count) {
-            NodeView::Cat { l, r } => {
-                let left = space.left_length(stop.node, l);
-                if left <= start {
-                    stop = stop.in_right(r, left);
-                    trail.push(space, x.node, stop);
-                } else if x.len <= left - start {
-                    stop = stop.in_left(l, left);
-                    trail.push(space, x.node, stop);
-                } else {
-                    return false;
-                }
-            }
-            NodeView::Sub { b, i } => {
-                stop = stop.in_base(b, i);
-                trail.push(space, x.node, stop);
-            }
-            NodeView::Lit { .. } | NodeView::Src { .. } | NodeView::Fun => return false,
-        }
-    }
-}
 
 /// Whether the `len` bytes of a part from `off` on lead to the place `at` of a node.
 pub fn part_leads<S: CountedSpace<L>, W: Way, L: Ledger>(
@@ -90,46 +42,38 @@ pub fn part_leads<S: CountedSpace<L>, W: Way, L: Ledger>(
 {
     match part {
         Part::Old { rope, i, n: _ } => match rope {
-            Some(of) => way.leads_to(
-                space,
-                Span {
+            Some(of) => {
+                let x = Span {
                     node: of,
                     start: i + off,
                     len,
-                },
-                node,
-                at,
-                count,
-            ),
+                };
+                leads_to(space, way, x, node, at, count)
+            }
             None => false,
         },
         Part::Pool { .. } | Part::Source { .. } | Part::Fill { .. } => false,
     }
 }
 
-/// The description of the leaf span that the `len` bytes of `node` from `place` on lead to, or nothing
-/// where they lead to none.
+/// The description of the leaf span that a span leads to, or nothing where it leads to none.
 #[inline(always)]
 fn describe_node<S: CountedSpace<L>, W: Way, L: Ledger>(
     space: &S,
     way: &mut W,
-    node: NodeId,
-    place: u64,
-    len: u64,
+    x: Span,
     count: &mut Count<L>,
 ) -> Option<Description>
     requires sound { IsSound (S.table space.now) }
     requires true_records { HasTrueRecords (S.table space.now) }
     requires way { W.is_way (S.table space.now) way.old }
-    requires there { node.0 < length (S.table space.now).nodes }
-    requires not_empty { 1 ≤ len }
-    requires inside { place + len ≤ len_at (S.table space.now) node.0 }
+    requires span { IsSpan (S.table space.now) x }
     ensures value { (d : Description) → (result ≡ Some d) ↔ HasDescription
-        (S.table space.now) (S.coded space.now) len node.0 place d }
+        (S.table space.now) (S.coded space.now) x.len x.node.0 x.start d }
     ensures way { W.is_way (S.table space.now) way.new }
     ensures few { count.new ≤ count.old + 66 }
 {
-    match way.leaf_span(space, node, place, len, count) {
+    match leaf_span(space, way, x, count) {
         None => None,
         Some(span) => describe(space, span.leaf, span.view, span.start, count),
     }
@@ -157,7 +101,9 @@ pub fn describe_span<S: CountedSpace<L>, W: Way, L: Ledger>(
     ensures few { count.new ≤ count.old + 66 }
 {
     match content_of::<S, L>(space, part, off) {
-        Content::Within(node, place) => describe_node(space, way, node, place, len, count),
+        Content::Within(node, start) => {
+            describe_node(space, way, Span { node, start, len }, count)
+        }
         Content::Described(d) => Some(d),
     }
 }

@@ -19,7 +19,6 @@ mod pieces;
 mod place;
 mod roots;
 mod row;
-mod shallow;
 mod splices;
 mod stop;
 mod trail;

@@ -13,6 +13,7 @@ ghost use Rattle.span_certificate.specs.Parts.{part_at, part_len, parts_len, IsP
 ghost use Rattle.span_certificate.specs.Places.{held};
 ghost use Rattle.span_certificate.specs.Trails.{AreWays};
 
+use crate::descent::leaf_span;
 use crate::exact::part_leads;
 use crate::looks::{Count, CountedSpace};
 use crate::part::Part;
@@ -21,7 +22,7 @@ use crate::place::PartPlace;
 use crate::row::{Row, RowKind};
 use crate::splices::Splices;
 use crate::trail::Trail;
-use crate::walk::BYTES_LIMIT;
+use crate::walk::{BYTES_LIMIT, Span};
 use crate::way::{FromRoot, Trails, Way, Ways, are_short};
 use rope_node::{CodedSpace, NodeId, NodeSpace, Rope, rope_len};
 use std::marker::Brand;
@@ -48,7 +49,10 @@ fn lies_in_leaf<S: CountedSpace<L>, W: Way, L: Ledger>(
     match part {
         Part::Old { rope, i, n: _ } => match rope {
             None => false,
-            Some(node) => way.leaf_span(space, node, i + off, len, count).is_some(),
+            Some(node) => {
+                let start = i + off;
+                leaf_span(space, way, Span { node, start, len }, count).is_some()
+            }
         },
         Part::Pool { .. } | Part::Source { .. } | Part::Fill { .. } => true,
     }

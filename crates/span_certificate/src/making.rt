@@ -18,7 +18,7 @@ use crate::part_iter::PartIter;
 use crate::place::PartPlace;
 use crate::row::Row;
 use crate::splices::Splices;
-use crate::walk::{Span, next_leaf};
+use crate::walk::{Span, next_leaf, next_old};
 use crate::way::{Trails, Way, Ways, are_short};
 use rope_node::{CodedSpace, NodeId, NodeSpace, Rope};
 use std::alloc::Global;
@@ -64,7 +64,7 @@ fn next_row<S: CountedSpace<L>, W: Way, L: Ledger>(
         Content::Described(d) => next_leaf(space, of_root, d, y, count),
         Content::Within(node, start) => {
             let len = y.len;
-            of_part.next_old(of_root, space, Span { node, start, len }, y, count)
+            next_old(space, of_part, of_root, Span { node, start, len }, y, count)
         }
     }
 }

@@ -1,8 +1,9 @@
 //! A node on the way down to a place of a rope.
 
 ghost use Rattle.std.specs.Prelude.{◌≡◌, ◌+◌, ◌-◌, ◌<◌, ◌≤◌, ◌^◌, IfSome};
-ghost use Rattle.span_certificate.specs.Trails.{StandsAt, base_stop, left_stop, place_in, right_stop};
+ghost use Rattle.span_certificate.specs.Trails.{StandsAt, base_stop, left_stop, place_in, right_stop, span_in};
 
+use crate::walk::Span;
 use rope_node::{MOST_DEPTH, NodeId};
 
 /// The most nodes of a way down.
@@ -34,6 +35,21 @@ impl Stop {
         ensures { result ≡ place_in self place }
     {
         self.start + (place - self.from)
+    }
+
+    /// The bytes of its node to which the first ones of a span of the root lead.
+    #[inline(always)]
+    pub fn span_of(self, x: Span) -> Span
+        requires behind { self.from ≤ x.start }
+        requires ahead { x.start ≤ self.end }
+        requires fits { place_in self x.start < 2 ^ 64 }
+        ensures { result ≡ span_in x self }
+    {
+        Span {
+            node: self.node,
+            start: self.place_in(x.start),
+            len: x.len.min(self.end - x.start),
+        }
     }
 
     /// What of it lies in the left child `l`, which has `left` bytes.

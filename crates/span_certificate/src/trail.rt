@@ -5,7 +5,9 @@ ghost use Rattle.span_certificate.specs.declared.stop.TheConstants.{MOST_STOPS};
 
 use crate::looks::CountedSpace;
 use crate::stop::{MOST_STOPS, NO_STOP, Stop};
-use rope_node::NodeId;
+use crate::walk::Span;
+use crate::way::Descent;
+use rope_node::{NodeId, NodeView};
 use std::sync::ledger::Ledger;
 
 /// So many of the last stops are looked at one by one.
@@ -20,9 +22,11 @@ pub struct Trail {
 }
 
 impl Trail {
-    ghost use Rattle.std.specs.Prelude.{◌≡◌, ◌+◌, ◌-◌, ◌<◌, ◌≤◌, ◌⊎◌, ◌^◌, IfSome, length};
-    ghost use Rattle.rope_node.specs.Table.{Table, len_at, IsSound};
-    ghost use Rattle.span_certificate.specs.Trails.{Holds, IsFound, IsTrail, IsTrailOf, IsTrailStop, first_stop};
+    ghost use Rattle.std.specs.Prelude.{◌≡◌, ◌<◌, ◌≤◌, ◌⊎◌, IfSome, length};
+    ghost use Rattle.rope_node.specs.Table.{Table, view_at, IsSound, HasTrueRecords};
+    ghost use Rattle.span_certificate.specs.Descents.{GoesDownTo};
+    ghost use Rattle.span_certificate.specs.Steps.{IsSpan};
+    ghost use Rattle.span_certificate.specs.Trails.{GoesBehind, Holds, IsFound, IsLastStop, IsStopOf, IsTrail, IsTrailOf, first_stop, span_in};
 
     /// A trail of no rope.
     pub fn new() -> Trail
@@ -36,7 +40,7 @@ impl Trail {
 
     /// Begins at this root, where the trail is of another one.
     #[inline(always)]
-    pub fn begin<S: CountedSpace<L>, L: Ledger>(&mut self, space: &S, root: NodeId)
+    pub fn begin_at<S: CountedSpace<L>, L: Ledger>(&mut self, space: &S, root: NodeId)
         requires sound { IsSound (S.table space.now) }
         requires there { root.0 < length (S.table space.now).nodes }
         requires trail { IsTrail (S.table space.now) self.old }
@@ -53,28 +57,28 @@ impl Trail {
         }
     }
 
-    /// The last stop that holds the `len` bytes from `place` on and is the root or no lower than `low`; those behind it are forgotten.
+    /// The last stop that holds the first `len` bytes of a span and is the root or no lower than `low`; those behind it are forgotten.
     #[inline(always)]
     pub fn back_to<S: CountedSpace<L>, L: Ledger>(
         &mut self,
         space: &S,
-        root: NodeId,
-        place: u64,
+        x: Span,
         len: u64,
         low: u32,
     ) -> Stop
-        requires trail { IsTrailOf (S.table space.now) root self.old }
-        requires fits { place + len ≤ len_at (S.table space.now) root.0 }
-        requires short { place + len < 2 ^ 64 }
-        ensures trail { IsTrailOf (S.table space.now) root self.new }
-        ensures stop { IsTrailStop (S.table space.now) root.0 (self.new.count - 1) result }
-        ensures holds { Holds result place len }
-        ensures low { (low ≤ result.node.0) ⊎ (result ≡ first_stop (S.table space.now) root) }
+        requires sound { IsSound (S.table space.now) }
+        requires trail { IsTrailOf (S.table space.now) x.node self.old }
+        requires span { IsSpan (S.table space.now) x }
+        requires some { 1 ≤ len }
+        requires inside { len ≤ x.len }
+        ensures last { IsLastStop (S.table space.now) x self.new result }
+        ensures holds { Holds result x.start len }
+        ensures low { (low ≤ result.node.0) ⊎ (result ≡ first_stop (S.table space.now) x.node) }
     {
-        let end = place + len;
+        let end = x.start + len;
         while self.count > 1 {
             let stop = self.stops[self.count - 1];
-            if stop.from <= place && end <= stop.end && low <= stop.node.0 {
+            if stop.from <= x.start && end <= stop.end && low <= stop.node.0 {
                 return stop;
             }
             self.count -= 1;
@@ -82,13 +86,48 @@ impl Trail {
         self.stops[0]
     }
 
+    /// A step down from the last stop, whose node is `view`, where the first `least` bytes of the span lie in one child.
+    #[inline(always)]
+    pub fn below<S: CountedSpace<L>, L: Ledger>(
+        &self,
+        space: &S,
+        x: Span,
+        stop: Stop,
+        view: NodeView,
+        least: u64,
+    ) -> Descent<Stop>
+        requires sound { IsSound (S.table space.now) }
+        requires true_records { HasTrueRecords (S.table space.now) }
+        requires span { IsSpan (S.table space.now) x }
+        requires last { IsLastStop (S.table space.now) x self.now stop }
+        requires view { view ≡ view_at (S.table space.now) stop.node.0 }
+        requires some { 1 ≤ least }
+        requires long { least ≤ (span_in x stop).len }
+        ensures goes { GoesDownTo (span_in x) (S.table space.now) (span_in x stop) view least result }
+        ensures behind { GoesBehind (S.table space.now) x self.now result }
+    {
+        match view {
+            NodeView::Cat { l, r } => {
+                let start = stop.place_in(x.start);
+                let left = space.left_length(stop.node, l);
+                if left <= start {
+                    Descent::Below(stop.in_right(r, left))
+                } else if least <= left - start {
+                    Descent::Below(stop.in_left(l, left))
+                } else {
+                    Descent::Border
+                }
+            }
+            NodeView::Sub { b, i } => Descent::Below(stop.in_base(b, i)),
+            NodeView::Lit { .. } | NodeView::Src { .. } | NodeView::Fun => Descent::Leaf,
+        }
+    }
+
     /// One stop more.
     #[inline(always)]
-    pub fn push<S: CountedSpace<L>, L: Ledger>(&mut self, space: &S, root: NodeId, stop: Stop)
-        requires trail { IsTrailOf (S.table space.now) root self.old }
-        requires stop { IsTrailStop (S.table space.now) root.0 self.old.count stop }
-        ensures trail { IsTrailOf (S.table space.now) root self.new }
-        ensures count { self.new.count ≡ self.old.count + 1 }
+    pub fn push<S: CountedSpace<L>, L: Ledger>(&mut self, space: &S, x: Span, stop: Stop)
+        requires { IsStopOf (S.table space.now) x self.old self.old.count stop }
+        ensures { IsLastStop (S.table space.now) x self.new stop }
     {
         self.stops[self.count] = stop;
         self.count += 1;
@@ -96,7 +135,7 @@ impl Trail {
 
     /// The stop at which the root's byte at `place` is the byte `start` of this node, where there is one.
     #[inline(always)]
-    pub fn find<S: CountedSpace<L>, L: Ledger>(
+    pub fn find_stop<S: CountedSpace<L>, L: Ledger>(
         &self,
         space: &S,
         root: NodeId,

@@ -1,20 +1,18 @@
 //! The longest row that fits at a place.
 
-ghost use Rattle.std.specs.Prelude.{◌≡◌, ℕ, ◌+◌, ◌-◌, ◌<◌, ◌≤◌, min, None, IfSome};
+ghost use Rattle.std.specs.Prelude.{◌≡◌, ◌↔◌, ℕ, ◌+◌, ◌<◌, ◌≤◌, min, IsTrue};
 ghost use Rattle.rope_node.specs.Table.{view_at, IsLeaf, IsSound, HasTrueRecords};
-ghost use Rattle.span_certificate.specs.Descents.{first_of};
+ghost use Rattle.span_certificate.specs.Descents.{IsStand, first_of};
 ghost use Rattle.span_certificate.specs.Longest.{GoesToLeafEnd, SpansStayWithin};
 ghost use Rattle.span_certificate.specs.Steps.{IsSpan, span_cells, CellsAs, IsRowOf, IsDescribedRow};
-ghost use Rattle.span_certificate.specs.Trails.{GoesDown, Holds, IsStopBelow, IsTrail, IsTrailStop, place_in};
 ghost use Rattle.span_certificate.specs.declared.walk.TheConstants.{BYTES_LIMIT};
 ghost use Rattle.rope_node.specs.declared.node.NodeId.{NodeId};
 
+use crate::descent::first_leaf;
 use crate::describe::{Description, describe};
 use crate::looks::{Count, CountedSpace};
 use crate::row::{Row, RowKind};
-use crate::stop::Stop;
-use crate::trail::Trail;
-use crate::way::Way;
+use crate::way::{Descent, Way};
 use rope_node::{NodeId, NodeView};
 use std::sync::ledger::Ledger;
 
@@ -87,194 +85,142 @@ fn described_row(d: Description, e: Description, len: u64) -> Row
     }
 }
 
-/// The stop below another that holds the byte at `place`, where its node, which is `view`, is no leaf.
+/// Whether a node is a leaf.
 #[inline(always)]
-fn stop_below<S: CountedSpace<L>, L: Ledger>(
-    space: &S,
-    root: NodeId,
-    stop: Stop,
-    view: NodeView,
-    place: u64,
-) -> Option<Stop>
-    requires sound { IsSound (S.table space.now) }
-    requires true_records { HasTrueRecords (S.table space.now) }
-    requires stop { (i : ℕ) × IsTrailStop (S.table space.now) root.0 i stop }
-    requires holds { Holds stop place 1 }
-    requires view { view ≡ view_at (S.table space.now) stop.node.0 }
-    ensures below { IfSome result (IsStopBelow (S.table space.now) place stop) }
-    ensures leaf { result ≡ None → IsLeaf view }
+fn is_leaf(view: NodeView) -> bool
+    ensures { IsTrue result ↔ IsLeaf view }
 {
     match view {
-        NodeView::Cat { l, r } => {
-            let left = space.left_length(stop.node, l);
-            if left <= stop.place_in(place) {
-                Some(stop.in_right(r, left))
-            } else {
-                Some(stop.in_left(l, left))
-            }
-        }
-        NodeView::Sub { b, i } => Some(stop.in_base(b, i)),
-        NodeView::Lit { .. } | NodeView::Src { .. } | NodeView::Fun => None,
+        NodeView::Cat { .. } | NodeView::Sub { .. } => false,
+        NodeView::Lit { .. } | NodeView::Src { .. } | NodeView::Fun => true,
     }
 }
 
-/// Where a walk down two sides goes on.
-#[derive(Clone, Copy, Debug, PartialEq, Eq)]
-pub enum Descent {
-    /// To this stop below the first one.
-    First(Stop),
-    /// To this stop below the second one.
-    Second(Stop),
-    /// Nowhere: both are leaves.
-    Neither,
+/// Whether of two sides the first goes down: the one of the greater number does, or the other where that is a leaf.
+#[inline(always)]
+fn goes_first(a: NodeId, of_a: NodeView, b: NodeId, of_b: NodeView) -> bool
+    ensures first { IsTrue result → ¬ IsLeaf of_a }
+    ensures second { ¬ IsTrue result → IsLeaf of_b → IsLeaf of_a }
+{
+    !is_leaf(of_a) && (a.0 >= b.0 || is_leaf(of_b))
 }
 
-/// The side that goes down: the one of the greater number, or the other where that is a leaf.
+/// The row over the node where ways down two spans stand at one place.
 #[inline(always)]
-fn next_step<S: CountedSpace<L>, L: Ledger>(
-    space: &S,
-    x: Span,
-    a: Stop,
-    of_a: NodeView,
-    y: Span,
-    b: Stop,
-    of_b: NodeView,
-) -> Descent
+fn shared_row<S: CountedSpace<L>, L: Ledger>(space: &S, x: Span, a: Span, y: Span, b: Span) -> Row
     requires sound { IsSound (S.table space.now) }
     requires true_records { HasTrueRecords (S.table space.now) }
-    requires a { (i : ℕ) × IsTrailStop (S.table space.now) x.node.0 i a }
-    requires in_a { Holds a x.start 1 }
-    requires of_a { of_a ≡ view_at (S.table space.now) a.node.0 }
-    requires b { (i : ℕ) × IsTrailStop (S.table space.now) y.node.0 i b }
-    requires in_b { Holds b y.start 1 }
-    requires of_b { of_b ≡ view_at (S.table space.now) b.node.0 }
-    ensures { GoesDown (S.table space.now) x.start a of_a y.start b of_b result }
-{
-    if a.node.0 >= b.node.0 {
-        match stop_below::<S, L>(space, x.node, a, of_a, x.start) {
-            Some(z) => Descent::First(z),
-            None => match stop_below::<S, L>(space, y.node, b, of_b, y.start) {
-                Some(w) => Descent::Second(w),
-                None => Descent::Neither,
-            },
-        }
-    } else {
-        match stop_below::<S, L>(space, y.node, b, of_b, y.start) {
-            Some(w) => Descent::Second(w),
-            None => match stop_below::<S, L>(space, x.node, a, of_a, x.start) {
-                Some(z) => Descent::First(z),
-                None => Descent::Neither,
-            },
-        }
-    }
-}
-
-/// How many of the first bytes of two spans of one length lie in both stops.
-#[inline(always)]
-fn len_in(x: Span, a: Stop, y: Span, b: Stop) -> u64
-    requires in_a { x.start ≤ a.end }
-    requires in_b { y.start ≤ b.end }
-    ensures { result ≡ min (min x.len (a.end - x.start)) (b.end - y.start) }
-{
-    x.len.min(a.end - x.start).min(b.end - y.start)
-}
-
-/// The row over the node of two stops, where the first bytes of two spans stand at one place of it.
-#[inline(always)]
-fn shared_row<S: CountedSpace<L>, L: Ledger>(space: &S, x: Span, a: Stop, y: Span, b: Stop) -> Row
-    requires sound { IsSound (S.table space.now) }
-    requires true_records { HasTrueRecords (S.table space.now) }
-    requires x { IsSpan (S.table space.now) x }
-    requires y { IsSpan (S.table space.now) y }
     requires len { y.len ≡ x.len }
-    requires a { (i : ℕ) × IsTrailStop (S.table space.now) x.node.0 i a }
-    requires in_a { Holds a x.start 1 }
-    requires b { (i : ℕ) × IsTrailStop (S.table space.now) y.node.0 i b }
-    requires in_b { Holds b y.start 1 }
+    requires a { IsStand (S.table space.now) x a }
+    requires b { IsStand (S.table space.now) y b }
     requires same_node { a.node ≡ b.node }
-    requires same_place { place_in a x.start ≡ place_in b y.start }
+    requires same_place { a.start ≡ b.start }
     ensures row { IsRowOf (S.table space.now) (S.coded space.now) x y result }
     ensures longest { result.len < x.len
         → ¬ SpansStayWithin (S.table space.now) (result.len + 1) x y result.kind }
 {
     Row {
-        len: len_in(x, a, y, b),
-        kind: RowKind::Shared(a.node, a.place_in(x.start)),
+        len: a.len.min(b.len),
+        kind: RowKind::Shared(a.node, a.start),
     }
 }
 
-/// A row for the first bytes of two spans of the same cells: over the first node that both lead to at
-/// one place, or over two leaf spans. Each side goes on from the last stop of its trail that holds its first byte. What both trails
-/// kept is at one place of both only where the row before it was over that node to its end, so the first node of both is met where one
-/// side comes to a stop that is new.
-pub fn next_by<S: CountedSpace<L>, L: Ledger>(
+/// The row over the leaves where ways down two spans of the same cells end.
+#[inline(always)]
+fn ends_row<S: CountedSpace<L>, L: Ledger>(
     space: &S,
-    of_part: &mut Trail,
-    of_root: &mut Trail,
+    x: Span,
+    a: Span,
+    of_a: NodeView,
+    y: Span,
+    b: Span,
+    of_b: NodeView,
+    count: &mut Count<L>,
+) -> Row
+    requires sound { IsSound (S.table space.now) }
+    requires true_records { HasTrueRecords (S.table space.now) }
+    requires x { IsSpan (S.table space.now) x }
+    requires y { IsSpan (S.table space.now) y }
+    requires len { y.len ≡ x.len }
+    requires a { IsStand (S.table space.now) x a }
+    requires of_a { of_a ≡ view_at (S.table space.now) a.node.0 }
+    requires leaf_a { IsLeaf of_a }
+    requires b { IsStand (S.table space.now) y b }
+    requires of_b { of_b ≡ view_at (S.table space.now) b.node.0 }
+    requires leaf_b { IsLeaf of_b }
+    requires same { span_cells (S.table space.now) x ≡ span_cells (S.table space.now) y }
+    ensures row { IsRowOf (S.table space.now) (S.coded space.now) x y result }
+    ensures longest { result.len < x.len
+        → ¬ SpansStayWithin (S.table space.now) (result.len + 1) x y result.kind }
+{
+    let len = a.len.min(b.len);
+    let first = Span { len, ..a };
+    let second = Span { len, ..b };
+    leaf_row(space, first, of_a, second, of_b, count)
+}
+
+/// A row for the first bytes of two spans of the same cells: over the first node that both lead to at one place, or over two leaf spans. What both ways
+/// kept is at one place of both only where the row before it was over that node to its end, so the first node of both is met where one side comes to a
+/// stop that is new.
+pub fn next_old<S: CountedSpace<L>, W: Way, L: Ledger>(
+    space: &S,
+    of_part: &mut W,
+    of_root: &mut W,
     x: Span,
     y: Span,
     count: &mut Count<L>,
 ) -> Row
     requires sound { IsSound (S.table space.now) }
     requires true_records { HasTrueRecords (S.table space.now) }
-    requires of_part { IsTrail (S.table space.now) of_part.old }
-    requires of_root { IsTrail (S.table space.now) of_root.old }
+    requires of_part { W.is_way (S.table space.now) of_part.old }
+    requires of_root { W.is_way (S.table space.now) of_root.old }
     requires x { IsSpan (S.table space.now) x }
     requires y { IsSpan (S.table space.now) y }
     requires len { y.len ≡ x.len }
-    requires same { span_cells (S.table space.now) x
-        ≡ span_cells (S.table space.now) y }
+    requires same { span_cells (S.table space.now) x ≡ span_cells (S.table space.now) y }
     ensures row { IsRowOf (S.table space.now) (S.coded space.now) x y result }
     ensures longest { result.len < x.len
         → ¬ SpansStayWithin (S.table space.now) (result.len + 1) x y result.kind }
-    ensures of_part { IsTrail (S.table space.now) of_part.new }
-    ensures of_root { IsTrail (S.table space.now) of_root.new }
+    ensures of_part { W.is_way (S.table space.now) of_part.new }
+    ensures of_root { W.is_way (S.table space.now) of_root.new }
 {
-    of_part.begin(space, x.node);
-    of_root.begin(space, y.node);
-    let mut a = of_part.back_to(space, x.node, x.start, 1, 0);
-    let mut b = of_root.back_to(space, y.node, y.start, 1, 0);
-    if let Some(stop) = of_root.find(space, y.node, y.start, a.node, a.place_in(x.start)) {
-        return shared_row(space, x, a, y, stop);
+    let mut a = of_part.begin(space, x, 1, 0);
+    let mut b = of_root.begin(space, y, 1, 0);
+    let mut first = of_part.span(space, x, a);
+    let mut second = of_root.span(space, y, b);
+    if let Some(z) = of_root.find(space, y, b, first) {
+        return shared_row(space, x, first, y, z);
     }
-    if let Some(stop) = of_part.find(space, x.node, x.start, b.node, b.place_in(y.start)) {
-        return shared_row(space, x, stop, y, b);
+    if let Some(z) = of_part.find(space, x, a, second) {
+        return shared_row(space, x, z, y, second);
     }
-    let mut of_a = space.look(a.node, count);
-    let mut of_b = space.look(b.node, count);
+    let mut of_a = space.look(first.node, count);
+    let mut of_b = space.look(second.node, count);
     'down: loop {
-        match next_step::<S, L>(space, x, a, of_a, y, b, of_b) {
-            Descent::First(z) => {
-                of_part.push(space, x.node, z);
-                let start = z.place_in(x.start);
-                if let Some(stop) = of_root.find(space, y.node, y.start, z.node, start) {
-                    return shared_row(space, x, z, y, stop);
+        if goes_first(first.node, of_a, second.node, of_b) {
+            match of_part.step(space, x, a, of_a, 1) {
+                Descent::Below(below) => {
+                    a = below;
+                    first = of_part.span(space, x, a);
+                    if let Some(z) = of_root.find(space, y, b, first) {
+                        return shared_row(space, x, first, y, z);
+                    }
+                    of_a = space.look(first.node, count);
                 }
-                of_a = space.look(z.node, count);
-                a = z;
+                Descent::Leaf | Descent::Border => unreachable!(),
             }
-            Descent::Second(w) => {
-                of_root.push(space, y.node, w);
-                let start = w.place_in(y.start);
-                if let Some(stop) = of_part.find(space, x.node, x.start, w.node, start) {
-                    return shared_row(space, x, stop, y, w);
+        } else {
+            match of_root.step(space, y, b, of_b, 1) {
+                Descent::Below(below) => {
+                    b = below;
+                    second = of_root.span(space, y, b);
+                    if let Some(z) = of_part.find(space, x, a, second) {
+                        return shared_row(space, x, z, y, second);
+                    }
+                    of_b = space.look(second.node, count);
                 }
-                of_b = space.look(w.node, count);
-                b = w;
-            }
-            Descent::Neither => {
-                let len = len_in(x, a, y, b);
-                let first = Span {
-                    node: a.node,
-                    start: a.place_in(x.start),
-                    len,
-                };
-                let second = Span {
-                    node: b.node,
-                    start: b.place_in(y.start),
-                    len,
-                };
-                return leaf_row(space, first, of_a, second, of_b, count);
+                Descent::Leaf => return ends_row(space, x, first, of_a, y, second, of_b, count),
+                Descent::Border => unreachable!(),
             }
         }
     }
@@ -297,7 +243,7 @@ pub fn next_leaf<S: CountedSpace<L>, W: Way, L: Ledger>(
     ensures ends { GoesToLeafEnd (first_of (S.table space.now) y).len result.len result.kind }
     ensures way { W.is_way (S.table space.now) way.new }
 {
-    let z = way.first_leaf(space, y, count);
+    let z = first_leaf(space, way, y, count);
     match describe(space, z.span.node, z.view, z.span.start, count) {
         Some(e) => described_row(d, e, z.span.len),
         None => unreachable!(),

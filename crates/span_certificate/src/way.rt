@@ -1,38 +1,51 @@
 //! Ways down to the places that rows stand at: kept for the next place, or each from the root.
 
-ghost use Rattle.std.specs.Prelude.{⊤, ℕ, ◌≡◌, ◌+◌, ◌-◌, ◌<◌, ◌≤◌, ◌↔◌, length, min, None, IfSome, IsTrue};
-ghost use Rattle.rope_node.specs.Table.{Table, len_at, IsSound, HasTrueRecords};
-ghost use Rattle.span_certificate.specs.Descents.{IsLeafOf, IsSpanPlace, LeadsToSpan};
-ghost use Rattle.span_certificate.specs.Leads.{Leads};
-ghost use Rattle.span_certificate.specs.Longest.{SpansStayWithin};
-ghost use Rattle.span_certificate.specs.Steps.{IsRowOf, IsSpan, span_cells};
-ghost use Rattle.span_certificate.specs.Trails.{IsTrail};
-ghost use Rattle.span_certificate.specs.declared.descent.SpanPlace.{SpanPlace};
+ghost use Rattle.std.specs.Prelude.{⊤, ◌≡◌, ◌<◌, ◌≤◌, ◌⊎◌, length, IfSome};
+ghost use Rattle.rope_node.specs.Table.{Table, view_at, IsSound, HasTrueRecords};
+ghost use Rattle.span_certificate.specs.Descents.{IsStand, IsStandAt, GoesDownTo, stop_after};
+ghost use Rattle.span_certificate.specs.Steps.{IsSpan};
+ghost use Rattle.span_certificate.specs.Trails.{IsTrail, IsLastStop, span_in};
+ghost use Rattle.span_certificate.specs.declared.walk.Span.{Span};
 
-use crate::descent::{SpanPlace, first_leaf_by, leaf_span_by};
-use crate::exact::leads_by;
-use crate::looks::{Count, CountedSpace};
+use crate::looks::CountedSpace;
 use crate::part_iter::PartIter;
-use crate::row::Row;
-use crate::shallow::{first_leaf_below, leads_below, leaf_span_below, next_below};
 use crate::splices::Splices;
+use crate::stop::Stop;
 use crate::trail::Trail;
-use crate::walk::{Reached, Span, next_by};
-use rope_node::{NodeId, Rope};
+use crate::walk::Span;
+use rope_node::{NodeId, NodeView, Rope};
 use std::sync::ledger::Ledger;
+
+/// Where a step down leads.
+#[derive(Clone, Copy, Debug)]
+pub enum Descent<P> {
+    /// To this stop.
+    Below(P),
+    /// Nowhere: the node is a leaf.
+    Leaf,
+    /// Nowhere: the bytes lie in no one child of the node.
+    Border,
+}
 
 /// A way down to a place of a rope. Whatever it keeps of it for the next place, the answers are the same.
 pub trait Way {
-    ghost use Rattle.std.specs.Prelude.{◌≡◌, ◌+◌, ◌<◌, ◌≤◌, ◌↔◌, length, IfSome, IsTrue};
-    ghost use Rattle.rope_node.specs.Table.{Table, len_at, IsSound, HasTrueRecords};
-    ghost use Rattle.span_certificate.specs.Descents.{IsLeafOf, IsSpanPlace, LeadsToSpan};
-    ghost use Rattle.span_certificate.specs.Leads.{Leads};
-    ghost use Rattle.span_certificate.specs.Longest.{SpansStayWithin};
-    ghost use Rattle.span_certificate.specs.Steps.{IsRowOf, IsSpan, span_cells};
-    ghost use Rattle.span_certificate.specs.declared.descent.SpanPlace.{SpanPlace};
+    ghost use Rattle.std.specs.Prelude.{◌≡◌, ◌≤◌, ◌⊎◌, IfSome};
+    ghost use Rattle.rope_node.specs.Table.{Table, view_at, IsSound, HasTrueRecords};
+    ghost use Rattle.span_certificate.specs.Descents.{IsStand, IsStandAt, GoesDownTo, stop_after};
+    ghost use Rattle.span_certificate.specs.Steps.{IsSpan};
+    ghost use Rattle.span_certificate.specs.declared.walk.Span.{Span};
+
+    /// A node on the way.
+    type Here: Copy;
 
     // What it keeps is of a rope of this table, or it keeps nothing.
     ghost is_way: { Table → Self → Type 0 };
+
+    // Down this span it has come to this stop.
+    ghost is_at: { Table → Span → Self → Self.Here → Type 0 };
+
+    // The bytes of the stop's node to which the first bytes of this span lead.
+    ghost lies: { Span → Self.Here → Span };
 
     /// It keeps nothing any more.
     fn forget(&mut self)
@@ -42,87 +55,76 @@ pub trait Way {
     fn keep(&mut self, kept: bool)
         ensures { (t : Table) → is_way t self.old → is_way t self.new };
 
-    /// The leaf span that a span begins with, as far as it goes.
-    fn first_leaf<S: CountedSpace<L>, L: Ledger>(
+    /// Where the way down a span goes on: at a stop that holds the first `len` bytes and is the root or no lower than `low`.
+    fn begin<S: CountedSpace<L>, L: Ledger>(
         &mut self,
         space: &S,
         x: Span,
-        count: &mut Count<L>,
-    ) -> Reached
-        requires sound { IsSound (S.table space.now) }
-        requires true_records { HasTrueRecords (S.table space.now) }
-        requires way { is_way (S.table space.now) self.old }
-        requires span { IsSpan (S.table space.now) x }
-        ensures leaf { IsLeafOf (S.table space.now) x result }
-        ensures way { is_way (S.table space.now) self.new }
-        ensures few { count.new ≤ count.old + 65 };
-
-    /// The leaf span to which the `len` bytes of `node` from `place` on lead, or nothing where they lie in no one leaf.
-    fn leaf_span<S: CountedSpace<L>, L: Ledger>(
-        &mut self,
-        space: &S,
-        node: NodeId,
-        place: u64,
         len: u64,
-        count: &mut Count<L>,
-    ) -> Option<SpanPlace>
-        requires sound { IsSound (S.table space.now) }
-        requires true_records { HasTrueRecords (S.table space.now) }
-        requires way { is_way (S.table space.now) self.old }
-        requires there { node.0 < length (S.table space.now).nodes }
-        requires not_empty { 1 ≤ len }
-        requires inside { place + len ≤ len_at (S.table space.now) node.0 }
-        ensures inside { IfSome result (IsSpanPlace (S.table space.now) len) }
-        ensures leads { (s : SpanPlace)
-            → (result ≡ Some s) ↔ LeadsToSpan (S.table space.now) len node.0 place s }
-        ensures way { is_way (S.table space.now) self.new }
-        ensures few { count.new ≤ count.old + 65 };
-
-    /// Whether a span leads to the bytes of a node from a place on.
-    fn leads_to<S: CountedSpace<L>, L: Ledger>(
-        &mut self,
-        space: &S,
-        x: Span,
-        node: NodeId,
-        at: u64,
-        count: &mut Count<L>,
-    ) -> bool
+        low: u32,
+    ) -> Self::Here
         requires sound { IsSound (S.table space.now) }
         requires true_records { HasTrueRecords (S.table space.now) }
         requires way { is_way (S.table space.now) self.old }
         requires span { IsSpan (S.table space.now) x }
-        ensures leads { IsTrue result ↔ Leads (S.table space.now) x.len node.0 at x.node.0 x.start }
+        requires some { 1 ≤ len }
+        requires inside { len ≤ x.len }
         ensures way { is_way (S.table space.now) self.new }
-        ensures few { count.new ≤ count.old + 65 };
+        ensures at { is_at (S.table space.now) x self.new result }
+        ensures stands { IsStand (S.table space.now) x (lies x result) }
+        ensures long { len ≤ (lies x result).len }
+        ensures low { (low ≤ (lies x result).node.0) ⊎ (lies x result ≡ x) };
 
-    /// A row for the first bytes of two spans of the same cells: over the first node that both lead to at
-    /// one place, or over two leaf spans. The other way is that of the second span.
-    fn next_old<S: CountedSpace<L>, L: Ledger>(
+    /// The bytes of a stop's node to which the first ones of the span lead.
+    fn span<S: CountedSpace<L>, L: Ledger>(&self, space: &S, x: Span, here: Self::Here) -> Span
+        requires sound { IsSound (S.table space.now) }
+        requires at { is_at (S.table space.now) x self.now here }
+        ensures { result ≡ lies x here };
+
+    /// A step down from a stop, whose node is `view`, where the first `least` bytes lie in one child.
+    fn step<S: CountedSpace<L>, L: Ledger>(
         &mut self,
-        other: &mut Self,
         space: &S,
         x: Span,
-        y: Span,
-        count: &mut Count<L>,
-    ) -> Row
+        here: Self::Here,
+        view: NodeView,
+        least: u64,
+    ) -> Descent<Self::Here>
         requires sound { IsSound (S.table space.now) }
         requires true_records { HasTrueRecords (S.table space.now) }
-        requires way { is_way (S.table space.now) self.old }
-        requires other_way { is_way (S.table space.now) other.old }
-        requires x { IsSpan (S.table space.now) x }
-        requires y { IsSpan (S.table space.now) y }
-        requires len { y.len ≡ x.len }
-        requires same { span_cells (S.table space.now) x
-            ≡ span_cells (S.table space.now) y }
-        ensures row { IsRowOf (S.table space.now) (S.coded space.now) x y result }
-        ensures longest { result.len < x.len
-            → ¬ SpansStayWithin (S.table space.now) (result.len + 1) x y result.kind }
+        requires span { IsSpan (S.table space.now) x }
+        requires at { is_at (S.table space.now) x self.old here }
+        requires stands { IsStand (S.table space.now) x (lies x here) }
+        requires view { view ≡ view_at (S.table space.now) (lies x here).node.0 }
+        requires some { 1 ≤ least }
+        requires long { least ≤ (lies x here).len }
         ensures way { is_way (S.table space.now) self.new }
-        ensures other_way { is_way (S.table space.now) other.new };
+        ensures at { is_at (S.table space.now) x self.new (stop_after here result) }
+        ensures goes { GoesDownTo (lies x) (S.table space.now) (lies x here) view least result };
+
+    /// The bytes at the place where another span stands, if the span's first ones are known to lead there. The way has come to `last`.
+    fn find<S: CountedSpace<L>, L: Ledger>(
+        &self,
+        space: &S,
+        x: Span,
+        last: Self::Here,
+        other: Span,
+    ) -> Option<Span>
+        requires sound { IsSound (S.table space.now) }
+        requires span { IsSpan (S.table space.now) x }
+        requires at { is_at (S.table space.now) x self.now last }
+        requires stands { IsStand (S.table space.now) x (lies x last) }
+        ensures { IfSome result (IsStandAt (S.table space.now) x other) };
 }
 
 impl Way for Trail {
+    type Here = Stop;
+
     ghost is_way = { IsTrail };
+
+    ghost is_at = { IsLastStop };
+
+    ghost lies = { span_in };
 
     #[inline(always)]
     fn forget(&mut self) {
@@ -135,58 +137,68 @@ impl Way for Trail {
     }
 
     #[inline(always)]
-    fn first_leaf<S: CountedSpace<L>, L: Ledger>(
+    fn begin<S: CountedSpace<L>, L: Ledger>(
         &mut self,
         space: &S,
         x: Span,
-        count: &mut Count<L>,
-    ) -> Reached {
-        first_leaf_by(space, self, x, count)
-    }
-
-    #[inline(always)]
-    fn leaf_span<S: CountedSpace<L>, L: Ledger>(
-        &mut self,
-        space: &S,
-        node: NodeId,
-        place: u64,
         len: u64,
-        count: &mut Count<L>,
-    ) -> Option<SpanPlace> {
-        leaf_span_by(space, self, node, place, len, count)
+        low: u32,
+    ) -> Stop {
+        self.begin_at(space, x.node);
+        self.back_to(space, x, len, low)
     }
 
     #[inline(always)]
-    fn leads_to<S: CountedSpace<L>, L: Ledger>(
-        &mut self,
-        space: &S,
-        x: Span,
-        node: NodeId,
-        at: u64,
-        count: &mut Count<L>,
-    ) -> bool {
-        leads_by(space, self, x, node, at, count)
+    fn span<S: CountedSpace<L>, L: Ledger>(&self, space: &S, x: Span, here: Stop) -> Span {
+        here.span_of(x)
     }
 
     #[inline(always)]
-    fn next_old<S: CountedSpace<L>, L: Ledger>(
+    fn step<S: CountedSpace<L>, L: Ledger>(
         &mut self,
-        other: &mut Trail,
         space: &S,
         x: Span,
-        y: Span,
-        count: &mut Count<L>,
-    ) -> Row {
-        next_by(space, self, other, x, y, count)
+        here: Stop,
+        view: NodeView,
+        least: u64,
+    ) -> Descent<Stop> {
+        match self.below(space, x, here, view, least) {
+            Descent::Below(stop) => {
+                self.push(space, x, stop);
+                Descent::Below(stop)
+            }
+            Descent::Leaf => Descent::Leaf,
+            Descent::Border => Descent::Border,
+        }
+    }
+
+    #[inline(always)]
+    fn find<S: CountedSpace<L>, L: Ledger>(
+        &self,
+        space: &S,
+        x: Span,
+        last: Stop,
+        other: Span,
+    ) -> Option<Span> {
+        match self.find_stop(space, x.node, x.start, other.node, other.start) {
+            Some(stop) => Some(stop.span_of(x)),
+            None => None,
+        }
     }
 }
 
-/// Each way begins at its root, and nothing is kept of it.
+/// Each way begins at its root, and nothing is kept of it. For shallow ropes that costs less.
 #[derive(Clone, Copy, Debug)]
 pub struct FromRoot;
 
 impl Way for FromRoot {
+    type Here = Span;
+
     ghost is_way = { λ _ _. ⊤ };
+
+    ghost is_at = { λ _ _ _ _. ⊤ };
+
+    ghost lies = { λ _ z. z };
 
     fn forget(&mut self) {}
 
@@ -195,51 +207,73 @@ impl Way for FromRoot {
     }
 
     #[inline(always)]
-    fn first_leaf<S: CountedSpace<L>, L: Ledger>(
+    fn begin<S: CountedSpace<L>, L: Ledger>(
         &mut self,
         space: &S,
         x: Span,
-        count: &mut Count<L>,
-    ) -> Reached {
-        first_leaf_below(space, x, count)
-    }
-
-    #[inline(always)]
-    fn leaf_span<S: CountedSpace<L>, L: Ledger>(
-        &mut self,
-        space: &S,
-        node: NodeId,
-        place: u64,
         len: u64,
-        count: &mut Count<L>,
-    ) -> Option<SpanPlace> {
-        let start = place;
-        leaf_span_below(space, Span { node, start, len }, count)
+        low: u32,
+    ) -> Span {
+        let _ = (len, low);
+        x
     }
 
     #[inline(always)]
-    fn leads_to<S: CountedSpace<L>, L: Ledger>(
-        &mut self,
-        space: &S,
-        x: Span,
-        node: NodeId,
-        at: u64,
-        count: &mut Count<L>,
-    ) -> bool {
-        leads_below(space, x, node, at, count)
+    fn span<S: CountedSpace<L>, L: Ledger>(&self, space: &S, x: Span, here: Span) -> Span {
+        let _ = x;
+        here
     }
 
     #[inline(always)]
-    fn next_old<S: CountedSpace<L>, L: Ledger>(
+    fn step<S: CountedSpace<L>, L: Ledger>(
         &mut self,
-        other: &mut FromRoot,
         space: &S,
         x: Span,
-        y: Span,
-        count: &mut Count<L>,
-    ) -> Row {
-        let _ = other;
-        next_below(space, x, y, count)
+        here: Span,
+        view: NodeView,
+        least: u64,
+    ) -> Descent<Span> {
+        match view {
+            NodeView::Cat { l, r } => {
+                let left = space.left_length(here.node, l);
+                if left <= here.start {
+                    Descent::Below(Span {
+                        node: r,
+                        start: here.start - left,
+                        len: here.len,
+                    })
+                } else if least <= left - here.start {
+                    Descent::Below(Span {
+                        node: l,
+                        start: here.start,
+                        len: here.len.min(left - here.start),
+                    })
+                } else {
+                    Descent::Border
+                }
+            }
+            NodeView::Sub { b, i } => Descent::Below(Span {
+                node: b,
+                start: here.start + i,
+                len: here.len,
+            }),
+            NodeView::Lit { .. } | NodeView::Src { .. } | NodeView::Fun => Descent::Leaf,
+        }
+    }
+
+    #[inline(always)]
+    fn find<S: CountedSpace<L>, L: Ledger>(
+        &self,
+        space: &S,
+        x: Span,
+        last: Span,
+        other: Span,
+    ) -> Option<Span> {
+        if last.node.0 == other.node.0 && last.start == other.start {
+            Some(last)
+        } else {
+            None
+        }
     }
 }
 

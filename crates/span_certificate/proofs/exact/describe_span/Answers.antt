@@ -3,7 +3,7 @@ use Rattle.span_certificate.proofs.exact.describe_span.Goals as goal
 
 pub returns-in-Within-clause-value : goal.returns-in-Within-clause-value
 returns-in-Within-clause-value g c =
-    let of = of_node c.args.part c.args.off c.in-Within.node c.in-Within.place c.in-Within.ensures.value in
+    let of = of_node c.args.part c.args.off c.in-Within.node c.in-Within.start c.in-Within.ensures.value in
     rw of.is (rw of.at at c.describe_node.ensures.value)
 
 pub returns-in-Described-clause-value : goal.returns-in-Described-clause-value

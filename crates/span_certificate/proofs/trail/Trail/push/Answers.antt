@@ -1,5 +1,13 @@
+use Rattle.std.proofs.Common.{◌-◌, ◌+◌, ◌≡◌, arith}
 use Rattle.span_certificate.proofs.Stops.{trail_goes_on}
 use Rattle.span_certificate.proofs.trail.Trail.push.Goals as goal
 
-pub returns-clause-trail : goal.returns-clause-trail
-returns-clause-trail g c = trail_goes_on (g.S.CountedSpace.table c.args.space.now) c.args.root c.args.self.now.stops c.args.self.now.count c.args.stop c.requires.trail c.requires.stop
+pub returns : goal.returns
+returns g c =
+    let count = c.args.self.now.count in
+    let last : count + 1 - 1 ≡ count = omega arith in
+    record {
+      trail = trail_goes_on (g.S.CountedSpace.table c.args.space.now) c.args.x.node c.args.self.now.stops count c.args.stop c.requires.trail c.requires.stop;
+      stop = rw last c.requires.stop;
+      holds = c.requires.holds;
+    }
