@@ -1,10 +1,10 @@
 -- Descents: what a lead says at each kind of node, and what stays true on the way down.
-use Rattle.std.proofs.Common.{◌≡◌, ℕ, ◌+◌, ◌-◌, ◌<◌, ◌≤◌, ◌⊎◌, inl, inr, length, sym, ap, subst, ◌∙◌, arith}
+use Rattle.std.proofs.Common.{◌≡◌, ℕ, ◌+◌, ◌-◌, ◌<◌, ◌≤◌, ◌⊎◌, inl, inr, length, subst}
 use Rattle.rope_node.specs.declared.node.NodeId.{NodeId}
 use Rattle.rope_node.specs.declared.node.NodeView.{NodeView}
 use Rattle.rope_node.specs.declared.node.NodeView.TheVariants.{Lit, Src, Fun, Cat, Sub}
 use Rattle.rope_node.specs.Table.{Table, view_at, len_at, IsLeaf, IsSound, HasTrueRecords}
-use Rattle.span_certificate.specs.Leads.{Leads, here, in_left, in_right, in_base, LeadsToLeaf}
+use Rattle.span_certificate.specs.Leads.{Leads, here, in_left, in_right, in_base}
 
 -- a concatenation is no leaf
 pub not_leaf_cat : (v : NodeView) (l r : NodeId) → v ≡ Cat l r → IsLeaf v → ⊥

@@ -1,10 +1,10 @@
 -- Rows for the first bytes of a part and of the root.
-use Rattle.std.proofs.Common.{◌≡◌, ℕ, ◌+◌, ◌<◌, ◌≤◌, List, length, map, take, drop, Some, sym, ap, subst, ◌∙◌, arith}
+use Rattle.std.proofs.Common.{◌≡◌, ℕ, ◌+◌, ◌<◌, ◌≤◌, List, length, take, drop, Some, sym, ap, ◌∙◌, arith}
 use Rattle.std.proofs.lemmas.List.{take-take}
 use Rattle.function_leaf.specs.declared.coded.Coded.{Coded}
 use Rattle.rope_node.specs.declared.node.NodeId.{NodeId}
 use Rattle.rope_node.specs.Table.{Table, len_at, IsSound, HasTrueRecords}
-use Rattle.rope_node.specs.Denotes.{Cell, Byte, Place, cells, text}
+use Rattle.rope_node.specs.Denotes.{Cell, cells, text}
 use Rattle.span_certificate.specs.declared.content.Content.TheVariants.{Within}
 use Rattle.span_certificate.specs.declared.describe.Description.{Description}
 use Rattle.span_certificate.specs.declared.part.Part.{Part}
@@ -12,7 +12,7 @@ use Rattle.span_certificate.specs.declared.part.Part.TheVariants.{Old}
 use Rattle.span_certificate.specs.declared.row.Row.{Row}
 use Rattle.span_certificate.specs.declared.row.RowKind.{RowKind}
 use Rattle.span_certificate.specs.declared.row.RowKind.TheVariants.{Shared, Leaf, Bytes}
-use Rattle.span_certificate.specs.Parts.{part_len, part_cells}
+use Rattle.span_certificate.specs.Parts.{part_cells}
 use Rattle.span_certificate.specs.Leads.{content_from, PartHasDescription}
 use Rattle.span_certificate.specs.Covers.{KindFits}
 use Rattle.span_certificate.specs.Descents.{first_of}

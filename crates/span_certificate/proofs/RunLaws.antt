@@ -1,5 +1,5 @@
 -- Runs of parts, and the bytes of descriptions.
-use Rattle.std.proofs.Common.{◌≡◌, ℕ, zero, suc, ◌+◌, ◌-◌, ◌^◌, ◌<◌, ◌≤◌, List, ◌∷◌, ◌++◌, length, map, take, drop, Some, refl, sym, ap, subst, ◌∙◌, arith, min}
+use Rattle.std.proofs.Common.{◌≡◌, ℕ, ◌+◌, ◌-◌, ◌^◌, ◌<◌, ◌≤◌, List, ◌++◌, length, map, take, drop, Some, refl, sym, ap, ◌∙◌, arith, min}
 use Rattle.std.specs.Prelude.{◌↔◌, Bool, true, false, IsTrue, Result}
 use Rattle.std.specs.List.{range_with_len}
 use Rattle.std.proofs.lemmas.List.{drop-drop, map-append}
@@ -10,7 +10,7 @@ use Rattle.function_leaf.specs.declared.coded.Coded.{Coded}
 use Rattle.function_leaf.specs.Coded.{coded_byte}
 use Rattle.rope_node.specs.declared.node.NodeId.{NodeId}
 use Rattle.rope_node.specs.Table.{Table, IsSound, HasTrueRecords}
-use Rattle.rope_node.specs.Denotes.{Cell, Byte, Place, cells, cell_byte, text}
+use Rattle.rope_node.specs.Denotes.{Cell, cells, cell_byte, text}
 use Rattle.rope_node.proofs.Parts.{span_within, span-map}
 use Rattle.lazy_file.specs.SourceTexts.{Agrees, Stated}
 use Rattle.lazy_file.specs.Readings.{Reading}

@@ -1,10 +1,9 @@
 -- Where a way down a span stands: what a step of it keeps, and what its end tells.
-use Rattle.std.proofs.Common.{◌≡◌, ◌↔◌, ℕ, ◌+◌, ◌-◌, ◌<◌, ◌≤◌, ◌⊎◌, inl, inr, min, Some, None, refl, sym, ap, subst, ◌∙◌, arith}
+use Rattle.std.proofs.Common.{◌≡◌, ◌↔◌, ℕ, ◌+◌, ◌≤◌, ◌⊎◌, inl, inr, min, Some, None, refl, sym, ap, subst, ◌∙◌, arith}
 use Rattle.std.proofs.lemmas.Bool.{cases_lt}
-use Rattle.rope_node.specs.declared.node.NodeId.{NodeId}
 use Rattle.rope_node.specs.declared.node.NodeView.{NodeView}
 use Rattle.rope_node.specs.declared.node.NodeView.TheVariants.{Lit, Src, Fun, Cat, Sub}
-use Rattle.rope_node.specs.Table.{Table, view_at, len_at, depth_at, IsLeaf, IsSound, HasTrueRecords}
+use Rattle.rope_node.specs.Table.{Table, view_at, len_at, IsLeaf, IsSound, HasTrueRecords}
 use Rattle.span_certificate.specs.declared.descent.SpanPlace.{SpanPlace}
 use Rattle.span_certificate.specs.declared.walk.Span.{Span}
 use Rattle.span_certificate.specs.Descents.{IsLeafOf, LeadsToSpan, IsStand, IsBorder, OnlyAbove}
@@ -19,14 +18,8 @@ use Rattle.span_certificate.proofs.Ways.{after_cat_to, after_sub_to, at_leaf_to}
 pub stand_begins : (t : Table) (x : Span) → IsSpan t x → IsStand t x x
 stand_begins t x is = record { reached = reached_itself t x is; first = refl; cut = λ short. absurd (omega (arith, short)) }
 
--- a step further down
-pub record IsDeeper (t : Table) (x y z : Span) : Type 0 where
-  pub stands : IsStand t x z
-  pub lower : z.node.0 < y.node.0
-  pub shallower : depth_at t z.node.0 < depth_at t y.node.0
-
 module _ (t : Table) (s : IsSound t) (h : HasTrueRecords t) where
-  child_below : (x z : Span) (v : NodeView) → IsSpan t x → v ≡ view_at t x.node.0 → Some z ≡ child_span t x v → IsBelow t x z
+  pub child_below : (x z : Span) (v : NodeView) → IsSpan t x → v ≡ view_at t x.node.0 → Some z ≡ child_span t x v → IsBelow t x z
   child_below x z (Lit a) is e child = absurd cc
   child_below x z (Src r a) is e child = absurd cc
   child_below x z Fun is e child = absurd cc
@@ -40,23 +33,19 @@ module _ (t : Table) (s : IsSound t) (h : HasTrueRecords t) where
       let found : z ≡ record { node = b; start = x.start + i; len = x.len } = cc in
       subst (IsBelow t x) (sym found) (below_base t s h x b i is (sym e))
 
-  pub stand_goes : (x y z : Span) (v : NodeView) → IsSpan t x → IsStand t x y → v ≡ view_at t y.node.0 → Some z ≡ child_span t y v → IsDeeper t x y z
+  pub stand_goes : (x y z : Span) (v : NodeView) → IsSpan t x → IsStand t x y → v ≡ view_at t y.node.0 → Some z ≡ child_span t y v → IsStand t x z
   stand_goes x y z v is stands e child =
       let below = child_below y z v stands.reached.is_span e child in
       record {
-        stands = record {
-          reached = reached_through t x y z stands.reached below.reached;
-          first = first_of_child t s h y z v stands.reached.is_span (sym e) child ∙ stands.first;
-          cut = λ short. elim (cases_lt z.len y.len) [
-            | inl cut ↦ cut_through t s h x y z v is.there e child stands.reached below cut
-            | inr whole ↦
-                let same : y.len ≡ z.len = omega (arith, whole, below.reached.few) in
-                let above : OnlyAbove t z.len x y.node = subst (λ (n : ℕ). OnlyAbove t n x y.node) same (stands.cut (omega (arith, same, short))) in
-                λ k o lead. omega (arith, above k o lead, below.lower)
-          ];
-        };
-        lower = below.lower;
-        shallower = below.shallower;
+        reached = reached_through t x y z stands.reached below.reached;
+        first = first_of_child t s h y z v stands.reached.is_span (sym e) child ∙ stands.first;
+        cut = λ short. elim (cases_lt z.len y.len) [
+          | inl cut ↦ cut_through t s h x y z v is.there e child stands.reached below cut
+          | inr whole ↦
+              let same : y.len ≡ z.len = omega (arith, whole, below.reached.few) in
+              let above : OnlyAbove t z.len x y.node = subst (λ (n : ℕ). OnlyAbove t n x y.node) same (stands.cut (omega (arith, same, short))) in
+              λ k o lead. omega (arith, above k o lead, below.lower)
+        ];
       }
 
   -- ---- to the leaf that it begins with

@@ -105,7 +105,7 @@ module _ (t : Table) (s : IsSound t) (h : HasTrueRecords t) (stop : Stop) where
 
   -- a stop to which they go on from another
   goes_on : (root c : ℕ) (z : Stop) (x : Span) → IsTrailStop t root c stop → x.node.0 ≡ root → IsSpan t x → Holds stop x.start 1 → Some (span_in x z) ≡ child_span t (span_in x stop) (view_at t stop.node.0) → IsStand t x (span_in x z)
-  goes_on root c z x is of span holds child = (stand_goes t s h x (span_in x stop) (span_in x z) (view_at t stop.node.0) span (is.stands x of span holds) refl child).stands
+  goes_on root c z x is of span holds child = stand_goes t s h x (span_in x stop) (span_in x z) (view_at t stop.node.0) span (is.stands x of span holds) refl child
 
   left_is_stop : (root c : ℕ) (l r : NodeId) → 1 ≤ c → IsTrailStop t root (c - 1) stop → view_at t stop.node.0 ≡ Cat l r → stop.start < len_at t l.0 → IsTrailStop t root c (left_stop stop l (len_at t l.0))
   left_is_stop root c l r some is e before =

@@ -1,15 +1,15 @@
 -- The way from a span down to one place, and what a descent to a leaf tells of descriptions.
-use Rattle.std.proofs.Common.{◌≡◌, ℕ, ◌+◌, ◌-◌, ◌<◌, ◌≤◌, ◌⊎◌, inl, inr, length, Some, None, refl, sym, subst, arith}
+use Rattle.std.proofs.Common.{◌≡◌, ℕ, ◌+◌, ◌-◌, ◌≤◌, ◌⊎◌, inl, inr, Some, None, refl, sym, subst}
 use Rattle.std.specs.Prelude.{◌↔◌}
 use Rattle.function_leaf.specs.declared.coded.Coded.{Coded}
 use Rattle.rope_node.specs.declared.node.NodeId.{NodeId}
 use Rattle.rope_node.specs.declared.node.NodeView.TheVariants.{Cat, Sub}
-use Rattle.rope_node.specs.Table.{Table, view_at, len_at, IsLeaf, IsSound, HasTrueRecords}
+use Rattle.rope_node.specs.Table.{Table, view_at, len_at, IsLeaf}
 use Rattle.span_certificate.specs.declared.describe.Description.{Description}
 use Rattle.span_certificate.specs.declared.descent.SpanPlace.{SpanPlace}
 use Rattle.span_certificate.specs.Leads.{Leads, here, in_left, in_right, in_base, leaf_description, HasDescription}
 use Rattle.span_certificate.specs.Descents.{LeadsToSpan}
-use Rattle.span_certificate.proofs.Descents.{children_of_cat, base_of_sub, not_leaf_cat, not_leaf_sub}
+use Rattle.span_certificate.proofs.Descents.{not_leaf_cat, not_leaf_sub}
 
 -- a test of two equations that failed
 pub away_of : (x k p o : ℕ) → ((x ≡ k) × (p ≡ o → ⊥)) ⊎ (x ≡ k → ⊥) → ¬ ((x ≡ k) × (p ≡ o))

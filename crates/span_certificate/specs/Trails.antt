@@ -2,7 +2,7 @@
 use Rattle.std.specs.Prelude.{◌≡◌, ℕ, ◌+◌, ◌-◌, ◌<◌, ◌≤◌, List, length, get_or, min}
 use Rattle.rope_node.specs.declared.limits.TheConstants.{MOST_DEPTH}
 use Rattle.rope_node.specs.declared.node.NodeId.{NodeId}
-use Rattle.rope_node.specs.Table.{Table, len_at, depth_at}
+use Rattle.rope_node.specs.Table.{Table, len_at, depth_at, IsSound, HasTrueRecords}
 use Rattle.span_certificate.specs.declared.stop.Stop.{Stop}
 use Rattle.span_certificate.specs.declared.trail.Trail.{Trail}
 use Rattle.span_certificate.specs.declared.way.Ways.{Ways}
@@ -74,10 +74,24 @@ right_stop stop r left = record { node = r; from = stop.from + (left - stop.star
 abbrev pub base_stop : Stop → NodeId → ℕ → Stop
 base_stop stop b i = record { node = b; from = stop.from; end = stop.end; start = stop.start + i }
 
--- the ways of a part and of a root are ways of ropes of this table, or keep nothing
+-- a way of ropes of this table, which is sound and has true records, or one that keeps nothing
+pub record IsWayOf {W : Type 0} (is_way : Table → W → Type 0) (t : Table) (way : W) : Type 0 where
+  pub sound : IsSound t
+  pub true_records : HasTrueRecords t
+  pub keeps : is_way t way
+
+-- one that has come down span x to a place
+pub record IsOnWay {W P : Type 0} (is_way : Table → W → Type 0) (is_at : Table → Span → W → P → Type 0) (lies : Span → P → Span) (t : Table) (x : Span)
+    (w : W) (here : P) : Type 0 where
+  pub way : IsWayOf is_way t w
+  pub span : IsSpan t x
+  pub at : is_at t x w here
+  pub stands : IsStand t x (lies x here)
+
+-- the ways of a part and of a root
 pub record AreWays {W : Type 0} (is_way : Table → W → Type 0) (t : Table) (ways : Ways W) : Type 0 where
-  pub part : is_way t ways.of_part
-  pub root : is_way t ways.of_root
+  pub part : IsWayOf is_way t ways.of_part
+  pub root : IsWayOf is_way t ways.of_root
 
 -- this very stop, if the root's byte at p is the byte `start` of this node in it
 pub record StandsAt (stop : Stop) (p : ℕ) (node : NodeId) (start : ℕ) (z : Stop) : Type 0 where

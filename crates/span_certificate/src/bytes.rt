@@ -1,12 +1,11 @@
 //! Bytes of both sides, compared run by run.
 
 ghost use Rattle.std.specs.Prelude.{◌≡◌, ◌+◌, ◌*◌, ◌<◌, ◌≤◌, ◌↔◌, ◌++◌, length, take, drop, IsTrue, IfOk, OnOk};
-ghost use Rattle.rope_node.specs.Table.{IsSound, HasTrueRecords};
 ghost use Rattle.cord_position.specs.Runs.{AreBytesOf};
 ghost use Rattle.span_certificate.specs.Parts.{part_len, part_cells, IsPart};
 ghost use Rattle.span_certificate.specs.Leads.{described_cells, HasRoom};
 ghost use Rattle.span_certificate.specs.Runs.{IsRunOf, ReadsCells, TellsSame};
-ghost use Rattle.span_certificate.specs.Trails.{AreWays};
+ghost use Rattle.span_certificate.specs.Trails.{AreWays, IsWayOf};
 ghost use Rattle.span_certificate.specs.declared.looks.TheConstants.{LOOKS_LIMIT};
 
 use crate::content::{Content, content_of};
@@ -40,14 +39,12 @@ pub fn run_of<S: CountedSpace<L>, W: Way, L: Ledger>(
     left: u64,
     count: &mut Count<L>,
 ) -> Run
-    requires sound { IsSound (S.table space.now) }
-    requires true_records { HasTrueRecords (S.table space.now) }
-    requires way { W.is_way (S.table space.now) way.old }
+    requires way { IsWayOf W.is_way (S.table space.now) way.old }
     requires part { IsPart (S.table space.now) part }
     requires some { 1 ≤ left }
     requires inside { off + left ≤ part_len part }
     ensures run { IsRunOf (S.table space.now) part off left result }
-    ensures way { W.is_way (S.table space.now) way.new }
+    ensures way { IsWayOf W.is_way (S.table space.now) way.new }
     ensures few { count.new ≤ count.old + 66 }
 {
     match content_of::<S, L>(space, part, off) {
@@ -158,8 +155,6 @@ pub fn same_bytes<S: CountedSpace<L>, T: Sources, W: Way, L: Ledger>(
     len: u64,
     count: &mut Count<L>,
 ) -> Result<bool, SourceFault>
-    requires sound { IsSound (S.table space.now) }
-    requires true_records { HasTrueRecords (S.table space.now) }
     requires ways { AreWays W.is_way (S.table space.now) ways.old }
     requires part { IsPart (S.table space.now) part }
     requires other { IsPart (S.table space.now) other }

@@ -2,7 +2,6 @@
 
 ghost use Rattle.std.specs.Prelude.{◌≡◌, ◌+◌, ◌*◌, ◌<◌, ◌≤◌, ◌↔◌, List, None, Ok, IsTrue, IfOk, IfErr};
 ghost use Rattle.std.specs.Option.{ForSome};
-ghost use Rattle.rope_node.specs.Table.{IsSound, HasTrueRecords};
 ghost use Rattle.rope_node.specs.Denotes.{rope_len, IsRope};
 ghost use Rattle.span_certificate.specs.declared.part.Part.{Part};
 ghost use Rattle.span_certificate.specs.Parts.{part_at, part_len, IsPart, AreParts};
@@ -54,8 +53,6 @@ fn same_leaf<S: CountedSpace<L>, W: Way, L: Ledger>(
     len: u64,
     count: &mut Count<L>,
 ) -> bool
-    requires sound { IsSound (S.table space.now) }
-    requires true_records { HasTrueRecords (S.table space.now) }
     requires ways { AreWays W.is_way (S.table space.now) ways.old }
     requires part { IsPart (S.table space.now) part }
     requires other { IsPart (S.table space.now) other }
@@ -89,8 +86,6 @@ fn kind_fits<S: CountedSpace<L>, T: Sources, W: Way, L: Ledger>(
     row: Row,
     count: &mut Count<L>,
 ) -> Result<bool, SourceFault>
-    requires sound { IsSound (S.table space.now) }
-    requires true_records { HasTrueRecords (S.table space.now) }
     requires ways { AreWays W.is_way (S.table space.now) ways.old }
     requires part { IsPart (S.table space.now) part }
     requires inside_part { off + row.len ≤ part_len part }
@@ -141,8 +136,6 @@ fn row_fits<S: CountedSpace<L>, T: Sources, W: Way, L: Ledger>(
     row: Row,
     count: &mut Count<L>,
 ) -> Result<bool, SourceFault>
-    requires sound { IsSound (S.table space.now) }
-    requires true_records { HasTrueRecords (S.table space.now) }
     requires ways { AreWays W.is_way (S.table space.now) ways.old }
     requires part { ForSome part (λ p. IsPart (S.table space.now) p × (off < part_len p)) }
     requires root { IsRope (S.table space.now) root }

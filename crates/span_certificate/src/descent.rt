@@ -1,10 +1,10 @@
 //! Ways from a span down: to the leaf that it begins in, to the leaf that it lies in, to one place.
 
 ghost use Rattle.std.specs.Prelude.{◌≡◌, ◌↔◌, ◌+◌, ◌≤◌, Some, IfSome, IsTrue};
-ghost use Rattle.rope_node.specs.Table.{IsSound, HasTrueRecords};
 ghost use Rattle.span_certificate.specs.Descents.{IsLeafOf, IsSpanPlace, LeadsToSpan};
 ghost use Rattle.span_certificate.specs.Leads.{Leads};
 ghost use Rattle.span_certificate.specs.Steps.{IsSpan};
+ghost use Rattle.span_certificate.specs.Trails.{IsWayOf};
 ghost use Rattle.span_certificate.specs.declared.descent.SpanPlace.{SpanPlace};
 
 use crate::looks::{Count, CountedSpace};
@@ -30,12 +30,10 @@ pub fn first_leaf<S: CountedSpace<L>, W: Way, L: Ledger>(
     x: Span,
     count: &mut Count<L>,
 ) -> Reached
-    requires sound { IsSound (S.table space.now) }
-    requires true_records { HasTrueRecords (S.table space.now) }
-    requires way { W.is_way (S.table space.now) way.old }
+    requires way { IsWayOf W.is_way (S.table space.now) way.old }
     requires span { IsSpan (S.table space.now) x }
     ensures leaf { IsLeafOf (S.table space.now) x result }
-    ensures way { W.is_way (S.table space.now) way.new }
+    ensures way { IsWayOf W.is_way (S.table space.now) way.new }
     ensures few { count.new ≤ count.old + 65 }
 {
     let mut here = way.begin(space, x, 1, 0);
@@ -57,14 +55,12 @@ pub fn leaf_span<S: CountedSpace<L>, W: Way, L: Ledger>(
     x: Span,
     count: &mut Count<L>,
 ) -> Option<SpanPlace>
-    requires sound { IsSound (S.table space.now) }
-    requires true_records { HasTrueRecords (S.table space.now) }
-    requires way { W.is_way (S.table space.now) way.old }
+    requires way { IsWayOf W.is_way (S.table space.now) way.old }
     requires span { IsSpan (S.table space.now) x }
     ensures inside { IfSome result (IsSpanPlace (S.table space.now) x.len) }
     ensures leads { (s : SpanPlace)
         → (result ≡ Some s) ↔ LeadsToSpan (S.table space.now) x.len x.node.0 x.start s }
-    ensures way { W.is_way (S.table space.now) way.new }
+    ensures way { IsWayOf W.is_way (S.table space.now) way.new }
     ensures few { count.new ≤ count.old + 65 }
 {
     let mut here = way.begin(space, x, x.len, 0);
@@ -94,12 +90,10 @@ pub fn leads_to<S: CountedSpace<L>, W: Way, L: Ledger>(
     at: u64,
     count: &mut Count<L>,
 ) -> bool
-    requires sound { IsSound (S.table space.now) }
-    requires true_records { HasTrueRecords (S.table space.now) }
-    requires way { W.is_way (S.table space.now) way.old }
+    requires way { IsWayOf W.is_way (S.table space.now) way.old }
     requires span { IsSpan (S.table space.now) x }
     ensures leads { IsTrue result ↔ Leads (S.table space.now) x.len node.0 at x.node.0 x.start }
-    ensures way { W.is_way (S.table space.now) way.new }
+    ensures way { IsWayOf W.is_way (S.table space.now) way.new }
     ensures few { count.new ≤ count.old + 65 }
 {
     let mut here = way.begin(space, x, x.len, node.0);

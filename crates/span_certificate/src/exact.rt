@@ -1,11 +1,12 @@
 //! Whether spans lead to one node, and what the leaf spans are that they lead to.
 
 ghost use Rattle.std.specs.Prelude.{◌≡◌, ◌↔◌, ◌+◌, ◌≤◌, Some, IsTrue};
-ghost use Rattle.rope_node.specs.Table.{IsSound, HasTrueRecords};
+ghost use Rattle.rope_node.specs.Table.{IsSound};
 ghost use Rattle.span_certificate.specs.Parts.{part_len, IsPart};
 ghost use Rattle.span_certificate.specs.Leads.{PartLeads, HasDescription, PartHasDescription};
 ghost use Rattle.span_certificate.specs.Looks.{BeginsCount};
 ghost use Rattle.span_certificate.specs.Steps.{IsSpan};
+ghost use Rattle.span_certificate.specs.Trails.{IsWayOf};
 ghost use Rattle.span_certificate.specs.declared.describe.Description.{Description};
 
 use crate::content::{Content, content_of};
@@ -30,14 +31,12 @@ pub fn part_leads<S: CountedSpace<L>, W: Way, L: Ledger>(
     at: u64,
     count: &mut Count<L>,
 ) -> bool
-    requires sound { IsSound (S.table space.now) }
-    requires true_records { HasTrueRecords (S.table space.now) }
-    requires way { W.is_way (S.table space.now) way.old }
+    requires way { IsWayOf W.is_way (S.table space.now) way.old }
     requires part { IsPart (S.table space.now) part }
     requires some { 1 ≤ len }
     requires inside { off + len ≤ part_len part }
     ensures leads { IsTrue result ↔ PartLeads (S.table space.now) len node.0 at part off }
-    ensures way { W.is_way (S.table space.now) way.new }
+    ensures way { IsWayOf W.is_way (S.table space.now) way.new }
     ensures few { count.new ≤ count.old + 65 }
 {
     match part {
@@ -64,13 +63,11 @@ fn describe_node<S: CountedSpace<L>, W: Way, L: Ledger>(
     x: Span,
     count: &mut Count<L>,
 ) -> Option<Description>
-    requires sound { IsSound (S.table space.now) }
-    requires true_records { HasTrueRecords (S.table space.now) }
-    requires way { W.is_way (S.table space.now) way.old }
+    requires way { IsWayOf W.is_way (S.table space.now) way.old }
     requires span { IsSpan (S.table space.now) x }
     ensures value { (d : Description) → (result ≡ Some d) ↔ HasDescription
         (S.table space.now) (S.coded space.now) x.len x.node.0 x.start d }
-    ensures way { W.is_way (S.table space.now) way.new }
+    ensures way { IsWayOf W.is_way (S.table space.now) way.new }
     ensures few { count.new ≤ count.old + 66 }
 {
     match leaf_span(space, way, x, count) {
@@ -89,15 +86,13 @@ pub fn describe_span<S: CountedSpace<L>, W: Way, L: Ledger>(
     len: u64,
     count: &mut Count<L>,
 ) -> Option<Description>
-    requires sound { IsSound (S.table space.now) }
-    requires true_records { HasTrueRecords (S.table space.now) }
-    requires way { W.is_way (S.table space.now) way.old }
+    requires way { IsWayOf W.is_way (S.table space.now) way.old }
     requires part { IsPart (S.table space.now) part }
     requires not_empty { 1 ≤ len }
     requires inside { off + len ≤ part_len part }
     ensures value { (d : Description) → (result ≡ Some d) ↔ PartHasDescription
         (S.table space.now) (S.coded space.now) len part off d }
-    ensures way { W.is_way (S.table space.now) way.new }
+    ensures way { IsWayOf W.is_way (S.table space.now) way.new }
     ensures few { count.new ≤ count.old + 66 }
 {
     match content_of::<S, L>(space, part, off) {

@@ -2,7 +2,6 @@
 
 ghost use Rattle.std.specs.Prelude.{◌≡◌, ◌↔◌, ℕ, ◌+◌, ◌<◌, ◌≤◌, List, length, IsTrue, Some};
 ghost use Rattle.std.specs.Option.{ForSome};
-ghost use Rattle.rope_node.specs.Table.{IsSound, HasTrueRecords};
 ghost use Rattle.rope_node.specs.Denotes.{Cell, rope_len, IsRope};
 ghost use Rattle.span_certificate.specs.declared.part.Part.{Part};
 ghost use Rattle.span_certificate.specs.Covers.{CoversAnyhow, row_at};
@@ -11,7 +10,7 @@ ghost use Rattle.span_certificate.specs.Leads.{PartLeads, RopeLeads};
 ghost use Rattle.span_certificate.specs.Looks.{BeginsCount};
 ghost use Rattle.span_certificate.specs.Parts.{part_at, part_len, parts_len, IsPart, AreParts};
 ghost use Rattle.span_certificate.specs.Places.{held};
-ghost use Rattle.span_certificate.specs.Trails.{AreWays};
+ghost use Rattle.span_certificate.specs.Trails.{AreWays, IsWayOf};
 
 use crate::descent::leaf_span;
 use crate::exact::part_leads;
@@ -37,14 +36,12 @@ fn lies_in_leaf<S: CountedSpace<L>, W: Way, L: Ledger>(
     len: u64,
     count: &mut Count<L>,
 ) -> bool
-    requires sound { IsSound (S.table space.now) }
-    requires true_records { HasTrueRecords (S.table space.now) }
-    requires way { W.is_way (S.table space.now) way.old }
+    requires way { IsWayOf W.is_way (S.table space.now) way.old }
     requires part { IsPart (S.table space.now) part }
     requires some { 1 ≤ len }
     requires inside { off + len ≤ part_len part }
     ensures lies { IsTrue result ↔ PartLiesInLeaf (S.table space.now) len part off }
-    ensures way { W.is_way (S.table space.now) way.new }
+    ensures way { IsWayOf W.is_way (S.table space.now) way.new }
 {
     match part {
         Part::Old { rope, i, n: _ } => match rope {
@@ -69,8 +66,6 @@ fn lie_in_leaves<S: CountedSpace<L>, W: Way, L: Ledger>(
     len: u64,
     count: &mut Count<L>,
 ) -> bool
-    requires sound { IsSound (S.table space.now) }
-    requires true_records { HasTrueRecords (S.table space.now) }
     requires ways { AreWays W.is_way (S.table space.now) ways.old }
     requires part { IsPart (S.table space.now) part }
     requires inside_part { off + len ≤ part_len part }
@@ -104,8 +99,6 @@ fn both_lead<S: CountedSpace<L>, W: Way, L: Ledger>(
     at: u64,
     count: &mut Count<L>,
 ) -> bool
-    requires sound { IsSound (S.table space.now) }
-    requires true_records { HasTrueRecords (S.table space.now) }
     requires ways { AreWays W.is_way (S.table space.now) ways.old }
     requires part { IsPart (S.table space.now) part }
     requires inside_part { off + len ≤ part_len part }
@@ -139,8 +132,6 @@ fn stay_within<S: CountedSpace<L>, W: Way, L: Ledger>(
     kind: RowKind,
     count: &mut Count<L>,
 ) -> bool
-    requires sound { IsSound (S.table space.now) }
-    requires true_records { HasTrueRecords (S.table space.now) }
     requires ways { AreWays W.is_way (S.table space.now) ways.old }
     requires part { IsPart (S.table space.now) part }
     requires inside_part { off + len ≤ part_len part }
@@ -175,8 +166,6 @@ fn is_longest<S: CountedSpace<L>, W: Way, L: Ledger>(
     row: Row,
     count: &mut Count<L>,
 ) -> bool
-    requires sound { IsSound (S.table space.now) }
-    requires true_records { HasTrueRecords (S.table space.now) }
     requires ways { AreWays W.is_way (S.table space.now) ways.old }
     requires part { ForSome part (λ p. IsPart (S.table space.now) p × (off < part_len p)) }
     requires root { IsRope (S.table space.now) root }

@@ -1,7 +1,6 @@
 //! Rows made for the parts of a command and its root.
 
 ghost use Rattle.std.specs.Prelude.{◌≡◌, ◌+◌, ◌<◌, ◌≤◌, length, take, drop, Some, IfOk, IsErrOf};
-ghost use Rattle.rope_node.specs.Table.{IsSound, HasTrueRecords};
 ghost use Rattle.rope_node.specs.Denotes.{cells, rope_cells, IsRope};
 ghost use Rattle.span_certificate.specs.Parts.{part_len, part_cells, parts_cells, IsPart, AreParts};
 ghost use Rattle.span_certificate.specs.Covers.{CoversAlways, MeetsNoSource};
@@ -46,8 +45,6 @@ fn next_row<S: CountedSpace<L>, W: Way, L: Ledger>(
     y: Span,
     count: &mut Count<L>,
 ) -> Row
-    requires sound { IsSound (S.table space.now) }
-    requires true_records { HasTrueRecords (S.table space.now) }
     requires ways { AreWays W.is_way (S.table space.now) ways.old }
     requires part { IsPart (S.table space.now) part }
     requires inside { off + y.len ≤ part_len part }
@@ -78,8 +75,6 @@ fn make_for<S: CodedSpace, P: Splices, W: Way, L: Ledger>(
     ways: &mut Ways<W>,
     blank: Blank,
 ) -> Result<Vec<Row>, MakeFault>
-    requires sound { IsSound (S.NodeSpace.table space.now) }
-    requires true_records { HasTrueRecords (S.NodeSpace.table space.now) }
     requires parts { AreParts (S.NodeSpace.table space.now) parts }
     requires root { root.0 < length (S.NodeSpace.table space.now).nodes }
     requires same { parts_cells (S.NodeSpace.table space.now) parts

@@ -2,7 +2,6 @@
 
 ghost use Rattle.std.specs.Prelude.{◌≡◌, ◌↔◌, ◌+◌, ◌<◌, ◌≤◌, List, All, length, take, drop, IsTrue, IsSome, Some};
 ghost use Rattle.std.specs.Option.{ForSome};
-ghost use Rattle.rope_node.specs.Table.{IsSound, HasTrueRecords};
 ghost use Rattle.rope_node.specs.Denotes.{rope_len, rope_cells, IsRope};
 ghost use Rattle.span_certificate.specs.declared.part.Part.{Part};
 ghost use Rattle.span_certificate.specs.Covers.{CoversAnyhow, IsByte, MeetsNoSource, kind_compares, row_compares, row_at};
@@ -10,7 +9,7 @@ ghost use Rattle.span_certificate.specs.Looks.{BeginsCount};
 ghost use Rattle.span_certificate.specs.Parts.{part_at, part_len, part_cells, IsPart, AreParts};
 ghost use Rattle.span_certificate.specs.Places.{held, len_here};
 ghost use Rattle.span_certificate.specs.Runs.{IsSourced};
-ghost use Rattle.span_certificate.specs.Trails.{AreWays};
+ghost use Rattle.span_certificate.specs.Trails.{AreWays, IsWayOf};
 
 use crate::bytes::run_of;
 use crate::describe::Description;
@@ -46,13 +45,11 @@ fn are_bytes<S: CountedSpace<L>, W: Way, L: Ledger>(
     len: u64,
     count: &mut Count<L>,
 ) -> bool
-    requires sound { IsSound (S.table space.now) }
-    requires true_records { HasTrueRecords (S.table space.now) }
-    requires way { W.is_way (S.table space.now) way.old }
+    requires way { IsWayOf W.is_way (S.table space.now) way.old }
     requires part { IsPart (S.table space.now) part }
     requires inside { off + len ≤ part_len part }
     ensures bytes { IsTrue result ↔ All IsByte (take len (drop off (part_cells (S.table space.now) part))) }
-    ensures way { W.is_way (S.table space.now) way.new }
+    ensures way { IsWayOf W.is_way (S.table space.now) way.new }
 {
     let mut done = 0;
     while done < len {
@@ -76,8 +73,6 @@ fn compares_bytes<S: CountedSpace<L>, W: Way, L: Ledger>(
     row: Row,
     count: &mut Count<L>,
 ) -> bool
-    requires sound { IsSound (S.table space.now) }
-    requires true_records { HasTrueRecords (S.table space.now) }
     requires ways { AreWays W.is_way (S.table space.now) ways.old }
     requires part { IsPart (S.table space.now) part }
     requires some { 1 ≤ row.len }

@@ -5,6 +5,7 @@ ghost use Rattle.rope_node.specs.Table.{view_at, IsLeaf, IsSound, HasTrueRecords
 ghost use Rattle.span_certificate.specs.Descents.{IsStand, first_of};
 ghost use Rattle.span_certificate.specs.Longest.{GoesToLeafEnd, SpansStayWithin};
 ghost use Rattle.span_certificate.specs.Steps.{IsSpan, span_cells, CellsAs, IsRowOf, IsDescribedRow};
+ghost use Rattle.span_certificate.specs.Trails.{IsWayOf};
 ghost use Rattle.span_certificate.specs.declared.walk.TheConstants.{BYTES_LIMIT};
 ghost use Rattle.rope_node.specs.declared.node.NodeId.{NodeId};
 
@@ -170,10 +171,8 @@ pub fn next_old<S: CountedSpace<L>, W: Way, L: Ledger>(
     y: Span,
     count: &mut Count<L>,
 ) -> Row
-    requires sound { IsSound (S.table space.now) }
-    requires true_records { HasTrueRecords (S.table space.now) }
-    requires of_part { W.is_way (S.table space.now) of_part.old }
-    requires of_root { W.is_way (S.table space.now) of_root.old }
+    requires of_part { IsWayOf W.is_way (S.table space.now) of_part.old }
+    requires of_root { IsWayOf W.is_way (S.table space.now) of_root.old }
     requires x { IsSpan (S.table space.now) x }
     requires y { IsSpan (S.table space.now) y }
     requires len { y.len ≡ x.len }
@@ -181,13 +180,13 @@ pub fn next_old<S: CountedSpace<L>, W: Way, L: Ledger>(
     ensures row { IsRowOf (S.table space.now) (S.coded space.now) x y result }
     ensures longest { result.len < x.len
         → ¬ SpansStayWithin (S.table space.now) (result.len + 1) x y result.kind }
-    ensures of_part { W.is_way (S.table space.now) of_part.new }
-    ensures of_root { W.is_way (S.table space.now) of_root.new }
+    ensures of_part { IsWayOf W.is_way (S.table space.now) of_part.new }
+    ensures of_root { IsWayOf W.is_way (S.table space.now) of_root.new }
 {
     let mut a = of_part.begin(space, x, 1, 0);
     let mut b = of_root.begin(space, y, 1, 0);
-    let mut first = of_part.span(space, x, a);
-    let mut second = of_root.span(space, y, b);
+    let first = of_part.span(space, x, a);
+    let second = of_root.span(space, y, b);
     if let Some(z) = of_root.find(space, y, b, first) {
         return shared_row(space, x, first, y, z);
     }
@@ -197,11 +196,13 @@ pub fn next_old<S: CountedSpace<L>, W: Way, L: Ledger>(
     let mut of_a = space.look(first.node, count);
     let mut of_b = space.look(second.node, count);
     'down: loop {
+        let first = of_part.span(space, x, a);
+        let second = of_root.span(space, y, b);
         if goes_first(first.node, of_a, second.node, of_b) {
             match of_part.step(space, x, a, of_a, 1) {
                 Descent::Below(below) => {
                     a = below;
-                    first = of_part.span(space, x, a);
+                    let first = of_part.span(space, x, a);
                     if let Some(z) = of_root.find(space, y, b, first) {
                         return shared_row(space, x, first, y, z);
                     }
@@ -213,7 +214,7 @@ pub fn next_old<S: CountedSpace<L>, W: Way, L: Ledger>(
             match of_root.step(space, y, b, of_b, 1) {
                 Descent::Below(below) => {
                     b = below;
-                    second = of_root.span(space, y, b);
+                    let second = of_root.span(space, y, b);
                     if let Some(z) = of_part.find(space, x, a, second) {
                         return shared_row(space, x, z, y, second);
                     }
@@ -234,14 +235,12 @@ pub fn next_leaf<S: CountedSpace<L>, W: Way, L: Ledger>(
     y: Span,
     count: &mut Count<L>,
 ) -> Row
-    requires sound { IsSound (S.table space.now) }
-    requires true_records { HasTrueRecords (S.table space.now) }
-    requires way { W.is_way (S.table space.now) way.old }
+    requires way { IsWayOf W.is_way (S.table space.now) way.old }
     requires y { IsSpan (S.table space.now) y }
     requires same { CellsAs y.len d (span_cells (S.table space.now) y) }
     ensures row { IsDescribedRow (S.table space.now) (S.coded space.now) d y result }
     ensures ends { GoesToLeafEnd (first_of (S.table space.now) y).len result.len result.kind }
-    ensures way { W.is_way (S.table space.now) way.new }
+    ensures way { IsWayOf W.is_way (S.table space.now) way.new }
 {
     let z = first_leaf(space, way, y, count);
     match describe(space, z.span.node, z.view, z.span.start, count) {

@@ -1,10 +1,10 @@
 //! Ways down to the places that rows stand at: kept for the next place, or each from the root.
 
 ghost use Rattle.std.specs.Prelude.{⊤, ◌≡◌, ◌<◌, ◌≤◌, ◌⊎◌, length, IfSome};
-ghost use Rattle.rope_node.specs.Table.{Table, view_at, IsSound, HasTrueRecords};
-ghost use Rattle.span_certificate.specs.Descents.{IsStand, IsStandAt, GoesDownTo, stop_after};
+ghost use Rattle.rope_node.specs.Table.{Table, view_at};
+ghost use Rattle.span_certificate.specs.Descents.{IsStandAt, GoesDownTo, stop_after};
 ghost use Rattle.span_certificate.specs.Steps.{IsSpan};
-ghost use Rattle.span_certificate.specs.Trails.{IsTrail, IsLastStop, span_in};
+ghost use Rattle.span_certificate.specs.Trails.{IsTrail, IsLastStop, IsOnWay, IsWayOf, span_in};
 ghost use Rattle.span_certificate.specs.declared.walk.Span.{Span};
 
 use crate::looks::CountedSpace;
@@ -30,9 +30,10 @@ pub enum Descent<P> {
 /// A way down to a place of a rope. Whatever it keeps of it for the next place, the answers are the same.
 pub trait Way {
     ghost use Rattle.std.specs.Prelude.{◌≡◌, ◌≤◌, ◌⊎◌, IfSome};
-    ghost use Rattle.rope_node.specs.Table.{Table, view_at, IsSound, HasTrueRecords};
-    ghost use Rattle.span_certificate.specs.Descents.{IsStand, IsStandAt, GoesDownTo, stop_after};
+    ghost use Rattle.rope_node.specs.Table.{Table, view_at};
+    ghost use Rattle.span_certificate.specs.Descents.{IsStandAt, GoesDownTo, stop_after};
     ghost use Rattle.span_certificate.specs.Steps.{IsSpan};
+    ghost use Rattle.span_certificate.specs.Trails.{IsOnWay, IsWayOf};
     ghost use Rattle.span_certificate.specs.declared.walk.Span.{Span};
 
     /// A node on the way.
@@ -63,22 +64,17 @@ pub trait Way {
         len: u64,
         low: u32,
     ) -> Self::Here
-        requires sound { IsSound (S.table space.now) }
-        requires true_records { HasTrueRecords (S.table space.now) }
-        requires way { is_way (S.table space.now) self.old }
+        requires way { IsWayOf is_way (S.table space.now) self.old }
         requires span { IsSpan (S.table space.now) x }
         requires some { 1 ≤ len }
         requires inside { len ≤ x.len }
-        ensures way { is_way (S.table space.now) self.new }
-        ensures at { is_at (S.table space.now) x self.new result }
-        ensures stands { IsStand (S.table space.now) x (lies x result) }
+        ensures on { IsOnWay is_way is_at lies (S.table space.now) x self.new result }
         ensures long { len ≤ (lies x result).len }
         ensures low { (low ≤ (lies x result).node.0) ⊎ (lies x result ≡ x) };
 
     /// The bytes of a stop's node to which the first ones of the span lead.
     fn span<S: CountedSpace<L>, L: Ledger>(&self, space: &S, x: Span, here: Self::Here) -> Span
-        requires sound { IsSound (S.table space.now) }
-        requires at { is_at (S.table space.now) x self.now here }
+        requires { IsOnWay is_way is_at lies (S.table space.now) x self.now here }
         ensures { result ≡ lies x here };
 
     /// A step down from a stop, whose node is `view`, where the first `least` bytes lie in one child.
@@ -90,16 +86,11 @@ pub trait Way {
         view: NodeView,
         least: u64,
     ) -> Descent<Self::Here>
-        requires sound { IsSound (S.table space.now) }
-        requires true_records { HasTrueRecords (S.table space.now) }
-        requires span { IsSpan (S.table space.now) x }
-        requires at { is_at (S.table space.now) x self.old here }
-        requires stands { IsStand (S.table space.now) x (lies x here) }
+        requires on { IsOnWay is_way is_at lies (S.table space.now) x self.old here }
         requires view { view ≡ view_at (S.table space.now) (lies x here).node.0 }
         requires some { 1 ≤ least }
         requires long { least ≤ (lies x here).len }
-        ensures way { is_way (S.table space.now) self.new }
-        ensures at { is_at (S.table space.now) x self.new (stop_after here result) }
+        ensures on { IsOnWay is_way is_at lies (S.table space.now) x self.new (stop_after here result) }
         ensures goes { GoesDownTo (lies x) (S.table space.now) (lies x here) view least result };
 
     /// The bytes at the place where another span stands, if the span's first ones are known to lead there. The way has come to `last`.
@@ -110,10 +101,7 @@ pub trait Way {
         last: Self::Here,
         other: Span,
     ) -> Option<Span>
-        requires sound { IsSound (S.table space.now) }
-        requires span { IsSpan (S.table space.now) x }
-        requires at { is_at (S.table space.now) x self.now last }
-        requires stands { IsStand (S.table space.now) x (lies x last) }
+        requires { IsOnWay is_way is_at lies (S.table space.now) x self.now last }
         ensures { IfSome result (IsStandAt (S.table space.now) x other) };
 }
 
@@ -295,13 +283,13 @@ impl Ways<FromRoot> {
 }
 
 impl<W: Way> Ways<W> {
-    ghost use Rattle.rope_node.specs.Table.{Table};
+    ghost use Rattle.rope_node.specs.Table.{Table, IsSound, HasTrueRecords};
     ghost use Rattle.span_certificate.specs.Trails.{AreWays};
 
     /// They keep nothing any more. What they were of may have changed meanwhile.
     #[inline(always)]
     pub fn forget(&mut self)
-        ensures { (t : Table) → AreWays W.is_way t self.new }
+        ensures { (t : Table) → IsSound t → HasTrueRecords t → AreWays W.is_way t self.new }
     {
         self.of_part.forget();
         self.of_root.forget();

@@ -20,4 +20,4 @@ returns-else-row-root_left-clause-reads g c = λ parts are at.
     let t = g.S.CountedSpace.table c.args.space.now in
     let here : part_at parts c.args.place ≡ Some (c.in-Some.part, c.args.off) = at ∙ ap (λ (p : Option Part). held p c.args.off) c.in-Some.is in
     let in_part : c.args.off + c.args.row.len ≤ part_len c.in-Some.part = omega (arith, c.requires.part c.in-Some.part c.in-Some.is) in
-    rw (joined_compare t c.requires.sound c.requires.true_records parts c.args.root c.args.place c.args.off c.in-Some.part c.args.row are here in_part) c.kind_fits.ensures.reads
+    rw (joined_compare t c.requires.ways.part.sound c.requires.ways.part.true_records parts c.args.root c.args.place c.args.off c.in-Some.part c.args.row are here in_part) c.kind_fits.ensures.reads

@@ -109,6 +109,6 @@ loop-j-init g c = record {
   verifying = verifying_none (g.S.CountedSpace.table c.args.space.now) (g.S.CountedSpace.coded c.args.space.now) (g.T.Sources.reading c.args.sources.now).stated c.args.parts c.args.root (g.R.Rows.listed c.args.rows.now);
   at = c.start-at.ensures;
   looks = omega arith;
-  ways = c.forget.ensures (g.S.CountedSpace.table c.args.space.now);
+  ways = c.forget.ensures (g.S.CountedSpace.table c.args.space.now) c.node_count-nodes.ensures.sound c.node_count-nodes.ensures.true_records;
   reads = refl;
 }

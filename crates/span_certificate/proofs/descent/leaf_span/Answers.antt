@@ -1,14 +1,12 @@
 use Rattle.std.proofs.Common.{◌≡◌, arith}
 use Rattle.rope_node.specs.Table.{view_at}
-use Rattle.span_certificate.proofs.Stands.{found_leaf, no_leaf, stand_goes}
+use Rattle.span_certificate.proofs.Stands.{found_leaf, no_leaf, child_below}
 use Rattle.span_certificate.proofs.descent.leaf_span.Goals as goal
 
 pub down-init : goal.down-init
 down-init g c = record {
-  way = c.begin-here.ensures.way;
-  at = c.begin-here.ensures.at;
-  stands = c.begin-here.ensures.stands;
-  looks = omega (arith, (c.requires.sound.nodes (g.W.Way.lies c.args.x c.begin-here.result).node.0 c.begin-here.ensures.stands.reached.is_span.there).not_deep);
+  on = c.begin-here.ensures.on;
+  looks = omega (arith, (c.requires.way.sound.nodes (g.W.Way.lies c.args.x c.begin-here.result).node.0 c.begin-here.ensures.on.stands.reached.is_span.there).not_deep);
   long = c.begin-here.ensures.long;
 }
 
@@ -20,16 +18,16 @@ down-preserved g c =
     let t = g.S.CountedSpace.table c.args.space.now in
     let i = c.down.invariant in
     let view : c.look-view.result ≡ view_at t (g.W.Way.lies c.args.x c.down.here).node.0 = rw c.span-at.ensures at c.look-view.ensures.view in
-    let deeper = stand_goes t c.requires.sound c.requires.true_records c.args.x (g.W.Way.lies c.args.x c.down.here) (g.W.Way.lies c.args.x c.in-Below.below) c.look-view.result c.requires.span i.stands view c.in-Below.ensures.goes.0 in
-    record { way = c.in-Below.ensures.way; at = c.in-Below.ensures.at; stands = deeper.stands; looks = omega (arith, c.look-view.ensures.count, i.looks, deeper.shallower); long = c.in-Below.ensures.goes.1 }
+    let below = child_below t c.requires.way.sound c.requires.way.true_records (g.W.Way.lies c.args.x c.down.here) (g.W.Way.lies c.args.x c.in-Below.below) c.look-view.result i.on.stands.reached.is_span view c.in-Below.ensures.goes.0 in
+    record { on = c.in-Below.ensures.on; looks = omega (arith, c.look-view.ensures.count, i.looks, below.shallower); long = c.in-Below.ensures.goes.1 }
 
 pub down-smaller : goal.down-smaller
 down-smaller g c =
     let t = g.S.CountedSpace.table c.args.space.now in
     let i = c.down.invariant in
     let view : c.look-view.result ≡ view_at t (g.W.Way.lies c.args.x c.down.here).node.0 = rw c.span-at.ensures at c.look-view.ensures.view in
-    let deeper = stand_goes t c.requires.sound c.requires.true_records c.args.x (g.W.Way.lies c.args.x c.down.here) (g.W.Way.lies c.args.x c.in-Below.below) c.look-view.result c.requires.span i.stands view c.in-Below.ensures.goes.0 in
-    deeper.lower
+    let below = child_below t c.requires.way.sound c.requires.way.true_records (g.W.Way.lies c.args.x c.down.here) (g.W.Way.lies c.args.x c.in-Below.below) c.look-view.result i.on.stands.reached.is_span view c.in-Below.ensures.goes.0 in
+    below.lower
 
 pub returns-in-Leaf : goal.returns-in-Leaf
 returns-in-Leaf g c =
@@ -37,9 +35,9 @@ returns-in-Leaf g c =
     let i = c.down.invariant in
     let view : c.look-view.result ≡ view_at t (g.W.Way.lies c.args.x c.down.here).node.0 = rw c.span-at.ensures at c.look-view.ensures.view in
     record {
-      inside = rw c.span-at.ensures (record { there = i.stands.reached.is_span.there; inside = omega (arith, i.stands.reached.is_span.inside, i.long) });
-      leads = rw c.span-at.ensures (found_leaf t c.requires.sound c.requires.true_records c.args.x (g.W.Way.lies c.args.x c.down.here) c.look-view.result c.requires.span i.stands i.long view c.in-Leaf.ensures.goes);
-      way = c.in-Leaf.ensures.way;
+      inside = rw c.span-at.ensures (record { there = i.on.stands.reached.is_span.there; inside = omega (arith, i.on.stands.reached.is_span.inside, i.long) });
+      leads = rw c.span-at.ensures (found_leaf t c.requires.way.sound c.requires.way.true_records c.args.x (g.W.Way.lies c.args.x c.down.here) c.look-view.result c.requires.span i.on.stands i.long view c.in-Leaf.ensures.goes);
+      way = c.in-Leaf.ensures.on.way;
       few = omega (arith, c.look-view.ensures.count, i.looks);
     }
 
@@ -47,4 +45,4 @@ pub returns-in-Border-clause-leads : goal.returns-in-Border-clause-leads
 returns-in-Border-clause-leads g c =
     let t = g.S.CountedSpace.table c.args.space.now in
     let i = c.down.invariant in
-    no_leaf t c.requires.sound c.requires.true_records c.args.x (g.W.Way.lies c.args.x c.down.here) c.look-view.result c.requires.span i.stands i.long (rw c.span-at.ensures at c.look-view.ensures.view) c.in-Border.ensures.goes
+    no_leaf t c.requires.way.sound c.requires.way.true_records c.args.x (g.W.Way.lies c.args.x c.down.here) c.look-view.result c.requires.span i.on.stands i.long (rw c.span-at.ensures at c.look-view.ensures.view) c.in-Border.ensures.goes

@@ -1,4 +1,4 @@
-use Rattle.std.proofs.Common.{◌≡◌, ◌+◌, ◌<◌, length, Option, Some, refl, sym, subst, ◌∙◌, arith, rules}
+use Rattle.std.proofs.Common.{◌<◌, length, Option, Some, refl, subst, arith, rules}
 use Rattle.span_certificate.specs.declared.part.Part.{Part}
 use Rattle.span_certificate.specs.Longest.{IsLongest}
 use Rattle.span_certificate.specs.Places.{IsAt}
@@ -11,7 +11,7 @@ loop-j-init g c = record {
   stands = refl;
   longest = λ i lt. absurd (omega arith);
   at = c.start-at.ensures;
-  ways = c.forget.ensures (g.S.NodeSpace.table c.args.space.now);
+  ways = c.forget.ensures (g.S.NodeSpace.table c.args.space.now) c.count-nodes.ensures.sound c.count-nodes.ensures.true_records;
 }
 
 pub is_longest-requires-clause-part : goal.is_longest-requires-clause-part

@@ -26,30 +26,30 @@ longest_here t parts node place off part len row here whole longest = rw here (�
 pub unreachable-requires : goal.unreachable-requires
 unreachable-requires g c =
     let end = (at_whole c.args.parts c.loop-place.place c.loop-place.at.part c.loop-place.at.off c.loop-place.at.rest c.loop-place.invariant.at).0 c.in-None.is in
-    let whole = whole_parts (g.S.NodeSpace.table c.args.space.now) c.requires.sound c.requires.true_records c.args.parts c.args.root c.requires.parts c.requires.root c.requires.same in
+    let whole = whole_parts (g.S.NodeSpace.table c.args.space.now) c.len-end.ensures.sound c.len-end.ensures.true_records c.args.parts c.args.root c.requires.parts c.requires.root c.requires.same in
     absurd (omega (arith, end, whole, c.loop-place-test.true, c.len-end.ensures.value))
 
 pub next_row-row-requires-clause-part : goal.next_row-row-requires-clause-part
 next_row-row-requires-clause-part g c =
-    let s = step_here (g.S.NodeSpace.table c.args.space.now) c.requires.sound c.requires.true_records c.args.parts c.args.root c.loop-place.place c.loop-place.at.part c.loop-place.at.off c.loop-place.at.rest c.in-Some.part c.len-in-Some.result
+    let s = step_here (g.S.NodeSpace.table c.args.space.now) c.len-end.ensures.sound c.len-end.ensures.true_records c.args.parts c.args.root c.loop-place.place c.loop-place.at.part c.loop-place.at.off c.loop-place.at.rest c.in-Some.part c.len-in-Some.result
     c.requires.parts c.requires.root c.requires.same c.loop-place.invariant.at c.in-Some.is c.len-in-Some.ensures in
     s.is_part
 
 pub next_row-row-requires-clause-y : goal.next_row-row-requires-clause-y
 next_row-row-requires-clause-y g c =
-    let s = step_here (g.S.NodeSpace.table c.args.space.now) c.requires.sound c.requires.true_records c.args.parts c.args.root c.loop-place.place c.loop-place.at.part c.loop-place.at.off c.loop-place.at.rest c.in-Some.part c.len-in-Some.result
+    let s = step_here (g.S.NodeSpace.table c.args.space.now) c.len-end.ensures.sound c.len-end.ensures.true_records c.args.parts c.args.root c.loop-place.place c.loop-place.at.part c.loop-place.at.off c.loop-place.at.rest c.in-Some.part c.len-in-Some.result
     c.requires.parts c.requires.root c.requires.same c.loop-place.invariant.at c.in-Some.is c.len-in-Some.ensures in
     record { there = c.requires.root; some = s.some; inside = s.inside_root }
 
 pub next_row-row-requires-clause-same : goal.next_row-row-requires-clause-same
 next_row-row-requires-clause-same g c =
-    let s = step_here (g.S.NodeSpace.table c.args.space.now) c.requires.sound c.requires.true_records c.args.parts c.args.root c.loop-place.place c.loop-place.at.part c.loop-place.at.off c.loop-place.at.rest c.in-Some.part c.len-in-Some.result
+    let s = step_here (g.S.NodeSpace.table c.args.space.now) c.len-end.ensures.sound c.len-end.ensures.true_records c.args.parts c.args.root c.loop-place.place c.loop-place.at.part c.loop-place.at.off c.loop-place.at.rest c.in-Some.part c.len-in-Some.result
     c.requires.parts c.requires.root c.requires.same c.loop-place.invariant.at c.in-Some.is c.len-in-Some.ensures in
     s.same
 
 pub overflow_add-place : goal.overflow_add-place
 overflow_add-place g c =
-    let s = step_here (g.S.NodeSpace.table c.args.space.now) c.requires.sound c.requires.true_records c.args.parts c.args.root c.loop-place.place c.loop-place.at.part c.loop-place.at.off c.loop-place.at.rest c.in-Some.part c.len-in-Some.result
+    let s = step_here (g.S.NodeSpace.table c.args.space.now) c.len-end.ensures.sound c.len-end.ensures.true_records c.args.parts c.args.root c.loop-place.place c.loop-place.at.part c.loop-place.at.off c.loop-place.at.rest c.in-Some.part c.len-in-Some.result
     c.requires.parts c.requires.root c.requires.same c.loop-place.invariant.at c.in-Some.is c.len-in-Some.ensures in
     omega (arith, s.inside_root, c.next_row-row.ensures.next.few, c.len-end.ensures.value, c.len-end.ensures.limit)
 
@@ -57,25 +57,25 @@ pub loop-place-preserved : goal.loop-place-preserved
 loop-place-preserved g c =
     let t = g.S.NodeSpace.table c.args.space.now in
     let here = part_here c.args.parts c.loop-place.place c.loop-place.at.part c.loop-place.at.off c.loop-place.at.rest c.in-Some.part c.loop-place.invariant.at c.in-Some.is in
-    let s = step_here (g.S.NodeSpace.table c.args.space.now) c.requires.sound c.requires.true_records c.args.parts c.args.root c.loop-place.place c.loop-place.at.part c.loop-place.at.off c.loop-place.at.rest c.in-Some.part c.len-in-Some.result
+    let s = step_here (g.S.NodeSpace.table c.args.space.now) c.len-end.ensures.sound c.len-end.ensures.true_records c.args.parts c.args.root c.loop-place.place c.loop-place.at.part c.loop-place.at.off c.loop-place.at.rest c.in-Some.part c.len-in-Some.result
     c.requires.parts c.requires.root c.requires.same c.loop-place.invariant.at c.in-Some.is c.len-in-Some.ensures in
     let pushed : c.push.new.self.items ≡ c.loop-place.rows.items ++ c.next_row-row.result ∷ [] = search rules in
     record {
       making = rw pushed
-          (making_more t c.requires.sound c.requires.true_records (g.S.CodedSpace.coded c.args.space.now) c.args.parts c.args.root c.loop-place.rows.items c.loop-place.place c.loop-place.at.off (c.len-in-Some.result - c.loop-place.at.off) c.in-Some.part c.next_row-row.result
+          (making_more t c.len-end.ensures.sound c.len-end.ensures.true_records (g.S.CodedSpace.coded c.args.space.now) c.args.parts c.args.root c.loop-place.rows.items c.loop-place.place c.loop-place.at.off (c.len-in-Some.result - c.loop-place.at.off) c.in-Some.part c.next_row-row.result
           c.requires.parts c.requires.same here s c.next_row-row.ensures.next (longest_here t c.args.parts c.args.root c.loop-place.place c.loop-place.at.off c.in-Some.part c.len-in-Some.result c.next_row-row.result here c.len-in-Some.ensures c.next_row-row.ensures.longest) (search rules) c.loop-place.invariant.making);
-      ways = record { part = c.keep.ensures t c.next_row-row.ensures.ways.part; root = c.next_row-row.ensures.ways.root };
+      ways = record { part = record { sound = c.len-end.ensures.sound; true_records = c.len-end.ensures.true_records; keeps = c.keep.ensures t c.next_row-row.ensures.ways.part.keeps }; root = c.next_row-row.ensures.ways.root };
       at = c.skip.ensures c.args.parts c.loop-place.place c.loop-place.invariant.at;
     }
 
 pub returns-clause-covers : goal.returns-clause-covers
 returns-clause-covers g c =
-    covers_at_end (g.S.NodeSpace.table c.args.space.now) c.requires.sound c.requires.true_records (g.S.CodedSpace.coded c.args.space.now) c.args.parts (Some c.args.root) c.loop-place.rows.items c.loop-place.place
+    covers_at_end (g.S.NodeSpace.table c.args.space.now) c.len-end.ensures.sound c.len-end.ensures.true_records (g.S.CodedSpace.coded c.args.space.now) c.args.parts (Some c.args.root) c.loop-place.rows.items c.loop-place.place
     c.requires.parts c.requires.root c.requires.same c.loop-place.invariant.making (omega (arith, c.len-end.ensures.value, c.loop-place-test.false))
 
 pub loop-place-init : goal.loop-place-init
 loop-place-init g c = record {
   making = rw c.new-rows.ensures.items (making_none (g.S.NodeSpace.table c.args.space.now) (g.S.CodedSpace.coded c.args.space.now) c.args.parts (Some c.args.root));
-  ways = c.forget.ensures (g.S.NodeSpace.table c.args.space.now);
+  ways = c.forget.ensures (g.S.NodeSpace.table c.args.space.now) c.len-end.ensures.sound c.len-end.ensures.true_records;
   at = c.start-at.ensures;
 }

@@ -24,7 +24,7 @@ returns-in-Described-clause-next g c =
 
 pub returns-in-Described-clause-longest : goal.returns-in-Described-clause-longest
 returns-in-Described-clause-longest g c =
-    beside_longest (g.S.CountedSpace.table c.args.space.now) c.requires.sound c.requires.true_records c.args.part c.args.y.node c.args.off c.args.y.start c.args.y.len c.next_leaf.result.len c.next_leaf.result.kind
+    beside_longest (g.S.CountedSpace.table c.args.space.now) c.requires.ways.root.sound c.requires.ways.root.true_records c.args.part c.args.y.node c.args.off c.args.y.start c.args.y.len c.next_leaf.result.len c.next_leaf.result.kind
     c.requires.y.there c.requires.y.inside c.next_leaf.ensures.ends
 
 pub returns-in-Within-clause-next : goal.returns-in-Within-clause-next

@@ -1,12 +1,11 @@
-use Rattle.std.proofs.Common.{◌≡◌, ◌+◌, ◌<◌, ◌≤◌, ℕ, length, Option, Some, refl, sym, subst, ap, ◌∙◌, arith, rules}
-use Rattle.std.specs.Prelude.{All, IsSome}
+use Rattle.std.proofs.Common.{◌≡◌, ◌+◌, ◌<◌, ◌≤◌, length, Option, Some, refl, sym, subst, ap, ◌∙◌, arith, rules}
+use Rattle.std.specs.Prelude.{All}
 use Rattle.span_certificate.specs.declared.part.Part.{Part}
-use Rattle.span_certificate.specs.declared.row.Row.{Row}
-use Rattle.span_certificate.specs.Covers.{IsByte, place_of, row_at, row_compares, kind_compares}
-use Rattle.span_certificate.specs.Parts.{part_at, part_len, IsPart}
+use Rattle.span_certificate.specs.Covers.{IsByte, place_of, row_at, row_compares}
+use Rattle.span_certificate.specs.Parts.{part_at, part_len}
 use Rattle.span_certificate.specs.Places.{held, len_here, IsAt}
 use Rattle.span_certificate.proofs.LongestRows.{row_inside, stands_next}
-use Rattle.span_certificate.proofs.OverBytes.{over_next, row_there}
+use Rattle.span_certificate.proofs.OverBytes.{over_next}
 use Rattle.span_certificate.proofs.PartPlaces.{at_part, at_is_part}
 use Rattle.span_certificate.proofs.Verdicts.{joined_compare}
 use Rattle.span_certificate.proofs.over_bytes.each_over_bytes.Goals as goal
@@ -16,7 +15,7 @@ loop-j-init g c = record {
   stands = refl;
   over = λ i lt. absurd (omega arith);
   at = c.start-at.ensures;
-  ways = c.forget.ensures (g.S.NodeSpace.table c.args.space.now);
+  ways = c.forget.ensures (g.S.NodeSpace.table c.args.space.now) c.count-nodes.ensures.sound c.count-nodes.ensures.true_records;
 }
 
 pub compares_bytes-requires-clause-part : goal.compares_bytes-requires-clause-part

@@ -1,4 +1,3 @@
-use Rattle.std.proofs.Common.{◌≡◌}
 use Rattle.span_certificate.specs.declared.walk.Span.{Span}
 use Rattle.span_certificate.proofs.RowEnds.{leaves_end}
 use Rattle.span_certificate.proofs.Stands.{both_stand}

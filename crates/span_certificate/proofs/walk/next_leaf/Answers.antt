@@ -4,7 +4,7 @@ use Rattle.span_certificate.proofs.walk.next_leaf.Goals as goal
 
 pub returns-clause-row : goal.returns-clause-row
 returns-clause-row g c =
-    described_row_fits (g.S.CountedSpace.table c.args.space.now) c.requires.sound c.requires.true_records (g.S.CountedSpace.coded c.args.space.now) c.args.d c.in-Some.e c.args.y c.first_leaf-z.result.span
+    described_row_fits (g.S.CountedSpace.table c.args.space.now) c.requires.way.sound c.requires.way.true_records (g.S.CountedSpace.coded c.args.space.now) c.args.d c.in-Some.e c.args.y c.first_leaf-z.result.span
     (record {
       is_y = c.requires.y;
       reached = c.first_leaf-z.ensures.leaf.reached;

@@ -1,6 +1,5 @@
-use Rattle.std.proofs.Common.{ap, refl, arith}
+use Rattle.std.proofs.Common.{ap}
 use Rattle.rope_node.specs.declared.node.NodeId.{NodeId}
-use Rattle.span_certificate.specs.Leads.{here}
 use Rattle.span_certificate.proofs.RowEnds.{shared_ends}
 use Rattle.span_certificate.proofs.Stands.{both_stand}
 use Rattle.span_certificate.proofs.walk.shared_row.Goals as goal
