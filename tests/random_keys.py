@@ -1,7 +1,7 @@
 #!/usr/bin/env python3
 """Types keys into the built cordkit, and compares with an editor of plain lists: every frame with its message, and the image that is saved, which
 is of version 2, keeps the rules of the second checker, and has every revision's text. What chance types: a few keys over a few bytes; more
-cut spans than are kept; hundreds of revisions; a file of thousands of lines. Each session that is saved, and some that a script makes, are gone on
+cut spans than are kept; hundreds of revisions; a file of thousands of lines; one of lines of up to 200,000 bytes. Each session that is saved, and some that a script makes, are gone on
 from, up to three times: the editor of plain lists then has what the second checker reads of the older image, whose sections are fronts of the newer
 one's. Beside these: images whose every byte is known, sessions by hand, and the refusals that a long session meets.
 
@@ -217,7 +217,18 @@ def many_lines(chance):
     return b"\n".join(lines), keys
 
 
-KINDS = {few_keys: 80, many_cuts: 8, many_revisions: 6, many_lines: 6}
+def long_lines(chance):
+    """Lines of no byte up to 200,000, ways over them, and breaks that are typed and erased at their borders."""
+    widths = [chance.choice([0, 1, 80, 600, 4_096, 4_097, 65_535, 65_536, 70_000, 200_000]) for _ in range(chance.randrange(2, 30))]
+    lines = [bytes([chance.choice(b"abc ")]) * width for width in widths]
+    borders = [b"\x05\n", b"\x01\n", b"\x01\x7f", b"\x05\x04", b"\x05a", b"\x01b", b"\x02\x02\n", b"\x06\x06\n", b"\x06c\x7f", b"\x15"]
+    keys = b""
+    for _ in range(chance.randrange(4, 24)):
+        keys += chance.choice([chance.choice(MOVES) * chance.randrange(1, 9), chance.choice(borders), random_keys(chance, 4)])
+    return b"\n".join(lines), keys
+
+
+KINDS = {few_keys: 80, many_cuts: 8, many_revisions: 6, many_lines: 6, long_lines: 3}
 
 
 # ---- A run, and what comes of it
@@ -306,7 +317,7 @@ def run(program, seed):
     kind = chance.choices(list(KINDS), KINDS.values())[0]
     text, keys = kind(chance)
     with tempfile.TemporaryDirectory() as folder:
-        room = Room(program, folder, text if chance.random() < 0.7 or kind is many_lines else None)
+        room = Room(program, folder, text if chance.random() < 0.7 or kind in (many_lines, long_lines) else None)
         older, end = older_image(chance, room), chance.choice([SAVE, SAVE, LEAVE, b""])
         plain = Plain(room.sources[0] if room.sources else b"")
         wanted = typed(plain, keys)

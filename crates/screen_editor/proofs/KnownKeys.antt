@@ -1,8 +1,9 @@
--- What is known of a line of the current text, behind a key.
-use Rattle.std.proofs.Common.{◌≡◌, ◌≢◌, ℕ, ◌+◌, ◌-◌, ◌<◌, ◌≤◌, true, false, List, [], ◌∷◌, ◌++◌, length, get_or, Option, Some, None, inl, inr, refl, sym, ap, subst, ◌∙◌, arith, nat_lt}
-use Rattle.std.specs.Prelude.{IfSome, IsSome, IsTrue, if◌then◌else◌}
+-- What is known of lines of the current text, behind a key.
+use Rattle.std.proofs.Common.{◌≡◌, ◌≢◌, ℕ, ◌+◌, ◌-◌, ◌<◌, ◌≤◌, true, false, List, [], ◌∷◌, ◌++◌, length, get_or, Option, Some, inl, inr, refl, sym, ap, subst, ◌∙◌, arith, nat_lt}
+use Rattle.std.specs.Prelude.{IsTrue, if◌then◌else◌}
 use Rattle.std.proofs.lemmas.Bool.{cases_lt, le-ltb, lt-ltb}
 use Rattle.std.proofs.lemmas.List.{length-append}
+use Rattle.std.proofs.lemmas.List.Elements.{All-nil, All-same}
 use Rattle.std.proofs.Math.Seq.{get_or-append_seam}
 use Rattle.function_leaf.specs.declared.coded.Coded.{Coded}
 use Rattle.function_leaf.specs.Coded.{coded_byte}
@@ -18,9 +19,10 @@ use Rattle.screen_editor.specs.declared.fault.KeyFault.{KeyFault}
 use Rattle.screen_editor.specs.declared.key.Key.{Key}
 use Rattle.screen_editor.specs.declared.key.Key.TheVariants.{Typed, EraseBefore, EraseAt, Left, Right, LineStart, LineEnd, Up, Down, Mark, Cut, Paste, DropCut, Undo, Balance, Save, Leave, Nothing}
 use Rattle.text_lines.specs.declared.known.KnownLine.{KnownLine}
+use Rattle.text_lines.specs.declared.known_lines.KnownLines.{KnownLines}
 use Rattle.screen_editor.specs.Editing.{Editing, EachCurrent, current_cell, current_len, current_root, state_of}
 use Rattle.screen_editor.specs.Keys.{looks_for_lines}
-use Rattle.text_lines.specs.KnownLines.{IsKnownIn, IsLineOf}
+use Rattle.text_lines.specs.KnownLines.{IsKnownIn, IsLineOf, known_lines}
 use Rattle.text_lines.specs.StatedCells.{IsToldByOthers}
 use Rattle.screen_editor.specs.KnownTexts.{IsKnownLine, StaysKnown}
 use Rattle.screen_editor.specs.LineKeys.{DoesStated}
@@ -36,7 +38,7 @@ use Rattle.screen_editor.proofs.ToldKeys.{kept_texts}
 -- ---- a text that became another
 
 -- where all cells of the text that it became are stated, so are its own, and what is known of it is known of that
-known_of : (st : Stated) (old new : Editing) (f : List ℕ → List ℕ) (known later : Option KnownLine) → HoldsHistory old.session → Becomes st old new f
+known_of : (st : Stated) (old new : Editing) (f : List ℕ → List ℕ) (known later : KnownLines) → HoldsHistory old.session → Becomes st old new f
     → ((source : ℕ → ℕ → ℕ) → Agrees st source → EachCurrent new (IsStated st) → EachCurrent old (IsStated st))
     → ((t : List ℕ) → length t ≡ current_len old → IsKnownIn known t → IsKnownIn later (f t))
     → IsKnownLine st old known → IsKnownLine st new later
@@ -45,37 +47,33 @@ known_of st old new f known later h becomes each more is source agrees stated =
     subst (IsKnownIn later) (sym (becomes source agrees) ∙ current_text source new) (more (current (state_of source old)) (current_text_len old h source) before)
 
 -- the same text
-known_kept : (st : Stated) (old new : Editing) (known : Option KnownLine) → HoldsHistory old.session → HoldsHistory new.session → Becomes st old new (λ t. t) → IsKnownLine st old known → IsKnownLine st new known
+known_kept : (st : Stated) (old new : Editing) (known : KnownLines) → HoldsHistory old.session → HoldsHistory new.session → Becomes st old new (λ t. t) → IsKnownLine st old known → IsKnownLine st new known
 known_kept st old new known h hn becomes is =
     known_of st old new (λ t. t) known known h becomes
     (λ source agrees stated k _ lt. stated_before st old new (λ t. t) h hn becomes source agrees stated k k lt (λ t _. refl))
     (λ t _ known. known) is
 
 -- a byte more
-known_typed : (st : Stated) (old new : Editing) (p b : ℕ) (line : KnownLine) (later : Option KnownLine) → HoldsHistory old.session → HoldsHistory new.session → p ≤ current_len old
-    → Becomes st old new (λ t. replaced t p 0 (b ∷ [])) → IfSome later (λ x. (t : List ℕ) → p ≤ length t → IsLineOf t line → IsLineOf (replaced t p 0 (b ∷ [])) x)
-    → IsKnownLine st old (Some line) → IsKnownLine st new later
-known_typed st old new p b line later h hn inside becomes law is =
+known_typed : (st : Stated) (old new : Editing) (p b : ℕ) (known later : KnownLines) → HoldsHistory old.session → HoldsHistory new.session → p ≤ current_len old
+    → Becomes st old new (λ t. replaced t p 0 (b ∷ [])) → ((t : List ℕ) → p ≤ length t → IsKnownIn known t → IsKnownIn later (replaced t p 0 (b ∷ [])))
+    → IsKnownLine st old known → IsKnownLine st new later
+known_typed st old new p b known later h hn inside becomes law is =
     let f = λ (t : List ℕ). replaced t p 0 (b ∷ []) in
-    known_of st old new f (Some line) later h becomes
+    known_of st old new f known later h becomes
     (λ source agrees stated k _ lt. elim (cases_lt k p) [
       | inl before ↦ stated_before st old new f h hn becomes source agrees stated k k lt (λ t long. before_typed t p b k (omega (arith, inside, long)) before)
       | inr behind ↦ stated_before st old new f h hn becomes source agrees stated k (k + 1) lt (λ t long. behind_typed t p b (k + 1) k (omega (arith, inside, long)) behind refl)
     ])
-    (λ t long known. lines later law t (omega (arith, inside, long)) known) is
-  where
-    lines : (later : Option KnownLine) → IfSome later (λ x. (t : List ℕ) → p ≤ length t → IsLineOf t line → IsLineOf (replaced t p 0 (b ∷ [])) x) → (t : List ℕ) → p ≤ length t → IsLineOf t line → IsKnownIn later (replaced t p 0 (b ∷ []))
-    lines None law t inside known = tt
-    lines (Some x) law t inside known = law t inside known
+    (λ t long known. law t (omega (arith, inside, long)) known) is
 
 -- a byte less, whose cell is stated where all others are
-known_erased : (st : Stated) (old new : Editing) (p : ℕ) (line : KnownLine) (later : Option KnownLine) → HoldsHistory old.session → HoldsHistory new.session → p < current_len old
+known_erased : (st : Stated) (old new : Editing) (p : ℕ) (known later : KnownLines) → HoldsHistory old.session → HoldsHistory new.session → p < current_len old
     → IsToldByOthers (current_cell old) (current_len old) p
-    → Becomes st old new (λ t. replaced t p 1 []) → IfSome later (λ x. (t : List ℕ) → p < length t → IsLineOf t line → IsLineOf (replaced t p 1 []) x)
-    → IsKnownLine st old (Some line) → IsKnownLine st new later
-known_erased st old new p line later h hn inside told becomes law is =
+    → Becomes st old new (λ t. replaced t p 1 []) → ((t : List ℕ) → p < length t → IsKnownIn known t → IsKnownIn later (replaced t p 1 []))
+    → IsKnownLine st old known → IsKnownLine st new later
+known_erased st old new p known later h hn inside told becomes law is =
     let f = λ (t : List ℕ). replaced t p 1 [] in
-    known_of st old new f (Some line) later h becomes
+    known_of st old new f known later h becomes
     (λ source agrees stated.
     let others : (k : ℕ) → k < current_len old → k ≢ p → IsStated st (current_cell old k) = λ k lt ne. elim (cases_lt k p) [
       | inl before ↦ stated_before st old new f h hn becomes source agrees stated k k lt (λ t long. before_erased t p k (omega (arith, inside, long)) before)
@@ -90,11 +88,7 @@ known_erased st old new p line later h hn inside told becomes law is =
             subst (λ (i : ℕ). IsStated st (current_cell old i)) here (told st others)
       ]
     ])
-    (λ t long known. lines later law t (omega (arith, inside, long)) known) is
-  where
-    lines : (later : Option KnownLine) → IfSome later (λ x. (t : List ℕ) → p < length t → IsLineOf t line → IsLineOf (replaced t p 1 []) x) → (t : List ℕ) → p < length t → IsLineOf t line → IsKnownIn later (replaced t p 1 [])
-    lines None law t inside known = tt
-    lines (Some x) law t inside known = law t inside known
+    (λ t long known. law t (omega (arith, inside, long)) known) is
 
 -- ---- what keys make of the text
 
@@ -120,63 +114,68 @@ not_chosen x y i j le = rw (le-ltb i j le) refl
 -- ---- what is known behind a key
 
 -- lines of a text with a byte more at this place, and with a byte less
-abbrev pub TypedLine : ℕ → ℕ → KnownLine → Option KnownLine → Type 0
-TypedLine p b line later = IfSome later (λ x. (t : List ℕ) → p ≤ length t → IsLineOf t line → IsLineOf (replaced t p 0 (b ∷ [])) x)
+abbrev pub TypedLines : ℕ → ℕ → KnownLines → KnownLines → Type 0
+TypedLines p b known later = (t : List ℕ) → p ≤ length t → IsKnownIn known t → IsKnownIn later (replaced t p 0 (b ∷ []))
 
-abbrev pub ErasedLine : ℕ → KnownLine → Option KnownLine → Type 0
-ErasedLine p line later = IfSome later (λ x. (t : List ℕ) → p < length t → IsLineOf t line → IsLineOf (replaced t p 1 []) x)
+abbrev pub ErasedLines : ℕ → KnownLines → KnownLines → Type 0
+ErasedLines p known later = (t : List ℕ) → p < length t → IsKnownIn known t → IsKnownIn later (replaced t p 1 [])
 
 abbrev pub ToldAt : Editing → ℕ → Type 0
 ToldAt e p = IsToldByOthers (current_cell e) (current_len e) p
 
-pub none_stays : (key : Key) (old : Editing) (known : Option KnownLine) → StaysKnown key old known None
-none_stays key old known before now new takes hn is source agrees stated = tt
+pub none_stays : (key : Key) (old : Editing) (known later : KnownLines) → known_lines later ≡ [] → StaysKnown key old known later
+none_stays key old known later none before now new takes hn is source agrees stated = record { each = All-same (IsLineOf _) (known_lines later) [] none (All-nil (IsLineOf _)) }
 
-pub stays_typed : (old : Editing) (p b : ℕ) (line : KnownLine) (later : Option KnownLine) → HoldsHistory old.session → p ≡ old.place → p ≤ current_len old → TypedLine p b line later → StaysKnown (Typed b) old (Some line) later
-stays_typed old p b line later h at inside law before now new takes hn is =
-    known_typed before.stated old new old.place b line later h hn (subst (λ (q : ℕ). q ≤ current_len old) at inside)
+-- none stays known, or the byte that goes out is told by others
+stays_told : (key : Key) (old : Editing) (known later : KnownLines) (Told : Type 0) (lines : List KnownLine) → known_lines later ≡ lines → (0 < length (known_lines later) → Told) → (Told → StaysKnown key old known later) → StaysKnown key old known later
+stays_told key old known later Told [] is told stays = none_stays key old known later is
+stays_told key old known later Told (x ∷ xs) is told stays = stays (told (omega (arith, ap length is)))
+
+pub stays_typed : (old : Editing) (p b : ℕ) (known later : KnownLines) → HoldsHistory old.session → p ≡ old.place → p ≤ current_len old → TypedLines p b known later → StaysKnown (Typed b) old known later
+stays_typed old p b known later h at inside law before now new takes hn is =
+    known_typed before.stated old new old.place b known later h hn (subst (λ (q : ℕ). q ≤ current_len old) at inside)
     (becomes_as before.stated (Typed b) old new (λ t. replaced t old.place 0 (b ∷ [])) refl takes.done (λ source. revised_text (state_of source old) (replaced (current (state_of source old)) old.place 0 (b ∷ [])) (Some (last_revision (state_of source old))) (old.place + 1)))
-    (subst (λ (q : ℕ). TypedLine q b line later) at law) is
+    (subst (λ (q : ℕ). TypedLines q b known later) at law) is
 
-erased_before : (old : Editing) (line later : KnownLine) → HoldsHistory old.session → 0 < old.place → old.place ≤ current_len old → ToldAt old (old.place - 1) → ErasedLine (old.place - 1) line (Some later) → StaysKnown EraseBefore old (Some line) (Some later)
-erased_before old line later h some inside told law before now new takes hn is =
+erased_before : (old : Editing) (known later : KnownLines) → HoldsHistory old.session → 0 < old.place → old.place ≤ current_len old → ToldAt old (old.place - 1) → ErasedLines (old.place - 1) known later → StaysKnown EraseBefore old known later
+erased_before old known later h some inside told law before now new takes hn is =
     let p = old.place - 1 in
-    known_erased before.stated old new p line (Some later) h hn (omega (arith, some, inside)) told
+    known_erased before.stated old new p known later h hn (omega (arith, some, inside)) told
     (becomes_as before.stated EraseBefore old new (λ t. replaced t p 1 []) refl takes.done
     (λ source. ap current (chosen (edited (state_of source old) p 1 [] p) (state_of source old) 0 old.place some) ∙ revised_text (state_of source old) (replaced (current (state_of source old)) p 1 []) (Some (last_revision (state_of source old))) p)) law is
 
-pub stays_erased_before : (old : Editing) (p : ℕ) (line : KnownLine) (later : Option KnownLine) → HoldsHistory old.session → p ≡ old.place → 0 < p → p ≤ current_len old → (IsSome later → ToldAt old (p - 1)) → ErasedLine (p - 1) line later
-    → StaysKnown EraseBefore old (Some line) later
-stays_erased_before old p line None h at some inside told law = none_stays EraseBefore old (Some line)
-stays_erased_before old p line (Some x) h at some inside told law =
-    erased_before old line x h (omega (arith, some, at)) (omega (arith, inside, at)) (subst (λ (q : ℕ). ToldAt old (q - 1)) at (told refl)) (subst (λ (q : ℕ). ErasedLine (q - 1) line (Some x)) at law)
+pub stays_erased_before : (old : Editing) (p : ℕ) (known later : KnownLines) → HoldsHistory old.session → p ≡ old.place → 0 < p → p ≤ current_len old → (0 < length (known_lines later) → ToldAt old (p - 1)) → ErasedLines (p - 1) known later
+    → StaysKnown EraseBefore old known later
+stays_erased_before old p known later h at some inside told law =
+    stays_told EraseBefore old known later (ToldAt old (p - 1)) (known_lines later) refl told
+    (λ here. erased_before old known later h (omega (arith, some, at)) (omega (arith, inside, at)) (subst (λ (q : ℕ). ToldAt old (q - 1)) at here) (subst (λ (q : ℕ). ErasedLines (q - 1) known later) at law))
 
-erased_at : (old : Editing) (line later : KnownLine) → HoldsHistory old.session → old.place < current_len old → ToldAt old old.place → ErasedLine old.place line (Some later) → StaysKnown EraseAt old (Some line) (Some later)
-erased_at old line later h inside told law before now new takes hn is =
+erased_at : (old : Editing) (known later : KnownLines) → HoldsHistory old.session → old.place < current_len old → ToldAt old old.place → ErasedLines old.place known later → StaysKnown EraseAt old known later
+erased_at old known later h inside told law before now new takes hn is =
     let p = old.place in
-    known_erased before.stated old new p line (Some later) h hn inside told
+    known_erased before.stated old new p known later h hn inside told
     (becomes_as before.stated EraseAt old new (λ t. replaced t p 1 []) refl takes.done
     (λ source. ap current (chosen (edited (state_of source old) p 1 [] p) (state_of source old) p (length (current (state_of source old))) (omega (arith, inside, current_text_len old h source))) ∙ revised_text (state_of source old) (replaced (current (state_of source old)) p 1 []) (Some (last_revision (state_of source old))) p)) law is
 
-pub stays_erased_at : (old : Editing) (p : ℕ) (line : KnownLine) (later : Option KnownLine) → HoldsHistory old.session → p ≡ old.place → p < current_len old → (IsSome later → ToldAt old p) → ErasedLine p line later
-    → StaysKnown EraseAt old (Some line) later
-stays_erased_at old p line None h at inside told law = none_stays EraseAt old (Some line)
-stays_erased_at old p line (Some x) h at inside told law =
-    erased_at old line x h (omega (arith, inside, at)) (subst (ToldAt old) at (told refl)) (subst (λ (q : ℕ). ErasedLine q line (Some x)) at law)
+pub stays_erased_at : (old : Editing) (p : ℕ) (known later : KnownLines) → HoldsHistory old.session → p ≡ old.place → p < current_len old → (0 < length (known_lines later) → ToldAt old p) → ErasedLines p known later
+    → StaysKnown EraseAt old known later
+stays_erased_at old p known later h at inside told law =
+    stays_told EraseAt old known later (ToldAt old p) (known_lines later) refl told
+    (λ here. erased_at old known later h (omega (arith, inside, at)) (subst (ToldAt old) at here) (subst (λ (q : ℕ). ErasedLines q known later) at law))
 
 -- a key that leaves the text as it is
-stays_same : (key : Key) (old : Editing) (known : Option KnownLine) → HoldsHistory old.session → looks_for_lines key ≡ false → ((source : ℕ → ℕ → ℕ) → current (done key (state_of source old)) ≡ current (state_of source old))
+stays_same : (key : Key) (old : Editing) (known : KnownLines) → HoldsHistory old.session → looks_for_lines key ≡ false → ((source : ℕ → ℕ → ℕ) → current (done key (state_of source old)) ≡ current (state_of source old))
     → StaysKnown key old known known
 stays_same key old known h plain same before now new takes hn is = known_kept before.stated old new known h hn (becomes_as before.stated key old new (λ t. t) plain takes.done same) is
 
-pub stays_at_start : (old : Editing) (known : Option KnownLine) → HoldsHistory old.session → old.place ≡ 0 → StaysKnown EraseBefore old known known
+pub stays_at_start : (old : Editing) (known : KnownLines) → HoldsHistory old.session → old.place ≡ 0 → StaysKnown EraseBefore old known known
 stays_at_start old known h none = stays_same EraseBefore old known h refl (λ source. ap current (not_chosen (edited (state_of source old) (old.place - 1) 1 [] (old.place - 1)) (state_of source old) 0 old.place (omega (arith, none))))
 
-pub stays_at_end : (old : Editing) (known : Option KnownLine) → HoldsHistory old.session → current_len old ≤ old.place → StaysKnown EraseAt old known known
+pub stays_at_end : (old : Editing) (known : KnownLines) → HoldsHistory old.session → current_len old ≤ old.place → StaysKnown EraseAt old known known
 stays_at_end old known h past = stays_same EraseAt old known h refl (λ source. ap current (not_chosen (edited (state_of source old) old.place 1 [] old.place) (state_of source old) old.place (length (current (state_of source old))) (omega (arith, past, current_text_len old h source))))
 
 -- the place alone
-stays_moved : (key : Key) (old : Editing) (known : Option KnownLine) → IsTrue (looks_for_lines key) → StaysKnown key old known known
+stays_moved : (key : Key) (old : Editing) (known : KnownLines) → IsTrue (looks_for_lines key) → StaysKnown key old known known
 stays_moved key old known looks before now new takes hn is = subst (λ (e : Editing). IsKnownLine before.stated e known) (sym (takes.moves looks)) is
 
 either_text : (s : EditorState) (i j q : ℕ) → current (if nat_lt i j then record s { place = q } else s) ≡ current s
@@ -185,7 +184,7 @@ either_text s i j q = elim (cases_lt i j) [
   | inr le ↦ ap current (not_chosen (record s { place = q }) s i j le)
 ]
 
-pub stays : (key : Key) (old : Editing) (known : Option KnownLine) → HoldsHistory old.session
+pub stays : (key : Key) (old : Editing) (known : KnownLines) → HoldsHistory old.session
     → ((b : ℕ) → key ≡ Typed b → ⊥) → (key ≡ EraseBefore → ⊥) → (key ≡ EraseAt → ⊥) → (key ≡ Cut → ⊥) → (key ≡ Paste → ⊥) → (key ≡ Undo → ⊥) → StaysKnown key old known known
 stays (Typed b) old known h typed before at cut paste undo = absurd (typed b refl)
 stays EraseBefore old known h typed before at cut paste undo = absurd (before refl)
@@ -208,7 +207,7 @@ stays Balance old known h typed before at cut paste undo = stays_same Balance ol
 
 -- ---- a refused key
 
-pub refused_known : (st : Stated) (old new : Editing) (known : Option KnownLine) (m : Option KeyFault) → HoldsHistory old.session → HoldsHistory new.session → KeepsAll old new → IsKnownLine st old known → IsKnownLine st (record new { message = m }) known
+pub refused_known : (st : Stated) (old new : Editing) (known : KnownLines) (m : Option KeyFault) → HoldsHistory old.session → HoldsHistory new.session → KeepsAll old new → IsKnownLine st old known → IsKnownLine st (record new { message = m }) known
 refused_known st old new known m h hn keeps is =
     known_kept st old new known h hn (λ source agrees. ap (λ (ts : List (List ℕ)). get_or ts (length ts - 1) []) (kept_texts old new keeps source)) is
 
@@ -221,14 +220,14 @@ told_in_current e session held root p is_session is_held is_root h =
     subst (λ (r : Option NodeId). IsToldByOthers (rope_cell (table_of coded_byte e.session.held) r) (rope_len (table_of coded_byte e.session.held) r) p) is_root
     (subst (λ (x : Held Coded). IsToldByOthers (rope_cell (table_of coded_byte x) root) (rope_len (table_of coded_byte x) root) p) same h)
 
-pub known_in_current : (st : Stated) (e : Editing) (session : SessionValue) (held : Held Coded) (root : Option NodeId) (known : Option KnownLine) → session ≡ e.session → held ≡ session.held → root ≡ current_root e
+pub known_in_current : (st : Stated) (e : Editing) (session : SessionValue) (held : Held Coded) (root : Option NodeId) (known : KnownLines) → session ≡ e.session → held ≡ session.held → root ≡ current_root e
     → IsKnownLine st e known → OfText (table_of coded_byte held) st root (IsKnownIn known)
 known_in_current st e session held root known is_session is_held is_root h =
     let same : held ≡ e.session.held = is_held ∙ ap (λ (v : SessionValue). v.held) is_session in
     subst (λ (r : Option NodeId). OfText (table_of coded_byte held) st r (IsKnownIn known)) (sym is_root)
     (subst (λ (x : Held Coded). OfText (table_of coded_byte x) st (current_root e) (IsKnownIn known)) (sym same) h)
 
-pub current_known : (st : Stated) (e : Editing) (session : SessionValue) (held : Held Coded) (root : Option NodeId) (known : Option KnownLine) → session ≡ e.session → held ≡ session.held → root ≡ current_root e
+pub current_known : (st : Stated) (e : Editing) (session : SessionValue) (held : Held Coded) (root : Option NodeId) (known : KnownLines) → session ≡ e.session → held ≡ session.held → root ≡ current_root e
     → OfText (table_of coded_byte held) st root (IsKnownIn known) → IsKnownLine st e known
 current_known st e session held root known is_session is_held is_root h =
     let same : held ≡ e.session.held = is_held ∙ ap (λ (v : SessionValue). v.held) is_session in

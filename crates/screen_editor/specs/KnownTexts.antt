@@ -1,21 +1,21 @@
--- What is known of a line of the current text, and what a key leaves of that.
-use Rattle.std.specs.Prelude.{Option, Ok}
+-- What is known of lines of the current text, and what a key leaves of that.
+use Rattle.std.specs.Prelude.{Ok}
 use Rattle.lazy_file.specs.SourceTexts.{Stated}
 use Rattle.lazy_file.specs.Readings.{Reading}
 use Rattle.cord_search.specs.Stated.{OfText}
 use Rattle.edit_commands.specs.Session.{HoldsHistory, session_table}
 use Rattle.screen_editor.specs.declared.key.Key.{Key}
-use Rattle.text_lines.specs.declared.known.KnownLine.{KnownLine}
+use Rattle.text_lines.specs.declared.known_lines.KnownLines.{KnownLines}
 use Rattle.screen_editor.specs.Editing.{Editing, current_root}
 use Rattle.text_lines.specs.KnownLines.{IsKnownIn}
 use Rattle.screen_editor.specs.LineKeys.{Takes}
 
--- what is known is a line of the current text, where each of its cells is stated
-abbrev pub IsKnownLine : Stated → Editing → Option KnownLine → Type 0
+-- what is known are lines of the current text, where each of its cells is stated
+abbrev pub IsKnownLine : Stated → Editing → KnownLines → Type 0
 IsKnownLine st e known = OfText (session_table e.session) st (current_root e) (IsKnownIn known)
 
 -- where that was known before a key, this is known behind it, if the key is taken
-abbrev pub StaysKnown : Key → Editing → Option KnownLine → Option KnownLine → Type 0
+abbrev pub StaysKnown : Key → Editing → KnownLines → KnownLines → Type 0
 StaysKnown key old known later =
     (before now : Reading) (new : Editing) → Takes key before old (Ok tt) now new → HoldsHistory new.session
     → IsKnownLine before.stated old known → IsKnownLine before.stated new later

@@ -21,7 +21,7 @@ use edit_commands::Session;
 use lazy_file::{SourceFault, Sources};
 use std::alloc::Global;
 use std::marker::Model;
-use text_lines::{FrameFault, KnownLine, frame_about, line_end, line_start, place_down, place_up};
+use text_lines::{FrameFault, KnownLines, frame_about, line_end, line_start, place_down, place_up};
 
 /// An editor of a text, over the sources that the text may lie in.
 #[derive(Drop)]
@@ -29,8 +29,8 @@ pub struct Editor<R: Sources + Drop> {
     alloc: Global,
     sources: R,
     workspace: Workspace,
-    /// A long line of the current text that was shown.
-    known: Option<KnownLine>,
+    /// Long lines of the current text that were shown.
+    known: KnownLines,
 }
 
 impl<R: Sources + Drop> Model for Editor<R> {
@@ -51,10 +51,10 @@ fn line_place<R: Sources>(
     alloc: Global,
     sources: &mut R,
     workspace: &Workspace,
-    known: Option<KnownLine>,
+    known: &KnownLines,
     key: Key,
 ) -> Result<Option<u64>, SourceFault>
-    requires known { IsKnownLine (R.reading sources.old).stated workspace.now known }
+    requires known { IsKnownLine (R.reading sources.old).stated workspace.now known.now }
     ensures place { IfOk result (FindsLinePlace (R.reading sources.old).stated key workspace.now) }
     ensures looks { OnErr result (IsTrue (looks_for_lines key)) }
     ensures reads { ReadsSpan (R.reading sources.old) (R.reading sources.new)
@@ -76,10 +76,10 @@ fn take<R: Sources>(
     alloc: Global,
     sources: &mut R,
     workspace: &mut Workspace,
-    known: Option<KnownLine>,
+    known: &KnownLines,
     key: Key,
 ) -> Result<(), KeyFault>
-    requires known { IsKnownLine (R.reading sources.old).stated workspace.old known }
+    requires known { IsKnownLine (R.reading sources.old).stated workspace.old known.now }
     ensures { Takes key (R.reading sources.old) workspace.old result (R.reading sources.new) workspace.new }
 {
     // The workspace keeps its rules, as its last revision says.
@@ -94,12 +94,12 @@ fn take<R: Sources>(
     }
 }
 
-/// Takes a key. A refused one changes the message alone. What is known of a line is brought up to date.
+/// Takes a key. A refused one changes the message alone. What is known of lines is brought up to date.
 fn take_key<R: Sources>(
     alloc: Global,
     sources: &mut R,
     workspace: &mut Workspace,
-    known: &mut Option<KnownLine>,
+    known: &mut KnownLines,
     key: Key,
 ) -> Result<Step, KeyFault>
     requires known { IsKnownLine (R.reading sources.old).stated workspace.old known.old }
@@ -110,8 +110,8 @@ fn take_key<R: Sources>(
 {
     // The workspace keeps its rules, as its last revision says, before the key and behind it.
     let _before = workspace.last();
-    let later = known_after(workspace, *known, key);
-    if let Err(fault) = take(alloc, sources, workspace, *known, key) {
+    let later = known_after(workspace, known, key);
+    if let Err(fault) = take(alloc, sources, workspace, known, key) {
         let _refused = workspace.last();
         workspace.tell(Some(fault));
         return Err(fault);
@@ -143,7 +143,7 @@ fn frame_of<R: Sources>(
     alloc: Global,
     sources: &mut R,
     workspace: &Workspace,
-    known: &mut Option<KnownLine>,
+    known: &mut KnownLines,
 ) -> Result<Vec<u8>, FrameFault>
     requires known { IsKnownLine (R.reading sources.old).stated workspace.now known.old }
     ensures known { IsKnownLine (R.reading sources.old).stated workspace.now known.new }
@@ -183,7 +183,7 @@ impl<R: Sources + Drop> Editor<R> {
             alloc,
             sources,
             workspace,
-            known: None,
+            known: KnownLines::none(),
         })
     }
 
@@ -207,7 +207,7 @@ impl<R: Sources + Drop> Editor<R> {
             alloc,
             sources,
             workspace,
-            known: None,
+            known: KnownLines::none(),
         })
     }
 

@@ -1,5 +1,5 @@
 -- Bytes of a text that are held, and the line breaks among them.
-use Rattle.std.proofs.Common.{◌≡◌, ℕ, zero, suc, ◌+◌, ◌-◌, ◌<◌, ◌≤◌, Bool, true, not, cond, Option, Some, None, List, [], ◌∷◌, ◌++◌, length, take, drop, get_or, reverse, inl, inr, ◌⊎◌, IfSome, Result, Ok, Err, IfOk, refl, sym, ap, subst, ◌∙◌, add-one, arith}
+use Rattle.std.proofs.Common.{◌≡◌, ℕ, zero, suc, ◌+◌, ◌-◌, ◌<◌, ◌≤◌, Bool, true, not, cond, Option, Some, None, List, All, [], ◌∷◌, ◌++◌, length, take, drop, get_or, reverse, inl, inr, ◌⊎◌, IfSome, Result, Ok, Err, IfOk, refl, sym, ap, subst, ◌∙◌, add-one, arith}
 use Rattle.std.specs.List.{position_or_len, prefix_len, suffix_len}
 use Rattle.std.proofs.lemmas.Bool.{cases_Bool, cases_lt, lt-ltb, le-ltb, ne_eqb, eq-eqb}
 use Rattle.std.proofs.lemmas.List.{take-take, drop_all, take-append-drop, take_all, drop-take, drop-drop, get_or-drop, get_or-take, length-take, length-drop, length-append, length-take-le, length-reverse, reverse-append}
@@ -8,10 +8,12 @@ use Rattle.std.proofs.lemmas.List.Sums.{prefix_len-le-length, suffix_len-take_ye
 use Rattle.std.proofs.Math.Seq.{drop-append_seam, take-add}
 use Rattle.text_lines.specs.HeldBytes.{HeldPart, held_up_to, held_starting_at, AreHeld}
 use Rattle.text_lines.specs.declared.known.KnownLine.{KnownLine}
-use Rattle.text_lines.specs.KnownLines.{IsKnownIn}
+use Rattle.text_lines.specs.declared.known_lines.KnownLines.{KnownLines}
+use Rattle.text_lines.specs.KnownLines.{IsKnownIn, IsLineOf, known_lines, learnt}
 use Rattle.text_lines.specs.Lines.{is_break, column, line_start, line_end}
 use Rattle.text_lines.specs.Rows.{IsLineStart}
 use Rattle.text_lines.proofs.KnownLaws.{line_found, next_begins}
+use Rattle.text_lines.proofs.LearntLines.{all_learnt}
 use Rattle.text_lines.proofs.LineLaws.{stands_tells}
 use Rattle.cord_search.specs.Places.{StandsAt}
 use borrow.Rule.Slice.PartMut.{Post-is, put_mid}
@@ -207,8 +209,8 @@ none_before t h place from held first last all k above below stands =
 -- ---- a line that was passed
 
 -- the line that was known to begin is known, or what was known before; where the text goes on, the next line begins behind it
-pub line_passed : (t : List ℕ) (h : HeldPart) (start end len : ℕ) (begun : Option ℕ) (known : Option KnownLine) → AreHeld h t → h.begun ≡ Some start → start ≤ length t → end ≡ line_end t start → len ≡ length t
-    → (known ≡ Some (record { start = start; end = end })) ⊎ (known ≡ h.known) → (begun ≡ None) ⊎ ((begun ≡ Some (end + 1)) × (end < len)) → AreHeld (record h { begun = begun; known = known }) t
+pub line_passed : (t : List ℕ) (h : HeldPart) (start end len : ℕ) (begun : Option ℕ) (known : KnownLines) → AreHeld h t → h.begun ≡ Some start → start ≤ length t → end ≡ line_end t start → len ≡ length t
+    → (known_lines known ≡ learnt (record { start = start; end = end }) (known_lines h.known)) ⊎ (known ≡ h.known) → (begun ≡ None) ⊎ ((begun ≡ Some (end + 1)) × (end < len)) → AreHeld (record h { begun = begun; known = known }) t
 line_passed t h start end len begun known held is inside ends long knows next =
     let begins : IsLineStart t start = subst (λ (o : Option ℕ). IfSome o (IsLineStart t)) is held.begun in
     record {
@@ -216,8 +218,8 @@ line_passed t h start end len begun known held is inside ends long knows next =
       bytes = held.bytes;
       begun = elim next [ inl none ↦ subst (λ (o : Option ℕ). IfSome o (IsLineStart t)) (sym none) tt | inr some ↦ subst (λ (o : Option ℕ). IfSome o (IsLineStart t)) (sym some.0) (next_begins t start end ends (omega (arith, some.1, long))) ];
       known = elim knows [
-        | inl new ↦ subst (λ (o : Option KnownLine). IsKnownIn o t) (sym new) (line_found t start end begins inside ends)
-        | inr old ↦ subst (λ (o : Option KnownLine). IsKnownIn o t) (sym old) held.known
+        | inl new ↦ record { each = subst (λ (xs : List KnownLine). All (IsLineOf t) xs) (sym new) (all_learnt t (record { start = start; end = end }) (known_lines h.known) (line_found t start end begins inside ends) held.known.each) }
+        | inr old ↦ subst (λ (o : KnownLines). IsKnownIn o t) (sym old) held.known
       ];
     }
 
@@ -225,8 +227,8 @@ line_passed t h start end len begun known held is inside ends long knows next =
 pub line_begun : (t : List ℕ) (h : HeldPart) (place : ℕ) → AreHeld h t → IsLineStart t place → AreHeld (record h { begun = Some place }) t
 line_begun t h place held begins = record { inside = held.inside; bytes = held.bytes; begun = begins; known = held.known }
 
--- none are held, and this line is known
-pub known_held : (t : List ℕ) (known : Option KnownLine) → IsKnownIn known t → AreHeld (record { from = 0; bytes = []; begun = None; known = known }) t
+-- none are held, and these lines are known
+pub known_held : (t : List ℕ) (known : KnownLines) → IsKnownIn known t → AreHeld (record { from = 0; bytes = []; begun = None; known = known }) t
 known_held t known is = record { inside = omega arith; bytes = refl; begun = tt; known = is }
 
 -- what is so in any case

@@ -1,11 +1,13 @@
 -- A line of a text, and what it is where a byte is put into the text or goes out of it.
-use Rattle.std.proofs.Common.{◌≡◌, ℕ, ◌+◌, ◌-◌, ◌<◌, ◌≤◌, true, not, List, [], ◌∷◌, ◌++◌, length, take, drop, get_or, Option, sym, ap, subst, ◌∙◌, arith}
+use Rattle.std.proofs.Common.{◌≡◌, ℕ, ◌+◌, ◌-◌, ◌<◌, ◌≤◌, true, not, List, [], ◌∷◌, ◌++◌, length, take, drop, get_or, sym, ap, ◌∙◌, arith}
 use Rattle.std.specs.List.{position_or_len}
 use Rattle.std.proofs.lemmas.List.{get_or-append_right, get_or-drop, get_or-take, get_or_append_left, length-append, length-drop, length-take-le}
+use Rattle.std.proofs.lemmas.List.Elements.{All-contains}
 use Rattle.std.proofs.lemmas.List.Sums.{fails_before_first, passes_at_first, position_or_len_is, prefix_len-le-length, suffix_len_is}
 use Rattle.span_certificate.specs.Commands.{replaced}
 use Rattle.text_lines.specs.declared.known.KnownLine.{KnownLine}
-use Rattle.text_lines.specs.KnownLines.{HoldsPlace, IsKnownIn, IsLineOf}
+use Rattle.text_lines.specs.declared.known_lines.KnownLines.{KnownLines}
+use Rattle.text_lines.specs.KnownLines.{HoldsPlace, IsKnownIn, IsLineOf, known_lines}
 use Rattle.text_lines.specs.Lines.{is_break, column, line_start, line_end}
 use Rattle.text_lines.specs.Rows.{IsLineStart}
 
@@ -92,10 +94,10 @@ behind_erased t p k j inside from at = behind_replaced t p 1 [] k j (omega (arit
 
 -- ---- a line that is known and holds the place
 
-pub known_start : (t : List ℕ) (known : Option KnownLine) (place : ℕ) (line : KnownLine) → HoldsPlace known place line → IsKnownIn known t → line.start ≡ line_start t place
-known_start t known place line h is = tells_start t line place (subst (λ (o : Option KnownLine). IsKnownIn o t) h.is is) h.from h.to
+pub known_start : (t : List ℕ) (known : KnownLines) (place : ℕ) (line : KnownLine) → HoldsPlace known place line → IsKnownIn known t → line.start ≡ line_start t place
+known_start t known place line h is = tells_start t line place (All-contains (IsLineOf t) (known_lines known) line is.each h.0) h.1.from h.1.to
 
-pub known_end : (t : List ℕ) (known : Option KnownLine) (place : ℕ) (line : KnownLine) → HoldsPlace known place line → IsKnownIn known t → (line.end ≡ line_end t place) × (line.end ≤ length t)
+pub known_end : (t : List ℕ) (known : KnownLines) (place : ℕ) (line : KnownLine) → HoldsPlace known place line → IsKnownIn known t → (line.end ≡ line_end t place) × (line.end ≤ length t)
 known_end t known place line h is =
-    let there : IsLineOf t line = subst (λ (o : Option KnownLine). IsKnownIn o t) h.is is in
-    (tells_end t line place there h.from h.to, there.inside)
+    let there : IsLineOf t line = All-contains (IsLineOf t) (known_lines known) line is.each h.0 in
+    (tells_end t line place there h.1.from h.1.to, there.inside)

@@ -2,6 +2,7 @@ pub mod LineLaws
 pub mod LineSearches
 pub mod NearLaws
 pub mod KnownLaws
+pub mod LearntLines
 pub mod HeldLaws
 pub mod RowLaws
 pub mod RowWalk

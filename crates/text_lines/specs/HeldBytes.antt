@@ -1,17 +1,17 @@
 -- Bytes of a text that are held, to look for line breaks among them.
 use Rattle.std.specs.Prelude.{◌≡◌, ℕ, ◌+◌, ◌-◌, ◌<◌, ◌≤◌, not, nat_lt, if◌then◌else◌, List, [], length, take, drop, Option, IfSome}
 use Rattle.std.specs.List.{suffix_len}
-use Rattle.text_lines.specs.declared.known.KnownLine.{KnownLine}
+use Rattle.text_lines.specs.declared.known_lines.KnownLines.{KnownLines}
 use Rattle.text_lines.specs.KnownLines.{IsKnownIn}
 use Rattle.text_lines.specs.Lines.{is_break}
 use Rattle.text_lines.specs.Rows.{IsLineStart}
 
--- bytes from a place on; a place where a line begins; and a line that is known
+-- bytes from a place on; a place where a line begins; and lines that are known
 pub record HeldPart : Type 0 where
   pub from : ℕ
   pub bytes : List ℕ
   pub begun : Option ℕ
-  pub known : Option KnownLine
+  pub known : KnownLines
 
 -- those before a place, or none where it is further than right behind the last one
 abbrev pub held_up_to : HeldPart → ℕ → List ℕ

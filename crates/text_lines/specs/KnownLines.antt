@@ -1,7 +1,11 @@
--- A line of a text whose borders are known.
-use Rattle.std.specs.Prelude.{◌≡◌, ℕ, ◌-◌, ◌<◌, ◌≤◌, true, false, List, length, get_or, Option, Some, IfSome}
+-- Lines of a text whose borders are known.
+use Rattle.std.specs.Prelude.{◌≡◌, ℕ, ◌-◌, ◌<◌, ◌≤◌, Bool, true, false, not, ◌&&◌, ◌==◌, nat_le, List, ◌∷◌, All, Contains, length, take, get_or}
+use Rattle.std.specs.List.{filter}
 use Rattle.cord_search.specs.declared.runs.TheConstants.{PIECE}
 use Rattle.text_lines.specs.declared.known.KnownLine.{KnownLine}
+use Rattle.text_lines.specs.declared.known.TheConstants.{VERY_LONG}
+use Rattle.text_lines.specs.declared.known_lines.KnownLines.{KnownLines}
+use Rattle.text_lines.specs.declared.known_lines.TheConstants.{MOST_LINES}
 use Rattle.text_lines.specs.Lines.{is_break}
 use Rattle.text_lines.specs.Rows.{IsLineStart}
 
@@ -13,13 +17,31 @@ pub record IsLineOf (t : List ℕ) (line : KnownLine) : Type 0 where
   pub plain : (k : ℕ) → line.start ≤ k → k < line.end → is_break (get_or t k 0) ≡ false
   pub ends : line.end < length t → is_break (get_or t line.end 0) ≡ true
 
--- what is known is a line of this text
-abbrev pub IsKnownIn : Option KnownLine → List ℕ → Type 0
-IsKnownIn known t = IfSome known (IsLineOf t)
+-- the lines that are known
+abbrev pub known_lines : KnownLines → List KnownLine
+known_lines known = take known.count known.lines
 
--- this line is known, it is longer than what is searched through at once, and it holds the place, its end too
-pub record HoldsPlace (known : Option KnownLine) (place : ℕ) (line : KnownLine) : Type 0 where
-  pub is : known ≡ Some line
+-- they are lines of this text
+pub record IsKnownIn (known : KnownLines) (t : List ℕ) : Type 0 where
+  pub each : All (IsLineOf t) (known_lines known)
+
+-- the line is longer than what is searched through at once, and it holds the place, its end too
+pub record IsAbout (place : ℕ) (line : KnownLine) : Type 0 where
   pub long : PIECE < line.end - line.start
   pub from : line.start ≤ place
   pub to : place ≤ line.end
+
+-- this line is such a line, and one of these, or of those that are known
+abbrev pub HoldsLine : List KnownLine → ℕ → KnownLine → Type 0
+HoldsLine lines place line = Contains lines line × IsAbout place line
+
+abbrev pub HoldsPlace : KnownLines → ℕ → KnownLine → Type 0
+HoldsPlace known place line = HoldsLine (known_lines known) place line
+
+-- whether a line stays known behind this one: a very long one, and another
+abbrev pub stays_beside : KnownLine → KnownLine → Bool
+stays_beside line other = not (other.start == line.start) && nat_le VERY_LONG (other.end - other.start)
+
+-- what is known behind a line that was shown, of these lines that were known before it
+abbrev pub learnt : KnownLine → List KnownLine → List KnownLine
+learnt line lines = take MOST_LINES (line ∷ filter (stays_beside line) lines)

@@ -9,7 +9,7 @@ ghost use Rattle.text_lines.specs.HeldBytes.{held_up_to, AreHeld, HasBreak};
 ghost use Rattle.text_lines.specs.Lines.{line_start};
 
 use crate::held::{HeldBytes, NEAR};
-use crate::known::known_about;
+use crate::known_lines::KnownLines;
 use crate::lines::line_start;
 use crate::near::width_behind;
 use cord_search::{PIECE, clear_behind};
@@ -60,7 +60,7 @@ fn start_in_window<S: NodeSpace, T: Sources>(
     }
     let from = place.saturating_sub(PIECE as u64);
     let back = clear_behind(alloc, space, rope, from, place - from);
-    let start = line_start(alloc, space, sources, rope, None, back)?;
+    let start = line_start(alloc, space, sources, rope, &KnownLines::none(), back)?;
     Ok(start)
 }
 
@@ -131,7 +131,7 @@ pub fn near_start<S: NodeSpace, T: Sources>(
     ensures reads { ReadsSpan (T.reading sources.old) (T.reading sources.new)
         (rope_cell (S.table space.now) rope) 0 (rope_len (S.table space.now) rope) result }
 {
-    match known_about(held.known(), place) {
+    match held.known().about(place) {
         Some(line) => Ok(line.start),
         None => find_start(alloc, held, space, sources, rope, place),
     }

@@ -9,7 +9,6 @@ ghost use Rattle.text_lines.specs.HeldBytes.{AreHeld};
 ghost use Rattle.text_lines.specs.Lines.{line_end};
 
 use crate::held::HeldBytes;
-use crate::known::known_about;
 use crate::near::width_ahead;
 use cord_search::PIECE;
 use lazy_file::{SourceFault, Sources};
@@ -117,7 +116,7 @@ pub fn near_end<S: NodeSpace, T: Sources>(
         (rope_cell (S.table space.now) rope) 0 (rope_len (S.table space.now) rope) result }
 {
     let len = rope_len(space, rope);
-    match known_about(held.known(), start) {
+    match held.known().about(start) {
         Some(line) => Ok(len.min(line.end)),
         None => find_end(alloc, held, space, sources, rope, start),
     }

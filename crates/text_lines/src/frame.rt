@@ -12,7 +12,7 @@ ghost use Rattle.text_lines.specs.Rows.{cursor_at};
 
 use crate::fault::FrameFault;
 use crate::held::HeldBytes;
-use crate::known::KnownLine;
+use crate::known_lines::KnownLines;
 use crate::rows::{SCREEN_COLUMNS, push_rows};
 use crate::window::window_about;
 use lazy_file::Sources;
@@ -47,7 +47,7 @@ fn cursor(alloc: Global, row: u64, column: u64) -> Result<String, AllocError>
 
 /// What the screen shows of a rope's text about a place of it: 23 rows of 80 columns with the lines about that of the
 /// place, then the revision, the place, the text's length and the message, and the cursor at the place. It looks for
-/// no line break further than the twelfth above the place and the one behind the last row, and for none that a line tells which is known. A long one that it shows is known
+/// no line break further than the twelfth above the place and the one behind the last row, and for none that a line tells which is known. Long ones that it shows are known
 /// behind it.
 ///
 /// # Errors
@@ -61,7 +61,7 @@ pub fn frame_about<S: NodeSpace, T: Sources>(
     place: u64,
     revision: u32,
     message: Option<&str>,
-    known: &mut Option<KnownLine>,
+    known: &mut KnownLines,
 ) -> Result<Vec<u8>, FrameFault>
     requires rope { IsRope (S.table space.now) rope }
     requires place { place ≤ rope_len (S.table space.now) rope }
@@ -84,6 +84,6 @@ pub fn frame_about<S: NodeSpace, T: Sources>(
     out.extend_from_slice(line.as_bytes())?;
     let end = cursor(alloc, window.row + 1, window.column - left + 1)?;
     out.extend_from_slice(end.as_bytes())?;
-    *known = held.known();
+    *known = *held.known();
     Ok(out)
 }

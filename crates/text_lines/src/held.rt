@@ -7,10 +7,12 @@ ghost use Rattle.cord_search.specs.declared.runs.TheConstants.{PIECE};
 ghost use Rattle.cord_search.specs.Stated.{OfText};
 ghost use Rattle.text_lines.specs.HeldBytes.{held_up_to, held_starting_at, AreHeld};
 ghost use Rattle.text_lines.specs.declared.known.KnownLine.{KnownLine};
+ghost use Rattle.text_lines.specs.KnownLines.{known_lines, learnt};
 ghost use Rattle.text_lines.specs.Lines.{line_end};
 
 use crate::asking::ask_part;
 use crate::known::KnownLine;
+use crate::known_lines::KnownLines;
 use crate::lines::line_end_with;
 use crate::near::read_part;
 use cord_position::Pos;
@@ -44,7 +46,7 @@ pub struct HeldBytes {
     searched: [u8; PIECE],
     /// A place where a line begins.
     begun: Option<u64>,
-    known: Option<KnownLine>,
+    known: KnownLines,
 }
 
 impl Model for HeldBytes {
@@ -60,8 +62,8 @@ impl Model for HeldBytes {
 }
 
 impl HeldBytes {
-    /// No bytes, but a line that is known, or none.
-    pub fn new(known: Option<KnownLine>) -> HeldBytes
+    /// No bytes, but lines that are known.
+    pub fn new(known: KnownLines) -> HeldBytes
         ensures { result ≡ record { from = 0; bytes = []; begun = None; known = known } }
     {
         HeldBytes {
@@ -78,11 +80,11 @@ impl HeldBytes {
         }
     }
 
-    /// The line that is known, if one is.
-    pub fn known(&self) -> Option<KnownLine>
-        ensures { result ≡ self.now.known }
+    /// The lines that are known.
+    pub fn known(&self) -> &KnownLines
+        ensures { result.now ≡ self.now.known }
     {
-        self.known
+        &self.known
     }
 
     /// A line begins at a place.
@@ -99,7 +101,7 @@ impl HeldBytes {
         ensures held { (t : List ℕ) → AreHeld self.old t → start ≤ length t → end ≡ line_end t start → len ≡ length t
             → AreHeld self.new t }
         ensures learnt { self.old.begun ≡ Some start → PIECE < end - start
-            → self.new.known ≡ Some (record { start = start; end = end }) }
+            → known_lines self.new.known ≡ learnt (record { start = start; end = end }) (known_lines self.old.known) }
     {
         let Some(begun) = self.begun else {
             return;
@@ -107,12 +109,7 @@ impl HeldBytes {
         if begun != start {
             return;
         }
-        let is_long = end.saturating_sub(start) > PIECE as u64;
-        self.known = if is_long {
-            Some(KnownLine { start, end })
-        } else {
-            self.known
-        };
+        self.known.learn(KnownLine { start, end });
         self.begun = if end < len { Some(end + 1) } else { None };
     }
 

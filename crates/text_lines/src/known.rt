@@ -1,16 +1,19 @@
 //! A long line whose borders are known, so that it is not searched through again.
 
-ghost use Rattle.std.specs.Prelude.{◌≡◌, ◌≢◌, ◌<◌, ◌≤◌, ◌+◌, ◌^◌, ◌∷◌, [], ℕ, List, length, Some, IfSome, IsSome, IsTrue};
+ghost use Rattle.std.specs.Prelude.{◌≡◌, ◌≢◌, ◌↔◌, ◌<◌, ◌≤◌, ◌+◌, ◌-◌, ◌^◌, ◌∷◌, [], ℕ, List, length, IfSome, IsSome, IsTrue};
 ghost use Rattle.rope_node.specs.Denotes.{IsRope, rope_len};
 ghost use Rattle.cord_position.specs.Fetched.{rope_cell};
+ghost use Rattle.cord_search.specs.declared.runs.TheConstants.{PIECE};
 ghost use Rattle.span_certificate.specs.Commands.{replaced};
-ghost use Rattle.text_lines.specs.declared.known.KnownLine.{KnownLine};
-ghost use Rattle.text_lines.specs.KnownLines.{HoldsPlace, IsLineOf};
+ghost use Rattle.text_lines.specs.KnownLines.{IsAbout, IsLineOf, stays_beside};
 ghost use Rattle.text_lines.specs.StatedCells.{IsToldByOthers, cell_source};
 
 use crate::lines::LINE_BREAK;
 use cord_search::PIECE;
 use rope_node::{NodeSpace, NodeView, Rope, find_leaf, rope_len};
+
+/// A line of so many bytes stays known when another one is shown.
+const VERY_LONG: u64 = 65_536;
 
 /// A line of a text: where it begins, and the place of the break behind it, or the text's end.
 #[derive(Clone, Copy, Debug, PartialEq, Eq)]
@@ -19,21 +22,28 @@ pub struct KnownLine {
     pub end: u64,
 }
 
-/// The known line, where it is longer than what is searched through at once, and holds a place, its end too.
-pub fn known_about(known: Option<KnownLine>, place: u64) -> Option<KnownLine>
-    ensures holds { IfSome result (HoldsPlace known place) }
-    ensures all { (line : KnownLine) → HoldsPlace known place line → result ≡ Some line }
-{
-    let line = known?;
-    let is_long = line.end.saturating_sub(line.start) > PIECE as u64;
-    if is_long && line.start <= place && place <= line.end {
-        Some(line)
-    } else {
-        None
-    }
-}
-
 impl KnownLine {
+    /// Whether it is longer than what is searched through at once.
+    pub fn is_long(self) -> bool
+        ensures { IsTrue result ↔ (PIECE < self.end - self.start) }
+    {
+        self.end.saturating_sub(self.start) > PIECE as u64
+    }
+
+    /// Whether it is, and holds a place, its end too.
+    pub fn is_about(self, place: u64) -> bool
+        ensures { IsTrue result ↔ IsAbout place self }
+    {
+        self.is_long() && self.start <= place && place <= self.end
+    }
+
+    /// Whether it stays known behind another one that was shown: where it is another one, and very long.
+    pub fn stays_beside(self, shown: KnownLine) -> bool
+        ensures { result ≡ stays_beside shown self }
+    {
+        self.start != shown.start && self.end.saturating_sub(self.start) >= VERY_LONG
+    }
+
     /// The line behind a byte that is put in at a place. A line break parts it: the longer part stays known.
     pub fn typed(self, place: u64, byte: u8) -> Option<KnownLine>
         ensures line { IfSome result (λ line. (t : List ℕ) → place ≤ length t → IsLineOf t self

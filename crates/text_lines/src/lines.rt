@@ -7,7 +7,7 @@ ghost use Rattle.cord_search.specs.Stated.{OfText};
 ghost use Rattle.text_lines.specs.KnownLines.{IsKnownIn};
 ghost use Rattle.text_lines.specs.Lines.{line_start, line_end, place_up, place_down};
 
-use crate::known::{KnownLine, known_about};
+use crate::known_lines::KnownLines;
 use cord_search::{PIECE, chr_with, rchr};
 use lazy_file::{SourceFault, Sources};
 use rope_node::{NodeSpace, Rope, rope_len};
@@ -26,12 +26,12 @@ pub fn line_start<S: NodeSpace, T: Sources>(
     space: &S,
     sources: &mut T,
     rope: Rope,
-    known: Option<KnownLine>,
+    known: &KnownLines,
     place: u64,
 ) -> Result<u64, SourceFault>
     requires rope { IsRope (S.table space.now) rope }
     requires place { place ≤ rope_len (S.table space.now) rope }
-    requires known { OfText (S.table space.now) (T.reading sources.old).stated rope (IsKnownIn known) }
+    requires known { OfText (S.table space.now) (T.reading sources.old).stated rope (IsKnownIn known.now) }
     ensures inside { IfOk result (λ p. p ≤ place) }
     ensures is { IfOk result (λ p.
         OfText (S.table space.now) (T.reading sources.old).stated rope (λ t. p ≡ line_start t place)) }
@@ -42,7 +42,7 @@ pub fn line_start<S: NodeSpace, T: Sources>(
     if place == 0 {
         return Ok(0);
     }
-    if let Some(line) = known_about(known, place) {
+    if let Some(line) = known.about(place) {
         return Ok(line.start);
     }
     match rchr(alloc, space, sources, rope, place - 1, LINE_BREAK)? {
@@ -61,12 +61,12 @@ pub fn line_end<S: NodeSpace, T: Sources>(
     space: &S,
     sources: &mut T,
     rope: Rope,
-    known: Option<KnownLine>,
+    known: &KnownLines,
     place: u64,
 ) -> Result<u64, SourceFault>
     requires rope { IsRope (S.table space.now) rope }
     requires place { place ≤ rope_len (S.table space.now) rope }
-    requires known { OfText (S.table space.now) (T.reading sources.old).stated rope (IsKnownIn known) }
+    requires known { OfText (S.table space.now) (T.reading sources.old).stated rope (IsKnownIn known.now) }
     ensures from { IfOk result (λ p. place ≤ p) }
     ensures inside { IfOk result (λ p. p ≤ rope_len (S.table space.now) rope) }
     ensures is { IfOk result (λ p.
@@ -75,7 +75,7 @@ pub fn line_end<S: NodeSpace, T: Sources>(
         (rope_cell (S.table space.now) rope) 0 (rope_len (S.table space.now) rope) result }
 {
     let len = rope_len(space, rope);
-    match known_about(known, place) {
+    match known.about(place) {
         Some(line) => Ok(len.min(line.end)),
         None => line_end_with(alloc, space, sources, rope, place, &mut [0; PIECE]),
     }
@@ -117,12 +117,12 @@ pub fn place_up<S: NodeSpace, T: Sources>(
     space: &S,
     sources: &mut T,
     rope: Rope,
-    known: Option<KnownLine>,
+    known: &KnownLines,
     place: u64,
 ) -> Result<u64, SourceFault>
     requires rope { IsRope (S.table space.now) rope }
     requires place { place ≤ rope_len (S.table space.now) rope }
-    requires known { OfText (S.table space.now) (T.reading sources.old).stated rope (IsKnownIn known) }
+    requires known { OfText (S.table space.now) (T.reading sources.old).stated rope (IsKnownIn known.now) }
     ensures inside { IfOk result (λ p. p ≤ rope_len (S.table space.now) rope) }
     ensures is { IfOk result (λ p.
         OfText (S.table space.now) (T.reading sources.old).stated rope (λ t. p ≡ place_up t place)) }
@@ -147,12 +147,12 @@ pub fn place_down<S: NodeSpace, T: Sources>(
     space: &S,
     sources: &mut T,
     rope: Rope,
-    known: Option<KnownLine>,
+    known: &KnownLines,
     place: u64,
 ) -> Result<u64, SourceFault>
     requires rope { IsRope (S.table space.now) rope }
     requires place { place ≤ rope_len (S.table space.now) rope }
-    requires known { OfText (S.table space.now) (T.reading sources.old).stated rope (IsKnownIn known) }
+    requires known { OfText (S.table space.now) (T.reading sources.old).stated rope (IsKnownIn known.now) }
     ensures inside { IfOk result (λ p. p ≤ rope_len (S.table space.now) rope) }
     ensures is { IfOk result (λ p.
         OfText (S.table space.now) (T.reading sources.old).stated rope (λ t. p ≡ place_down t place)) }

@@ -29,16 +29,16 @@ returns-in_err-place_down-in-Down-clause-reads g c =
 
 pub line_start-requires-clause-known : goal.line_start-requires-clause-known
 line_start-requires-clause-known g c =
-    known_in_current (g.R.Sources.reading c.args.sources.now).stated c.args.workspace.now c.session.result.now c.space-space.result.now c.root-root.result c.args.known c.session.ensures.value c.space-space.ensures.store c.root-root.ensures.value c.requires.known
+    known_in_current (g.R.Sources.reading c.args.sources.now).stated c.args.workspace.now c.session.result.now c.space-space.result.now c.root-root.result c.args.known.now c.session.ensures.value c.space-space.ensures.store c.root-root.ensures.value c.requires.known
 
 pub line_end-requires-clause-known : goal.line_end-requires-clause-known
 line_end-requires-clause-known g c =
-    known_in_current (g.R.Sources.reading c.args.sources.now).stated c.args.workspace.now c.session.result.now c.space-space.result.now c.root-root.result c.args.known c.session.ensures.value c.space-space.ensures.store c.root-root.ensures.value c.requires.known
+    known_in_current (g.R.Sources.reading c.args.sources.now).stated c.args.workspace.now c.session.result.now c.space-space.result.now c.root-root.result c.args.known.now c.session.ensures.value c.space-space.ensures.store c.root-root.ensures.value c.requires.known
 
 pub place_up-requires-clause-known : goal.place_up-requires-clause-known
 place_up-requires-clause-known g c =
-    known_in_current (g.R.Sources.reading c.args.sources.now).stated c.args.workspace.now c.session.result.now c.space-space.result.now c.root-root.result c.args.known c.session.ensures.value c.space-space.ensures.store c.root-root.ensures.value c.requires.known
+    known_in_current (g.R.Sources.reading c.args.sources.now).stated c.args.workspace.now c.session.result.now c.space-space.result.now c.root-root.result c.args.known.now c.session.ensures.value c.space-space.ensures.store c.root-root.ensures.value c.requires.known
 
 pub place_down-requires-clause-known : goal.place_down-requires-clause-known
 place_down-requires-clause-known g c =
-    known_in_current (g.R.Sources.reading c.args.sources.now).stated c.args.workspace.now c.session.result.now c.space-space.result.now c.root-root.result c.args.known c.session.ensures.value c.space-space.ensures.store c.root-root.ensures.value c.requires.known
+    known_in_current (g.R.Sources.reading c.args.sources.now).stated c.args.workspace.now c.session.result.now c.space-space.result.now c.root-root.result c.args.known.now c.session.ensures.value c.space-space.ensures.store c.root-root.ensures.value c.requires.known

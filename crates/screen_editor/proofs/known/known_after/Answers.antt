@@ -1,30 +1,30 @@
-use Rattle.std.proofs.Common.{Some, arith}
+use Rattle.std.proofs.Common.{arith}
 use Rattle.screen_editor.proofs.KnownKeys.{stays, stays_at_end, stays_at_start, stays_erased_at, stays_erased_before, stays_typed}
 use Rattle.screen_editor.proofs.known.known_after.Goals as goal
 
 pub returns-in-Typed : goal.returns-in-Typed
 returns-in-Typed c =
-    rw (c.in-Typed.is, c.in-Some.is) (stays_typed c.args.workspace.now c.place-place.result c.in-Typed.byte c.in-Some.line c.typed.result c.last-last.ensures.history c.place-place.ensures.value c.place-place.ensures.inside c.typed.ensures.line)
+    rw c.in-Typed.is (stays_typed c.args.workspace.now c.place-place.result c.in-Typed.byte c.args.known.now c.typed.result c.last-last.ensures.history c.place-place.ensures.value c.place-place.ensures.inside c.typed.ensures.lines)
 
 pub returns-then-place-eq0 : goal.returns-then-place-eq0
 returns-then-place-eq0 c =
-    rw (c.in-EraseBefore.is, c.in-Some.is) (stays_at_start c.args.workspace.now (Some c.in-Some.line) c.last-last.ensures.history (omega (arith, c.place-place.ensures.value, c.if-place-eq0.true)))
+    rw c.in-EraseBefore.is (stays_at_start c.args.workspace.now c.args.known.now c.last-last.ensures.history (omega (arith, c.place-place.ensures.value, c.if-place-eq0.true)))
 
 pub returns-else-place-eq0 : goal.returns-else-place-eq0
 returns-else-place-eq0 c =
-    rw (c.in-EraseBefore.is, c.in-Some.is) (stays_erased_before c.args.workspace.now c.place-place.result c.in-Some.line c.known_without.result c.last-last.ensures.history c.place-place.ensures.value (omega (arith, c.if-place-eq0.false)) c.place-place.ensures.inside
-    c.known_without.ensures.told c.known_without.ensures.line)
+    rw c.in-EraseBefore.is (stays_erased_before c.args.workspace.now c.place-place.result c.args.known.now c.known_without.result c.last-last.ensures.history c.place-place.ensures.value (omega (arith, c.if-place-eq0.false)) c.place-place.ensures.inside
+    c.known_without.ensures.told c.known_without.ensures.lines)
 
 pub returns-then-place-len : goal.returns-then-place-len
 returns-then-place-len c =
-    rw (c.in-EraseAt.is, c.in-Some.is) (stays_at_end c.args.workspace.now (Some c.in-Some.line) c.last-last.ensures.history (omega (arith, c.place-place.ensures.value, c.len.ensures.value, c.if-place-len.true)))
+    rw c.in-EraseAt.is (stays_at_end c.args.workspace.now c.args.known.now c.last-last.ensures.history (omega (arith, c.place-place.ensures.value, c.len.ensures.value, c.if-place-len.true)))
 
 pub returns-else-place-len : goal.returns-else-place-len
 returns-else-place-len c =
-    rw (c.in-EraseAt.is, c.in-Some.is) (stays_erased_at c.args.workspace.now c.place-place.result c.in-Some.line c.known_without-in-EraseAt.result c.last-last.ensures.history c.place-place.ensures.value (omega (arith, c.len.ensures.value, c.if-place-len.false))
-    c.known_without-in-EraseAt.ensures.told c.known_without-in-EraseAt.ensures.line)
+    rw c.in-EraseAt.is (stays_erased_at c.args.workspace.now c.place-place.result c.args.known.now c.known_without-in-EraseAt.result c.last-last.ensures.history c.place-place.ensures.value (omega (arith, c.len.ensures.value, c.if-place-len.false))
+    c.known_without-in-EraseAt.ensures.told c.known_without-in-EraseAt.ensures.lines)
 
-pub returns-in_default-key : goal.returns-in_default-key
-returns-in_default-key c =
-    let d = c.in_default-key in
-    rw c.in-Some.is (stays c.args.key c.args.workspace.now (Some c.in-Some.line) c.last-last.ensures.history d.not-Typed d.not-EraseBefore d.not-EraseAt d.not-Cut d.not-Paste d.not-Undo)
+pub returns-in_default : goal.returns-in_default
+returns-in_default c =
+    let d = c.in_default in
+    stays c.args.key c.args.workspace.now c.args.known.now c.last-last.ensures.history d.not-Typed d.not-EraseBefore d.not-EraseAt d.not-Cut d.not-Paste d.not-Undo

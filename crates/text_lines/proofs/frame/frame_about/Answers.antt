@@ -42,3 +42,8 @@ returns-clause-known g c source agrees stated =
     let t = g.S.NodeSpace.table c.args.space.now in
     let held = told_before t (g.T.Sources.reading c.args.sources.now).stated (g.T.Sources.reading c.window_about.new.sources).stated c.args.rope 0 (rope_len t c.args.rope) (AreHeld c.push_rows.new.held) (same_stated c.in_ok-window.ensures.reads) c.in_ok-push_rows.ensures.held source agrees stated in
     rw c.known.ensures held.known
+
+pub push_rows-requires-clause-held : goal.push_rows-requires-clause-held
+push_rows-requires-clause-held g c source agrees stated =
+    let t = g.S.NodeSpace.table c.args.space.now in
+    told_before t (g.T.Sources.reading c.window_about.new.sources).stated (g.T.Sources.reading c.args.sources.now).stated c.args.rope 0 (rope_len t c.args.rope) (AreHeld c.window_about.new.held) (sym (same_stated c.in_ok-window.ensures.reads)) c.in_ok-window.ensures.held source agrees stated

@@ -9,5 +9,5 @@ returns-in-Some-clause-is g c source agrees stated =
     let t = g.S.NodeSpace.table c.args.space.now in
     let u = text source (rope_cells t c.args.rope) in
     let long : length u ≡ c.rope_len-len.result = text_length t c.args.rope source ∙ sym c.rope_len-len.ensures.cells in
-    let end = known_end u c.args.known c.args.place c.in-Some.line c.in-Some.ensures.holds (c.requires.known source agrees stated) in
+    let end = known_end u c.args.known.now c.args.place c.in-Some.line c.in-Some.ensures.holds (c.requires.known source agrees stated) in
     omega (arith, c.min.ensures, end.0, end.1, long)

@@ -29,4 +29,4 @@ returns-in-None-clause-is g c source agrees stated =
 
 pub returns-in-Some-clause-is : goal.returns-in-Some-clause-is
 returns-in-Some-clause-is g c source agrees stated =
-    known_start (text source (rope_cells (g.S.NodeSpace.table c.args.space.now) c.args.rope)) c.args.known c.args.place c.in-Some.line c.in-Some.ensures.holds (c.requires.known source agrees stated)
+    known_start (text source (rope_cells (g.S.NodeSpace.table c.args.space.now) c.args.rope)) c.args.known.now c.args.place c.in-Some.line c.in-Some.ensures.holds (c.requires.known source agrees stated)

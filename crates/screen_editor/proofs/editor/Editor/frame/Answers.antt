@@ -1,4 +1,23 @@
+use Rattle.std.proofs.Common.{◌≡◌, sym, ap, subst, ◌∙◌}
+use Rattle.lazy_file.specs.SourceTexts.{Stated}
+use Rattle.lazy_file.specs.Readings.{fault_by}
+use Rattle.cord_position.specs.Fetched.{InCells}
+use Rattle.text_lines.specs.Showing.{frame_source_fault}
+use Rattle.screen_editor.specs.Editing.{current_cell, current_len}
+use Rattle.screen_editor.specs.KnownTexts.{IsKnownLine}
+use Rattle.screen_editor.proofs.LaterReadings.{reads_later}
 use Rattle.screen_editor.proofs.editor.Editor.frame.Goals as goal
 
 pub returns : goal.returns
 returns g c = record { makes = rw (← c.self.view_is) c.frame_of.ensures.makes }
+
+pub invariant_of-self : goal.invariant_of-self
+invariant_of-self g c =
+    let e = c.self.inside.workspace in
+    let old = g.R.Sources.reading c.self.inside.sources in
+    let new = g.R.Sources.reading c.frame_of.new.sources in
+    let later = reads_later old new (InCells (current_cell e) 0 (current_len e)) (fault_by frame_source_fault c.frame_of.result) c.frame_of.ensures.makes.reads in
+    let same : new.stated ≡ old.stated = later.same in (
+      c.self.invariant.0 ∙ ap (λ (st : Stated). st.sizes) (sym same),
+      subst (λ (st : Stated). IsKnownLine st e c.frame_of.new.known) (sym same) c.frame_of.ensures.known,
+    )

@@ -1,0 +1,77 @@
+-- Lines that are known, and one that is learnt beside them.
+use Rattle.std.proofs.Common.{◌≡◌, ℕ, ◌+◌, ◌<◌, ◌≤◌, Bool, true, false, List, [], ◌∷◌, ◌++◌, All, length, take, get_or, cond, inl, inr, refl, sym, ap, ◌∙◌, arith}
+use Rattle.std.specs.List.{filter}
+use Rattle.std.proofs.lemmas.Bool.{cases_lt}
+use Rattle.std.proofs.lemmas.List.{append-nil, length-append, length-take, take_all, take-append-le}
+use Rattle.std.proofs.lemmas.List.Elements.{All-cons, All-filter, All-get_or, All-nil, All-push, All-take, filter_more}
+use Rattle.text_lines.specs.declared.known.KnownLine.{KnownLine}
+use Rattle.text_lines.specs.declared.known_lines.TheConstants.{MOST_LINES}
+use Rattle.text_lines.specs.KnownLines.{IsLineOf, learnt, stays_beside}
+
+pub all_learnt : (t : List ℕ) (line : KnownLine) (lines : List KnownLine) → IsLineOf t line → All (IsLineOf t) lines → All (IsLineOf t) (learnt line lines)
+all_learnt t line lines is all =
+    All-take (IsLineOf t) MOST_LINES (line ∷ filter (stays_beside line) lines)
+    (All-cons (IsLineOf t) line (filter (stays_beside line) lines) is (All-filter (stays_beside line) (IsLineOf t) lines all))
+
+-- ---- one of those that were known after the other
+
+kept_more : (line : KnownLine) (known : List KnownLine) (k : ℕ) (d : KnownLine) (b : Bool) → k < length known → stays_beside line (get_or known k d) ≡ b
+    → filter (stays_beside line) (take (k + 1) known) ≡ filter (stays_beside line) (take k known) ++ cond b (get_or known k d ∷ []) []
+kept_more line known k d b lt stays =
+    filter_more (stays_beside line) known k d lt
+    ∙ ap (λ (c : Bool). filter (stays_beside line) (take k known) ++ cond c (get_or known k d ∷ []) []) stays
+
+-- it does not stay
+pub learnt_without : (line : KnownLine) (known : List KnownLine) (k : ℕ) (d : KnownLine) → k < length known → stays_beside line (get_or known k d) ≡ false → learnt line (take k known) ≡ learnt line (take (k + 1) known)
+learnt_without line known k d lt stays =
+    ap (λ (xs : List KnownLine). take MOST_LINES (line ∷ xs)) (sym (kept_more line known k d false lt stays ∙ append-nil (filter (stays_beside line) (take k known))))
+
+-- there is room for it
+pub learnt_with : (line : KnownLine) (known : List KnownLine) (k : ℕ) (d : KnownLine) → k < length known → stays_beside line (get_or known k d) ≡ true → length (learnt line (take k known)) < MOST_LINES
+    → learnt line (take k known) ++ get_or known k d ∷ [] ≡ learnt line (take (k + 1) known)
+learnt_with line known k d lt stays room =
+    let x = get_or known k d in
+    let ys : List KnownLine = line ∷ filter (stays_beside line) (take k known) in
+    let few : length ys < MOST_LINES = omega (arith, room, length-take MOST_LINES ys) in
+    let more : take MOST_LINES (ys ++ x ∷ []) ≡ ys ++ x ∷ [] = take_all MOST_LINES (ys ++ x ∷ []) (omega (arith, few, length-append ys (x ∷ []))) in
+    ap (λ (xs : List KnownLine). xs ++ x ∷ []) (take_all MOST_LINES ys (omega (arith, few))) ∙ sym more
+    ∙ ap (λ (xs : List KnownLine). take MOST_LINES (line ∷ xs)) (sym (kept_more line known k d true lt stays))
+
+-- there is none
+pub learnt_past : (line : KnownLine) (known : List KnownLine) (k : ℕ) (d : KnownLine) → k < length known → stays_beside line (get_or known k d) ≡ true → (length (learnt line (take k known)) < MOST_LINES → ⊥)
+    → learnt line (take k known) ≡ learnt line (take (k + 1) known)
+learnt_past line known k d lt stays full =
+    let x = get_or known k d in
+    let ys : List KnownLine = line ∷ filter (stays_beside line) (take k known) in
+    let many : MOST_LINES ≤ length ys = elim (cases_lt (length ys) MOST_LINES) [
+      | inl few ↦ absurd (full (omega (arith, few, length-take MOST_LINES ys)))
+      | inr le ↦ le
+    ] in
+    sym (take-append-le MOST_LINES ys (x ∷ []) many)
+    ∙ ap (λ (xs : List KnownLine). take MOST_LINES (line ∷ xs)) (sym (kept_more line known k d true lt stays))
+
+-- ---- the lines behind a change of the text, one after the other
+
+-- of so many lines of a text these came out as lines of what the text became, and all of them where each stays
+pub record CameOut (Before : List ℕ → Type 0) (after : List ℕ → List ℕ) (Stays : KnownLine → Type 0) (known : List KnownLine) (k : ℕ) (later : List KnownLine) : Type 0 where
+  pub few : length later ≤ k
+  pub lines : (t : List ℕ) → Before t → All (IsLineOf t) known → All (IsLineOf (after t)) later
+  pub kept : All Stays known → length later ≡ k
+
+module _ (Before : List ℕ → Type 0) (after : List ℕ → List ℕ) (Stays : KnownLine → Type 0) (known : List KnownLine) where
+  pub none_out : CameOut Before after Stays known 0 []
+  none_out = record { few = omega arith; lines = λ t before all. All-nil (IsLineOf (after t)); kept = λ all. refl }
+
+  pub one_out : (k : ℕ) (later : List KnownLine) (d x : KnownLine) → k < length known → ((t : List ℕ) → Before t → IsLineOf t (get_or known k d) → IsLineOf (after t) x)
+      → CameOut Before after Stays known k later → CameOut Before after Stays known (k + 1) (later ++ x ∷ [])
+  one_out k later d x lt law out =
+      let long = length-append later (x ∷ []) in
+      record {
+        few = omega (arith, long, out.few);
+        lines = λ t before all. All-push (IsLineOf (after t)) later x (out.lines t before all) (law t before (All-get_or (IsLineOf t) known k d lt all));
+        kept = λ all. omega (arith, long, out.kept all);
+      }
+
+  pub one_lost : (k : ℕ) (later : List KnownLine) (d : KnownLine) → k < length known → (Stays (get_or known k d) → ⊥)
+      → CameOut Before after Stays known k later → CameOut Before after Stays known (k + 1) later
+  one_lost k later d lt lost out = record { few = omega (arith, out.few); lines = out.lines; kept = λ all. absurd (lost (All-get_or Stays known k d lt all)) }

@@ -1,0 +1,132 @@
+//! The lines of a text whose borders are known, so that none of them is searched through again.
+
+ghost use Rattle.std.specs.Prelude.{◌≡◌, ◌≢◌, ◌↔◌, ◌<◌, ◌≤◌, ◌+◌, ◌-◌, ◌^◌, ◌++◌, ◌∷◌, [], ℕ, List, All, length, IfSome, IsSome, IsTrue};
+ghost use Rattle.cord_search.specs.declared.runs.TheConstants.{PIECE};
+ghost use Rattle.span_certificate.specs.Commands.{replaced};
+ghost use Rattle.text_lines.specs.declared.known.KnownLine.{KnownLine};
+ghost use Rattle.text_lines.specs.declared.known_lines.TheConstants.{MOST_LINES};
+ghost use Rattle.text_lines.specs.KnownLines.{HoldsLine, HoldsPlace, IsKnownIn, known_lines, learnt};
+
+use crate::known::KnownLine;
+
+/// So many lines are known at most: those of a screen, and one beside them.
+const MOST_LINES: usize = 24;
+
+/// Lines of a text that are known: first the long one that was shown last, then very long ones that were shown before it.
+#[derive(Clone, Copy, Debug)]
+pub struct KnownLines {
+    lines: [KnownLine; MOST_LINES],
+    count: usize,
+}
+
+/// The first of these lines that is longer than what is searched through at once, and holds a place, its end too.
+fn line_about(lines: &[KnownLine], place: u64) -> Option<KnownLine>
+    ensures holds { IfSome result (HoldsLine lines.now place) }
+    ensures all { (line : KnownLine) → HoldsLine lines.now place line → IsSome result }
+{
+    for line in lines {
+        if line.is_about(place) {
+            return Some(*line);
+        }
+    }
+    None
+}
+
+impl KnownLines {
+    /// No line is known.
+    pub fn none() -> KnownLines
+        ensures { known_lines result ≡ [] }
+    {
+        KnownLines {
+            lines: [KnownLine { start: 0, end: 0 }; MOST_LINES],
+            count: 0,
+        }
+    }
+
+    /// Whether no line is known.
+    pub fn is_empty(&self) -> bool
+        ensures { IsTrue result ↔ (length (known_lines self.now) ≡ 0) }
+    {
+        self.lines().is_empty()
+    }
+
+    fn lines(&self) -> &[KnownLine]
+        ensures lines { result.now ≡ known_lines self.now }
+        ensures room { length (known_lines self.now) ≤ MOST_LINES }
+    {
+        &self.lines[..self.count.min(MOST_LINES)]
+    }
+
+    fn has_room(&self) -> bool
+        ensures { IsTrue result ↔ (length (known_lines self.now) < MOST_LINES) }
+    {
+        self.lines().len() < MOST_LINES
+    }
+
+    fn push(&mut self, line: KnownLine)
+        requires { length (known_lines self.old) < MOST_LINES }
+        ensures { known_lines self.new ≡ known_lines self.old ++ line ∷ [] }
+    {
+        self.lines[self.count] = line;
+        self.count += 1;
+    }
+
+    /// A line that is known, is longer than what is searched through at once, and holds a place, its end too.
+    pub fn about(&self, place: u64) -> Option<KnownLine>
+        ensures holds { IfSome result (HoldsPlace self.now place) }
+        ensures all { (line : KnownLine) → HoldsPlace self.now place line → IsSome result }
+    {
+        line_about(self.lines(), place)
+    }
+
+    /// A line was shown: it is known if it is longer than what is searched through at once, and then of the others those that are very long, as far as there is room.
+    pub fn learn(&mut self, line: KnownLine)
+        ensures long { PIECE < line.end - line.start
+            → known_lines self.new ≡ learnt line (known_lines self.old) }
+        ensures short { line.end - line.start ≤ PIECE → self.new ≡ self.old }
+    {
+        if !line.is_long() {
+            return;
+        }
+        let mut later = KnownLines::none();
+        later.push(line);
+        for other in self.lines() {
+            if other.stays_beside(line) && later.has_room() {
+                later.push(*other);
+            }
+        }
+        *self = later;
+    }
+
+    /// The lines behind a byte that is put in at a place. A line break parts the one that it is put into: the longer part stays known.
+    pub fn typed(&self, place: u64, byte: u8) -> KnownLines
+        ensures lines { (t : List ℕ) → place ≤ length t → IsKnownIn self.now t
+            → IsKnownIn result (replaced t place 0 (byte ∷ [])) }
+        ensures kept { All (λ line. (line.start ≤ line.end) × (line.end + 1 < 2 ^ 64)) (known_lines self.now)
+            → length (known_lines result) ≡ length (known_lines self.now) }
+    {
+        let mut later = KnownLines::none();
+        for line in self.lines() {
+            if let Some(line) = line.typed(place, byte) {
+                later.push(line);
+            }
+        }
+        later
+    }
+
+    /// The lines behind a byte that goes out at a place. One is not known where the byte was the break before it or behind it.
+    pub fn erased(&self, place: u64) -> KnownLines
+        ensures lines { (t : List ℕ) → place < length t → IsKnownIn self.now t
+            → IsKnownIn result (replaced t place 1 []) }
+        ensures kept { All (λ line. (place + 1 ≢ line.start) × (place ≢ line.end)) (known_lines self.now)
+            → length (known_lines result) ≡ length (known_lines self.now) }
+    {
+        let mut later = KnownLines::none();
+        for line in self.lines() {
+            if let Some(line) = line.erased(place) {
+                later.push(line);
+            }
+        }
+        later
+    }
+}
