@@ -66,8 +66,8 @@ is_same_block x y = nat_eq x.0 y.0 && nat_eq x.1 y.1
 abbrev pub but_block : ℕ × ℕ → List (ℕ × ℕ) → List (ℕ × ℕ)
 but_block key keys = filter (λ k. not (is_same_block key k)) keys
 
--- Blocks that are kept, the last used first, once this one is used: it comes first, and where they are more than most
--- then, the one that was used longest ago goes.
+-- the blocks that are kept, the last used first, once this one is used: it goes to the front, and the one that was used
+-- longest ago goes where there are more than most
 abbrev pub used_block : ℕ → List (ℕ × ℕ) → ℕ × ℕ → List (ℕ × ℕ)
 used_block most keys key = take most (key ∷ but_block key keys)
 
