@@ -1,4 +1,4 @@
-//! What a log and a script without a command are worth, and what a line of blame shows.
+//! What a log and a script without a command are worth, what a line of blame shows, and that what is written needs no read.
 
 ghost use Rattle.std.specs.Prelude.{◌≡◌, ◌≢◌, ℕ, List, [], All, Ok, Option, length, map, take, drop};
 ghost use Rattle.edit_commands.specs.Session.{SessionValue, texts_of};
@@ -14,12 +14,14 @@ ghost use Rattle.script_tools.specs.Onto.{IsMadeOnto};
 ghost use Rattle.script_tools.specs.declared.shown.LogTexts.TheVariants.{Whole};
 ghost use Rattle.byte_origins.specs.declared.run.OriginRun.{OriginRun};
 ghost use Rattle.byte_origins.specs.Origins.{AreRuns, origins_at};
-ghost use Rattle.image_reader.specs.Value.{ImageValue};
+ghost use Rattle.image_reader.specs.Spelling.{spelling};
+ghost use Rattle.image_reader.specs.Value.{ImageValue, IsImage};
 ghost use Rattle.lazy_file.specs.Readings.{Reading};
+ghost use Rattle.session_checker.specs.Accepted.{NeedsNoRead};
 ghost use Rattle.session_checker.specs.Faithful.{EachRevision, givens, commands, revision_text, texts};
 ghost use Rattle.session_checker.specs.Limits.{ChecksWithin};
 ghost use Rattle.session_checker.specs.RevisionRules.{HasSameBytes};
-ghost use Rattle.session_image.specs.Written.{AreAsMade, image_of};
+ghost use Rattle.session_image.specs.Written.{AreAsMade, IsTrusted, image_of};
 ghost use Rattle.span_certificate.specs.Commands.{IsHistory};
 ghost use Rattle.span_certificate.specs.Covers.{SameOver};
 
@@ -85,4 +87,12 @@ pub fn gives_the_image_again()
     ensures { (x made : SessionValue) (script : List ℕ) → AreAsMade (image_of x)
         → IsMadeOnto (image_of x) script made → ReadsScript (lines_of script) []
         → image_of made ≡ image_of x }
+{}
+
+/// What `write` promises of each image that it writes is what `check` accepts over any sources of the same lengths, though every read
+/// failed.
+#[tactic(auto, using(crate::proofs::WrittenImages::needs_no_read))]
+pub fn writes_what_needs_no_read()
+    ensures { (s : SessionValue) → IsImage (image_of s) → IsTrusted s
+        → NeedsNoRead (spelling (image_of s)) s.held.sources }
 {}

@@ -2,4 +2,3 @@ pub mod WorkedPlaces
 pub mod WorkedRows
 pub mod WorkedFaults
 pub mod WorkedFrames
-pub mod WrittenImages

@@ -12,4 +12,3 @@ mod pieces;
 mod places;
 mod pools;
 mod sessions;
-mod written;
