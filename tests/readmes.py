@@ -1,7 +1,8 @@
 """What the documents name of the code. The README.md of each crate: at most ten lines; each call that it names is a public call of the crate, the
 words in brackets behind a call are clauses of its contract or words of it, and the files where to begin are there. docs/PROVED.md: for each crate
 that has public calls rows behind its name, which name such calls and what of their contracts carries the claim, or a law and its file; and an edit
-that must be refused and a test, which are there, or `-`. docs/ARCHITECTURE.md: a row for each crate, as in crates.txt. All pages: each link leads
+that must be refused and a test, which are there, or `-`; and its list of what stays after a refusal names each public call that answers a `Result`,
+with what of its contract says so. docs/ARCHITECTURE.md: a row for each crate, as in crates.txt. All pages: each link leads
 to a file, and to a heading of it, that is there, and no line but a table's has more than 165 columns. What is not so is told, and the status is 1;
 how many claims have no edit, laws left out, or no test is told too.
 
@@ -172,6 +173,33 @@ def faults_of_map(crates):
         yield f"its rows are not the crates of crates.txt in their order: {', '.join(sorted(set(rows) ^ set(crates.names))) or 'the order'}"
 
 
+# -- what stays after a refusal
+
+STAYS = "## What stays after a refusal"
+
+
+def faults_of_refusals(crates):
+    """Each public call that answers a `Result` is named in the list of what stays; each name of it outside brackets is a public call, and what stands
+    in brackets behind calls carries the claim of one of them."""
+    told = set()
+    for part in read(f"{TOP}/{PROVED}").partition(STAYS)[2].partition("\n## ")[0].split("\n- "):
+        now, inside = [], 0
+        for name, bracket in CITED.findall(part):
+            inside += {"(": 1, ")": -1}.get(bracket, 0)
+            now = [] if bracket == ")" and not inside else now
+            if name and not inside:
+                found = [call for call in crates.calls if name in (call.name, call.name.rpartition("::")[2], f"{call.crate}::{call.name}")]
+                told |= {(call.crate, call.name) for call in found}
+                now += found
+                if not found:
+                    yield f"`{name}` is no public call"
+            elif name and now and not any(name in carried_by(crates, call) for call in now):
+                yield f"`{name}` carries nothing of {', '.join(f'`{call.name}`' for call in now)}"
+    for call in crates.calls:
+        if re.search(r"-> (?:io::)?Result<", " ".join(call.head)) and (call.crate, call.name) not in told:
+            yield f"{STAYS[3:]}: `{call.name}` of {call.crate} is not named"
+
+
 # -- all pages
 
 
@@ -202,6 +230,7 @@ def main():
     pages = ["README.md", "CONTRIBUTING.md", "CHANGELOG.md", *(f"docs/{name}" for name in in_docs)]
     faults = [f"{crate}/README.md: {fault}" for crate in crates.names for fault in faults_of(crates, crate)]
     faults += [f"{PROVED}: {fault}" for fault in faults_of_proved(crates)]
+    faults += [f"{PROVED}: {fault}" for fault in faults_of_refusals(crates)]
     faults += [f"{MAP}: {fault}" for fault in faults_of_map(crates)]
     faults += [f"{page}: {fault}" for page in pages if page != "docs/HEADLINE.md" for fault in faults_of_page(page)]
     bare = {} if faults else untried()
