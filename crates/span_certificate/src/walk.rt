@@ -5,7 +5,7 @@ ghost use Rattle.rope_node.specs.Table.{view_at, IsLeaf, IsSound, HasTrueRecords
 ghost use Rattle.span_certificate.specs.Descents.{IsStand, first_of};
 ghost use Rattle.span_certificate.specs.Longest.{GoesToLeafEnd, SpansStayWithin};
 ghost use Rattle.span_certificate.specs.Steps.{IsSpan, span_cells, CellsAs, IsRowOf, IsDescribedRow};
-ghost use Rattle.span_certificate.specs.Trails.{IsWayOf};
+ghost use Rattle.span_certificate.specs.Trails.{IsOnWay, IsWayOf};
 ghost use Rattle.span_certificate.specs.declared.walk.TheConstants.{BYTES_LIMIT};
 ghost use Rattle.rope_node.specs.declared.node.NodeId.{NodeId};
 
@@ -106,6 +106,27 @@ fn goes_first(a: NodeId, of_a: NodeView, b: NodeId, of_b: NodeView) -> bool
     !is_leaf(of_a) && (a.0 >= b.0 || is_leaf(of_b))
 }
 
+/// The stop below one whose node, which is `view`, is no leaf.
+#[inline(always)]
+fn go_down<S: CountedSpace<L>, W: Way, L: Ledger>(
+    space: &S,
+    way: &mut W,
+    x: Span,
+    here: W::Here,
+    view: NodeView,
+) -> W::Here
+    requires on { IsOnWay W.is_way W.is_at W.lies (S.table space.now) x way.old here }
+    requires view { view ≡ view_at (S.table space.now) (W.lies x here).node.0 }
+    requires inner { ¬ IsLeaf view }
+    ensures on { IsOnWay W.is_way W.is_at W.lies (S.table space.now) x way.new result }
+    ensures lower { (W.lies x result).node.0 < (W.lies x here).node.0 }
+{
+    match way.step(space, x, here, view, 1) {
+        Descent::Below(below) => below,
+        Descent::Leaf | Descent::Border => unreachable!(),
+    }
+}
+
 /// The row over the node where ways down two spans stand at one place.
 #[inline(always)]
 fn shared_row<S: CountedSpace<L>, L: Ledger>(space: &S, x: Span, a: Span, y: Span, b: Span) -> Row
@@ -199,30 +220,21 @@ pub fn next_old<S: CountedSpace<L>, W: Way, L: Ledger>(
         let first = of_part.span(space, x, a);
         let second = of_root.span(space, y, b);
         if goes_first(first.node, of_a, second.node, of_b) {
-            match of_part.step(space, x, a, of_a, 1) {
-                Descent::Below(below) => {
-                    a = below;
-                    let first = of_part.span(space, x, a);
-                    if let Some(z) = of_root.find(space, y, b, first) {
-                        return shared_row(space, x, first, y, z);
-                    }
-                    of_a = space.look(first.node, count);
-                }
-                Descent::Leaf | Descent::Border => unreachable!(),
+            a = go_down(space, of_part, x, a, of_a);
+            let first = of_part.span(space, x, a);
+            if let Some(z) = of_root.find(space, y, b, first) {
+                return shared_row(space, x, first, y, z);
             }
+            of_a = space.look(first.node, count);
+        } else if is_leaf(of_b) {
+            return ends_row(space, x, first, of_a, y, second, of_b, count);
         } else {
-            match of_root.step(space, y, b, of_b, 1) {
-                Descent::Below(below) => {
-                    b = below;
-                    let second = of_root.span(space, y, b);
-                    if let Some(z) = of_part.find(space, x, a, second) {
-                        return shared_row(space, x, z, y, second);
-                    }
-                    of_b = space.look(second.node, count);
-                }
-                Descent::Leaf => return ends_row(space, x, first, of_a, y, second, of_b, count),
-                Descent::Border => unreachable!(),
+            b = go_down(space, of_root, y, b, of_b);
+            let second = of_root.span(space, y, b);
+            if let Some(z) = of_part.find(space, x, a, second) {
+                return shared_row(space, x, z, y, second);
             }
+            of_b = space.look(second.node, count);
         }
     }
 }

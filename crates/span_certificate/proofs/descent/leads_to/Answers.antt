@@ -14,9 +14,6 @@ down-init g c =
       forth = leads_from (g.S.CountedSpace.table c.args.space.now) c.requires.way.sound c.requires.way.true_records c.args.node.0 c.args.at c.args.x (g.W.Way.lies c.args.x c.begin-here.result) c.requires.span begun.on.stands begun.long begun.low;
     }
 
-pub step-requires-clause-view : goal.step-requires-clause-view
-step-requires-clause-view g c = rw c.span-there.ensures at c.look-view.ensures.view
-
 pub down-preserved : goal.down-preserved
 down-preserved g c =
     let t = g.S.CountedSpace.table c.args.space.now in
@@ -30,14 +27,6 @@ down-preserved g c =
       long = c.in-Below.ensures.goes.1;
       forth = λ lead. leads_below t c.requires.way.sound c.requires.way.true_records c.args.node.0 c.args.at c.args.x.len (g.W.Way.lies c.args.x c.down.here) (g.W.Way.lies c.args.x c.in-Below.below) c.look-view.result c.requires.span.some away view c.in-Below.ensures.goes.0 (i.forth lead);
     }
-
-pub down-smaller : goal.down-smaller
-down-smaller g c =
-    let t = g.S.CountedSpace.table c.args.space.now in
-    let i = c.down.invariant in
-    let view : c.look-view.result ≡ view_at t (g.W.Way.lies c.args.x c.down.here).node.0 = rw c.span-there.ensures at c.look-view.ensures.view in
-    let below = child_below t c.requires.way.sound c.requires.way.true_records (g.W.Way.lies c.args.x c.down.here) (g.W.Way.lies c.args.x c.in-Below.below) c.look-view.result i.on.stands.reached.is_span view c.in-Below.ensures.goes.0 in
-    below.lower
 
 pub returns-in-Leaf-clause-leads : goal.returns-in-Leaf-clause-leads
 returns-in-Leaf-clause-leads g c =
