@@ -11,14 +11,14 @@ use Rattle.span_certificate.specs.declared.trail.Trail.{Trail}
 use Rattle.span_certificate.specs.declared.walk.Span.{Span}
 use Rattle.span_certificate.specs.Descents.{IsStand, IsStandAt}
 use Rattle.span_certificate.specs.Steps.{IsSpan, child_span}
-use Rattle.span_certificate.specs.Trails.{AreStopsOf, Holds, IsFound, IsLastStop, IsStopOf, IsTrailStop, StandsAt, base_stop, first_stop, left_stop, no_stop, place_in, right_stop, span_in, stop_at}
+use Rattle.span_certificate.specs.Trails.{AreStopsOf, Holds, IsFound, IsLastStop, IsStopOf, IsTrailStop, StandsAt, base_stop, first_stop, left_stop, no_stop, place_in, right_stop, stop_span, stop_at}
 use Rattle.span_certificate.proofs.Depths.{depths_of_cat, depth_of_base}
 use Rattle.span_certificate.proofs.Descents.{base_of_sub, children_of_cat}
 use Rattle.span_certificate.proofs.FirstLeaves.{span_in_left, span_in_right}
 use Rattle.span_certificate.proofs.Stands.{stand_begins, stand_goes}
 
 -- the first stop is all of the root
-pub first_span : (t : Table) (root : NodeId) (x : Span) → x.node.0 ≡ root.0 → IsSpan t x → span_in x (first_stop t root) ≡ x
+pub first_span : (t : Table) (root : NodeId) (x : Span) → x.node.0 ≡ root.0 → IsSpan t x → stop_span x (first_stop t root) ≡ x
 first_span t root x of is =
     let place : 0 + (x.start - 0) ≡ x.start = omega arith in
     let inside : x.start + x.len ≤ len_at t root.0 = subst (λ (k : ℕ). x.start + x.len ≤ len_at t k) of is.inside in
@@ -83,29 +83,29 @@ module _ (t : Table) (s : IsSound t) (h : HasTrueRecords t) (stop : Stop) where
   in_left_child p left behind before ahead = omega arith
 
   pub child_left : (x : Span) (l r : NodeId) → stop.from ≤ x.start → stop.start < len_at t l.0 → x.start < (left_stop stop l (len_at t l.0)).end → view_at t stop.node.0 ≡ Cat l r
-      → Some (span_in x (left_stop stop l (len_at t l.0))) ≡ child_span t (span_in x stop) (view_at t stop.node.0)
+      → Some (stop_span x (left_stop stop l (len_at t l.0))) ≡ child_span t (stop_span x stop) (view_at t stop.node.0)
   child_left x l r behind before ahead e =
       rw e (ap Some (ap (λ (n : ℕ). record { node = l; start = place_in stop x.start; len = n }) (sym (left_len x.len x.start (len_at t l.0) behind before))
-      ∙ sym (span_in_left t (span_in x stop) l r (in_left_child x.start (len_at t l.0) behind before ahead))))
+      ∙ sym (span_in_left t (stop_span x stop) l r (in_left_child x.start (len_at t l.0) behind before ahead))))
 
   right_start : (p left : ℕ) → stop.from + (left - stop.start) ≤ p → place_in stop p - left ≡ (stop.start - left) + (p - (stop.from + (left - stop.start)))
   right_start p left behind = omega arith
 
   pub child_right : (x : Span) (l r : NodeId) → stop.from + (len_at t l.0 - stop.start) ≤ x.start → view_at t stop.node.0 ≡ Cat l r
-      → Some (span_in x (right_stop stop r (len_at t l.0))) ≡ child_span t (span_in x stop) (view_at t stop.node.0)
+      → Some (stop_span x (right_stop stop r (len_at t l.0))) ≡ child_span t (stop_span x stop) (view_at t stop.node.0)
   child_right x l r behind e =
       rw e (ap Some (ap (λ (p : ℕ). record { node = r; start = p; len = min x.len (stop.end - x.start) }) (sym (right_start x.start (len_at t l.0) behind))
-      ∙ sym (span_in_right t (span_in x stop) l r (omega arith))))
+      ∙ sym (span_in_right t (stop_span x stop) l r (omega arith))))
 
   base_start : (p j : ℕ) → place_in stop p + j ≡ (stop.start + j) + (p - stop.from)
   base_start p j = omega arith
 
-  pub child_base : (x : Span) (b : NodeId) (j : ℕ) → view_at t stop.node.0 ≡ Sub b j → Some (span_in x (base_stop stop b j)) ≡ child_span t (span_in x stop) (view_at t stop.node.0)
+  pub child_base : (x : Span) (b : NodeId) (j : ℕ) → view_at t stop.node.0 ≡ Sub b j → Some (stop_span x (base_stop stop b j)) ≡ child_span t (stop_span x stop) (view_at t stop.node.0)
   child_base x b j e = rw e (ap Some (ap (λ (p : ℕ). record { node = b; start = p; len = min x.len (stop.end - x.start) }) (sym (base_start x.start j))))
 
   -- a stop to which they go on from another
-  goes_on : (root c : ℕ) (z : Stop) (x : Span) → IsTrailStop t root c stop → x.node.0 ≡ root → IsSpan t x → Holds stop x.start 1 → Some (span_in x z) ≡ child_span t (span_in x stop) (view_at t stop.node.0) → IsStand t x (span_in x z)
-  goes_on root c z x is of span holds child = stand_goes t s h x (span_in x stop) (span_in x z) (view_at t stop.node.0) span (is.stands x of span holds) refl child
+  goes_on : (root c : ℕ) (z : Stop) (x : Span) → IsTrailStop t root c stop → x.node.0 ≡ root → IsSpan t x → Holds stop x.start 1 → Some (stop_span x z) ≡ child_span t (stop_span x stop) (view_at t stop.node.0) → IsStand t x (stop_span x z)
+  goes_on root c z x is of span holds child = stand_goes t s h x (stop_span x stop) (stop_span x z) (view_at t stop.node.0) span (is.stands x of span holds) refl child
 
   left_is_stop : (root c : ℕ) (l r : NodeId) → 1 ≤ c → IsTrailStop t root (c - 1) stop → view_at t stop.node.0 ≡ Cat l r → stop.start < len_at t l.0 → IsTrailStop t root c (left_stop stop l (len_at t l.0))
   left_is_stop root c l r some is e before =
@@ -146,7 +146,7 @@ module _ (t : Table) (s : IsSound t) (h : HasTrueRecords t) (stop : Stop) where
   -- the stop behind the last one
   module _ (x : Span) (trail : Trail) (z : Stop) (last : IsLastStop t x trail stop) where
     pub right_behind : (l r : NodeId) (left : ℕ) → z ≡ right_stop stop r left → left ≡ len_at t l.0 → view_at t stop.node.0 ≡ Cat l r → left ≤ place_in stop x.start
-        → IsStopOf t x trail trail.count z × (Some (span_in x z) ≡ child_span t (span_in x stop) (view_at t stop.node.0))
+        → IsStopOf t x trail trail.count z × (Some (stop_span x z) ≡ child_span t (stop_span x stop) (view_at t stop.node.0))
     right_behind l r left found len e past =
         let behind : stop.from + (len_at t l.0 - stop.start) ≤ x.start = omega (arith, last.holds.behind, past, len) in
         rw (found, len) (
@@ -159,7 +159,7 @@ module _ (t : Table) (s : IsSound t) (h : HasTrueRecords t) (stop : Stop) where
         )
 
     pub left_behind : (l r : NodeId) (left : ℕ) → z ≡ left_stop stop l left → left ≡ len_at t l.0 → view_at t stop.node.0 ≡ Cat l r → place_in stop x.start + 1 ≤ left
-        → IsStopOf t x trail trail.count z × (Some (span_in x z) ≡ child_span t (span_in x stop) (view_at t stop.node.0))
+        → IsStopOf t x trail trail.count z × (Some (stop_span x z) ≡ child_span t (stop_span x stop) (view_at t stop.node.0))
     left_behind l r left found len e fits =
         let before : stop.start < len_at t l.0 = omega (arith, fits, len) in
         let ahead : x.start + 1 ≤ (left_stop stop l (len_at t l.0)).end = omega (arith, last.holds.behind, last.holds.before, fits, len) in
@@ -173,7 +173,7 @@ module _ (t : Table) (s : IsSound t) (h : HasTrueRecords t) (stop : Stop) where
         )
 
     pub base_behind : (b : NodeId) (j : ℕ) → z ≡ base_stop stop b j → view_at t stop.node.0 ≡ Sub b j
-        → IsStopOf t x trail trail.count z × (Some (span_in x z) ≡ child_span t (span_in x stop) (view_at t stop.node.0))
+        → IsStopOf t x trail trail.count z × (Some (stop_span x z) ≡ child_span t (stop_span x stop) (view_at t stop.node.0))
     base_behind b j found e =
         rw found (
           record {
@@ -201,5 +201,5 @@ found_stop t root stops count is i below p node start (Some z) found = record {
   at = found.at;
 }
 
-pub found_stands : (t : Table) (x y : Span) (stop : Stop) → IsSpan t x → IsFound t x.node.0 x.start y.node y.start stop → IsStandAt t x y (span_in x stop)
+pub found_stands : (t : Table) (x y : Span) (stop : Stop) → IsSpan t x → IsFound t x.node.0 x.start y.node y.start stop → IsStandAt t x y (stop_span x stop)
 found_stands t x y stop is found = record { stands = found.is_stop.1.stands x refl is found.holds; node = found.here; start = found.at }

@@ -18,8 +18,8 @@ abbrev pub place_in : Stop → ℕ → ℕ
 place_in stop p = stop.start + (p - stop.from)
 
 -- the bytes of a stop's node to which the first bytes of span x of its root lead
-abbrev pub span_in : Span → Stop → Span
-span_in x stop = record { node = stop.node; start = place_in stop x.start; len = min x.len (stop.end - x.start) }
+abbrev pub stop_span : Span → Stop → Span
+stop_span x stop = record { node = stop.node; start = place_in stop x.start; len = min x.len (stop.end - x.start) }
 
 -- the n bytes from p on lie in the stop
 pub record Holds (stop : Stop) (p n : ℕ) : Type 0 where
@@ -33,7 +33,7 @@ pub record IsTrailStop (t : Table) (root i : ℕ) (stop : Stop) : Type 0 where
   pub inside : stop.start + (stop.end - stop.from) ≤ len_at t stop.node.0
   pub within : stop.end ≤ len_at t root
   pub shallow : depth_at t stop.node.0 + i ≤ MOST_DEPTH
-  pub stands : (x : Span) → x.node.0 ≡ root → IsSpan t x → Holds stop x.start 1 → IsStand t x (span_in x stop)
+  pub stands : (x : Span) → x.node.0 ≡ root → IsSpan t x → Holds stop x.start 1 → IsStand t x (stop_span x stop)
 
 abbrev pub no_stop : Stop
 no_stop = record { node = record { 0 = 0 }; from = 0; end = 0; start = 0 }
@@ -116,8 +116,8 @@ pub record IsStopOf (t : Table) (x : Span) (way : Trail) (i : ℕ) (z : Stop) : 
 abbrev pub IsLastStop : Table → Span → Trail → Stop → Type 0
 IsLastStop t x trail stop = IsStopOf t x trail (trail.count - 1) stop
 
--- a step down leads to a stop that goes behind the last one
-abbrev pub GoesBehind : Table → Span → Trail → Descent Stop → Type 0
-GoesBehind t x trail (Below z) = IsStopOf t x trail trail.count z
-GoesBehind t x trail Leaf = Unit {0}
-GoesBehind t x trail Border = Unit {0}
+-- where a step down leads to a stop, that follows the last one
+abbrev pub FollowsLast : Table → Span → Trail → Descent Stop → Type 0
+FollowsLast t x trail (Below z) = IsStopOf t x trail trail.count z
+FollowsLast t x trail Leaf = Unit {0}
+FollowsLast t x trail Border = Unit {0}

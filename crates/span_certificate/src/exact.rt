@@ -12,10 +12,11 @@ ghost use Rattle.span_certificate.specs.declared.describe.Description.{Descripti
 use crate::content::{Content, content_of};
 use crate::descent::{leads_to, leaf_span};
 use crate::describe::{Description, describe};
+use crate::from_root::FromRoot;
 use crate::looks::{Count, CountedSpace};
 use crate::part::Part;
 use crate::walk::Span;
-use crate::way::{FromRoot, Way};
+use crate::way::Way;
 use rope_node::{CodedSpace, NodeId};
 use std::marker::Brand;
 use std::sync::ledger::{Blank, Ledger};

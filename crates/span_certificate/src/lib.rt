@@ -9,6 +9,7 @@ mod descent;
 mod describe;
 mod edit;
 mod exact;
+mod from_root;
 mod longest;
 mod looks;
 mod making;

@@ -14,6 +14,7 @@ ghost use Rattle.span_certificate.specs.Trails.{AreWays, IsWayOf};
 
 use crate::descent::leaf_span;
 use crate::exact::part_leads;
+use crate::from_root::FromRoot;
 use crate::looks::{Count, CountedSpace};
 use crate::part::Part;
 use crate::part_iter::PartIter;
@@ -22,7 +23,7 @@ use crate::row::{Row, RowKind};
 use crate::splices::Splices;
 use crate::trail::Trail;
 use crate::walk::{BYTES_LIMIT, Span};
-use crate::way::{FromRoot, Trails, Way, Ways, are_short};
+use crate::way::{Trails, Way, Ways, are_short};
 use rope_node::{CodedSpace, NodeId, NodeSpace, Rope, rope_len};
 use std::marker::Brand;
 use std::sync::ledger::{Blank, Ledger};

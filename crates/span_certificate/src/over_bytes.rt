@@ -13,6 +13,7 @@ ghost use Rattle.span_certificate.specs.Trails.{AreWays, IsWayOf};
 
 use crate::bytes::run_of;
 use crate::describe::Description;
+use crate::from_root::FromRoot;
 use crate::longest::nth;
 use crate::looks::{Count, CountedSpace};
 use crate::part::Part;
@@ -21,7 +22,7 @@ use crate::place::PartPlace;
 use crate::row::{Row, RowKind};
 use crate::splices::Splices;
 use crate::trail::Trail;
-use crate::way::{FromRoot, Trails, Way, Ways, are_short};
+use crate::way::{Trails, Way, Ways, are_short};
 use rope_node::{CodedSpace, NodeSpace, Rope, rope_len};
 use std::marker::Brand;
 use std::sync::ledger::{Blank, Ledger};

@@ -1,7 +1,7 @@
 //! A node on the way down to a place of a rope.
 
 ghost use Rattle.std.specs.Prelude.{◌≡◌, ◌+◌, ◌-◌, ◌<◌, ◌≤◌, ◌^◌, IfSome};
-ghost use Rattle.span_certificate.specs.Trails.{StandsAt, base_stop, left_stop, place_in, right_stop, span_in};
+ghost use Rattle.span_certificate.specs.Trails.{StandsAt, base_stop, left_stop, place_in, right_stop, stop_span};
 
 use crate::walk::Span;
 use rope_node::{MOST_DEPTH, NodeId};
@@ -43,7 +43,7 @@ impl Stop {
         requires behind { self.from ≤ x.start }
         requires ahead { x.start ≤ self.end }
         requires fits { place_in self x.start < 2 ^ 64 }
-        ensures { result ≡ span_in x self }
+        ensures { result ≡ stop_span x self }
     {
         Span {
             node: self.node,

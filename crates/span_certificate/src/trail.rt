@@ -6,7 +6,7 @@ ghost use Rattle.span_certificate.specs.declared.stop.TheConstants.{MOST_STOPS};
 use crate::looks::CountedSpace;
 use crate::stop::{MOST_STOPS, NO_STOP, Stop};
 use crate::walk::Span;
-use crate::way::Descent;
+use crate::way::{Descent, Way};
 use rope_node::{NodeId, NodeView};
 use std::sync::ledger::Ledger;
 
@@ -26,7 +26,7 @@ impl Trail {
     ghost use Rattle.rope_node.specs.Table.{Table, view_at, IsSound, HasTrueRecords};
     ghost use Rattle.span_certificate.specs.Descents.{GoesDownTo};
     ghost use Rattle.span_certificate.specs.Steps.{IsSpan};
-    ghost use Rattle.span_certificate.specs.Trails.{GoesBehind, Holds, IsFound, IsLastStop, IsStopOf, IsTrail, IsTrailOf, first_stop, span_in};
+    ghost use Rattle.span_certificate.specs.Trails.{FollowsLast, Holds, IsFound, IsLastStop, IsStopOf, IsTrail, IsTrailOf, first_stop, stop_span};
 
     /// A trail of no rope.
     pub fn new() -> Trail
@@ -102,9 +102,9 @@ impl Trail {
         requires last { IsLastStop (S.table space.now) x self.now stop }
         requires view { view ≡ view_at (S.table space.now) stop.node.0 }
         requires some { 1 ≤ least }
-        requires long { least ≤ (span_in x stop).len }
-        ensures goes { GoesDownTo (span_in x) (S.table space.now) (span_in x stop) view least result }
-        ensures behind { GoesBehind (S.table space.now) x self.now result }
+        requires long { least ≤ (stop_span x stop).len }
+        ensures goes { GoesDownTo (stop_span x) (S.table space.now) (stop_span x stop) view least result }
+        ensures behind { FollowsLast (S.table space.now) x self.now result }
     {
         match view {
             NodeView::Cat { l, r } => {
@@ -192,22 +192,78 @@ impl Trail {
         }
         self.stops[low].found(place, node, start)
     }
+}
 
-    /// No rope's any more.
+impl Way for Trail {
+    ghost use Rattle.span_certificate.specs.Trails.{IsTrail, IsLastStop, stop_span};
+
+    type Here = Stop;
+
+    ghost is_way = { IsTrail };
+
+    ghost is_at = { IsLastStop };
+
+    ghost lies = { stop_span };
+
     #[inline(always)]
-    pub fn clear(&mut self)
-        ensures { (t : Table) → IsTrail t self.new }
-    {
+    fn forget(&mut self) {
         self.count = 0;
     }
 
-    /// This trail, or no rope's where it is not to be kept.
     #[inline(always)]
-    pub fn keep_if(&mut self, kept: bool)
-        ensures { (t : Table) → IsTrail t self.old → IsTrail t self.new }
-    {
+    fn keep(&mut self, kept: bool) {
         if !kept {
             self.count = 0;
+        }
+    }
+
+    #[inline(always)]
+    fn begin<S: CountedSpace<L>, L: Ledger>(
+        &mut self,
+        space: &S,
+        x: Span,
+        len: u64,
+        low: u32,
+    ) -> Stop {
+        self.begin_at(space, x.node);
+        self.back_to(space, x, len, low)
+    }
+
+    #[inline(always)]
+    fn span<S: CountedSpace<L>, L: Ledger>(&self, space: &S, x: Span, here: Stop) -> Span {
+        here.span_of(x)
+    }
+
+    #[inline(always)]
+    fn step<S: CountedSpace<L>, L: Ledger>(
+        &mut self,
+        space: &S,
+        x: Span,
+        here: Stop,
+        view: NodeView,
+        least: u64,
+    ) -> Descent<Stop> {
+        match self.below(space, x, here, view, least) {
+            Descent::Below(stop) => {
+                self.push(space, x, stop);
+                Descent::Below(stop)
+            }
+            Descent::Leaf => Descent::Leaf,
+            Descent::Border => Descent::Border,
+        }
+    }
+
+    #[inline(always)]
+    fn find<S: CountedSpace<L>, L: Ledger>(
+        &self,
+        space: &S,
+        x: Span,
+        last: Stop,
+        other: Span,
+    ) -> Option<Span> {
+        match self.find_stop(space, x.node, x.start, other.node, other.start) {
+            Some(stop) => Some(stop.span_of(x)),
+            None => None,
         }
     }
 }

@@ -3,7 +3,7 @@ use Rattle.span_certificate.specs.declared.walk.Span.{Span}
 use Rattle.span_certificate.specs.Steps.{child_span}
 use Rattle.span_certificate.proofs.FirstLeaves.{span_in_left, span_in_right}
 use Rattle.span_certificate.proofs.Stands.{stand_goes}
-use Rattle.span_certificate.proofs.way.FromRootWay.step.Goals as goal
+use Rattle.span_certificate.proofs.from_root.FromRootWay.step.Goals as goal
 
 pub returns-then-left-here-clause-on : goal.returns-then-left-here-clause-on
 returns-then-left-here-clause-on g c =
