@@ -19,7 +19,8 @@ use Rattle.screen_editor.specs.Machine.{cut_out, cut_to, cutting, done, edited, 
 use Rattle.screen_editor.specs.State.{current, last_revision, prior_of}
 use Rattle.screen_editor.specs.Taking.{RevisesOrNot, CarriesOut}
 use Rattle.screen_editor.proofs.KeyPlans.{IsPlan, current_text_len, idle, long_kept, stays}
-use Rattle.screen_editor.proofs.NewTexts.{count_texts, length-replaced, text_len}
+use Rattle.screen_editor.proofs.NewTexts.{count_texts, text_len}
+use Rattle.text_lines.proofs.KnownLaws.{length-replaced}
 use Rattle.screen_editor.proofs.Revising.{lengths_more}
 
 -- ---- the last revision
@@ -139,16 +140,22 @@ undo_idle e is h none = idle Keys.Undo e is h (λ source. ap (λ (o : Option ℕ
 
 -- ---- the latest cut span put in
 
-first_is : (cs : List CutSpan) (c : CutSpan) → slice_get cs 0 ≡ Some c → cs ≡ c ∷ drop 1 cs
+pub first_is : (cs : List CutSpan) (c : CutSpan) → slice_get cs 0 ≡ Some c → cs ≡ c ∷ drop 1 cs
 first_is [] c e = absurd cc
 first_is (x ∷ xs) c e = let same : x ≡ c = cc in ap (λ (y : CutSpan). y ∷ xs) same
 
-none_is : (cs : List CutSpan) → slice_get cs 0 ≡ None → cs ≡ []
+pub none_is : (cs : List CutSpan) → slice_get cs 0 ≡ None → cs ≡ []
 none_is [] e = refl
 none_is (x ∷ xs) e = absurd cc
 
-abbrev put_in : (ℕ → ℕ → ℕ) → Editing → CutSpan → List ℕ
+abbrev pub put_in : (ℕ → ℕ → ℕ) → Editing → CutSpan → List ℕ
 put_in source e c = take c.len (drop c.start (get_or (texts_of source e.session) c.revision []))
+
+pub put_long : (e : Editing) (c : CutSpan) → HoldsHistory e.session → IsCutSpan e.session c → (source : ℕ → ℕ → ℕ) → length (put_in source e c) ≡ c.len
+put_long e c h span source =
+    let from = text_len e.session h source c.revision in
+    let within = span.inside in
+    omega (arith, from, within, length-take c.len (drop c.start (get_or (texts_of source e.session) c.revision [])), length-drop c.start (get_or (texts_of source e.session) c.revision []))
 
 paste_does : (e : Editing) (c : CutSpan) → slice_get e.cuts 0 ≡ Some c → (source : ℕ → ℕ → ℕ)
     → done Keys.Paste (state_of source e) ≡ revised (state_of source e) (replaced (last_text source e) e.place 0 (put_in source e c)) (Some (last_of e)) (e.place + c.len)
@@ -169,10 +176,8 @@ paste_too_long e c is h first span long = long_kept Keys.Paste e (Some (last_of 
     longer : (source : ℕ → ℕ → ℕ) → LONGEST_TEXT < length (replaced (last_text source e) e.place 0 (put_in source e c))
     longer source =
         let len = text_len e.session h source (last_of e) in
-        let from = text_len e.session h source c.revision in
         let inside = is.place in
-        let within = span.inside in
-        let put : length (put_in source e c) ≡ c.len = omega (arith, from, within, length-take c.len (drop c.start (get_or (texts_of source e.session) c.revision [])), length-drop c.start (get_or (texts_of source e.session) c.revision [])) in
+        let put = put_long e c h span source in
         let all = length-replaced (last_text source e) e.place 0 (put_in source e c) (omega (arith, len, inside)) in
         omega (arith, len, all, put, long)
 

@@ -1,7 +1,7 @@
 -- What is known of lines of the current text, behind a key.
-use Rattle.std.proofs.Common.{◌≡◌, ◌≢◌, ℕ, ◌+◌, ◌-◌, ◌<◌, ◌≤◌, true, false, List, [], ◌∷◌, ◌++◌, length, get_or, Option, Some, inl, inr, refl, sym, ap, subst, ◌∙◌, arith, nat_lt}
-use Rattle.std.specs.Prelude.{IsTrue, if◌then◌else◌}
-use Rattle.std.proofs.lemmas.Bool.{cases_lt, le-ltb, lt-ltb}
+use Rattle.std.proofs.Common.{◌≡◌, ◌≢◌, ℕ, ◌+◌, ◌-◌, ◌<◌, ◌≤◌, true, false, List, [], ◌∷◌, ◌++◌, length, get_or, Option, Some, inl, inr, None, refl, sym, ap, subst, ◌∙◌, arith, nat_lt}
+use Rattle.std.specs.Prelude.{IsTrue, slice_get, if◌then◌else◌}
+use Rattle.std.proofs.lemmas.Bool.{cases_lt, eq-eqb, le-ltb, lt-ltb}
 use Rattle.std.proofs.lemmas.List.{length-append}
 use Rattle.std.proofs.lemmas.List.Elements.{All-nil, All-same}
 use Rattle.std.proofs.Math.Seq.{get_or-append_seam}
@@ -15,22 +15,24 @@ use Rattle.cord_position.specs.Fetched.{IsStated, rope_cell}
 use Rattle.cord_search.specs.Stated.{OfText}
 use Rattle.span_certificate.specs.Commands.{replaced}
 use Rattle.edit_commands.specs.Session.{HoldsHistory, SessionValue}
+use Rattle.screen_editor.specs.declared.cut_span.CutSpan.{CutSpan}
 use Rattle.screen_editor.specs.declared.fault.KeyFault.{KeyFault}
 use Rattle.screen_editor.specs.declared.key.Key.{Key}
 use Rattle.screen_editor.specs.declared.key.Key.TheVariants.{Typed, EraseBefore, EraseAt, Left, Right, LineStart, LineEnd, Up, Down, Mark, Cut, Paste, DropCut, Undo, Balance, Save, Leave, Nothing}
 use Rattle.text_lines.specs.declared.known.KnownLine.{KnownLine}
 use Rattle.text_lines.specs.declared.known_lines.KnownLines.{KnownLines}
-use Rattle.screen_editor.specs.Editing.{Editing, EachCurrent, current_cell, current_len, current_root, state_of}
+use Rattle.screen_editor.specs.Editing.{Editing, EachCurrent, IsCutSpan, current_cell, current_len, current_root, state_of}
 use Rattle.screen_editor.specs.Keys.{looks_for_lines}
 use Rattle.text_lines.specs.KnownLines.{IsKnownIn, IsLineOf, known_lines}
 use Rattle.text_lines.specs.StatedCells.{IsToldByOthers}
 use Rattle.screen_editor.specs.KnownTexts.{IsKnownLine, StaysKnown}
 use Rattle.screen_editor.specs.LineKeys.{DoesStated}
-use Rattle.screen_editor.specs.Machine.{done, edited, revised}
+use Rattle.screen_editor.specs.Machine.{cut_to, done, edited, pasted, revised}
 use Rattle.screen_editor.specs.Revising.{KeepsAll}
 use Rattle.screen_editor.specs.State.{EditorState, current, last_revision}
 use Rattle.screen_editor.proofs.KeyPlans.{current_text_len}
-use Rattle.text_lines.proofs.KnownLaws.{before_erased, before_typed, behind_erased, behind_typed}
+use Rattle.screen_editor.proofs.KeySteps.{first_is, put_in, put_long}
+use Rattle.text_lines.proofs.KnownLaws.{before_erased, before_replaced, behind_erased, behind_replaced}
 use Rattle.screen_editor.proofs.LineTurns.{current_text}
 use Rattle.screen_editor.proofs.StatedTexts.{Becomes, stated_before}
 use Rattle.screen_editor.proofs.ToldKeys.{kept_texts}
@@ -38,46 +40,49 @@ use Rattle.screen_editor.proofs.ToldKeys.{kept_texts}
 -- ---- a text that became another
 
 -- where all cells of the text that it became are stated, so are its own, and what is known of it is known of that
-known_of : (st : Stated) (old new : Editing) (f : List ℕ → List ℕ) (known later : KnownLines) → HoldsHistory old.session → Becomes st old new f
+known_of : (st : Stated) (old new : Editing) (f : (ℕ → ℕ → ℕ) → List ℕ → List ℕ) (known later : KnownLines) → HoldsHistory old.session → Becomes st old new f
     → ((source : ℕ → ℕ → ℕ) → Agrees st source → EachCurrent new (IsStated st) → EachCurrent old (IsStated st))
-    → ((t : List ℕ) → length t ≡ current_len old → IsKnownIn known t → IsKnownIn later (f t))
+    → ((source : ℕ → ℕ → ℕ) (t : List ℕ) → length t ≡ current_len old → IsKnownIn known t → IsKnownIn later (f source t))
     → IsKnownLine st old known → IsKnownLine st new later
 known_of st old new f known later h becomes each more is source agrees stated =
     let before : IsKnownIn known (current (state_of source old)) = subst (IsKnownIn known) (sym (current_text source old)) (is source agrees (each source agrees stated)) in
-    subst (IsKnownIn later) (sym (becomes source agrees) ∙ current_text source new) (more (current (state_of source old)) (current_text_len old h source) before)
+    subst (IsKnownIn later) (sym (becomes source agrees) ∙ current_text source new) (more source (current (state_of source old)) (current_text_len old h source) before)
 
 -- the same text
-known_kept : (st : Stated) (old new : Editing) (known : KnownLines) → HoldsHistory old.session → HoldsHistory new.session → Becomes st old new (λ t. t) → IsKnownLine st old known → IsKnownLine st new known
+known_kept : (st : Stated) (old new : Editing) (known : KnownLines) → HoldsHistory old.session → HoldsHistory new.session → Becomes st old new (λ source t. t) → IsKnownLine st old known → IsKnownLine st new known
 known_kept st old new known h hn becomes is =
-    known_of st old new (λ t. t) known known h becomes
-    (λ source agrees stated k _ lt. stated_before st old new (λ t. t) h hn becomes source agrees stated k k lt (λ t _. refl))
-    (λ t _ known. known) is
+    known_of st old new (λ source t. t) known known h becomes
+    (λ source agrees stated k _ lt. stated_before st old new (λ source t. t) h hn becomes source agrees stated k k lt (λ source t _. refl))
+    (λ source t _ known. known) is
 
--- a byte more
-known_typed : (st : Stated) (old new : Editing) (p b : ℕ) (known later : KnownLines) → HoldsHistory old.session → HoldsHistory new.session → p ≤ current_len old
-    → Becomes st old new (λ t. replaced t p 0 (b ∷ [])) → ((t : List ℕ) → p ≤ length t → IsKnownIn known t → IsKnownIn later (replaced t p 0 (b ∷ [])))
+-- so many bytes more
+known_put : (st : Stated) (old new : Editing) (p n : ℕ) (x : (ℕ → ℕ → ℕ) → List ℕ) (known later : KnownLines) → HoldsHistory old.session → HoldsHistory new.session → p ≤ current_len old
+    → ((source : ℕ → ℕ → ℕ) → length (x source) ≡ n) → Becomes st old new (λ source t. replaced t p 0 (x source))
+    → ((source : ℕ → ℕ → ℕ) (t : List ℕ) → p ≤ length t → IsKnownIn known t → IsKnownIn later (replaced t p 0 (x source)))
     → IsKnownLine st old known → IsKnownLine st new later
-known_typed st old new p b known later h hn inside becomes law is =
-    let f = λ (t : List ℕ). replaced t p 0 (b ∷ []) in
+known_put st old new p n x known later h hn inside width becomes law is =
+    let f = λ (source : ℕ → ℕ → ℕ) (t : List ℕ). replaced t p 0 (x source) in
     known_of st old new f known later h becomes
     (λ source agrees stated k _ lt. elim (cases_lt k p) [
-      | inl before ↦ stated_before st old new f h hn becomes source agrees stated k k lt (λ t long. before_typed t p b k (omega (arith, inside, long)) before)
-      | inr behind ↦ stated_before st old new f h hn becomes source agrees stated k (k + 1) lt (λ t long. behind_typed t p b (k + 1) k (omega (arith, inside, long)) behind refl)
+      | inl before ↦ stated_before st old new f h hn becomes source agrees stated k k lt (λ other t long. before_replaced t p 0 (x other) k (omega (arith, inside, long)) before)
+      | inr behind ↦
+          stated_before st old new f h hn becomes source agrees stated k (k + n) lt
+          (λ other t long. behind_replaced t p 0 (x other) (k + n) k (omega (arith, inside, long)) (omega (arith, width other, behind)) (omega (arith, width other)))
     ])
-    (λ t long known. law t (omega (arith, inside, long)) known) is
+    (λ source t long known. law source t (omega (arith, inside, long)) known) is
 
 -- a byte less, whose cell is stated where all others are
 known_erased : (st : Stated) (old new : Editing) (p : ℕ) (known later : KnownLines) → HoldsHistory old.session → HoldsHistory new.session → p < current_len old
     → IsToldByOthers (current_cell old) (current_len old) p
-    → Becomes st old new (λ t. replaced t p 1 []) → ((t : List ℕ) → p < length t → IsKnownIn known t → IsKnownIn later (replaced t p 1 []))
+    → Becomes st old new (λ source t. replaced t p 1 []) → ((t : List ℕ) → p < length t → IsKnownIn known t → IsKnownIn later (replaced t p 1 []))
     → IsKnownLine st old known → IsKnownLine st new later
 known_erased st old new p known later h hn inside told becomes law is =
-    let f = λ (t : List ℕ). replaced t p 1 [] in
+    let f = λ (source : ℕ → ℕ → ℕ) (t : List ℕ). replaced t p 1 [] in
     known_of st old new f known later h becomes
     (λ source agrees stated.
     let others : (k : ℕ) → k < current_len old → k ≢ p → IsStated st (current_cell old k) = λ k lt ne. elim (cases_lt k p) [
-      | inl before ↦ stated_before st old new f h hn becomes source agrees stated k k lt (λ t long. before_erased t p k (omega (arith, inside, long)) before)
-      | inr behind ↦ stated_before st old new f h hn becomes source agrees stated k (k - 1) lt (λ t long. behind_erased t p (k - 1) k (omega (arith, inside, long)) (omega (arith, behind, ne)) (omega (arith, behind, ne)))
+      | inl before ↦ stated_before st old new f h hn becomes source agrees stated k k lt (λ other t long. before_erased t p k (omega (arith, inside, long)) before)
+      | inr behind ↦ stated_before st old new f h hn becomes source agrees stated k (k - 1) lt (λ other t long. behind_erased t p (k - 1) k (omega (arith, inside, long)) (omega (arith, behind, ne)) (omega (arith, behind, ne)))
     ] in
     λ k _ lt. elim (cases_lt k p) [
       | inl before ↦ others k lt (λ e. absurd (omega (arith, before, e)))
@@ -88,7 +93,7 @@ known_erased st old new p known later h hn inside told becomes law is =
             subst (λ (i : ℕ). IsStated st (current_cell old i)) here (told st others)
       ]
     ])
-    (λ t long known. law t (omega (arith, inside, long)) known) is
+    (λ source t long known. law t (omega (arith, inside, long)) known) is
 
 -- ---- what keys make of the text
 
@@ -101,8 +106,8 @@ revised_text s t prior q =
 plain_does : (st : Stated) (key : Key) (old new : Editing) → looks_for_lines key ≡ false → DoesStated st key old new → (source : ℕ → ℕ → ℕ) → Agrees st source → state_of source new ≡ done key (state_of source old)
 plain_does st key old new plain does source agrees = does source agrees (λ looks. absurd (let same : true ≡ false = sym looks ∙ plain in cc))
 
-becomes_as : (st : Stated) (key : Key) (old new : Editing) (f : List ℕ → List ℕ) → looks_for_lines key ≡ false → DoesStated st key old new
-    → ((source : ℕ → ℕ → ℕ) → current (done key (state_of source old)) ≡ f (current (state_of source old))) → Becomes st old new f
+becomes_as : (st : Stated) (key : Key) (old new : Editing) (f : (ℕ → ℕ → ℕ) → List ℕ → List ℕ) → looks_for_lines key ≡ false → DoesStated st key old new
+    → ((source : ℕ → ℕ → ℕ) → current (done key (state_of source old)) ≡ f source (current (state_of source old))) → Becomes st old new f
 becomes_as st key old new f plain does is source agrees = ap current (plain_does st key old new plain does source agrees) ∙ is source
 
 chosen : {A : Type 0} (x y : A) (i j : ℕ) → i < j → (if nat_lt i j then x else y) ≡ x
@@ -116,6 +121,9 @@ not_chosen x y i j le = rw (le-ltb i j le) refl
 -- lines of a text with a byte more at this place, and with a byte less
 abbrev pub TypedLines : ℕ → ℕ → KnownLines → KnownLines → Type 0
 TypedLines p b known later = (t : List ℕ) → p ≤ length t → IsKnownIn known t → IsKnownIn later (replaced t p 0 (b ∷ []))
+
+abbrev pub PastedLines : ℕ → ℕ → KnownLines → KnownLines → Type 0
+PastedLines p n known later = (t bytes : List ℕ) → p ≤ length t → length bytes ≡ n → IsKnownIn known t → IsKnownIn later (replaced t p 0 bytes)
 
 abbrev pub ErasedLines : ℕ → KnownLines → KnownLines → Type 0
 ErasedLines p known later = (t : List ℕ) → p < length t → IsKnownIn known t → IsKnownIn later (replaced t p 1 [])
@@ -133,15 +141,25 @@ stays_told key old known later Told (x ∷ xs) is told stays = stays (told (omeg
 
 pub stays_typed : (old : Editing) (p b : ℕ) (known later : KnownLines) → HoldsHistory old.session → p ≡ old.place → p ≤ current_len old → TypedLines p b known later → StaysKnown (Typed b) old known later
 stays_typed old p b known later h at inside law before now new takes hn is =
-    known_typed before.stated old new old.place b known later h hn (subst (λ (q : ℕ). q ≤ current_len old) at inside)
-    (becomes_as before.stated (Typed b) old new (λ t. replaced t old.place 0 (b ∷ [])) refl takes.done (λ source. revised_text (state_of source old) (replaced (current (state_of source old)) old.place 0 (b ∷ [])) (Some (last_revision (state_of source old))) (old.place + 1)))
-    (subst (λ (q : ℕ). TypedLines q b known later) at law) is
+    known_put before.stated old new old.place 1 (λ source. b ∷ []) known later h hn (subst (λ (q : ℕ). q ≤ current_len old) at inside) (λ source. refl)
+    (becomes_as before.stated (Typed b) old new (λ source t. replaced t old.place 0 (b ∷ [])) refl takes.done (λ source. revised_text (state_of source old) (replaced (current (state_of source old)) old.place 0 (b ∷ [])) (Some (last_revision (state_of source old))) (old.place + 1)))
+    (λ source. subst (λ (q : ℕ). TypedLines q b known later) at law) is
+
+pub stays_pasted : (old : Editing) (p : ℕ) (c : CutSpan) (known later : KnownLines) → HoldsHistory old.session → slice_get old.cuts 0 ≡ Some c → IsCutSpan old.session c → p ≡ old.place → p ≤ current_len old → PastedLines p c.len known later
+    → StaysKnown Paste old known later
+stays_pasted old p c known later h first span at inside law before now new takes hn is =
+    let width = put_long old c h span in
+    known_put before.stated old new old.place c.len (λ source. put_in source old c) known later h hn (subst (λ (q : ℕ). q ≤ current_len old) at inside) width
+    (becomes_as before.stated Paste old new (λ source t. replaced t old.place 0 (put_in source old c)) refl takes.done
+    (λ source. ap (λ (cs : List CutSpan). current (pasted cs (state_of source old))) (first_is old.cuts c first)
+    ∙ revised_text (state_of source old) (replaced (current (state_of source old)) old.place 0 (put_in source old c)) (Some (last_revision (state_of source old))) (old.place + c.len)))
+    (λ source t within lines. subst (λ (q : ℕ). PastedLines q c.len known later) at law t (put_in source old c) within (width source) lines) is
 
 erased_before : (old : Editing) (known later : KnownLines) → HoldsHistory old.session → 0 < old.place → old.place ≤ current_len old → ToldAt old (old.place - 1) → ErasedLines (old.place - 1) known later → StaysKnown EraseBefore old known later
 erased_before old known later h some inside told law before now new takes hn is =
     let p = old.place - 1 in
     known_erased before.stated old new p known later h hn (omega (arith, some, inside)) told
-    (becomes_as before.stated EraseBefore old new (λ t. replaced t p 1 []) refl takes.done
+    (becomes_as before.stated EraseBefore old new (λ source t. replaced t p 1 []) refl takes.done
     (λ source. ap current (chosen (edited (state_of source old) p 1 [] p) (state_of source old) 0 old.place some) ∙ revised_text (state_of source old) (replaced (current (state_of source old)) p 1 []) (Some (last_revision (state_of source old))) p)) law is
 
 pub stays_erased_before : (old : Editing) (p : ℕ) (known later : KnownLines) → HoldsHistory old.session → p ≡ old.place → 0 < p → p ≤ current_len old → (0 < length (known_lines later) → ToldAt old (p - 1)) → ErasedLines (p - 1) known later
@@ -154,7 +172,7 @@ erased_at : (old : Editing) (known later : KnownLines) → HoldsHistory old.sess
 erased_at old known later h inside told law before now new takes hn is =
     let p = old.place in
     known_erased before.stated old new p known later h hn inside told
-    (becomes_as before.stated EraseAt old new (λ t. replaced t p 1 []) refl takes.done
+    (becomes_as before.stated EraseAt old new (λ source t. replaced t p 1 []) refl takes.done
     (λ source. ap current (chosen (edited (state_of source old) p 1 [] p) (state_of source old) p (length (current (state_of source old))) (omega (arith, inside, current_text_len old h source))) ∙ revised_text (state_of source old) (replaced (current (state_of source old)) p 1 []) (Some (last_revision (state_of source old))) p)) law is
 
 pub stays_erased_at : (old : Editing) (p : ℕ) (known later : KnownLines) → HoldsHistory old.session → p ≡ old.place → p < current_len old → (0 < length (known_lines later) → ToldAt old p) → ErasedLines p known later
@@ -166,13 +184,23 @@ stays_erased_at old p known later h at inside told law =
 -- a key that leaves the text as it is
 stays_same : (key : Key) (old : Editing) (known : KnownLines) → HoldsHistory old.session → looks_for_lines key ≡ false → ((source : ℕ → ℕ → ℕ) → current (done key (state_of source old)) ≡ current (state_of source old))
     → StaysKnown key old known known
-stays_same key old known h plain same before now new takes hn is = known_kept before.stated old new known h hn (becomes_as before.stated key old new (λ t. t) plain takes.done same) is
+stays_same key old known h plain same before now new takes hn is = known_kept before.stated old new known h hn (becomes_as before.stated key old new (λ source t. t) plain takes.done same) is
 
 pub stays_at_start : (old : Editing) (known : KnownLines) → HoldsHistory old.session → old.place ≡ 0 → StaysKnown EraseBefore old known known
 stays_at_start old known h none = stays_same EraseBefore old known h refl (λ source. ap current (not_chosen (edited (state_of source old) (old.place - 1) 1 [] (old.place - 1)) (state_of source old) 0 old.place (omega (arith, none))))
 
 pub stays_at_end : (old : Editing) (known : KnownLines) → HoldsHistory old.session → current_len old ≤ old.place → StaysKnown EraseAt old known known
 stays_at_end old known h past = stays_same EraseAt old known h refl (λ source. ap current (not_chosen (edited (state_of source old) old.place 1 [] old.place) (state_of source old) old.place (length (current (state_of source old))) (omega (arith, past, current_text_len old h source))))
+
+pub stays_none_cut : (old : Editing) (known : KnownLines) → HoldsHistory old.session → old.cuts ≡ [] → StaysKnown Paste old known known
+stays_none_cut old known h none = stays_same Paste old known h refl (λ source. ap (λ (cs : List CutSpan). current (pasted cs (state_of source old))) none)
+
+pub stays_unmarked : (old : Editing) (known : KnownLines) → HoldsHistory old.session → ((m : ℕ) → old.mark ≡ Some m → m ≡ old.place) → StaysKnown Cut old known known
+stays_unmarked old known h here = stays_same Cut old known h refl (λ source. cut_none source old.mark here)
+  where
+    cut_none : (source : ℕ → ℕ → ℕ) (mark : Option ℕ) → ((m : ℕ) → mark ≡ Some m → m ≡ old.place) → current (cut_to mark (state_of source old)) ≡ current (state_of source old)
+    cut_none source None here = refl
+    cut_none source (Some m) here = rw (eq-eqb m old.place (here m refl)) refl
 
 -- the place alone
 stays_moved : (key : Key) (old : Editing) (known : KnownLines) → IsTrue (looks_for_lines key) → StaysKnown key old known known

@@ -1,8 +1,8 @@
 -- The text that a key's command gives, and that of the revision that it makes.
-use Rattle.std.proofs.Common.{◌≡◌, ℕ, ◌+◌, ◌-◌, ◌≤◌, ◌^◌, List, [], ◌∷◌, ◌++◌, length, take, drop, get_or, map, Option, Some, None, Bool, true, false, refl, sym, ap, subst, arith, ◌∙◌, nat_le, nat_lt}
+use Rattle.std.proofs.Common.{◌≡◌, ℕ, ◌+◌, ◌-◌, ◌^◌, List, [], ◌∷◌, ◌++◌, length, take, drop, get_or, map, Option, Some, None, Bool, true, false, refl, sym, ap, subst, arith, ◌∙◌, nat_le, nat_lt}
 use Rattle.std.specs.Prelude.{slice_get, if◌then◌else◌}
 use Rattle.std.specs.Option.{option_map}
-use Rattle.std.proofs.lemmas.List.{length-append, length-map, length-take, length-drop, map-append, map-id}
+use Rattle.std.proofs.lemmas.List.{length-map, length-take, length-drop, map-append, map-id}
 use Rattle.std.proofs.Math.ListN.{get_or-map}
 use Rattle.std.proofs.lemmas.Simd.{map-map}
 use Rattle.std.proofs.lemmas.Option.{same_Some, get_or_from_slice_get}
@@ -22,6 +22,7 @@ use Rattle.edit_commands.specs.Building.{StandEach, edit_with, splices_with}
 use Rattle.edit_commands.specs.Refusals.{result_len}
 use Rattle.edit_commands.specs.Terms.{handed, terms_of}
 use Rattle.edit_commands.specs.Session.{SessionValue, HoldsHistory, splices_held, cells_of, command_of, length_at, roots_of, session_table, texts_of}
+use Rattle.text_lines.proofs.KnownLaws.{length-replaced}
 use Rattle.screen_editor.specs.Recorded.{IsPlain, edit_at, edits_of}
 use Rattle.screen_editor.specs.Taking.{IsInOrder}
 
@@ -98,9 +99,6 @@ text_len v h source k =
 
 pub count_texts : (v : SessionValue) (source : ℕ → ℕ → ℕ) → length (texts_of source v) ≡ length v.revisions
 count_texts v source = length-map (cells_of v) (text source) ∙ length-map (roots_of v.revisions) (rope_cells (session_table v)) ∙ length-map v.revisions (λ (r : Revision). r.root)
-
-pub length-replaced : (t : List ℕ) (p m : ℕ) (x : List ℕ) → p + m ≤ length t → length (replaced t p m x) ≡ (length t - m) + length x
-length-replaced t p m x fits = omega (arith, fits, length-append (take p t ++ x) (drop (p + m) t), length-append (take p t) x, length-take p t, length-drop (p + m) t)
 
 pub given_len : (v : SessionValue) → HoldsHistory v → (source : ℕ → ℕ → ℕ) (command : Command) → IsInOrder v command → length (text_given (texts_of source v) command) ≡ result_len v command
 given_len v h source New o = absurd o

@@ -72,17 +72,17 @@ bytes_alike st source e h each k =
 -- ---- a text that became another
 
 -- the current text became f of it, whatever bytes the sources have that agree with what they state
-abbrev pub Becomes : Stated → Editing → Editing → (List ℕ → List ℕ) → Type 0
-Becomes st old new f = (source : ℕ → ℕ → ℕ) → Agrees st source → current (state_of source new) ≡ f (current (state_of source old))
+abbrev pub Becomes : Stated → Editing → Editing → ((ℕ → ℕ → ℕ) → List ℕ → List ℕ) → Type 0
+Becomes st old new f = (source : ℕ → ℕ → ℕ) → Agrees st source → current (state_of source new) ≡ f source (current (state_of source old))
 
 -- a byte of it stands in the other: then its cell is stated, where all those of the other are
-pub stated_before : (st : Stated) (old new : Editing) (f : List ℕ → List ℕ) → HoldsHistory old.session → HoldsHistory new.session → Becomes st old new f
+pub stated_before : (st : Stated) (old new : Editing) (f : (ℕ → ℕ → ℕ) → List ℕ → List ℕ) → HoldsHistory old.session → HoldsHistory new.session → Becomes st old new f
     → (source : ℕ → ℕ → ℕ) → Agrees st source → EachCurrent new (IsStated st) → (k j : ℕ) → k < current_len old
-    → ((t : List ℕ) → length t ≡ current_len old → get_or (f t) j 0 ≡ get_or t k 0) → IsStated st (current_cell old k)
+    → ((source : ℕ → ℕ → ℕ) (t : List ℕ) → length t ≡ current_len old → get_or (f source t) j 0 ≡ get_or t k 0) → IsStated st (current_cell old k)
 stated_before st old new f h hn becomes source agrees each k j lt kept =
     let more = other st source in
-    let here = kept (current (state_of source old)) (current_text_len old h source) in
-    let there = kept (current (state_of more old)) (current_text_len old h more) in
+    let here = kept source (current (state_of source old)) (current_text_len old h source) in
+    let there = kept more (current (state_of more old)) (current_text_len old h more) in
     let same : get_or (current (state_of source old)) k 0 ≡ get_or (current (state_of more old)) k 0 =
     sym here ∙ ap (λ (t : List ℕ). get_or t j 0) (sym (becomes source agrees)) ∙ bytes_alike st source new hn each j ∙ ap (λ (t : List ℕ). get_or t j 0) (becomes more (other_agrees st source agrees)) ∙ there in
     alike_stated st source (current_cell old k) (sym (byte_is source old h k lt) ∙ same ∙ byte_is more old h k lt)

@@ -1,5 +1,6 @@
 //! The long lines that are known, behind a key.
 
+ghost use Rattle.screen_editor.specs.declared.key.Key.TheVariants as Keys;
 ghost use Rattle.std.specs.Prelude.{◌<◌, ◌∷◌, [], ℕ, List, length};
 ghost use Rattle.span_certificate.specs.Commands.{replaced};
 ghost use Rattle.text_lines.specs.KnownLines.{IsKnownIn, known_lines};
@@ -29,6 +30,32 @@ fn known_without(workspace: &Workspace, known: &KnownLines, place: u64) -> Known
     }
 }
 
+/// The lines behind a cut. They stay where there is nothing to cut.
+fn known_cut(workspace: &Workspace, known: &KnownLines) -> KnownLines
+    ensures { StaysKnown Keys.Cut workspace.now known.now result }
+{
+    // The workspace keeps its rules, as its last revision says.
+    let _last = workspace.last();
+    let place = workspace.place();
+    match workspace.mark() {
+        Some(mark) if mark != place => KnownLines::none(),
+        _ => *known,
+    }
+}
+
+/// The lines behind the latest cut span that is put in at the place.
+fn known_pasted(workspace: &Workspace, known: &KnownLines) -> KnownLines
+    ensures { StaysKnown Keys.Paste workspace.now known.now result }
+{
+    // The workspace keeps its rules, as its last revision says.
+    let _last = workspace.last();
+    let place = workspace.place();
+    match workspace.latest_cut() {
+        Some(span) => known.pasted(place, span.len),
+        None => *known,
+    }
+}
+
 /// What is known of the current text behind a key that is taken, where this was known before it.
 pub fn known_after(workspace: &Workspace, known: &KnownLines, key: Key) -> KnownLines
     ensures { StaysKnown key workspace.now known.now result }
@@ -50,7 +77,9 @@ pub fn known_after(workspace: &Workspace, known: &KnownLines, key: Key) -> Known
             }
             known_without(workspace, known, place)
         }
-        Key::Cut | Key::Paste | Key::Undo => KnownLines::none(),
+        Key::Cut => known_cut(workspace, known),
+        Key::Paste => known_pasted(workspace, known),
+        Key::Undo => KnownLines::none(),
         _ => *known,
     }
 }

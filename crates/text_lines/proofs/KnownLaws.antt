@@ -1,7 +1,7 @@
 -- A line of a text, and what it is where a byte is put into the text or goes out of it.
-use Rattle.std.proofs.Common.{◌≡◌, ℕ, ◌+◌, ◌-◌, ◌<◌, ◌≤◌, true, not, List, [], ◌∷◌, ◌++◌, length, take, drop, get_or, sym, ap, ◌∙◌, arith}
+use Rattle.std.proofs.Common.{◌≡◌, ℕ, ◌+◌, ◌-◌, ◌<◌, ◌≤◌, true, not, List, [], ◌++◌, length, take, drop, get_or, sym, ap, ◌∙◌, arith}
 use Rattle.std.specs.List.{position_or_len}
-use Rattle.std.proofs.lemmas.List.{get_or-append_right, get_or-drop, get_or-take, get_or_append_left, length-append, length-drop, length-take-le}
+use Rattle.std.proofs.lemmas.List.{get_or-append_right, get_or-drop, get_or-take, get_or_append_left, length-append, length-drop, length-take, length-take-le}
 use Rattle.std.proofs.lemmas.List.Elements.{All-contains}
 use Rattle.std.proofs.lemmas.List.Sums.{fails_before_first, passes_at_first, position_or_len_is, prefix_len-le-length, suffix_len_is}
 use Rattle.span_certificate.specs.Commands.{replaced}
@@ -62,14 +62,17 @@ next_begins t s e is lt some =
 
 -- ---- the bytes of a text of which some were replaced
 
-before_replaced : (t : List ℕ) (p m : ℕ) (x : List ℕ) (k : ℕ) → p ≤ length t → k < p → get_or (replaced t p m x) k 0 ≡ get_or t k 0
+pub length-replaced : (t : List ℕ) (p m : ℕ) (x : List ℕ) → p + m ≤ length t → length (replaced t p m x) ≡ (length t - m) + length x
+length-replaced t p m x fits = omega (arith, fits, length-append (take p t ++ x) (drop (p + m) t), length-append (take p t) x, length-take p t, length-drop (p + m) t)
+
+pub before_replaced : (t : List ℕ) (p m : ℕ) (x : List ℕ) (k : ℕ) → p ≤ length t → k < p → get_or (replaced t p m x) k 0 ≡ get_or t k 0
 before_replaced t p m x k inside lt =
     let front = length-take-le p t inside in
     get_or_append_left (take p t ++ x) (drop (p + m) t) 0 k (omega (arith, front, lt, length-append (take p t) x))
     ∙ get_or_append_left (take p t) x 0 k (omega (arith, front, lt))
     ∙ get_or-take p t k 0 lt
 
-behind_replaced : (t : List ℕ) (p m : ℕ) (x : List ℕ) (k j : ℕ) → p ≤ length t → p + length x ≤ k → j + (p + length x) ≡ k + (p + m) → get_or (replaced t p m x) k 0 ≡ get_or t j 0
+pub behind_replaced : (t : List ℕ) (p m : ℕ) (x : List ℕ) (k j : ℕ) → p ≤ length t → p + length x ≤ k → j + (p + length x) ≡ k + (p + m) → get_or (replaced t p m x) k 0 ≡ get_or t j 0
 behind_replaced t p m x k j inside from at =
     let front = length-take-le p t inside in
     let n = p + length x in
@@ -77,13 +80,6 @@ behind_replaced t p m x k j inside from at =
     get_or-append_right (take p t ++ x) (drop (p + m) t) n k 0 (omega (arith, front, length-append (take p t) x)) from
     ∙ get_or-drop (p + m) t (k - n) 0
     ∙ ap (λ i. get_or t i 0) place
-
--- a byte that was put in
-pub before_typed : (t : List ℕ) (p b k : ℕ) → p ≤ length t → k < p → get_or (replaced t p 0 (b ∷ [])) k 0 ≡ get_or t k 0
-before_typed t p b k inside lt = before_replaced t p 0 (b ∷ []) k inside lt
-
-pub behind_typed : (t : List ℕ) (p b k j : ℕ) → p ≤ length t → p ≤ j → k ≡ j + 1 → get_or (replaced t p 0 (b ∷ [])) k 0 ≡ get_or t j 0
-behind_typed t p b k j inside from at = behind_replaced t p 0 (b ∷ []) k j inside (omega (arith, from, at)) (omega (arith, at))
 
 -- a byte that went out
 pub before_erased : (t : List ℕ) (p k : ℕ) → p < length t → k < p → get_or (replaced t p 1 []) k 0 ≡ get_or t k 0

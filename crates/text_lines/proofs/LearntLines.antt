@@ -1,9 +1,9 @@
 -- Lines that are known, and one that is learnt beside them.
-use Rattle.std.proofs.Common.{◌≡◌, ℕ, ◌+◌, ◌<◌, ◌≤◌, Bool, true, false, List, [], ◌∷◌, ◌++◌, All, length, take, get_or, cond, inl, inr, refl, sym, ap, ◌∙◌, arith}
+use Rattle.std.proofs.Common.{◌≡◌, ℕ, ◌+◌, ◌<◌, ◌≤◌, Bool, true, false, List, [], ◌∷◌, ◌++◌, All, length, take, get_or, cond, inl, inr, sym, ap, ◌∙◌, arith}
 use Rattle.std.specs.List.{filter}
 use Rattle.std.proofs.lemmas.Bool.{cases_lt}
 use Rattle.std.proofs.lemmas.List.{append-nil, length-append, length-take, take_all, take-append-le}
-use Rattle.std.proofs.lemmas.List.Elements.{All-cons, All-filter, All-get_or, All-nil, All-push, All-take, filter_more}
+use Rattle.std.proofs.lemmas.List.Elements.{All-cons, All-filter, All-get_or, All-push, All-take, filter_more}
 use Rattle.text_lines.specs.declared.known.KnownLine.{KnownLine}
 use Rattle.text_lines.specs.declared.known_lines.TheConstants.{MOST_LINES}
 use Rattle.text_lines.specs.KnownLines.{IsLineOf, learnt, stays_beside}
@@ -53,25 +53,22 @@ learnt_past line known k d lt stays full =
 -- ---- the lines behind a change of the text, one after the other
 
 -- of so many lines of a text these came out as lines of what the text became, and all of them where each stays
-pub record CameOut (Before : List ℕ → Type 0) (after : List ℕ → List ℕ) (Stays : KnownLine → Type 0) (known : List KnownLine) (k : ℕ) (later : List KnownLine) : Type 0 where
+pub record CameOut {X : Type 0} (Before : X → Type 0) (from after : X → List ℕ) (Stays : KnownLine → Type 0) (known : List KnownLine) (k : ℕ) (later : List KnownLine) : Type 0 where
   pub few : length later ≤ k
-  pub lines : (t : List ℕ) → Before t → All (IsLineOf t) known → All (IsLineOf (after t)) later
+  pub lines : (x : X) → Before x → All (IsLineOf (from x)) known → All (IsLineOf (after x)) later
   pub kept : All Stays known → length later ≡ k
 
-module _ (Before : List ℕ → Type 0) (after : List ℕ → List ℕ) (Stays : KnownLine → Type 0) (known : List KnownLine) where
-  pub none_out : CameOut Before after Stays known 0 []
-  none_out = record { few = omega arith; lines = λ t before all. All-nil (IsLineOf (after t)); kept = λ all. refl }
-
-  pub one_out : (k : ℕ) (later : List KnownLine) (d x : KnownLine) → k < length known → ((t : List ℕ) → Before t → IsLineOf t (get_or known k d) → IsLineOf (after t) x)
-      → CameOut Before after Stays known k later → CameOut Before after Stays known (k + 1) (later ++ x ∷ [])
-  one_out k later d x lt law out =
-      let long = length-append later (x ∷ []) in
+module _ {X : Type 0} (Before : X → Type 0) (from after : X → List ℕ) (Stays : KnownLine → Type 0) (known : List KnownLine) where
+  pub one_out : (k : ℕ) (later : List KnownLine) (d line : KnownLine) → k < length known → ((x : X) → Before x → IsLineOf (from x) (get_or known k d) → IsLineOf (after x) line)
+      → CameOut Before from after Stays known k later → CameOut Before from after Stays known (k + 1) (later ++ line ∷ [])
+  one_out k later d line lt law out =
+      let long = length-append later (line ∷ []) in
       record {
         few = omega (arith, long, out.few);
-        lines = λ t before all. All-push (IsLineOf (after t)) later x (out.lines t before all) (law t before (All-get_or (IsLineOf t) known k d lt all));
+        lines = λ x before all. All-push (IsLineOf (after x)) later line (out.lines x before all) (law x before (All-get_or (IsLineOf (from x)) known k d lt all));
         kept = λ all. omega (arith, long, out.kept all);
       }
 
   pub one_lost : (k : ℕ) (later : List KnownLine) (d : KnownLine) → k < length known → (Stays (get_or known k d) → ⊥)
-      → CameOut Before after Stays known k later → CameOut Before after Stays known (k + 1) later
+      → CameOut Before from after Stays known k later → CameOut Before from after Stays known (k + 1) later
   one_lost k later d lt lost out = record { few = omega (arith, out.few); lines = out.lines; kept = λ all. absurd (lost (All-get_or Stays known k d lt all)) }

@@ -1,5 +1,5 @@
 -- Lines of a text whose borders are known.
-use Rattle.std.specs.Prelude.{◌≡◌, ℕ, ◌-◌, ◌<◌, ◌≤◌, Bool, true, false, not, ◌&&◌, ◌==◌, nat_le, List, ◌∷◌, All, Contains, length, take, get_or}
+use Rattle.std.specs.Prelude.{◌≡◌, ◌⊎◌, ℕ, ◌+◌, ◌-◌, ◌^◌, ◌<◌, ◌≤◌, Bool, true, false, not, ◌&&◌, ◌==◌, nat_le, List, ◌∷◌, All, Contains, length, take, get_or}
 use Rattle.std.specs.List.{filter}
 use Rattle.cord_search.specs.declared.runs.TheConstants.{PIECE}
 use Rattle.text_lines.specs.declared.known.KnownLine.{KnownLine}
@@ -45,3 +45,8 @@ stays_beside line other = not (other.start == line.start) && nat_le VERY_LONG (o
 -- what is known behind a line that was shown, of these lines that were known before it
 abbrev pub learnt : KnownLine → List KnownLine → List KnownLine
 learnt line lines = take MOST_LINES (line ∷ filter (stays_beside line) lines)
+
+-- a line that stays known behind so many bytes that are put in at this place: it ends before it, or it begins behind it, and its end still has a number
+abbrev pub StaysBeside : ℕ → ℕ → KnownLine → Type 0
+StaysBeside place put line =
+    (line.end < place) ⊎ ((place < line.start) × (line.start ≤ line.end) × (line.end + put < 2 ^ 64))

@@ -5,7 +5,7 @@ ghost use Rattle.rope_node.specs.Denotes.{IsRope, rope_len};
 ghost use Rattle.cord_position.specs.Fetched.{rope_cell};
 ghost use Rattle.cord_search.specs.declared.runs.TheConstants.{PIECE};
 ghost use Rattle.span_certificate.specs.Commands.{replaced};
-ghost use Rattle.text_lines.specs.KnownLines.{IsAbout, IsLineOf, stays_beside};
+ghost use Rattle.text_lines.specs.KnownLines.{IsAbout, IsLineOf, StaysBeside, stays_beside};
 ghost use Rattle.text_lines.specs.StatedCells.{IsToldByOthers, cell_source};
 
 use crate::lines::LINE_BREAK;
@@ -102,6 +102,24 @@ impl KnownLine {
             return None;
         }
         Some(KnownLine { start, end })
+    }
+
+    /// The line behind so many bytes that are put in at a place, whatever they are. It is not known where they are put into it, or at one of its ends.
+    pub fn pasted(self, place: u64, put: u64) -> Option<KnownLine>
+        ensures line { IfSome result (λ line. (t bytes : List ℕ) → place ≤ length t → length bytes ≡ put
+            → IsLineOf t self → IsLineOf (replaced t place 0 bytes) line) }
+        ensures kept { StaysBeside place put self → IsSome result }
+    {
+        if self.end < place {
+            return Some(self);
+        }
+        if self.start <= place {
+            return None;
+        }
+        Some(KnownLine {
+            start: self.start.checked_add(put)?,
+            end: self.end.checked_add(put)?,
+        })
     }
 }
 

@@ -5,7 +5,7 @@ ghost use Rattle.cord_search.specs.declared.runs.TheConstants.{PIECE};
 ghost use Rattle.span_certificate.specs.Commands.{replaced};
 ghost use Rattle.text_lines.specs.declared.known.KnownLine.{KnownLine};
 ghost use Rattle.text_lines.specs.declared.known_lines.TheConstants.{MOST_LINES};
-ghost use Rattle.text_lines.specs.KnownLines.{HoldsLine, HoldsPlace, IsKnownIn, known_lines, learnt};
+ghost use Rattle.text_lines.specs.KnownLines.{HoldsLine, HoldsPlace, IsKnownIn, StaysBeside, known_lines, learnt};
 
 use crate::known::KnownLine;
 
@@ -124,6 +124,22 @@ impl KnownLines {
         let mut later = KnownLines::none();
         for line in self.lines() {
             if let Some(line) = line.erased(place) {
+                later.push(line);
+            }
+        }
+        later
+    }
+
+    /// The lines behind so many bytes that are put in at a place, whatever they are. The one that they are put into is not known.
+    pub fn pasted(&self, place: u64, put: u64) -> KnownLines
+        ensures lines { (t bytes : List ℕ) → place ≤ length t → length bytes ≡ put → IsKnownIn self.now t
+            → IsKnownIn result (replaced t place 0 bytes) }
+        ensures kept { All (StaysBeside place put) (known_lines self.now)
+            → length (known_lines result) ≡ length (known_lines self.now) }
+    {
+        let mut later = KnownLines::none();
+        for line in self.lines() {
+            if let Some(line) = line.pasted(place, put) {
                 later.push(line);
             }
         }

@@ -28,3 +28,9 @@ pub returns-in_default : goal.returns-in_default
 returns-in_default c =
     let d = c.in_default in
     stays c.args.key c.args.workspace.now c.args.known.now c.last-last.ensures.history d.not-Typed d.not-EraseBefore d.not-EraseAt d.not-Cut d.not-Paste d.not-Undo
+
+pub returns-in-Cut : goal.returns-in-Cut
+returns-in-Cut c = rw c.in-Cut.is c.known_cut.ensures
+
+pub returns-in-Paste : goal.returns-in-Paste
+returns-in-Paste c = rw c.in-Paste.is c.known_pasted.ensures
