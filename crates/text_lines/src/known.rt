@@ -24,21 +24,21 @@ pub struct KnownLine {
 
 impl KnownLine {
     /// Whether it is longer than what is searched through at once.
-    pub fn is_long(self) -> bool
+    pub(crate) fn is_long(self) -> bool
         ensures { IsTrue result ↔ (PIECE < self.end - self.start) }
     {
         self.end.saturating_sub(self.start) > PIECE as u64
     }
 
     /// Whether it is, and holds a place, its end too.
-    pub fn is_about(self, place: u64) -> bool
+    pub(crate) fn is_about(self, place: u64) -> bool
         ensures { IsTrue result ↔ IsAbout place self }
     {
         self.is_long() && self.start <= place && place <= self.end
     }
 
     /// Whether it stays known behind another one that was shown: where it is another one, and very long.
-    pub fn stays_beside(self, shown: KnownLine) -> bool
+    pub(crate) fn stays_beside(self, shown: KnownLine) -> bool
         ensures { result ≡ stays_beside shown self }
     {
         self.start != shown.start && self.end.saturating_sub(self.start) >= VERY_LONG

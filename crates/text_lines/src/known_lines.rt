@@ -72,7 +72,7 @@ impl KnownLines {
     }
 
     /// A line that is known, is longer than what is searched through at once, and holds a place, its end too.
-    pub fn about(&self, place: u64) -> Option<KnownLine>
+    pub(crate) fn about(&self, place: u64) -> Option<KnownLine>
         ensures holds { IfSome result (HoldsPlace self.now place) }
         ensures all { (line : KnownLine) → HoldsPlace self.now place line → IsSome result }
     {
@@ -80,7 +80,7 @@ impl KnownLines {
     }
 
     /// A line was shown: it is known if it is longer than what is searched through at once, and then of the others those that are very long, as far as there is room.
-    pub fn learn(&mut self, line: KnownLine)
+    pub(crate) fn learn(&mut self, line: KnownLine)
         ensures long { PIECE < line.end - line.start
             → known_lines self.new ≡ learnt line (known_lines self.old) }
         ensures short { line.end - line.start ≤ PIECE → self.new ≡ self.old }
