@@ -218,13 +218,14 @@ def many_lines(chance):
 
 
 def long_lines(chance):
-    """Lines of no byte up to 200,000, ways over them, and breaks that are typed and erased at their borders."""
+    """Lines of no byte up to 200,000, ways over them, breaks that are typed and erased at their borders, and spans that are cut there and put in elsewhere."""
     widths = [chance.choice([0, 1, 80, 600, 4_096, 4_097, 65_535, 65_536, 70_000, 200_000]) for _ in range(chance.randrange(2, 30))]
     lines = [bytes([chance.choice(b"abc ")]) * width for width in widths]
-    borders = [b"\x05\n", b"\x01\n", b"\x01\x7f", b"\x05\x04", b"\x05a", b"\x01b", b"\x02\x02\n", b"\x06\x06\n", b"\x06c\x7f", b"\x15"]
+    borders = [b"\x05\n", b"\x01\n", b"\x01\x7f", b"\x05\x04", b"\x05a", b"\x01b", b"\x02\x02\n", b"\x06\x06\n", b"\x06c\x7f", b"\x15", PASTE]
+    cuts = [MARK + move * 3 + CUT for move in (b"\x02", b"\x06")] + [LINE_START + MARK + b"\x0e" + CUT, LINE_END + MARK + b"\x06\x06" + CUT + PASTE]
     keys = b""
     for _ in range(chance.randrange(4, 24)):
-        keys += chance.choice([chance.choice(MOVES) * chance.randrange(1, 9), chance.choice(borders), random_keys(chance, 4)])
+        keys += chance.choice([chance.choice(MOVES) * chance.randrange(1, 9), chance.choice(borders), chance.choice(cuts), random_keys(chance, 4)])
     return b"\n".join(lines), keys
 
 
