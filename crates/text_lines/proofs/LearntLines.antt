@@ -3,7 +3,7 @@ use Rattle.std.proofs.Common.{◌≡◌, ℕ, ◌+◌, ◌<◌, ◌≤◌, Bool,
 use Rattle.std.specs.List.{filter}
 use Rattle.std.proofs.lemmas.Bool.{cases_lt}
 use Rattle.std.proofs.lemmas.List.{append-nil, length-append, length-take, take_all, take-append-le}
-use Rattle.std.proofs.lemmas.List.Elements.{All-cons, All-filter, All-get_or, All-push, All-take, filter_more}
+use Rattle.std.proofs.lemmas.List.Elements.{All-cons, All-filter, All-get_or, All-push, All-same, All-take, filter_more}
 use Rattle.text_lines.specs.declared.known.KnownLine.{KnownLine}
 use Rattle.text_lines.specs.declared.known_lines.TheConstants.{MOST_LINES}
 use Rattle.text_lines.specs.KnownLines.{IsLineOf, learnt, stays_beside}
@@ -58,17 +58,25 @@ pub record CameOut {X : Type 0} (Before : X → Type 0) (from after : X → List
   pub lines : (x : X) → Before x → All (IsLineOf (from x)) known → All (IsLineOf (after x)) later
   pub kept : All Stays known → length later ≡ k
 
-module _ {X : Type 0} (Before : X → Type 0) (from after : X → List ℕ) (Stays : KnownLine → Type 0) (known : List KnownLine) where
-  pub one_out : (k : ℕ) (later : List KnownLine) (d line : KnownLine) → k < length known → ((x : X) → Before x → IsLineOf (from x) (get_or known k d) → IsLineOf (after x) line)
-      → CameOut Before from after Stays known k later → CameOut Before from after Stays known (k + 1) (later ++ line ∷ [])
-  one_out k later d line lt law out =
-      let long = length-append later (line ∷ []) in
+abbrev pub no_line : KnownLine
+no_line = record { start = 0; end = 0 }
+
+module _ {X : Type 0} {Before : X → Type 0} {from after : X → List ℕ} {Stays : KnownLine → Type 0} {known : List KnownLine} {k : ℕ} {old new : List KnownLine} where
+  pub one_out : {line : KnownLine} → new ≡ old ++ line ∷ [] → k < length known → ((x : X) → Before x → IsLineOf (from x) (get_or known k no_line) → IsLineOf (after x) line)
+      → CameOut Before from after Stays known k old → CameOut Before from after Stays known (k + 1) new
+  one_out {line} is lt law out =
+      let long : length new ≡ length old + 1 = ap length is ∙ length-append old (line ∷ []) in
       record {
         few = omega (arith, long, out.few);
-        lines = λ x before all. All-push (IsLineOf (after x)) later line (out.lines x before all) (law x before (All-get_or (IsLineOf (from x)) known k d lt all));
+        lines = λ x before all. All-same (IsLineOf (after x)) new (old ++ line ∷ []) is (All-push (IsLineOf (after x)) old line (out.lines x before all) (law x before (All-get_or (IsLineOf (from x)) known k no_line lt all)));
         kept = λ all. omega (arith, long, out.kept all);
       }
 
-  pub one_lost : (k : ℕ) (later : List KnownLine) (d : KnownLine) → k < length known → (Stays (get_or known k d) → ⊥)
-      → CameOut Before from after Stays known k later → CameOut Before from after Stays known (k + 1) later
-  one_lost k later d lt lost out = record { few = omega (arith, out.few); lines = out.lines; kept = λ all. absurd (lost (All-get_or Stays known k d lt all)) }
+  pub one_lost : new ≡ old → k < length known → (Stays (get_or known k no_line) → ⊥) → CameOut Before from after Stays known k old → CameOut Before from after Stays known (k + 1) new
+  one_lost is lt lost out =
+      let long : length new ≡ length old = ap length is in
+      record {
+        few = omega (arith, long, out.few);
+        lines = λ x before all. All-same (IsLineOf (after x)) new old is (out.lines x before all);
+        kept = λ all. absurd (lost (All-get_or Stays known k no_line lt all));
+      }

@@ -1,19 +1,15 @@
-use Rattle.std.proofs.Common.{◌≡◌, ◌≢◌, ◌<◌, ◌+◌, true, false, [], List, length, sym, ap, subst, ◌∙◌}
+use Rattle.std.proofs.Common.{◌≡◌, true, false, ap, ◌∙◌}
 use Rattle.std.proofs.lemmas.List.Elements.{All-same}
-use Rattle.span_certificate.specs.Commands.{replaced}
-use Rattle.text_lines.specs.declared.known.KnownLine.{KnownLine}
 use Rattle.text_lines.specs.KnownLines.{IsLineOf, known_lines}
-use Rattle.text_lines.proofs.LearntLines.{CameOut, one_lost, one_out}
+use Rattle.text_lines.proofs.LearntLines.{one_lost, one_out}
 use Rattle.text_lines.proofs.known_lines.KnownLines.erased.Goals.{in-Some, in_default}
 use Rattle.text_lines.proofs.known_lines.KnownLines.erased.Goals as goal
 
 pub loop-line-preserved : goal.loop-line-preserved
 loop-line-preserved c =
     elim c.match-erased.branch [
-      | in-Some w ↦ subst (λ (xs : List KnownLine). CameOut (λ t. c.args.place < length t) (λ t. t) (λ t. replaced t c.args.place 1 []) (λ line. (c.args.place + 1 ≢ line.start) × (c.args.place ≢ line.end)) c.lines-line-items.result.now (c.loop-line.line-index + 1) xs) (sym (ap known_lines w.later-is ∙ w.push.ensures))
-          (one_out (λ t. c.args.place < length t) (λ t. t) (λ t. replaced t c.args.place 1 []) (λ line. (c.args.place + 1 ≢ line.start) × (c.args.place ≢ line.end)) c.lines-line-items.result.now c.loop-line.line-index (known_lines c.loop-line.later) (record { start = 0; end = 0 }) w.in-Some.line c.loop-line-test.true w.in-Some.ensures.line c.loop-line.invariant)
-      | in_default w ↦ subst (λ (xs : List KnownLine). CameOut (λ t. c.args.place < length t) (λ t. t) (λ t. replaced t c.args.place 1 []) (λ line. (c.args.place + 1 ≢ line.start) × (c.args.place ≢ line.end)) c.lines-line-items.result.now (c.loop-line.line-index + 1) xs) (sym (ap known_lines w.later-is))
-          (one_lost (λ t. c.args.place < length t) (λ t. t) (λ t. replaced t c.args.place 1 []) (λ line. (c.args.place + 1 ≢ line.start) × (c.args.place ≢ line.end)) c.lines-line-items.result.now c.loop-line.line-index (known_lines c.loop-line.later) (record { start = 0; end = 0 }) c.loop-line-test.true (λ h. absurd (let told : false ≡ true = w.in_default.ensures.kept h.0 h.1 in cc)) c.loop-line.invariant)
+      | in-Some w ↦ one_out (ap known_lines w.later-is ∙ w.push.ensures) c.loop-line-test.true w.in-Some.ensures.line c.loop-line.invariant
+      | in_default w ↦ one_lost (ap known_lines w.later-is) c.loop-line-test.true (λ stays. absurd (let told : false ≡ true = w.in_default.ensures.kept stays.0 stays.1 in cc)) c.loop-line.invariant
     ]
 
 pub returns-clause-lines : goal.returns-clause-lines
