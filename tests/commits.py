@@ -92,7 +92,7 @@ def next_state(chance, text):
     if kind < 0.2 or not text:
         return b"".join(new_line(chance) for _ in range(chance.choice([1, 20, 300, 300, 6000])))
     if kind < 0.25:
-        return text + random_bytes(chance, chance.choice([1, 300, 200_000]))
+        return text + random_bytes(chance, chance.choice([2, 300, 200_000]))
     return by_lines(chance, text) if kind < 0.8 else by_bytes(chance, text)
 
 
@@ -121,21 +121,23 @@ def front_of(first, second):
 
 
 def origin_fault(image, sources, count):
-    """Whether a byte in front of a change, or behind it, comes from elsewhere than before, or nothing."""
+    """Whether a byte of the whole lines in front of a change, or behind it, comes from elsewhere than before, or nothing."""
     texts = verify.all_texts(image, sources)
     last, before = len(texts) - 1, count - 1
     if max(map(len, texts)) > LONGEST_FOLLOWED:
         return None
     origins = origins_of(image, sources)
-    front = front_of(texts[before], texts[last])
+    front = texts[last].rfind(b"\n", 0, front_of(texts[before], texts[last])) + 1
     back = min(front_of(texts[before][::-1], texts[last][::-1]), min(len(texts[before]), len(texts[last])) - front)
+    rest = texts[last][len(texts[last]) - back :]
+    back = len(rest) - rest.find(b"\n") - 1 if b"\n" in rest else 0
     if origins[before][:front] != origins[last][:front] or back and origins[before][-back:] != origins[last][-back:]:
         return "bytes that stayed come from elsewhere"
     return None
 
 
-def committed_fault(room, state, older, answer):
-    """What is wrong with what a commit did, of which the image was the older one, or nothing."""
+def committed_fault(room, state, older, answer, is_own=True):
+    """What is wrong with what a commit did behind the older image, which the program made itself or not, or nothing."""
     told = ANSWER.fullmatch(answer[1])
     if answer[0] or answer[2] or not told:
         return f"{answer}"
@@ -155,7 +157,7 @@ def committed_fault(room, state, older, answer):
         return "a state that was there is there again"
     if verify.all_texts(before, room.sources) != texts[: len(before.revisions)]:
         return "other texts before it"
-    return front_fault(older, data) if before.version == 2 else None
+    return front_fault(older, data) if is_own else None
 
 
 def put_in(older, newer):
@@ -207,12 +209,12 @@ def image_fault(room, data, chance):
         right = answer == (1, b"", f"{refusal}\n".encode()) and room.image_bytes() == data
         return None if right else f"{answer}, for {refusal}"
     image = verify.checked(data, room.sources)
-    texts = verify.all_texts(image, room.sources)
-    if max(map(len, texts), default=0) > LONGEST_TEXT:
+    if max((image.length(revision.root) for revision in image.revisions), default=0) > LONGEST_TEXT:
         return None
-    for state in next_state(chance, texts[-1] if texts else b""), b"another\n":
+    texts = verify.all_texts(image, room.sources)
+    for number, state in enumerate([next_state(chance, texts[-1] if texts else b""), b"another\n", b"one more\n"]):
         older = room.image_bytes()
-        fault = committed_fault(room, state, older, room.commit(state))
+        fault = committed_fault(room, state, older, room.commit(state), number > 1)
         if fault:
             return fault
     return None

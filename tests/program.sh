@@ -596,54 +596,54 @@ an image to go on from that is not there;apply --onto missing script_of_d;;3;;re
 an image to go on from that is a folder;apply --onto folder script_of_d;;3;;read\n
 a script that is not there, behind an image;apply --onto one_insert missing;;3;;read\n
 an image behind another on a full device;apply --onto one_insert script_of_d;;3;/dev/full;write\n
-a file is committed anew;commit kept abc;;0;committed 1\n;
-the image is that of an empty text and the file's;check kept;;0;accepted 2 revisions 1 nodes 1 rows\n;
-a committed text is shown;show kept 1;;0;abc;
-the text before it is empty;show kept 0;;0;;
-the text that it has already;commit kept abc;;0;same 1\n;
-another text behind it;commit kept abcde;;0;committed 2\n;
-that one is shown;show kept 2;;0;abcde;
-the earlier one is shown still;show kept 1;;0;abc;
-what stays keeps its origin;blame --count 3 kept 2;;0;0 3 1 0 many 1 "abc"\n;
-what came is of the commit;blame --start 3 kept 2;;0;3 2 2 3 many 2 "de"\n;
-an empty file is committed;commit kept nothing;;0;committed 3\n;
-its text is shown;show kept 3;;0;;
-a file by a pipe is committed;commit kept /dev/stdin;highest;0;committed 4\n;
-its bytes are shown;show kept 4;;0;@highest;
-nothing is beside it;show kept.new 0;;3;;read\n
-an empty file is committed anew;commit kept_of_nothing nothing;;0;committed 0\n;
-an image of an empty text alone is made;check kept_of_nothing;;0;accepted 1 revisions 0 nodes 0 rows\n;
-more bytes than a command puts in, anew;commit kept_large large;;0;committed 46\n;
-they are shown;show kept_large 46;;0;@large;
-the image of another program is gone on from;commit $(cp one_insert kept_further && echo kept_further) abcde;;0;committed 2\n;
-its texts are kept;show kept_further 1;;0;abc;
-an image over a file is gone on from;commit $(cp one_source kept_over && echo kept_over) abcde abc;;0;committed 1\n;
-the text behind it is shown;show kept_over 1 abc;;0;abcde;
+a file is committed anew;commit committed abc;;0;committed 1\n;
+the image is that of an empty text and the file's;check committed;;0;accepted 2 revisions 1 nodes 1 rows\n;
+a committed text is shown;show committed 1;;0;abc;
+the text before it is empty;show committed 0;;0;;
+the text that it has already;commit committed abc;;0;same 1\n;
+another text behind it;commit committed abcde;;0;committed 2\n;
+that one is shown;show committed 2;;0;abcde;
+the earlier one is shown still;show committed 1;;0;abc;
+what stays keeps its origin;blame --count 3 committed 2;;0;0 3 1 0 many 0 "abc"\n;
+what came is of the commit;blame --start 3 committed 2;;0;3 2 2 3 many 1 "de"\n;
+an empty file is committed;commit committed nothing;;0;committed 3\n;
+its text is shown;show committed 3;;0;;
+a file by a pipe is committed;commit committed /dev/stdin;highest;0;committed 4\n;
+its bytes are shown;show committed 4;;0;@highest;
+nothing is beside it;show committed.new 0;;3;;read\n
+an empty file is committed anew;commit committed_of_nothing nothing;;0;committed 0\n;
+an image of an empty text alone is made;check committed_of_nothing;;0;accepted 1 revisions 0 nodes 0 rows\n;
+more bytes than a command puts in, anew;commit committed_large large;;0;committed 46\n;
+they are shown;show committed_large 46;;0;@large;
+the image of another program is gone on from;commit $(cp one_insert committed_further && echo committed_further) abcde;;0;committed 2\n;
+its texts are kept;show committed_further 1;;0;abc;
+an image over a file is gone on from;commit $(cp one_source committed_over && echo committed_over) abcde abc;;0;committed 1\n;
+the text behind it is shown;show committed_over 1 abc;;0;abcde;
 a row of bytes over a source is not gone on from by a file;commit $(cp bytes_row_over_a_source over_bytes && echo over_bytes) ab abc;;1;;refused G1(0)\n
-as many looks as the limit, and a commit;commit --at-most 137 $(cp one_insert kept_further && echo kept_further) abcde;;0;committed 2\n;
-a look more than the limit, and no commit;commit --at-most=136 $(cp one_insert kept_further && echo kept_further) abcde;;1;;refused looks 137\n
-an image is as it was where it is refused;cmp kept_further one_insert;;0;equal\n;
+as many looks as the limit, and a commit;commit --at-most 137 $(cp one_insert committed_further && echo committed_further) abcde;;0;committed 2\n;
+a look more than the limit, and no commit;commit --at-most=136 $(cp one_insert committed_further && echo committed_further) abcde;;1;;refused looks 137\n
+an image is as it was where it is refused;cmp committed_further one_insert;;0;equal\n;
 an image to commit to that is refused;commit child_not_earlier abc;;1;;refused C4(1)\n
 an image to commit to that is none;commit abcde abc;;1;;refused C1(I3)\n
 what is none is as it was;cut 0 9 abcde;;0;abcde;
 an image to commit to without its source;commit one_source abcde;;1;;refused C2\n
 an image to commit to beside a shorter source;commit one_source abcde ab;;1;;refused C3(0)\n
 an image to commit to beside 256 sources;commit one_source abcde $(yes abc | head -n 256);;1;;refused S4\n
-a file that is the image;commit kept kept;;1;;refused J6\n
-a file that is the image by another name;commit kept $(ln -s kept kept_too && echo kept_too);;1;;refused J6\n
-a file that is a source;commit kept_over abc abc;;1;;refused J6\n
-a file that is to be the image;commit kept $(cp kept kept.new && echo kept.new);;1;;refused J6\n
-it is as it was;cmp kept kept.new;;0;equal\n;
-an image with keys beside it;commit $(cp kept keyed && cp abc keyed.keys && echo keyed) abc;;1;;refused J2\n
+a file that is the image;commit committed committed;;1;;refused J6\n
+a file that is the image by another name;commit committed $(ln -s committed committed_too && echo committed_too);;1;;refused J6\n
+a file that is a source;commit committed_over abc abc;;1;;refused J6\n
+a file that is to be the image;commit committed $(cp committed committed.new && echo committed.new);;1;;refused J6\n
+it is as it was;cmp committed committed.new;;0;equal\n;
+an image with keys beside it;commit $(cp committed keyed && cp abc keyed.keys && echo keyed) abc;;1;;refused J2\n
 an image with an empty file of keys beside it;commit $(: > keyed.keys && echo keyed) abc;;0;committed 5\n;
-a file to commit that is not there;commit kept missing;;3;;read\n
-a file to commit that is a folder;commit kept folder;;3;;read\n
-a file to commit of 512 gigabytes;commit kept half;;1;;refused E7(N4)\n
+a file to commit that is not there;commit committed missing;;3;;read\n
+a file to commit that is a folder;commit committed folder;;3;;read\n
+a file to commit of 512 gigabytes;commit committed half;;1;;refused E7(N4)\n
 an image to commit to that is not there beside a source;commit missing abcde abc;;3;;read\n
 an image to commit to that is a folder;commit folder abcde;;3;;write\n
 a commit to a full device;commit /dev/full abc;;3;;write\n
-its answer on a full device;commit kept_told abc;;3;/dev/full;write\n
-the image is there;show kept_told 1;;0;abc;
+its answer on a full device;commit committed_told abc;;3;/dev/full;write\n
+the image is there;show committed_told 1;;0;abc;
 an image is logged;log one_insert;;0;new # 0: 0 bytes, depth 0, 0 rows\ninsert 0 0 "abc" # 1: 3 bytes, depth 0, balanced, 1 rows\n;
 an image over a source is logged;log bytes_row_over_a_source abc;;0;open 0 # 0: 3 bytes, depth 0, 1 rows\n;
 its script makes the image again;apply $("$program" log one_insert > logged && echo logged);;0;@one_insert_in_two;
@@ -861,12 +861,12 @@ an image to go on from that is refused in words;apply --explain --onto abcde scr
 no such revision behind an image in words;apply --explain --onto new_alone script_of_d;;1;;refused E1(2)\nE1(2): line 2 of script_of_d names a revision that is not there\n
 another number of sources of an image in words;apply --explain --onto one_insert script_of_d abc;;1;;refused C2\nC2: the sources of one_insert are 0 in number, and 1 are given\n
 a script that is not there, behind an image, in words;apply --explain --onto one_insert missing;;3;;read\nread: there is no file missing\n
-a file that is the image in words;commit --explain kept kept;;1;;refused J6\nJ6: kept is the image itself, the file beside it that is to be the image, or a source of its session\n
+a file that is the image in words;commit --explain committed committed;;1;;refused J6\nJ6: committed is the image itself, the file beside it that is to be the image, or a source of its session\n
 an image with keys beside it in words;commit --explain $(cp abc keyed.keys && echo keyed) abcde;;1;;refused J2\nJ2: another session keeps its keys in keyed.keys\n
-a file to commit of 512 gigabytes in words;commit --explain kept half;;1;;refused E7(N4)\nE7(N4): the commit of half would put in more bytes than there may be\n
+a file to commit of 512 gigabytes in words;commit --explain committed half;;1;;refused E7(N4)\nE7(N4): the commit of half would put in more bytes than there may be\n
 an image to commit to that is none in words;commit --explain abcde abc;;1;;refused C1(I3)\nC1(I3): abcde is no image, and stays as it is: move it away or remove it, and give the same command again\n
 a row of bytes over a source in words, by a file;commit --explain over_bytes ab abc;;1;;refused G1(0)\nG1(0): revision 0 of over_bytes has a row that compares bytes of a source: a session of its commands is made by cordkit log over_bytes SOURCE.. | cordkit apply /dev/stdin SOURCE..\n
-a file to commit that is not there in words;commit --explain kept missing;;3;;read\nread: there is no file missing\n
+a file to commit that is not there in words;commit --explain committed missing;;3;;read\nread: there is no file missing\n
 a commit to a full device in words;commit --explain /dev/full abc;;3;;write\nwrite: the image /dev/full or standard output could not be written\n
 a file that is too long in words;cut --explain 0 1 too_long;;1;;refused S5\nS5: too_long has more than 2^40 - 1 bytes\n
 files that are too long together in words;join --explain half half;;1;;refused N1\nN1: the files together would make a text of 2^40 bytes or more\n
