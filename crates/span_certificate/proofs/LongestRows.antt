@@ -1,24 +1,24 @@
 -- Whether rows that cover are as long as they can be.
-use Rattle.std.proofs.Common.{◌≡◌, ◌↔◌, ℕ, inl, inr, ◌+◌, ◌<◌, ◌≤◌, List, Option, Some, None, refl, sym, ap, ◌∙◌, arith, IsTrue, zero-add}
-use Rattle.std.specs.Prelude.{Bool, length}
+use Rattle.std.proofs.Common.{subst, ◌≡◌, ◌↔◌, ℕ, inl, inr, ◌+◌, ◌<◌, ◌≤◌, List, Option, Some, None, refl, sym, ap, ◌∙◌, arith, IsTrue, zero-add}
+use Rattle.std.specs.Prelude.{Bool, IsSome, length}
 use Rattle.std.specs.Option.{is_some}
 use Rattle.std.proofs.lemmas.Bool.{cases_lt}
 use Rattle.function_leaf.specs.declared.coded.Coded.{Coded}
-use Rattle.rope_node.specs.Denotes.{rope_len}
+use Rattle.rope_node.specs.Denotes.{rope_len, IsRope}
 use Rattle.span_certificate.specs.declared.part.Part.{Part}
 use Rattle.span_certificate.specs.declared.row.Row.{Row}
 use Rattle.span_certificate.specs.Covers.{CoversAnyhow, place_of, row_at}
-use Rattle.span_certificate.specs.Parts.{part_len, part_at}
+use Rattle.span_certificate.specs.Parts.{part_len, part_at, AreParts}
 use Rattle.span_certificate.specs.Places.{held, len_here, IsAt}
 use Rattle.span_certificate.proofs.Covering.{place_of_more}
-use Rattle.span_certificate.proofs.PartPlaces.{at_part, at_inside_parts}
+use Rattle.span_certificate.proofs.PartPlaces.{at_is_part, at_part, at_inside_parts}
 use Rattle.rope_node.specs.declared.node.NodeId.{NodeId}
 use Rattle.rope_node.specs.Table.{Table, view_at}
 use Rattle.span_certificate.specs.declared.descent.SpanPlace.{SpanPlace}
 use Rattle.span_certificate.specs.declared.part.Part.TheVariants.{Old}
 use Rattle.span_certificate.specs.Descents.{LeadsToSpan}
 use Rattle.span_certificate.specs.Leads.{PartLeads, RopeLeads}
-use Rattle.span_certificate.specs.Longest.{IsLongest, LieInLeaf, PartLiesInLeaf, RopeLiesInLeaf}
+use Rattle.span_certificate.specs.Longest.{LieInLeaf, PartLiesInLeaf, RopeLiesInLeaf, StandsInBoth}
 
 -- what a way down tells
 pub lies_so : (t : Table) (n x p : ℕ) (found : Option SpanPlace) (answer : Bool) → ((s : SpanPlace) → (found ≡ Some s) ↔ LeadsToSpan t n x p s) → answer ≡ is_some found → IsTrue answer ↔ LieInLeaf t n x p
@@ -56,13 +56,37 @@ module _ (t : Table) (coded : ℕ → Coded) (parts : List Part) (root : Option 
       let held_here : held here off ≡ Some (fits.part, fits.off) = sym (at_part parts place here off rest at) ∙ ap (part_at parts) stands ∙ fits.at_part in
       (same_part here off (row_at rows j).len fits.part fits.off held_here fits.inside_part, omega (arith, stands, fits.inside_root))
 
-  pub longest_next : (j place : ℕ) (row : Row) → place ≡ place_of rows j → row ≡ row_at rows j → j < length rows → ((i : ℕ) → i < j → IsLongest t parts root (place_of rows i) (row_at rows i)) → IsLongest t parts root place row
-      → (i : ℕ) → i < j + 1 → IsLongest t parts root (place_of rows i) (row_at rows i)
-  longest_next j place row stands is lt before here i below =
-      elim (cases_lt i j) [
-        | inl old ↦ before i old
-        | inr new ↦ let same : i ≡ j = omega arith in rw (same, ← stands, ← is) here
-      ]
-
   pub stands_next : (j place : ℕ) (row : Row) → place ≡ place_of rows j → row ≡ row_at rows j → j < length rows → place + row.len ≡ place_of rows (j + 1)
   stands_next j place row stands is lt = rw (is, stands) (sym (place_of_more rows j lt))
+
+  -- a row stands at a part
+  pub row_there : (j place off : ℕ) (here : Option Part) (rest : List Part) → j < length rows → place ≡ place_of rows j → IsAt parts place here off rest → IsSome here
+  row_there j place off here rest lt stands at =
+      let fits = covers.fit j lt in
+      let held_here : held here off ≡ Some (fits.part, fits.off) = sym (at_part parts place here off rest at) ∙ ap (part_at parts) stands ∙ fits.at_part in
+      there here fits.part fits.off held_here
+    where
+      there : (here : Option Part) (part : Part) (other : ℕ) → held here off ≡ Some (part, other) → IsSome here
+      there None part other is = absurd cc
+      there (Some p) part other is = refl
+
+  -- inside it and the root
+  pub row_stands : AreParts t parts → IsRope t root → (j place off : ℕ) (part : Part) (rest : List Part) → j < length rows → place ≡ place_of rows j → IsAt parts place (Some part) off rest → StandsInBoth t part off root place (row_at rows j)
+  row_stands are there j place off part rest lt stands at =
+      let inside = row_inside j place off (Some part) rest lt stands at in
+      record {
+        is_part = (at_is_part t parts place part off rest are at).0;
+        is_rope = there;
+        some = (covers.fit j lt).not_empty;
+        inside_part = inside.0;
+        inside_root = inside.1;
+        goes_on = λ n fits. root_goes_on place off (Some part) rest part at refl n fits;
+      }
+
+-- what holds of each row so far and of the next one
+pub each_next : (P : ℕ → Type 0) (j : ℕ) → ((i : ℕ) → i < j → P i) → P j → (i : ℕ) → i < j + 1 → P i
+each_next P j before here i below =
+    elim (cases_lt i j) [
+      | inl old ↦ before i old
+      | inr new ↦ let same : j ≡ i = omega arith in subst P same here
+    ]

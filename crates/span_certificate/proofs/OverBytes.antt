@@ -1,6 +1,6 @@
 -- Whether rows of bytes stand over no source.
-use Rattle.std.proofs.Common.{◌≡◌, ℕ, ◌+◌, ◌-◌, ◌<◌, ◌≤◌, List, [], ◌++◌, length, take, drop, refl, sym, ap, subst, ◌∙◌, arith, inl, inr, Option, Some, None}
-use Rattle.std.specs.Prelude.{All, IsSome}
+use Rattle.std.proofs.Common.{◌≡◌, ℕ, ◌+◌, ◌-◌, ◌<◌, List, [], ◌++◌, length, take, drop, ap, subst, ◌∙◌, arith}
+use Rattle.std.specs.Prelude.{All}
 use Rattle.std.specs.List.{range_with_len}
 use Rattle.std.proofs.Math.Seq.{take-add, take-take, drop-drop, take-append_seam, drop-append_seam}
 use Rattle.std.proofs.lemmas.List.{drop-take}
@@ -10,15 +10,7 @@ use Rattle.rope_node.specs.Table.{Table}
 use Rattle.rope_node.specs.Denotes.{Cell, Byte, Place}
 use Rattle.span_certificate.specs.declared.describe.Description.{Description}
 use Rattle.span_certificate.specs.declared.describe.Description.TheVariants.{Pooled, Sourced, Computed}
-use Rattle.std.proofs.lemmas.Bool.{cases_lt}
-use Rattle.function_leaf.specs.declared.coded.Coded.{Coded}
-use Rattle.rope_node.specs.declared.node.NodeId.{NodeId}
-use Rattle.span_certificate.specs.declared.part.Part.{Part}
-use Rattle.span_certificate.specs.declared.row.Row.{Row}
-use Rattle.span_certificate.specs.Parts.{part_at}
-use Rattle.span_certificate.specs.Places.{held, IsAt}
-use Rattle.span_certificate.proofs.PartPlaces.{at_part}
-use Rattle.span_certificate.specs.Covers.{CoversAnyhow, IsByte, place_of, row_at, row_compares}
+use Rattle.span_certificate.specs.Covers.{IsByte}
 use Rattle.span_certificate.specs.Leads.{described_cells}
 use Rattle.span_certificate.specs.Runs.{IsSourced}
 
@@ -52,26 +44,3 @@ appended_bytes xs ys all = (
   subst (All IsByte) (take-append_seam xs ys) (All-take IsByte (length xs) (xs ++ ys) all),
   subst (All IsByte) (drop-append_seam xs ys) (All-drop IsByte (length xs) (xs ++ ys) all),
 )
-
--- ---- row by row
-
-module _ (t : Table) (parts : List Part) (root : Option NodeId) (rows : List Row) where
-  pub over_next : (j : ℕ) → ((i : ℕ) → i < j → All IsByte (row_compares t parts root (place_of rows i) (row_at rows i))) → All IsByte (row_compares t parts root (place_of rows j) (row_at rows j))
-      → (i : ℕ) → i < j + 1 → All IsByte (row_compares t parts root (place_of rows i) (row_at rows i))
-  over_next j before here i below =
-      elim (cases_lt i j) [
-        | inl old ↦ before i old
-        | inr new ↦ let same : i ≡ j = omega arith in rw same here
-      ]
-
-  module _ (coded : ℕ → Coded) (covers : CoversAnyhow t coded parts root rows) where
-    -- a row stands at a part, and is not empty
-    pub row_there : (j place off : ℕ) (here : Option Part) (rest : List Part) → j < length rows → place ≡ place_of rows j → IsAt parts place here off rest → IsSome here × (1 ≤ (row_at rows j).len)
-    row_there j place off here rest lt stands at =
-        let fits = covers.fit j lt in
-        let held_here : held here off ≡ Some (fits.part, fits.off) = sym (at_part parts place here off rest at) ∙ ap (part_at parts) stands ∙ fits.at_part in
-        (there here fits.part fits.off held_here, fits.not_empty)
-      where
-        there : (here : Option Part) (part : Part) (other : ℕ) → held here off ≡ Some (part, other) → IsSome here
-        there None part other is = absurd cc
-        there (Some p) part other is = refl

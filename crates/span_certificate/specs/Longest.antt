@@ -10,11 +10,11 @@ use Rattle.span_certificate.specs.declared.row.RowKind.TheVariants.{Shared, Leaf
 use Rattle.span_certificate.specs.declared.walk.Span.{Span}
 use Rattle.span_certificate.specs.declared.walk.TheConstants.{BYTES_LIMIT}
 use Rattle.function_leaf.specs.declared.coded.Coded.{Coded}
-use Rattle.rope_node.specs.Denotes.{rope_len}
+use Rattle.rope_node.specs.Denotes.{rope_len, IsRope}
 use Rattle.span_certificate.specs.declared.making.TheConstants.{ROWS_LIMIT}
 use Rattle.span_certificate.specs.Covers.{row_at, place_of, rows_len, Fits, MeetsNoSource}
 use Rattle.span_certificate.specs.Leads.{Leads, LeadsToLeaf, RopeLeads, PartLeads}
-use Rattle.span_certificate.specs.Parts.{part_at, part_len}
+use Rattle.span_certificate.specs.Parts.{part_at, part_len, IsPart}
 
 -- the n bytes of node x from p on lie in one leaf
 abbrev pub LieInLeaf : Table → ℕ → ℕ → ℕ → Type 0
@@ -64,6 +64,15 @@ pub record AreMade (t : Table) (coded : ℕ → Coded) (parts : List Part) (root
 abbrev pub IsCutShort : Table → (ℕ → Coded) → List Part → Option NodeId → Type 0
 IsCutShort t coded parts root =
     (rows : List Row) × AreMade t coded parts root rows × (length rows ≡ ROWS_LIMIT) × (rows_len rows < rope_len t root)
+
+-- a row at place that is not empty, inside this part from off on and inside the root, which goes on as far as the part
+pub record StandsInBoth (t : Table) (part : Part) (off : ℕ) (root : Option NodeId) (place : ℕ) (row : Row) : Type 0 where
+  pub is_part : IsPart t part
+  pub is_rope : IsRope t root
+  pub some : 1 ≤ row.len
+  pub inside_part : off + row.len ≤ part_len part
+  pub inside_root : place + row.len ≤ rope_len t root
+  pub goes_on : (n : ℕ) → off + n ≤ part_len part → place + n ≤ rope_len t root
 
 -- ---- on the way down
 

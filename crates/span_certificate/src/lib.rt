@@ -7,6 +7,7 @@ mod content;
 mod cover;
 mod descent;
 mod describe;
+mod each_row;
 mod edit;
 mod exact;
 mod from_root;
