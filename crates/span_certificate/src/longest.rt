@@ -150,7 +150,6 @@ fn stay_within<S: CountedSpace<L>, W: Way, L: Ledger>(
 }
 
 /// Whether a row is the longest that stands at its place.
-#[derive(Clone, Copy, Debug)]
 pub struct Longest;
 
 impl Question for Longest {

@@ -56,7 +56,6 @@ fn are_bytes<S: CountedSpace<L>, W: Way, L: Ledger>(
 }
 
 /// Whether a row compares no byte of a source.
-#[derive(Clone, Copy, Debug)]
 pub struct OverBytes;
 
 impl Question for OverBytes {
