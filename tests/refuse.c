@@ -4,7 +4,9 @@
    REFUSE_COUNTED.
    With REFUSE_EACH the program is run again and again, each time in a process that is forked before its main, with its first allocation
    refused, then the next one and so on, until a run meets none; with REFUSE_PAIRS, with each two of them refused too. Each run has to end
-   with status 0; what one that does not has written is shown. The last line says how many allocations there were. */
+   with status 0; what one that does not has written is shown. The last line says how many allocations there were.
+   A run holds at its end what it took and did not give back: how many blocks goes to the file REFUSE_HELD. With REFUSE_HELD_MOST=N a run that
+   holds more ends with status 1. */
 #define _GNU_SOURCE
 #include <fcntl.h>
 #include <stdio.h>
@@ -18,6 +20,7 @@ extern void *__libc_malloc(size_t);
 extern void *__libc_calloc(size_t, size_t);
 extern void *__libc_realloc(void *, size_t);
 extern void *__libc_memalign(size_t, size_t);
+extern void __libc_free(void *);
 
 enum { SECONDS = 60, MOST_SHOWN = 20 };
 
@@ -26,23 +29,40 @@ static long own_count;
 static long *seen = &own_count;
 static long first_refused, second_refused;
 
+/* How many blocks were taken and not given back. */
+static long held;
+
 static int is_refused(void) {
     long number = ++*seen;
     return number == first_refused || number == second_refused;
 }
 
-void *malloc(size_t size) { return is_refused() ? NULL : __libc_malloc(size); }
+static void *taken(void *block) {
+    held += block != NULL;
+    return block;
+}
 
-void *calloc(size_t count, size_t size) { return is_refused() ? NULL : __libc_calloc(count, size); }
+void *malloc(size_t size) { return is_refused() ? NULL : taken(__libc_malloc(size)); }
 
-void *realloc(void *old, size_t size) { return is_refused() ? NULL : __libc_realloc(old, size); }
+void *calloc(size_t count, size_t size) { return is_refused() ? NULL : taken(__libc_calloc(count, size)); }
 
-void *aligned_alloc(size_t alignment, size_t size) { return is_refused() ? NULL : __libc_memalign(alignment, size); }
+void *realloc(void *old, size_t size) {
+    if (is_refused()) return NULL;
+    void *block = __libc_realloc(old, size);
+    return old ? block : taken(block);
+}
+
+void *aligned_alloc(size_t alignment, size_t size) { return is_refused() ? NULL : taken(__libc_memalign(alignment, size)); }
 
 int posix_memalign(void **place, size_t alignment, size_t size) {
-    void *found = is_refused() ? NULL : __libc_memalign(alignment, size);
+    void *found = is_refused() ? NULL : taken(__libc_memalign(alignment, size));
     if (found) *place = found;
     return found ? 0 : 12;
+}
+
+void free(void *block) {
+    held -= block != NULL;
+    __libc_free(block);
 }
 
 static long number_of(const char *name) {
@@ -118,13 +138,22 @@ __attribute__((constructor)) static void begin(void) {
     second_refused = number_of("REFUSE_ALSO");
     if (getenv("REFUSE_EACH")) run_each(0);
     if (getenv("REFUSE_PAIRS")) run_each(1);
+    held = 0;
+}
+
+static void tell(const char *path, long number) {
+    int file = path ? open(path, O_WRONLY | O_CREAT | O_TRUNC, 0600) : -1;
+    if (file < 0) return;
+    dprintf(file, "%ld\n", number);
+    close(file);
 }
 
 __attribute__((destructor)) static void report(void) {
-    const char *path = getenv("REFUSE_COUNTED");
-    int file = path ? open(path, O_WRONLY | O_CREAT | O_TRUNC, 0600) : -1;
-    if (file >= 0) {
-        dprintf(file, "%ld\n", *seen);
-        close(file);
-    }
+    long most = getenv("REFUSE_HELD_MOST") ? number_of("REFUSE_HELD_MOST") : held;
+    tell(getenv("REFUSE_COUNTED"), *seen);
+    tell(getenv("REFUSE_HELD"), held);
+    if (held <= most) return;
+    fflush(stdout);
+    dprintf(2, "%ld blocks were not given back\n", held - most);
+    _exit(1);
 }

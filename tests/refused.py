@@ -2,7 +2,8 @@
 """Refuses each allocation in turn, by a C library that stands before the allocator (tests/refuse.c):
 
 - in each run of refusal_tests, which makes the call that was refused once more and looks at what it left; in the runs whose names begin with
-  `twice_` each two of them;
+  `twice_` each two of them. Each run has to give back what it took, but for as many blocks as the frame of the tests holds where it runs no test.
+  No contract says that: a leaf_buffer that derives `Drop` for `Room`, `Deed` and `RawBlock` is proved, and loses each block of the pool;
 - in runs of the built cordkit, each a row of the table of tests/program.sh. A run gives what the row says, or ends with `memory` and the status 3
   behind a front of that; the editor may also refuse a key, which a frame tells, and then saves an image of the other keys. A run of the editor is
   made once more with each allocation, and then gives what the row says;
@@ -295,14 +296,24 @@ def tests_of(tests):
     return [line.removesuffix(": test") for line in ran.stdout.split("\n") if line.endswith(": test")]
 
 
-def try_tests(tests, library):
+def held_by_no_test(tests, library, folder):
+    """How many blocks the frame of the tests holds at the end of a run of no test."""
+    held = f"{folder}/held"
+    env = {"LD_PRELOAD": library, "REFUSE_HELD": held}
+    subprocess.run([tests, "no_such_test"], stdout=subprocess.DEVNULL, stderr=subprocess.DEVNULL, env=env)
+    with open(held) as file:
+        return int(file.read())
+
+
+def try_tests(tests, library, folder):
     """How many allocations of all runs were refused, and how many runs failed."""
     refused, failed = 0, 0
+    most = str(held_by_no_test(tests, library, folder))
     for name in tests_of(tests):
         short = name.rpartition(":")[2]
         if short == "no_call_is_refused":
             continue
-        env = {"LD_PRELOAD": library, "REFUSE_PAIRS" if short.startswith("twice_") else "REFUSE_EACH": "1"}
+        env = {"LD_PRELOAD": library, "REFUSE_HELD_MOST": most, "REFUSE_PAIRS" if short.startswith("twice_") else "REFUSE_EACH": "1"}
         ran = subprocess.run([tests, name], stdout=subprocess.PIPE, stderr=subprocess.STDOUT, text=True, env=env)
         last = ran.stdout.rstrip().rpartition("\n")[2]
         print(f"{short}: {last}" if ran.returncode == 0 else f"FAILED: {short}\n{ran.stdout}")
@@ -323,7 +334,7 @@ def main():
         library = f"{folder}/refuse.so"
         subprocess.run(["gcc", "-O2", "-shared", "-fPIC", "-o", library, f"{TOP}/tests/refuse.c"], check=True)
         os.mkdir(f"{folder}/room")
-        refused, failed = try_tests(tests, library)
+        refused, failed = try_tests(tests, library, folder)
         room = Room(program, library, f"{folder}/room")
         for row in rows(room.made):
             count, spared = room.try_row(row)
