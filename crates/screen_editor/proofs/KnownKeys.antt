@@ -1,7 +1,7 @@
 -- What is known of lines of the current text, behind a key.
-use Rattle.std.proofs.Common.{◌≡◌, ◌≢◌, ℕ, ◌+◌, ◌-◌, ◌<◌, ◌≤◌, true, false, List, [], ◌∷◌, ◌++◌, length, get_or, Option, Some, inl, inr, None, refl, sym, ap, subst, ◌∙◌, arith, nat_lt}
-use Rattle.std.specs.Prelude.{IsTrue, slice_get, if◌then◌else◌}
-use Rattle.std.proofs.lemmas.Bool.{cases_lt, eq-eqb, le-ltb, lt-ltb}
+use Rattle.std.proofs.Common.{◌≡◌, ◌⊎◌, ℕ, ◌+◌, ◌-◌, ◌<◌, ◌≤◌, true, false, List, [], ◌∷◌, ◌++◌, length, get_or, Option, Some, inl, inr, None, refl, sym, ap, subst, ◌∙◌, arith, nat_lt}
+use Rattle.std.specs.Prelude.{IsTrue, min, max, slice_get, if◌then◌else◌}
+use Rattle.std.proofs.lemmas.Bool.{cases_lt, eq-eqb, ne_eqb, le-ltb, lt-ltb}
 use Rattle.std.proofs.lemmas.List.{length-append}
 use Rattle.std.proofs.lemmas.List.Elements.{All-nil, All-same}
 use Rattle.std.proofs.Math.Seq.{get_or-append_seam}
@@ -24,15 +24,15 @@ use Rattle.text_lines.specs.declared.known_lines.KnownLines.{KnownLines}
 use Rattle.screen_editor.specs.Editing.{Editing, EachCurrent, IsCutSpan, current_cell, current_len, current_root, state_of}
 use Rattle.screen_editor.specs.Keys.{looks_for_lines}
 use Rattle.text_lines.specs.KnownLines.{IsKnownIn, IsLineOf, known_lines}
-use Rattle.text_lines.specs.StatedCells.{IsToldByOthers}
+use Rattle.text_lines.specs.StatedCells.{AreToldByOthers}
 use Rattle.screen_editor.specs.KnownTexts.{IsKnownLine, StaysKnown}
 use Rattle.screen_editor.specs.LineKeys.{DoesStated}
-use Rattle.screen_editor.specs.Machine.{cut_to, done, edited, pasted, revised}
+use Rattle.screen_editor.specs.Machine.{cut_out, cut_to, done, edited, pasted, revised}
 use Rattle.screen_editor.specs.Revising.{KeepsAll}
 use Rattle.screen_editor.specs.State.{EditorState, current, last_revision}
 use Rattle.screen_editor.proofs.KeyPlans.{current_text_len}
 use Rattle.screen_editor.proofs.KeySteps.{first_is, put_in, put_long}
-use Rattle.text_lines.proofs.KnownLaws.{before_erased, before_replaced, behind_erased, behind_replaced}
+use Rattle.text_lines.proofs.KnownLaws.{before_replaced, behind_replaced}
 use Rattle.screen_editor.proofs.LineTurns.{current_text}
 use Rattle.screen_editor.proofs.StatedTexts.{Becomes, stated_before}
 use Rattle.screen_editor.proofs.ToldKeys.{kept_texts}
@@ -71,27 +71,27 @@ known_put st old new p n x known later h hn inside width becomes law is =
     ])
     (λ source t long known. law source t (omega (arith, inside, long)) known) is
 
--- a byte less, whose cell is stated where all others are
-known_erased : (st : Stated) (old new : Editing) (p : ℕ) (known later : KnownLines) → HoldsHistory old.session → HoldsHistory new.session → p < current_len old
-    → IsToldByOthers (current_cell old) (current_len old) p
-    → Becomes st old new (λ source t. replaced t p 1 []) → ((t : List ℕ) → p < length t → IsKnownIn known t → IsKnownIn later (replaced t p 1 []))
-    → IsKnownLine st old known → IsKnownLine st new later
-known_erased st old new p known later h hn inside told becomes law is =
-    let f = λ (source : ℕ → ℕ → ℕ) (t : List ℕ). replaced t p 1 [] in
+-- the bytes of these places are stated where all others are; lines of a text without these bytes
+abbrev pub ToldFrom : Editing → ℕ → ℕ → Type 0
+ToldFrom e p m = AreToldByOthers (current_cell e) (current_len e) p m
+
+abbrev pub WithoutLines : ℕ → ℕ → KnownLines → KnownLines → Type 0
+WithoutLines p m known later = (t : List ℕ) → p + m ≤ length t → IsKnownIn known t → IsKnownIn later (replaced t p m [])
+
+-- so many bytes less, whose cells are stated where all others are
+known_without : (st : Stated) (old new : Editing) (p m : ℕ) (known later : KnownLines) → HoldsHistory old.session → HoldsHistory new.session → p + m ≤ current_len old → ToldFrom old p m
+    → Becomes st old new (λ source t. replaced t p m []) → WithoutLines p m known later → IsKnownLine st old known → IsKnownLine st new later
+known_without st old new p m known later h hn inside told becomes law is =
+    let f = λ (source : ℕ → ℕ → ℕ) (t : List ℕ). replaced t p m [] in
     known_of st old new f known later h becomes
     (λ source agrees stated.
-    let others : (k : ℕ) → k < current_len old → k ≢ p → IsStated st (current_cell old k) = λ k lt ne. elim (cases_lt k p) [
-      | inl before ↦ stated_before st old new f h hn becomes source agrees stated k k lt (λ other t long. before_erased t p k (omega (arith, inside, long)) before)
-      | inr behind ↦ stated_before st old new f h hn becomes source agrees stated k (k - 1) lt (λ other t long. behind_erased t p (k - 1) k (omega (arith, inside, long)) (omega (arith, behind, ne)) (omega (arith, behind, ne)))
+    let others : (k : ℕ) → k < current_len old → (k < p) ⊎ (p + m ≤ k) → IsStated st (current_cell old k) = λ k lt apart. elim apart [
+      | inl before ↦ stated_before st old new f h hn becomes source agrees stated k k lt (λ other t long. before_replaced t p m [] k (omega (arith, inside, long)) before)
+      | inr behind ↦ stated_before st old new f h hn becomes source agrees stated k (k - m) lt (λ other t long. behind_replaced t p m [] (k - m) k (omega (arith, inside, long)) (omega (arith, behind)) (omega (arith, behind)))
     ] in
     λ k _ lt. elim (cases_lt k p) [
-      | inl before ↦ others k lt (λ e. absurd (omega (arith, before, e)))
-      | inr behind ↦ elim (cases_lt p k) [
-        | inl after ↦ others k lt (λ e. absurd (omega (arith, after, e)))
-        | inr le ↦
-            let here : p ≡ k = omega (arith, behind, le) in
-            subst (λ (i : ℕ). IsStated st (current_cell old i)) here (told st others)
-      ]
+      | inl before ↦ others k lt (inl before)
+      | inr from ↦ elim (cases_lt k (p + m)) [ inl within ↦ told st others k from within | inr behind ↦ others k lt (inr behind) ]
     ])
     (λ source t long known. law t (omega (arith, inside, long)) known) is
 
@@ -125,12 +125,6 @@ TypedLines p b known later = (t : List ℕ) → p ≤ length t → IsKnownIn kno
 abbrev pub PastedLines : ℕ → ℕ → KnownLines → KnownLines → Type 0
 PastedLines p n known later = (t bytes : List ℕ) → p ≤ length t → length bytes ≡ n → IsKnownIn known t → IsKnownIn later (replaced t p 0 bytes)
 
-abbrev pub ErasedLines : ℕ → KnownLines → KnownLines → Type 0
-ErasedLines p known later = (t : List ℕ) → p < length t → IsKnownIn known t → IsKnownIn later (replaced t p 1 [])
-
-abbrev pub ToldAt : Editing → ℕ → Type 0
-ToldAt e p = IsToldByOthers (current_cell e) (current_len e) p
-
 pub none_stays : (key : Key) (old : Editing) (known later : KnownLines) → known_lines later ≡ [] → StaysKnown key old known later
 none_stays key old known later none before now new takes hn is source agrees stated = record { each = All-same (IsLineOf _) (known_lines later) [] none (All-nil (IsLineOf _)) }
 
@@ -155,31 +149,48 @@ stays_pasted old p c known later h first span at inside law before now new takes
     ∙ revised_text (state_of source old) (replaced (current (state_of source old)) old.place 0 (put_in source old c)) (Some (last_revision (state_of source old))) (old.place + c.len)))
     (λ source t within lines. subst (λ (q : ℕ). PastedLines q c.len known later) at law t (put_in source old c) within (width source) lines) is
 
-erased_before : (old : Editing) (known later : KnownLines) → HoldsHistory old.session → 0 < old.place → old.place ≤ current_len old → ToldAt old (old.place - 1) → ErasedLines (old.place - 1) known later → StaysKnown EraseBefore old known later
+erased_before : (old : Editing) (known later : KnownLines) → HoldsHistory old.session → 0 < old.place → old.place ≤ current_len old → ToldFrom old (old.place - 1) 1 → WithoutLines (old.place - 1) 1 known later → StaysKnown EraseBefore old known later
 erased_before old known later h some inside told law before now new takes hn is =
     let p = old.place - 1 in
-    known_erased before.stated old new p known later h hn (omega (arith, some, inside)) told
+    known_without before.stated old new p 1 known later h hn (omega (arith, some, inside)) told
     (becomes_as before.stated EraseBefore old new (λ source t. replaced t p 1 []) refl takes.done
     (λ source. ap current (chosen (edited (state_of source old) p 1 [] p) (state_of source old) 0 old.place some) ∙ revised_text (state_of source old) (replaced (current (state_of source old)) p 1 []) (Some (last_revision (state_of source old))) p)) law is
 
-pub stays_erased_before : (old : Editing) (p : ℕ) (known later : KnownLines) → HoldsHistory old.session → p ≡ old.place → 0 < p → p ≤ current_len old → (0 < length (known_lines later) → ToldAt old (p - 1)) → ErasedLines (p - 1) known later
+pub stays_erased_before : (old : Editing) (p : ℕ) (known later : KnownLines) → HoldsHistory old.session → p ≡ old.place → 0 < p → p ≤ current_len old → (0 < length (known_lines later) → ToldFrom old (p - 1) 1) → WithoutLines (p - 1) 1 known later
     → StaysKnown EraseBefore old known later
 stays_erased_before old p known later h at some inside told law =
-    stays_told EraseBefore old known later (ToldAt old (p - 1)) (known_lines later) refl told
-    (λ here. erased_before old known later h (omega (arith, some, at)) (omega (arith, inside, at)) (subst (λ (q : ℕ). ToldAt old (q - 1)) at here) (subst (λ (q : ℕ). ErasedLines (q - 1) known later) at law))
+    stays_told EraseBefore old known later (ToldFrom old (p - 1) 1) (known_lines later) refl told
+    (λ here. erased_before old known later h (omega (arith, some, at)) (omega (arith, inside, at)) (subst (λ (q : ℕ). ToldFrom old (q - 1) 1) at here) (subst (λ (q : ℕ). WithoutLines (q - 1) 1 known later) at law))
 
-erased_at : (old : Editing) (known later : KnownLines) → HoldsHistory old.session → old.place < current_len old → ToldAt old old.place → ErasedLines old.place known later → StaysKnown EraseAt old known later
+erased_at : (old : Editing) (known later : KnownLines) → HoldsHistory old.session → old.place < current_len old → ToldFrom old old.place 1 → WithoutLines old.place 1 known later → StaysKnown EraseAt old known later
 erased_at old known later h inside told law before now new takes hn is =
     let p = old.place in
-    known_erased before.stated old new p known later h hn inside told
+    known_without before.stated old new p 1 known later h hn (omega (arith, inside)) told
     (becomes_as before.stated EraseAt old new (λ source t. replaced t p 1 []) refl takes.done
     (λ source. ap current (chosen (edited (state_of source old) p 1 [] p) (state_of source old) p (length (current (state_of source old))) (omega (arith, inside, current_text_len old h source))) ∙ revised_text (state_of source old) (replaced (current (state_of source old)) p 1 []) (Some (last_revision (state_of source old))) p)) law is
 
-pub stays_erased_at : (old : Editing) (p : ℕ) (known later : KnownLines) → HoldsHistory old.session → p ≡ old.place → p < current_len old → (0 < length (known_lines later) → ToldAt old p) → ErasedLines p known later
+pub stays_erased_at : (old : Editing) (p : ℕ) (known later : KnownLines) → HoldsHistory old.session → p ≡ old.place → p < current_len old → (0 < length (known_lines later) → ToldFrom old p 1) → WithoutLines p 1 known later
     → StaysKnown EraseAt old known later
 stays_erased_at old p known later h at inside told law =
-    stays_told EraseAt old known later (ToldAt old p) (known_lines later) refl told
-    (λ here. erased_at old known later h (omega (arith, inside, at)) (subst (ToldAt old) at here) (subst (λ (q : ℕ). ErasedLines q known later) at law))
+    stays_told EraseAt old known later (ToldFrom old p 1) (known_lines later) refl told
+    (λ here. erased_at old known later h (omega (arith, inside, at)) (subst (λ (q : ℕ). ToldFrom old q 1) at here) (subst (λ (q : ℕ). WithoutLines q 1 known later) at law))
+
+-- the bytes from a up to b, the mark and the place in their order
+cut_from : (old : Editing) (m a b : ℕ) (known later : KnownLines) → HoldsHistory old.session → old.mark ≡ Some m → (m ≡ old.place → ⊥) → a ≡ min m old.place → b ≡ max m old.place → a + (b - a) ≤ current_len old → ToldFrom old a (b - a)
+    → WithoutLines a (b - a) known later → StaysKnown Cut old known later
+cut_from old m a b known later h mark other low high inside told law before now new takes hn is =
+    known_without before.stated old new a (b - a) known later h hn inside told
+    (becomes_as before.stated Cut old new (λ source t. replaced t a (b - a) []) refl takes.done
+    (λ source.
+    let s = state_of source old in
+    let out : cut_to old.mark s ≡ cut_out s (min m old.place) (max m old.place) = ap (λ (o : Option ℕ). cut_to o s) mark ∙ (rw (ne_eqb m old.place other) refl) in
+    ap current out ∙ revised_text s (replaced (current s) (min m old.place) (max m old.place - min m old.place) []) (Some (last_revision s)) (min m old.place)
+    ∙ ap (λ (i : ℕ). replaced (current s) i (max m old.place - i) []) (sym low) ∙ ap (λ (j : ℕ). replaced (current s) a (j - a) []) (sym high))) law is
+
+pub stays_cut : (old : Editing) (m a b : ℕ) (known later : KnownLines) → HoldsHistory old.session → old.mark ≡ Some m → (m ≡ old.place → ⊥) → a ≡ min m old.place → b ≡ max m old.place → a + (b - a) ≤ current_len old
+    → (0 < length (known_lines later) → ToldFrom old a (b - a)) → WithoutLines a (b - a) known later → StaysKnown Cut old known later
+stays_cut old m a b known later h mark other low high inside told law =
+    stays_told Cut old known later (ToldFrom old a (b - a)) (known_lines later) refl told (λ here. cut_from old m a b known later h mark other low high inside here law)
 
 -- a key that leaves the text as it is
 stays_same : (key : Key) (old : Editing) (known : KnownLines) → HoldsHistory old.session → looks_for_lines key ≡ false → ((source : ℕ → ℕ → ℕ) → current (done key (state_of source old)) ≡ current (state_of source old))
@@ -241,12 +252,12 @@ refused_known st old new known m h hn keeps is =
 
 -- ---- the cells of the current text, by the store and the root that the workspace hands out
 
-pub told_in_current : (e : Editing) (session : SessionValue) (held : Held Coded) (root : Option NodeId) (p : ℕ) → session ≡ e.session → held ≡ session.held → root ≡ current_root e
-    → IsToldByOthers (rope_cell (table_of coded_byte held) root) (rope_len (table_of coded_byte held) root) p → ToldAt e p
-told_in_current e session held root p is_session is_held is_root h =
+pub told_in_current : (e : Editing) (session : SessionValue) (held : Held Coded) (root : Option NodeId) (p m : ℕ) → session ≡ e.session → held ≡ session.held → root ≡ current_root e
+    → AreToldByOthers (rope_cell (table_of coded_byte held) root) (rope_len (table_of coded_byte held) root) p m → ToldFrom e p m
+told_in_current e session held root p m is_session is_held is_root h =
     let same : held ≡ e.session.held = is_held ∙ ap (λ (v : SessionValue). v.held) is_session in
-    subst (λ (r : Option NodeId). IsToldByOthers (rope_cell (table_of coded_byte e.session.held) r) (rope_len (table_of coded_byte e.session.held) r) p) is_root
-    (subst (λ (x : Held Coded). IsToldByOthers (rope_cell (table_of coded_byte x) root) (rope_len (table_of coded_byte x) root) p) same h)
+    subst (λ (r : Option NodeId). AreToldByOthers (rope_cell (table_of coded_byte e.session.held) r) (rope_len (table_of coded_byte e.session.held) r) p m) is_root
+    (subst (λ (x : Held Coded). AreToldByOthers (rope_cell (table_of coded_byte x) root) (rope_len (table_of coded_byte x) root) p m) same h)
 
 pub known_in_current : (st : Stated) (e : Editing) (session : SessionValue) (held : Held Coded) (root : Option NodeId) (known : KnownLines) → session ≡ e.session → held ≡ session.held → root ≡ current_root e
     → IsKnownLine st e known → OfText (table_of coded_byte held) st root (IsKnownIn known)

@@ -110,7 +110,7 @@ fn take_key<R: Sources>(
 {
     // The workspace keeps its rules, as its last revision says, before the key and behind it.
     let _before = workspace.last();
-    let later = known_after(workspace, known, key);
+    let later = known_after(alloc, workspace, known, key);
     if let Err(fault) = take(alloc, sources, workspace, known, key) {
         let _refused = workspace.last();
         workspace.tell(Some(fault));

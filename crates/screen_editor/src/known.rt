@@ -1,46 +1,60 @@
 //! The long lines that are known, behind a key.
 
 ghost use Rattle.screen_editor.specs.declared.key.Key.TheVariants as Keys;
-ghost use Rattle.std.specs.Prelude.{◌<◌, ◌∷◌, [], ℕ, List, length};
+ghost use Rattle.std.specs.Prelude.{◌<◌, ◌≤◌, ◌+◌, [], ℕ, List, length};
 ghost use Rattle.span_certificate.specs.Commands.{replaced};
 ghost use Rattle.text_lines.specs.KnownLines.{IsKnownIn, known_lines};
-ghost use Rattle.text_lines.specs.StatedCells.{IsToldByOthers};
+ghost use Rattle.text_lines.specs.StatedCells.{AreToldByOthers};
 ghost use Rattle.screen_editor.specs.Editing.{current_cell, current_len};
 ghost use Rattle.screen_editor.specs.KnownTexts.{StaysKnown};
 
 use crate::key::Key;
 use crate::workspace::Workspace;
-use text_lines::{KnownLines, is_told_by_others};
+use std::alloc::Global;
+use text_lines::{KnownLines, are_told_by_others};
 
-/// The lines behind a byte of the current text that goes out.
-fn known_without(workspace: &Workspace, known: &KnownLines, place: u64) -> KnownLines
-    requires { place < current_len workspace.now }
-    ensures lines { (t : List ℕ) → place < length t → IsKnownIn known.now t
-        → IsKnownIn result (replaced t place 1 []) }
+/// The lines behind so many bytes of the current text that go out.
+fn known_without(
+    alloc: Global,
+    workspace: &Workspace,
+    known: &KnownLines,
+    place: u64,
+    count: u64,
+) -> KnownLines
+    requires some { 1 ≤ count }
+    requires inside { place + count ≤ current_len workspace.now }
+    ensures lines { (t : List ℕ) → place + count ≤ length t → IsKnownIn known.now t
+        → IsKnownIn result (replaced t place count []) }
     ensures told { 0 < length (known_lines result)
-        → IsToldByOthers (current_cell workspace.now) (current_len workspace.now) place }
+        → AreToldByOthers (current_cell workspace.now) (current_len workspace.now) place count }
 {
     if known.is_empty() {
         return KnownLines::none();
     }
-    if is_told_by_others(workspace.session().space(), workspace.root(), place) {
-        known.erased(place)
+    let space = workspace.session().space();
+    if are_told_by_others(alloc, space, workspace.root(), place, count) {
+        known.cut(place, count)
     } else {
         KnownLines::none()
     }
 }
 
 /// The lines behind a cut. They stay where there is nothing to cut.
-fn known_cut(workspace: &Workspace, known: &KnownLines) -> KnownLines
+fn known_cut(alloc: Global, workspace: &Workspace, known: &KnownLines) -> KnownLines
     ensures { StaysKnown Keys.Cut workspace.now known.now result }
 {
     // The workspace keeps its rules, as its last revision says.
     let _last = workspace.last();
     let place = workspace.place();
-    match workspace.mark() {
-        Some(mark) if mark != place => KnownLines::none(),
-        _ => *known,
+    let Some(mark) = workspace.mark() else {
+        return *known;
+    };
+    if mark == place {
+        return *known;
     }
+    let start = mark.min(place);
+    let count = mark.max(place) - start;
+    known_without(alloc, workspace, known, start, count)
 }
 
 /// The lines behind the latest cut span that is put in at the place.
@@ -57,7 +71,7 @@ fn known_pasted(workspace: &Workspace, known: &KnownLines) -> KnownLines
 }
 
 /// What is known of the current text behind a key that is taken, where this was known before it.
-pub fn known_after(workspace: &Workspace, known: &KnownLines, key: Key) -> KnownLines
+pub fn known_after(alloc: Global, workspace: &Workspace, known: &KnownLines, key: Key) -> KnownLines
     ensures { StaysKnown key workspace.now known.now result }
 {
     // The workspace keeps its rules, as its last revision says.
@@ -69,15 +83,15 @@ pub fn known_after(workspace: &Workspace, known: &KnownLines, key: Key) -> Known
             if place == 0 {
                 return *known;
             }
-            known_without(workspace, known, place - 1)
+            known_without(alloc, workspace, known, place - 1, 1)
         }
         Key::EraseAt => {
             if place >= workspace.len() {
                 return *known;
             }
-            known_without(workspace, known, place)
+            known_without(alloc, workspace, known, place, 1)
         }
-        Key::Cut => known_cut(workspace, known),
+        Key::Cut => known_cut(alloc, workspace, known),
         Key::Paste => known_pasted(workspace, known),
         Key::Undo => KnownLines::none(),
         _ => *known,

@@ -1,5 +1,5 @@
 -- A line of a text, and what it is where a byte is put into the text or goes out of it.
-use Rattle.std.proofs.Common.{◌≡◌, ℕ, ◌+◌, ◌-◌, ◌<◌, ◌≤◌, true, not, List, [], ◌++◌, length, take, drop, get_or, sym, ap, ◌∙◌, arith}
+use Rattle.std.proofs.Common.{◌≡◌, ℕ, ◌+◌, ◌-◌, ◌<◌, ◌≤◌, true, not, List, ◌++◌, length, take, drop, get_or, sym, ap, ◌∙◌, arith}
 use Rattle.std.specs.List.{position_or_len}
 use Rattle.std.proofs.lemmas.List.{get_or-append_right, get_or-drop, get_or-take, get_or_append_left, length-append, length-drop, length-take, length-take-le}
 use Rattle.std.proofs.lemmas.List.Elements.{All-contains}
@@ -80,13 +80,6 @@ behind_replaced t p m x k j inside from at =
     get_or-append_right (take p t ++ x) (drop (p + m) t) n k 0 (omega (arith, front, length-append (take p t) x)) from
     ∙ get_or-drop (p + m) t (k - n) 0
     ∙ ap (λ i. get_or t i 0) place
-
--- a byte that went out
-pub before_erased : (t : List ℕ) (p k : ℕ) → p < length t → k < p → get_or (replaced t p 1 []) k 0 ≡ get_or t k 0
-before_erased t p k inside lt = before_replaced t p 1 [] k (omega (arith, inside)) lt
-
-pub behind_erased : (t : List ℕ) (p k j : ℕ) → p < length t → p < j → j ≡ k + 1 → get_or (replaced t p 1 []) k 0 ≡ get_or t j 0
-behind_erased t p k j inside from at = behind_replaced t p 1 [] k j (omega (arith, inside)) (omega (arith, from, at)) (omega (arith, at))
 
 -- ---- a line that is known and holds the place
 

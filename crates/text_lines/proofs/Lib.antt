@@ -3,6 +3,7 @@ pub mod LineSearches
 pub mod NearLaws
 pub mod KnownLaws
 pub mod LearntLines
+pub mod ToldCells
 pub mod HeldLaws
 pub mod RowLaws
 pub mod RowWalk

@@ -50,3 +50,9 @@ learnt line lines = take MOST_LINES (line ∷ filter (stays_beside line) lines)
 abbrev pub StaysBeside : ℕ → ℕ → KnownLine → Type 0
 StaysBeside place put line =
     (line.end < place) ⊎ ((place < line.start) × (line.start ≤ line.end) × (line.end + put < 2 ^ 64))
+
+-- a line that stays known behind so many bytes that go out at this place: none of them is a break of it
+abbrev pub StaysCut : ℕ → ℕ → KnownLine → Type 0
+StaysCut place count line =
+    (line.end < place) ⊎ ((line.start ≤ place) × (place + count ≤ line.end))
+    ⊎ ((place + count < line.start) × (count ≤ line.end))

@@ -5,12 +5,14 @@ ghost use Rattle.rope_node.specs.Denotes.{IsRope, rope_len};
 ghost use Rattle.cord_position.specs.Fetched.{rope_cell};
 ghost use Rattle.cord_search.specs.declared.runs.TheConstants.{PIECE};
 ghost use Rattle.span_certificate.specs.Commands.{replaced};
-ghost use Rattle.text_lines.specs.KnownLines.{IsAbout, IsLineOf, StaysBeside, stays_beside};
-ghost use Rattle.text_lines.specs.StatedCells.{IsToldByOthers, cell_source};
+ghost use Rattle.text_lines.specs.KnownLines.{IsAbout, IsLineOf, StaysBeside, StaysCut, stays_beside};
+ghost use Rattle.text_lines.specs.StatedCells.{AreToldByOthers, HaveOneSource, cell_source};
 
 use crate::lines::LINE_BREAK;
+use cord_position::Pos;
 use cord_search::PIECE;
 use rope_node::{NodeSpace, NodeView, Rope, find_leaf, rope_len};
+use std::alloc::Global;
 
 /// A line of so many bytes stays known when another one is shown.
 const VERY_LONG: u64 = 65_536;
@@ -84,24 +86,32 @@ impl KnownLine {
             → IsLineOf (replaced t place 1 []) line) }
         ensures kept { place + 1 ≢ self.start → place ≢ self.end → IsSome result }
     {
-        if place > self.end {
+        self.cut(place, 1)
+    }
+
+    /// The line behind so many bytes that go out at a place. It is not known where the break before it or behind it is one of them.
+    pub fn cut(self, place: u64, count: u64) -> Option<KnownLine>
+        ensures line { IfSome result (λ line. (t : List ℕ) → place + count ≤ length t → IsLineOf t self
+            → IsLineOf (replaced t place count []) line) }
+        ensures kept { StaysCut place count self → IsSome result }
+    {
+        if self.end < place {
             return Some(self);
         }
-        if place == self.end {
-            return None;
-        }
-        let end = self.end - 1;
-        if place >= self.start {
+        let end = self.end.checked_sub(count)?;
+        if self.start <= place && place <= end {
             return Some(KnownLine {
                 start: self.start,
                 end,
             });
         }
-        let start = self.start - 1;
-        if place == start {
+        if self.start.checked_sub(place)? <= count {
             return None;
         }
-        Some(KnownLine { start, end })
+        Some(KnownLine {
+            start: self.start - count,
+            end,
+        })
     }
 
     /// The line behind so many bytes that are put in at a place, whatever they are. It is not known where they are put into it, or at one of its ends.
@@ -113,7 +123,7 @@ impl KnownLine {
         if self.end < place {
             return Some(self);
         }
-        if self.start <= place {
+        if place >= self.start {
             return None;
         }
         Some(KnownLine {
@@ -138,14 +148,44 @@ fn source_at<S: NodeSpace>(space: &S, rope: Rope, place: u64) -> Option<u32>
     }
 }
 
-/// Whether the byte at a place is one of no source, or of the same as a byte beside it: then it is stated where all others are.
-pub fn is_told_by_others<S: NodeSpace>(space: &S, rope: Rope, place: u64) -> bool
+/// Whether so many bytes from a place on are of one leaf, and so of one source or of none.
+fn are_of_one_leaf<S: NodeSpace>(
+    alloc: Global,
+    space: &S,
+    rope: Rope,
+    place: u64,
+    count: u64,
+) -> bool
     requires rope { IsRope (S.table space.now) rope }
-    requires inside { place < rope_len (S.table space.now) rope }
+    requires some { 1 ≤ count }
+    requires inside { place + count ≤ rope_len (S.table space.now) rope }
+    ensures { IsTrue result → HaveOneSource (rope_cell (S.table space.now) rope) place count }
+{
+    let _count = space.count();
+    let _len = rope_len(space, rope);
+    let pos = Pos::set(alloc, space, rope, place);
+    let left = pos.run_left();
+    count <= left
+}
+
+/// Whether so many bytes from a place on are of one leaf, and that is of no source, or of the same as a byte beside them: then they are stated where all others are.
+pub fn are_told_by_others<S: NodeSpace>(
+    alloc: Global,
+    space: &S,
+    rope: Rope,
+    place: u64,
+    count: u64,
+) -> bool
+    requires rope { IsRope (S.table space.now) rope }
+    requires some { 1 ≤ count }
+    requires inside { place + count ≤ rope_len (S.table space.now) rope }
     ensures { IsTrue result
-        → IsToldByOthers (rope_cell (S.table space.now) rope) (rope_len (S.table space.now) rope) place }
+        → AreToldByOthers (rope_cell (S.table space.now) rope) (rope_len (S.table space.now) rope) place count }
 {
     let len = rope_len(space, rope);
+    if !are_of_one_leaf(alloc, space, rope, place, count) {
+        return false;
+    }
     let source = source_at(space, rope, place);
     if source.is_none() {
         return true;
@@ -153,5 +193,5 @@ pub fn is_told_by_others<S: NodeSpace>(space: &S, rope: Rope, place: u64) -> boo
     if place > 0 && source == source_at(space, rope, place - 1) {
         return true;
     }
-    place + 1 < len && source == source_at(space, rope, place + 1)
+    place + count < len && source == source_at(space, rope, place + count)
 }

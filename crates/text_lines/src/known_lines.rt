@@ -1,11 +1,11 @@
 //! The lines of a text whose borders are known, so that none of them is searched through again.
 
-ghost use Rattle.std.specs.Prelude.{◌≡◌, ◌≢◌, ◌↔◌, ◌<◌, ◌≤◌, ◌+◌, ◌-◌, ◌^◌, ◌++◌, ◌∷◌, [], ℕ, List, All, length, IfSome, IsSome, IsTrue};
+ghost use Rattle.std.specs.Prelude.{◌≡◌, ◌↔◌, ◌<◌, ◌≤◌, ◌+◌, ◌-◌, ◌^◌, ◌++◌, ◌∷◌, [], ℕ, List, All, length, IfSome, IsSome, IsTrue};
 ghost use Rattle.cord_search.specs.declared.runs.TheConstants.{PIECE};
 ghost use Rattle.span_certificate.specs.Commands.{replaced};
 ghost use Rattle.text_lines.specs.declared.known.KnownLine.{KnownLine};
 ghost use Rattle.text_lines.specs.declared.known_lines.TheConstants.{MOST_LINES};
-ghost use Rattle.text_lines.specs.KnownLines.{HoldsLine, HoldsPlace, IsKnownIn, StaysBeside, known_lines, learnt};
+ghost use Rattle.text_lines.specs.KnownLines.{HoldsLine, HoldsPlace, IsKnownIn, StaysBeside, StaysCut, known_lines, learnt};
 
 use crate::known::KnownLine;
 
@@ -114,16 +114,16 @@ impl KnownLines {
         later
     }
 
-    /// The lines behind a byte that goes out at a place. One is not known where the byte was the break before it or behind it.
-    pub fn erased(&self, place: u64) -> KnownLines
-        ensures lines { (t : List ℕ) → place < length t → IsKnownIn self.now t
-            → IsKnownIn result (replaced t place 1 []) }
-        ensures kept { All (λ line. (place + 1 ≢ line.start) × (place ≢ line.end)) (known_lines self.now)
+    /// The lines behind so many bytes that go out at a place. One is not known where the break before it or behind it is one of them.
+    pub fn cut(&self, place: u64, count: u64) -> KnownLines
+        ensures lines { (t : List ℕ) → place + count ≤ length t → IsKnownIn self.now t
+            → IsKnownIn result (replaced t place count []) }
+        ensures kept { All (StaysCut place count) (known_lines self.now)
             → length (known_lines result) ≡ length (known_lines self.now) }
     {
         let mut later = KnownLines::none();
         for line in self.lines() {
-            if let Some(line) = line.erased(place) {
+            if let Some(line) = line.cut(place, count) {
                 later.push(line);
             }
         }

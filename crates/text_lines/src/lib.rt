@@ -16,6 +16,6 @@ mod window;
 
 pub use fault::FrameFault;
 pub use frame::frame_about;
-pub use known::{KnownLine, is_told_by_others};
+pub use known::{KnownLine, are_told_by_others};
 pub use known_lines::KnownLines;
 pub use lines::{line_end, line_start, place_down, place_up};

@@ -2,14 +2,14 @@ use Rattle.std.proofs.Common.{◌≡◌, true, false, ap, ◌∙◌}
 use Rattle.std.proofs.lemmas.List.Elements.{All-same}
 use Rattle.text_lines.specs.KnownLines.{IsLineOf, known_lines}
 use Rattle.text_lines.proofs.LearntLines.{one_lost, one_out}
-use Rattle.text_lines.proofs.known_lines.KnownLines.erased.Goals.{in-Some, in_default}
-use Rattle.text_lines.proofs.known_lines.KnownLines.erased.Goals as goal
+use Rattle.text_lines.proofs.known_lines.KnownLines.cut.Goals.{in-Some, in_default}
+use Rattle.text_lines.proofs.known_lines.KnownLines.cut.Goals as goal
 
 pub loop-line-preserved : goal.loop-line-preserved
 loop-line-preserved c =
-    elim c.match-erased.branch [
+    elim c.match-cut.branch [
       | in-Some w ↦ one_out (ap known_lines w.later-is ∙ w.push.ensures) c.loop-line-test.true w.in-Some.ensures.line c.loop-line.invariant
-      | in_default w ↦ one_lost (ap known_lines w.later-is) c.loop-line-test.true (λ stays. absurd (let told : false ≡ true = w.in_default.ensures.kept stays.0 stays.1 in cc)) c.loop-line.invariant
+      | in_default w ↦ one_lost (ap known_lines w.later-is) c.loop-line-test.true (λ stays. absurd (let told : false ≡ true = w.in_default.ensures.kept stays in cc)) c.loop-line.invariant
     ]
 
 pub returns-clause-lines : goal.returns-clause-lines

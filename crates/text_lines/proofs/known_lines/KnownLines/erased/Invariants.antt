@@ -1,9 +1,0 @@
-use Rattle.std.proofs.Common.{◌≢◌, ◌<◌, ◌+◌, [], length}
-use Rattle.span_certificate.specs.Commands.{replaced}
-use Rattle.text_lines.specs.KnownLines.{known_lines}
-use Rattle.text_lines.proofs.LearntLines.{CameOut}
-use Rattle.text_lines.proofs.known_lines.KnownLines.erased.Given as goal
-
--- the lines that came out of those before
-abbrev pub invariant-loop-line : goal.invariant-loop-line
-invariant-loop-line l = CameOut (λ t. l.place < length t) (λ t. t) (λ t. replaced t l.place 1 []) (λ line. (l.place + 1 ≢ line.start) × (l.place ≢ line.end)) l.line-items l.line-index (known_lines l.later)
