@@ -1,6 +1,6 @@
 //! A long line whose borders are known, so that it is not searched through again.
 
-ghost use Rattle.std.specs.Prelude.{◌≡◌, ◌≢◌, ◌↔◌, ◌<◌, ◌≤◌, ◌+◌, ◌-◌, ◌^◌, ◌∷◌, [], ℕ, List, length, IfSome, IsSome, IsTrue};
+ghost use Rattle.std.specs.Prelude.{◌≡◌, ◌↔◌, ◌<◌, ◌≤◌, ◌+◌, ◌-◌, ◌^◌, ◌∷◌, [], ℕ, List, length, IfSome, IsSome, IsTrue};
 ghost use Rattle.rope_node.specs.Denotes.{IsRope, rope_len};
 ghost use Rattle.cord_position.specs.Fetched.{rope_cell};
 ghost use Rattle.cord_search.specs.declared.runs.TheConstants.{PIECE};
@@ -78,15 +78,6 @@ impl KnownLine {
             start: place + 1,
             end: after.end,
         })
-    }
-
-    /// The line behind a byte that goes out at a place. It is not known where the byte was the break before it or behind it.
-    pub fn erased(self, place: u64) -> Option<KnownLine>
-        ensures line { IfSome result (λ line. (t : List ℕ) → place < length t → IsLineOf t self
-            → IsLineOf (replaced t place 1 []) line) }
-        ensures kept { place + 1 ≢ self.start → place ≢ self.end → IsSome result }
-    {
-        self.cut(place, 1)
     }
 
     /// The line behind so many bytes that go out at a place. It is not known where the break before it or behind it is one of them.
