@@ -40,8 +40,8 @@ def vim_script(chance, saves):
             lines.append(
                 chance.choice(
                     [
-                        f"{chance.randrange(1, 30)}put ='line {chance.getrandbits(30)} of save {number}'",
-                        "silent! %s/save/s%d/" % number,
+                        f"silent! {chance.randrange(12)}put ='line {chance.getrandbits(30)} of save {number}'",
+                        f"silent! %s/save/s{number}/",
                         f"silent! {chance.randrange(1, 20)}delete",
                         "silent! 2move $",
                         "silent! 1copy 0",
@@ -52,7 +52,8 @@ def vim_script(chance, saves):
                 )
             )
         lines += ["silent write", f"silent !cp notes.txt state.{number}"]
-    return "\n".join([*lines, "quit!", ""])
+    # Where a command found nothing to do vim would end with 1.
+    return "\n".join([*lines, "cquit 0", ""])
 
 
 def kakoune_script(chance, saves):
@@ -98,7 +99,7 @@ def check_saves(program, saves):
     for number in range(saves):
         with open(f"state.{number}", "rb") as file:
             states.append(file.read())
-    changed = [state for before, state in zip([b"", *states], states) if state != before]
+    changed = [state for before, state in zip([None, *states], states) if state != before]
     require([texts[number] for number in numbers] == changed, "the numbers in the file of times name other states")
     for number in numbers:
         shown = subprocess.run([program, "show", "notes.txt.cord", str(number)], capture_output=True, check=False)
