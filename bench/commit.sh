@@ -6,7 +6,7 @@
 # commit.sh [BYTES]
 set -eu
 cd "$(dirname "$0")/.."
-program=$PWD/crates/cordkit/out/cordkit
+program=${PROGRAM:-$PWD/crates/cordkit/out/cordkit}
 [ -x "$program" ] || (cd crates/cordkit && rt run < stdin > /dev/null 2>&1)
 size=${1:-67108864}
 room=$(mktemp -d)
@@ -25,7 +25,7 @@ committed() { "$program" commit kept file $source; }
 checked() { "$program" check image $source; }
 applied() { "$program" apply --onto image line $source; }
 compared() { "$program" cmp before file; }
-by_git() { git -C repository add file && git -C repository -c user.name=x -c user.email=x@localhost commit -q -m x; }
+by_git() { git -C repository add file && git -C repository -c user.name=x -c user.email=x@localhost commit -q -m x || true; }
 
 least() { sort -n "$1" | head -n 1; }
 

@@ -88,10 +88,10 @@ const FRONT: &[u8] = b"CORDKEYS";
 /// Where frames go. Where it is closed, the file of keys that is opened gets its place.
 const STANDARD_OUTPUT: &str = "/dev/stdout";
 
-/// Whether a file is a regular one. A device or a pipe keeps no keys.
-fn is_regular(file: &File) -> bool {
+/// Whether a file is a device, a pipe or a folder, in which no keys are kept.
+fn is_no_regular(file: &File) -> bool {
     match file.metadata() {
-        Ok(metadata) => metadata.is_file(),
+        Ok(metadata) => !metadata.is_file(),
         Err(_) => false,
     }
 }
@@ -99,7 +99,7 @@ fn is_regular(file: &File) -> bool {
 /// Locks a file of keys that was opened. A session that ended
 /// meanwhile may have taken it away, so that another one has its name.
 fn lock(rt: &HostRuntime, path: &str, file: &File) -> Result<(), ToolFault> {
-    if !is_regular(file) {
+    if is_no_regular(file) {
         return Err(ToolFault::OtherKeys);
     }
     if is_named(rt, STANDARD_OUTPUT, file) {
