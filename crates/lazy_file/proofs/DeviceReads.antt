@@ -23,19 +23,19 @@ pub record Filled (start now : DeviceReading) (off done : ℕ) (old buffer : Lis
   pub inside : done ≤ length buffer
   pub bytes : AreBytesAt start.stated.text off (take done buffer)
 
--- what a buffer has in front and how long it is, after n of its bytes were written
-pub front_of : (done n count : ℕ) (buffer part : List ℕ) → done ≤ length buffer → count ≤ length part
-    → take (done + count) (put_mid done n buffer part) ≡ take done buffer ++ take count part
-front_of done n count buffer part h k =
+front_of : (done count : ℕ) (buffer part : List ℕ) → done ≤ length buffer → count ≤ length part
+    → take (done + count) (put_mid done (length buffer - done) buffer part) ≡ take done buffer ++ take count part
+front_of done count buffer part h k =
     let front : length (take done buffer) ≡ done = length-take-le done buffer h in
-    let rest = post_of done n buffer in
+    let rest = post_of done (length buffer - done) buffer in
     let cut : take (length (take done buffer) + count) (take done buffer ++ (part ++ rest)) ≡ take done buffer ++ take count (part ++ rest) = take-append-add (take done buffer) (part ++ rest) count in
-    ap (λ k. take (k + count) (put_mid done n buffer part)) (sym front) ∙ cut ∙ ap (λ xs. take done buffer ++ xs) (take-append-le count part rest k)
+    ap (λ n. take (n + count) (put_mid done (length buffer - done) buffer part)) (sym front) ∙ cut ∙ ap (λ xs. take done buffer ++ xs) (take-append-le count part rest k)
 
-pub length_of : (done n : ℕ) (buffer part : List ℕ) → done + n ≤ length buffer → length part ≡ n → length (put_mid done n buffer part) ≡ length buffer
-length_of done n buffer part h same =
-    let rest = post_of done n buffer in
-    omega (arith, h, same, length-append (take done buffer) (part ++ rest), length-append part rest, length-take-le done buffer (omega (arith, h)), length-drop n (drop done buffer), length-drop done buffer)
+length_of : (done : ℕ) (buffer part : List ℕ) → done ≤ length buffer → length part ≡ length buffer - done
+    → length (put_mid done (length buffer - done) buffer part) ≡ length buffer
+length_of done buffer part h same =
+    let rest = post_of done (length buffer - done) buffer in
+    omega (arith, h, same, length-append (take done buffer) (part ++ rest), length-append part rest, length-take-le done buffer h, length-drop (length buffer - done) (drop done buffer), length-drop done buffer)
 
 -- a read that succeeds raises nothing
 none_failed : {E : Type 0} (now next : DeviceReading) (off : ℕ) (rest part : List ℕ) (count : ℕ) → ReadsAt {E = E} now next off rest part (Ok count) → next.failures ≡ now.failures
@@ -56,7 +56,7 @@ filled_more start now next off done count old buffer rest part f some same was r
       same = read.same ∙ f.same;
       unfailed = none_failed now next (off + done) rest part count read ∙ f.unfailed;
       calls = omega (arith, read.calls, f.calls, some);
-      len = length_of done (length buffer - done) buffer part (omega (arith, f.inside)) same ∙ f.len;
-      inside = omega (arith, length_of done (length buffer - done) buffer part (omega (arith, f.inside)) same, few, same, f.inside);
-      bytes = rw (front_of done (length buffer - done) count buffer part f.inside few) (bytes_then start.stated.text off (take done buffer) (take count part) f.bytes here);
+      len = length_of done buffer part f.inside same ∙ f.len;
+      inside = omega (arith, length_of done buffer part f.inside same, few, same, f.inside);
+      bytes = rw (front_of done count buffer part f.inside few) (bytes_then start.stated.text off (take done buffer) (take count part) f.bytes here);
     }

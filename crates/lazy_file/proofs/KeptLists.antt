@@ -1,14 +1,13 @@
 -- What is in a list of kept blocks after a copy, and after one more is kept.
-use Rattle.std.proofs.Common.{◌≡◌, ℕ, ◌+◌, ◌-◌, ◌*◌, ◌/◌, ◌<◌, ◌≤◌, Bool, true, false, ◌&&◌, IsTrue, List, [], ◌∷◌, Contains, Vec, drop, length, max, nat_eq, take, arith, inl, inr, refl, sym, subst, ap}
-use Rattle.std.specs.Prelude.{Option, Some, None, is_some}
+use Rattle.std.proofs.Common.{◌≡◌, ℕ, ◌+◌, ◌-◌, ◌≤◌, Bool, true, false, ◌&&◌, IsTrue, List, [], ◌∷◌, Contains, Vec, drop, length, nat_eq, take, inl, inr, refl, sym, subst, ap}
+use Rattle.std.specs.Prelude.{Option, Some, None}
 use Rattle.std.specs.Option.{option_map_or}
 use Rattle.std.specs.Map.{keys_of, lookup, lookup_entry, remove_entry}
-use Rattle.std.proofs.lemmas.Bool.{cases_eq, eqb-true, eq-eqb}
+use Rattle.std.proofs.lemmas.Bool.{eqb-true, eq-eqb}
 use Rattle.lru.specs.LruCache.{LruCache, promoted, put_entries}
 use Rattle.lru.proofs.CallerLemmas.{Contains-lookup, Contains-lookup_entry, Contains-promoted, Contains-put_entries}
 use Rattle.lru.proofs.Splits.{Contains-cons, Contains-head, Contains-nil, Contains-tail}
-use Rattle.lazy_file.specs.KeptBlocks.{AreKeptFor, CopiesKept, IsKept, Kept, KeepsOne, is_same_block}
-use Rattle.lazy_file.specs.declared.kept_blocks.TheConstants.{BLOCK_SIZE}
+use Rattle.lazy_file.specs.KeptBlocks.{CopiesKept, IsKept, Kept, KeepsOne, is_same_block}
 
 both : (a b : Bool) → (a && b) ≡ true → (a ≡ true) × (b ≡ true)
 both true b h = (refl, h)
@@ -125,39 +124,3 @@ one_kept old new key block put other bytes there =
         is.0,
       )
     ]
-
--- a look-up tells whether a block is kept
-module _ {A : Type 0} (kept : Kept A) (key : ℕ × ℕ) where
-  look_up_by : (o : Option (Vec ℕ A)) → lookup (is_same_block key) kept ≡ o → is_some o ≡ true → IsKept kept key
-  look_up_by None found is = absurd cc
-  look_up_by (Some block) found is = key_of_kept kept key block (found_block kept key block found)
-
-  pub looked_up : is_some (lookup (is_same_block key) kept) ≡ true → IsKept kept key
-  looked_up = look_up_by (lookup (is_same_block key) kept) refl
-
-  miss_by : (o : Option (Vec ℕ A)) → lookup (is_same_block key) kept ≡ o → is_some o ≡ false → IsKept kept key → ⊥
-  miss_by None none is there = kept_found kept key there none
-  miss_by (Some block) found is there = absurd cc
-
-  pub not_looked_up : is_some (lookup (is_same_block key) kept) ≡ false → IsKept kept key → ⊥
-  not_looked_up = miss_by (lookup (is_same_block key) kept) refl
-
--- the blocks of n places of source s from off on, where there is a place, up to this one
-module _ {A : Type 0} (kept : Kept A) (s off n block : ℕ) where
-  abbrev pub AreKeptTo : ℕ → Type 0
-  AreKeptTo end = (b : ℕ) → off / BLOCK_SIZE ≤ b → b < end → IsKept kept (s, b)
-
-  pub one_kept_more : AreKeptTo block → IsKept kept (s, block) → AreKeptTo (block + 1)
-  one_kept_more each one b ge lt = elim (cases_eq b block) [
-    | inl same ↦ subst (λ k. IsKept kept (s, k)) (sym same) one
-    | inr other ↦ each b ge (omega (arith, lt, other))
-  ]
-
-  pub all_kept : 1 ≤ n → (off + (n - 1)) / BLOCK_SIZE + 1 ≤ block → AreKeptTo block → AreKeptFor (keys_of kept) s off n
-  all_kept some all each p ge lt = each (p / BLOCK_SIZE) (omega (arith, ge)) (omega (arith, some, lt, all))
-
-  pub one_missing : 1 ≤ n → off / BLOCK_SIZE ≤ block → block < (off + (n - 1)) / BLOCK_SIZE + 1 → (IsKept kept (s, block) → ⊥) → AreKeptFor (keys_of kept) s off n → ⊥
-  one_missing some ge lt away all =
-      let p = max off (block * BLOCK_SIZE) in
-      let here : p / BLOCK_SIZE ≡ block = omega (arith, some, ge, lt) in
-      away (subst (λ k. IsKept kept (s, k)) here (all p (omega arith) (omega (arith, some, ge, lt))))

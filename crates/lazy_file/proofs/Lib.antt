@@ -1,6 +1,5 @@
 pub mod AgreedBytes
 pub mod BlockReads
-pub mod BlockRuns
 pub mod DeviceLists
 pub mod DeviceReads
 pub mod FileLists

@@ -1,9 +1,10 @@
 -- The order of use of blocks that are kept.
-use Rattle.std.proofs.Common.{◌≡◌, ℕ, zero, suc, ◌+◌, ◌-◌, ◌/◌, ◌%◌, ◌⊎◌, ◌<◌, ◌≤◌, true, false, List, [], ◌∷◌, Vec, length, take, arith, ap, refl, sym, subst, ◌∙◌, take_all, take-take, length-take}
-use Rattle.std.specs.Prelude.{Option, Some, None, Result, Ok, Err, IsErr, option_map}
+use Rattle.std.proofs.Common.{◌≡◌, ℕ, zero, suc, ◌+◌, ◌-◌, ◌*◌, ◌/◌, ◌%◌, ◌⊎◌, inl, inr, ◌<◌, ◌≤◌, Bool, true, false, not, List, [], ◌∷◌, Vec, filter, length, map, take, arith, ap, refl, sym, subst, ◌∙◌, take_all, take-take, length-take}
+use Rattle.std.specs.Prelude.{Option, Some, None, Result, Ok, Err, max, option_map}
 use Rattle.std.specs.List.{AllByRecursion, IsDistinct}
 use Rattle.std.specs.Option.{option_map_or}
 use Rattle.std.specs.Map.{keys_of, lookup, lookup_entry, remove_entry}
+use Rattle.std.proofs.lemmas.Bool.{cases_lt}
 use Rattle.lru.specs.LruCache.{LruCache, promoted, put_entries}
 use Rattle.lru.proofs.CallerLemmas.{Contains-lookup_entry}
 use Rattle.lru.proofs.Pairs.{lookup-lookup_entry}
@@ -185,18 +186,42 @@ module _ (most : ℕ) (keys : List (ℕ × ℕ)) (s off m block : ℕ) where
       ap (used_for most keys s off) same ∙ used_one (n - 1) (n - 1 + m) refl first end
 
 -- blocks that were used are different ones still, and no more than there may be
-pub within_used_for : (most : ℕ) (keys : List (ℕ × ℕ)) (s off n : ℕ) → AreWithin most keys → AreWithin most (used_for most keys s off n)
+within_used_for : (most : ℕ) (keys : List (ℕ × ℕ)) (s off n : ℕ) → AreWithin most keys → AreWithin most (used_for most keys s off n)
 within_used_for most keys s off zero h = h
 within_used_for most keys s off (suc n) h = within_used most (used_for most keys s off n) (s, (off + n) / BLOCK_SIZE) (within_used_for most keys s off n h)
 
 module _ {X E : Type 0} (most : ℕ) (old : List (ℕ × ℕ)) where
-  -- and once a read has used some
-  pub within_blocks : (new : List (ℕ × ℕ)) (s off n : ℕ) (r : Result X E) → AreWithin most old → UsesBlocks most old new s off n r → AreWithin most new
+  pub within_block : (new : List (ℕ × ℕ)) (key : ℕ × ℕ) (r : Result X E) → AreWithin most old → UsesBlock most old new key r → AreWithin most new
+  within_block new key (Ok x) h uses = subst (AreWithin most) (sym uses.ok) (within_used most old key h)
+  within_block new key (Err e) h uses = subst (AreWithin most) (sym uses.err) h
+
+  within_blocks : (new : List (ℕ × ℕ)) (s off n : ℕ) (r : Result X E) → AreWithin most old → UsesBlocks most old new s off n r → AreWithin most new
   within_blocks new s off n (Ok x) h uses = subst (AreWithin most) (sym uses.ok) (within_used_for most old s off n h)
   within_blocks new s off n (Err e) h uses = subst (AreWithin most) (sym uses.err.3) (within_used_for most old s off uses.err.0 h)
 
-  -- a read that failed at the block behind the first m places
-  pub uses_failed : {Y F : Type 0} (mid new : List (ℕ × ℕ)) (s off n m : ℕ) (key : ℕ × ℕ) (r : Result X E) (e : F) → IsErr r → m < n → m ≡ 0 ⊎ (off + m) % BLOCK_SIZE ≡ 0
-      → mid ≡ used_for most old s off m → UsesBlock {X = Y} {E = F} most mid new key (Err e) → UsesBlocks most old new s off n r
-  uses_failed mid new s off n m key (Ok x) e failed more start before uses = absurd cc
-  uses_failed mid new s off n m key (Err f) e failed more start before uses = record { ok = tt; err = (m, omega (arith, more), start, uses.err ∙ before) }
+  -- and after a read by blocks or straight from the device
+  pub within_read : (new : List (ℕ × ℕ)) (s off n : ℕ) (r : Result X E) → AreWithin most old → (n < BLOCK_SIZE → UsesBlocks most old new s off n r) → (BLOCK_SIZE ≤ n → new ≡ old) → AreWithin most new
+  within_read new s off n r h uses straight = elim (cases_lt n BLOCK_SIZE) [
+    | inl short ↦ within_blocks new s off n r h (uses short)
+    | inr long ↦ subst (AreWithin most) (sym (straight long)) h
+  ]
+
+  -- the block of the last places, after those of the first m were used
+  pub uses_last : (mid new : List (ℕ × ℕ)) (s off n m block : ℕ) (r : Result X E) → m < n → m ≡ 0 ⊎ (off + m) % BLOCK_SIZE ≡ 0
+      → (off + m) / BLOCK_SIZE ≡ block → (off + (n - 1)) / BLOCK_SIZE ≡ block
+      → mid ≡ used_for most old s off m → UsesBlock most mid new (s, block) r → UsesBlocks most old new s off n r
+  uses_last mid new s off n m block (Ok x) more start first last before uses =
+      let end : (off + m + (n - m - 1)) / BLOCK_SIZE ≡ block = omega (arith, last, more) in
+      let whole : m + (n - m) ≡ n = omega (arith, more) in
+      record {
+        ok = uses.ok ∙ ap (λ ks. used_block most ks (s, block)) before ∙ sym (used_part most old s off m block (n - m) (omega (arith, more)) first end) ∙ ap (used_for most old s off) whole;
+        err = tt;
+      }
+  uses_last mid new s off n m block (Err e) more start first last before uses = record {
+    ok = tt;
+    err = (m, omega (arith, more), start, uses.err ∙ before);
+  }
+
+  -- no block was used, and the read failed
+  pub uses_none : (new : List (ℕ × ℕ)) (s off n : ℕ) (e : E) → new ≡ old → UsesBlocks {X = X} most old new s off n (Err e)
+  uses_none new s off n e same = record { ok = tt; err = (0, omega arith, inl refl, same) }

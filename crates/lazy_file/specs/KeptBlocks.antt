@@ -50,10 +50,6 @@ pub record ReadsBlock {A D : Type 0} (before after : List D) (old new : Kept A) 
 abbrev pub AreKeptFor : List (ℕ × ℕ) → ℕ → ℕ → ℕ → Type 0
 AreKeptFor keys s off n = (p : ℕ) → off ≤ p → p < off + n → Contains keys (s, p / BLOCK_SIZE)
 
--- a read of n places of source s from off on goes by blocks: it is shorter than one, or each of its blocks is kept
-abbrev pub GoesByBlocks : List (ℕ × ℕ) → ℕ → ℕ → ℕ → Type 0
-GoesByBlocks keys s off n = (n < BLOCK_SIZE) ⊎ AreKeptFor keys s off n
-
 -- the block of the last of n places of source s from off on
 abbrev pub last_block : ℕ → ℕ → ℕ → ℕ × ℕ
 last_block s off n = (s, (off + n - 1) / BLOCK_SIZE)

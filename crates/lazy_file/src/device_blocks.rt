@@ -1,15 +1,15 @@
-//! Reads of sources that are devices: a long one straight into the caller's buffer where its blocks are not kept, else by blocks.
+//! Reads of sources that are devices: a long one straight into the caller's buffer, a short one by blocks that are kept.
 ghost use Rattle.std.specs.Prelude.{◌≡◌, ◌↔◌, ◌+◌, ◌*◌, ◌<◌, ◌≤◌, false, IfOk, IfSome, IsErrOf, OnOk, drop, get_or, length, map, max, take};
 ghost use Rattle.lazy_file.specs.SourceTexts.{AreSizes, holds_span, text_at};
 ghost use Rattle.lazy_file.specs.Readings.{fault_in, InSpan, Reads};
 ghost use Rattle.lazy_file.specs.DeviceTexts.{AreBytesOf, calls_of, HasSpan, KeepsOthers, ReadsSource, blocks_in, no_device, reading_by, texts_of};
-ghost use Rattle.lazy_file.specs.KeptBlocks.{AreKept, AreKeptFor, AreWithin, GoesByBlocks, IsKept, last_block, ReadsBlock, UsesBlock, UsesBlocks};
+ghost use Rattle.lazy_file.specs.KeptBlocks.{AreKept, AreKeptFor, AreWithin, IsKept, last_block, ReadsBlock, UsesBlock, UsesBlocks};
 ghost use Rattle.std.specs.Map.{keys_of};
 
 use crate::device::Device;
 use crate::faults::SourceFault;
 use crate::filling::fill;
-use crate::kept_blocks::{BLOCK_SIZE, copy_kept, goes_by_blocks, keep};
+use crate::kept_blocks::{BLOCK_SIZE, copy_kept, keep};
 use lru::LruCache;
 use std::alloc::Global;
 
@@ -122,8 +122,8 @@ fn read_in_block<D: Device>(
     read_anew(alloc, devices, book, kept, key, from, part)
 }
 
-/// Reads the bytes of source `s` from place `off` on into the whole of `buffer`, block by block.
-fn read_blocks<D: Device>(
+/// Reads at most a block's bytes of source `s` from place `off` on into the whole of `buffer`: they lie in one block or in two.
+fn read_short<D: Device>(
     alloc: Global,
     devices: &mut [D],
     book: &mut D::Book,
@@ -133,43 +133,34 @@ fn read_blocks<D: Device>(
     buffer: &mut [u8],
 ) -> Result<(), SourceFault>
     requires span { HasSpan (texts_of (map D.reading devices.old)) s off (length buffer.old) }
+    requires some { 1 ≤ length buffer.old }
+    requires short { length buffer.old ≤ BLOCK_SIZE }
     requires kept { AreKept (texts_of (map D.reading devices.old)) kept.old.entries }
     requires within { AreWithin kept.old.cap (keys_of kept.old.entries) }
     ensures reads { ReadsSource D.reading devices.old devices.new s
         (BLOCK_SIZE * blocks_in off (length buffer.old)) result }
     ensures bytes { OnOk result (AreBytesOf (texts_of (map D.reading devices.old)) s off buffer.new) }
     ensures kept { AreKept (texts_of (map D.reading devices.new)) kept.new.entries }
-    ensures keeps { OnOk result (1 ≤ length buffer.old
-        → IsKept kept.new.entries (last_block s off (length buffer.old))) }
+    ensures keeps { OnOk result
+        (IsKept kept.new.entries (last_block s off (length buffer.old))) }
     ensures unread { AreKeptFor (keys_of kept.old.entries) s off (length buffer.old)
         → devices.new ≡ devices.old }
     ensures uses { UsesBlocks kept.old.cap (keys_of kept.old.entries) (keys_of kept.new.entries)
         s off (length buffer.old) result }
     ensures most { kept.new.cap ≡ kept.old.cap }
-    ensures within { AreWithin kept.new.cap (keys_of kept.new.entries) }
 {
-    let mut done = 0;
-    while done < buffer.len() {
-        let place = off + done as u64;
-        let from = (place % BLOCK_SIZE as u64) as usize;
-        let end = done + (buffer.len() - done).min(BLOCK_SIZE - from);
-        let key = (s, place / BLOCK_SIZE as u64);
-        read_in_block(
-            alloc,
-            devices,
-            book,
-            kept,
-            key,
-            from,
-            &mut buffer[done..end],
-        )?;
-        done = end;
+    let block = off / BLOCK_SIZE as u64;
+    let from = (off % BLOCK_SIZE as u64) as usize;
+    let here = buffer.len().min(BLOCK_SIZE - from);
+    let (front, back) = buffer.split_at_mut(here);
+    read_in_block(alloc, devices, book, kept, (s, block), from, front)?;
+    if back.is_empty() {
+        return Ok(());
     }
-    Ok(())
+    read_in_block(alloc, devices, book, kept, (s, block + 1), 0, back)
 }
 
-/// Reads bytes that are there: a block's length and more straight from the device where not all of their blocks are kept, else by
-/// blocks.
+/// Reads bytes that are there: a block's length and more straight from the device, fewer by blocks.
 fn read_inside<D: Device>(
     alloc: Global,
     devices: &mut [D],
@@ -188,20 +179,23 @@ fn read_inside<D: Device>(
     ensures kept { AreKept (texts_of (map D.reading devices.new)) kept.new.entries }
     ensures keeps { OnOk result (1 ≤ length buffer.old → length buffer.old < BLOCK_SIZE
         → IsKept kept.new.entries (last_block s off (length buffer.old))) }
-    ensures unread { AreKeptFor (keys_of kept.old.entries) s off (length buffer.old)
+    ensures unread { length buffer.old < BLOCK_SIZE
+        → AreKeptFor (keys_of kept.old.entries) s off (length buffer.old)
         → devices.new ≡ devices.old }
-    ensures uses { GoesByBlocks (keys_of kept.old.entries) s off (length buffer.old)
+    ensures uses { length buffer.old < BLOCK_SIZE
         → UsesBlocks kept.old.cap (keys_of kept.old.entries) (keys_of kept.new.entries)
         s off (length buffer.old) result }
-    ensures straight { (GoesByBlocks (keys_of kept.old.entries) s off (length buffer.old) → ⊥)
+    ensures straight { BLOCK_SIZE ≤ length buffer.old
         → keys_of kept.new.entries ≡ keys_of kept.old.entries }
     ensures most { kept.new.cap ≡ kept.old.cap }
-    ensures within { AreWithin kept.new.cap (keys_of kept.new.entries) }
 {
-    if goes_by_blocks(kept, s, off, buffer.len()) {
-        read_blocks(alloc, devices, book, kept, s, off, buffer)
-    } else {
+    if buffer.is_empty() {
+        return Ok(());
+    }
+    if buffer.len() >= BLOCK_SIZE {
         fill_source(devices, book, s, off, buffer)
+    } else {
+        read_short(alloc, devices, book, kept, s, off, buffer)
     }
 }
 
@@ -248,15 +242,15 @@ pub(crate) fn read_source<D: Device>(
     ensures kept { AreKept (texts_of (map D.reading devices.new)) kept.new.entries }
     ensures keeps { OnOk result (1 ≤ length buffer.old → length buffer.old < BLOCK_SIZE
         → IsKept kept.new.entries (last_block s off (length buffer.old))) }
-    ensures unread { AreKeptFor (keys_of kept.old.entries) s off (length buffer.old)
+    ensures unread { length buffer.old < BLOCK_SIZE
+        → AreKeptFor (keys_of kept.old.entries) s off (length buffer.old)
         → devices.new ≡ devices.old }
-    ensures uses { GoesByBlocks (keys_of kept.old.entries) s off (length buffer.old)
+    ensures uses { length buffer.old < BLOCK_SIZE
         → UsesBlocks kept.old.cap (keys_of kept.old.entries) (keys_of kept.new.entries)
         s off (length buffer.old) result }
-    ensures straight { (GoesByBlocks (keys_of kept.old.entries) s off (length buffer.old) → ⊥)
+    ensures straight { BLOCK_SIZE ≤ length buffer.old
         → keys_of kept.new.entries ≡ keys_of kept.old.entries }
     ensures most { kept.new.cap ≡ kept.old.cap }
-    ensures within { AreWithin kept.new.cap (keys_of kept.new.entries) }
 {
     if !has_span(devices, s, off, buffer.len()) {
         return Err(SourceFault::BadSource);

@@ -6,7 +6,7 @@ ghost use Rattle.lazy_file.specs.SourceTexts.{holds_span, text_at};
 ghost use Rattle.lazy_file.specs.Readings.{fault_in, InSpan, Reads};
 ghost use Rattle.lazy_file.specs.DeviceTexts.{blocks_in, calls_of, KeepsOthers, reading_by};
 ghost use Rattle.lazy_file.specs.declared.kept_blocks.TheConstants.{BLOCK_SIZE};
-ghost use Rattle.lazy_file.specs.KeptBlocks.{AreKeptFor, GoesByBlocks, last_block, UsesBlocks};
+ghost use Rattle.lazy_file.specs.KeptBlocks.{AreKeptFor, last_block, UsesBlocks};
 
 use crate::device::Device;
 use crate::device_blocks::{read_source, source_size};
@@ -18,7 +18,7 @@ use std::alloc::{AllocError, Global};
 use std::marker::Model;
 use std::num::NonZeroUsize;
 
-/// Sources that are devices. Short reads go by blocks, and the last that were used are kept in memory.
+/// Sources that are devices. Short reads go by blocks, the last of which are kept in memory.
 #[derive(Drop)]
 pub struct FileSources<D: Device> {
     devices: Vec<D>,
@@ -117,9 +117,8 @@ impl<D: Device> Sources for FileSources<D> {
     }
 
     /// As of any sources; every device but that of source `s` is left as it was, and that one is read by at most 4,096 calls for
-    /// each block that the bytes lie in. A read shorter than a block goes by blocks, and one whose blocks are all kept, which reads no
-    /// device: it uses the block of each byte in turn, and the last used are kept, as many as there is room for. Another goes
-    /// straight to the device, and leaves what is kept as it is.
+    /// each block that the bytes lie in. A short read keeps the block of its last byte, and reads no device where the blocks of all its
+    /// bytes are kept.
     fn read(&mut self, s: u8, off: u64, buffer: &mut [u8]) -> Result<(), SourceFault>
         ensures reads { Reads (reading_by (map D.reading self.old.devices))
             (reading_by (map D.reading self.new.devices)) (InSpan s off (max 1 (length buffer.old))) (fault_in result) }
@@ -130,12 +129,12 @@ impl<D: Device> Sources for FileSources<D> {
             ≡ false) }
         ensures keeps { OnOk result (1 ≤ length buffer.old → length buffer.old < BLOCK_SIZE
             → Contains self.new.kept (last_block s off (length buffer.old))) }
-        ensures unread { AreKeptFor self.old.kept s off (length buffer.old)
+        ensures unread { length buffer.old < BLOCK_SIZE
+            → AreKeptFor self.old.kept s off (length buffer.old)
             → self.new.devices ≡ self.old.devices }
-        ensures uses { GoesByBlocks self.old.kept s off (length buffer.old)
+        ensures uses { length buffer.old < BLOCK_SIZE
             → UsesBlocks self.old.most self.old.kept self.new.kept s off (length buffer.old) result }
-        ensures straight { (GoesByBlocks self.old.kept s off (length buffer.old) → ⊥)
-            → self.new.kept ≡ self.old.kept }
+        ensures straight { BLOCK_SIZE ≤ length buffer.old → self.new.kept ≡ self.old.kept }
         ensures most { self.new.most ≡ self.old.most }
         ensures others { KeepsOthers self.old.devices self.new.devices s }
         ensures calls { calls_of (map D.reading self.new.devices) s

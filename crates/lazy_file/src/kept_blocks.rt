@@ -1,7 +1,7 @@
 //! Blocks of sources that are kept in memory, the last ones that were read.
-ghost use Rattle.std.specs.Prelude.{◌≡◌, ◌↔◌, ◌<◌, ◌≤◌, ◌+◌, ◌^◌, IsTrue, OnOk, drop, length, take};
+ghost use Rattle.std.specs.Prelude.{◌≡◌, ◌≤◌, ◌+◌, IsTrue, OnOk, drop, length, take};
 ghost use Rattle.std.specs.Map.{keys_of};
-ghost use Rattle.lazy_file.specs.KeptBlocks.{AreKeptFor, AreWithin, CopiesKept, GoesByBlocks, IsKept, KeepsOne, UsesBlock, used_block};
+ghost use Rattle.lazy_file.specs.KeptBlocks.{AreWithin, CopiesKept, IsKept, KeepsOne, UsesBlock, used_block};
 
 use lru::LruCache;
 use std::alloc::AllocError;
@@ -43,35 +43,6 @@ pub(crate) fn copy_kept(
         Some(block) => copy_part(block, from, part),
         None => false,
     }
-}
-
-/// Whether the blocks of `len` bytes of source `s` from place `off` on are kept, looked up from the first to one that is not. Their order
-/// stays as it is.
-fn are_kept(kept: &LruCache<(u8, u64), Vec<u8>>, s: u8, off: u64, len: usize) -> bool
-    requires some { 1 ≤ len }
-    requires fits { off + len < 2 ^ 64 }
-    ensures { IsTrue result ↔ AreKeptFor (keys_of kept.now.entries) s off len }
-{
-    let end = (off + (len as u64 - 1)) / BLOCK_SIZE as u64 + 1;
-    for block in off / BLOCK_SIZE as u64..end {
-        if !kept.contains(&(s, block)) {
-            return false;
-        }
-    }
-    true
-}
-
-/// Whether a read of `len` bytes of source `s` from place `off` on goes by blocks.
-pub(crate) fn goes_by_blocks(
-    kept: &LruCache<(u8, u64), Vec<u8>>,
-    s: u8,
-    off: u64,
-    len: usize,
-) -> bool
-    requires { off + len < 2 ^ 64 }
-    ensures { IsTrue result ↔ GoesByBlocks (keys_of kept.now.entries) s off len }
-{
-    len < BLOCK_SIZE || are_kept(kept, s, off, len)
 }
 
 /// Keeps a block under `key`; where there are as many as may be, the one that was not used for longest goes.

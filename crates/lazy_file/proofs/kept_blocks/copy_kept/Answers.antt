@@ -1,4 +1,4 @@
-use Rattle.std.proofs.Common.{ap, arith, sym, ◌∙◌}
+use Rattle.std.proofs.Common.{◌≡◌, ap, arith, sym, subst, ◌∙◌}
 use Rattle.std.specs.Map.{keys_of}
 use Rattle.lazy_file.proofs.KeptLists.{copied_part, nothing_copied}
 use Rattle.lazy_file.proofs.UsedBlocks.{promoted_none, promoted_unkept, promoted_used}

@@ -1,4 +1,4 @@
-use Rattle.std.proofs.Common.{◌<◌, map, ap, arith}
+use Rattle.std.proofs.Common.{◌≡◌, ◌<◌, [], map, ap, arith}
 use Rattle.std.specs.NonZero.{non_zero_usize_get}
 use Rattle.lazy_file.specs.DeviceTexts.{texts_of}
 use Rattle.lazy_file.proofs.FileLists.{none_sound}

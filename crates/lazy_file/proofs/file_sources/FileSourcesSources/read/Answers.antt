@@ -1,5 +1,8 @@
 use Rattle.std.proofs.Common.{◌≡◌, length, map, ap, sym, ◌∙◌}
+use Rattle.std.specs.Map.{keys_of}
 use Rattle.lazy_file.specs.DeviceTexts.{texts_of}
+use Rattle.lazy_file.specs.KeptBlocks.{AreWithin}
+use Rattle.lazy_file.proofs.UsedBlocks.{within_read}
 use Rattle.lazy_file.proofs.FileLists.{AreSound, refilled}
 use Rattle.lazy_file.proofs.file_sources.FileSourcesSources.read.Goals as goal
 
@@ -11,8 +14,11 @@ invariant_of-self g c =
     let items = c.self.inside.devices.items in
     let len : length c.read_source.new.devices ≡ length items = c.read_source.auto.devices ∙ ap length c.deref_mut.ensures.value in
     let same : texts_of (map g.D.Device.reading c.read_source.new.devices) ≡ texts_of (map g.D.Device.reading items) = c.read_source.ensures.same ∙ ap (λ ds. texts_of (map g.D.Device.reading ds)) c.deref_mut.ensures.value in
+    let within : AreWithin c.read_source.new.kept.cap (keys_of c.read_source.new.kept.entries) =
+    rw c.read_source.ensures.most (within_read c.self.inside.kept.cap (keys_of c.self.inside.kept.entries) (keys_of c.read_source.new.kept.entries) c.args.s c.args.off (length c.args.buffer.now) c.read_source.result
+    c.self.invariant.2 c.read_source.ensures.uses c.read_source.ensures.straight) in
     let sound : AreSound (texts_of (map g.D.Device.reading c.read_source.new.devices)) c.read_source.new.kept.cap c.read_source.new.kept.entries =
-    (rw same c.self.invariant.0, c.read_source.ensures.kept, c.read_source.ensures.within) in
+    (rw same c.self.invariant.0, c.read_source.ensures.kept, within) in
     rw (refilled c.self.inside.devices.len items c.read_source.new.devices (sym c.deref_mut.ensures.len ∙ ap length c.deref_mut.ensures.value) len) sound
 
 pub returns-clause-unread : goal.returns-clause-unread
@@ -31,6 +37,3 @@ returns-clause-others g c =
 
 pub returns-clause-uses : goal.returns-clause-uses
 returns-clause-uses g c = rw (← c.self.view_is) c.read_source.ensures.uses
-
-pub returns-clause-straight : goal.returns-clause-straight
-returns-clause-straight g c = rw (← c.self.view_is) c.read_source.ensures.straight
