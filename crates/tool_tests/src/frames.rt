@@ -124,12 +124,15 @@ fn a_frame_reads_windows_once_and_rows_by_blocks(rt: HostRuntime) {
 
 /// A byte was typed at place 10,000. The 4,096 bytes before the cursor lie in two leaves: their blocks are asked for,
 /// from 4,096 and 8,192 on, and the line break at 8,999 is the first of the nearest 1,024 bytes. Windows before it end
-/// at 8,999 and at 4,999, and the first row begins at 4,500: these lie in blocks that are kept, the first of which the
-/// keys read. The cursor's line is looked through behind that byte, from the file's place 10,000 on. Each is a read
-/// that a frame with a window for each line makes too, in its order.
+/// at 8,999 and at 4,999, and the first row begins at 4,500. The cursor's line is looked through behind that byte, from
+/// the file's place 10,000 on. Each is a read that a frame with a window for each line makes too, in its order.
 #[test]
 fn a_frame_reads_the_rest_of_a_leaf_by_blocks(rt: HostRuntime) {
-    assert_reads(&rt, b"a", &[4096, 8192, 10_000, 10_500, 12_288, 14_500]);
+    assert_reads(
+        &rt,
+        b"a",
+        &[4096, 8192, 4903, 903, 4500, 10_000, 10_500, 12_288, 14_500],
+    );
 }
 
 /// The cursor stands at the end of a line of 20,000 bytes. Where it begins and ends is known behind the first frame, so
