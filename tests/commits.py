@@ -6,8 +6,8 @@ section of the image is a front of the newer one's, each text before and its fro
 there already changes no byte of the image. Where there is git, the bytes that all commits put in are within 1.3 of what `git diff --minimal` puts in.
 
 Images that chance makes, the worked ones and the vectors are gone on from too; what the second checker refuses is refused so, and stays as it is. Where
-there is strace, and RUNS is 100 or more, a commit is killed before each of its calls of the system, and the same command again finds the older image or
-the newer one; and another commit begins and ends while the first one stands before each of them: what either told is there.
+there is strace, and RUNS is 100 or more, a commit is killed before each of its calls of the system, or that call fails, and the same command again finds the older
+image or the newer one; and another commit begins and ends while the first one stands before each of them: what either told is there.
 
 Usage: tests/commits.py [RUNS [PROGRAM [FIRST]]]; FIRST is the number of the first run. The last line is 'N passed, M failed'.
 """
@@ -277,6 +277,30 @@ def run_killed(given):
     return "killed", 0, 0, f"{call}: without end"
 
 
+def run_failing(given):
+    """Each call of this name fails in turn: the image is the older one or the newer one, and the same command again finishes it."""
+    program, call, first = given
+    with tempfile.TemporaryDirectory() as folder, tempfile.NamedTemporaryFile() as trace:
+        room = Commits(program, folder, [])
+        begin(room, first)
+        room.commit(b"second\n")
+        newer = room.image_bytes()
+        for number in range(1, 1000):
+            older = begin(room, first)
+            words = ["strace", "-qq", "-o", trace.name, "-e", f"inject={call}:error=EIO:when={number}", program, "commit", room.image]
+            failed = subprocess.run([*words, room.put("file", b"second\n")], capture_output=True, check=False)
+            with open(trace.name, "rb") as calls:
+                if b"INJECTED" not in calls.read():
+                    return "failing", 0, 0, None
+            there = room.image_bytes()
+            if there not in (older, newer) or failed.returncode == 0 and there != newer:
+                return "failing", 0, 0, f"{call} {number} failed: {failed.returncode} {failed.stderr}, another image"
+            again = room.commit(b"second\n")
+            if again[0] or room.image_bytes() != newer or sorted(os.listdir(folder)) != ["file", "image"]:
+                return "failing", 0, 0, f"{call} {number} failed: {failed.returncode} {failed.stderr}, then {again}, {os.listdir(folder)}"
+    return "failing", 0, 0, f"{call}: without end"
+
+
 def stopped(traced_commit):
     """Waits until a traced program stands still, or has ended; its number where it stands."""
     while traced_commit.poll() is None:
@@ -324,7 +348,7 @@ def main():
         pass
     elif shutil.which("strace"):
         calls = [(program, call, begun) for call in CALLS for begun in (None, b"first\n")]
-        jobs += [(run_killed, calls), (run_two, calls)]
+        jobs += [(run_killed, calls), (run_failing, calls), (run_two, calls)]
     else:
         print("LEFT OUT: commits that are killed, and two at once: there is no strace here")
     found, tried, ours, gits = [], 0, 0, 0

@@ -5,13 +5,13 @@ ghost use Rattle.std.specs.Prelude.{◌≡◌, ◌*◌, ◌<◌, length};
 use crate::file_state::{FileState, is_named, state_behind};
 use crate::image_file::ImageFile;
 use crate::meter::Meter;
-use crate::opening::{open, opened_sources, told_size};
+use crate::opening::{open, opened_sources, told, told_size};
 use commit_tools::{Commit, CommitFault, run_commit, run_commit_anew};
 use cord_tools::{Status, ToolFault, read_image, read_source};
 use edit_commands::EditFault;
 use node_table::NodeFault;
 use std::fs::{self, File};
-use std::io::{self, Write};
+use std::io::{self, ErrorKind, Write};
 use std::sync::ledger::{Blank, Ledger};
 use work_progress::Progress;
 
@@ -65,7 +65,9 @@ fn refuse_keys(rt: &HostRuntime, image: &str) -> Result<(), ToolFault> {
     let keys = format!(in rt.alloc(); "{image}.keys")?;
     match fs::metadata(rt, keys.as_str()) {
         Ok(metadata) if metadata.len() > 0 => Err(ToolFault::KeysInUse),
-        _ => Ok(()),
+        Ok(_) => Ok(()),
+        Err(error) if error.kind() == ErrorKind::NotFound => Ok(()),
+        Err(error) => Err(told(error)),
     }
 }
 
@@ -132,6 +134,7 @@ fn committed<L: Ledger>(
     words: Committing<'_>,
     text: &[u8],
     image: &mut ImageFile<'_>,
+    is_new: bool,
     meter: &mut Meter<'_>,
     blank: Blank,
 ) -> Result<Commit, ToolFault>
@@ -139,7 +142,7 @@ fn committed<L: Ledger>(
     requires parts { blank.parts ≡ L.parts }
     requires many { 2 * length words.sources.now < blank.parts }
 {
-    if !image.is_there() && words.sources.is_empty() {
+    if is_new && words.sources.is_empty() {
         return run_commit_anew(rt.alloc(), text, image).map_err(told_fault);
     }
     let older = open(rt, words.image)?;
@@ -161,10 +164,12 @@ pub fn commit<L: Ledger>(
     let mut image = ImageFile::new(rt, words.image)?;
     refuse_own(rt, words, &image)?;
     refuse_keys(rt, words.image)?;
+    // What this look tells is what is replaced: a later one may fail.
     let there = image.look();
     image.replace_only(there);
+    let is_new = there.is_none_or(|state| state.size == 0);
     let text = read_file(rt, words.file)?;
-    let put = match committed::<L>(rt, words, &text, &mut image, &mut *meter, blank) {
+    let put = match committed::<L>(rt, words, &text, &mut image, is_new, &mut *meter, blank) {
         Ok(commit) => image.put_here().map(|_| commit),
         Err(_) if image.is_busy() => Err(ToolFault::OtherImage),
         Err(fault) => Err(image.cause(fault)),
