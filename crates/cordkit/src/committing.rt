@@ -149,6 +149,17 @@ fn committed<L: Ledger>(
     commit_onto::<L>(rt, words, older, text, image, meter, blank)
 }
 
+/// Puts the image in its place, and gives the line of the answer. That is made first: nothing wants memory behind it.
+fn put_and_tell(
+    rt: &HostRuntime,
+    image: &ImageFile<'_>,
+    commit: Commit,
+) -> Result<String, ToolFault> {
+    let line = format!(in rt.alloc(); "{commit}\n")?;
+    image.put_here()?;
+    Ok(line)
+}
+
 /// Makes what a file holds now the last text of an image, and puts the new image in the place of the one that was there
 /// when it was read. Answers on standard output which revision has it.
 pub fn commit<L: Ledger>(
@@ -170,7 +181,7 @@ pub fn commit<L: Ledger>(
     let is_new = there.is_none_or(|state| state.size == 0);
     let text = read_file(rt, words.file)?;
     let put = match committed::<L>(rt, words, &text, &mut image, is_new, &mut *meter, blank) {
-        Ok(commit) => image.put_here().map(|_| commit),
+        Ok(commit) => put_and_tell(rt, &image, commit),
         Err(_) if image.is_busy() => Err(ToolFault::OtherImage),
         Err(fault) => Err(image.cause(fault)),
     };
@@ -178,8 +189,7 @@ pub fn commit<L: Ledger>(
     if put.is_err() {
         image.drop_part();
     }
-    let commit = put?;
-    let line = format!(in rt.alloc(); "{commit}\n")?;
+    let line = put?;
     io::writer(rt)
         .write_all(line.as_bytes())
         .map_err(|_| ToolFault::Write)?;
