@@ -59,14 +59,14 @@ long_enough : {A : Type 0} (ds : List DeviceText) (kept : Kept A) (key : ℕ × 
     → (block : Vec ℕ A) → Contains kept (key, block) → from + n ≤ length block.items
 long_enough ds kept key from n are span fits block there = let is = are key block there in omega (arith, is.whole, span.inside, fits)
 
--- a block of which nothing was copied is not kept
+-- where nothing was copied of a block, it is not kept
 pub missed_block : {A : Type 0} (ds : List DeviceText) (kept new : Kept A) (key : ℕ × ℕ) (from : ℕ) (part : List ℕ) (n : ℕ) → AreKept ds kept → HasSpan ds key.0 (key.1 * BLOCK_SIZE + from) n
     → from + n ≤ BLOCK_SIZE → length part ≡ n → CopiesKept kept new key from part false → IsKept kept key → ⊥
 missed_block ds kept new key from part n are span fits same copies there =
     let copied = copies.copied_if there (λ block is. omega (arith, long_enough ds kept key from n are span fits block is, same)) in
     absurd cc
 
--- nothing is told of a read of a block that is not kept
+-- `ReadsBlock` asks nothing of a block that is not kept
 pub block_unkept : {A D : Type 0} (before after : List D) (old new : Kept A) (key : ℕ × ℕ) → (IsKept old key → ⊥) → ReadsBlock before after old new key
 block_unkept before after old new key away = record { unread = λ there. absurd (away there); stays = λ there. absurd (away there) }
 

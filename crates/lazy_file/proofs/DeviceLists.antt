@@ -87,6 +87,7 @@ read_of_one reading ds d after s off buffer outcome span fills =
         later = omega (arith, fills.later);
         calls = omega (arith, fills.calls);
         device = (λ failed. omega (arith, fills.device.0 failed), λ more. fills.device.1 (omega (arith, more)));
+        once = omega (arith, fills.once);
         short = λ ended. rw own (shorter one.size one.text (off + length buffer) within (fills.short ended));
         inside = fills.inside;
       },

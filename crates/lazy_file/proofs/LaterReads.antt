@@ -30,7 +30,7 @@ reads_told before after Asked (Some f) reads s more =
       | inr other ↦ absurd (omega (arith, is.others s other))
     ]
 
--- of sources that never fail, and hold each place that is asked for, there is no fault
+-- sources that never fail, and hold each place that is asked for, are read without a fault
 pub reads_succeed : (before after : Reading) (Asked : ℕ → ℕ → Type 0) (fault : Option SourceFault) → Reads before after Asked fault → before.stated.never_fails ≡ true → ((s p : ℕ) → Asked s p → holds_span before.stated s p 1 ≡ true) → fault ≡ None
 reads_succeed before after Asked None reads never held = refl
 reads_succeed before after Asked (Some f) reads never held =

@@ -155,11 +155,11 @@ module _ {A : Type 0} where
   same_by key kept None none = refl
   same_by key kept (Some e) none = absurd cc
 
-  -- where none is found nothing moves
+  -- the blocks stay in their order where none is found
   pub promoted_none : (key : ℕ × ℕ) (kept : Kept A) → lookup (is_same_block key) kept ≡ None → promoted (is_same_block key) kept ≡ kept
   promoted_none key kept none = same_by key kept (lookup_entry (is_same_block key) kept) (lookup-lookup_entry (is_same_block key) kept ∙ none)
 
-  -- nothing moves where the block is not kept
+  -- the blocks stay in their order where this one is not kept
   pub promoted_unkept : (key : ℕ × ℕ) (kept : Kept A) (block : Vec ℕ A) → lookup (is_same_block key) kept ≡ Some block → IsKept kept key
   promoted_unkept key kept block found = key_of_kept kept key block (found_block kept key block found)
 

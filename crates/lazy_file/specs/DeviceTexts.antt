@@ -16,7 +16,7 @@ pub record DeviceText : Type 0 where
 abbrev pub no_device : DeviceText
 no_device = record { size = 0; text = None }
 
--- a device of so many bytes that states none of them
+-- a device of this size that states no text
 abbrev pub unstated : ℕ → DeviceText
 unstated size = record { size = size; text = None }
 
@@ -37,6 +37,7 @@ pub record ReadsAt {E : Type 0} (before after : DeviceReading) (off : ℕ) (old 
   pub same : after.stated ≡ before.stated
   pub later : before.failures ≤ after.failures
   pub failed : IsErr outcome ↔ before.failures < after.failures
+  pub once : after.failures ≤ before.failures + 1
   pub calls : after.calls ≤ before.calls + 1
   pub count : IfOk outcome (λ n. n ≤ length old)
   pub bytes : IfOk outcome (λ n. AreBytesAt before.stated.text off (take n new))
@@ -73,6 +74,7 @@ pub record FillsFrom {X : Type 0} (before after : DeviceReading) (off : ℕ) (bu
   pub calls : after.calls ≤ before.calls + length buffer
   pub bytes : OnOk outcome (AreBytesAt before.stated.text off buffer)
   pub device : IsErrOf outcome Device ↔ before.failures < after.failures
+  pub once : after.failures ≤ before.failures + 1
   pub short : IsErrOf outcome Short → IfSome before.stated.text (λ t. length t < off + length buffer)
   pub inside : IsErrOf outcome BadSource → ⊥
 
@@ -98,7 +100,7 @@ calls_of ds s = (get_or ds s no_reading).calls
 abbrev pub blocks_in : ℕ → ℕ → ℕ
 blocks_in off n = (off + n + (BLOCK_SIZE - 1)) / BLOCK_SIZE - off / BLOCK_SIZE
 
--- what reading source s by at most so many calls of its device leaves of the devices, and when each fault of it comes
+-- what reading source s by at most `most` calls of its device leaves of the devices, and when each fault of it comes
 pub record ReadsSource {D X : Type 0} (reading : D → DeviceReading) (before after : List D) (s most : ℕ)
     (outcome : Result X SourceFault) : Type 0 where
   pub same : texts_of (map reading after) ≡ texts_of (map reading before)
@@ -106,6 +108,7 @@ pub record ReadsSource {D X : Type 0} (reading : D → DeviceReading) (before af
   pub later : failures_of (map reading before) s ≤ failures_of (map reading after) s
   pub calls : calls_of (map reading after) s ≤ calls_of (map reading before) s + most
   pub device : IsErrOf outcome Device ↔ failures_of (map reading before) s < failures_of (map reading after) s
+  pub once : failures_of (map reading after) s ≤ failures_of (map reading before) s + 1
   pub short : IsErrOf outcome Short
       → IfSome (source_text (get_or (texts_of (map reading before)) s no_device))
       (λ t. length t < (get_or (texts_of (map reading before)) s no_device).size)

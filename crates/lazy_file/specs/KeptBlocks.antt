@@ -23,8 +23,8 @@ AreKept {A} ds kept = (key : ℕ × ℕ) (block : Vec ℕ A) → Contains kept (
 abbrev pub IsKept : {A : Type 0} → Kept A → ℕ × ℕ → Type 0
 IsKept kept key = Contains (keys_of kept) key
 
--- a part from place from on was copied out of the block under this key, if one is kept with so many bytes; no block is
--- new, and each stays
+-- a part was copied out of the block under this key, from its place `from` on, if such a block is kept and is long
+-- enough; no block is new, and each stays
 pub record CopiesKept {A : Type 0} (old new : Kept A) (key : ℕ × ℕ) (from : ℕ) (part : List ℕ) (copied : Bool)
     : Type 0 where
   pub found : IsTrue copied → (block : Vec ℕ A) × Contains old (key, block)

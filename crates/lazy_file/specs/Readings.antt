@@ -11,7 +11,7 @@ pub record Reading : Type 0 where
 
 -- A read of source s that asked for its place p failed so: Device exactly where one more read of s has failed, Short
 -- only where the text of s is shorter than its size, BadSource only where there is no such place. No read of another
--- source has failed, and of sources that never fail there is no fault but BadSource.
+-- source has failed; of sources that never fail the only fault is BadSource.
 pub record IsFaultAt (before after : Reading) (s p : ℕ) (fault : SourceFault) : Type 0 where
   pub same : after.stated ≡ before.stated
   pub others : (r : ℕ) → r ≢ s → after.failures r ≡ before.failures r

@@ -21,8 +21,8 @@ impl fmt::Display for DeviceError {
 
 impl Error for DeviceError {}
 
-/// What holds the bytes of one source. It has a size, and may state its text; how many reads of it have failed, and how many were
-/// asked for, is known to contracts alone.
+/// What holds the bytes of one source. It has a size, and may state its text; how many reads of it have failed, and how
+/// many were asked for, is known to contracts alone.
 pub trait Device: Drop {
     /// What all devices of a kind count their reads in, if they do.
     type Book: Drop;
@@ -33,12 +33,12 @@ pub trait Device: Drop {
     fn size(&self) -> u64
         ensures { result ≡ (reading self.now).stated.size };
 
-    /// Reads bytes from place `off` on into the front of `buffer`, and answers how many: 0 only for an empty buffer or at the text's
-    /// end. Neither the size nor the text changes.
+    /// Reads bytes from place `off` on into the front of `buffer`, and answers how many: 0 only for an empty buffer or
+    /// at the text's end. Neither the size nor the text changes.
     ///
     /// # Errors
     ///
-    /// `DeviceError`, where one more read has failed. The buffer may hold any bytes then.
+    /// `DeviceError`, where one more read has failed, and no more than one. The buffer may hold any bytes then.
     fn read_at(
         &mut self,
         book: &mut Self::Book,

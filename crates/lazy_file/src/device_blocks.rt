@@ -1,8 +1,8 @@
-//! Reads of sources that are devices: a long one straight into the caller's buffer, a short one by blocks that are kept.
+//! Reads of sources that are devices: a long one straight into the caller's buffer, a short one by kept blocks.
 ghost use Rattle.std.specs.Prelude.{◌≡◌, ◌↔◌, ◌+◌, ◌*◌, ◌<◌, ◌≤◌, false, IfOk, IfSome, IsErrOf, OnOk, drop, get_or, length, map, max, take};
 ghost use Rattle.lazy_file.specs.SourceTexts.{AreSizes, holds_span, text_at};
 ghost use Rattle.lazy_file.specs.Readings.{fault_in, InSpan, Reads};
-ghost use Rattle.lazy_file.specs.DeviceTexts.{AreBytesOf, calls_of, HasSpan, KeepsOthers, ReadsSource, blocks_in, no_device, reading_by, texts_of};
+ghost use Rattle.lazy_file.specs.DeviceTexts.{AreBytesOf, calls_of, failures_of, HasSpan, KeepsOthers, ReadsSource, blocks_in, no_device, reading_by, texts_of};
 ghost use Rattle.lazy_file.specs.KeptBlocks.{AreKept, AreKeptFor, AreWithin, IsKept, last_block, ReadsBlock, UsesBlock, UsesBlocks};
 ghost use Rattle.std.specs.Map.{keys_of};
 
@@ -92,7 +92,8 @@ fn read_anew<D: Device>(
     }
 }
 
-/// Copies bytes of the block under `key`, from its place `from` on, into the whole of `part`; the block is read where it is not kept.
+/// Copies bytes of the block under `key`, from its place `from` on, into the whole of `part`; the block is read where
+/// it is not kept.
 fn read_in_block<D: Device>(
     alloc: Global,
     devices: &mut [D],
@@ -122,7 +123,7 @@ fn read_in_block<D: Device>(
     read_anew(alloc, devices, book, kept, key, from, part)
 }
 
-/// Reads at most a block's bytes of source `s` from place `off` on into the whole of `buffer`: they lie in one block or in two.
+/// Reads at most a block's bytes of source `s` from place `off` on into the whole of `buffer`: of one block or of two.
 fn read_short<D: Device>(
     alloc: Global,
     devices: &mut [D],
@@ -231,6 +232,8 @@ pub(crate) fn read_source<D: Device>(
     ensures others { KeepsOthers devices.old devices.new s }
     ensures calls { calls_of (map D.reading devices.new) s
         ≤ calls_of (map D.reading devices.old) s + BLOCK_SIZE * blocks_in off (length buffer.old) }
+    ensures once { failures_of (map D.reading devices.new) s
+        ≤ failures_of (map D.reading devices.old) s + 1 }
     ensures reads { Reads (reading_by (map D.reading devices.old))
         (reading_by (map D.reading devices.new))
         (InSpan s off (max 1 (length buffer.old))) (fault_in result) }

@@ -8,8 +8,8 @@ use std::io::ErrorKind;
 use std::os::unix::fs::FileExt;
 use std::sync::ledger::{Book, Ledger, Share};
 
-/// An open file of so many bytes. It states no text, since others may change it. Its reads, and those that failed, are counted in
-/// numbers that take no bytes, so no count has a greatest value.
+/// An open file and its size. It states no text, since others may change it. Its reads, and those that failed, are
+/// counted in numbers that take no bytes and have no greatest value.
 #[derive(Drop)]
 pub struct FileDevice<L: Ledger> {
     file: File,

@@ -4,7 +4,7 @@ ghost use Rattle.std.specs.NonZero.{non_zero_usize_get};
 ghost use Rattle.lazy_file.specs.declared.sources.TheConstants.{COUNT_LIMIT, SOURCE_LIMIT};
 ghost use Rattle.lazy_file.specs.SourceTexts.{holds_span, text_at};
 ghost use Rattle.lazy_file.specs.Readings.{fault_in, InSpan, Reads};
-ghost use Rattle.lazy_file.specs.DeviceTexts.{blocks_in, calls_of, KeepsOthers, reading_by};
+ghost use Rattle.lazy_file.specs.DeviceTexts.{blocks_in, calls_of, failures_of, KeepsOthers, reading_by};
 ghost use Rattle.lazy_file.specs.declared.kept_blocks.TheConstants.{BLOCK_SIZE};
 ghost use Rattle.lazy_file.specs.KeptBlocks.{AreKeptFor, last_block, UsesBlocks};
 
@@ -44,7 +44,7 @@ impl<D: Device> Model for FileSources<D> {
 }
 
 impl<D: Device> FileSources<D> {
-    /// No sources, room for so many blocks that are kept, and what the devices count their reads in.
+    /// No sources, room to keep `blocks` blocks, and what the devices count their reads in.
     ///
     /// # Errors
     ///
@@ -116,9 +116,9 @@ impl<D: Device> Sources for FileSources<D> {
         source_size(&self.devices, s)
     }
 
-    /// As of any sources; every device but that of source `s` is left as it was, and that one is read by at most 4,096 calls for
-    /// each block that the bytes lie in. A short read keeps the block of its last byte, and reads no device where the blocks of all its
-    /// bytes are kept.
+    /// Reads as `Sources::read` says. Every device but that of source `s` is left as it was, and that one is read by at
+    /// most 4,096 calls for each block that the bytes lie in, of which at most one fails. A short read keeps the block
+    /// of its last byte, and reads no device where the blocks of all its bytes are kept; a long one keeps what was kept.
     fn read(&mut self, s: u8, off: u64, buffer: &mut [u8]) -> Result<(), SourceFault>
         ensures reads { Reads (reading_by (map D.reading self.old.devices))
             (reading_by (map D.reading self.new.devices)) (InSpan s off (max 1 (length buffer.old))) (fault_in result) }
@@ -139,6 +139,8 @@ impl<D: Device> Sources for FileSources<D> {
         ensures others { KeepsOthers self.old.devices self.new.devices s }
         ensures calls { calls_of (map D.reading self.new.devices) s
             ≤ calls_of (map D.reading self.old.devices) s + BLOCK_SIZE * blocks_in off (length buffer.old) }
+        ensures once { failures_of (map D.reading self.new.devices) s
+            ≤ failures_of (map D.reading self.old.devices) s + 1 }
     {
         read_source(
             self.alloc,

@@ -9,7 +9,7 @@ use std::alloc::AllocError;
 /// The bytes of a block; the last one of a source may be shorter.
 pub const BLOCK_SIZE: usize = 4096;
 
-/// Copies the bytes of a block from its place `from` on into the whole of `part`, and answers whether it has so many.
+/// Copies a block's bytes from its place `from` on into the whole of `part`, and answers whether it has enough of them.
 fn copy_part(block: &[u8], from: usize, part: &mut [u8]) -> bool
     ensures copied { IsTrue result → part.new ≡ take (length part.new) (drop from block.now) }
     ensures inside { from + length part.old ≤ length block.now → IsTrue result }
@@ -24,8 +24,8 @@ fn copy_part(block: &[u8], from: usize, part: &mut [u8]) -> bool
     true
 }
 
-/// Copies the bytes of the block under `key`, from its place `from` on, into the whole of `part`, and answers whether it did: not
-/// where no block is kept there, or a shorter one.
+/// Copies the bytes of the block under `key`, from its place `from` on, into the whole of `part`, and answers whether
+/// it did: only where a block is kept there that is long enough.
 pub(crate) fn copy_kept(
     kept: &mut LruCache<(u8, u64), Vec<u8>>,
     key: (u8, u64),

@@ -39,7 +39,8 @@ impl<'a> MemSources<'a> {
     ///
     /// # Errors
     ///
-    /// `TooManySources` where there are 255, `SourceTooLong` for more than 2^40 - 1 bytes, `Memory`. The sources are then as before.
+    /// `TooManySources` where there are 255, `SourceTooLong` for more than 2^40 - 1 bytes, `Memory`. The sources are
+    /// then as before.
     pub fn add(&mut self, text: &'a [u8]) -> Result<u8, AddFault>
         ensures place { IfOk result (λ s. s ≡ length self.old) }
         ensures ok { OnOk result (self.new ≡ self.old ++ text.now ∷ []) }

@@ -61,6 +61,7 @@ impl<T: Copy> Blocks<T> {
         ensures items { self.new.items ≡ self.old.items }
         ensures room { IfOk result (λ _. count ≤ self.new.room) }
         ensures memory { IsErr result → self.old.room < count }
+        ensures within { count ≤ self.old.room → self.new ≡ self.old }
         ensures err { OnErr result (self.new ≡ self.old) }
     {
         let last = (self.len as usize + (count - 1)) / ITEMS_IN_BLOCK;

@@ -52,7 +52,8 @@ fn function_of<S: CodedSpace>(space: &S, id: NodeId, view: NodeView) -> Option<C
 {
     match view {
         NodeView::Fun => Some(space.coded(id)),
-        _ => None,
+        NodeView::Lit { .. } | NodeView::Src { .. } | NodeView::Cat { .. } | NodeView::Sub { .. } =>
+            None,
     }
 }
 

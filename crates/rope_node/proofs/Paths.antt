@@ -13,7 +13,7 @@ use Rattle.rope_node.proofs.Cells.{cells_at, cells_length}
 use Rattle.rope_node.proofs.LeafSpans.{span_step}
 use Rattle.rope_node.proofs.Visits.{visits_step, visits-le}
 
--- place p of node x is where the path from place q of node y leads, after so many nodes above x
+-- place p of node x is where the path from place q of node y leads, after `seen` nodes above x
 pub record IsOnPath (t : Table) (y q x p seen : ℕ) : Type 0 where
   pub there : x < length t.nodes
   pub inside : p < len_at t x

@@ -19,7 +19,7 @@ node_cells t below id n Fun = map (λ k. Byte (t.answer id k)) (range_with_len 0
 node_cells t below id n (Cat l r) = below l.0 ++ below r.0
 node_cells t below id n (Sub b i) = take n (drop i (below b.0))
 
--- the cells of a node, found in at most so many steps down; none where these are used up
+-- the cells of a node, found in at most `steps` steps down; an empty list where these are used up
 abbrev pub cells_in : Table → ℕ → ℕ → List Cell
 cells_in t zero id = []
 cells_in t (suc steps) id = node_cells t (cells_in t steps) id (len_at t id) (view_at t id)

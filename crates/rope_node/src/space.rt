@@ -37,7 +37,8 @@ pub trait NodeSpace {
         ensures sound { IsSound (table self.now) }
         ensures true_records { HasTrueRecords (table self.now) };
 
-    /// The recorded length of the left part `l` of the concatenation `id`, in bytes. A table may keep it with the concatenation.
+    /// The recorded length of the left part `l` of the concatenation `id`, in bytes. A table may keep it with the
+    /// concatenation.
     fn left_len(&self, id: NodeId, l: NodeId) -> u64
         requires there { id.0 < length (table self.now).nodes }
         requires left { IsLeftPart (view_at (table self.now) id.0) l }

@@ -111,7 +111,8 @@ impl<F: LeafFn> Store<F> {
                 start: a as u32,
                 len: self.table.len(x) as u32,
             },
-            _ => unreachable!(),
+            NodeView::Src { .. } | NodeView::Fun | NodeView::Cat { .. } | NodeView::Sub { .. } =>
+                unreachable!(),
         }
     }
 

@@ -35,9 +35,12 @@ impl<F: LeafFn> Store<F> {
                     before: Some(l),
                     literal: r,
                 }),
-                _ => None,
+                NodeView::Src { .. }
+                | NodeView::Fun
+                | NodeView::Cat { .. }
+                | NodeView::Sub { .. } => None,
             },
-            _ => None,
+            NodeView::Src { .. } | NodeView::Fun | NodeView::Sub { .. } => None,
         }
     }
 
@@ -72,7 +75,8 @@ impl<F: LeafFn> Store<F> {
     {
         match self.table.node(r) {
             NodeView::Lit { .. } => self.short_ending(l, self.table.len(r)),
-            _ => None,
+            NodeView::Src { .. } | NodeView::Fun | NodeView::Cat { .. } | NodeView::Sub { .. } =>
+                None,
         }
     }
 }
