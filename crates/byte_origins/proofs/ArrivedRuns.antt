@@ -38,7 +38,7 @@ push_arrival before (y ∷ xs) x is at fits =
 
 -- ---- what stands at a place
 
--- so many of a run's origins, from the off-th on
+-- the m origins of a run from the off-th on
 pub part_of_run : (first : Origin) (len off m : ℕ) → off + m ≤ len → take m (drop off (run_origins (record { first = first; len = len }))) ≡ run_origins (record { first = origin_behind first off; len = m })
 part_of_run first len off m fits =
     let start : 0 + off ≡ off = omega arith in

@@ -9,7 +9,7 @@ use Rattle.rope_node.specs.declared.node.NodeView.TheVariants.{Fun}
 use Rattle.rope_node.specs.Table.{Node, no_node, node_at, view_at, len_at, depth_at, IsSoundNode, IsSound, IsTrueNode, HasTrueRecords}
 use Rattle.rope_node.specs.Denotes.{rope_len, IsRope}
 use Rattle.rope_node.proofs.Ropes.{rope_short}
-use Rattle.span_certificate.specs.Parts.{root_at, AreRopes}
+use Rattle.command_parts.specs.Parts.{root_at, AreRopes}
 use Rattle.image_reader.specs.Value.{ImageValue, image_table}
 use Rattle.image_reader.specs.Accepted.{revision_at}
 use Rattle.session_checker.specs.Faithful.{HasTrueRecordsOf}

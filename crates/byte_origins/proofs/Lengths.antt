@@ -12,12 +12,12 @@ use Rattle.rope_node.specs.Table.{Table, IsSound, HasTrueRecords}
 use Rattle.rope_node.specs.Denotes.{Cell, Place, rope_cells, rope_len}
 use Rattle.rope_node.proofs.Parts.{map_alike}
 use Rattle.rope_node.proofs.Ropes.{rope_length}
-use Rattle.span_certificate.specs.Commands.{FullEdit, full_edit, result_of}
-use Rattle.span_certificate.specs.Parts.{parts_len, AreRopes, givens_of}
-use Rattle.span_certificate.proofs.Joined.{parts_joined}
-use Rattle.span_certificate.proofs.PartsInRange.{parts_in_range}
+use Rattle.command_parts.specs.Commands.{FullEdit, full_edit, result_of}
+use Rattle.command_parts.specs.Parts.{parts_len, AreRopes, givens_of}
+use Rattle.command_parts.proofs.Joined.{parts_joined}
+use Rattle.command_parts.proofs.PartsInRange.{parts_in_range}
 use Rattle.span_certificate.proofs.Covering.{length-parts_cells}
-use Rattle.span_certificate.proofs.AlikeLengths.{lengths_alike}
+use Rattle.command_parts.proofs.AlikeLengths.{lengths_alike}
 use Rattle.image_reader.specs.declared.revision.Revision.{Revision}
 use Rattle.image_reader.specs.Value.{ImageValue, image_table}
 use Rattle.image_reader.specs.Accepted.{no_revision, revision_at, command_at, roots_before, parts_at, KeepsRules}

@@ -7,8 +7,8 @@ use Rattle.std.proofs.lemmas.List.{length-map, get_or-map, ext_get_or, map-appen
 use Rattle.std.proofs.lemmas.List.FromFn.{length-range_with_len, get_or-map-range_with_len}
 use Rattle.std.proofs.lemmas.Simd.{map-map}
 use Rattle.std.proofs.lemmas.Option.{slice_get-map, slice_get-get_or, same_Some, none-some}
-use Rattle.span_certificate.specs.Commands.{FullEdit, New, Givens, result_of, IsHistory}
-use Rattle.span_certificate.proofs.MappedResults.{mapped_givens, result_mapped, history_mapped}
+use Rattle.command_parts.specs.Commands.{FullEdit, New, Givens, result_of, IsHistory}
+use Rattle.command_parts.proofs.MappedResults.{mapped_givens, result_mapped, history_mapped}
 use Rattle.rope_node.specs.Denotes.{rope_cells, text}
 use Rattle.image_reader.specs.declared.revision.Revision.{Revision}
 use Rattle.image_reader.specs.Value.{ImageValue, image_table}

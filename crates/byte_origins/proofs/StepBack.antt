@@ -12,13 +12,13 @@ use Rattle.rope_node.specs.declared.node.NodeId.{NodeId}
 use Rattle.rope_node.specs.Table.{Table}
 use Rattle.rope_node.specs.Denotes.{rope_cells, rope_len, IsRope}
 use Rattle.rope_node.proofs.Parts.{span_left, span_right}
-use Rattle.span_certificate.specs.declared.part.Part.{Part}
-use Rattle.span_certificate.specs.Commands.{Givens, result_of}
-use Rattle.span_certificate.specs.Parts.{part_len, parts_len, part_things, HasLengths, root_at, IsPart, AreParts, IsInRange, givens_of, part_at}
-use Rattle.span_certificate.proofs.InRange.{in_range}
-use Rattle.span_certificate.proofs.PartsInRange.{parts_in_range}
-use Rattle.span_certificate.proofs.JoinedThings.{things_joined}
-use Rattle.span_certificate.proofs.AlikeLengths.{lengths_alike}
+use Rattle.command_parts.specs.declared.part.Part.{Part}
+use Rattle.command_parts.specs.Commands.{Givens, result_of}
+use Rattle.command_parts.specs.Parts.{part_len, parts_len, part_things, HasLengths, root_at, IsPart, AreParts, IsInRange, givens_of, part_at}
+use Rattle.command_parts.proofs.InRange.{in_range}
+use Rattle.command_parts.proofs.PartsInRange.{parts_in_range}
+use Rattle.command_parts.proofs.JoinedThings.{things_joined}
+use Rattle.command_parts.proofs.AlikeLengths.{lengths_alike}
 use Rattle.image_reader.specs.declared.revision.Revision.{Revision}
 use Rattle.image_reader.specs.Value.{ImageValue, image_table}
 use Rattle.image_reader.specs.Accepted.{command_at, roots_before, KeepsRules}

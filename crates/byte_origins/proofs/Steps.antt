@@ -3,7 +3,7 @@ use Rattle.std.proofs.Common.{◌≡◌, ℕ, zero, suc, ◌+◌, ◌≤◌, Lis
 use Rattle.std.specs.Prelude.{slice_get}
 use Rattle.std.proofs.lemmas.List.{length-append, take-append-le, take_all, get_or-take}
 use Rattle.std.proofs.lemmas.Option.{none-some, same_Some}
-use Rattle.span_certificate.specs.Commands.{FullEdit}
+use Rattle.command_parts.specs.Commands.{FullEdit}
 use Rattle.byte_origins.specs.declared.run.Origin.{Origin}
 use Rattle.byte_origins.specs.Origins.{Traced, Earlier, Outside, settled, origins_of, origins_from}
 

@@ -5,8 +5,8 @@ use Rattle.std.specs.Option.{option_map, unwrap_or}
 use Rattle.std.specs.List.{range_with_len}
 use Rattle.std.proofs.lemmas.List.{length-take}
 use Rattle.std.proofs.lemmas.Option.{same_Some, none-some}
-use Rattle.span_certificate.specs.Commands.{FullEdit, Givens, result_of}
-use Rattle.span_certificate.proofs.MappedResults.{mapped_givens, result_mapped}
+use Rattle.command_parts.specs.Commands.{FullEdit, Givens, result_of}
+use Rattle.command_parts.proofs.MappedResults.{mapped_givens, result_mapped}
 use Rattle.image_reader.specs.Value.{ImageValue}
 use Rattle.image_reader.specs.Accepted.{command_at}
 use Rattle.session_checker.specs.Faithful.{EachRevision}

@@ -6,8 +6,8 @@ use Rattle.std.proofs.lemmas.List.{length-map, take_all}
 use Rattle.std.proofs.lemmas.List.FromFn.{length-range_with_len, get_or-map-range_with_len}
 use Rattle.rope_node.specs.declared.node.NodeId.{NodeId}
 use Rattle.rope_node.proofs.Parts.{span_within, span-map, span-range_with_len}
-use Rattle.span_certificate.specs.declared.part.Part.{Part}
-use Rattle.span_certificate.specs.Parts.{part_len, part_things, part_at}
+use Rattle.command_parts.specs.declared.part.Part.{Part}
+use Rattle.command_parts.specs.Parts.{part_len, part_things, part_at}
 use Rattle.span_certificate.proofs.Covering.{HoldsPlace, holds_place, no_part}
 use Rattle.image_reader.specs.Value.{ImageValue}
 use Rattle.image_reader.specs.Accepted.{KeepsRules}

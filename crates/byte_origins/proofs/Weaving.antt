@@ -7,8 +7,8 @@ use Rattle.std.proofs.Math.Seq.{get_or-append_seam}
 use Rattle.rope_node.specs.declared.node.NodeId.{NodeId}
 use Rattle.rope_node.specs.Table.{IsSound}
 use Rattle.rope_node.proofs.Ropes.{rope_short}
-use Rattle.span_certificate.specs.declared.part.Part.{Part}
-use Rattle.span_certificate.specs.Parts.{part_len, parts_len, part_at, IsPart, AreParts, AreRopes}
+use Rattle.command_parts.specs.declared.part.Part.{Part}
+use Rattle.command_parts.specs.Parts.{part_len, parts_len, part_at, IsPart, AreParts, AreRopes}
 use Rattle.image_reader.specs.Value.{ImageValue, image_table}
 use Rattle.image_reader.specs.Accepted.{revision_at, KeepsRules}
 use Rattle.session_checker.specs.Faithful.{HasTrueRecordsOf, EachRevision}

@@ -5,13 +5,13 @@ use Rattle.byte_origins.specs.declared.run.Brought.TheVariants.{Pool, Source, Fi
 use Rattle.byte_origins.specs.declared.run.Origin.{Origin}
 use Rattle.byte_origins.specs.declared.run.OriginRun.{OriginRun}
 
--- a byte so many places on in what is brought
+-- the byte n places on in what is brought
 abbrev pub brought_behind : Brought → ℕ → Brought
 brought_behind (Pool a) n = Pool (a + n)
 brought_behind (Source s p) n = Source s (p + n)
 brought_behind (Fill c) n = Fill c
 
--- the origin of the byte that came in so many places on from one
+-- the origin of the byte that came in n places on from one
 abbrev pub origin_behind : Origin → ℕ → Origin
 origin_behind o n = record {
   revision = o.revision;
@@ -19,7 +19,7 @@ origin_behind o n = record {
   brought = brought_behind o.brought n;
 }
 
--- the place where so many bytes end that are brought side by side; a fill has no places
+-- the place where n bytes end that are brought side by side; a fill has no places
 abbrev pub brought_end : Brought → ℕ → ℕ
 brought_end (Pool a) n = a + n
 brought_end (Source s p) n = p + n

@@ -6,8 +6,8 @@ use Rattle.rope_node.specs.declared.node.NodeView.TheVariants.{Fun}
 use Rattle.rope_node.specs.Table.{Node, Table}
 use Rattle.rope_node.specs.Denotes.{rope_len}
 use Rattle.image_reader.specs.Value.{ImageValue, image_table}
-use Rattle.span_certificate.specs.declared.part.Part.{Part}
-use Rattle.span_certificate.specs.Parts.{parts_of}
+use Rattle.command_parts.specs.declared.part.Part.{Part}
+use Rattle.command_parts.specs.Parts.{parts_of}
 use Rattle.image_reader.specs.Accepted.{revision_at, command_at}
 
 -- how long the text of revision j is

@@ -46,7 +46,7 @@ pub record NameTexts (v : ImageValue) (x : OriginTexts) (roots : List (Option No
   pub few : length roots ≤ length v.revisions
   pub each : (j : ℕ) → j < length roots → Names x (get_or roots j None) (origins_at v j)
 
--- so many cells of a part of a leaf are places side by side, from p on
+-- the cells of a part of a leaf are places side by side, from p on
 abbrev pub ArePlaces : Table → LeafSpan → ℕ → Type 0
 ArePlaces t x p = (s : ℕ) × (take x.len (drop x.start (cells t x.leaf.0)) ≡ map (Place s) (range_with_len p x.len))
 

@@ -2,7 +2,7 @@
 use Rattle.std.specs.Prelude.{◌≡◌, ◌≢◌, ℕ, ◌+◌, ◌≤◌, List, [], ◌∷◌, ◌++◌, length, map, take, drop, get_or, slice_get, Option, Some}
 use Rattle.std.specs.Option.{unwrap_or}
 use Rattle.std.specs.List.{flat_map, range_with_len, AllByRecursion}
-use Rattle.span_certificate.specs.Commands.{FullEdit, Givens, result_of}
+use Rattle.command_parts.specs.Commands.{FullEdit, Givens, result_of}
 use Rattle.image_reader.specs.Value.{ImageValue}
 use Rattle.image_reader.specs.Accepted.{command_at}
 use Rattle.session_checker.specs.Faithful.{commands}
@@ -70,7 +70,7 @@ pub record IsOriginRun (origins : List Origin) (place : ℕ) (run : OriginRun) :
   pub some : 1 ≤ run.len
   pub stands : take run.len (drop place origins) ≡ run_origins run
 
--- the runs of some origins: joined they are these, none is empty, and none goes on where the next begins
+-- the runs of some origins: joined they are these, each has one, and no two neighbours would make one run
 pub record AreRuns (origins : List Origin) (runs : List OriginRun) : Type 0 where
   pub whole : flat_map run_origins runs ≡ origins
   pub some : AllByRecursion (λ (x : OriginRun). 1 ≤ x.len) runs

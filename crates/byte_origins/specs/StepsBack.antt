@@ -1,6 +1,6 @@
 -- One step back from a place of a text: to an earlier text, or to what the command brought.
 use Rattle.std.specs.Prelude.{◌≡◌, ℕ, ◌+◌, ◌-◌, ◌<◌, ◌≤◌, Some, None, take, drop}
-use Rattle.span_certificate.specs.declared.part.Part.{Part}
+use Rattle.command_parts.specs.declared.part.Part.{Part}
 use Rattle.image_reader.specs.Value.{ImageValue}
 use Rattle.byte_origins.specs.declared.run.OriginRun.{OriginRun}
 use Rattle.byte_origins.specs.declared.run.Brought.{Brought}

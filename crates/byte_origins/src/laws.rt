@@ -5,7 +5,7 @@ ghost use Rattle.rope_node.specs.Denotes.{rope_len};
 ghost use Rattle.image_reader.specs.Value.{ImageValue, image_table};
 ghost use Rattle.image_reader.specs.Accepted.{revision_at};
 ghost use Rattle.session_checker.specs.Faithful.{givens, commands, texts, revision_text, EachRevision, HasTrueRecordsOf};
-ghost use Rattle.span_certificate.specs.Commands.{IsHistory};
+ghost use Rattle.command_parts.specs.Commands.{IsHistory};
 ghost use Rattle.byte_origins.specs.declared.run.Origin.{Origin};
 ghost use Rattle.byte_origins.specs.Origins.{Outside, origins_at, traced_at, brought_byte};
 

@@ -16,5 +16,5 @@ mod walking;
 pub use descent::leaf_span;
 pub use laws::{as_many_as_bytes, brought_by_its_command, names_each_byte, stood_there};
 pub use run::{Brought, Origin, OriginRun};
-pub use tracing::origin;
+pub use tracing::{next_start, origin};
 pub use walking::Origins;

@@ -31,7 +31,7 @@ fn place_of(ropes: &Store<Coded>, span: LeafSpan) -> Option<u64>
 {
     match ropes.node(span.leaf) {
         NodeView::Src { a, .. } => Some(a + span.start),
-        _ => None,
+        NodeView::Lit { .. } | NodeView::Fun | NodeView::Cat { .. } | NodeView::Sub { .. } => None,
     }
 }
 
@@ -69,7 +69,7 @@ impl OriginStore {
         self.brought.count()
     }
 
-    /// The source that has a place for each byte. Without it no text is taken.
+    /// Adds the source that has a place for each byte; texts are taken only once it is there.
     pub(crate) fn begin(&mut self)
         ensures { KeepsTexts self.old self.new }
     {

@@ -6,7 +6,7 @@
 ghost use Rattle.std.specs.Prelude.{◌≡◌, ◌+◌, ◌<◌, ◌≤◌, ℕ, [], length, take, drop, get_or, None, IfSome};
 ghost use Rattle.image_reader.specs.Value.{ImageValue};
 ghost use Rattle.image_reader.specs.Accepted.{splices_before};
-ghost use Rattle.span_certificate.specs.Parts.{AreRopes};
+ghost use Rattle.command_parts.specs.Parts.{AreRopes};
 ghost use Rattle.byte_origins.specs.Origins.{origins_at, IsOriginRun};
 ghost use Rattle.byte_origins.specs.OriginTexts.{ropes_table, CanBePut, KeepsTexts, Names, NameTexts};
 ghost use Rattle.byte_origins.specs.StepsBack.{came_len, IsStepBack};

@@ -56,7 +56,7 @@ fn behind(first: Brought, n: u64) -> Brought
 }
 
 impl OriginRun {
-    /// It without its first `n` bytes.
+    /// The run without its first `n` bytes.
     pub(crate) fn rest_from(self, n: u64) -> OriginRun
         requires fits { FitsNumbers self }
         requires inside { n ≤ self.len }

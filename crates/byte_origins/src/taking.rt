@@ -5,21 +5,21 @@
 
 ghost use Rattle.std.specs.Prelude.{◌≡◌, ◌<◌, length};
 ghost use Rattle.image_reader.specs.Accepted.{splices_before};
-ghost use Rattle.span_certificate.specs.Parts.{part_at, part_len, IsPart};
+ghost use Rattle.command_parts.specs.Parts.{part_at, part_len, IsPart};
 ghost use Rattle.byte_origins.specs.EarlierTexts.{len_of_text, texts_parts, texts_table};
 ghost use Rattle.byte_origins.specs.StepsBack.{came_len, IsStepBack, run_of, taken_of};
 
 use crate::run::{Brought, Origin, OriginRun};
 use crate::texts::TextsBefore;
+use command_parts::{Part, PartIter, Splices, parts};
 use image_reader::Revisions;
 use rope_node::NodeSpace;
 use session_checker::Checked;
-use span_certificate::{Part, PartIter, Splices, parts};
 
 /// Where the bytes from a place on come from, as far as one part of the text goes.
 #[derive(Clone, Copy, Debug, PartialEq, Eq)]
 pub(crate) enum CameFrom {
-    /// They are those of an earlier text, from a place on, so many of them.
+    /// They are those of an earlier text: which one, the place from which on, and how many.
     FromText(u32, u64, u64),
     /// The text's command brought them.
     Run(OriginRun),

@@ -9,9 +9,9 @@ ghost use Rattle.rope_node.specs.Table.{IsSound, HasTrueRecords};
 ghost use Rattle.session_checker.specs.Faithful.{HasTrueRecordsOf};
 ghost use Rattle.byte_origins.specs.EarlierTexts.{len_of_text, texts_table, texts_roots};
 
+use command_parts::Roots;
 use rope_node::{NodeId, NodeSpace, NodeView, Rope, rope_len};
 use session_checker::Checked;
-use span_certificate::Roots;
 
 /// The texts of an image's revisions before revision `k`. Node `j` is text `j`, whatever its bytes are.
 #[derive(Drop)]

@@ -14,12 +14,13 @@ use rope_node::rope_len;
 use session_checker::Checked;
 
 /// How many splices the revisions before the next one have, where those before revision `k` have `first`.
-pub(crate) fn next_start(image: &Checked, k: u32, first: u32) -> u32
+pub fn next_start(image: &Checked, k: u32, first: u32) -> u32
     requires there { k < length image.now.revisions }
     requires first { first ≡ splices_before image.now k }
     ensures { result ≡ splices_before image.now (k + 1) }
 {
     let revisions = Revisions::over(image.image());
+    // The value is an image, as its count says.
     let _count = revisions.count();
     first + image.image().splices_of(k)
 }

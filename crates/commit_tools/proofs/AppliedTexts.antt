@@ -14,9 +14,9 @@ use Rattle.rope_node.specs.Table.{Table}
 use Rattle.rope_node.specs.Denotes.{Cell, Byte, cell_byte, rope_cells, text}
 use Rattle.function_leaf.specs.declared.coded.Coded.{Coded}
 use Rattle.node_table.specs.Held.{Held, table_of}
-use Rattle.span_certificate.specs.declared.edit.Splice.{Splice}
-use Rattle.span_certificate.specs.Commands.{◌>>=◌, Givens, Many, bounded, can_splice, replaced, replaced_each, result_of, with_splices}
-use Rattle.span_certificate.specs.Parts.{givens_of, len_of, root_at}
+use Rattle.command_parts.specs.declared.edit.Splice.{Splice}
+use Rattle.command_parts.specs.Commands.{◌>>=◌, Givens, Many, bounded, can_splice, replaced, replaced_each, result_of, with_splices}
+use Rattle.command_parts.specs.Parts.{givens_of, len_of, root_at}
 use Rattle.edit_commands.specs.declared.command.Change.{Change}
 use Rattle.edit_commands.specs.declared.command.Command.{Command}
 use Rattle.edit_commands.specs.declared.revision.Revision.{Revision}

@@ -1,14 +1,12 @@
 -- What is written of a commit.
-use Rattle.std.proofs.Common.{◌≡◌, ℕ, List, [], ◌++◌, length, map, take, Option, None, Result, Ok, Err, sym, ap, subst, ◌∙◌, arith}
+use Rattle.std.proofs.Common.{◌≡◌, ℕ, List, [], length, Option, None, Result, Ok, Err, sym, ap, subst, ◌∙◌, arith}
 use Rattle.std.specs.Io.KnownBytes.{Appends, Keeps}
-use Rattle.std.proofs.lemmas.List.{length-map, map-append, take_at}
+use Rattle.std.proofs.lemmas.List.{length-map}
 use Rattle.byte_output.specs.Prefix.{AppendsPrefix}
 use Rattle.lazy_file.specs.SourceTexts.{Agrees, Stated, stated_in_memory}
 use Rattle.lazy_file.specs.Readings.{Reading}
 use Rattle.lazy_file.proofs.LaterReads.{reads_same}
-use Rattle.rope_node.specs.declared.node.NodeId.{NodeId}
-use Rattle.rope_node.specs.Denotes.{rope_cells, text}
-use Rattle.edit_commands.specs.Session.{SessionValue, HoldsHistory, roots_of, session_table, texts_of}
+use Rattle.edit_commands.specs.Session.{SessionValue, HoldsHistory}
 use Rattle.edit_commands.specs.declared.revision.Revision as Kept
 use Rattle.image_reader.specs.declared.revision.Revision.{Revision}
 use Rattle.image_reader.specs.Spelling.{spelling}
@@ -16,10 +14,9 @@ use Rattle.image_reader.specs.Value.{ImageValue, IsImage}
 use Rattle.session_image.specs.Written.{AreAsMade, IsTrusted, image_of}
 use Rattle.session_checker.specs.declared.fault.CheckFault.{CheckFault}
 use Rattle.session_checker.specs.Accepted.{BytesAsk}
-use Rattle.session_checker.specs.Faithful.{texts}
 use Rattle.session_checker.specs.Limits.{ChecksWithin}
 use Rattle.saved_session.specs.TakenUp.{TakesUp}
-use Rattle.saved_session.specs.GoneFurther.{GoesFurther, IsTakenUp}
+use Rattle.saved_session.specs.GoneFurther.{IsTakenUp}
 use Rattle.saved_session.proofs.EarlierTexts.{earlier_texts}
 use Rattle.commit_tools.specs.declared.answer.Commit.{Commit}
 use Rattle.commit_tools.specs.declared.answer.Commit.TheVariants.{Same, Added}
@@ -85,7 +82,7 @@ module _ {at_most : Option ℕ} {old mid : Reading} {bytes file : List ℕ} {beg
 
 -- ---- anew
 
--- nothing is stated of no sources
+-- any bytes agree with what an empty list of sources states
 pub nothing_stated : (source : ℕ → ℕ → ℕ) → Agrees (stated_in_memory []) source
 nothing_stated source s p t stated lt = absurd cc
 

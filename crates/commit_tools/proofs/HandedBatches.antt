@@ -5,7 +5,7 @@ use Rattle.std.specs.List.{sum_by}
 use Rattle.std.proofs.lemmas.List.{take_at, drop_at, take-append-le, take-append-drop, drop-append-le, drop-drop, length-append, length-take-le, length-take, append-nil, take_all, get_or-take, get_or-drop}
 use Rattle.std.proofs.lemmas.List.Sums.{sum_by-cons}
 use Rattle.std.proofs.Math.Seq.{take-append-add, drop-append-add}
-use Rattle.span_certificate.specs.Commands.{replaced}
+use Rattle.command_parts.specs.Commands.{replaced}
 use Rattle.edit_commands.specs.declared.command.Change as Session
 use Rattle.line_changes.specs.declared.change.Change.{Change}
 use Rattle.line_changes.specs.Turns.{IsChange, Turns, with_change, with_changes}

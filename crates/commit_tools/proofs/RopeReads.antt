@@ -18,6 +18,6 @@ read_bytes (Ok x) t st rope node i size bytes is inside long piece =
     λ source agrees stated. piece_all t st st rope i bytes source refl agrees whole (λ p le lt. stated p (omega arith) (omega (arith, lt, inside, long)))
 read_bytes (Err e) t st rope node i size bytes is inside long piece = tt
 
--- the same over readings that are the same
+-- what holds of a rope's text over one reading holds over an equal one
 pub over_same : (t : Table) (rope : Option NodeId) (P : List ℕ → Type 0) (a b : Reading) → a ≡ b → OfText t a.stated rope P → OfText t b.stated rope P
 over_same t rope P a b same of = subst (λ (r : Reading). OfText t r.stated rope P) same of

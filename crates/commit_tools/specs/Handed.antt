@@ -1,14 +1,14 @@
 -- Changes as a session takes them.
 use Rattle.std.specs.Prelude.{◌≡◌, ℕ, ◌+◌, ◌-◌, List, [], ◌∷◌, map, take, drop, slice_range}
 use Rattle.std.specs.List.{flat_map}
-use Rattle.span_certificate.specs.Commands.{replaced}
+use Rattle.command_parts.specs.Commands.{replaced}
 use Rattle.edit_commands.specs.declared.command.Change as Session
 use Rattle.line_changes.specs.declared.change.Change as Line
 use Rattle.commit_tools.specs.declared.batches.Batch.{Batch}
 use Rattle.commit_tools.specs.declared.found.Found.{Found}
 use Rattle.commit_tools.specs.Found.{file_middle}
 
--- a change behind so many bytes that both texts have in common
+-- a change behind the `front` bytes that both texts have in common
 abbrev pub shifted : ℕ → Line.Change → Session.Change
 shifted front c = record { p = front + c.from; m = c.to - c.from; n = c.put_to - c.put_from }
 

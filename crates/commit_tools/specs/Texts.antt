@@ -34,7 +34,7 @@ abbrev pub read_fault_of : CommitFault → Option SourceFault
 read_fault_of (Read fault) = Some fault
 read_fault_of other = None
 
--- the same of a call that tells it so
+-- what a call does that may read a rope's cells, and tells a source's fault as a commit does
 abbrev pub ReadsRopeOr : {X : Type 0} → Table → Option NodeId → Reading → Reading → Result X CommitFault → Type 0
 ReadsRopeOr t rope before after outcome =
     Reads before after (InCells (rope_cell t rope) 0 (rope_len t rope)) (fault_by read_fault_of outcome)

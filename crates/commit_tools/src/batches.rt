@@ -8,9 +8,9 @@ ghost use Rattle.commit_tools.specs.Put.{TakesCommand, PutsBatch, PutsFrom};
 
 use crate::fault::CommitFault;
 use crate::found::Found;
+use command_parts::MOST_SPLICES;
 use edit_commands::{Change, Command, EditFault, Session};
 use line_changes::Change as LineChange;
-use span_certificate::MOST_SPLICES;
 use std::alloc::{AllocError, Global};
 
 /// Changes as a session takes them, and their bytes.

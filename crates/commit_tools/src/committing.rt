@@ -43,8 +43,8 @@ fn begun_onto<S: Sources, P: Progress>(
     }
 }
 
-/// Makes a file's text the last one of an image, once that is checked with these sources, by so many looks at nodes at
-/// most, if there is a limit: where it is another, writes the image of a session that goes on to it, in version 2. It
+/// Makes a file's text the last one of an image, once that is checked with these sources, within `at_most` looks at
+/// nodes, if there is a limit: where it is another, writes the image of a session that goes on to it, in version 2. It
 /// tells on the way how many of the image's records are checked. The image's bytes are given back before the last text
 /// is compared; of that only what stands between the lines that it has in common with the file at both ends is held.
 ///

@@ -12,7 +12,7 @@ ghost use Rattle.commit_tools.specs.Texts.{IsReadingFault, ReadsLast, ReadsRope,
 use crate::answer::Commit;
 use crate::batches::{make, put_changes};
 use crate::fault::CommitFault;
-use crate::found::Found;
+use crate::found::{Ends, Found};
 use crate::stretches::{read_part, same_back, same_front};
 use edit_commands::{Command, Session};
 use lazy_file::{SourceFault, Sources};
@@ -35,7 +35,7 @@ fn last_root(session: &Session) -> Rope
     }
 }
 
-/// The bytes of a rope's text from a place on, so many.
+/// The `count` bytes of a rope's text from a place on.
 fn middle_of<S: NodeSpace, T: Sources>(
     alloc: Global,
     space: &S,
@@ -68,14 +68,14 @@ fn ends_of<S: NodeSpace, T: Sources>(
     sources: &mut T,
     rope: Rope,
     file: &[u8],
-) -> Result<(usize, usize), SourceFault>
+) -> Result<Ends, SourceFault>
     requires rope { IsRope (S.table space.now) rope }
-    ensures inside { IfOk result (λ ends. ends.0 + ends.1 ≤ rope_len (S.table space.now) rope) }
-    ensures within { IfOk result (λ ends. ends.0 + ends.1 ≤ length file.now) }
+    ensures inside { IfOk result (λ ends. ends.front + ends.back ≤ rope_len (S.table space.now) rope) }
+    ensures within { IfOk result (λ ends. ends.front + ends.back ≤ length file.now) }
     ensures front { IfOk result (λ ends. OfText (S.table space.now) (T.reading sources.old).stated rope
-        (λ u. take ends.0 u ≡ take ends.0 file.now)) }
+        (λ u. take ends.front u ≡ take ends.front file.now)) }
     ensures back { IfOk result (λ ends. OfText (S.table space.now) (T.reading sources.old).stated rope
-        (λ u. drop (rope_len (S.table space.now) rope - ends.1) u ≡ drop (length file.now - ends.1) file.now)) }
+        (λ u. drop (rope_len (S.table space.now) rope - ends.back) u ≡ drop (length file.now - ends.back) file.now)) }
     ensures reads { ReadsRope (S.table space.now) rope (T.reading sources.old) (T.reading sources.new) result }
 {
     let front = same_front(space, sources, rope, file)?;
@@ -83,7 +83,10 @@ fn ends_of<S: NodeSpace, T: Sources>(
     let left = rope_len(space, rope) - front as u64;
     let most = left.min((file.len() - front) as u64) as usize;
     let back = same_back(space, sources, rope, file, most)?;
-    Ok((front, whole_back(file, back)))
+    Ok(Ends {
+        front,
+        back: whole_back(file, back),
+    })
 }
 
 /// What turns a rope's text into a file's.
@@ -101,7 +104,7 @@ fn found_beside<S: NodeSpace, T: Sources>(
     ensures fault { IfErr result IsReadingFault }
     ensures reads { ReadsRopeOr (S.table space.now) rope (T.reading sources.old) (T.reading sources.new) result }
 {
-    let (front, back) = match ends_of(space, sources, rope, file) {
+    let Ends { front, back } = match ends_of(space, sources, rope, file) {
         Ok(ends) => ends,
         Err(fault) => return Err(CommitFault::Read(fault)),
     };

@@ -93,6 +93,63 @@ fn inputs<'a>(alloc: Global, action: &Action<'a>) -> Result<Vec<&'a str>, AllocE
     Ok(inputs)
 }
 
+/// The session of an editor, as the words name it.
+#[derive(Clone, Copy)]
+struct Editing<'a> {
+    onto: Option<&'a str>,
+    keys: Option<&'a str>,
+    image: &'a str,
+    file: Option<&'a str>,
+}
+
+/// What the code of a run may be about beside the files that it reads.
+#[derive(Clone, Copy)]
+enum Run<'a> {
+    /// Nothing: it writes to standard output what files say, or standard input.
+    Reads,
+    /// The files together.
+    Joins,
+    /// A line of this script.
+    Applies { script: &'a str },
+    /// The file whose bytes become the last text of this image.
+    Commits { image: &'a str, file: &'a str },
+    /// The session of an editor.
+    Edits(Editing<'a>),
+    /// This file of keys.
+    Discards { keys: &'a str },
+}
+
+/// Of which sort a run is.
+fn run_of<'a>(action: &Action<'a>) -> Run<'a> {
+    match action {
+        Action::CheckInput
+        | Action::Check { .. }
+        | Action::Migrate { .. }
+        | Action::Show { .. }
+        | Action::Log { .. }
+        | Action::Blame { .. }
+        | Action::Cut { .. }
+        | Action::Find { .. }
+        | Action::Cmp { .. } => Run::Reads,
+        Action::Join { .. } => Run::Joins,
+        Action::Apply { script, .. } => Run::Applies { script },
+        Action::Commit { image, file, .. } => Run::Commits { image, file },
+        Action::Edit {
+            onto,
+            keys,
+            image,
+            file,
+            ..
+        } => Run::Edits(Editing {
+            onto: *onto,
+            keys: *keys,
+            image,
+            file: *file,
+        }),
+        Action::Discard { keys } => Run::Discards { keys },
+    }
+}
+
 /// The sentence about a file that cannot be read.
 fn failure(why: ErrorKind) -> &'static str {
     match why {
@@ -119,20 +176,27 @@ fn image_of<'a, 'b>(action: &'b Action<'a>) -> Option<(&'a str, &'b [&'a str])> 
             sources,
             ..
         } => Some((image, sources)),
-        _ => None,
+        Action::CheckInput
+        | Action::Cut { .. }
+        | Action::Join { .. }
+        | Action::Find { .. }
+        | Action::Cmp { .. }
+        | Action::Edit { .. }
+        | Action::Discard { .. }
+        | Action::Apply { onto: None, .. } => None,
     }
 }
 
 /// Whether a code is of the image, and not of what is put behind it, a line of a script or a file, nor of keys.
-fn is_of_image(action: &Action<'_>, name: &str, numbers: &str) -> bool {
-    match action {
-        Action::Apply { .. } => {
+fn is_of_image(run: Run<'_>, name: &str, numbers: &str) -> bool {
+    match run {
+        Run::Applies { .. } => {
             numbers.is_empty() || !matches!(name.as_bytes(), [b'E' | b'N' | b'P', ..])
         }
-        Action::Commit { .. } => {
+        Run::Commits { .. } => {
             !matches!(name, "J2" | "J6") && !matches!(name.as_bytes(), [b'E' | b'N', ..])
         }
-        _ => true,
+        Run::Reads | Run::Joins | Run::Edits(_) | Run::Discards { .. } => true,
     }
 }
 
@@ -239,14 +303,15 @@ fn seen<R: Files + AllocGlobal>(
     match name {
         "read" => unread(rt, action),
         "S5" => too_long(rt, action),
-        "I3" => match action {
-            Action::Edit { image, .. } | Action::Commit { image, .. } => no_image(rt, image),
-            _ => None,
+        "I3" => match run_of(action) {
+            Run::Edits(Editing { image, .. }) | Run::Commits { image, .. } => no_image(rt, image),
+            Run::Reads | Run::Joins | Run::Applies { .. } | Run::Discards { .. } => None,
         },
         "C2" | "C3" => other_sources(rt, action, numbers),
-        "E3" | "N1" | "P" => match action {
-            Action::Apply { script, .. } => seen_in_line(rt, script, name, numbers),
-            _ => None,
+        "E3" | "N1" | "P" => match run_of(action) {
+            Run::Applies { script } => seen_in_line(rt, script, name, numbers),
+            Run::Reads | Run::Joins | Run::Commits { .. } | Run::Edits(_) | Run::Discards { .. } =>
+                None,
         },
         _ => None,
     }
@@ -254,32 +319,58 @@ fn seen<R: Files + AllocGlobal>(
 
 /// What a run writes to.
 fn output(alloc: Global, action: &Action<'_>) -> Result<String, AllocError> {
-    match action {
-        Action::Edit { image, .. } => {
+    match run_of(action) {
+        Run::Edits(Editing { image, .. }) => {
             format!(in alloc; "the image {image}, the file of keys or standard output")
         }
-        Action::Discard { keys } => String::from_str(alloc, keys),
-        Action::Commit { image, .. } => format!(in alloc; "the image {image} or standard output"),
-        _ => String::from_str(alloc, "standard output"),
+        Run::Discards { keys } => String::from_str(alloc, keys),
+        Run::Commits { image, .. } => format!(in alloc; "the image {image} or standard output"),
+        Run::Reads | Run::Joins | Run::Applies { .. } => String::from_str(alloc, "standard output"),
     }
 }
 
-/// What a run reads: a file, or what it may have been where it reads several.
-fn input(alloc: Global, action: &Action<'_>) -> Result<String, AllocError> {
-    if let Action::Edit { image, file, .. } = action {
-        let file = file.unwrap_or(image);
-        return format!(in alloc; "standard input, the file of keys or {file}");
-    }
-    if let Action::Discard { keys } = action {
-        return String::from_str(alloc, keys);
-    }
+/// The file that a run reads, or what it may have been where it reads several.
+fn one_input<'a>(alloc: Global, action: &Action<'a>) -> Result<&'a str, AllocError> {
     let inputs = inputs(alloc, action)?;
-    let text = match inputs.as_slice() {
+    Ok(match inputs.as_slice() {
         [] => "standard input",
-        [file] => file,
+        [file] => *file,
         _ => "one of the files",
-    };
-    String::from_str(alloc, text)
+    })
+}
+
+/// What a run reads.
+fn input(alloc: Global, action: &Action<'_>) -> Result<String, AllocError> {
+    match run_of(action) {
+        Run::Edits(Editing { image, file, .. }) => {
+            let file = file.unwrap_or(image);
+            format!(in alloc; "standard input, the file of keys or {file}")
+        }
+        Run::Discards { keys } => String::from_str(alloc, keys),
+        Run::Reads | Run::Joins | Run::Applies { .. } | Run::Commits { .. } => {
+            String::from_str(alloc, one_input(alloc, action)?)
+        }
+    }
+}
+
+/// What the code of a refusal of an editor's session is about.
+fn refused_session(alloc: Global, session: Editing<'_>, name: &str) -> Result<String, AllocError> {
+    let Editing {
+        onto,
+        keys,
+        image,
+        file,
+    } = session;
+    match name {
+        "J1" | "J2" | "J5" => String::from_str(alloc, keys.unwrap_or(image)),
+        "J3" | "J4" | "I3" => String::from_str(alloc, image),
+        "K1" => match onto {
+            Some(older) => format!(in alloc; "a text of {older}"),
+            None => String::from_str(alloc, file.unwrap_or(image)),
+        },
+        "N1" | "N3" | "N4" => String::from_str(alloc, onto.unwrap_or(file.unwrap_or(image))),
+        _ => String::from_str(alloc, onto.unwrap_or(image)),
+    }
 }
 
 /// What the code of a refusal is about: a file, or a line of a script.
@@ -289,36 +380,21 @@ fn refused(
     name: &str,
     numbers: &str,
 ) -> Result<String, AllocError> {
-    let text = match action {
-        Action::Apply { script, .. } if !is_of_image(action, name, numbers) => {
-            return format!(in alloc; "line {numbers} of {script}");
+    let run = run_of(action);
+    match run {
+        Run::Applies { script } if !is_of_image(run, name, numbers) => {
+            format!(in alloc; "line {numbers} of {script}")
         }
-        Action::Commit { image, file, .. } => match name {
-            "J2" => return format!(in alloc; "{image}.keys"),
-            "J6" => file,
-            _ => return format!(in alloc; "the commit of {file}"),
+        Run::Commits { image, file } => match name {
+            "J2" => format!(in alloc; "{image}.keys"),
+            "J6" => String::from_str(alloc, file),
+            _ => format!(in alloc; "the commit of {file}"),
         },
-        Action::Discard { keys } => keys,
-        Action::Edit {
-            onto,
-            keys,
-            image,
-            file,
-            ..
-        } => match name {
-            "J1" | "J2" | "J5" => keys.unwrap_or(image),
-            "J3" | "J4" | "I3" => image,
-            "K1" => match onto {
-                Some(older) => return format!(in alloc; "a text of {older}"),
-                None => file.unwrap_or(image),
-            },
-            "N1" | "N3" | "N4" => onto.unwrap_or(file.unwrap_or(image)),
-            _ => onto.unwrap_or(image),
-        },
-        Action::Join { .. } => "the files together",
-        _ => return input(alloc, action),
-    };
-    String::from_str(alloc, text)
+        Run::Discards { keys } => String::from_str(alloc, keys),
+        Run::Edits(session) => refused_session(alloc, session, name),
+        Run::Joins => String::from_str(alloc, "the files together"),
+        Run::Reads | Run::Applies { .. } => input(alloc, action),
+    }
 }
 
 /// What a code is about.
@@ -332,7 +408,7 @@ fn about(
         "write" => output(alloc, action),
         "read" => input(alloc, action),
         _ => match image_of(action) {
-            Some((image, _)) if is_of_image(action, name, numbers) => {
+            Some((image, _)) if is_of_image(run_of(action), name, numbers) => {
                 String::from_str(alloc, image)
             }
             _ => refused(alloc, action, name, numbers),

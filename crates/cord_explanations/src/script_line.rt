@@ -3,9 +3,9 @@
 use crate::looking::line;
 use crate::sentence::Sentence;
 use crate::wrong_word::wrong_word;
+use command_parts::Edit;
 use edit_script::{Room, parse_line};
 use leaf_buffer::BLOCK_SIZE;
-use span_certificate::Edit;
 use std::alloc::AllocGlobal;
 use std::fs::Files;
 
@@ -15,7 +15,15 @@ fn puts_in_too_many(edit: &Edit, room: &Room) -> bool {
     match *edit {
         Edit::Insert { n, .. } | Edit::Replace { n, .. } => n > most,
         Edit::Many { .. } => room.changes.iter().any(|change| change.n > most),
-        _ => false,
+        Edit::New
+        | Edit::Open { .. }
+        | Edit::Delete { .. }
+        | Edit::Paste { .. }
+        | Edit::Join { .. }
+        | Edit::Cut { .. }
+        | Edit::Fill { .. }
+        | Edit::Back { .. }
+        | Edit::Balance { .. } => false,
     }
 }
 
@@ -38,7 +46,11 @@ fn past_end(edit: &Edit) -> Option<(&'static str, u32, u32)> {
             r,
             r,
         ),
-        _ => return None,
+        Edit::New
+        | Edit::Open { .. }
+        | Edit::Join { .. }
+        | Edit::Back { .. }
+        | Edit::Balance { .. } => return None,
     };
     Some((text, revision, other))
 }

@@ -83,6 +83,6 @@ pub fn fill_part<S: NodeSpace, T: Sources>(
             fill_answers(space, leaf, start, buffer);
             Ok(())
         }
-        _ => unreachable!(),
+        NodeView::Cat { .. } | NodeView::Sub { .. } => unreachable!(),
     }
 }

@@ -42,6 +42,6 @@ pub fn leaf_byte<S: NodeSpace, T: Sources>(
         NodeView::Lit { .. } => Ok(space.literal(leaf, start)[0]),
         NodeView::Src { s, a } => source_byte(sources, s, a + start),
         NodeView::Fun => Ok(space.fun_byte(leaf, start)),
-        _ => unreachable!(),
+        NodeView::Cat { .. } | NodeView::Sub { .. } => unreachable!(),
     }
 }

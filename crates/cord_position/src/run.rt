@@ -41,7 +41,8 @@ pub fn find_period<S: NodeSpace>(space: &S, rope: Rope, here: Step, place: u64) 
     let span = find_run(space, rope, here, place)?;
     match space.node(span.leaf) {
         NodeView::Fun => space.period(span.leaf),
-        _ => None,
+        NodeView::Lit { .. } | NodeView::Src { .. } | NodeView::Cat { .. } | NodeView::Sub { .. } =>
+            None,
     }
 }
 
@@ -55,7 +56,7 @@ fn literal_span<S: NodeSpace>(space: &S, span: LeafSpan) -> &[u8]
 {
     match space.node(span.leaf) {
         NodeView::Lit { .. } => &space.literal(span.leaf, span.start)[..span.len as usize],
-        _ => &[],
+        NodeView::Src { .. } | NodeView::Fun | NodeView::Cat { .. } | NodeView::Sub { .. } => &[],
     }
 }
 

@@ -68,7 +68,8 @@ fn repeats_at<S: NodeSpace>(space: &S, x: Rope, place: u64) -> bool
     let leaf = find_leaf(space, node, place).leaf;
     match space.node(leaf) {
         NodeView::Fun => space.period(leaf).is_some(),
-        _ => false,
+        NodeView::Lit { .. } | NodeView::Src { .. } | NodeView::Cat { .. } | NodeView::Sub { .. } =>
+            false,
     }
 }
 

@@ -3,11 +3,11 @@ use Rattle.std.proofs.Common.{◌≡◌, ℕ, List, true, refl, get_or}
 use Rattle.std.specs.List.{list_all}
 use Rattle.std.proofs.lemmas.List.Sums.{AllPass-from_list_all}
 use Rattle.screen_editor.specs.declared.key.Key.{Key}
-use Rattle.screen_editor.specs.declared.key.Key.TheVariants.{Typed, EraseBefore, EraseAt, Left, Right, LineStart, LineEnd, Up, Down, Mark, Cut, Paste, DropCut, Undo, Balance, Save, Leave, Nothing}
+use Rattle.screen_editor.specs.declared.key.Key.TheVariants.{Left, Right, LineStart, LineEnd, Up, Down, Mark, DropCut, Nothing}
 use Rattle.screen_editor.specs.Keys.{key_of}
 use Rattle.cord_tools.specs.Looking.{AllMakeNothing, MakesNothing, only_looks}
 
-look_makes_nothing : (k : Key) → only_looks k ≡ true → MakesNothing k
+pub look_makes_nothing : (k : Key) → only_looks k ≡ true → MakesNothing k
 look_makes_nothing Left e = λ a s. refl
 look_makes_nothing Right e = λ a s. refl
 look_makes_nothing LineStart e = λ a s. refl
@@ -17,15 +17,7 @@ look_makes_nothing Down e = λ a s. refl
 look_makes_nothing Mark e = λ a s. refl
 look_makes_nothing DropCut e = λ a s. refl
 look_makes_nothing Nothing e = λ a s. refl
-look_makes_nothing (Typed b) e = absurd cc
-look_makes_nothing EraseBefore e = absurd cc
-look_makes_nothing EraseAt e = absurd cc
-look_makes_nothing Cut e = absurd cc
-look_makes_nothing Paste e = absurd cc
-look_makes_nothing Undo e = absurd cc
-look_makes_nothing Balance e = absurd cc
-look_makes_nothing Save e = absurd cc
-look_makes_nothing Leave e = absurd cc
+look_makes_nothing _ e = absurd cc
 
 pub looks_make_nothing : (keys : List ℕ) → list_all (λ b. only_looks (key_of b)) keys ≡ true → AllMakeNothing keys
 looks_make_nothing keys e = λ k d below. look_makes_nothing (key_of (get_or keys k d)) (AllPass-from_list_all (λ b. only_looks (key_of b)) keys e k d below)

@@ -1,23 +1,21 @@
 -- The keys that make no revision.
 use Rattle.std.specs.Prelude.{◌≡◌, ℕ, List, Bool, true, false, None, All}
 use Rattle.screen_editor.specs.declared.key.Key.{Key}
-use Rattle.screen_editor.specs.declared.key.Key.TheVariants.{Left, Right, LineStart, LineEnd, Up, Down, Mark, DropCut, Nothing}
-use Rattle.screen_editor.specs.Keys.{key_of}
+use Rattle.screen_editor.specs.declared.key.Effect.{Effect}
+use Rattle.screen_editor.specs.declared.key.Effect.TheVariants.{Looks, Moves}
+use Rattle.screen_editor.specs.Keys.{effect_of, key_of}
 use Rattle.screen_editor.specs.State.{EditorState}
 use Rattle.screen_editor.specs.Machine.{edit_of}
 
+-- whether what a key does leaves the text as it is, and goes on
+abbrev pub leaves_the_text : Effect → Bool
+leaves_the_text (Looks place) = true
+leaves_the_text Moves = true
+leaves_the_text _ = false
+
 -- the keys that go somewhere, set the mark or drop a cut, and those that are none
 abbrev pub only_looks : Key → Bool
-only_looks Left = true
-only_looks Right = true
-only_looks LineStart = true
-only_looks LineEnd = true
-only_looks Up = true
-only_looks Down = true
-only_looks Mark = true
-only_looks DropCut = true
-only_looks Nothing = true
-only_looks _ = false
+only_looks key = leaves_the_text (effect_of key)
 
 -- in no state does the key make a command
 abbrev pub MakesNothing : Key → Type 0

@@ -5,24 +5,17 @@ ghost use Rattle.std.specs.List.{list_all};
 ghost use Rattle.screen_editor.specs.Keys.{key_of};
 ghost use Rattle.cord_tools.specs.Looking.{AllMakeNothing, MakesNothing, only_looks};
 
-use screen_editor::Key;
+use screen_editor::{Effect, Key};
 
 /// Whether a key makes no revision, whatever the text.
+#[tactic(auto, using(crate::proofs::LookingKeys::look_makes_nothing))]
 fn looks(key: Key) -> bool
     ensures looks { result ≡ only_looks key }
     ensures nothing { result ≡ true → MakesNothing key }
 {
-    match key {
-        Key::Left
-        | Key::Right
-        | Key::LineStart
-        | Key::LineEnd
-        | Key::Up
-        | Key::Down
-        | Key::Mark
-        | Key::DropCut
-        | Key::Nothing => true,
-        _ => false,
+    match key.effect() {
+        Effect::Looks(_) | Effect::Moves => true,
+        Effect::Edits | Effect::Ends(_) => false,
     }
 }
 

@@ -17,11 +17,11 @@ use Rattle.node_table.specs.declared.fault.NodeFault.TheVariants as NodeFault
 use Rattle.node_table.specs.Held.{Held, table_of}
 use Rattle.rebalance.specs.AnyForms.{StandsAt}
 use Rattle.rebalance.proofs.AnyCalls.{IsRight}
-use Rattle.span_certificate.specs.declared.part.Part.{Part}
-use Rattle.span_certificate.specs.Commands.{can_splice, result_of}
-use Rattle.span_certificate.specs.Parts.{root_at, len_of, part_cells, parts_cells, pieces, givens_of, AreRopes, IsInRange}
-use Rattle.span_certificate.specs.Parts as Parts
-use Rattle.span_certificate.proofs.Joined.{terms_joined}
+use Rattle.command_parts.specs.declared.part.Part.{Part}
+use Rattle.command_parts.specs.Commands.{can_splice, result_of}
+use Rattle.command_parts.specs.Parts.{root_at, len_of, part_cells, parts_cells, pieces, givens_of, AreRopes, IsInRange}
+use Rattle.command_parts.specs.Parts as Parts
+use Rattle.command_parts.proofs.Joined.{terms_joined}
 use Rattle.span_certificate.proofs.Kept.{all_cells_kept, are_ropes_kept, rope_len_kept}
 use Rattle.edit_commands.specs.declared.command.Change.{Change}
 use Rattle.edit_commands.specs.declared.command.Command.{Command}

@@ -9,7 +9,7 @@ use Rattle.node_table.specs.Held.{Held, table_of}
 use Rattle.rebalance.specs.Balancing.{IsNearlyBalanced}
 use Rattle.rebalance.specs.declared.fault.BalanceFault.{BalanceFault}
 use Rattle.rebalance.proofs.AnyCalls.{IsRight}
-use Rattle.span_certificate.specs.Parts.{len_of, root_at, AreRopes}
+use Rattle.command_parts.specs.Parts.{len_of, root_at, AreRopes}
 use Rattle.edit_commands.specs.declared.command.Change.{Change}
 use Rattle.edit_commands.specs.declared.command.Command.{Command}
 use Rattle.edit_commands.specs.declared.command.Command.TheVariants.{Back, Balance, Many}

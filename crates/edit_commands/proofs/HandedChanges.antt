@@ -11,10 +11,10 @@ use Rattle.rope_node.specs.declared.node.NodeId.{NodeId}
 use Rattle.rope_node.specs.Table.{Table}
 use Rattle.rope_node.specs.Denotes.{Cell, Byte, rope_cells, IsRope}
 use Rattle.rope_node.proofs.Parts.{span-map}
-use Rattle.span_certificate.specs.declared.edit.Splice.{Splice}
-use Rattle.span_certificate.specs.declared.edit.TheConstants.{MOST_SPLICES}
-use Rattle.span_certificate.specs.Commands.{is_splice, stands_before, are_apart, can_splice}
-use Rattle.span_certificate.specs.Parts.{Follow, parts_cells, pieces}
+use Rattle.command_parts.specs.declared.edit.Splice.{Splice}
+use Rattle.command_parts.specs.declared.edit.TheConstants.{MOST_SPLICES}
+use Rattle.command_parts.specs.Commands.{is_splice, stands_before, are_apart, can_splice}
+use Rattle.command_parts.specs.Parts.{Follow, parts_cells, pieces}
 use Rattle.edit_commands.specs.declared.command.Change.{Change}
 use Rattle.edit_commands.specs.Building.{IsPut, StandEach, placed_changes}
 use Rattle.edit_commands.specs.Refusals.{changes_nothing, is_out_of_range, unplaced}

@@ -12,12 +12,12 @@ use Rattle.rope_node.specs.declared.node.NodeId.{NodeId}
 use Rattle.rope_node.specs.Table.{Table, IsSound, HasTrueRecords}
 use Rattle.rope_node.specs.Denotes.{Cell, Byte, Place, cell_byte, rope_cells, rope_len}
 use Rattle.node_table.specs.Held.{Held, table_of, coded_at}
-use Rattle.span_certificate.specs.Commands.{FullEdit, Givens, result_of, IsHistory}
+use Rattle.command_parts.specs.Commands.{FullEdit, Givens, result_of, IsHistory}
 use Rattle.span_certificate.specs.Leads.{AreAnswered}
-use Rattle.span_certificate.specs.Parts.{AreRopes, givens_of}
-use Rattle.span_certificate.proofs.Joined.{parts_joined}
-use Rattle.span_certificate.proofs.MappedResults.{mapped_givens, history_mapped}
-use Rattle.span_certificate.proofs.PartsInRange.{parts_in_range}
+use Rattle.command_parts.specs.Parts.{AreRopes, givens_of}
+use Rattle.command_parts.proofs.Joined.{parts_joined}
+use Rattle.command_parts.proofs.MappedResults.{mapped_givens, history_mapped}
+use Rattle.command_parts.proofs.PartsInRange.{parts_in_range}
 use Rattle.span_certificate.proofs.Sameness.{covered_cells}
 use Rattle.edit_commands.specs.declared.revision.Revision.{Revision}
 use Rattle.edit_commands.specs.Session.{SessionValue, command_of, commands_of, roots_of, cells_of, texts_of, text_givens, parts_behind, IsRevision, AreRevisions, HoldsHistory}

@@ -12,12 +12,12 @@ use Rattle.rope_node.specs.Extends.{Extends}
 use Rattle.rope_node.proofs.Extensions.{len_kept, depth_kept}
 use Rattle.rope_node.proofs.Ropes.{rope_kept}
 use Rattle.node_table.specs.Held.{Held, table_of, coded_at, KeepsFunctions}
-use Rattle.span_certificate.specs.declared.part.Part.{Part}
-use Rattle.span_certificate.specs.Parts.{parts_of, AreRopes}
+use Rattle.command_parts.specs.declared.part.Part.{Part}
+use Rattle.command_parts.specs.Parts.{parts_of, AreRopes}
 use Rattle.span_certificate.specs.Covers.{CoversAlways, MeetsNoSource}
 use Rattle.span_certificate.specs.Longest.{AreLongest}
 use Rattle.span_certificate.proofs.Kept.{AgreeBelow, parts_kept, in_range_kept, all_cells_kept, covers_kept, longest_kept, no_source_kept}
-use Rattle.span_certificate.proofs.PartsInRange.{parts_in_range}
+use Rattle.command_parts.proofs.PartsInRange.{parts_in_range}
 use Rattle.edit_commands.specs.declared.revision.Revision.{Revision}
 use Rattle.edit_commands.specs.Session.{command_of, roots_of, IsRevision, AreRevisions}
 use Rattle.edit_commands.proofs.RevisionLists.{are_ropes, ropes_before}

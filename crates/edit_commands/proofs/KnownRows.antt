@@ -13,17 +13,17 @@ use Rattle.rope_node.specs.declared.node.NodeId.{NodeId}
 use Rattle.rope_node.specs.Table.{Table, IsSound, HasTrueRecords}
 use Rattle.rope_node.specs.Denotes.{Cell, rope_cells}
 use Rattle.node_table.specs.Held.{Held, table_of, coded_at}
-use Rattle.span_certificate.specs.declared.edit.Edit.{Edit}
-use Rattle.span_certificate.specs.declared.edit.Edit.TheVariants as Recorded
-use Rattle.span_certificate.specs.declared.edit.Splice.{Splice}
-use Rattle.span_certificate.specs.declared.part.Part.{Part}
+use Rattle.command_parts.specs.declared.edit.Edit.{Edit}
+use Rattle.command_parts.specs.declared.edit.Edit.TheVariants as Recorded
+use Rattle.command_parts.specs.declared.edit.Splice.{Splice}
+use Rattle.command_parts.specs.declared.part.Part.{Part}
 use Rattle.span_certificate.specs.declared.row.Row.{Row}
 use Rattle.span_certificate.specs.declared.row.RowKind.{RowKind}
 use Rattle.span_certificate.specs.declared.row.RowKind.TheVariants.{Shared, Leaf, Bytes}
-use Rattle.span_certificate.specs.Commands.{FullEdit, with_splices}
+use Rattle.command_parts.specs.Commands.{FullEdit, with_splices}
 use Rattle.span_certificate.specs.Covers.{CoversAlways, CoversAnyhow, MeetsNoSource, KindFitsBy, SameOver, place_of, row_at}
-use Rattle.span_certificate.specs.Parts.{parts_of, parts_cells, AreRopes}
-use Rattle.span_certificate.proofs.PartsInRange.{parts_in_range}
+use Rattle.command_parts.specs.Parts.{parts_of, parts_cells, AreRopes}
+use Rattle.command_parts.proofs.PartsInRange.{parts_in_range}
 use Rattle.span_certificate.proofs.Sameness.{covered_cells}
 use Rattle.edit_commands.specs.declared.revision.Revision.{Revision}
 use Rattle.edit_commands.specs.Session.{SessionValue, roots_of, IsCertified, rows_held}

@@ -13,20 +13,20 @@ use Rattle.node_table.specs.declared.fault.NodeFault.TheVariants.{TooLong, TooDe
 use Rattle.rebalance.specs.declared.fault.BalanceFault.{BalanceFault}
 use Rattle.rebalance.specs.declared.fault.BalanceFault.TheVariants.{TooManyPieces, Node}
 use Rattle.span_certificate.specs.declared.making.MakeFault.{MakeFault}
-use Rattle.span_certificate.specs.declared.part.Part.{Part}
+use Rattle.command_parts.specs.declared.part.Part.{Part}
 use Rattle.span_certificate.specs.declared.row.Row.{Row}
-use Rattle.span_certificate.specs.Commands.{FullEdit, full_edit, result_of, with_splices}
+use Rattle.command_parts.specs.Commands.{FullEdit, full_edit, result_of, with_splices}
 use Rattle.span_certificate.specs.Covers.{CoversAlways, MeetsNoSource, rows_len}
 use Rattle.span_certificate.specs.Longest.{AreLongest, AreMade, IsCutShort}
 use Rattle.span_certificate.specs.declared.making.TheConstants.{ROWS_LIMIT}
-use Rattle.span_certificate.specs.Parts.{len_of, root_at, parts_cells, parts_of, AreRopes, IsInRange, givens_of}
-use Rattle.span_certificate.proofs.InRange.{in_range}
-use Rattle.span_certificate.proofs.Joined.{parts_joined}
+use Rattle.command_parts.specs.Parts.{len_of, root_at, parts_cells, parts_of, AreRopes, IsInRange, givens_of}
+use Rattle.command_parts.proofs.InRange.{in_range}
+use Rattle.command_parts.proofs.Joined.{parts_joined}
 use Rattle.span_certificate.proofs.Kept.{are_ropes_kept}
 use Rattle.edit_commands.specs.declared.command.Command.{Command}
 use Rattle.edit_commands.specs.declared.command.Command.TheVariants.{New, Many}
-use Rattle.span_certificate.specs.declared.edit.TheConstants.{SPLICES_LIMIT}
-use Rattle.span_certificate.specs.declared.edit.Splice.{Splice}
+use Rattle.command_parts.specs.declared.edit.TheConstants.{SPLICES_LIMIT}
+use Rattle.command_parts.specs.declared.edit.Splice.{Splice}
 use Rattle.edit_commands.specs.Refusals.{changes_of}
 use Rattle.edit_commands.specs.Terms.{handed, terms_of}
 use Rattle.edit_commands.proofs.HandedChanges.{placed_count}

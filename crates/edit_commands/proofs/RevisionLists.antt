@@ -10,7 +10,7 @@ use Rattle.function_leaf.specs.Coded.{coded_byte}
 use Rattle.rope_node.specs.declared.node.NodeId.{NodeId}
 use Rattle.rope_node.specs.Denotes.{IsRope}
 use Rattle.node_table.specs.Held.{Held, table_of}
-use Rattle.span_certificate.specs.Parts.{root_at, AreRopes}
+use Rattle.command_parts.specs.Parts.{root_at, AreRopes}
 use Rattle.edit_commands.specs.declared.revision.Revision.{Revision}
 use Rattle.edit_commands.specs.Session.{roots_of, rows_held, splices_held, IsRevision, AreRevisions}
 use Rattle.rope_node.proofs.Parts.{slice_get-take}

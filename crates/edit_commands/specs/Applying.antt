@@ -11,21 +11,21 @@ use Rattle.node_table.specs.Held.{Held, table_of, coded_at}
 use Rattle.node_table.specs.Puts.{AddsSource}
 use Rattle.rebalance.specs.declared.fault.BalanceFault.{BalanceFault}
 use Rattle.span_certificate.specs.declared.row.Row.{Row}
-use Rattle.span_certificate.specs.declared.edit.Edit.{Edit}
-use Rattle.span_certificate.specs.declared.edit.Splice.{Splice}
-use Rattle.span_certificate.specs.Commands.{result_of, with_splices}
+use Rattle.command_parts.specs.declared.edit.Edit.{Edit}
+use Rattle.command_parts.specs.declared.edit.Splice.{Splice}
+use Rattle.command_parts.specs.Commands.{result_of, with_splices}
 use Rattle.span_certificate.specs.Covers.{CoversAlways, MeetsNoSource, rows_len}
 use Rattle.span_certificate.specs.Longest.{AreLongest, AreMade, IsCutShort}
 use Rattle.span_certificate.specs.declared.making.MakeFault.{MakeFault}
 use Rattle.span_certificate.specs.declared.making.MakeFault.TheVariants.{TooManyRows}
-use Rattle.span_certificate.specs.declared.part.Part.{Part}
+use Rattle.command_parts.specs.declared.part.Part.{Part}
 use Rattle.rope_node.specs.Table.{Table}
 use Rattle.span_certificate.specs.declared.making.TheConstants.{ROWS_LIMIT}
-use Rattle.span_certificate.specs.Parts.{givens_of, parts_of}
+use Rattle.command_parts.specs.Parts.{givens_of, parts_of}
 use Rattle.edit_commands.specs.declared.command.Command.{Command}
 use Rattle.edit_commands.specs.declared.fault.EditFault.{EditFault}
 use Rattle.edit_commands.specs.declared.revision.Revision.{Revision}
-use Rattle.span_certificate.specs.declared.edit.TheConstants.{SPLICES_LIMIT}
+use Rattle.command_parts.specs.declared.edit.TheConstants.{SPLICES_LIMIT}
 use Rattle.edit_commands.specs.Building.{ChainsTerms, GoesOn, IsRootFor, command_with, edit_with, splices_with}
 use Rattle.edit_commands.specs.Codes.{told}
 use Rattle.edit_commands.specs.Refusals.{refusal_of}

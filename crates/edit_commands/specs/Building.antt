@@ -12,10 +12,10 @@ use Rattle.rebalance.specs.declared.fault.BalanceFault.{BalanceFault}
 use Rattle.rebalance.specs.declared.fault.BalanceFault.TheVariants.{TooManyPieces, Node}
 use Rattle.rebalance.specs.AnyForms.{StandsAt}
 use Rattle.rebalance.specs.Balancing.{IsNearlyBalanced}
-use Rattle.span_certificate.specs.declared.edit.Edit.{Edit}
-use Rattle.span_certificate.specs.declared.edit.Splice.{Splice}
-use Rattle.span_certificate.specs.Commands.{FullEdit, result_of, with_splices}
-use Rattle.span_certificate.specs.Parts.{givens_of, root_at}
+use Rattle.command_parts.specs.declared.edit.Edit.{Edit}
+use Rattle.command_parts.specs.declared.edit.Splice.{Splice}
+use Rattle.command_parts.specs.Commands.{FullEdit, result_of, with_splices}
+use Rattle.command_parts.specs.Parts.{givens_of, root_at}
 use Rattle.edit_commands.specs.declared.command.Change.{Change}
 use Rattle.edit_commands.specs.declared.command.Command.{Command}
 use Rattle.edit_commands.specs.declared.command.Command.TheVariants.{New, Open, Insert, Delete, Replace, Paste, Join, Cut, Fill, Back, Balance, Many}

@@ -8,12 +8,12 @@ use Rattle.edit_commands.specs.declared.command.Command.{Command}
 use Rattle.edit_commands.specs.declared.command.Command.TheVariants.{New, Open, Insert, Delete, Replace, Paste, Join, Cut, Fill, Back, Balance, Many}
 use Rattle.edit_commands.specs.declared.fault.EditFault.{EditFault}
 use Rattle.edit_commands.specs.declared.fault.EditFault.TheVariants.{NoRevision, NoSource, Range, EmptyText, TooManyRevisions, Node, SpliceCount, TooManySplices}
-use Rattle.span_certificate.specs.declared.edit.TheConstants.{MOST_REVISIONS}
-use Rattle.span_certificate.specs.declared.edit.Splice.{Splice}
-use Rattle.span_certificate.specs.declared.edit.TheConstants.{MOST_SPLICES}
-use Rattle.span_certificate.specs.Commands.{are_apart}
+use Rattle.command_parts.specs.declared.edit.TheConstants.{MOST_REVISIONS}
+use Rattle.command_parts.specs.declared.edit.Splice.{Splice}
+use Rattle.command_parts.specs.declared.edit.TheConstants.{MOST_SPLICES}
+use Rattle.command_parts.specs.Commands.{are_apart}
 use Rattle.edit_commands.specs.declared.command.Change.{Change}
-use Rattle.span_certificate.specs.declared.edit.TheConstants.{SPLICES_LIMIT}
+use Rattle.command_parts.specs.declared.edit.TheConstants.{SPLICES_LIMIT}
 use Rattle.edit_commands.specs.Session.{SessionValue, length_at, splices_held}
 
 -- the revisions that a command names, each with the end of what it names of it

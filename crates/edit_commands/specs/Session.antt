@@ -9,19 +9,19 @@ use Rattle.rope_node.specs.Table.{Table}
 use Rattle.rope_node.specs.Balance.{IsBalancedRope}
 use Rattle.rope_node.specs.Denotes.{Cell, rope_cells, rope_len, IsRope, text}
 use Rattle.node_table.specs.Held.{Held, table_of, coded_at}
-use Rattle.span_certificate.specs.declared.edit.Edit.{Edit}
-use Rattle.span_certificate.specs.declared.edit.Edit.TheVariants.{Many}
-use Rattle.span_certificate.specs.declared.edit.Splice.{Splice}
-use Rattle.span_certificate.specs.declared.part.Part.{Part}
+use Rattle.command_parts.specs.declared.edit.Edit.{Edit}
+use Rattle.command_parts.specs.declared.edit.Edit.TheVariants.{Many}
+use Rattle.command_parts.specs.declared.edit.Splice.{Splice}
+use Rattle.command_parts.specs.declared.part.Part.{Part}
 use Rattle.span_certificate.specs.declared.row.Row.{Row}
-use Rattle.span_certificate.specs.Commands.{FullEdit, Givens, IsHistory, with_splices}
+use Rattle.command_parts.specs.Commands.{FullEdit, Givens, IsHistory, with_splices}
 use Rattle.span_certificate.specs.Covers.{CoversAlways, MeetsNoSource}
 use Rattle.span_certificate.specs.Longest.{AreLongest}
 use Rattle.span_certificate.specs.declared.making.TheConstants.{ROWS_LIMIT}
-use Rattle.span_certificate.specs.Parts.{givens_of, parts_of, IsInRange}
+use Rattle.command_parts.specs.Parts.{givens_of, parts_of, IsInRange}
 use Rattle.edit_commands.specs.declared.revision.Revision.{Revision}
-use Rattle.span_certificate.specs.declared.edit.TheConstants.{SPLICES_LIMIT}
-use Rattle.span_certificate.specs.declared.edit.TheConstants.{MOST_REVISIONS}
+use Rattle.command_parts.specs.declared.edit.TheConstants.{SPLICES_LIMIT}
+use Rattle.command_parts.specs.declared.edit.TheConstants.{MOST_REVISIONS}
 
 -- the store, and the revisions
 pub record SessionValue : Type 0 where

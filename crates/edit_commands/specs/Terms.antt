@@ -15,9 +15,9 @@ use Rattle.rope_store.specs.Calls.{MakesFunction, MakesSource}
 use Rattle.rebalance.specs.declared.fault.BalanceFault.{BalanceFault}
 use Rattle.rebalance.specs.AnyForms.{lifted, CatsAny, PartsAny, AppendsAny, IsPlaced}
 use Rattle.rebalance.specs.Balancing.{Rebalances}
-use Rattle.span_certificate.specs.declared.edit.TheConstants.{MOST_SPLICES}
-use Rattle.span_certificate.specs.Commands.{are_apart}
-use Rattle.span_certificate.specs.Parts.{root_at, len_of}
+use Rattle.command_parts.specs.declared.edit.TheConstants.{MOST_SPLICES}
+use Rattle.command_parts.specs.Commands.{are_apart}
+use Rattle.command_parts.specs.Parts.{root_at, len_of}
 use Rattle.edit_commands.specs.declared.command.Change.{Change}
 use Rattle.edit_commands.specs.declared.command.Command.{Command}
 use Rattle.edit_commands.specs.declared.term.Piece.{Piece}

@@ -7,13 +7,13 @@ ghost use Rattle.std.specs.Prelude.{◌≡◌, ◌+◌, ◌<◌, ◌≤◌, [], 
 ghost use Rattle.function_leaf.specs.Coded.{coded_byte};
 ghost use Rattle.rope_node.specs.Denotes.{rope_len, IsRope};
 ghost use Rattle.node_table.specs.Held.{table_of};
-ghost use Rattle.span_certificate.specs.Parts.{AreRopes};
+ghost use Rattle.command_parts.specs.Parts.{AreRopes};
 ghost use Rattle.edit_commands.specs.Building.{BuildsCommand};
 ghost use Rattle.edit_commands.specs.Refusals.{refusal_of, TakesAll};
 ghost use Rattle.edit_commands.specs.Session.{roots_of};
 ghost use Rattle.edit_commands.specs.Terms.{front, rest, term_of, terms_of, so_far, handed, times_handed, with_place, Handed, Taken, IsThere, IsTerm, AreTerms, IsCommandInRange, Takes, PutsPiece, PutsTerm, Joins, FillsBytes};
 
-use crate::command::Command;
+use crate::command::{Command, Hands};
 use crate::revision::Revision;
 use crate::term::{NextTerm, Piece, Terms};
 use function_leaf::Coded;
@@ -264,10 +264,10 @@ fn join(
 pub fn times_handed(command: &Command<'_>) -> usize
     ensures { result ≡ times_handed command.now }
 {
-    match *command {
-        Command::Insert { .. } | Command::Replace { .. } => 1,
-        Command::Many { changes, .. } => changes.len(),
-        _ => 0,
+    match command.hands() {
+        Hands::Nothing => 0,
+        Hands::Text(_) => 1,
+        Hands::Changes(changes) => changes.len(),
     }
 }
 

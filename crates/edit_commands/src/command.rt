@@ -78,3 +78,37 @@ pub enum Command<'a> {
         bytes: &'a [u8],
     },
 }
+
+/// What a command hands in.
+#[derive(Clone, Copy)]
+pub(crate) enum Hands<'a> {
+    /// Nothing.
+    Nothing,
+    /// These bytes, for one place.
+    Text(&'a [u8]),
+    /// These changes, and the bytes that they take.
+    Changes(&'a [Change]),
+}
+
+impl<'a> Command<'a> {
+    ghost use Rattle.edit_commands.specs.HandedIn.{HandsIn};
+
+    /// What the command hands in.
+    pub(crate) fn hands(&self) -> Hands<'a>
+        ensures { HandsIn self.now result }
+    {
+        match *self {
+            Command::Insert { bytes, .. } | Command::Replace { bytes, .. } => Hands::Text(bytes),
+            Command::Many { changes, .. } => Hands::Changes(changes),
+            Command::New
+            | Command::Open { .. }
+            | Command::Delete { .. }
+            | Command::Paste { .. }
+            | Command::Join { .. }
+            | Command::Cut { .. }
+            | Command::Fill { .. }
+            | Command::Back { .. }
+            | Command::Balance { .. } => Hands::Nothing,
+        }
+    }
+}

@@ -3,17 +3,18 @@
 ghost use Rattle.std.specs.Prelude.{◌≡◌, ◌<◌, ◌^◌, ℕ, List, length, IfOk, IsErrOf, Ok};
 ghost use Rattle.function_leaf.specs.Coded.{coded_byte};
 ghost use Rattle.node_table.specs.Held.{coded_at, table_of};
-ghost use Rattle.span_certificate.specs.declared.edit.Splice.{Splice};
-ghost use Rattle.span_certificate.specs.Commands.{full_edit, with_splices, NamesSplices};
+ghost use Rattle.command_parts.specs.declared.edit.Splice.{Splice};
+ghost use Rattle.command_parts.specs.Commands.{full_edit, with_splices, NamesSplices};
 ghost use Rattle.span_certificate.specs.Longest.{AreLongest, IsCutShort};
-ghost use Rattle.span_certificate.specs.Parts.{parts_of};
+ghost use Rattle.command_parts.specs.Parts.{parts_of};
 ghost use Rattle.edit_commands.specs.Session.{roots_of, AreRevisions, IsCertified, NamesThese};
 
 use crate::revision::{EarlierRoots, Revision};
+use command_parts::{Edit, Splice, parts};
 use function_leaf::Coded;
 use rope_node::{NodeSpace, Rope};
 use rope_store::Store;
-use span_certificate::{Edit, MakeFault, Row, Splice, Trails, are_longest, make_by, parts};
+use span_certificate::{MakeFault, Row, Trails, are_longest, make_by};
 use std::alloc::Global;
 
 /// The recorded command over its own splices alone.

@@ -7,20 +7,20 @@ ghost use Rattle.function_leaf.specs.Coded.{coded_byte};
 ghost use Rattle.leaf_buffer.specs.declared.block.TheConstants.{BLOCK_SIZE};
 ghost use Rattle.rope_node.specs.declared.limits.TheConstants.{TEXT_LIMIT};
 ghost use Rattle.node_table.specs.Held.{table_of};
-ghost use Rattle.span_certificate.specs.Commands.{are_apart};
-ghost use Rattle.span_certificate.specs.Parts.{AreRopes};
+ghost use Rattle.command_parts.specs.Commands.{are_apart};
+ghost use Rattle.command_parts.specs.Parts.{AreRopes};
 ghost use Rattle.edit_commands.specs.Refusals.{names_no_revision, is_wrong_count, names_no_source, is_out_of_range, bytes_of, changes_of, changes_nothing, unplaced, is_empty, is_too_long, result_len, refusal_of};
 ghost use Rattle.edit_commands.specs.Session.{roots_of, length_at, splices_held};
 
-use crate::command::{Change, Command};
+use crate::command::{Change, Command, Hands};
 use crate::fault::EditFault;
 use crate::revision::{EarlierRoots, Revision};
+use command_parts::{MOST_REVISIONS, MOST_SPLICES, Roots, SPLICES_LIMIT};
 use function_leaf::Coded;
 use leaf_buffer::BLOCK_SIZE;
 use node_table::NodeFault;
 use rope_node::{NodeSpace, TEXT_LIMIT};
 use rope_store::Store;
-use span_certificate::{MOST_REVISIONS, MOST_SPLICES, Roots, SPLICES_LIMIT};
 
 /// Whether a command names a revision that is not there.
 fn names_no_revision(store: &Store<Coded>, revisions: &[Revision], command: &Command<'_>) -> bool
@@ -51,7 +51,17 @@ fn names_no_source(store: &Store<Coded>, revisions: &[Revision], command: &Comma
 {
     match *command {
         Command::Open { s } => s >= store.source_count(),
-        _ => false,
+        Command::New
+        | Command::Insert { .. }
+        | Command::Delete { .. }
+        | Command::Replace { .. }
+        | Command::Paste { .. }
+        | Command::Join { .. }
+        | Command::Cut { .. }
+        | Command::Fill { .. }
+        | Command::Back { .. }
+        | Command::Balance { .. }
+        | Command::Many { .. } => false,
     }
 }
 
@@ -59,11 +69,9 @@ fn names_no_source(store: &Store<Coded>, revisions: &[Revision], command: &Comma
 fn is_wrong_count(command: &Command<'_>) -> bool
     ensures { result ≡ is_wrong_count command.now }
 {
-    match *command {
-        Command::Many { changes, .. } => {
-            changes.len() == 0 || changes.len() > MOST_SPLICES as usize
-        }
-        _ => false,
+    match command.hands() {
+        Hands::Changes(changes) => changes.len() == 0 || changes.len() > MOST_SPLICES as usize,
+        Hands::Nothing | Hands::Text(_) => false,
     }
 }
 
@@ -141,9 +149,9 @@ fn is_out_of_range(store: &Store<Coded>, revisions: &[Revision], command: &Comma
 fn handed(command: &Command<'_>) -> Option<usize>
     ensures { result ≡ option_map length (bytes_of command.now) }
 {
-    match *command {
-        Command::Insert { bytes, .. } | Command::Replace { bytes, .. } => Some(bytes.len()),
-        _ => None,
+    match command.hands() {
+        Hands::Text(bytes) => Some(bytes.len()),
+        Hands::Nothing | Hands::Changes(_) => None,
     }
 }
 
@@ -151,9 +159,9 @@ fn handed(command: &Command<'_>) -> Option<usize>
 fn changes_of<'a>(command: &Command<'a>) -> &'a [Change]
     ensures { result.now ≡ changes_of command.now }
 {
-    match *command {
-        Command::Many { changes, .. } => changes,
-        _ => &[],
+    match command.hands() {
+        Hands::Changes(changes) => changes,
+        Hands::Nothing | Hands::Text(_) => &[],
     }
 }
 

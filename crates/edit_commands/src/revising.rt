@@ -5,7 +5,7 @@ ghost use Rattle.function_leaf.specs.Coded.{coded_byte};
 ghost use Rattle.rope_node.specs.Balance.{IsBalancedRope};
 ghost use Rattle.rope_node.specs.Denotes.{rope_cells, IsRope};
 ghost use Rattle.node_table.specs.Held.{table_of, coded_at};
-ghost use Rattle.span_certificate.specs.Parts.{parts_cells, parts_of, AreRopes, IsInRange};
+ghost use Rattle.command_parts.specs.Parts.{parts_cells, parts_of, AreRopes, IsInRange};
 ghost use Rattle.span_certificate.specs.declared.making.TheConstants.{ROWS_LIMIT};
 ghost use Rattle.edit_commands.specs.Applying.{MakesRows, Revises};
 ghost use Rattle.edit_commands.specs.Building.{command_with, edit_with, placed_changes, splices_with};
@@ -15,14 +15,15 @@ ghost use Rattle.edit_commands.specs.Session.{AreRevisions, roots_of, rows_held,
 ghost use Rattle.edit_commands.specs.Terms.{times_handed};
 
 use crate::building::{build, times_handed};
-use crate::command::{Change, Command};
+use crate::command::{Change, Command, Hands};
 use crate::fault::EditFault;
 use crate::revision::{EarlierRoots, Revision};
+use command_parts::{Edit, SPLICES_LIMIT, Splice, parts};
 use function_leaf::Coded;
 use rebalance::is_balanced;
 use rope_node::{NodeSpace, Rope};
 use rope_store::Store;
-use span_certificate::{Edit, MakeFault, Row, SPLICES_LIMIT, Splice, Trails, make_by, parts};
+use span_certificate::{MakeFault, Row, Trails, make_by};
 use std::alloc::{AllocError, Global};
 
 /// The first of the places, 0 where there is none.
@@ -108,12 +109,12 @@ fn splices_of(
     ensures exact { IfOk result (λ splices. splices.items ≡ splices_with places.now command.now) }
     ensures fault { IfErr result (λ fault. fault ≡ EditFault.Memory) }
 {
-    match *command {
-        Command::Many { changes, .. } => match placed_changes(alloc, changes, places) {
+    match command.hands() {
+        Hands::Changes(changes) => match placed_changes(alloc, changes, places) {
             Ok(splices) => Ok(splices),
             Err(_) => Err(EditFault::Memory),
         },
-        _ => Ok(Vec::new(alloc)),
+        Hands::Nothing | Hands::Text(_) => Ok(Vec::new(alloc)),
     }
 }
 

@@ -1,7 +1,8 @@
 //! What a session keeps of a revision.
 
+use command_parts::{Edit, Roots, Splice};
 use rope_node::Rope;
-use span_certificate::{Edit, Roots, Row, Splice};
+use span_certificate::Row;
 
 /// A revision: its command, the splices that the command names, its root, whether the root is balanced, and its rows.
 #[derive(Drop)]

@@ -4,7 +4,7 @@ ghost use Rattle.std.specs.Prelude.{◌≡◌, ◌+◌, ◌<◌, ◌≤◌, ◌+
 ghost use Rattle.std.specs.Option.{option_map};
 ghost use Rattle.node_table.specs.Held.{held_of};
 ghost use Rattle.edit_commands.specs.Session.{SessionValue, IsCertified, IsRevision, IsSession, HoldsHistory, rows_held, splices_held};
-ghost use Rattle.span_certificate.specs.declared.edit.TheConstants.{MOST_REVISIONS, SPLICES_LIMIT};
+ghost use Rattle.command_parts.specs.declared.edit.TheConstants.{MOST_REVISIONS, SPLICES_LIMIT};
 ghost use Rattle.span_certificate.specs.declared.making.TheConstants.{ROWS_LIMIT};
 ghost use Rattle.edit_commands.specs.Session.{root_of, mark_of, edit_of, rows_of, splices_of};
 ghost use Rattle.edit_commands.specs.Refusals.{TakesAll};
@@ -16,10 +16,11 @@ use crate::known::longest_rows;
 use crate::refusing::refusal;
 use crate::revising::{is_marked, revise};
 use crate::revision::Revision;
+use command_parts::{Edit, Roots, Splice};
 use function_leaf::Coded;
 use rope_node::{NodeSpace, Rope};
 use rope_store::Store;
-use span_certificate::{Edit, ROWS_LIMIT, Roots, Row, Splice, Trails};
+use span_certificate::{ROWS_LIMIT, Row, Trails};
 use std::alloc::Global;
 use std::marker::Model;
 

@@ -8,8 +8,8 @@ use Rattle.std.specs.Str.{bytes_eq}
 use Rattle.std.proofs.lemmas.Bool.{cases_lt, le-leb}
 use Rattle.std.proofs.lemmas.List.{length-take, length-drop, length-map, take_all, take_more_same}
 use Rattle.std.proofs.lemmas.Option.{slice_get-map, slice_get-get_or, get_or_from_slice_get}
-use Rattle.span_certificate.specs.declared.edit.Splice.{Splice}
-use Rattle.span_certificate.specs.Commands.{◌>>=◌, FullEdit, New, Open, Insert, Delete, Replace, Paste, Join, Cut, Fill, Back, Balance, Many, Givens, span, bounded, replaced, replaced_each, can_splice, result_of, IsHistory}
+use Rattle.command_parts.specs.declared.edit.Splice.{Splice}
+use Rattle.command_parts.specs.Commands.{◌>>=◌, FullEdit, New, Open, Insert, Delete, Replace, Paste, Join, Cut, Fill, Back, Balance, Many, Givens, span, bounded, replaced, replaced_each, can_splice, result_of, IsHistory}
 use Rattle.edit_script.specs.Words.{Word, Name, Number, Quoted}
 use Rattle.edit_script.specs.Commands.{splice_words, words_of, StandsInside}
 use Rattle.edit_script.proofs.Choices.{bind_some, chosen, some_is}
@@ -41,7 +41,7 @@ edit_named name f n =
     else (if bytes_eq name (codes "back") then Back (f 0)
     else Balance (f 0))))))))))
 
-abbrev edit_in : List Word → FullEdit
+abbrev pub edit_in : List Word → FullEdit
 edit_in (Name name ∷ ws) = edit_named name (λ k. get_or (numbers_in ws) k 0) (length (bytes_in ws))
 edit_in ws = New
 

@@ -16,7 +16,7 @@ use Rattle.std.specs.Str.{bytes_eq}
 use Rattle.edit_script.specs.Words.{Word, Name, Number, Quoted, IsTail, escaped, printed_word, spelled_on, line_of}
 use Rattle.edit_script.specs.Commands.{Kind, Revision, Place, Byte, Text, shapes, shape_in, Shape, Suits, HasKinds, HasBytes, IsPrintable}
 use Rattle.edit_script.specs.Applied.{lines_of}
-use Rattle.edit_script.specs.Scripts.{ReadsScript, SaysFirst, IsOneLine, Printed, IsPrinted, script_of, Noted, comment_of}
+use Rattle.edit_script.specs.Scripts.{ReadsScript, SaysEach, SaysFirst, IsOneLine, Printed, IsPrinted, script_of, Noted, comment_of}
 use Rattle.edit_script.proofs.Choices.{chosen}
 use Rattle.edit_script.proofs.Printed.{line_printed}
 
@@ -86,15 +86,21 @@ line_one (Quoted bytes ∷ ws) p = let no : Quoted bytes ∷ ws ≡ [] = p.comma
 line_one (Name name ∷ ws) p =
     one_append name (spelled_on ws) (names_one shapes name p.command.0 refl p.command.1) (words_one p.command.0.again p.command.0.once ws p.command.2 p.bytes.1)
 
--- printed commands are the script's commands
-pub log_reads : (xs : List Printed) → AllByRecursion IsPrinted xs → ReadsScript (lines_of (script_of xs)) (map (λ (x : Printed). x.0) xs)
-log_reads [] h = inl (tt, refl)
-log_reads (x ∷ xs) h =
+-- each line of printed commands is the next of them
+pub log_says_each : (xs : List Printed) → AllByRecursion IsPrinted xs → SaysEach (lines_of (script_of xs)) (map (λ (x : Printed). x.0) xs)
+log_says_each [] h = (tt, refl)
+log_says_each (x ∷ xs) h =
     let commands = map (λ (y : Printed). y.0) (x ∷ xs) in
     let line = line_of x.0 ++ x.1 in
     let split : lines_of (script_of (x ∷ xs)) ≡ line ∷ lines_of (script_of xs) = line_split line (script_of xs) (one_append (line_of x.0) x.1 (line_one x.0 h.0.command) h.0.one) in
     let first : SaysFirst line commands (map (λ (y : Printed). y.0) xs) = record { first = x.0; some = h.0.some; known = h.0.command.command; words = line_printed x.0 x.1 h.0.command h.0.tail; all = refl } in
-    subst (λ (lines : List (List ℕ)). ReadsScript lines commands) (sym split) (inr (map (λ (y : Printed). y.0) xs, first, log_reads xs h.1))
+    subst (λ (lines : List (List ℕ)). SaysEach lines commands) (sym split) (first, log_says_each xs h.1)
+
+-- lines that are commands are read as these
+pub reads_each : (lines : List (List ℕ)) (commands : List (List Word)) → SaysEach lines commands → ReadsScript lines commands
+reads_each [] commands says = absurd says
+reads_each (line ∷ lines) [] says = inl (says.0, subst (λ (ls : List (List ℕ)). ReadsScript ls []) (sym says.1) refl)
+reads_each (line ∷ lines) (ws ∷ commands) says = inr (commands, says.0, reads_each lines commands says.1)
 
 -- a note's numbers have 64 bits
 pub record FitsNote (x : Noted) : Type 0 where

@@ -3,7 +3,7 @@ use Rattle.std.proofs.Common.{◌≡◌, ℕ, ◌+◌, ◌<◌, List, [], ◌∷
 use Rattle.std.specs.Fmt.{decimal}
 use Rattle.std.proofs.lemmas.List.{append-nil}
 use Rattle.std.proofs.lemmas.Grind.{take_at_read}
-use Rattle.span_certificate.specs.declared.edit.Splice.{Splice}
+use Rattle.command_parts.specs.declared.edit.Splice.{Splice}
 use Rattle.edit_script.specs.Words.{Word, Number, Quoted, numbers_on, printed_word, spelled_on}
 use Rattle.edit_script.specs.Commands.{splice_words}
 

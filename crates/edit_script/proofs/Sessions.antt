@@ -8,11 +8,11 @@ use Rattle.std.proofs.lemmas.List.Sums.{sum_by-cons}
 use Rattle.rope_node.specs.declared.node.NodeId.{NodeId}
 use Rattle.rope_node.specs.Table.{Table}
 use Rattle.rope_node.specs.Denotes.{Cell, Byte}
-use Rattle.span_certificate.specs.Commands.{◌>>=◌, FullEdit, Givens, span, bounded, replaced_each, spliced, can_splice, is_splice, result_of, with_splices}
-use Rattle.span_certificate.specs.Commands as E
-use Rattle.span_certificate.specs.Parts.{givens_of}
-use Rattle.span_certificate.specs.declared.edit.Splice.{Splice}
-use Rattle.span_certificate.proofs.SplicedTexts.{are_splices}
+use Rattle.command_parts.specs.Commands.{◌>>=◌, FullEdit, Givens, span, bounded, replaced_each, spliced, can_splice, is_splice, result_of, with_splices}
+use Rattle.command_parts.specs.Commands as E
+use Rattle.command_parts.specs.Parts.{givens_of}
+use Rattle.command_parts.specs.declared.edit.Splice.{Splice}
+use Rattle.command_parts.proofs.SplicedTexts.{are_splices}
 use Rattle.edit_commands.specs.declared.command.Change.{Change}
 use Rattle.edit_commands.specs.declared.command.Command.{Command}
 use Rattle.edit_commands.specs.declared.command.Command.TheVariants.{New, Open, Insert, Delete, Replace, Paste, Join, Cut, Fill, Back, Balance, Many}

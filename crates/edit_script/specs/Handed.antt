@@ -1,10 +1,10 @@
 -- The words of commands as they are handed to a session, and of those that are read into a room.
 use Rattle.std.specs.Prelude.{◌≡◌, ℕ, ◌+◌, ◌<◌, ◌≤◌, List, [], ◌∷◌, length, Option, Some, None}
 use Rattle.std.specs.List.{sum_by}
-use Rattle.span_certificate.specs.declared.edit.Edit.{Edit}
-use Rattle.span_certificate.specs.declared.edit.Edit.TheVariants as E
-use Rattle.span_certificate.specs.declared.edit.Splice.{Splice}
-use Rattle.span_certificate.specs.Commands.{with_splices}
+use Rattle.command_parts.specs.declared.edit.Edit.{Edit}
+use Rattle.command_parts.specs.declared.edit.Edit.TheVariants as E
+use Rattle.command_parts.specs.declared.edit.Splice.{Splice}
+use Rattle.command_parts.specs.Commands.{with_splices}
 use Rattle.edit_commands.specs.declared.command.Change.{Change}
 use Rattle.edit_commands.specs.declared.command.Command.{Command}
 use Rattle.edit_commands.specs.declared.command.Command.TheVariants.{Insert, Replace, Many}

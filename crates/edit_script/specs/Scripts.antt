@@ -22,6 +22,12 @@ ReadsScript (line ∷ lines) commands =
     (HasWords line [] × ReadsScript lines commands)
     ⊎ ((others : List (List Word)) × SaysFirst line commands others × ReadsScript lines others)
 
+-- Each line is the next command, and behind them stands a last line without words.
+abbrev pub SaysEach : List (List ℕ) → List (List Word) → Type 0
+SaysEach [] commands = ⊥
+SaysEach (line ∷ lines) [] = HasWords line [] × (lines ≡ [])
+SaysEach (line ∷ lines) (ws ∷ commands) = SaysFirst line (ws ∷ commands) commands × SaysEach lines commands
+
 -- what a session's revisions say
 abbrev pub words_held : SessionValue → List (List Word)
 words_held v = map (words_of v.held.pool.bytes) (commands_of v.revisions)

@@ -1,6 +1,6 @@
 -- Commands that say the same, whatever pools their bytes stand in.
 use Rattle.std.specs.Prelude.{◌≡◌, ℕ, List, length, map, All}
-use Rattle.span_certificate.specs.Commands.{FullEdit, Givens}
+use Rattle.command_parts.specs.Commands.{FullEdit, Givens}
 use Rattle.edit_script.specs.Commands.{words_of, StandsInside}
 
 -- the words are the same, the bytes that are named stand in the pools, and the sources are the same

@@ -9,8 +9,8 @@ use crate::fault::{LineFault, Stop, Stopped};
 use crate::handing::handed;
 use crate::line::parse_line;
 use crate::room::Room;
+use command_parts::Edit;
 use edit_commands::{EditFault, Session};
-use span_certificate::Edit;
 use work_progress::{Progress, Untold};
 
 /// Makes the revision of a command that was read into a room.

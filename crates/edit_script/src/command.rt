@@ -13,7 +13,7 @@ use crate::fault::LineFault;
 use crate::number::{number, number8, number32};
 use crate::quoted::quoted;
 use crate::room::Room;
-use span_certificate::Edit;
+use command_parts::Edit;
 
 /// No more words.
 fn end(line: &[u8]) -> Result<(), LineFault>

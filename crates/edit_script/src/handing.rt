@@ -5,8 +5,8 @@ ghost use Rattle.edit_commands.specs.Refusals.{TakesAll};
 ghost use Rattle.edit_script.specs.Handed.{IsInRoom, words_in, words_handed};
 
 use crate::room::Room;
+use command_parts::Edit;
 use edit_commands::Command;
-use span_certificate::Edit;
 
 /// The `n` bytes of a pool from place `a` on.
 pub fn span(pool: &[u8], a: u64, n: u64) -> &[u8]

@@ -4,11 +4,11 @@ ghost use Rattle.std.specs.Prelude.{◌≡◌, ℕ, List, ◌++◌, Ok, map};
 ghost use Rattle.std.specs.List.{AllByRecursion};
 ghost use Rattle.edit_script.specs.Words.{Word, HasWords, IsTail, line_of};
 ghost use Rattle.edit_script.specs.Commands.{IsLine, IsPrintable};
-ghost use Rattle.span_certificate.specs.Commands.{FullEdit, Givens, IsHistory};
+ghost use Rattle.command_parts.specs.Commands.{FullEdit, Givens, IsHistory};
 ghost use Rattle.edit_commands.specs.Session.{SessionValue};
 ghost use Rattle.edit_script.specs.Texts.{SayTheSame};
 ghost use Rattle.edit_script.specs.Applied.{TakesLines, lines_of};
-ghost use Rattle.edit_script.specs.Scripts.{AreInside, ReadsScript, words_held, Printed, IsPrinted, script_of};
+ghost use Rattle.edit_script.specs.Scripts.{AreInside, ReadsScript, SaysEach, words_held, Printed, IsPrinted, script_of};
 
 /// A command stands in the line that it is printed as, whatever comment follows; and no line is two commands. So what
 /// was printed is read again, and as no other command.
@@ -33,8 +33,10 @@ pub fn says_the_script()
         → (words_held new ≡ words_held old ++ commands) × AreInside new }
 {}
 
-/// A script of printed commands, each with nothing or a comment behind it, is read as those commands.
+/// A script of printed commands, each with nothing or a comment behind it, is read as those commands, a line each.
 pub fn reads_a_log()
-    ensures { (xs : List Printed) → AllByRecursion IsPrinted xs
+    ensures each { (xs : List Printed) → AllByRecursion IsPrinted xs
+        → SaysEach (lines_of (script_of xs)) (map (λ (x : Printed). x.0) xs) }
+    ensures all { (xs : List Printed) → AllByRecursion IsPrinted xs
         → ReadsScript (lines_of (script_of xs)) (map (λ (x : Printed). x.0) xs) }
 {}

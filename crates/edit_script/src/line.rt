@@ -10,7 +10,7 @@ use crate::blanks::{behind_blanks, is_end, split_front};
 use crate::command::command;
 use crate::fault::LineFault;
 use crate::room::Room;
-use span_certificate::Edit;
+use command_parts::Edit;
 
 fn read_line(line: &[u8], room: &mut Room) -> Result<Option<Edit>, LineFault>
     requires bytes { room.now.bytes.items ≡ [] }

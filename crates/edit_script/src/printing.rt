@@ -3,14 +3,14 @@
 ghost use Rattle.std.specs.Prelude.{◌≡◌, false, ◌<◌, ◌+◌, ◌≤◌, ◌∷◌, [], ◌++◌, length, OnOk, List};
 ghost use Rattle.std.specs.Fmt.{decimal, digit_glyph};
 ghost use Rattle.std.specs.List.{flat_map, AllByRecursion};
-ghost use Rattle.span_certificate.specs.Commands.{with_splices};
+ghost use Rattle.command_parts.specs.Commands.{with_splices};
 ghost use Rattle.edit_script.specs.Words.{escaped, numbers_on, printed_word, spelled_on, line_of, Number, Quoted};
-ghost use Rattle.span_certificate.specs.declared.edit.Splice.{Splice};
+ghost use Rattle.command_parts.specs.declared.edit.Splice.{Splice};
 ghost use Rattle.edit_script.specs.Commands.{front_of, texts_of, words_of, splice_words, StandsInside};
 
 use crate::handing::span;
+use command_parts::{Edit, Splice};
 use itoa::Buffer;
-use span_certificate::{Edit, Splice};
 use std::alloc::AllocError;
 
 /// The digit of base 16 for a number below 16.
@@ -146,7 +146,15 @@ fn push_texts(
         Edit::Insert { a, n, .. } => push_quoted(out, span(pool, a, n)),
         Edit::Replace { a, n, .. } => push_quoted(out, span(pool, a, n)),
         Edit::Many { .. } => push_splices(out, pool, splices),
-        _ => Ok(()),
+        Edit::New
+        | Edit::Open { .. }
+        | Edit::Delete { .. }
+        | Edit::Paste { .. }
+        | Edit::Join { .. }
+        | Edit::Cut { .. }
+        | Edit::Fill { .. }
+        | Edit::Back { .. }
+        | Edit::Balance { .. } => Ok(()),
     }
 }
 

@@ -2,10 +2,10 @@
 use Rattle.std.proofs.Common.{◌≡◌, ℕ, zero, suc, ◌<◌, ◌≤◌, false, eqb, if◌then◌else◌, List, [], ◌∷◌, refl, sym, ap, subst, arith, lit<, inl, inr}
 use Rattle.std.specs.List.{AllByRecursion}
 use Rattle.std.proofs.lemmas.Bool.{cases_Bool, eqb-true, ne_eqb}
-use Rattle.span_certificate.specs.declared.codes.TheConstants.{BALANCE, MANY}
-use Rattle.span_certificate.specs.declared.edit.Edit.{Edit}
-use Rattle.span_certificate.specs.declared.edit.Edit.TheVariants.{New, Open, Insert, Delete, Replace, Paste, Join, Cut, Fill, Back, Balance, Many}
-use Rattle.span_certificate.specs.Fields.{Field, R, Q, P, M, A, N, place_in_record, number_limit, recorded, edit_by, splices_of, is_in_field, number_for, unused, FitsField, FitsRecord, IsPlacedAt}
+use Rattle.command_parts.specs.declared.codes.TheConstants.{BALANCE, MANY}
+use Rattle.command_parts.specs.declared.edit.Edit.{Edit}
+use Rattle.command_parts.specs.declared.edit.Edit.TheVariants.{New, Open, Insert, Delete, Replace, Paste, Join, Cut, Fill, Back, Balance, Many}
+use Rattle.command_parts.specs.Fields.{Field, R, Q, P, M, A, N, place_in_record, number_limit, recorded, edit_by, splices_of, is_in_field, number_for, unused, FitsField, FitsRecord, IsPlacedAt}
 use Rattle.image_reader.specs.declared.command.Numbers.{Numbers}
 use Rattle.image_reader.specs.Spelling.{field_of, numbers_of}
 use Rattle.image_reader.specs.Reading.{any_nonzero}

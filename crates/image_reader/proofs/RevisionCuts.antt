@@ -8,7 +8,7 @@ use Rattle.image_reader.specs.Layout.{records}
 use Rattle.image_reader.specs.Value.{ImageValue}
 use Rattle.image_reader.specs.Accepted.{no_revision, revision_at, splices_before}
 use Rattle.image_reader.specs.Reading.{is_marked, root_in, splices_in, revision_of, revisions_of}
-use Rattle.span_certificate.specs.Fields.{splices_of}
+use Rattle.command_parts.specs.Fields.{splices_of}
 use Rattle.image_reader.proofs.RevisionRecords.{splices_read}
 use Rattle.image_reader.proofs.RevisionSections.{length-revisions, slice_get-revisions}
 

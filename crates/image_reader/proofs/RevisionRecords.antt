@@ -3,9 +3,9 @@ use Rattle.std.proofs.Common.{lit<, ◌≡◌, ◌≢◌, ℕ, zero, suc, ◌^�
 use Rattle.std.specs.Int.{w8, w16, w32, w64}
 use Rattle.std.proofs.lemmas.Bool.{or_parts, or_from, le-ltb, eqb-true, eqb-false, ne_eqb, ltb-false, cases_Bool}
 use Rattle.rope_node.specs.declared.node.NodeId.{NodeId}
-use Rattle.span_certificate.specs.declared.edit.Edit.{Edit}
-use Rattle.span_certificate.specs.declared.codes.TheConstants.{MANY}
-use Rattle.span_certificate.specs.Fields.{Field, R, Q, P, M, A, N, place_in_record, number_limit, recorded, edit_by, splices_of, unused, FitsRecord, IsPlacedAt}
+use Rattle.command_parts.specs.declared.edit.Edit.{Edit}
+use Rattle.command_parts.specs.declared.codes.TheConstants.{MANY}
+use Rattle.command_parts.specs.Fields.{Field, R, Q, P, M, A, N, place_in_record, number_limit, recorded, edit_by, splices_of, unused, FitsRecord, IsPlacedAt}
 use Rattle.image_reader.specs.declared.command.Numbers.{Numbers}
 use Rattle.image_reader.specs.declared.fault.ReadFault.TheVariants.{NonZeroPad}
 use Rattle.image_reader.specs.declared.revision.Revision.{Revision}

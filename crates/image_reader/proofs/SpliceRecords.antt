@@ -1,7 +1,7 @@
 -- Splices: four numbers each, of which none can be at fault.
 use Rattle.std.proofs.Common.{◌≡◌, ℕ, ◌<◌, ◌^◌, List, [], ◌∷◌, length, get_or, Option, None, refl, ap}
 use Rattle.std.specs.Int.{w64}
-use Rattle.span_certificate.specs.declared.edit.Splice.{Splice}
+use Rattle.command_parts.specs.declared.edit.Splice.{Splice}
 use Rattle.image_reader.specs.declared.fault.ReadFault.{ReadFault}
 use Rattle.image_reader.specs.Layout.{IsBytes, spelled, number_in}
 use Rattle.image_reader.specs.Value.{FitsSplice}

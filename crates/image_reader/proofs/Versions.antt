@@ -4,9 +4,9 @@ use Rattle.std.proofs.lemmas.Bool.{and_cases, not-false, not_from_true, eqb-true
 use Rattle.std.specs.List.{sum_by, AllByRecursion}
 use Rattle.std.proofs.Common.{List, [], ◌∷◌}
 use Rattle.std.proofs.lemmas.List.Sums.{sum_by-cons}
-use Rattle.span_certificate.specs.Fields.{splices_of}
-use Rattle.span_certificate.specs.declared.edit.TheConstants.{SPLICES_LIMIT}
-use Rattle.span_certificate.specs.declared.codes.TheConstants.{MANY}
+use Rattle.command_parts.specs.Fields.{splices_of}
+use Rattle.command_parts.specs.declared.edit.TheConstants.{SPLICES_LIMIT}
+use Rattle.command_parts.specs.declared.codes.TheConstants.{MANY}
 use Rattle.image_reader.specs.declared.revision.Revision.{Revision}
 use Rattle.image_reader.specs.declared.version.FormatVersion.{FormatVersion}
 use Rattle.image_reader.specs.declared.version.FormatVersion.TheVariants.{One, Two}

@@ -14,8 +14,8 @@ use Rattle.image_reader.specs.declared.version.FormatVersion.TheVariants.{One, T
 use Rattle.image_reader.specs.declared.header.Header.{Header}
 use Rattle.image_reader.specs.declared.section.Sections.{Sections}
 use Rattle.image_reader.specs.declared.revision.Revision.{Revision}
-use Rattle.span_certificate.specs.declared.edit.TheConstants.{MOST_REVISIONS, SPLICES_LIMIT}
-use Rattle.span_certificate.specs.Fields.{splices_of}
+use Rattle.command_parts.specs.declared.edit.TheConstants.{MOST_REVISIONS, SPLICES_LIMIT}
+use Rattle.command_parts.specs.Fields.{splices_of}
 use Rattle.image_reader.specs.declared.header.TheConstants.{MAGIC, MOST_POOL}
 use Rattle.span_certificate.specs.declared.making.TheConstants.{ROWS_LIMIT}
 use Rattle.rope_node.specs.declared.limits.TheConstants.{MOST_NODES, MOST_SOURCES}

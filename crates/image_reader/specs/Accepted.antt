@@ -5,12 +5,12 @@ use Rattle.rope_node.specs.declared.node.NodeId.{NodeId}
 use Rattle.rope_node.specs.Table.{Table, node_at, IsSoundNode, IsTrueNode}
 use Rattle.rope_node.specs.Denotes.{Cell, rope_len, IsRope}
 use Rattle.rope_node.specs.Balance.{IsBalancedRope}
-use Rattle.span_certificate.specs.Commands.{FullEdit, full_edit}
-use Rattle.span_certificate.specs.declared.edit.Edit.TheVariants.{New}
-use Rattle.span_certificate.specs.declared.part.Part.{Part}
+use Rattle.command_parts.specs.Commands.{FullEdit, full_edit}
+use Rattle.command_parts.specs.declared.edit.Edit.TheVariants.{New}
+use Rattle.command_parts.specs.declared.part.Part.{Part}
 use Rattle.span_certificate.specs.declared.row.Row.{Row}
-use Rattle.span_certificate.specs.Fields.{splices_of}
-use Rattle.span_certificate.specs.Parts.{parts_of, parts_len, IsInRange}
+use Rattle.command_parts.specs.Fields.{splices_of}
+use Rattle.command_parts.specs.Parts.{parts_of, parts_len, IsInRange}
 use Rattle.span_certificate.specs.Covers.{CoversBy, SameOver}
 use Rattle.image_reader.specs.declared.revision.Revision.{Revision}
 use Rattle.image_reader.specs.Value.{ImageValue, image_table, coded_at}

@@ -8,8 +8,8 @@ use Rattle.rope_node.specs.declared.node.NodeView.TheVariants.{Lit, Src, Fun, Ca
 use Rattle.function_leaf.specs.declared.coded.Coded.{Coded}
 use Rattle.function_leaf.specs.declared.coded.Coded.TheVariants.{Fill, Ramp, Cycle}
 use Rattle.function_leaf.specs.Pattern.{padded}
-use Rattle.span_certificate.specs.declared.edit.Edit.{Edit}
-use Rattle.span_certificate.specs.Fields.{Field, R, Q, P, M, A, N, recorded, number_for}
+use Rattle.command_parts.specs.declared.edit.Edit.{Edit}
+use Rattle.command_parts.specs.Fields.{Field, R, Q, P, M, A, N, recorded, number_for}
 use Rattle.image_reader.specs.declared.command.Numbers.{Numbers}
 use Rattle.span_certificate.specs.declared.row.Row.{Row}
 use Rattle.span_certificate.specs.declared.row.RowKind.{RowKind}
@@ -18,7 +18,7 @@ use Rattle.image_reader.specs.declared.revision.Revision.{Revision}
 use Rattle.image_reader.specs.Layout.{spelled}
 use Rattle.image_reader.specs.declared.codes.TheConstants.{BYTES_ROW, CONCATENATION, CYCLE, FILL, FUNCTION, LEAF_ROW, LITERAL, RAMP, SHARED_ROW, SOURCE_SPAN, SUBSTRING}
 use Rattle.image_reader.specs.declared.decode.TheConstants.{NIL_ROOT}
-use Rattle.span_certificate.specs.declared.edit.Splice.{Splice}
+use Rattle.command_parts.specs.declared.edit.Splice.{Splice}
 use Rattle.image_reader.specs.declared.header.TheConstants.{MAGIC}
 use Rattle.image_reader.specs.Versions.{version_number}
 use Rattle.image_reader.specs.Value.{ImageNode, ImageValue}

@@ -13,14 +13,14 @@ use Rattle.rope_node.specs.Table.{Node, Table, no_node}
 use Rattle.span_certificate.specs.declared.row.Row.{Row}
 use Rattle.span_certificate.specs.declared.row.RowKind.{RowKind}
 use Rattle.span_certificate.specs.declared.row.RowKind.TheVariants.{Shared, Leaf, Bytes}
-use Rattle.span_certificate.specs.declared.edit.Splice.{Splice}
-use Rattle.span_certificate.specs.Fields.{recorded, splices_of, FitsRecord, IsPlacedAt}
+use Rattle.command_parts.specs.declared.edit.Splice.{Splice}
+use Rattle.command_parts.specs.Fields.{recorded, splices_of, FitsRecord, IsPlacedAt}
 use Rattle.image_reader.specs.declared.revision.Revision.{Revision}
 use Rattle.image_reader.specs.declared.version.FormatVersion.{FormatVersion}
 use Rattle.image_reader.specs.declared.version.FormatVersion.TheVariants.{Two}
 use Rattle.image_reader.specs.Layout.{IsBytes}
 use Rattle.image_reader.specs.Versions.{last_code}
-use Rattle.span_certificate.specs.declared.edit.TheConstants.{MOST_REVISIONS, SPLICES_LIMIT}
+use Rattle.command_parts.specs.declared.edit.TheConstants.{MOST_REVISIONS, SPLICES_LIMIT}
 use Rattle.image_reader.specs.declared.header.TheConstants.{MOST_POOL}
 use Rattle.span_certificate.specs.declared.making.TheConstants.{ROWS_LIMIT}
 use Rattle.image_reader.specs.declared.decode.TheConstants.{NIL_ROOT}

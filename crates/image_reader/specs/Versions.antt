@@ -1,6 +1,6 @@
 -- The versions of the format.
 use Rattle.std.specs.Prelude.{ℕ, Bool, true, false, ◌==◌, if◌then◌else◌}
-use Rattle.span_certificate.specs.declared.codes.TheConstants.{BALANCE, MANY}
+use Rattle.command_parts.specs.declared.codes.TheConstants.{BALANCE, MANY}
 use Rattle.image_reader.specs.declared.version.FormatVersion.{FormatVersion}
 use Rattle.image_reader.specs.declared.version.FormatVersion.TheVariants.{One, Two}
 use Rattle.image_reader.specs.declared.version.TheConstants.{VERSION_ONE, VERSION_TWO}

@@ -1,14 +1,14 @@
 //! Commands as a revision's record holds them: a code, and the numbers that a command of this code uses.
 
 ghost use Rattle.std.specs.Prelude.{◌≡◌, length};
-ghost use Rattle.span_certificate.specs.Fields.{edit_by, unused};
+ghost use Rattle.command_parts.specs.Fields.{edit_by, unused};
 ghost use Rattle.image_reader.specs.declared.layout.TheConstants.{REVISION_SIZE};
 ghost use Rattle.image_reader.specs.Reading.{numbers_in, any_nonzero};
 ghost use Rattle.image_reader.specs.Spelling.{field_of};
 
 use crate::number::{u32_in, u64_in};
-use span_certificate::Edit;
-use span_certificate::codes::{
+use command_parts::Edit;
+use command_parts::codes::{
     BACK, BALANCE, CUT, DELETE, FILL, INSERT, JOIN, MANY, OPEN, PASTE, REPLACE,
 };
 

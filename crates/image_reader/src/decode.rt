@@ -9,9 +9,10 @@ use crate::command::{edit_by, numbers_in};
 use crate::layout::REVISION_SIZE;
 use crate::number::{u8_in, u32_in, u64_in};
 use crate::revision::Revision;
+use command_parts::Splice;
+use command_parts::codes::MANY;
 use rope_node::{NodeId, Rope};
-use span_certificate::codes::MANY;
-use span_certificate::{Row, RowKind, Splice};
+use span_certificate::{Row, RowKind};
 
 /// The length of a source.
 #[tactic(auto, unfolding(crate::specs::Reading::source_of))]

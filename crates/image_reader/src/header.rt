@@ -8,9 +8,10 @@ use crate::fault::ReadFault;
 use crate::layout::{HEADER_SIZE, NODE_SIZE, REVISION_SIZE, ROW_SIZE, SOURCE_SIZE, SPLICE_SIZE};
 use crate::number::{u32_in, u64_in};
 use crate::version::{FormatVersion, VERSION_ONE, VERSION_TWO, version_by};
+use command_parts::{MOST_REVISIONS, SPLICES_LIMIT};
 use leaf_buffer::POOL_LIMIT;
 use rope_node::{MOST_NODES, MOST_SOURCES};
-use span_certificate::{MOST_REVISIONS, ROWS_LIMIT, SPLICES_LIMIT};
+use span_certificate::ROWS_LIMIT;
 
 /// The version, how many records each section has, and how long the pool is.
 #[derive(Clone, Copy)]
@@ -109,7 +110,7 @@ pub fn judged_len(header: &[u8]) -> u64
 
 impl Header {
     ghost use Rattle.std.specs.Prelude.{◌≡◌, ◌≤◌, ◌||◌, ◌&&◌, nat_lt};
-    ghost use Rattle.span_certificate.specs.declared.edit.TheConstants.{MOST_REVISIONS, SPLICES_LIMIT};
+    ghost use Rattle.command_parts.specs.declared.edit.TheConstants.{MOST_REVISIONS, SPLICES_LIMIT};
     ghost use Rattle.image_reader.specs.Reading.{whole_len};
     ghost use Rattle.image_reader.specs.Versions.{is_two};
     ghost use Rattle.image_reader.specs.declared.header.TheConstants.{MOST_POOL};

@@ -5,7 +5,7 @@ ghost use Rattle.std.specs.Result.{result_err};
 ghost use Rattle.rope_node.specs.declared.limits.TheConstants.{TEXT_LIMIT};
 ghost use Rattle.rope_node.specs.declared.node.NodeView.TheVariants.{Fun};
 ghost use Rattle.rope_node.specs.Table.{view_at, len_at, depth_at};
-ghost use Rattle.span_certificate.specs.Fields.{splices_of};
+ghost use Rattle.command_parts.specs.Fields.{splices_of};
 ghost use Rattle.image_reader.specs.Value.{ImageValue, IsImage, function_at, image_table};
 ghost use Rattle.image_reader.specs.Accepted.{revision_at, splices_before};
 ghost use Rattle.image_reader.specs.Spelling.{spelling, records_spelling};
@@ -20,9 +20,10 @@ use crate::number::{bytes_before, cell_at};
 use crate::revision::Revision;
 use crate::section::{check_sections, sections_of};
 use crate::version::FormatVersion;
+use command_parts::Splice;
 use function_leaf::Coded;
 use rope_node::{NodeId, NodeView, Rope};
-use span_certificate::{Row, Splice};
+use span_certificate::Row;
 use std::marker::Model;
 
 /// A session image. It borrows the bytes that it was read from, and reads its fields from them as they are asked for.

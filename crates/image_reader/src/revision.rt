@@ -1,7 +1,7 @@
 //! Revisions as an image records them.
 
+use command_parts::Edit;
 use rope_node::Rope;
-use span_certificate::Edit;
 
 /// A revision: its command, its root, and how many certificate rows it has.
 #[derive(Clone, Copy, Debug, PartialEq, Eq)]

@@ -8,7 +8,7 @@ use crate::image::Image;
 use crate::revision::Revision;
 use crate::roots::EarlierRoots;
 use crate::rows::RevisionRows;
-use span_certificate::{Splice, Splices};
+use command_parts::{Splice, Splices};
 use std::marker::Model;
 
 /// The revisions of an image, their roots and rows. Of its nodes it gives none.

@@ -4,8 +4,8 @@ ghost use Rattle.std.specs.Prelude.{◌<◌, ◌≤◌, length};
 ghost use Rattle.image_reader.specs.Accepted.{roots_before};
 
 use crate::image::Image;
+use command_parts::Roots;
 use rope_node::Rope;
-use span_certificate::Roots;
 
 /// The roots of an image's revisions before revision `k`.
 #[derive(Drop)]

@@ -5,7 +5,7 @@ ghost use Rattle.std.specs.Result.{result_err};
 ghost use Rattle.image_reader.specs.declared.fault.ReadFault.{ReadFault};
 ghost use Rattle.image_reader.specs.declared.layout.TheConstants.{NODE_SIZE, REVISION_SIZE, ROW_SIZE, SOURCE_SIZE};
 ghost use Rattle.image_reader.specs.Versions.{last_code};
-ghost use Rattle.span_certificate.specs.declared.codes.TheConstants.{BALANCE, MANY};
+ghost use Rattle.command_parts.specs.declared.codes.TheConstants.{BALANCE, MANY};
 ghost use Rattle.image_reader.specs.Layout.{records};
 ghost use Rattle.image_reader.specs.Reading.{source_record_fault, node_record_fault, revision_record_fault, row_record_fault, first_fault, any_nonzero, unused_in_revision, unused_in_row, sections_fault, whole_len, AreSections, HasRoom};
 
@@ -18,8 +18,8 @@ use crate::layout::{HEADER_SIZE, NODE_SIZE, REVISION_SIZE, ROW_SIZE, SOURCE_SIZE
 use crate::node::{has_unused_node_field, is_unknown_node};
 use crate::number::{bytes_from, u8_in, u16_in, u32_in, u64_in};
 use crate::version::FormatVersion;
+use command_parts::codes::{BALANCE, MANY, NEW};
 use rope_node::TEXT_LIMIT;
-use span_certificate::codes::{BALANCE, MANY, NEW};
 
 /// A kind of record.
 pub trait RecordKind {

@@ -3,7 +3,7 @@
 ghost use Rattle.std.specs.Prelude.{◌≡◌};
 ghost use Rattle.image_reader.specs.Versions.{version_by};
 
-use span_certificate::codes::{BALANCE, MANY};
+use command_parts::codes::{BALANCE, MANY};
 
 /// A version of the format.
 #[derive(Clone, Copy, Debug, PartialEq, Eq)]

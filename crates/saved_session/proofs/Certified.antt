@@ -8,14 +8,14 @@ use Rattle.rope_node.specs.Table.{Table}
 use Rattle.rope_node.specs.Denotes.{IsRope}
 use Rattle.lazy_file.specs.SourceTexts.{Stated}
 use Rattle.node_table.specs.Held.{Held, table_of, coded_at as held_coded}
-use Rattle.span_certificate.specs.declared.edit.Edit.{Edit}
-use Rattle.span_certificate.specs.declared.edit.Edit.TheVariants.{New, Open, Insert, Delete, Replace, Paste, Join, Cut, Fill, Back, Balance, Many}
-use Rattle.span_certificate.specs.declared.edit.Splice.{Splice}
+use Rattle.command_parts.specs.declared.edit.Edit.{Edit}
+use Rattle.command_parts.specs.declared.edit.Edit.TheVariants.{New, Open, Insert, Delete, Replace, Paste, Join, Cut, Fill, Back, Balance, Many}
+use Rattle.command_parts.specs.declared.edit.Splice.{Splice}
 use Rattle.span_certificate.specs.declared.row.Row.{Row}
-use Rattle.span_certificate.specs.Commands.{named_splices, with_splices, NamesSplices}
+use Rattle.command_parts.specs.Commands.{named_splices, with_splices, NamesSplices}
 use Rattle.span_certificate.specs.Covers.{CoversAlways, MeetsNoSource}
-use Rattle.span_certificate.specs.Fields.{IsPlacedAt}
-use Rattle.span_certificate.specs.Parts.{parts_of, IsInRange}
+use Rattle.command_parts.specs.Fields.{IsPlacedAt}
+use Rattle.command_parts.specs.Parts.{parts_of, IsInRange}
 use Rattle.edit_commands.specs.declared.revision.Revision as Kept
 use Rattle.edit_commands.specs.Session.{IsCertified, NamesThese, roots_of, splices_held}
 use Rattle.image_reader.specs.Value.{ImageValue, IsImage, image_table, coded_at}

@@ -5,11 +5,11 @@ use Rattle.rope_node.specs.declared.node.NodeId.{NodeId}
 use Rattle.rope_node.specs.Table.{Table, IsSound, HasTrueRecords}
 use Rattle.rope_node.specs.Denotes.{Cell, rope_cells, text}
 use Rattle.lazy_file.specs.SourceTexts.{Stated}
-use Rattle.span_certificate.specs.declared.part.Part.{Part}
+use Rattle.command_parts.specs.declared.part.Part.{Part}
 use Rattle.span_certificate.specs.declared.row.Row.{Row}
 use Rattle.span_certificate.specs.declared.row.RowKind.{RowKind}
 use Rattle.span_certificate.specs.declared.row.RowKind.TheVariants.{Shared, Leaf, Bytes}
-use Rattle.span_certificate.specs.Parts.{AreParts, part_cells}
+use Rattle.command_parts.specs.Parts.{AreParts, part_cells}
 use Rattle.span_certificate.specs.Covers.{CoversAlways, CoversAnyhow, CoversBy, HaveSameBytes, KindFits, KindFitsBy, MeetsNoSource, place_of, row_at}
 use Rattle.span_certificate.specs.Verdicts.{SameStated}
 use Rattle.span_certificate.proofs.Covering.{holds_place}

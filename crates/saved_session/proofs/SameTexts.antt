@@ -5,8 +5,8 @@ use Rattle.std.proofs.lemmas.Simd.{map-map}
 use Rattle.rope_node.specs.declared.node.NodeId.{NodeId}
 use Rattle.rope_node.specs.Denotes.{rope_cells, text}
 use Rattle.rope_node.specs.Table.{Table}
-use Rattle.span_certificate.specs.declared.edit.Splice.{Splice}
-use Rattle.span_certificate.specs.Commands.{full_edit}
+use Rattle.command_parts.specs.declared.edit.Splice.{Splice}
+use Rattle.command_parts.specs.Commands.{full_edit}
 use Rattle.edit_commands.specs.declared.revision.Revision as Kept
 use Rattle.edit_commands.specs.Session.{IsSession, SessionValue, command_of, commands_of, roots_of, texts_of}
 use Rattle.edit_commands.proofs.RevisionSplices.{says_over_all}

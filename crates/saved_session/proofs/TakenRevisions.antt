@@ -12,19 +12,19 @@ use Rattle.rope_node.specs.Balance.{IsBalancedRope}
 use Rattle.rope_node.specs.declared.node.NodeId.{NodeId}
 use Rattle.rope_node.specs.Table.{Table}
 use Rattle.node_table.specs.Held.{Held, table_of, coded_at as held_coded}
-use Rattle.span_certificate.specs.declared.edit.Edit.{Edit}
-use Rattle.span_certificate.specs.declared.edit.Edit.TheVariants.{New, Open, Insert, Delete, Replace, Paste, Join, Cut, Fill, Back, Balance, Many}
-use Rattle.span_certificate.specs.declared.edit.Splice.{Splice}
+use Rattle.command_parts.specs.declared.edit.Edit.{Edit}
+use Rattle.command_parts.specs.declared.edit.Edit.TheVariants.{New, Open, Insert, Delete, Replace, Paste, Join, Cut, Fill, Back, Balance, Many}
+use Rattle.command_parts.specs.declared.edit.Splice.{Splice}
 use Rattle.span_certificate.specs.declared.row.Row.{Row}
-use Rattle.span_certificate.specs.Commands.{named_splices, with_splices}
-use Rattle.span_certificate.specs.Fields.{splices_of, IsPlacedAt}
+use Rattle.command_parts.specs.Commands.{named_splices, with_splices}
+use Rattle.command_parts.specs.Fields.{splices_of, IsPlacedAt}
 use Rattle.span_certificate.specs.Longest.{AreLongest, AreMade}
 use Rattle.span_certificate.specs.Covers.{rows_len}
-use Rattle.span_certificate.specs.Commands.{FullEdit}
-use Rattle.span_certificate.specs.declared.part.Part.{Part}
+use Rattle.command_parts.specs.Commands.{FullEdit}
+use Rattle.command_parts.specs.declared.part.Part.{Part}
 use Rattle.rope_node.specs.Denotes.{rope_len}
 use Rattle.std.proofs.lemmas.List.Sums.{sum_by-cons}
-use Rattle.span_certificate.specs.Parts.{parts_of}
+use Rattle.command_parts.specs.Parts.{parts_of}
 use Rattle.edit_commands.specs.declared.revision.Revision as Kept
 use Rattle.edit_commands.specs.Applying.{KnownRowsPass, PassRows, PutsKnown}
 use Rattle.edit_commands.specs.Session.{IsRevision, IsSession, SessionValue, command_of, roots_of, rows_held, splices_held}

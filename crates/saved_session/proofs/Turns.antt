@@ -1,13 +1,13 @@
 -- What is handed to a turn of taking up is the image's own.
 use Rattle.std.proofs.Common.{◌≡◌, ℕ, ◌+◌, ◌<◌, ◌≤◌, List, length, take, drop, ap, ◌∙◌, arith}
 use Rattle.std.proofs.lemmas.List.{length-take, length-drop}
-use Rattle.span_certificate.specs.declared.edit.Splice.{Splice}
-use Rattle.span_certificate.specs.declared.edit.TheConstants.{SPLICES_LIMIT}
-use Rattle.span_certificate.specs.declared.part.Part.{Part}
+use Rattle.command_parts.specs.declared.edit.Splice.{Splice}
+use Rattle.command_parts.specs.declared.edit.TheConstants.{SPLICES_LIMIT}
+use Rattle.command_parts.specs.declared.part.Part.{Part}
 use Rattle.span_certificate.specs.declared.row.Row.{Row}
-use Rattle.span_certificate.specs.Commands.{full_edit, named_splices}
-use Rattle.span_certificate.specs.Fields.{splices_of, IsPlacedAt}
-use Rattle.span_certificate.specs.Parts.{parts_of}
+use Rattle.command_parts.specs.Commands.{full_edit, named_splices}
+use Rattle.command_parts.specs.Fields.{splices_of, IsPlacedAt}
+use Rattle.command_parts.specs.Parts.{parts_of}
 use Rattle.edit_commands.specs.Session.{SessionValue, splices_held}
 use Rattle.image_reader.specs.declared.revision.Revision.{Revision}
 use Rattle.image_reader.specs.Value.{ImageValue, IsImage, image_table}

@@ -4,7 +4,7 @@
 // image, session and store keep their rules, as these calls say.
 
 ghost use Rattle.std.specs.Prelude.{◌≡◌, ◌+◌, ◌<◌, ◌≤◌, length, take, drop, IfOk, IfErr, OnOk, OnErr};
-ghost use Rattle.span_certificate.specs.Commands.{named_splices, NamesSplices};
+ghost use Rattle.command_parts.specs.Commands.{named_splices, NamesSplices};
 ghost use Rattle.image_reader.specs.Accepted.{rows_before, splices_before};
 ghost use Rattle.session_checker.specs.Faithful.{EachRevision, HasTrueRecordsOf};
 ghost use Rattle.session_checker.specs.RevisionRules.{HasRowsOverNoSource};
@@ -13,12 +13,13 @@ ghost use Rattle.saved_session.specs.TakenUp.{HoldsImage, TakesFirst, TakesUp, W
 ghost use Rattle.saved_session.specs.TakeFaults.{IsTakeFault};
 
 use crate::fault::TakeFault;
+use command_parts::{Edit, Splice, Splices, parts};
 use edit_commands::{EditFault, Session};
 use image_reader::Revisions;
 use rope_node::NodeSpace;
 use rope_store::Store;
 use session_checker::Checked;
-use span_certificate::{Edit, Row, Rows, Splice, Splices, Trails, meets_no_source, parts};
+use span_certificate::{Row, Rows, Trails, meets_no_source};
 use std::alloc::{AllocError, Global};
 
 /// All of these rows.

@@ -5,16 +5,16 @@ use Rattle.std.specs.List.{sum_by}
 use Rattle.std.proofs.lemmas.List.Sums.{sum_by-cons, sum_by_more, sum_by_more_le}
 use Rattle.rope_node.specs.declared.node.NodeId.{NodeId}
 use Rattle.rope_node.specs.Denotes.{IsRope}
-use Rattle.span_certificate.specs.Parts.{AreRopes}
+use Rattle.command_parts.specs.Parts.{AreRopes}
 use Rattle.image_reader.specs.declared.revision.Revision.{Revision}
-use Rattle.span_certificate.specs.declared.edit.Edit.{Edit}
-use Rattle.span_certificate.specs.declared.edit.Edit.TheVariants.{Many, New}
-use Rattle.span_certificate.specs.declared.edit.Splice.{Splice}
-use Rattle.span_certificate.specs.declared.edit.TheConstants.{SPLICES_LIMIT}
-use Rattle.span_certificate.specs.Commands.{NamesSplices}
+use Rattle.command_parts.specs.declared.edit.Edit.{Edit}
+use Rattle.command_parts.specs.declared.edit.Edit.TheVariants.{Many, New}
+use Rattle.command_parts.specs.declared.edit.Splice.{Splice}
+use Rattle.command_parts.specs.declared.edit.TheConstants.{SPLICES_LIMIT}
+use Rattle.command_parts.specs.Commands.{NamesSplices}
 use Rattle.image_reader.specs.Value.{ArePlaced, ImageValue, IsImage, image_table}
 use Rattle.image_reader.specs.Accepted.{no_revision, revision_at, roots_before, rows_before, splices_before}
-use Rattle.span_certificate.specs.Fields.{splices_of, IsPlacedAt}
+use Rattle.command_parts.specs.Fields.{splices_of, IsPlacedAt}
 
 -- the rows of a revision lie inside the image's
 pub rows_inside : (v : ImageValue) → IsImage v → (k : ℕ) → k < length v.revisions → rows_before v k + (revision_at v k).rows ≤ length v.rows

@@ -11,11 +11,11 @@ use Rattle.rope_node.specs.Table.{IsSound, HasTrueRecords}
 use Rattle.rope_node.specs.Denotes.{Cell, Byte, Place, cell_byte, rope_cells, text}
 use Rattle.rope_node.proofs.Cells.{cells_length}
 use Rattle.lazy_file.specs.SourceTexts.{Agrees, Stated}
-use Rattle.span_certificate.specs.Commands.{FullEdit, full_edit, Givens, result_of, IsHistory}
-use Rattle.span_certificate.specs.Parts.{parts_cells, AreRopes, AreParts, givens_of}
+use Rattle.command_parts.specs.Commands.{FullEdit, full_edit, Givens, result_of, IsHistory}
+use Rattle.command_parts.specs.Parts.{parts_cells, AreRopes, AreParts, givens_of}
 use Rattle.span_certificate.specs.Leads.{AreAnswered}
-use Rattle.span_certificate.proofs.Joined.{parts_joined}
-use Rattle.span_certificate.proofs.MappedResults.{mapped_givens, result_mapped}
+use Rattle.command_parts.proofs.Joined.{parts_joined}
+use Rattle.command_parts.proofs.MappedResults.{mapped_givens, result_mapped}
 use Rattle.span_certificate.proofs.Sameness.{covered_bytes, covered_text}
 use Rattle.span_certificate.proofs.MadeRows.{none_over, shows_same}
 use Rattle.span_certificate.proofs.Verdicts.{AreReadableRows, AreStatedRows}
@@ -28,7 +28,7 @@ use Rattle.session_checker.specs.RevisionRules.{HasSameBytes, HasRowsOverNoSourc
 use Rattle.session_checker.specs.Faithful.{source_text, givens, commands, texts_cells, texts, HasTrueRecordsOf, EachRevision, GivesText, IsFaithful}
 use Rattle.session_checker.proofs.SoundTables.{sound_table, true_table}
 use Rattle.session_checker.proofs.EarlierRevisions.{earlier_ropes}
-use Rattle.span_certificate.proofs.PartsInRange.{parts_in_range}
+use Rattle.command_parts.proofs.PartsInRange.{parts_in_range}
 use Rattle.rope_node.proofs.Parts.{map_alike}
 
 -- the functions at an image's nodes answer as they are coded

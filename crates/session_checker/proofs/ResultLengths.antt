@@ -6,10 +6,10 @@ use Rattle.std.proofs.lemmas.Bool.{ltb-false, cases_Bool, cond-true, cond-false}
 use Rattle.std.proofs.lemmas.List.Sums.{sum_by-cons}
 use Rattle.rope_node.specs.declared.limits.TheConstants.{TEXT_LIMIT}
 use Rattle.rope_node.specs.declared.node.NodeId.{NodeId}
-use Rattle.span_certificate.specs.declared.edit.Splice.{Splice}
-use Rattle.span_certificate.specs.declared.part.Part.{Part}
-use Rattle.span_certificate.specs.declared.part.Part.TheVariants.{Old, Pool}
-use Rattle.span_certificate.specs.Parts.{part_len, parts_len, nonempty, pieces, Follow}
+use Rattle.command_parts.specs.declared.edit.Splice.{Splice}
+use Rattle.command_parts.specs.declared.part.Part.{Part}
+use Rattle.command_parts.specs.declared.part.Part.TheVariants.{Old, Pool}
+use Rattle.command_parts.specs.Parts.{part_len, parts_len, nonempty, pieces, Follow}
 
 -- empty parts add nothing
 pub nonempty_len : (parts : List Part) → parts_len (nonempty parts) ≡ parts_len parts

@@ -5,7 +5,7 @@ use Rattle.lazy_file.specs.SourceTexts.{Stated}
 use Rattle.lazy_file.specs.Readings.{Reading, Reads}
 use Rattle.lazy_file.proofs.LaterReads.{reads_weaker}
 use Rattle.lazy_file.specs.declared.faults.SourceFault.{SourceFault}
-use Rattle.span_certificate.specs.declared.part.Part.{Part}
+use Rattle.command_parts.specs.declared.part.Part.{Part}
 use Rattle.span_certificate.specs.declared.cover.Verdict.{Verdict}
 use Rattle.span_certificate.specs.Verdicts.{IsAskedFor, TellsRows}
 use Rattle.image_reader.specs.declared.revision.Revision.{Revision}

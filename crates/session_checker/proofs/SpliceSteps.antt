@@ -4,10 +4,10 @@ use Rattle.std.specs.Prelude.{◌↔◌, min, nat_le, nat_lt, ◌&&◌, slice_ge
 use Rattle.std.specs.List.{list_all, sum_by}
 use Rattle.std.proofs.lemmas.List.Sums.{sum_by-cons}
 use Rattle.rope_node.specs.declared.limits.TheConstants.{TEXT_LIMIT}
-use Rattle.span_certificate.specs.declared.edit.Splice.{Splice}
-use Rattle.span_certificate.specs.Commands.{are_apart, is_splice}
-use Rattle.span_certificate.specs.Parts.{Follow}
-use Rattle.span_certificate.proofs.Cutting.{left_of}
+use Rattle.command_parts.specs.declared.edit.Splice.{Splice}
+use Rattle.command_parts.specs.Commands.{are_apart, is_splice}
+use Rattle.command_parts.specs.Parts.{Follow}
+use Rattle.command_parts.proofs.Cutting.{left_of}
 
 -- the next splice, and those behind it
 pub next_left : (all : List Splice) (first count i : ℕ) (s : Splice) → i < count → slice_get all (first + i) ≡ Some s → take (count - i) (drop (first + i) all) ≡ s ∷ take (count - (i + 1)) (drop (first + (i + 1)) all)

@@ -5,8 +5,8 @@ use Rattle.rope_node.specs.declared.node.NodeId.{NodeId}
 use Rattle.rope_node.specs.Table.{len_at, IsSound, HasTrueRecords}
 use Rattle.rope_node.specs.Denotes.{Cell, cells, rope_cells, IsRope, text}
 use Rattle.rope_node.specs.Path.{rope_visits}
-use Rattle.span_certificate.specs.Commands.{FullEdit, full_edit, Givens, result_of}
-use Rattle.span_certificate.specs.Parts.{givens_of}
+use Rattle.command_parts.specs.Commands.{FullEdit, full_edit, Givens, result_of}
+use Rattle.command_parts.specs.Parts.{givens_of}
 use Rattle.lazy_file.specs.SourceTexts.{Agrees, Stated}
 use Rattle.cord_position.specs.Fetched.{IsStated, rope_cell}
 use Rattle.image_reader.specs.declared.revision.Revision.{Revision}

@@ -5,7 +5,7 @@ use Rattle.rope_node.specs.Denotes.{Cell}
 use Rattle.lazy_file.specs.SourceTexts.{Stated}
 use Rattle.lazy_file.specs.Readings.{fault_by}
 use Rattle.lazy_file.specs.declared.faults.SourceFault.{SourceFault}
-use Rattle.span_certificate.specs.Parts.{parts_len, IsInRange}
+use Rattle.command_parts.specs.Parts.{parts_len, IsInRange}
 use Rattle.span_certificate.specs.Covers.{HaveSameBytes, IsFirstBadBy, MeetsNoSource}
 use Rattle.span_certificate.specs.Verdicts.{CanBeSame, IsAskedFor, SameStated}
 use Rattle.image_reader.specs.Value.{ImageValue, image_table, coded_at}

@@ -2,13 +2,14 @@
 
 ghost use Rattle.std.specs.Prelude.{◌≡◌, ◌+◌, ◌-◌, ◌^◌, ◌<◌, ◌≤◌, ◌↔◌, length, take, drop, IsTrue};
 ghost use Rattle.rope_node.specs.declared.limits.TheConstants.{TEXT_LIMIT};
-ghost use Rattle.span_certificate.specs.Commands.{full_edit, Many, NamesSplices};
-ghost use Rattle.span_certificate.specs.Parts.{AreRopes, IsInRange, len_of, parts_len, parts_of};
+ghost use Rattle.command_parts.specs.Commands.{full_edit, Many, NamesSplices};
+ghost use Rattle.command_parts.specs.Parts.{AreRopes, IsInRange, len_of, parts_len, parts_of};
 
 use crate::node_rules::is_inside;
 use crate::splice_rules::{bytes_spliced, can_splice};
+use command_parts::{Edit, Roots, Splices};
 use rope_node::{CodedSpace, TEXT_LIMIT};
-use span_certificate::{Edit, Looks, Roots, Splices};
+use span_certificate::Looks;
 use std::sync::ledger::Ledger;
 
 /// Whether text `r` is there.

@@ -48,7 +48,8 @@ fn has_good_length<L: Ledger>(
     match view {
         NodeView::Cat { l, r } => is_in_range
             && records.len(l).checked_add(records.len(r)) == Some(len),
-        _ => is_in_range,
+        NodeView::Lit { .. } | NodeView::Src { .. } | NodeView::Fun | NodeView::Sub { .. } =>
+            is_in_range,
     }
 }
 

@@ -5,7 +5,7 @@
 ghost use Rattle.std.specs.Prelude.{◌≡◌, ◌+◌, ◌*◌, ◌<◌, ◌≤◌, ◌↔◌, None, length, IsTrue, IsOk, IfOk, IfErr};
 ghost use Rattle.rope_node.specs.Denotes.{IsRope};
 ghost use Rattle.lazy_file.specs.Readings.{Reads};
-ghost use Rattle.span_certificate.specs.Parts.{AreParts, AreRopes, IsInRange, parts_len};
+ghost use Rattle.command_parts.specs.Parts.{AreParts, AreRopes, IsInRange, parts_len};
 ghost use Rattle.span_certificate.specs.Looks.{most_looks};
 ghost use Rattle.image_reader.specs.Value.{image_table};
 ghost use Rattle.image_reader.specs.Accepted.{revision_at, command_at, roots_before, parts_at, rows_at, rows_before, HasGoodRoot, HasGoodMark, HasGoodRows, KeepsRules};
@@ -15,11 +15,12 @@ ghost use Rattle.session_checker.specs.RevisionRules.{IsGoodOver, AreGoodOver, B
 use crate::command_rules::{is_in_range, result_len};
 use crate::fault::CheckFault;
 use crate::tables::Tables;
+use command_parts::{PartIter, Splices};
 use image_reader::{Revision, Revisions};
 use lazy_file::Sources;
 use rebalance::is_balanced;
 use rope_node::Rope;
-use span_certificate::{Looks, PartIter, Splices, Trails, Verdict, verify_told};
+use span_certificate::{Looks, Trails, Verdict, verify_told};
 use std::sync::ledger::Ledger;
 use work_progress::{Progress, Untold, Within};
 

@@ -2,9 +2,9 @@
 
 ghost use Rattle.std.specs.Prelude.{◌≡◌, ◌+◌, ◌^◌, ◌-◌, ◌<◌, ◌≤◌, min, nat_le, length, take, drop};
 ghost use Rattle.std.specs.List.{list_all, sum_by};
-ghost use Rattle.span_certificate.specs.Commands.{are_apart, can_splice, is_splice};
+ghost use Rattle.command_parts.specs.Commands.{are_apart, can_splice, is_splice};
 
-use span_certificate::{MOST_SPLICES, Splice, Splices};
+use command_parts::{MOST_SPLICES, Splice, Splices};
 
 /// Whether `n` places from `p` on end at `end` or before.
 fn ends_inside(p: u64, n: u64, end: u64) -> bool

@@ -88,7 +88,8 @@ impl NodeSpace for Tables<'_> {
                 let len = self.image.len(id);
                 &self.image.pool()[(a + off) as usize..(a + len) as usize]
             }
-            _ => unreachable!(),
+            NodeView::Src { .. } | NodeView::Fun | NodeView::Cat { .. } | NodeView::Sub { .. } =>
+                unreachable!(),
         }
     }
 

@@ -14,9 +14,9 @@ use Rattle.rope_node.specs.declared.node.NodeView.TheVariants.{Lit, Src, Fun, Ca
 use Rattle.rope_node.specs.Table.{no_node, HasGoodReferences, HasSpanInside}
 use Rattle.rope_node.specs.Denotes.{IsRope}
 use Rattle.node_table.specs.Held.{Held, IsKept, IsKeptNode, table_of}
-use Rattle.span_certificate.specs.declared.edit.Edit.{Edit}
-use Rattle.span_certificate.specs.declared.edit.Edit.TheVariants.{New}
-use Rattle.span_certificate.specs.Fields.{splices_of, FitsRecord}
+use Rattle.command_parts.specs.declared.edit.Edit.{Edit}
+use Rattle.command_parts.specs.declared.edit.Edit.TheVariants.{New}
+use Rattle.command_parts.specs.Fields.{splices_of, FitsRecord}
 use Rattle.edit_commands.specs.declared.revision.Revision as Kept
 use Rattle.edit_commands.specs.Session.{SessionValue, IsSession, splices_held}
 use Rattle.edit_commands.proofs.RevisionLists.{there_is}

@@ -12,9 +12,9 @@ use Rattle.image_reader.specs.Spelling.{row_spelling}
 use Rattle.image_reader.specs.Value.{FitsRow}
 use Rattle.std.proofs.Common.{get_or, inl, inr}
 use Rattle.std.proofs.lemmas.Bool.{cases_lt}
-use Rattle.span_certificate.specs.declared.edit.Edit.{Edit}
-use Rattle.span_certificate.specs.declared.edit.Edit.TheVariants.{New}
-use Rattle.span_certificate.specs.Fields.{FitsRecord}
+use Rattle.command_parts.specs.declared.edit.Edit.{Edit}
+use Rattle.command_parts.specs.declared.edit.Edit.TheVariants.{New}
+use Rattle.command_parts.specs.Fields.{FitsRecord}
 use Rattle.image_reader.specs.declared.revision.Revision as Recorded
 use Rattle.session_image.specs.Written.{EditsFit, edits_of, recorded_revision, rows_in, rows_or_none}
 use Rattle.session_image.proofs.Sections.{take_next, split_at, flat_map-behind, all_behind}

@@ -10,11 +10,11 @@ use Rattle.rope_node.specs.declared.node.NodeId.{NodeId}
 use Rattle.rope_node.specs.Table.{Table, IsSound, HasTrueRecords}
 use Rattle.node_table.specs.Held.{IsKept, coded_at as held_coded}
 use Rattle.span_certificate.specs.declared.row.Row.{Row}
-use Rattle.span_certificate.specs.Commands.{FullEdit, full_edit}
+use Rattle.command_parts.specs.Commands.{FullEdit, full_edit}
 use Rattle.span_certificate.specs.Covers.{Covers, MeetsNoSource}
 use Rattle.span_certificate.specs.Longest.{AreLongest}
 use Rattle.rope_node.specs.Balance.{IsBalancedRope}
-use Rattle.span_certificate.specs.Parts.{parts_of, parts_len, IsInRange}
+use Rattle.command_parts.specs.Parts.{parts_of, parts_len, IsInRange}
 use Rattle.edit_commands.specs.declared.revision.Revision as Kept
 use Rattle.edit_commands.specs.Session.{SessionValue, command_of, session_table, roots_of, rows_held, IsRevision, AreRevisions}
 use Rattle.edit_commands.proofs.RevisionLists.{there_is}

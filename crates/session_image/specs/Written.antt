@@ -10,10 +10,10 @@ use Rattle.node_table.specs.Held.{Held}
 use Rattle.byte_output.specs.Prefix.{AppendsPrefix}
 use Rattle.byte_output.specs.declared.writing.WriteFault.{WriteFault}
 use Rattle.span_certificate.specs.declared.row.Row.{Row}
-use Rattle.span_certificate.specs.declared.edit.Edit.{Edit}
-use Rattle.span_certificate.specs.declared.edit.Edit.TheVariants.{New}
-use Rattle.span_certificate.specs.declared.edit.Splice.{Splice}
-use Rattle.span_certificate.specs.Fields.{FitsRecord}
+use Rattle.command_parts.specs.declared.edit.Edit.{Edit}
+use Rattle.command_parts.specs.declared.edit.Edit.TheVariants.{New}
+use Rattle.command_parts.specs.declared.edit.Splice.{Splice}
+use Rattle.command_parts.specs.Fields.{FitsRecord}
 use Rattle.span_certificate.specs.Covers.{MeetsNoSource}
 use Rattle.span_certificate.specs.Longest.{AreLongest}
 use Rattle.rope_node.specs.Balance.{IsBalancedRope}

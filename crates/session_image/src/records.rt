@@ -6,16 +6,17 @@ ghost use Rattle.image_reader.specs.declared.header.TheConstants.{MAGIC};
 ghost use Rattle.image_reader.specs.Versions.{version_number};
 ghost use Rattle.image_reader.specs.Spelling.{header_layout, source_spelling, splice_spelling, row_layout, row_spelling, revision_layout, revision_numbers, revision_spelling, numbers_of, mark_number, root_number};
 ghost use Rattle.image_reader.specs.Value.{FitsRow, FitsSplice};
-ghost use Rattle.span_certificate.specs.Fields.{recorded, FitsRecord};
+ghost use Rattle.command_parts.specs.Fields.{recorded, FitsRecord};
 
 use crate::held::Record;
+use command_parts::codes::{
+    BACK, BALANCE, CUT, DELETE, FILL, INSERT, JOIN, MANY, NEW, OPEN, PASTE, REPLACE,
+};
+use command_parts::{Edit, Splice};
 use image_reader::codes::{BYTES_ROW, LEAF_ROW, SHARED_ROW};
 use image_reader::{FormatVersion, MAGIC, NIL_ROOT, Numbers, Revision};
 use rope_node::Rope;
-use span_certificate::codes::{
-    BACK, BALANCE, CUT, DELETE, FILL, INSERT, JOIN, MANY, NEW, OPEN, PASTE, REPLACE,
-};
-use span_certificate::{Edit, Row, RowKind, Splice};
+use span_certificate::{Row, RowKind};
 
 /// The version of an image, and how many of each it has.
 #[derive(Clone, Copy, Debug, PartialEq, Eq)]

@@ -11,9 +11,10 @@ ghost use Rattle.session_image.specs.Written.{EditsFit, recorded_revision, rows_
 use crate::gathered::Gathered;
 use crate::records::{revision_record, row_record, splice_record};
 use byte_output::WriteFault;
+use command_parts::Splice;
 use edit_commands::Session;
 use image_reader::Revision;
-use span_certificate::{Row, Splice};
+use span_certificate::Row;
 use std::io;
 
 /// The rows of a revision; none where there is no such revision.

@@ -80,7 +80,8 @@ fn function_at(space: &Store<Coded>, id: NodeId, view: NodeView) -> Option<Coded
 {
     match view {
         NodeView::Fun => Some(space.coded(id)),
-        _ => None,
+        NodeView::Lit { .. } | NodeView::Src { .. } | NodeView::Cat { .. } | NodeView::Sub { .. } =>
+            None,
     }
 }
 

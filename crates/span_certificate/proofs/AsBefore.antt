@@ -1,4 +1,5 @@
--- What an answer told before, over bytes that agree with what the sources state and where the rows that it rests on compare stated cells, it tells still.
+-- An answer that was given before holds again over bytes that agree with what the sources state, where the rows that it
+-- rests on compare stated cells.
 use Rattle.std.proofs.Common.{◌≡◌, ℕ, ◌+◌, ◌<◌, List, length, Option, refl, ap, subst, arith}
 use Rattle.std.specs.Prelude.{◌↔◌}
 use Rattle.function_leaf.specs.declared.coded.Coded.{Coded}
@@ -8,9 +9,9 @@ use Rattle.lazy_file.specs.SourceTexts.{Agrees, Stated}
 use Rattle.cord_position.specs.Fetched.{AreStated}
 use Rattle.span_certificate.specs.declared.cover.Verdict.{Verdict}
 use Rattle.span_certificate.specs.declared.cover.Verdict.TheVariants.{Good, Bad}
-use Rattle.span_certificate.specs.declared.part.Part.{Part}
+use Rattle.command_parts.specs.declared.part.Part.{Part}
 use Rattle.span_certificate.specs.declared.row.Row.{Row}
-use Rattle.span_certificate.specs.Parts.{AreParts}
+use Rattle.command_parts.specs.Parts.{AreParts}
 use Rattle.span_certificate.specs.Covers.{row_at, place_of, row_compares, Covers, CoversBy, IsFirstBad, SameOver}
 use Rattle.span_certificate.specs.Verdicts.{SameStated, TellsRows}
 use Rattle.span_certificate.proofs.MadeRows.{row_may, row_over}

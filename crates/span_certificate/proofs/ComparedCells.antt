@@ -84,7 +84,7 @@ bytes_of_each [] all = ([], refl)
 bytes_of_each (Byte b ∷ cs) all = let rest = bytes_of_each cs (All-tail IsByte (Byte b) cs all) in (b ∷ rest.0, ap (λ xs. Byte b ∷ xs) rest.1)
 bytes_of_each (Place s p ∷ cs) all = absurd (All-head IsByte (Place s p) cs all)
 
--- what a row compares, where it is one of bytes, and of any other nothing
+-- P holds of all that a row compares, if it holds of both sides wherever the row is one of bytes
 pub all_compared : (P : Cell → Type 0) (kind : RowKind) (xs ys : List Cell) → (kind ≡ Bytes → All P xs × All P ys) → All P (compared kind xs ys)
 all_compared P (Shared k o) xs ys both = All-nil P
 all_compared P Leaf xs ys both = All-nil P

@@ -15,10 +15,10 @@ use Rattle.span_certificate.specs.declared.content.Content.{Content}
 use Rattle.span_certificate.specs.declared.content.Content.TheVariants.{Within, Described}
 use Rattle.span_certificate.specs.declared.describe.Description.{Description}
 use Rattle.span_certificate.specs.declared.describe.Description.TheVariants.{Pooled, Sourced, Computed}
-use Rattle.span_certificate.specs.declared.part.Part.{Part}
-use Rattle.span_certificate.specs.declared.part.Part.TheVariants.{Old, Pool, Source, Fill}
+use Rattle.command_parts.specs.declared.part.Part.{Part}
+use Rattle.command_parts.specs.declared.part.Part.TheVariants.{Old, Pool, Source, Fill}
 use Rattle.span_certificate.specs.Leads.{content_from, described_cells, HasRoom, PartHasDescription}
-use Rattle.span_certificate.specs.Parts.{part_len, part_cells, IsPart}
+use Rattle.command_parts.specs.Parts.{part_len, part_cells, IsPart}
 use Rattle.span_certificate.specs.Steps.{CellsAs}
 
 -- what n bytes of a content denote
@@ -63,7 +63,7 @@ of_node (Pool a m) off x p e = absurd cc
 of_node (Source s m) off x p e = absurd cc
 of_node (Fill b m) off x p e = absurd cc
 
--- any other part has its content's description, and no other
+-- a part whose content is described has this description and no second one
 pub described_only : (t : Table) (coded : ℕ → Coded) (part : Part) (off n : ℕ) (e : Description) → content_from part off ≡ Some (Described e) → (d : Description) → (Some e ≡ Some d) ↔ PartHasDescription t coded n part off d
 described_only t coded (Old None i m) off n e is d = absurd cc
 described_only t coded (Old (Some x) i m) off n e is d = absurd cc

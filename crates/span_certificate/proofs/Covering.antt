@@ -8,10 +8,10 @@ use Rattle.std.proofs.lemmas.Option.{some_pair_parts}
 use Rattle.rope_node.specs.Table.{Table, IsSound, HasTrueRecords}
 use Rattle.rope_node.specs.Denotes.{Byte, Place, rope_cells}
 use Rattle.rope_node.proofs.Parts.{span_left, span_right}
-use Rattle.span_certificate.specs.declared.part.Part.{Part}
-use Rattle.span_certificate.specs.declared.part.Part.TheVariants.{Old, Pool, Source, Fill}
+use Rattle.command_parts.specs.declared.part.Part.{Part}
+use Rattle.command_parts.specs.declared.part.Part.TheVariants.{Old, Pool, Source, Fill}
 use Rattle.span_certificate.specs.declared.row.Row.{Row}
-use Rattle.span_certificate.specs.Parts.{part_len, parts_len, part_cells, parts_cells, IsPart, AreParts, part_at}
+use Rattle.command_parts.specs.Parts.{part_len, parts_len, part_cells, parts_cells, IsPart, AreParts, part_at}
 use Rattle.span_certificate.specs.Covers.{row_at, no_row, rows_len, place_of}
 use Rattle.rope_node.proofs.Ropes.{rope_length}
 

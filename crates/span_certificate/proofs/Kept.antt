@@ -10,15 +10,15 @@ use Rattle.rope_node.specs.Extends.{Extends}
 use Rattle.rope_node.proofs.Extensions.{view_kept, len_kept}
 use Rattle.rope_node.proofs.Ropes.{rope_kept, rope_cells_kept}
 use Rattle.span_certificate.specs.declared.describe.Description.{Description}
-use Rattle.span_certificate.specs.Commands as Command
-use Rattle.span_certificate.specs.Commands.{FullEdit}
-use Rattle.span_certificate.specs.declared.part.Part.{Part}
-use Rattle.span_certificate.specs.declared.part.Part.TheVariants.{Old, Pool, Source, Fill}
+use Rattle.command_parts.specs.Commands as Command
+use Rattle.command_parts.specs.Commands.{FullEdit}
+use Rattle.command_parts.specs.declared.part.Part.{Part}
+use Rattle.command_parts.specs.declared.part.Part.TheVariants.{Old, Pool, Source, Fill}
 use Rattle.span_certificate.specs.declared.row.Row.{Row}
 use Rattle.span_certificate.specs.declared.row.RowKind.{RowKind}
 use Rattle.span_certificate.specs.declared.row.RowKind.TheVariants.{Shared, Leaf, Bytes}
-use Rattle.span_certificate.specs.Parts.{part_at, part_len, part_cells, parts_cells, IsPart, AreParts, root_at, terms_of, parts_of, AreRopes, IsInRange, front, rest, whole, pieces}
-use Rattle.span_certificate.proofs.SplicedTexts.{can_splice_kept}
+use Rattle.command_parts.specs.Parts.{part_at, part_len, part_cells, parts_cells, IsPart, AreParts, root_at, terms_of, parts_of, AreRopes, IsInRange, front, rest, whole, pieces}
+use Rattle.command_parts.proofs.SplicedTexts.{can_splice_kept}
 use Rattle.span_certificate.specs.Leads.{Leads, here, in_left, in_right, in_base, RopeLeads, PartLeads, RopeHasDescription, PartHasDescription}
 use Rattle.span_certificate.specs.Longest.{PartLiesInLeaf, RopeLiesInLeaf, StayWithin, AreLongest}
 use Rattle.span_certificate.specs.Covers.{row_at, place_of, KindFits, Fits, Covers, MeetsNoSource}

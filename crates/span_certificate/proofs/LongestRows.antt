@@ -5,17 +5,17 @@ use Rattle.std.specs.Option.{is_some}
 use Rattle.std.proofs.lemmas.Bool.{cases_lt}
 use Rattle.function_leaf.specs.declared.coded.Coded.{Coded}
 use Rattle.rope_node.specs.Denotes.{rope_len, IsRope}
-use Rattle.span_certificate.specs.declared.part.Part.{Part}
+use Rattle.command_parts.specs.declared.part.Part.{Part}
 use Rattle.span_certificate.specs.declared.row.Row.{Row}
 use Rattle.span_certificate.specs.Covers.{CoversAnyhow, place_of, row_at}
-use Rattle.span_certificate.specs.Parts.{part_len, part_at, AreParts}
-use Rattle.span_certificate.specs.Places.{held, len_here, IsAt}
+use Rattle.command_parts.specs.Parts.{part_len, part_at, AreParts}
+use Rattle.command_parts.specs.Places.{held, len_here, IsAt}
 use Rattle.span_certificate.proofs.Covering.{place_of_more}
-use Rattle.span_certificate.proofs.PartPlaces.{at_is_part, at_part, at_inside_parts}
+use Rattle.command_parts.proofs.PartPlaces.{at_is_part, at_part, at_inside_parts}
 use Rattle.rope_node.specs.declared.node.NodeId.{NodeId}
 use Rattle.rope_node.specs.Table.{Table, view_at}
 use Rattle.span_certificate.specs.declared.descent.SpanPlace.{SpanPlace}
-use Rattle.span_certificate.specs.declared.part.Part.TheVariants.{Old}
+use Rattle.command_parts.specs.declared.part.Part.TheVariants.{Old}
 use Rattle.span_certificate.specs.Descents.{LeadsToSpan}
 use Rattle.span_certificate.specs.Leads.{PartLeads, RopeLeads}
 use Rattle.span_certificate.specs.Longest.{LieInLeaf, PartLiesInLeaf, RopeLiesInLeaf, StandsInBoth}

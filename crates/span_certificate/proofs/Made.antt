@@ -8,9 +8,9 @@ use Rattle.function_leaf.specs.declared.coded.Coded.{Coded}
 use Rattle.rope_node.specs.declared.node.NodeId.{NodeId}
 use Rattle.rope_node.specs.Table.{Table, len_at, IsSound, HasTrueRecords}
 use Rattle.rope_node.specs.Denotes.{cells, rope_cells, rope_len, IsRope}
-use Rattle.span_certificate.specs.declared.part.Part.{Part}
+use Rattle.command_parts.specs.declared.part.Part.{Part}
 use Rattle.span_certificate.specs.declared.row.Row.{Row}
-use Rattle.span_certificate.specs.Parts.{part_len, parts_len, part_cells, parts_cells, IsPart, AreParts, part_at}
+use Rattle.command_parts.specs.Parts.{part_len, parts_len, part_cells, parts_cells, IsPart, AreParts, part_at}
 use Rattle.span_certificate.specs.Covers.{row_at, no_row, rows_len, place_of, row_compares, IsByte, Fits, CoversAlways}
 use Rattle.span_certificate.specs.Longest.{AreMade, IsLongest}
 use Rattle.span_certificate.specs.declared.making.TheConstants.{ROWS_LIMIT}

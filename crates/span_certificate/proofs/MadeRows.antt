@@ -15,10 +15,10 @@ use Rattle.cord_position.specs.Fetched.{AreOwn, AreStated, IsReadable, IsStated}
 use Rattle.cord_position.proofs.Spans.{own_readable}
 use Rattle.span_certificate.specs.declared.cover.Verdict.{Verdict}
 use Rattle.span_certificate.specs.declared.cover.Verdict.TheVariants.{Good, Bad}
-use Rattle.span_certificate.specs.declared.part.Part.{Part}
-use Rattle.span_certificate.specs.declared.part.Part.TheVariants.{Old, Pool, Source, Fill}
+use Rattle.command_parts.specs.declared.part.Part.{Part}
+use Rattle.command_parts.specs.declared.part.Part.TheVariants.{Old, Pool, Source, Fill}
 use Rattle.span_certificate.specs.declared.row.Row.{Row}
-use Rattle.span_certificate.specs.Parts.{part_at, part_len, part_cells, parts_cells, IsPart, AreParts}
+use Rattle.command_parts.specs.Parts.{part_at, part_len, part_cells, parts_cells, IsPart, AreParts}
 use Rattle.span_certificate.specs.declared.row.RowKind.{RowKind}
 use Rattle.span_certificate.specs.declared.row.RowKind.TheVariants.{Shared, Leaf, Bytes}
 use Rattle.span_certificate.specs.Covers.{row_at, place_of, row_compares, CoversAlways, CoversBy, Fits, FitsBy, HaveSameBytes, IsByte, KindFits, KindFitsBy, MeetsNoSource, SameOver}
@@ -40,7 +40,7 @@ byte_readable : (st : Stated) (cell : Cell) → IsByte cell → IsReadable st ce
 byte_readable st (Byte b) is = tt
 byte_readable st (Place s p) is = absurd is
 
--- rows over no source are over stated cells, and no read of them fails, whatever the sources are
+-- rows over no source are over stated cells, which are read without a fault, whatever the sources are
 pub no_source_stated : (t : Table) (st : Stated) (parts : List Part) (root : Option NodeId) (rows : List Row) → MeetsNoSource t parts root rows → AreStatedRows t st parts root rows
 no_source_stated t st parts root rows none j lt = All-weaker IsByte (IsStated st) (byte_stated st) (row_compares t parts root (place_of rows j) (row_at rows j)) (none j lt)
 
@@ -60,7 +60,8 @@ pub none_over : (t : Table) (st : Stated) (source : ℕ → ℕ → ℕ) (parts 
 none_over t st source parts root rows agrees stated bytes j lt is =
     bytes j lt is source agrees (rw is at (stated j lt))
 
--- a row that compares what the sources state fits over bytes that agree with it where it fits over every such bytes, and may fit where it fits over some
+-- over bytes that agree with what the sources state, a row that compares stated cells fits where it fits over all such
+-- bytes; where it fits over them, it may fit
 module _ (t : Table) (coded : ℕ → Coded) (st : Stated) (source : ℕ → ℕ → ℕ) (agrees : Agrees st source) where
   kind_over : (n : ℕ) (part : Part) (off : ℕ) (root : Option NodeId) (place : ℕ) (kind : RowKind) → (kind ≡ Bytes → AreStated st (take n (drop off (part_cells t part)) ++ take n (drop place (rope_cells t root))))
       → KindFitsBy t coded (SameStated st) n part off root place kind → KindFits t coded source n part off root place kind

@@ -7,12 +7,12 @@ use Rattle.rope_node.specs.Table.{Table, len_at, IsSound, HasTrueRecords}
 use Rattle.rope_node.specs.Denotes.{Cell, cells, text}
 use Rattle.span_certificate.specs.declared.content.Content.TheVariants.{Within}
 use Rattle.span_certificate.specs.declared.describe.Description.{Description}
-use Rattle.span_certificate.specs.declared.part.Part.{Part}
-use Rattle.span_certificate.specs.declared.part.Part.TheVariants.{Old}
+use Rattle.command_parts.specs.declared.part.Part.{Part}
+use Rattle.command_parts.specs.declared.part.Part.TheVariants.{Old}
 use Rattle.span_certificate.specs.declared.row.Row.{Row}
 use Rattle.span_certificate.specs.declared.row.RowKind.{RowKind}
 use Rattle.span_certificate.specs.declared.row.RowKind.TheVariants.{Shared, Leaf, Bytes}
-use Rattle.span_certificate.specs.Parts.{part_cells}
+use Rattle.command_parts.specs.Parts.{part_cells}
 use Rattle.span_certificate.specs.Leads.{content_from, PartHasDescription}
 use Rattle.span_certificate.specs.Covers.{KindFits}
 use Rattle.span_certificate.specs.Descents.{first_of}

@@ -12,15 +12,15 @@ use Rattle.function_leaf.specs.declared.coded.Coded.{Coded}
 use Rattle.rope_node.specs.declared.node.NodeId.{NodeId}
 use Rattle.rope_node.specs.Table.{Table, view_at, len_at, IsLeaf}
 use Rattle.rope_node.specs.Denotes.{Cell, Byte, Place, rope_cells}
-use Rattle.span_certificate.specs.declared.part.Part.{Part}
-use Rattle.span_certificate.specs.declared.part.Part.TheVariants.{Source}
+use Rattle.command_parts.specs.declared.part.Part.{Part}
+use Rattle.command_parts.specs.declared.part.Part.TheVariants.{Source}
 use Rattle.span_certificate.specs.declared.row.Row.{Row}
 use Rattle.span_certificate.specs.declared.row.RowKind.{RowKind}
 use Rattle.span_certificate.specs.declared.row.RowKind.TheVariants.{Shared, Leaf, Bytes}
 use Rattle.span_certificate.specs.Covers.{IsByte, compared, KindFits}
 use Rattle.span_certificate.specs.Leads.{here, PartLeads}
 use Rattle.span_certificate.specs.Longest.{AreMade, StayWithin}
-use Rattle.span_certificate.specs.Parts.{part_at, parts_cells}
+use Rattle.command_parts.specs.Parts.{part_at, parts_cells}
 
 -- a row of bytes at the beginning of a source is over it
 over_source : (t : Table) (r m n : ℕ) (others : List Cell) → 1 ≤ n → All IsByte (take n (drop 0 (parts_cells t (Source r (suc m) ∷ []))) ++ others) → ⊥

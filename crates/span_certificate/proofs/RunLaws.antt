@@ -22,9 +22,9 @@ use Rattle.cord_position.proofs.LeafParts.{bytes_of_bytes, bytes_of_map}
 use Rattle.span_certificate.specs.declared.describe.Description.{Description}
 use Rattle.span_certificate.specs.declared.content.Content.TheVariants.{Within, Described}
 use Rattle.span_certificate.specs.declared.describe.Description.TheVariants.{Pooled, Computed}
-use Rattle.span_certificate.specs.declared.part.Part.{Part}
+use Rattle.command_parts.specs.declared.part.Part.{Part}
 use Rattle.span_certificate.specs.declared.walk.Span.{Span}
-use Rattle.span_certificate.specs.Parts.{part_len, part_cells, IsPart}
+use Rattle.command_parts.specs.Parts.{part_len, part_cells, IsPart}
 use Rattle.span_certificate.specs.Leads.{content_from, described_cells, Describes}
 use Rattle.span_certificate.specs.Steps.{IsReached, IsSpan}
 use Rattle.span_certificate.specs.Runs.{IsRunOf, ReadsCells, TellsSame}

@@ -12,12 +12,12 @@ use Rattle.rope_node.proofs.Parts.{span_within, span-map}
 use Rattle.span_certificate.specs.declared.content.Content.TheVariants.{Described}
 use Rattle.span_certificate.specs.declared.describe.Description.{Description}
 use Rattle.span_certificate.specs.declared.describe.Description.TheVariants.{Pooled, Sourced, Computed}
-use Rattle.span_certificate.specs.declared.part.Part.{Part}
-use Rattle.span_certificate.specs.declared.part.Part.TheVariants.{Old, Pool, Source, Fill}
+use Rattle.command_parts.specs.declared.part.Part.{Part}
+use Rattle.command_parts.specs.declared.part.Part.TheVariants.{Old, Pool, Source, Fill}
 use Rattle.span_certificate.specs.declared.row.Row.{Row}
 use Rattle.span_certificate.specs.declared.row.RowKind.{RowKind}
 use Rattle.span_certificate.specs.declared.row.RowKind.TheVariants.{Shared, Leaf, Bytes}
-use Rattle.span_certificate.specs.Parts.{part_len, part_cells, parts_cells, IsPart, AreParts}
+use Rattle.command_parts.specs.Parts.{part_len, part_cells, parts_cells, IsPart, AreParts}
 use Rattle.span_certificate.specs.Leads.{RopeLeads, PartLeads, RopeHasDescription, PartHasDescription, described_cells, AreAnswered}
 use Rattle.span_certificate.specs.Covers.{row_at, rows_len, place_of, HaveOneDescription, HaveSameBytes, IsByte, KindFitsBy, Covers, CoversBy, MeetsNoSource, SameOver}
 use Rattle.span_certificate.specs.Steps.{AreBytes}

@@ -16,11 +16,11 @@ use Rattle.lazy_file.specs.declared.faults.SourceFault.{SourceFault}
 use Rattle.cord_position.specs.Fetched.{IsReadable, IsStated}
 use Rattle.span_certificate.specs.declared.cover.Verdict.{Verdict}
 use Rattle.span_certificate.specs.declared.cover.Verdict.TheVariants.{Good, Bad}
-use Rattle.span_certificate.specs.declared.part.Part.{Part}
-use Rattle.span_certificate.specs.declared.part.Part.TheVariants.{Old}
+use Rattle.command_parts.specs.declared.part.Part.{Part}
+use Rattle.command_parts.specs.declared.part.Part.TheVariants.{Old}
 use Rattle.span_certificate.specs.declared.row.Row.{Row}
 use Rattle.span_certificate.specs.declared.row.RowKind.TheVariants.{Shared, Bytes}
-use Rattle.span_certificate.specs.Parts.{part_len, parts_len, part_cells, AreParts, part_at}
+use Rattle.command_parts.specs.Parts.{part_len, parts_len, part_cells, AreParts, part_at}
 use Rattle.span_certificate.specs.Leads.{PartLeads, RopeLeads}
 use Rattle.span_certificate.specs.Covers.{row_at, no_row, rows_len, place_of, ComparesOnly, compared, kind_compares, row_compares, KindFitsBy, FitsBy, CoversBy, IsFirstBadBy}
 use Rattle.span_certificate.specs.declared.walk.TheConstants.{BYTES_LIMIT}
@@ -149,7 +149,7 @@ verifying_more t coded st parts root rows j place row lt is so_far tells inside 
       fit = below_more (λ i. FitsBy t coded (SameStated st) parts root (place_of rows i) (row_at rows i)) j so_far.fit (here.fits refl);
     }
 
--- rows that cover have no first bad one, and there is at most one, where what cannot be the same is not
+-- rows that cover have no bad one; there is at most one first bad row, if what is the same as Same says can be the same
 module _ (t : Table) (coded : ℕ → Coded) (Same CanBe : List Cell → List Cell → Type 0) (parts : List Part) (root : Option NodeId) (rows : List Row) where
   -- what fits as Same says may fit as CanBe says, in each of the first n rows
   abbrev pub MayFit : ℕ → Type 0

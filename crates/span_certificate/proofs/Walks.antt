@@ -77,7 +77,7 @@ places_same s r a b n some e =
     ∙ get_or-map-range_with_len (Place r) b n 0 b (Byte 0) some (omega arith) in
     (cc, cc)
 
--- the same cells with two descriptions are bytes
+-- cells that have two different descriptions are bytes
 pub differing : (n : ℕ) (d e : Description) (cs : List Cell) → 1 ≤ n → CellsAs n d cs → CellsAs n e cs → ¬ (d ≡ e) → AreBytes cs
 differing n (Pooled a) e cs some of_d of_e other = of_d
 differing n (Computed f i) e cs some of_d of_e other = of_d

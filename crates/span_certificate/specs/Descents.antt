@@ -43,14 +43,14 @@ pub record IsLeafOf (t : Table) (x : Span) (z : Reached) : Type 0 where
 abbrev pub OnlyAbove : Table → ℕ → Span → NodeId → Type 0
 OnlyAbove t n x node = (k o : ℕ) → Leads t (n + 1) k o x.node.0 x.start → node.0 < k
 
--- A way down span x stands at span z: the first bytes of x lead to z, and both begin with the same leaf span. They are all of x, or one byte more leads
--- only to nodes above.
+-- A way down span x stands at span z: the first bytes of x lead to z, and both begin with the same leaf span. They are
+-- all of x, or one byte more leads only to nodes above.
 pub record IsStand (t : Table) (x z : Span) : Type 0 where
   pub reached : IsReached t x z
   pub first : first_of t z ≡ first_of t x
   pub cut : z.len < x.len → OnlyAbove t z.len x z.node
 
--- the same at the place of another span
+-- a way down span x stands at span z, which begins where span y begins
 pub record IsStandAt (t : Table) (x y z : Span) : Type 0 where
   pub stands : IsStand t x z
   pub node : z.node ≡ y.node
@@ -64,7 +64,8 @@ pub record IsBorder (t : Table) (x : Span) (view : NodeView) (n : ℕ) : Type 0 
   pub before : x.start < len_at t l.0
   pub past : len_at t l.0 < x.start + n
 
--- what a step down from a span of a node leads to: the span of the child that holds its first bytes, where those are n or more; or why there is none
+-- what a step down from a span of a node leads to: the span of the child that holds its first bytes, where those are n
+-- or more; or why there is none
 abbrev pub GoesDownTo : {P : Type 0} → (P → Span) → Table → Span → NodeView → ℕ → Descent P → Type 0
 GoesDownTo lies t x view n (Below z) = (Some (lies z) ≡ child_span t x view) × (n ≤ (lies z).len)
 GoesDownTo lies t x view n Leaf = IsLeaf view

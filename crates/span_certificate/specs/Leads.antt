@@ -14,8 +14,8 @@ use Rattle.span_certificate.specs.declared.describe.Description.{Description}
 use Rattle.span_certificate.specs.declared.describe.Description.TheVariants.{Pooled, Sourced, Computed}
 use Rattle.span_certificate.specs.declared.content.Content.{Content}
 use Rattle.span_certificate.specs.declared.content.Content.TheVariants.{Within, Described}
-use Rattle.span_certificate.specs.declared.part.Part.{Part}
-use Rattle.span_certificate.specs.declared.part.Part.TheVariants.{Old, Pool, Source, Fill}
+use Rattle.command_parts.specs.declared.part.Part.{Part}
+use Rattle.command_parts.specs.declared.part.Part.TheVariants.{Old, Pool, Source, Fill}
 
 -- The span of n bytes of node x from p on leads to offset o of node k: it stands there; or it lies in one child of a
 -- concatenation, or in the base of a substring, and that span leads there.
@@ -30,7 +30,7 @@ pub data Leads (t : Table) (n k o : ℕ) : ℕ → ℕ → Type 0 where
 abbrev pub LeadsToLeaf : Table → ℕ → ℕ → ℕ → ℕ → ℕ → Type 0
 LeadsToLeaf t n k o x p = Leads t n k o x p × IsLeaf (view_at t k)
 
--- the same of a rope, and of a part of an earlier text
+-- n bytes of a rope, or of a part of an earlier text, lead to offset o of node k; no others do
 abbrev pub RopeLeads : Table → ℕ → ℕ → ℕ → Option NodeId → ℕ → Type 0
 RopeLeads t n k o None p = ⊥
 RopeLeads t n k o (Some x) p = Leads t n k o x.0 p
@@ -61,12 +61,12 @@ abbrev pub HasDescription : Table → (ℕ → Coded) → ℕ → ℕ → ℕ �
 HasDescription t coded n x p d =
     (k : ℕ) × (o : ℕ) × LeadsToLeaf t n k o x p × (leaf_description (coded k) o (view_at t k) ≡ Some d)
 
--- the same of a rope
+-- the span of n bytes of a rope from p on leads to a leaf span of this description
 abbrev pub RopeHasDescription : Table → (ℕ → Coded) → ℕ → Option NodeId → ℕ → Description → Type 0
 RopeHasDescription t coded n None p d = ⊥
 RopeHasDescription t coded n (Some x) p d = HasDescription t coded n x.0 p d
 
--- the same of a part: one that is no part of an earlier text is itself a leaf span
+-- the n bytes of a part from off on have this description; a part of no earlier text is itself a leaf span
 abbrev pub PartHasDescription : Table → (ℕ → Coded) → ℕ → Part → ℕ → Description → Type 0
 PartHasDescription t coded n (Old rope i m) off d = RopeHasDescription t coded n rope (i + off) d
 PartHasDescription t coded n (Pool a m) off d = Pooled (a + off) ≡ d

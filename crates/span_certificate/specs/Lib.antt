@@ -1,7 +1,3 @@
-pub mod Commands
-pub mod Fields
-pub mod Parts
-pub mod Places
 pub mod Leads
 pub mod Covers
 pub mod Longest

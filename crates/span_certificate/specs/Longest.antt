@@ -2,8 +2,8 @@
 use Rattle.std.specs.Prelude.{◌≡◌, ℕ, ◌+◌, ◌<◌, ◌≤◌, min, List, length, Option, Some, None, IfSome}
 use Rattle.rope_node.specs.declared.node.NodeId.{NodeId}
 use Rattle.rope_node.specs.Table.{Table}
-use Rattle.span_certificate.specs.declared.part.Part.{Part}
-use Rattle.span_certificate.specs.declared.part.Part.TheVariants.{Old, Pool, Source, Fill}
+use Rattle.command_parts.specs.declared.part.Part.{Part}
+use Rattle.command_parts.specs.declared.part.Part.TheVariants.{Old, Pool, Source, Fill}
 use Rattle.span_certificate.specs.declared.row.Row.{Row}
 use Rattle.span_certificate.specs.declared.row.RowKind.{RowKind}
 use Rattle.span_certificate.specs.declared.row.RowKind.TheVariants.{Shared, Leaf, Bytes}
@@ -14,18 +14,18 @@ use Rattle.rope_node.specs.Denotes.{rope_len, IsRope}
 use Rattle.span_certificate.specs.declared.making.TheConstants.{ROWS_LIMIT}
 use Rattle.span_certificate.specs.Covers.{row_at, place_of, rows_len, Fits, MeetsNoSource}
 use Rattle.span_certificate.specs.Leads.{Leads, LeadsToLeaf, RopeLeads, PartLeads}
-use Rattle.span_certificate.specs.Parts.{part_at, part_len, IsPart}
+use Rattle.command_parts.specs.Parts.{part_at, part_len, IsPart}
 
 -- the n bytes of node x from p on lie in one leaf
 abbrev pub LieInLeaf : Table → ℕ → ℕ → ℕ → Type 0
 LieInLeaf t n x p = (k : ℕ) × (o : ℕ) × LeadsToLeaf t n k o x p
 
--- the same of a rope
+-- the n bytes of a rope from p on lie in one leaf
 abbrev pub RopeLiesInLeaf : Table → ℕ → Option NodeId → ℕ → Type 0
 RopeLiesInLeaf t n None p = ⊥
 RopeLiesInLeaf t n (Some x) p = LieInLeaf t n x.0 p
 
--- the same of a part: one that is no part of an earlier text is itself a leaf span
+-- the n bytes of a part from off on lie in one leaf; a part of no earlier text is itself a leaf span
 abbrev pub PartLiesInLeaf : Table → ℕ → Part → ℕ → Type 0
 PartLiesInLeaf t n (Old rope i m) off = RopeLiesInLeaf t n rope (i + off)
 PartLiesInLeaf t n (Pool a m) off = Unit {0}

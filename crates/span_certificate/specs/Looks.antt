@@ -13,7 +13,7 @@ pub record BeginsCount (ledger_name ledger_parts name parts : ℕ) : Type 0 wher
   pub same_parts : parts ≡ ledger_parts
   pub some : 0 < parts
 
--- the bytes that a row of this kind compares, as far as it may be long
+-- how many bytes a row of this kind and length compares: of a row that is too long the most that one may have
 abbrev pub kind_bytes : RowKind → ℕ → ℕ
 kind_bytes (Shared k o) n = 0
 kind_bytes Leaf n = 0
@@ -22,6 +22,6 @@ kind_bytes Bytes n = min BYTES_LIMIT n
 abbrev pub row_bytes : Row → ℕ
 row_bytes row = kind_bytes row.kind row.len
 
--- the most looks that rows take: so many for each, and for each byte of those that compare bytes
+-- the most looks that rows take: `LOOKS_LIMIT` for each, and as many for each byte of those that compare bytes
 abbrev pub most_looks : List Row → ℕ
 most_looks rows = LOOKS_LIMIT * length rows + LOOKS_LIMIT * sum_by row_bytes rows

@@ -8,9 +8,9 @@ use Rattle.lazy_file.specs.Readings.{fault_in, Reading, Reads}
 use Rattle.cord_position.specs.Fetched.{AreStated, InCells}
 use Rattle.span_certificate.specs.declared.describe.Description.{Description}
 use Rattle.span_certificate.specs.declared.describe.Description.TheVariants.{Pooled, Sourced, Computed}
-use Rattle.span_certificate.specs.declared.part.Part.{Part}
+use Rattle.command_parts.specs.declared.part.Part.{Part}
 use Rattle.span_certificate.specs.declared.bytes.Run.{Run}
-use Rattle.span_certificate.specs.Parts.{part_cells}
+use Rattle.command_parts.specs.Parts.{part_cells}
 use Rattle.span_certificate.specs.Leads.{described_cells, HasRoom}
 
 -- the first bytes of the next `left` ones of a part are those of a description

@@ -9,7 +9,7 @@ use Rattle.rope_node.specs.declared.node.NodeView.{NodeView}
 use Rattle.rope_node.specs.declared.node.NodeView.TheVariants.{Lit, Src, Fun, Cat, Sub}
 use Rattle.span_certificate.specs.declared.describe.Description.{Description}
 use Rattle.span_certificate.specs.declared.describe.Description.TheVariants.{Pooled, Sourced, Computed}
-use Rattle.span_certificate.specs.declared.part.Part.{Part}
+use Rattle.command_parts.specs.declared.part.Part.{Part}
 use Rattle.span_certificate.specs.declared.row.Row.{Row}
 use Rattle.span_certificate.specs.declared.row.RowKind.{RowKind}
 use Rattle.span_certificate.specs.declared.row.RowKind.TheVariants.{Shared, Leaf, Bytes}
@@ -37,7 +37,7 @@ pub record IsReached (t : Table) (x z : Span) : Type 0 where
   pub is_span : IsSpan t z
   pub leads : Leads t z.len z.node.0 z.start x.node.0 x.start
 
--- the same by a step, or by more
+-- the first bytes of span x lead to span z by one step down, or by more
 pub record IsBelow (t : Table) (x z : Span) : Type 0 where
   pub lower : z.node.0 < x.node.0
   pub shallower : depth_at t z.node.0 < depth_at t x.node.0

@@ -26,7 +26,7 @@ pub record Holds (stop : Stop) (p n : ℕ) : Type 0 where
   pub behind : stop.from ≤ p
   pub before : p + n ≤ stop.end
 
--- Each way down a span of the root that begins between `from` and `end` stands at the stop, which is the ith below the root.
+-- Each way down a span of the root that begins between `from` and `end` stands at the stop, the ith below the root.
 pub record IsTrailStop (t : Table) (root i : ℕ) (stop : Stop) : Type 0 where
   pub there : stop.node.0 < length t.nodes
   pub some : stop.from < stop.end
@@ -52,7 +52,7 @@ pub record AreStops (t : Table) (listed : List Stop) (count : ℕ) : Type 0 wher
   pub first : 1 ≤ count → stop_at listed 0 ≡ first_stop t (stop_at listed 0).node
   pub stops : (i : ℕ) → i < count → IsTrailStop t (stop_at listed 0).node.0 i (stop_at listed i)
 
--- the same below this root, and there is one
+-- the first `count` of these are stops one below the other, from this root on, and there is at least one
 pub record AreStopsOf (t : Table) (root : NodeId) (listed : List Stop) (count : ℕ) : Type 0 where
   pub is_trail : AreStops t listed count
   pub some : 1 ≤ count
@@ -64,7 +64,7 @@ IsTrail t trail = AreStops t trail.stops trail.count
 abbrev pub IsTrailOf : Table → NodeId → Trail → Type 0
 IsTrailOf t root trail = AreStopsOf t root trail.stops trail.count
 
--- What of a stop lies in the left child of its node, in the right one beside a left one of so many bytes, and in its base.
+-- What of a stop lies in the left child of its node, which has `left` bytes, in the right one, and in its base.
 abbrev pub left_stop : Stop → NodeId → ℕ → Stop
 left_stop stop l left = record { node = l; from = stop.from; end = min stop.end (stop.from + (left - stop.start)); start = stop.start }
 

@@ -6,11 +6,11 @@ use Rattle.rope_node.specs.Table.{Table}
 use Rattle.rope_node.specs.Denotes.{Cell, rope_cells, rope_len, text}
 use Rattle.lazy_file.specs.SourceTexts.{Agrees, Stated}
 use Rattle.cord_position.specs.Fetched.{AreStated}
-use Rattle.span_certificate.specs.declared.part.Part.{Part}
+use Rattle.command_parts.specs.declared.part.Part.{Part}
 use Rattle.span_certificate.specs.declared.row.Row.{Row}
 use Rattle.span_certificate.specs.declared.row.RowKind.TheVariants.{Bytes}
 use Rattle.span_certificate.specs.declared.walk.TheConstants.{BYTES_LIMIT}
-use Rattle.span_certificate.specs.Parts.{part_at, part_len, parts_cells}
+use Rattle.command_parts.specs.Parts.{part_at, part_len, parts_cells}
 use Rattle.span_certificate.specs.Covers.{MeetsNoSource, row_at, place_of, row_compares, SameOver, KindFitsBy, FitsBy, CoversBy, IsFirstBadBy, HaveSameBytes}
 use Rattle.span_certificate.specs.declared.cover.Verdict.{Verdict}
 use Rattle.span_certificate.specs.declared.cover.Verdict.TheVariants.{Good, Bad}
@@ -34,7 +34,7 @@ pub record TellsKind (t : Table) (coded : ℕ → Coded) (st : Stated) (part : P
   pub fits : IsTrue answer → KindFitsBy t coded (SameStated st) row.len part off root place row.kind
   pub may : KindFitsBy t coded (CanBeSame st) row.len part off root place row.kind → IsTrue answer
 
--- the same of a row
+-- what the test of a whole row tells: one that is said to fit does, and one that may fit is said to
 pub record TellsRow (t : Table) (coded : ℕ → Coded) (st : Stated) (parts : List Part) (root : Option NodeId) (place : ℕ)
     (row : Row) (answer : Bool) : Type 0 where
   pub fits : IsTrue answer → FitsBy t coded (SameStated st) parts root place row

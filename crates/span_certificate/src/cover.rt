@@ -3,9 +3,9 @@
 ghost use Rattle.std.specs.Prelude.{◌≡◌, ◌+◌, ◌*◌, ◌<◌, ◌≤◌, ◌↔◌, List, None, Ok, IsTrue, IfOk, IfErr};
 ghost use Rattle.std.specs.Option.{ForSome};
 ghost use Rattle.rope_node.specs.Denotes.{rope_len, IsRope};
-ghost use Rattle.span_certificate.specs.declared.part.Part.{Part};
-ghost use Rattle.span_certificate.specs.Parts.{part_at, part_len, IsPart, AreParts};
-ghost use Rattle.span_certificate.specs.Places.{held, len_here};
+ghost use Rattle.command_parts.specs.declared.part.Part.{Part};
+ghost use Rattle.command_parts.specs.Parts.{part_at, part_len, IsPart, AreParts};
+ghost use Rattle.command_parts.specs.Places.{held, len_here};
 ghost use Rattle.span_certificate.specs.Covers.{HaveOneDescription, kind_compares, row_compares};
 ghost use Rattle.span_certificate.specs.Runs.{ReadsCells};
 ghost use Rattle.span_certificate.specs.Trails.{AreWays};
@@ -19,13 +19,10 @@ ghost use Rattle.span_certificate.specs.declared.walk.TheConstants.{BYTES_LIMIT}
 use crate::bytes::same_bytes;
 use crate::exact::{describe_span, part_leads};
 use crate::looks::{Count, CountedSpace, Looks};
-use crate::part::Part;
-use crate::part_iter::PartIter;
-use crate::place::PartPlace;
 use crate::row::{Row, RowKind, Rows};
-use crate::splices::Splices;
 use crate::walk::BYTES_LIMIT;
 use crate::way::{Trails, Way, Ways, are_short};
+use command_parts::{Part, PartIter, PartPlace, Splices};
 use lazy_file::{SourceFault, Sources};
 use rope_node::{CodedSpace, Rope};
 use std::marker::Brand;
@@ -169,7 +166,7 @@ fn row_fits<S: CountedSpace<L>, T: Sources, W: Way, L: Ledger>(
     }
 }
 
-/// Whether rows that end at `place` leave nothing uncovered, where `part` holds it, or none does.
+/// Whether rows that end at `place` cover all: there is no part that holds this place, and the root ends there too.
 fn is_whole<S: CountedSpace<L>, L: Ledger>(
     space: &S,
     part: Option<Part>,
@@ -265,8 +262,8 @@ fn verify_with<S: CountedSpace<L>, T: Sources, P: Splices, R: Rows, W: Way, L: L
     )
 }
 
-/// What `verify_counted` tells, by trails that a caller keeps from call to call, so that no call sets them up anew. What they hold before does
-/// not matter.
+/// What `verify_counted` tells, by trails that a caller keeps from call to call, so that no call sets them up anew.
+/// What they hold before does not matter.
 ///
 /// # Errors
 ///
@@ -355,9 +352,9 @@ pub fn verify_told<S: CountedSpace<L>, T: Sources, P: Splices, R: Rows, L: Ledge
     )
 }
 
-/// Whether the rows cover the parts of a command and a root, as `verify` tells it, by looks at the space.
-/// They are at most `LOOKS_LIMIT` for each of the rows, and as many for each byte of those that compare bytes, counted up to
-/// `BYTES_LIMIT`. Each row goes down from the root; it is not made inline, so that a caller that keeps trails pays nothing for it.
+/// Whether the rows cover the parts of a command and a root, as `verify` tells it, by looks at the space: at most
+/// `LOOKS_LIMIT` for each row, and as many for each byte that a row compares, up to `BYTES_LIMIT` of each row. Each row
+/// goes down from the root. It is never inlined, so a caller that keeps trails pays nothing for it.
 ///
 /// # Errors
 ///
@@ -394,7 +391,7 @@ pub fn verify_counted<S: CountedSpace<L>, T: Sources, P: Splices, R: Rows, L: Le
     )
 }
 
-/// The same over a space, with a count that begins here.
+/// Verifies over a space, with a count that begins here.
 fn verify_over<S: CodedSpace, T: Sources, P: Splices, R: Rows, L: Ledger>(
     space: &S,
     sources: &mut T,

@@ -48,7 +48,7 @@ pub fn first_leaf<S: CountedSpace<L>, W: Way, L: Ledger>(
     }
 }
 
-/// The leaf span to which a span leads, or nothing where it lies in no one leaf.
+/// The leaf span to which a span leads, or nothing where its bytes lie in several leaves.
 pub fn leaf_span<S: CountedSpace<L>, W: Way, L: Ledger>(
     space: &S,
     way: &mut W,

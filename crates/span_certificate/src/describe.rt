@@ -82,7 +82,7 @@ pub fn describe<S: CountedSpace<L>, L: Ledger>(
     }
 }
 
-/// The same with a count that begins here.
+/// Describes the span of a leaf, with a count that begins here.
 fn describe_with<S: CodedSpace, L: Ledger>(
     space: &S,
     leaf: NodeId,

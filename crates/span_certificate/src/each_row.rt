@@ -4,17 +4,14 @@ ghost use Rattle.std.specs.Prelude.{◌≡◌, ◌↔◌, ℕ, ◌<◌, length, 
 ghost use Rattle.rope_node.specs.Denotes.{IsRope};
 ghost use Rattle.span_certificate.specs.Covers.{CoversAnyhow, place_of, row_at};
 ghost use Rattle.span_certificate.specs.Looks.{BeginsCount};
-ghost use Rattle.span_certificate.specs.Parts.{AreParts};
+ghost use Rattle.command_parts.specs.Parts.{AreParts};
 
 use crate::from_root::FromRoot;
 use crate::looks::{Count, CountedSpace};
-use crate::part::Part;
-use crate::part_iter::PartIter;
-use crate::place::PartPlace;
 use crate::row::Row;
-use crate::splices::Splices;
 use crate::trail::Trail;
 use crate::way::{Trails, Way, Ways, are_short};
+use command_parts::{Part, PartIter, PartPlace, Splices};
 use rope_node::{CodedSpace, NodeSpace, Rope, rope_len};
 use std::marker::Brand;
 use std::sync::ledger::{Blank, Ledger};
@@ -24,10 +21,10 @@ pub trait Question {
     ghost use Rattle.std.specs.Prelude.{◌≡◌, ◌↔◌, ℕ, List, Option, IsTrue, Some};
     ghost use Rattle.rope_node.specs.Table.{Table};
     ghost use Rattle.rope_node.specs.declared.node.NodeId.{NodeId};
-    ghost use Rattle.span_certificate.specs.declared.part.Part.{Part};
+    ghost use Rattle.command_parts.specs.declared.part.Part.{Part};
     ghost use Rattle.span_certificate.specs.declared.row.Row.{Row};
     ghost use Rattle.span_certificate.specs.Longest.{StandsInBoth};
-    ghost use Rattle.span_certificate.specs.Parts.{part_at, AreParts};
+    ghost use Rattle.command_parts.specs.Parts.{part_at, AreParts};
     ghost use Rattle.span_certificate.specs.Trails.{AreWays};
 
     // It holds of a row of these parts and this root, at this place.
@@ -46,7 +43,8 @@ pub trait Question {
     ) -> bool
         requires ways { AreWays W.is_way (S.table space.now) ways.old }
         requires stands { StandsInBoth (S.table space.now) part off root place row }
-        ensures holds { (parts : List Part) → AreParts (S.table space.now) parts → part_at parts place ≡ Some (part, off)
+        ensures holds { (parts : List Part) → AreParts (S.table space.now) parts
+            → part_at parts place ≡ Some (part, off)
             → (IsTrue result ↔ holds (S.table space.now) parts root place row) }
         ensures ways { AreWays W.is_way (S.table space.now) ways.new };
 }
@@ -105,7 +103,8 @@ fn each_holds<S: CodedSpace, P: Splices, Q: Question, W: Way, L: Ledger>(
     true
 }
 
-/// Whether it holds of each of these rows, which cover the parts and the root. What the trails hold before does not matter.
+/// Whether the question is answered by yes for each of these rows, which cover the parts and the root. What the trails
+/// hold before does not matter.
 pub fn all_hold<S: CodedSpace, P: Splices, Q: Question>(
     space: &S,
     parts: PartIter<'_, P>,

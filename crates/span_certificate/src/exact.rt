@@ -2,7 +2,7 @@
 
 ghost use Rattle.std.specs.Prelude.{◌≡◌, ◌↔◌, ◌+◌, ◌≤◌, Some, IsTrue};
 ghost use Rattle.rope_node.specs.Table.{IsSound};
-ghost use Rattle.span_certificate.specs.Parts.{part_len, IsPart};
+ghost use Rattle.command_parts.specs.Parts.{part_len, IsPart};
 ghost use Rattle.span_certificate.specs.Leads.{PartLeads, HasDescription, PartHasDescription};
 ghost use Rattle.span_certificate.specs.Looks.{BeginsCount};
 ghost use Rattle.span_certificate.specs.Steps.{IsSpan};
@@ -14,9 +14,9 @@ use crate::descent::{leads_to, leaf_span};
 use crate::describe::{Description, describe};
 use crate::from_root::FromRoot;
 use crate::looks::{Count, CountedSpace};
-use crate::part::Part;
 use crate::walk::Span;
 use crate::way::Way;
+use command_parts::Part;
 use rope_node::{CodedSpace, NodeId};
 use std::marker::Brand;
 use std::sync::ledger::{Blank, Ledger};
@@ -56,7 +56,7 @@ pub fn part_leads<S: CountedSpace<L>, W: Way, L: Ledger>(
     }
 }
 
-/// The description of the leaf span that a span leads to, or nothing where it leads to none.
+/// The description of the leaf span that a span leads to, or nothing where its bytes lie in several leaves.
 #[inline(always)]
 fn describe_node<S: CountedSpace<L>, W: Way, L: Ledger>(
     space: &S,
@@ -104,7 +104,7 @@ pub fn describe_span<S: CountedSpace<L>, W: Way, L: Ledger>(
     }
 }
 
-/// The same with a count that begins here.
+/// Describes the bytes of a part, with a count that begins here.
 fn describe_part_with<S: CodedSpace, L: Ledger>(
     space: &S,
     part: Part,

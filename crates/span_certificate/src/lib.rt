@@ -2,26 +2,18 @@
 #![tactic(auto)]
 
 mod bytes;
-pub mod codes;
 mod content;
 mod cover;
 mod descent;
 mod describe;
 mod each_row;
-mod edit;
 mod exact;
 mod from_root;
 mod longest;
 mod looks;
 mod making;
 mod over_bytes;
-mod part;
-mod part_iter;
-mod pieces;
-mod place;
-mod roots;
 mod row;
-mod splices;
 mod stop;
 mod trail;
 mod walk;
@@ -29,16 +21,11 @@ mod way;
 
 pub use cover::{Verdict, verify, verify_by, verify_counted, verify_told};
 pub use describe::{Description, describe_leaf};
-pub use edit::{Edit, MOST_REVISIONS, MOST_SPLICES, SPLICES_LIMIT, Splice};
 pub use exact::describe_part;
 pub use longest::are_longest;
 pub use looks::{Count, CountedSpace, LOOKS_LIMIT, Looks};
 pub use making::{MakeFault, ROWS_LIMIT, make, make_by};
 pub use over_bytes::meets_no_source;
-pub use part::Part;
-pub use part_iter::{PartIter, parts};
-pub use roots::Roots;
 pub use row::{Row, RowKind, Rows};
-pub use splices::Splices;
 pub use walk::BYTES_LIMIT;
 pub use way::Trails;

@@ -5,19 +5,17 @@ ghost use Rattle.rope_node.specs.Denotes.{rope_len, IsRope};
 ghost use Rattle.span_certificate.specs.Covers.{CoversAnyhow};
 ghost use Rattle.span_certificate.specs.Longest.{AreLongest, IsLongest, PartLiesInLeaf, RopeLiesInLeaf, StayWithin};
 ghost use Rattle.span_certificate.specs.Leads.{PartLeads, RopeLeads};
-ghost use Rattle.span_certificate.specs.Parts.{part_len, IsPart, AreParts};
+ghost use Rattle.command_parts.specs.Parts.{part_len, IsPart, AreParts};
 ghost use Rattle.span_certificate.specs.Trails.{AreWays, IsWayOf};
 
 use crate::descent::leaf_span;
 use crate::each_row::{Question, all_hold};
 use crate::exact::part_leads;
 use crate::looks::{Count, CountedSpace};
-use crate::part::Part;
-use crate::part_iter::PartIter;
 use crate::row::{Row, RowKind};
-use crate::splices::Splices;
 use crate::walk::{BYTES_LIMIT, Span};
 use crate::way::{Trails, Way, Ways};
+use command_parts::{Part, PartIter, Splices};
 use rope_node::{CodedSpace, NodeId, Rope};
 use std::sync::ledger::Ledger;
 
@@ -114,7 +112,8 @@ fn both_lead<S: CountedSpace<L>, W: Way, L: Ledger>(
         && part_leads(space, of_root, other, place, len, node, at, count)
 }
 
-/// Whether the `len` bytes of the part from `off` on and those of the root from `place` on stay in what a row of this kind is over.
+/// Whether the `len` bytes of the part from `off` on and those of the root from `place` on stay in what a row of this
+/// kind is over.
 fn stay_within<S: CountedSpace<L>, W: Way, L: Ledger>(
     space: &S,
     ways: &mut Ways<W>,
@@ -180,8 +179,8 @@ impl Question for Longest {
     }
 }
 
-/// Whether each of these rows, which cover the parts and the root, is the longest: it goes to the end of its part, or no byte more stays
-/// within what it is over. No source is read. What the trails hold before does not matter.
+/// Whether each of these rows, which cover the parts and the root, is the longest: it goes to the end of its part, or
+/// no byte more stays within what it is over. No source is read. What the trails hold before does not matter.
 pub fn are_longest<S: CodedSpace, P: Splices>(
     space: &S,
     parts: PartIter<'_, P>,

@@ -1,18 +1,16 @@
 //! Looks at the nodes of a space, counted.
 
-ghost use Rattle.std.specs.Prelude.{◌≡◌, ◌+◌, ◌<◌, ◌≤◌, length, take, drop, get_or, IsTrue};
+ghost use Rattle.std.specs.Prelude.{◌≡◌, ◌+◌, ◌*◌, ◌<◌, ◌≤◌, length, take, drop, get_or, IsTrue};
 ghost use Rattle.rope_node.specs.declared.limits.TheConstants.{MOST_DEPTH, TEXT_LIMIT};
-ghost use Rattle.span_certificate.specs.Commands.{full_edit, NamesSplices};
-ghost use Rattle.span_certificate.specs.Parts.{parts_of, IsInRange, AreRopes, AreParts};
+ghost use Rattle.command_parts.specs.Commands.{full_edit, NamesSplices};
+ghost use Rattle.command_parts.specs.Parts.{parts_of, IsInRange, AreRopes, AreParts};
 ghost use Rattle.span_certificate.specs.Looks.{BeginsCount};
-ghost use Rattle.span_certificate.specs.declared.looks.TheConstants.{SHALLOW_DEPTH};
+ghost use Rattle.span_certificate.specs.declared.looks.TheConstants.{LOOKS_LIMIT, SHALLOW_DEPTH};
+ghost use Rattle.span_certificate.specs.declared.stop.TheConstants.{MOST_STOPS};
 ghost use Rattle.rope_node.specs.Denotes.{rope_len, IsRope};
 ghost use Rattle.rope_node.specs.Table.{view_at, len_at, depth_at, IsSound, HasTrueRecords, IsLeftPart, IsLiteral, IsFunction, literal_from};
 
-use crate::edit::Edit;
-use crate::part_iter::{PartIter, parts};
-use crate::roots::Roots;
-use crate::splices::Splices;
+use command_parts::{Edit, PartIter, Roots, Splices, parts};
 use function_leaf::Coded;
 use rope_node::{CodedSpace, NodeId, NodeSpace, NodeView, Rope, rope_len};
 use std::marker::Model;
@@ -20,6 +18,12 @@ use std::sync::ledger::{Blank, Book, Ledger, Share};
 
 /// The most looks that a row takes; for each byte that it compares, it takes at most as many more.
 pub const LOOKS_LIMIT: u64 = 132;
+
+/// They are those of two ways down, each of its most nodes and of the function that it ends at.
+pub fn looks_of_two_ways()
+    ensures ways { LOOKS_LIMIT ≡ 2 * (MOST_STOPS + 1) }
+    ensures nodes { MOST_STOPS ≡ MOST_DEPTH + 1 }
+{}
 
 /// A rope of at most this depth is shallow: a way down from its root costs less than what is kept of it.
 const SHALLOW_DEPTH: u8 = 6;
@@ -63,7 +67,7 @@ impl<L: Ledger> Count<L> {
 pub trait CountedSpace<L: Ledger> {
     ghost use Rattle.std.specs.Prelude.{ℕ};
     ghost use Rattle.function_leaf.specs.declared.coded.Coded.{Coded};
-    ghost use Rattle.span_certificate.specs.Parts.{parts_of, IsInRange, AreRopes, AreParts};
+    ghost use Rattle.command_parts.specs.Parts.{parts_of, IsInRange, AreRopes, AreParts};
     ghost use Rattle.span_certificate.specs.Looks.{BeginsCount};
     ghost use Rattle.rope_node.specs.Denotes.{rope_len, IsRope};
     ghost use Rattle.rope_node.specs.Table.{Table};

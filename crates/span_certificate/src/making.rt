@@ -2,7 +2,7 @@
 
 ghost use Rattle.std.specs.Prelude.{◌≡◌, ◌+◌, ◌<◌, ◌≤◌, length, take, drop, Some, IfOk, IsErrOf};
 ghost use Rattle.rope_node.specs.Denotes.{cells, rope_cells, IsRope};
-ghost use Rattle.span_certificate.specs.Parts.{part_len, part_cells, parts_cells, IsPart, AreParts};
+ghost use Rattle.command_parts.specs.Parts.{part_len, part_cells, parts_cells, IsPart, AreParts};
 ghost use Rattle.span_certificate.specs.Covers.{CoversAlways, MeetsNoSource};
 ghost use Rattle.span_certificate.specs.Longest.{AreLongest, IsCutShort, StayWithin};
 ghost use Rattle.span_certificate.specs.declared.making.TheConstants.{ROWS_LIMIT};
@@ -12,13 +12,10 @@ ghost use Rattle.span_certificate.specs.Trails.{AreWays};
 
 use crate::content::{Content, content_of};
 use crate::looks::{Count, CountedSpace};
-use crate::part::Part;
-use crate::part_iter::PartIter;
-use crate::place::PartPlace;
 use crate::row::Row;
-use crate::splices::Splices;
 use crate::walk::{Span, next_leaf, next_old};
 use crate::way::{Trails, Way, Ways, are_short};
+use command_parts::{Part, PartIter, PartPlace, Splices};
 use rope_node::{CodedSpace, NodeId, NodeSpace, Rope};
 use std::alloc::Global;
 use std::marker::Brand;
@@ -150,8 +147,8 @@ fn make_with<S: CodedSpace, P: Splices, W: Way>(
     }
 }
 
-/// The rows that `make` gives, by trails that a caller keeps from call to call, so that no call sets them up anew. What they hold before does
-/// not matter.
+/// The rows that `make` gives, by trails that a caller keeps from call to call, so that no call sets them up anew. What
+/// they hold before does not matter.
 ///
 /// # Errors
 ///
@@ -185,7 +182,7 @@ pub fn make_by<S: CodedSpace, P: Splices>(
 
 /// Rows that show that the parts and the root have one text, whatever the sources hold, each as long as it can be: to
 /// the end of its part, while both sides stay in the node or in the leaves that it is over, and for at most 4,096 bytes
-/// where it compares bytes. No source is read, and no row of bytes is over one. Each row goes down from the root; it is not made inline, so that a
+/// where it compares bytes. No source is read or compared. Each row goes down from the root. It is never inlined, so a
 /// caller that keeps trails pays nothing for it.
 ///
 /// # Errors

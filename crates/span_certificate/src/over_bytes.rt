@@ -3,7 +3,7 @@
 ghost use Rattle.std.specs.Prelude.{◌≡◌, ◌↔◌, ◌+◌, ◌≤◌, List, All, take, drop, IsTrue};
 ghost use Rattle.rope_node.specs.Denotes.{IsRope};
 ghost use Rattle.span_certificate.specs.Covers.{CoversAnyhow, IsByte, MeetsNoSource, row_compares};
-ghost use Rattle.span_certificate.specs.Parts.{part_len, part_cells, IsPart, AreParts};
+ghost use Rattle.command_parts.specs.Parts.{part_len, part_cells, IsPart, AreParts};
 ghost use Rattle.span_certificate.specs.Runs.{IsSourced};
 ghost use Rattle.span_certificate.specs.Trails.{IsWayOf};
 
@@ -11,11 +11,9 @@ use crate::bytes::run_of;
 use crate::describe::Description;
 use crate::each_row::{Question, all_hold};
 use crate::looks::{Count, CountedSpace};
-use crate::part::Part;
-use crate::part_iter::PartIter;
 use crate::row::{Row, RowKind};
-use crate::splices::Splices;
 use crate::way::{Trails, Way, Ways};
+use command_parts::{Part, PartIter, Splices};
 use rope_node::{CodedSpace, Rope};
 use std::sync::ledger::Ledger;
 
@@ -87,8 +85,8 @@ impl Question for OverBytes {
     }
 }
 
-/// Whether none of these rows, which cover the parts and the root, compares bytes of a source. No source is read. What the trails hold
-/// before does not matter.
+/// Whether none of these rows, which cover the parts and the root, compares bytes of a source. No source is read. What
+/// the trails hold before does not matter.
 pub fn meets_no_source<S: CodedSpace, P: Splices>(
     space: &S,
     parts: PartIter<'_, P>,

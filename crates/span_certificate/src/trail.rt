@@ -1,4 +1,5 @@
-//! The way down to a place of a rope, kept for the next place: what lies beside it is found from the last node that holds both.
+//! The way down to a place of a rope, kept for the next place: what lies beside it is found from the last node that
+//! holds both.
 
 ghost use Rattle.std.specs.Prelude.{◌≡◌, length};
 ghost use Rattle.span_certificate.specs.declared.stop.TheConstants.{MOST_STOPS};
@@ -10,7 +11,7 @@ use crate::way::{Descent, Way};
 use rope_node::{NodeId, NodeView};
 use std::sync::ledger::Ledger;
 
-/// So many of the last stops are looked at one by one.
+/// How many of the last stops are looked at one by one.
 const NEAR: usize = 4;
 
 /// The nodes on the way down to a place, each below the one before.
@@ -57,7 +58,8 @@ impl Trail {
         }
     }
 
-    /// The last stop that holds the first `len` bytes of a span and is the root or no lower than `low`; those behind it are forgotten.
+    /// The last stop that holds the first `len` bytes of a span and is the root or no lower than `low`; those behind it
+    /// are forgotten.
     #[inline(always)]
     pub fn back_to<S: CountedSpace<L>, L: Ledger>(
         &mut self,
@@ -86,7 +88,7 @@ impl Trail {
         self.stops[0]
     }
 
-    /// A step down from the last stop, whose node is `view`, where the first `least` bytes of the span lie in one child.
+    /// A step down from the last stop, whose node is `view`, where the span's first `least` bytes lie in one child.
     #[inline(always)]
     pub fn below<S: CountedSpace<L>, L: Ledger>(
         &self,
@@ -129,7 +131,12 @@ impl Trail {
         requires { IsStopOf (S.table space.now) x self.old self.old.count stop }
         ensures { IsLastStop (S.table space.now) x self.new stop }
     {
-        self.stops[self.count] = stop;
+        // Field by field, so that what lies between them is not written.
+        let place = &mut self.stops[self.count];
+        place.node = stop.node;
+        place.from = stop.from;
+        place.end = stop.end;
+        place.start = stop.start;
         self.count += 1;
     }
 
@@ -146,7 +153,8 @@ impl Trail {
         requires { IsTrailOf (S.table space.now) root self.now }
         ensures { IfSome result (IsFound (S.table space.now) root.0 place node start) }
     {
-        // Their numbers fall from the root on, so the lowest stop that is no lower than the node tells. Mostly it is one of the last.
+        // Their numbers fall from the root on, so the lowest stop that is no lower than the node tells. Mostly it is
+        // one of the last.
         if node.0 > self.stops[0].node.0 {
             return None;
         }
@@ -164,7 +172,7 @@ impl Trail {
         None
     }
 
-    /// The same among the first `end` stops, by halves.
+    /// Looks for the stop among the first `end` ones, by halves.
     #[cold]
     #[inline(never)]
     fn find_far<S: CountedSpace<L>, L: Ledger>(

@@ -181,9 +181,9 @@ fn ends_row<S: CountedSpace<L>, L: Ledger>(
     leaf_row(space, first, of_a, second, of_b, count)
 }
 
-/// A row for the first bytes of two spans of the same cells: over the first node that both lead to at one place, or over two leaf spans. What both ways
-/// kept is at one place of both only where the row before it was over that node to its end, so the first node of both is met where one side comes to a
-/// stop that is new.
+/// A row for the first bytes of two spans of the same cells: over the first node that both lead to at one place, or
+/// over two leaf spans. A node that both ways kept is at one place of both only where the row before was over that node
+/// to its end. So the first node of both is met where one side comes to a new stop.
 pub fn next_old<S: CountedSpace<L>, W: Way, L: Ledger>(
     space: &S,
     of_part: &mut W,
@@ -206,8 +206,8 @@ pub fn next_old<S: CountedSpace<L>, W: Way, L: Ledger>(
 {
     let mut a = of_part.begin(space, x, 1, 0);
     let mut b = of_root.begin(space, y, 1, 0);
-    let first = of_part.span(space, x, a);
-    let second = of_root.span(space, y, b);
+    let mut first = of_part.span(space, x, a);
+    let mut second = of_root.span(space, y, b);
     if let Some(z) = of_root.find(space, y, b, first) {
         return shared_row(space, x, first, y, z);
     }
@@ -217,11 +217,9 @@ pub fn next_old<S: CountedSpace<L>, W: Way, L: Ledger>(
     let mut of_a = space.look(first.node, count);
     let mut of_b = space.look(second.node, count);
     'down: loop {
-        let first = of_part.span(space, x, a);
-        let second = of_root.span(space, y, b);
         if goes_first(first.node, of_a, second.node, of_b) {
             a = go_down(space, of_part, x, a, of_a);
-            let first = of_part.span(space, x, a);
+            first = of_part.span(space, x, a);
             if let Some(z) = of_root.find(space, y, b, first) {
                 return shared_row(space, x, first, y, z);
             }
@@ -230,7 +228,7 @@ pub fn next_old<S: CountedSpace<L>, W: Way, L: Ledger>(
             return ends_row(space, x, first, of_a, y, second, of_b, count);
         } else {
             b = go_down(space, of_root, y, b, of_b);
-            let second = of_root.span(space, y, b);
+            second = of_root.span(space, y, b);
             if let Some(z) = of_part.find(space, x, a, second) {
                 return shared_row(space, x, z, y, second);
             }

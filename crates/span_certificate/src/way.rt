@@ -2,10 +2,9 @@
 
 use crate::from_root::FromRoot;
 use crate::looks::CountedSpace;
-use crate::part_iter::PartIter;
-use crate::splices::Splices;
 use crate::trail::Trail;
 use crate::walk::Span;
+use command_parts::{PartIter, Splices};
 use rope_node::{NodeId, NodeView, Rope};
 use std::sync::ledger::Ledger;
 
@@ -45,11 +44,12 @@ pub trait Way {
     fn forget(&mut self)
         ensures { (t : Table) → is_way t self.new };
 
-    /// It stays, or keeps nothing any more where it is not to be kept.
+    /// Goes on as it is, or forgets what it kept where `kept` is false.
     fn keep(&mut self, kept: bool)
         ensures { (t : Table) → is_way t self.old → is_way t self.new };
 
-    /// Where the way down a span goes on: at a stop that holds the first `len` bytes and is the root or no lower than `low`.
+    /// Where the way down a span goes on: at a stop that holds the first `len` bytes and is the root or no lower than
+    /// `low`.
     fn begin<S: CountedSpace<L>, L: Ledger>(
         &mut self,
         space: &S,
@@ -86,7 +86,8 @@ pub trait Way {
         ensures on { IsOnWay is_way is_at lies (S.table space.now) x self.new (stop_after here result) }
         ensures goes { GoesDownTo (lies x) (S.table space.now) (lies x here) view least result };
 
-    /// The bytes at the place where another span stands, if the span's first ones are known to lead there. The way has come to `last`.
+    /// The bytes at the place where another span stands, if the span's first ones are known to lead there. The way has
+    /// come to `last`.
     fn find<S: CountedSpace<L>, L: Ledger>(
         &self,
         space: &S,

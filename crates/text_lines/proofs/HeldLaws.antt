@@ -186,7 +186,7 @@ all_pass : (p : ℕ → Bool) (xs : List ℕ) (n k : ℕ) → n ≤ length xs �
 all_pass p xs zero k inside all lt = absurd (omega (arith, lt))
 all_pass p xs (suc m) k inside all lt = all_more p xs m k (all_pass p xs m) (omega (arith, inside)) (rw (add-one m) all) (omega (arith, lt))
 
--- where no break is among the bytes that are held before a place, none stands from the first of them up to there
+-- where the bytes that are held before a place have no break, no break stands from the first of them up to there
 pub none_before : (t : List ℕ) (h : HeldPart) (place from : ℕ) → AreHeld h t → h.from ≤ from → place ≤ h.from + length h.bytes
     → suffix_len (λ b. not (is_break b)) (held_up_to h place) ≡ length (held_up_to h place) → (k : ℕ) → from ≤ k → k < place → ¬ StandsAt (0x0A ∷ []) t k
 none_before t h place from held first last all k above below stands =
@@ -208,7 +208,8 @@ none_before t h place from held first last all k above below stands =
 
 -- ---- a line that was passed
 
--- the line that was known to begin is known, or what was known before; where the text goes on, the next line begins behind it
+-- the line that was known to begin is known now, or only what was known before; where the text goes on, the next line
+-- begins behind it
 pub line_passed : (t : List ℕ) (h : HeldPart) (start end len : ℕ) (begun : Option ℕ) (known : KnownLines) → AreHeld h t → h.begun ≡ Some start → start ≤ length t → end ≡ line_end t start → len ≡ length t
     → (known_lines known ≡ learnt (record { start = start; end = end }) (known_lines h.known)) ⊎ (known ≡ h.known) → (begun ≡ None) ⊎ ((begun ≡ Some (end + 1)) × (end < len)) → AreHeld (record h { begun = begun; known = known }) t
 line_passed t h start end len begun known held is inside ends long knows next =

@@ -1,9 +1,9 @@
 -- Lines that are known, and one that is learnt beside them.
-use Rattle.std.proofs.Common.{◌≡◌, ℕ, ◌+◌, ◌<◌, ◌≤◌, Bool, true, false, List, [], ◌∷◌, ◌++◌, All, length, take, get_or, cond, inl, inr, sym, ap, ◌∙◌, arith}
-use Rattle.std.specs.List.{filter}
+use Rattle.std.proofs.Common.{◌≡◌, ℕ, ◌+◌, ◌<◌, ◌≤◌, Bool, true, false, List, [], ◌∷◌, ◌++◌, All, length, take, get_or, cond, inl, inr, sym, subst, ap, ◌∙◌, arith}
+use Rattle.std.specs.List.{AllZip, filter}
 use Rattle.std.proofs.lemmas.Bool.{cases_lt}
-use Rattle.std.proofs.lemmas.List.{append-nil, length-append, length-take, take_all, take-append-le}
-use Rattle.std.proofs.lemmas.List.Elements.{All-cons, All-filter, All-get_or, All-push, All-same, All-take, filter_more}
+use Rattle.std.proofs.lemmas.List.{append-nil, get_or_default, length-append, length-take, take_all, take-append-le}
+use Rattle.std.proofs.lemmas.List.Elements.{All-cons, All-filter, All-get_or, All-push, All-same, All-take, all_zip_more, filter_more}
 use Rattle.text_lines.specs.declared.known.KnownLine.{KnownLine}
 use Rattle.text_lines.specs.declared.known_lines.TheConstants.{MOST_LINES}
 use Rattle.text_lines.specs.KnownLines.{IsLineOf, learnt, stays_beside}
@@ -52,27 +52,29 @@ learnt_past line known k d lt stays full =
 
 -- ---- the lines behind a change of the text, one after the other
 
--- of so many lines of a text these came out as lines of what the text became, and all of them where each stays
-pub record CameOut {X : Type 0} (Before : X → Type 0) (from after : X → List ℕ) (Stays : KnownLine → Type 0) (known : List KnownLine) (k : ℕ) (later : List KnownLine) : Type 0 where
+-- of the first k lines of a text these came out as lines of what the text became; where each stays, one of each, in order
+pub record CameOut {X : Type 0} (Before : X → Type 0) (from after : X → List ℕ) (Stays : KnownLine → Type 0) (Becomes : KnownLine → KnownLine → Type 0) (known : List KnownLine) (k : ℕ) (later : List KnownLine) : Type 0 where
   pub few : length later ≤ k
   pub lines : (x : X) → Before x → All (IsLineOf (from x)) known → All (IsLineOf (after x)) later
-  pub kept : All Stays known → length later ≡ k
+  pub kept : All Stays known → AllZip Becomes (take k known) later
 
 abbrev pub no_line : KnownLine
 no_line = record { start = 0; end = 0 }
 
-module _ {X : Type 0} {Before : X → Type 0} {from after : X → List ℕ} {Stays : KnownLine → Type 0} {known : List KnownLine} {k : ℕ} {old new : List KnownLine} where
+module _ {X : Type 0} {Before : X → Type 0} {from after : X → List ℕ} {Stays : KnownLine → Type 0} {Becomes : KnownLine → KnownLine → Type 0} {known : List KnownLine} {k : ℕ} {old new : List KnownLine} where
   pub one_out : {line : KnownLine} → new ≡ old ++ line ∷ [] → k < length known → ((x : X) → Before x → IsLineOf (from x) (get_or known k no_line) → IsLineOf (after x) line)
-      → CameOut Before from after Stays known k old → CameOut Before from after Stays known (k + 1) new
-  one_out {line} is lt law out =
+      → Becomes (get_or known k no_line) line → CameOut Before from after Stays Becomes known k old → CameOut Before from after Stays Becomes known (k + 1) new
+  one_out {line} is lt law becomes out =
       let long : length new ≡ length old + 1 = ap length is ∙ length-append old (line ∷ []) in
       record {
         few = omega (arith, long, out.few);
         lines = λ x before all. All-same (IsLineOf (after x)) new (old ++ line ∷ []) is (All-push (IsLineOf (after x)) old line (out.lines x before all) (law x before (All-get_or (IsLineOf (from x)) known k no_line lt all)));
-        kept = λ all. omega (arith, long, out.kept all);
+        kept = λ all.
+            subst (AllZip Becomes (take (k + 1) known)) (sym is)
+            (all_zip_more Becomes known old k (get_or known k no_line) line lt (get_or_default known k no_line (get_or known k no_line) lt) (out.kept all) becomes);
       }
 
-  pub one_lost : new ≡ old → k < length known → (Stays (get_or known k no_line) → ⊥) → CameOut Before from after Stays known k old → CameOut Before from after Stays known (k + 1) new
+  pub one_lost : new ≡ old → k < length known → (Stays (get_or known k no_line) → ⊥) → CameOut Before from after Stays Becomes known k old → CameOut Before from after Stays Becomes known (k + 1) new
   one_lost is lt lost out =
       let long : length new ≡ length old = ap length is in
       record {
@@ -80,3 +82,9 @@ module _ {X : Type 0} {Before : X → Type 0} {from after : X → List ℕ} {Sta
         lines = λ x before all. All-same (IsLineOf (after x)) new old is (out.lines x before all);
         kept = λ all. absurd (lost (All-get_or Stays known k no_line lt all));
       }
+
+-- behind the last of them each stayed
+pub each_stayed : {X : Type 0} {Before : X → Type 0} {from after : X → List ℕ} {Stays : KnownLine → Type 0} {Becomes : KnownLine → KnownLine → Type 0} (items known : List KnownLine) (k : ℕ) (later : List KnownLine) → items ≡ known → length items ≤ k
+    → CameOut Before from after Stays Becomes items k later → All Stays known → AllZip Becomes known later
+each_stayed {Stays = Stays} {Becomes = Becomes} items known k later is done out all =
+    subst (λ (xs : List KnownLine). AllZip Becomes xs later) (take_all k items done ∙ is) (out.kept (All-same Stays items known is all))

@@ -19,7 +19,7 @@ pub width_all : (xs : List ℕ) → Nowhere (Breaks xs) 0 (length xs) → length
 width_all xs none =
     sym (position_or_len_is is_break xs (length xs) 0 (omega arith) (λ j lt. false_from_ne_true (is_break (get_or xs j 0)) (λ yes. none j (omega arith) lt yes)) (λ lt. absurd (omega (arith, lt))))
 
--- the same behind the last break
+-- how many bytes stand behind the last break, and how many there are where there is none
 pub width_back : (xs : List ℕ) (k : ℕ) → NoneAfter (Breaks xs) 0 (length xs) k → Breaks xs k → length xs - (k + 1) ≡ suffix_len (λ b. not (is_break b)) xs
 width_back xs k none here =
     let at : k + 1 - 1 ≡ k = omega arith in

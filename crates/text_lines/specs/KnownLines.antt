@@ -1,7 +1,8 @@
 -- Lines of a text whose borders are known.
-use Rattle.std.specs.Prelude.{◌≡◌, ◌⊎◌, ℕ, ◌+◌, ◌-◌, ◌^◌, ◌<◌, ◌≤◌, Bool, true, false, not, ◌&&◌, ◌==◌, nat_le, List, ◌∷◌, All, Contains, length, take, get_or}
+use Rattle.std.specs.Prelude.{◌≡◌, ◌⊎◌, ℕ, ◌+◌, ◌-◌, ◌^◌, ◌<◌, ◌≤◌, Bool, true, false, not, ◌&&◌, ◌==◌, nat_le, List, [], ◌∷◌, All, Contains, length, take, get_or}
 use Rattle.std.specs.List.{filter}
 use Rattle.cord_search.specs.declared.runs.TheConstants.{PIECE}
+use Rattle.command_parts.specs.Commands.{replaced}
 use Rattle.text_lines.specs.declared.known.KnownLine.{KnownLine}
 use Rattle.text_lines.specs.declared.known.TheConstants.{VERY_LONG}
 use Rattle.text_lines.specs.declared.known_lines.KnownLines.{KnownLines}
@@ -46,13 +47,30 @@ stays_beside line other = not (other.start == line.start) && nat_le VERY_LONG (o
 abbrev pub learnt : KnownLine → List KnownLine → List KnownLine
 learnt line lines = take MOST_LINES (line ∷ filter (stays_beside line) lines)
 
--- a line that stays known behind so many bytes that are put in at this place: it ends before it, or it begins behind it, and its end still has a number
+-- a line that stays known when `put` bytes are put in at this place: it ends before the place, or it begins behind it,
+-- and its end still has a number
 abbrev pub StaysBeside : ℕ → ℕ → KnownLine → Type 0
 StaysBeside place put line =
     (line.end < place) ⊎ ((place < line.start) × (line.start ≤ line.end) × (line.end + put < 2 ^ 64))
 
--- a line that stays known behind so many bytes that go out at this place: none of them is a break of it
+-- a line that stays known when `count` bytes are taken out at this place: none of them is a break of it
 abbrev pub StaysCut : ℕ → ℕ → KnownLine → Type 0
 StaysCut place count line =
     (line.end < place) ⊎ ((line.start ≤ place) × (place + count ≤ line.end))
     ⊎ ((place + count < line.start) × (count ≤ line.end))
+
+-- what a line of a text becomes where a byte is put in at this place: one of the text behind it, whatever the text is
+abbrev pub IsTyped : ℕ → ℕ → KnownLine → KnownLine → Type 0
+IsTyped place byte line later =
+    (t : List ℕ) → place ≤ length t → IsLineOf t line → IsLineOf (replaced t place 0 (byte ∷ [])) later
+
+-- what it becomes where these bytes go out
+abbrev pub IsCut : ℕ → ℕ → KnownLine → KnownLine → Type 0
+IsCut place count line later =
+    (t : List ℕ) → place + count ≤ length t → IsLineOf t line → IsLineOf (replaced t place count []) later
+
+-- what it becomes where any bytes of this number are put in
+abbrev pub IsPasted : ℕ → ℕ → KnownLine → KnownLine → Type 0
+IsPasted place put line later =
+    (t bytes : List ℕ) → place ≤ length t → length bytes ≡ put → IsLineOf t line
+    → IsLineOf (replaced t place 0 bytes) later

@@ -35,7 +35,7 @@ cursor_at row column = control (decimal row ++ codes ";" ++ decimal column ++ co
 abbrev pub IsLineStart : List ℕ → ℕ → Type 0
 IsLineStart t s = 1 ≤ s → is_break (get_or t (s - 1) 0) ≡ true
 
--- the line that begins at top is so many above the one that begins at start
+-- the line that begins at top is `row` lines above the one that begins at start
 pub record IsAbove (t : List ℕ) (start top row : ℕ) : Type 0 where
   pub begins : IsLineStart t start → IsLineStart t top
   pub lines : IsLineStart t start → line_of t start ≡ line_of t top + row

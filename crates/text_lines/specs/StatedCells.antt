@@ -14,7 +14,7 @@ abbrev pub HaveOneSource : (ℕ → Cell) → ℕ → ℕ → Type 0
 HaveOneSource cell place count =
     (k : ℕ) → place ≤ k → k < place + count → cell_source (cell k) ≡ cell_source (cell place)
 
--- of so many cells these, count of them from this place on, are stated where all others are, whatever the sources state
+-- of `len` cells the `count` from this place on are stated where all others are, whatever the sources state
 abbrev pub AreToldByOthers : (ℕ → Cell) → ℕ → ℕ → ℕ → Type 0
 AreToldByOthers cell len place count =
     (st : Stated) → ((k : ℕ) → k < len → (k < place) ⊎ (place + count ≤ k) → IsStated st (cell k))

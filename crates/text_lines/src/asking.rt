@@ -1,4 +1,5 @@
-//! Asking for the blocks of a text's bytes, without the bytes: so they are read where a search through these bytes would read them.
+//! Asks for the blocks of a text's bytes, without the bytes: so blocks are read where a search through these bytes
+//! would read them.
 
 ghost use Rattle.std.specs.Prelude.{◌≡◌, ◌<◌, ◌≤◌, ◌+◌, ◌-◌, Some, length, OnOk};
 ghost use Rattle.rope_node.specs.declared.node.NodeView.TheVariants.{Src};
@@ -19,7 +20,7 @@ struct Block {
 }
 
 impl Block {
-    /// That of a place of a source.
+    /// The block of a place of a source.
     fn at(source: u32, place: u64) -> Block
         ensures { result ≡ block_at source place }
     {
@@ -30,7 +31,8 @@ impl Block {
     }
 }
 
-/// Reads the byte at `start` of a leaf, where the last byte that was read lies in another block. The leaf is of this source, from its place `a` on.
+/// Reads the byte at `start` of a leaf, unless the last byte that was read lies in the same block. The leaf is of this
+/// source, from its place `a` on.
 fn ask_byte<S: NodeSpace, T: Sources>(
     space: &S,
     sources: &mut T,
@@ -57,8 +59,8 @@ fn ask_byte<S: NodeSpace, T: Sources>(
     Ok(())
 }
 
-/// Asks for the blocks of the bytes that a leaf has from `start` on, `len` of them, which are fewer than a block's: one block or two. The leaf is of this
-/// source, from its place `a` on.
+/// Asks for the blocks of the first and of the last of the `len` bytes that a leaf has from `start` on: for all of
+/// their blocks, where they are no more than a block holds. The leaf is of this source, from its place `a` on.
 fn ask_leaf<S: NodeSpace, T: Sources>(
     space: &S,
     sources: &mut T,
@@ -84,7 +86,7 @@ fn ask_leaf<S: NodeSpace, T: Sources>(
     Ok(())
 }
 
-/// Asks for the blocks of the bytes of a node from `start` on, `len` of them, leaf by leaf. It goes down by calls of itself.
+/// Asks for the blocks of the `len` bytes of a node from `start` on, leaf by leaf. It goes down by calls of itself.
 fn ask_node<S: NodeSpace, T: Sources>(
     space: &S,
     sources: &mut T,
@@ -118,8 +120,9 @@ fn ask_node<S: NodeSpace, T: Sources>(
     }
 }
 
-/// Asks for the blocks of the bytes of a text from `start` up to `end`, leaf by leaf, in the order in which a read of these bytes would. Pieces of a
-/// source that are shorter than a block lie in one of them or in two, and a block that was just asked for is not asked for again.
+/// Asks for the blocks of the bytes of a text from `start` up to `end`, leaf by leaf, in the order in which a read of
+/// these bytes would: of each leaf for those of its first and its last byte there, which are all where the leaf has no
+/// more of the bytes than a block holds. A block that was just asked for is not asked for again.
 ///
 /// # Errors
 ///

@@ -32,8 +32,8 @@ fn start_among(held: &HeldBytes, place: u64) -> Option<u64>
     }
 }
 
-/// One behind the last line break below a place, or the text's start: among the held bytes, which reach from the window's first byte up to the place, or by
-/// a search from where no byte of the window's leaf can be one.
+/// One behind the last line break below a place, or the text's start: among the held bytes, which reach from the
+/// window's first byte up to the place, or by a search that passes over what in the window's leaf cannot be one.
 fn start_in_window<S: NodeSpace, T: Sources>(
     alloc: Global,
     held: &HeldBytes,
@@ -64,8 +64,9 @@ fn start_in_window<S: NodeSpace, T: Sources>(
     Ok(start)
 }
 
-/// One behind the last line break below a place, or the text's start, looked for. It asks for the blocks that a search would ask for, and looks among the bytes that are held; where no
-/// break is among them it holds more: the nearest, then the whole window.
+/// One behind the last line break below a place, or the text's start, by a search. It asks for the blocks that a search
+/// through the text would ask for, and looks among the bytes that are held. Where these have no break it holds more:
+/// the nearest, then the whole window.
 ///
 /// # Errors
 ///
@@ -107,7 +108,7 @@ fn find_start<S: NodeSpace, T: Sources>(
     Ok(start)
 }
 
-/// One behind the last line break below a place, or the text's start: as a line tells that is known, or looked for.
+/// One behind the last line break below a place, or the text's start: from a line that is known, or by a search.
 ///
 /// # Errors
 ///

@@ -15,8 +15,8 @@ use lazy_file::{SourceFault, Sources};
 use rope_node::{NodeSpace, Rope, rope_len};
 use std::alloc::Global;
 
-/// The first line break at a place or behind it, or the text's end. It reads the `PIECE` bytes from there on, which lie in one leaf, and holds them; where none
-/// of them is one, it searches on behind them.
+/// The first line break at a place or behind it, or the text's end. It reads the `PIECE` bytes from there on, which lie
+/// in one leaf, and holds them; where none of them is a break, it searches on behind them.
 fn look_behind<S: NodeSpace, T: Sources>(
     alloc: Global,
     held: &mut HeldBytes,
@@ -49,8 +49,8 @@ fn look_behind<S: NodeSpace, T: Sources>(
     Ok(end)
 }
 
-/// The first line break at a place or behind it, or the text's end, looked for. It looks among the bytes that are held first, and takes what they tell where a search would read
-/// nothing else.
+/// The first line break at a place or behind it, or the text's end, by a search. It looks among the bytes that are held
+/// first, and takes what they tell where a search through the text would read nothing else.
 ///
 /// # Errors
 ///
@@ -90,7 +90,7 @@ fn find_end<S: NodeSpace, T: Sources>(
     look_behind(alloc, held, space, sources, rope, start)
 }
 
-/// The first line break at a place or behind it, or the text's end: as a line tells that is known, or looked for.
+/// The first line break at a place or behind it, or the text's end: from a line that is known, or by a search.
 ///
 /// # Errors
 ///

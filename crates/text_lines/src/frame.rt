@@ -47,8 +47,8 @@ fn cursor(alloc: Global, row: u64, column: u64) -> Result<String, AllocError>
 
 /// What the screen shows of a rope's text about a place of it: 23 rows of 80 columns with the lines about that of the
 /// place, then the revision, the place, the text's length and the message, and the cursor at the place. It looks for
-/// no line break further than the twelfth above the place and the one behind the last row, and for none that a line tells which is known. Long ones that it shows are known
-/// behind it.
+/// line breaks from the twelfth above the place to the one behind the last row, but for those of lines that are known.
+/// Long lines that it shows are known from then on.
 ///
 /// # Errors
 ///

@@ -22,10 +22,10 @@ use rope_node::{NodeSpace, Rope, rope_len};
 use std::alloc::Global;
 use std::marker::Model;
 
-/// So many bytes are held at most: those that a search looks at at once, and the lines before them.
+/// The most bytes that are held: those that a search looks at at once, and the lines before them.
 const ROOM: usize = PIECE + 1_024;
 
-/// So many bytes before a place are held first where they lie in several leaves: mostly a line break is among them.
+/// How many bytes before a place are held first where they lie in several leaves: mostly a line break is among them.
 pub const NEAR: u64 = 1_024;
 
 /// Bytes of a text from a place on, and what is known of its lines.
@@ -34,7 +34,7 @@ pub struct HeldBytes {
     from: u64,
     /// They stand in the array from here on.
     start: usize,
-    /// They were read leaf by leaf, by blocks that are kept where a leaf has no more of them.
+    /// They were read leaf by leaf, by short reads, whose blocks are kept.
     kept: bool,
     /// The blocks from here on up to those of the bytes that are held were asked for.
     asked: u64,
@@ -62,7 +62,7 @@ impl Model for HeldBytes {
 }
 
 impl HeldBytes {
-    /// No bytes, but lines that are known.
+    /// Holds no bytes yet; these lines are known.
     pub fn new(known: KnownLines) -> HeldBytes
         ensures { result ≡ record { from = 0; bytes = []; begun = None; known = known } }
     {
@@ -94,8 +94,8 @@ impl HeldBytes {
         self.begun = Some(place);
     }
 
-    /// The line that begins at `start` ends at `end`, in a text of `len` bytes. Where a line is known to begin there, it is known from now on if it is long, and the
-    /// next one begins behind it.
+    /// The line that begins at `start` ends at `end`, in a text of `len` bytes. If that start was known, the line is
+    /// known from now on if it is long, and the next line begins behind it.
     pub fn pass_line(&mut self, start: u64, end: u64, len: u64)
         ensures bytes { self.new ≡ record self.old { begun = self.new.begun; known = self.new.known } }
         ensures held { (t : List ℕ) → AreHeld self.old t → start ≤ length t → end ≡ line_end t start → len ≡ length t
@@ -120,7 +120,7 @@ impl HeldBytes {
         self.from <= place && place - self.from <= (ROOM - self.start) as u64
     }
 
-    /// The bytes that are held before a place: none where that place is further than right behind the last of them.
+    /// The bytes that are held before a place: none where they end before it.
     pub fn up_to(&self, place: u64) -> &[u8]
         ensures { result.now ≡ held_up_to self.now place }
     {
@@ -142,7 +142,7 @@ impl HeldBytes {
         }
     }
 
-    /// Holds no bytes, but is ready for those before a place.
+    /// Drops what is held, to hold bytes before a place.
     fn begin_at(&mut self, place: u64)
         ensures { self.new ≡ record self.old { from = place; bytes = [] } }
     {
@@ -180,7 +180,8 @@ impl HeldBytes {
         Ok(())
     }
 
-    /// Reads the `PIECE` bytes before a place, and holds them alone. They lie in one leaf, so that they come by one read, and not by blocks that are kept.
+    /// Reads the `PIECE` bytes before a place, and holds nothing else. They lie in one leaf, so one long read brings
+    /// them, and no block of them is kept.
     ///
     /// # Errors
     ///
@@ -208,7 +209,8 @@ impl HeldBytes {
         Ok(())
     }
 
-    /// Whether only the bytes from `from` on before those that are held are read: where these reach up to `end`, came by blocks that are kept, and there is room.
+    /// Whether it is enough to read the bytes from `from` up to the first that is held: what is held reaches up to
+    /// `end` and came by blocks that are kept, and there is room.
     fn takes_before(&self, from: u64, end: u64) -> bool
         ensures reaches { IsTrue result → (self.now.from ≤ end × end ≤ self.now.from + length self.now.bytes) }
         ensures room { IsTrue result → self.now.from - from + length self.now.bytes ≤ ROOM }
@@ -216,7 +218,8 @@ impl HeldBytes {
         self.kept && self.reaches(end) && self.from.saturating_sub(from) <= self.start as u64
     }
 
-    /// Holds the nearest of the `PIECE` bytes before a place alone, and asks for the blocks of those before them, from the first on.
+    /// Holds the `NEAR` bytes before a place and nothing else. Before that it asks for the blocks of the rest of the
+    /// `PIECE` bytes before the place, from the first on.
     fn begin_near<S: NodeSpace, T: Sources>(
         &mut self,
         space: &S,
@@ -241,8 +244,9 @@ impl HeldBytes {
         Ok(())
     }
 
-    /// Asks for the blocks of the `PIECE` bytes before a place, or of all where there are fewer, from the first on: not again for bytes that it asked for on the way to
-    /// those that are held, and for none where the bytes lie in one leaf, which `straight` says. Where none are held it holds the nearest.
+    /// Asks for the blocks of the `PIECE` bytes before a place, from the first on, or of all where there are fewer.
+    /// Blocks that were asked for on the way to what is held are not asked for again, and none are where the bytes lie
+    /// in one leaf (`straight`). Where nothing is held up to the place, it holds the nearest bytes.
     ///
     /// # Errors
     ///
@@ -275,8 +279,9 @@ impl HeldBytes {
         Ok(())
     }
 
-    /// Holds the `count` bytes before a place, at most `PIECE`, or all where there are fewer: where the `PIECE` bytes before it lie in one leaf, which `straight` says, by one
-    /// read of these. Else it reads leaf by leaf, by blocks that are kept. Of bytes that are held already and came so it reads none again.
+    /// Holds the `count` bytes before a place, at most `PIECE`, or all where there are fewer. Where the `PIECE` bytes
+    /// before it lie in one leaf (`straight`), one read brings these; elsewhere it reads leaf by leaf, by blocks that
+    /// are kept, and no byte again that is held and came so.
     ///
     /// # Errors
     ///
@@ -314,7 +319,7 @@ impl HeldBytes {
         self.read_before(space, sources, rope, from)
     }
 
-    /// So many bytes from a place on, where these are held and came by blocks that are kept.
+    /// The `count` bytes from a place on, where these are held and came by blocks that are kept.
     pub fn kept_part(&self, place: u64, count: usize) -> Option<&[u8]>
         ensures count { IfSome result (λ part. length part.now ≡ count) }
         ensures bytes { IfSome result (λ part. (t : List ℕ) → AreHeld self.now t
@@ -328,7 +333,7 @@ impl HeldBytes {
         }
     }
 
-    /// How many bytes the leaf at a place has from there on. It goes down to it where the leaf before was another one.
+    /// How many bytes the leaf at a place has from there on. The leaf that was looked for last is known.
     pub fn leaf_left<S: NodeSpace>(
         &mut self,
         alloc: Global,
@@ -375,8 +380,8 @@ impl HeldBytes {
         self.leaf_left(alloc, space, rope, from) >= window
     }
 
-    /// Whether a search from `start` on for the line break at `end`, which is held, would read nothing else: where it is one read, or where the bytes that are held came
-    /// by blocks that are kept, up to the end of the break's leaf.
+    /// Whether a search from `start` on for the line break at `end`, which is held, would read nothing else: it is one
+    /// read, or the bytes that are held came by blocks that are kept, up to the end of the break's leaf.
     pub fn tells<S: NodeSpace>(
         &mut self,
         alloc: Global,
@@ -392,7 +397,7 @@ impl HeldBytes {
     {
         let len = rope_len(space, rope);
         if self.kept {
-            // The leaf of the last byte that is held tells it of every break: each leaf before that one is held to its end.
+            // The leaf of the last byte that is held tells it of every break: each leaf before it is held to its end.
             let held_end = len.min(self.from.saturating_add((ROOM - self.start) as u64));
             self.leaf_left(alloc, space, rope, held_end.saturating_sub(1));
             if end < self.leaf_start || self.leaf_end <= held_end {

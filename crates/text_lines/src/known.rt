@@ -4,8 +4,7 @@ ghost use Rattle.std.specs.Prelude.{◌≡◌, ◌↔◌, ◌<◌, ◌≤◌, �
 ghost use Rattle.rope_node.specs.Denotes.{IsRope, rope_len};
 ghost use Rattle.cord_position.specs.Fetched.{rope_cell};
 ghost use Rattle.cord_search.specs.declared.runs.TheConstants.{PIECE};
-ghost use Rattle.span_certificate.specs.Commands.{replaced};
-ghost use Rattle.text_lines.specs.KnownLines.{IsAbout, IsLineOf, StaysBeside, StaysCut, stays_beside};
+ghost use Rattle.text_lines.specs.KnownLines.{IsAbout, IsCut, IsPasted, IsTyped, StaysBeside, StaysCut, stays_beside};
 ghost use Rattle.text_lines.specs.StatedCells.{AreToldByOthers, HaveOneSource, cell_source};
 
 use crate::lines::LINE_BREAK;
@@ -14,7 +13,7 @@ use cord_search::PIECE;
 use rope_node::{NodeSpace, NodeView, Rope, find_leaf, rope_len};
 use std::alloc::Global;
 
-/// A line of so many bytes stays known when another one is shown.
+/// A line of at least this length stays known when another one is shown.
 const VERY_LONG: u64 = 65_536;
 
 /// A line of a text: where it begins, and the place of the break behind it, or the text's end.
@@ -32,24 +31,23 @@ impl KnownLine {
         self.end.saturating_sub(self.start) > PIECE as u64
     }
 
-    /// Whether it is, and holds a place, its end too.
+    /// Whether it is long, and a place lies in it or is its end.
     pub(crate) fn is_about(self, place: u64) -> bool
         ensures { IsTrue result ↔ IsAbout place self }
     {
         self.is_long() && self.start <= place && place <= self.end
     }
 
-    /// Whether it stays known behind another one that was shown: where it is another one, and very long.
+    /// Whether it stays known when another line is shown: that is a different one, and this one is very long.
     pub(crate) fn stays_beside(self, shown: KnownLine) -> bool
         ensures { result ≡ stays_beside shown self }
     {
         self.start != shown.start && self.end.saturating_sub(self.start) >= VERY_LONG
     }
 
-    /// The line behind a byte that is put in at a place. A line break parts it: the longer part stays known.
+    /// The line after a byte is put in at a place. A line break parts it: the longer part stays known.
     pub fn typed(self, place: u64, byte: u8) -> Option<KnownLine>
-        ensures line { IfSome result (λ line. (t : List ℕ) → place ≤ length t → IsLineOf t self
-            → IsLineOf (replaced t place 0 (byte ∷ [])) line) }
+        ensures line { IfSome result (IsTyped place byte self) }
         ensures kept { self.start ≤ self.end → self.end + 1 < 2 ^ 64 → IsSome result }
     {
         let after = KnownLine {
@@ -80,10 +78,10 @@ impl KnownLine {
         })
     }
 
-    /// The line behind so many bytes that go out at a place. It is not known where the break before it or behind it is one of them.
+    /// The line after `count` bytes are taken out at a place. It is forgotten where the break before it or behind it is
+    /// one of them.
     pub fn cut(self, place: u64, count: u64) -> Option<KnownLine>
-        ensures line { IfSome result (λ line. (t : List ℕ) → place + count ≤ length t → IsLineOf t self
-            → IsLineOf (replaced t place count []) line) }
+        ensures line { IfSome result (IsCut place count self) }
         ensures kept { StaysCut place count self → IsSome result }
     {
         if self.end < place {
@@ -105,10 +103,10 @@ impl KnownLine {
         })
     }
 
-    /// The line behind so many bytes that are put in at a place, whatever they are. It is not known where they are put into it, or at one of its ends.
+    /// The line after `put` bytes are put in at a place, whatever they are. It is forgotten where they are put into it,
+    /// or at one of its ends.
     pub fn pasted(self, place: u64, put: u64) -> Option<KnownLine>
-        ensures line { IfSome result (λ line. (t bytes : List ℕ) → place ≤ length t → length bytes ≡ put
-            → IsLineOf t self → IsLineOf (replaced t place 0 bytes) line) }
+        ensures line { IfSome result (IsPasted place put self) }
         ensures kept { StaysBeside place put self → IsSome result }
     {
         if self.end < place {
@@ -124,7 +122,7 @@ impl KnownLine {
     }
 }
 
-/// The source whose byte stands at a place of a rope, or none where the byte is one of no source.
+/// The source whose byte stands at a place of a rope, if it is a source's.
 fn source_at<S: NodeSpace>(space: &S, rope: Rope, place: u64) -> Option<u32>
     requires rope { IsRope (S.table space.now) rope }
     requires inside { place < rope_len (S.table space.now) rope }
@@ -139,7 +137,7 @@ fn source_at<S: NodeSpace>(space: &S, rope: Rope, place: u64) -> Option<u32>
     }
 }
 
-/// Whether so many bytes from a place on are of one leaf, and so of one source or of none.
+/// Whether `count` bytes from a place on are of one leaf, and so of one source or of none.
 fn are_of_one_leaf<S: NodeSpace>(
     alloc: Global,
     space: &S,
@@ -159,7 +157,8 @@ fn are_of_one_leaf<S: NodeSpace>(
     count <= left
 }
 
-/// Whether so many bytes from a place on are of one leaf, and that is of no source, or of the same as a byte beside them: then they are stated where all others are.
+/// Whether `count` bytes from a place on are of one leaf, and it is of no source, or of the source of a byte beside
+/// them. Then they are stated where all other bytes are.
 pub fn are_told_by_others<S: NodeSpace>(
     alloc: Global,
     space: &S,

@@ -1,25 +1,26 @@
 //! The lines of a text whose borders are known, so that none of them is searched through again.
 
 ghost use Rattle.std.specs.Prelude.{◌≡◌, ◌↔◌, ◌<◌, ◌≤◌, ◌+◌, ◌-◌, ◌^◌, ◌++◌, ◌∷◌, [], ℕ, List, All, length, IfSome, IsSome, IsTrue};
+ghost use Rattle.std.specs.List.{AllZip};
 ghost use Rattle.cord_search.specs.declared.runs.TheConstants.{PIECE};
-ghost use Rattle.span_certificate.specs.Commands.{replaced};
+ghost use Rattle.command_parts.specs.Commands.{replaced};
 ghost use Rattle.text_lines.specs.declared.known.KnownLine.{KnownLine};
 ghost use Rattle.text_lines.specs.declared.known_lines.TheConstants.{MOST_LINES};
-ghost use Rattle.text_lines.specs.KnownLines.{HoldsLine, HoldsPlace, IsKnownIn, StaysBeside, StaysCut, known_lines, learnt};
+ghost use Rattle.text_lines.specs.KnownLines.{HoldsLine, HoldsPlace, IsCut, IsKnownIn, IsPasted, IsTyped, StaysBeside, StaysCut, known_lines, learnt};
 
 use crate::known::KnownLine;
 
-/// So many lines are known at most: those of a screen, and one beside them.
+/// The most lines that are known: those of a screen, and one beside them.
 const MOST_LINES: usize = 24;
 
-/// Lines of a text that are known: first the long one that was shown last, then very long ones that were shown before it.
+/// Lines of a text that are known: first the long one that was shown last, then very long ones that were shown before.
 #[derive(Clone, Copy, Debug)]
 pub struct KnownLines {
     lines: [KnownLine; MOST_LINES],
     count: usize,
 }
 
-/// The first of these lines that is longer than what is searched through at once, and holds a place, its end too.
+/// The first of these lines that is longer than what is searched through at once, and in which a place lies or ends.
 fn line_about(lines: &[KnownLine], place: u64) -> Option<KnownLine>
     ensures holds { IfSome result (HoldsLine lines.now place) }
     ensures all { (line : KnownLine) → HoldsLine lines.now place line → IsSome result }
@@ -71,7 +72,7 @@ impl KnownLines {
         self.count += 1;
     }
 
-    /// A line that is known, is longer than what is searched through at once, and holds a place, its end too.
+    /// A line that is known, is longer than what is searched through at once, and has a place in it or as its end.
     pub(crate) fn about(&self, place: u64) -> Option<KnownLine>
         ensures holds { IfSome result (HoldsPlace self.now place) }
         ensures all { (line : KnownLine) → HoldsPlace self.now place line → IsSome result }
@@ -79,7 +80,8 @@ impl KnownLines {
         line_about(self.lines(), place)
     }
 
-    /// A line was shown: it is known if it is longer than what is searched through at once, and then of the others those that are very long, as far as there is room.
+    /// A line was shown: it is known from now on if it is longer than what is searched through at once. Of the others
+    /// those that are very long stay, as far as there is room.
     pub(crate) fn learn(&mut self, line: KnownLine)
         ensures long { PIECE < line.end - line.start
             → known_lines self.new ≡ learnt line (known_lines self.old) }
@@ -98,12 +100,13 @@ impl KnownLines {
         *self = later;
     }
 
-    /// The lines behind a byte that is put in at a place. A line break parts the one that it is put into: the longer part stays known.
+    /// The lines after a byte is put in at a place. A line break parts the line that it is put into: the longer part
+    /// stays known.
     pub fn typed(&self, place: u64, byte: u8) -> KnownLines
         ensures lines { (t : List ℕ) → place ≤ length t → IsKnownIn self.now t
             → IsKnownIn result (replaced t place 0 (byte ∷ [])) }
         ensures kept { All (λ line. (line.start ≤ line.end) × (line.end + 1 < 2 ^ 64)) (known_lines self.now)
-            → length (known_lines result) ≡ length (known_lines self.now) }
+            → AllZip (IsTyped place byte) (known_lines self.now) (known_lines result) }
     {
         let mut later = KnownLines::none();
         for line in self.lines() {
@@ -114,12 +117,13 @@ impl KnownLines {
         later
     }
 
-    /// The lines behind so many bytes that go out at a place. One is not known where the break before it or behind it is one of them.
+    /// The lines after `count` bytes are taken out at a place. A line is forgotten where the break before it or behind
+    /// it is one of them.
     pub fn cut(&self, place: u64, count: u64) -> KnownLines
         ensures lines { (t : List ℕ) → place + count ≤ length t → IsKnownIn self.now t
             → IsKnownIn result (replaced t place count []) }
         ensures kept { All (StaysCut place count) (known_lines self.now)
-            → length (known_lines result) ≡ length (known_lines self.now) }
+            → AllZip (IsCut place count) (known_lines self.now) (known_lines result) }
     {
         let mut later = KnownLines::none();
         for line in self.lines() {
@@ -130,12 +134,13 @@ impl KnownLines {
         later
     }
 
-    /// The lines behind so many bytes that are put in at a place, whatever they are. The one that they are put into is not known.
+    /// The lines after `put` bytes are put in at a place, whatever they are. The line that they are put into is
+    /// forgotten.
     pub fn pasted(&self, place: u64, put: u64) -> KnownLines
         ensures lines { (t bytes : List ℕ) → place ≤ length t → length bytes ≡ put → IsKnownIn self.now t
             → IsKnownIn result (replaced t place 0 bytes) }
         ensures kept { All (StaysBeside place put) (known_lines self.now)
-            → length (known_lines result) ≡ length (known_lines self.now) }
+            → AllZip (IsPasted place put) (known_lines self.now) (known_lines result) }
     {
         let mut later = KnownLines::none();
         for line in self.lines() {

@@ -16,7 +16,7 @@ use std::alloc::Global;
 /// The byte that ends a line.
 pub const LINE_BREAK: u8 = 0x0A;
 
-/// One behind the last line break below a place, or the text's start, which a line that is known tells without a search.
+/// One behind the last line break below a place, or the text's start; a line that is known tells it without a search.
 ///
 /// # Errors
 ///
@@ -51,7 +51,7 @@ pub fn line_start<S: NodeSpace, T: Sources>(
     }
 }
 
-/// The first line break at a place or behind it, or the text's end, which a line that is known tells without a search.
+/// The first line break at a place or behind it, or the text's end; a line that is known tells it without a search.
 ///
 /// # Errors
 ///
@@ -81,7 +81,7 @@ pub fn line_end<S: NodeSpace, T: Sources>(
     }
 }
 
-/// The same by a search, with a buffer that is handed in.
+/// The first line break at a place or behind it, or the text's end, by a search, with a buffer that is handed in.
 ///
 /// # Errors
 ///

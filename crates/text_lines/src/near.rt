@@ -14,7 +14,7 @@ use lazy_file::{SourceFault, Sources};
 use memchr::{memchr, memrchr};
 use rope_node::{NodeSpace, Rope, rope_len};
 
-/// Reads the bytes of a text from `start` on into the whole of the buffer, as a search does it: leaf by leaf, those of one leaf by one read.
+/// Reads the bytes of a text from `start` on into the whole of the buffer, as a search does: by one read for each leaf.
 ///
 /// # Errors
 ///

@@ -17,10 +17,10 @@ use lazy_file::Sources;
 use rope_node::{NodeSpace, Rope, rope_len};
 use std::alloc::{AllocError, Global};
 
-/// So many lines of the text are shown.
+/// How many lines of the text are shown.
 const SCREEN_ROWS: u32 = 23;
 
-/// So many bytes of a line are shown.
+/// How many bytes of a line are shown.
 pub const SCREEN_COLUMNS: u64 = 80;
 
 /// A byte that can be shown, or `?` in its place.
@@ -71,7 +71,8 @@ fn push_part<S: NodeSpace, T: Sources>(
     Ok(())
 }
 
-/// Appends the same bytes part by part: so many that the last one of a part is the first for which `out` takes memory, which it does behind the read of that byte.
+/// Appends the bytes from `start` up to `end` part by part, as they are shown. A part ends with the first byte for
+/// which `out` takes memory, so memory is asked for after that byte is read.
 fn push_parts<S: NodeSpace, T: Sources>(
     space: &S,
     sources: &mut T,
@@ -99,7 +100,8 @@ fn push_parts<S: NodeSpace, T: Sources>(
     Ok(())
 }
 
-/// Appends the same bytes: those that are held, where the blocks that they lie in were read for them, and else part by part.
+/// Appends the bytes from `start` up to `end`, as they are shown: from what is held, where that came by blocks that are
+/// kept; elsewhere part by part.
 fn push_row<S: NodeSpace, T: Sources>(
     held: &HeldBytes,
     space: &S,
@@ -169,7 +171,7 @@ fn push_line<S: NodeSpace, T: Sources>(
     Ok(next)
 }
 
-/// Appends the same of the line that begins at `start`, or nothing behind the last line.
+/// Appends what is shown of the line that begins at `start`, or nothing behind the last line.
 fn push_line_at<S: NodeSpace, T: Sources>(
     alloc: Global,
     held: &mut HeldBytes,
@@ -197,7 +199,8 @@ fn push_line_at<S: NodeSpace, T: Sources>(
     }
 }
 
-/// Appends the rows of the screen: its first line begins at `top`, and its first column is `left`. It looks among the bytes that are held first.
+/// Appends the rows of the screen: its first line begins at `top`, and its first column is `left`. Line ends are looked
+/// for among the bytes that are held first.
 ///
 /// # Errors
 ///

@@ -14,7 +14,7 @@ use lazy_file::{SourceFault, Sources};
 use rope_node::{NodeSpace, Rope, rope_len};
 use std::alloc::Global;
 
-/// How many lines stand above the cursor's, where there are so many.
+/// The most lines that stand above the cursor's.
 const LINES_ABOVE: u64 = 11;
 
 /// Where the screen's first line begins, and where the cursor stands.

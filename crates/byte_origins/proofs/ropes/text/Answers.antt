@@ -1,6 +1,6 @@
 use Rattle.std.proofs.Common.{◌≡◌, ℕ, List, ◌∷◌, ◌++◌, take, drop, Option, sym, ap, ◌∙◌, subst, arith}
 use Rattle.rope_node.specs.declared.node.NodeId.{NodeId}
-use Rattle.span_certificate.specs.declared.part.Part.{Part}
+use Rattle.command_parts.specs.declared.part.Part.{Part}
 use Rattle.image_reader.specs.Value.{ImageValue}
 use Rattle.byte_origins.specs.declared.taking.CameFrom.{CameFrom}
 use Rattle.byte_origins.specs.Origins.{origins_at}

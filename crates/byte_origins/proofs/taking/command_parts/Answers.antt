@@ -1,7 +1,7 @@
 use Rattle.std.proofs.Common.{◌≡◌, ℕ, List, ap, ◌∙◌, subst}
-use Rattle.span_certificate.specs.declared.part.Part.{Part}
-use Rattle.span_certificate.specs.Commands.{full_edit}
-use Rattle.span_certificate.specs.Parts.{parts_of}
+use Rattle.command_parts.specs.declared.part.Part.{Part}
+use Rattle.command_parts.specs.Commands.{full_edit}
+use Rattle.command_parts.specs.Parts.{parts_of}
 use Rattle.image_reader.specs.declared.revision.Revision.{Revision}
 use Rattle.image_reader.specs.Value.{ImageValue, IsImage}
 use Rattle.image_reader.specs.Accepted.{revision_at}

@@ -1,5 +1,5 @@
 use Rattle.std.proofs.Common.{◌≡◌, length}
-use Rattle.span_certificate.specs.Parts.{part_at}
+use Rattle.command_parts.specs.Parts.{part_at}
 use Rattle.byte_origins.proofs.taking.held.Given as goal
 
 abbrev pub invariant-loop-part : goal.invariant-loop-part

@@ -1,6 +1,6 @@
 use Rattle.std.proofs.Common.{◌≡◌, ℕ, List, Option, Some, None, sym, ap, ◌∙◌}
-use Rattle.span_certificate.specs.declared.part.Part.{Part}
-use Rattle.span_certificate.specs.Parts.{part_at}
+use Rattle.command_parts.specs.declared.part.Part.{Part}
+use Rattle.command_parts.specs.Parts.{part_at}
 use Rattle.byte_origins.specs.EarlierTexts.{texts_parts}
 use Rattle.byte_origins.proofs.TakenParts.{held_place, held_there, taken_is}
 use Rattle.byte_origins.proofs.taking.taken.Goals as goal

@@ -11,8 +11,8 @@ returns-in-Ok-changes-clause-text g c = λ source agrees stated.
     let t = g.S.NodeSpace.table c.args.space.now in
     let file = c.args.file.now in
     let len : ℕ = rope_len t c.args.rope in
-    let front : ℕ = c.in-Ok.ends.0 in
-    let back : ℕ = c.in-Ok.ends.1 in
+    let front : ℕ = c.in-Ok.ends.front in
+    let back : ℕ = c.in-Ok.ends.back in
     let middle = c.in_ok-middle.middle in
     let found : Found = record { front = front; end = length file - back; middle = middle; changes = c.in-Ok-changes.changes } in
     let u = text source (rope_cells t c.args.rope) in

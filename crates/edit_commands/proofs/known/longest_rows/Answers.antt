@@ -3,12 +3,12 @@ use Rattle.std.specs.Prelude.{IfOk}
 use Rattle.function_leaf.specs.Coded.{coded_byte}
 use Rattle.node_table.specs.Held.{table_of, coded_at}
 use Rattle.rope_node.specs.Denotes.{rope_cells}
-use Rattle.span_certificate.specs.declared.part.Part.{Part}
+use Rattle.command_parts.specs.declared.part.Part.{Part}
 use Rattle.span_certificate.specs.declared.row.Row.{Row}
-use Rattle.span_certificate.specs.Commands.{FullEdit, full_edit, with_splices}
+use Rattle.command_parts.specs.Commands.{FullEdit, full_edit, with_splices}
 use Rattle.span_certificate.specs.Covers.{CoversAnyhow}
 use Rattle.span_certificate.specs.Longest.{AreLongest, IsCutShort}
-use Rattle.span_certificate.specs.Parts.{parts_of, parts_cells, IsInRange}
+use Rattle.command_parts.specs.Parts.{parts_of, parts_cells, IsInRange}
 use Rattle.edit_commands.specs.Session.{roots_of, splices_held}
 use Rattle.edit_commands.proofs.KnownRows.{covers_anyhow, certified_cells, certified_so}
 use Rattle.edit_commands.proofs.RevisionLists.{are_ropes}

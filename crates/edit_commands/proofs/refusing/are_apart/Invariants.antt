@@ -1,5 +1,5 @@
 use Rattle.std.proofs.Common.{◌≡◌, ◌-◌, map, drop}
-use Rattle.span_certificate.specs.Commands.{are_apart}
+use Rattle.command_parts.specs.Commands.{are_apart}
 use Rattle.edit_commands.specs.Refusals.{unplaced}
 use Rattle.edit_commands.proofs.refusing.are_apart.Given as goal
 

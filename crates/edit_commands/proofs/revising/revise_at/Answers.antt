@@ -4,7 +4,7 @@ use Rattle.std.proofs.lemmas.Bool.{ltb-false}
 use Rattle.std.proofs.lemmas.Result.{err_from_is_err_and}
 use Rattle.edit_commands.specs.declared.fault.EditFault.{EditFault}
 use Rattle.edit_commands.specs.declared.revision.Revision.{Revision}
-use Rattle.span_certificate.specs.declared.edit.TheConstants.{SPLICES_LIMIT}
+use Rattle.command_parts.specs.declared.edit.TheConstants.{SPLICES_LIMIT}
 use Rattle.edit_commands.specs.Applying.{Revises}
 use Rattle.edit_commands.specs.Building.{edit_with}
 use Rattle.edit_commands.specs.Codes.{rope_fault, rows_fault}

@@ -1,10 +1,10 @@
 use Rattle.std.proofs.Common.{List, length, ap, subst, ◌∙◌}
 use Rattle.function_leaf.specs.Coded.{coded_byte}
 use Rattle.node_table.specs.Held.{table_of, coded_at}
-use Rattle.span_certificate.specs.declared.edit.Splice.{Splice}
-use Rattle.span_certificate.specs.declared.part.Part.{Part}
-use Rattle.span_certificate.specs.Commands.{full_edit}
-use Rattle.span_certificate.specs.Parts.{parts_of}
+use Rattle.command_parts.specs.declared.edit.Splice.{Splice}
+use Rattle.command_parts.specs.declared.part.Part.{Part}
+use Rattle.command_parts.specs.Commands.{full_edit}
+use Rattle.command_parts.specs.Parts.{parts_of}
 use Rattle.edit_commands.specs.Applying.{MakesRows}
 use Rattle.edit_commands.specs.Building.{edit_with}
 use Rattle.edit_commands.specs.Session.{roots_of}

@@ -1,6 +1,6 @@
 use Rattle.std.proofs.Common.{◌≡◌, ◌<◌, length, ap, ◌∙◌, rules, Err}
 use Rattle.edit_commands.specs.declared.fault.EditFault.{EditFault}
-use Rattle.span_certificate.specs.Commands.{named_splices}
+use Rattle.command_parts.specs.Commands.{named_splices}
 use Rattle.span_certificate.specs.Covers.{MeetsNoSource}
 use Rattle.span_certificate.specs.Verdicts.{SameStated}
 use Rattle.image_reader.specs.declared.revision.Revision.{Revision}

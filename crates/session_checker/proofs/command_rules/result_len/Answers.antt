@@ -1,10 +1,10 @@
 use Rattle.std.proofs.Common.{◌≡◌, length, take, drop, ap, ◌∙◌, arith}
 use Rattle.std.specs.List.{sum_by}
 use Rattle.rope_node.specs.Denotes.{rope_len}
-use Rattle.span_certificate.specs.declared.edit.Splice.{Splice}
-use Rattle.span_certificate.specs.Commands.{Many}
-use Rattle.span_certificate.specs.Parts.{root_at, len_of, parts_len, nonempty, pieces, IsInRange}
-use Rattle.span_certificate.proofs.SplicedTexts.{are_splices}
+use Rattle.command_parts.specs.declared.edit.Splice.{Splice}
+use Rattle.command_parts.specs.Commands.{Many}
+use Rattle.command_parts.specs.Parts.{root_at, len_of, parts_len, nonempty, pieces, IsInRange}
+use Rattle.command_parts.proofs.SplicedTexts.{are_splices}
 use Rattle.session_checker.proofs.SpliceSteps.{follow_sum}
 use Rattle.session_checker.proofs.ResultLengths.{spliced_len, len_so}
 use Rattle.session_checker.proofs.command_rules.result_len.Goals as goal

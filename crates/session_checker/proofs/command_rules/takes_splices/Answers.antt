@@ -2,10 +2,10 @@ use Rattle.std.proofs.Common.{◌≡◌, length, take, drop, sym, ap, ◌∙◌,
 use Rattle.std.specs.Prelude.{IsTrue}
 use Rattle.std.specs.List.{sum_by}
 use Rattle.rope_node.specs.Denotes.{rope_len}
-use Rattle.span_certificate.specs.declared.edit.Splice.{Splice}
-use Rattle.span_certificate.specs.Commands.{can_splice}
-use Rattle.span_certificate.specs.Parts.{len_of}
-use Rattle.span_certificate.proofs.SplicedTexts.{are_splices}
+use Rattle.command_parts.specs.declared.edit.Splice.{Splice}
+use Rattle.command_parts.specs.Commands.{can_splice}
+use Rattle.command_parts.specs.Parts.{len_of}
+use Rattle.command_parts.proofs.SplicedTexts.{are_splices}
 use Rattle.session_checker.proofs.SpliceSteps.{follow_sum, short_so}
 use Rattle.session_checker.proofs.command_rules.takes_splices.Goals as goal
 

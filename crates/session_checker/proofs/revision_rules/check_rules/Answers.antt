@@ -1,5 +1,5 @@
 use Rattle.std.proofs.Common.{sym, subst}
-use Rattle.span_certificate.specs.Commands.{NamesSplices}
+use Rattle.command_parts.specs.Commands.{NamesSplices}
 use Rattle.image_reader.specs.declared.revision.Revision.{Revision}
 use Rattle.session_checker.proofs.EarlierRevisions.{names_there}
 use Rattle.session_checker.proofs.revision_rules.check_rules.Goals as goal

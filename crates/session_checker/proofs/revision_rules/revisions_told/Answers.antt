@@ -1,6 +1,6 @@
 use Rattle.std.proofs.Common.{◌≡◌, ◌+◌, ◌<◌, length, refl, ap, sym, ◌∙◌, arith, below_more}
 use Rattle.std.proofs.lemmas.Result.{err_from_is_err_and}
-use Rattle.span_certificate.specs.Fields.{splices_of}
+use Rattle.command_parts.specs.Fields.{splices_of}
 use Rattle.image_reader.specs.declared.revision.Revision.{Revision}
 use Rattle.image_reader.specs.Accepted.{revision_at, rows_before}
 use Rattle.session_checker.specs.RevisionRules.{IsGoodOver, source_fault}

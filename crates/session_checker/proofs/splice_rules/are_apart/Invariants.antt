@@ -1,5 +1,5 @@
 use Rattle.std.proofs.Common.{◌≡◌, ◌+◌, ◌-◌, ◌∷◌, take, drop}
-use Rattle.span_certificate.specs.Commands.{are_apart}
+use Rattle.command_parts.specs.Commands.{are_apart}
 use Rattle.session_checker.proofs.splice_rules.are_apart.Given as goal
 
 abbrev pub invariant-loop-i : goal.invariant-loop-i

@@ -1,6 +1,6 @@
 use Rattle.std.proofs.Common.{◌≡◌, ◌+◌, ◌-◌, take, drop}
 use Rattle.std.specs.List.{list_all}
-use Rattle.span_certificate.specs.Commands.{is_splice}
+use Rattle.command_parts.specs.Commands.{is_splice}
 use Rattle.session_checker.proofs.splice_rules.are_splices.Given as goal
 
 abbrev pub invariant-loop-i : goal.invariant-loop-i

@@ -1,8 +1,8 @@
 use Rattle.std.proofs.Common.{◌≡◌, ◌+◌, ◌≤◌, Option, Some, ap, ◌∙◌, arith}
 use Rattle.rope_node.specs.Denotes.{rope_len}
-use Rattle.span_certificate.specs.declared.part.Part.{Part}
-use Rattle.span_certificate.specs.Parts.{part_len, part_at}
-use Rattle.span_certificate.specs.Places.{held}
+use Rattle.command_parts.specs.declared.part.Part.{Part}
+use Rattle.command_parts.specs.Parts.{part_len, part_at}
+use Rattle.command_parts.specs.Places.{held}
 use Rattle.span_certificate.proofs.Verdicts.{row_tells, joined_compare}
 use Rattle.span_certificate.proofs.cover.row_fits.Goals as goal
 

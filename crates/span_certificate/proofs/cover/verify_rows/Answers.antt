@@ -1,8 +1,8 @@
 use Rattle.std.proofs.Common.{◌≡◌, ◌+◌, ◌<◌, length, Option, Some, refl, sym, subst, ◌∙◌, arith}
-use Rattle.span_certificate.specs.declared.part.Part.{Part}
-use Rattle.span_certificate.specs.Places.{IsAt}
+use Rattle.command_parts.specs.declared.part.Part.{Part}
+use Rattle.command_parts.specs.Places.{IsAt}
 use Rattle.span_certificate.proofs.RowLooks.{looks_more, looks_within}
-use Rattle.span_certificate.proofs.PartPlaces.{at_part, at_is_part, at_inside_parts, at_whole}
+use Rattle.command_parts.proofs.PartPlaces.{at_part, at_is_part, at_inside_parts, at_whole}
 use Rattle.span_certificate.proofs.Verdicts.{verifying_more, verifying_none, answers_unfit, answers_whole, answers_left, row_asks}
 use Rattle.span_certificate.proofs.MadeRows.{shows_same}
 use Rattle.span_certificate.proofs.cover.verify_rows.Goals as goal

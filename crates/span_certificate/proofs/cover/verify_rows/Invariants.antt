@@ -1,5 +1,5 @@
 use Rattle.std.proofs.Common.{◌≡◌, ◌+◌, ◌≤◌}
-use Rattle.span_certificate.specs.Places.{IsAt}
+use Rattle.command_parts.specs.Places.{IsAt}
 use Rattle.span_certificate.specs.Trails.{AreWays}
 use Rattle.span_certificate.proofs.RowLooks.{looks_before}
 use Rattle.span_certificate.proofs.Verdicts.{IsVerifying}

@@ -1,10 +1,10 @@
 use Rattle.std.proofs.Common.{◌≡◌, ℕ, ◌<◌, length, Option, Some, refl, subst, ap, ◌∙◌, arith, rules}
-use Rattle.span_certificate.specs.declared.part.Part.{Part}
+use Rattle.command_parts.specs.declared.part.Part.{Part}
 use Rattle.span_certificate.specs.Covers.{place_of, row_at}
-use Rattle.span_certificate.specs.Parts.{part_at}
-use Rattle.span_certificate.specs.Places.{held, IsAt}
+use Rattle.command_parts.specs.Parts.{part_at}
+use Rattle.command_parts.specs.Places.{held, IsAt}
 use Rattle.span_certificate.proofs.LongestRows.{each_next, row_inside, row_stands, stands_next}
-use Rattle.span_certificate.proofs.PartPlaces.{at_part}
+use Rattle.command_parts.proofs.PartPlaces.{at_part}
 use Rattle.span_certificate.proofs.each_row.each_holds.Goals as goal
 
 pub loop-j-init : goal.loop-j-init

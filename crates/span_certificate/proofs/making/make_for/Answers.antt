@@ -2,12 +2,12 @@ use Rattle.std.proofs.Common.{◌≡◌, ℕ, ◌+◌, ◌-◌, ◌<◌, List, [
 use Rattle.rope_node.specs.Table.{Table, IsSound, HasTrueRecords}
 use Rattle.rope_node.specs.Denotes.{cells}
 use Rattle.rope_node.specs.declared.node.NodeId.{NodeId}
-use Rattle.span_certificate.specs.declared.part.Part.{Part}
+use Rattle.command_parts.specs.declared.part.Part.{Part}
 use Rattle.span_certificate.specs.declared.row.Row.{Row}
 use Rattle.span_certificate.specs.Longest.{IsLongest, StayWithin}
-use Rattle.span_certificate.specs.Parts.{part_len, part_at, parts_cells, AreParts}
-use Rattle.span_certificate.specs.Places.{held, IsAt}
-use Rattle.span_certificate.proofs.PartPlaces.{at_part, at_whole}
+use Rattle.command_parts.specs.Parts.{part_len, part_at, parts_cells, AreParts}
+use Rattle.command_parts.specs.Places.{held, IsAt}
+use Rattle.command_parts.proofs.PartPlaces.{at_part, at_whole}
 use Rattle.span_certificate.proofs.Made.{IsStep, step_of, whole_parts, making_more, making_none, covers_at_end}
 use Rattle.span_certificate.proofs.making.make_for.Goals as goal
 

@@ -1,6 +1,6 @@
 use Rattle.std.proofs.Common.{◌-◌, Some}
 use Rattle.rope_node.specs.Table.{len_at}
-use Rattle.span_certificate.specs.Places.{IsAt}
+use Rattle.command_parts.specs.Places.{IsAt}
 use Rattle.span_certificate.specs.Trails.{AreWays}
 use Rattle.span_certificate.proofs.Made.{IsMaking}
 use Rattle.span_certificate.proofs.making.make_for.Given as goal

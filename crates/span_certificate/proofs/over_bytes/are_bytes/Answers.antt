@@ -1,7 +1,7 @@
 use Rattle.std.proofs.Common.{◌+◌, take, drop, arith, subst}
 use Rattle.std.specs.Prelude.{All}
 use Rattle.span_certificate.specs.Covers.{IsByte}
-use Rattle.span_certificate.specs.Parts.{part_cells}
+use Rattle.command_parts.specs.Parts.{part_cells}
 use Rattle.span_certificate.specs.Runs.{IsSourced}
 use Rattle.span_certificate.proofs.OverBytes.{bytes_more, described_bytes, described_places, first_of_run}
 use Rattle.span_certificate.proofs.over_bytes.are_bytes.Goals as goal

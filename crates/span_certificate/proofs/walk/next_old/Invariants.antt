@@ -7,6 +7,8 @@ abbrev pub invariant-down : goal.invariant-down
 invariant-down g l = record {
   part : IsOnWay g.W.Way.is_way g.W.Way.is_at g.W.Way.lies (g.S.CountedSpace.table l.space) l.x l.of_part l.a;
   root : IsOnWay g.W.Way.is_way g.W.Way.is_at g.W.Way.lies (g.S.CountedSpace.table l.space) l.y l.of_root l.b;
+  first : l.first ≡ g.W.Way.lies l.x l.a;
+  second : l.second ≡ g.W.Way.lies l.y l.b;
   of_a : l.of_a ≡ view_at (g.S.CountedSpace.table l.space) (g.W.Way.lies l.x l.a).node.0;
   of_b : l.of_b ≡ view_at (g.S.CountedSpace.table l.space) (g.W.Way.lies l.y l.b).node.0;
 }

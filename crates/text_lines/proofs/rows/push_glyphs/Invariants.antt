@@ -3,7 +3,7 @@ use Rattle.text_lines.specs.declared.rows.TheConstants.{SCREEN_COLUMNS}
 use Rattle.text_lines.specs.Screen.{glyph}
 use Rattle.text_lines.proofs.rows.push_glyphs.Given as goal
 
--- so many bytes stand in the array, as they are shown
+-- the first k bytes stand in the array, as they are shown
 abbrev pub invariant-loop-k : goal.invariant-loop-k
 invariant-loop-k l = record {
   room : length l.shown ≡ SCREEN_COLUMNS;

@@ -1,7 +1,7 @@
 use Rattle.std.proofs.Common.{◌≡◌, [], ◌∷◌, ◌++◌, List, length, sym, subst, ◌∙◌, arith, rules, None, Ok, Err}
 use Rattle.function_leaf.specs.Coded.{coded_byte}
 use Rattle.node_table.specs.Held.{table_of}
-use Rattle.span_certificate.specs.Parts.{AreRopes}
+use Rattle.command_parts.specs.Parts.{AreRopes}
 use Rattle.edit_commands.specs.declared.fault.EditFault.TheVariants as EditFault
 use Rattle.edit_commands.specs.declared.revision.Revision.{Revision}
 use Rattle.edit_commands.specs.Session.{SessionValue, roots_of, splices_held, AreRevisions}

@@ -2,10 +2,10 @@ use Rattle.std.proofs.Common.{◌≡◌, ◌+◌, ◌<◌, length, arith, List, 
 use Rattle.function_leaf.specs.Coded.{coded_byte}
 use Rattle.node_table.specs.Held.{table_of}
 use Rattle.span_certificate.specs.declared.making.TheConstants.{ROWS_LIMIT}
-use Rattle.span_certificate.specs.declared.edit.Splice.{Splice}
-use Rattle.span_certificate.specs.Commands.{with_splices}
+use Rattle.command_parts.specs.declared.edit.Splice.{Splice}
+use Rattle.command_parts.specs.Commands.{with_splices}
 use Rattle.span_certificate.specs.Longest.{AreLongest}
-use Rattle.span_certificate.specs.Parts.{parts_of}
+use Rattle.command_parts.specs.Parts.{parts_of}
 use Rattle.edit_commands.specs.declared.revision.Revision.{Revision}
 use Rattle.edit_commands.specs.Session.{SessionValue, roots_of, rows_held, AreRevisions, IsCertified}
 use Rattle.edit_commands.proofs.KnownRows.{known_pass, puts_known}

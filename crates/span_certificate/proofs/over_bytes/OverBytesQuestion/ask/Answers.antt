@@ -1,8 +1,8 @@
 use Rattle.std.proofs.Common.{take, drop, arith}
 use Rattle.std.proofs.lemmas.List.Elements.{All-append}
-use Rattle.span_certificate.specs.declared.part.Part.TheVariants.{Old}
+use Rattle.command_parts.specs.declared.part.Part.TheVariants.{Old}
 use Rattle.span_certificate.specs.Covers.{IsByte}
-use Rattle.span_certificate.specs.Parts.{part_cells}
+use Rattle.command_parts.specs.Parts.{part_cells}
 use Rattle.span_certificate.proofs.OverBytes.{appended_bytes}
 use Rattle.span_certificate.proofs.Verdicts.{bytes_compare, joined_compare}
 use Rattle.span_certificate.proofs.over_bytes.OverBytesQuestion.ask.Goals as goal

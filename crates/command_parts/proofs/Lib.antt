@@ -1,0 +1,10 @@
+pub mod SplicedTexts
+pub mod PartsInRange
+pub mod MappedResults
+pub mod AlikeLengths
+pub mod NamedSplices
+pub mod JoinedThings
+pub mod Joined
+pub mod InRange
+pub mod Cutting
+pub mod PartPlaces

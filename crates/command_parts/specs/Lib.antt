@@ -1,0 +1,4 @@
+pub mod Commands
+pub mod Fields
+pub mod Parts
+pub mod Places
