@@ -8,10 +8,10 @@ use Rattle.lazy_file.specs.Readings.{Reading}
 use Rattle.rope_node.specs.declared.node.NodeId.{NodeId}
 use Rattle.rope_node.specs.Table.{Table}
 use Rattle.rope_node.specs.Denotes.{rope_cells, text}
-use Rattle.span_certificate.specs.Commands.{FullEdit, New, Open, Insert, Delete, Replace, Paste, Join, Cut, Fill, Back, Balance, Many, full_edit, IsHistory}
+use Rattle.command_parts.specs.Commands.{FullEdit, New, Open, Insert, Delete, Replace, Paste, Join, Cut, Fill, Back, Balance, Many, full_edit, IsHistory}
 use Rattle.span_certificate.specs.Covers.{SameOver}
-use Rattle.span_certificate.specs.Parts.{IsInRange, len_of}
-use Rattle.span_certificate.proofs.SplicedTexts.{are_splices}
+use Rattle.command_parts.specs.Parts.{IsInRange, len_of}
+use Rattle.command_parts.proofs.SplicedTexts.{are_splices}
 use Rattle.image_reader.specs.declared.revision.Revision.{Revision}
 use Rattle.image_reader.specs.Value.{FitsRevision, ImageValue, IsImage, image_table}
 use Rattle.image_reader.specs.Accepted.{command_at, no_revision, revision_at, roots_before}

@@ -8,7 +8,7 @@ use Rattle.std.proofs.lemmas.Option.{same_Some}
 use Rattle.std.proofs.lemmas.List.{append-nil, length-append, length-take, length-drop}
 use Rattle.byte_output.specs.Prefix.{AppendsPrefix}
 use Rattle.rope_node.proofs.Ropes.{rope_short}
-use Rattle.span_certificate.specs.Commands.{FullEdit}
+use Rattle.command_parts.specs.Commands.{FullEdit}
 use Rattle.image_reader.specs.Value.{ImageValue, image_table}
 use Rattle.image_reader.specs.Accepted.{revision_at}
 use Rattle.session_checker.specs.Faithful.{HasTrueRecordsOf}

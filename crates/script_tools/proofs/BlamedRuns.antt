@@ -3,14 +3,13 @@ use Rattle.std.proofs.Common.{◌≡◌, ◌≢◌, ℕ, zero, suc, ◌+◌, ◌
 use Rattle.std.specs.Prelude.{slice_get, ◌⊎◌, ◌<◌, ◌^◌, MatchOption}
 use Rattle.std.specs.List.{AllByRecursion, flat_map, range_with_len}
 use Rattle.std.proofs.lemmas.Bool.{cases_eq}
-use Rattle.std.proofs.lemmas.List.{length-append, length-map}
-use Rattle.std.proofs.lemmas.List.FromFn.{length-range_with_len}
+use Rattle.std.proofs.lemmas.List.{length-append}
 use Rattle.std.proofs.lemmas.Option.{same_Some}
 use Rattle.byte_origins.specs.declared.run.Brought.{Brought}
 use Rattle.byte_origins.specs.declared.run.Brought.TheVariants.{Pool, Source, Fill}
 use Rattle.byte_origins.specs.declared.run.Origin.{Origin}
 use Rattle.byte_origins.specs.declared.run.OriginRun.{OriginRun}
-use Rattle.byte_origins.specs.Behind.{brought_behind, origin_behind}
+use Rattle.byte_origins.specs.Behind.{origin_behind}
 use Rattle.byte_origins.specs.Origins.{AreApart, AreRuns, run_origins}
 use Rattle.byte_origins.proofs.RunOrigins.{behind_none, behind_twice, length-run, runs_joined}
 use Rattle.script_tools.specs.Blamed.{IsLongestRun}

@@ -7,7 +7,7 @@ use Rattle.rope_node.specs.declared.node.NodeId.{NodeId}
 use Rattle.rope_node.specs.declared.limits.TheConstants.{MOST_DEPTH, TEXT_LIMIT}
 use Rattle.rope_node.specs.Table.{Table, IsSound}
 use Rattle.rope_node.specs.Denotes.{IsRope, rope_depth, rope_len}
-use Rattle.span_certificate.specs.Commands.{FullEdit, New, Open, Insert, Delete, Replace, Paste, Join, Cut, Fill, Back, Balance, Many, full_edit}
+use Rattle.command_parts.specs.Commands.{FullEdit, New, Open, Insert, Delete, Replace, Paste, Join, Cut, Fill, Back, Balance, Many, full_edit}
 use Rattle.image_reader.specs.declared.revision.Revision.{Revision}
 use Rattle.image_reader.specs.Value.{ImageValue, IsImage, image_table}
 use Rattle.image_reader.specs.Accepted.{command_at, no_revision, revision_at}
@@ -16,9 +16,9 @@ use Rattle.session_checker.proofs.EarlierRevisions.{rows_inside}
 use Rattle.edit_script.specs.Words.{Word, Quoted, Name, Number, line_of, printed_word, spelled_on}
 use Rattle.edit_script.specs.Commands.{IsPrintable, front_of, texts_of, words_of}
 use Rattle.edit_script.specs.Applied.{lines_of}
-use Rattle.edit_script.specs.Scripts.{IsPrinted, Printed, ReadsScript, comment_of, script_of}
+use Rattle.edit_script.specs.Scripts.{IsPrinted, Printed, SaysEach, comment_of, script_of}
 use Rattle.edit_script.proofs.PrintedWords.{words_split}
-use Rattle.edit_script.proofs.Logs.{FitsNote, log_reads, note_printed}
+use Rattle.edit_script.proofs.Logs.{FitsNote, log_says_each, note_printed}
 use Rattle.script_tools.specs.declared.shown.LogTexts.TheVariants.{Whole}
 use Rattle.script_tools.specs.Logged.{log_of, noted_of, revision_line, shown_command, shown_on}
 
@@ -47,7 +47,7 @@ named (Back r) = (_, _, refl)
 named (Balance r) = (_, _, refl)
 named (Many r splices) = (_, _, refl)
 
-some_words : (pool : List ℕ) (e : FullEdit) → 0 < length (words_of pool e)
+pub some_words : (pool : List ℕ) (e : FullEdit) → 0 < length (words_of pool e)
 some_words pool e = let n = named e in rw n.2 (omega arith)
 
 line_split : (front ws : List Word) (w : Word) (vs : List Word) → front ≡ w ∷ vs → line_of front ++ spelled_on ws ≡ line_of (front ++ ws)
@@ -127,12 +127,12 @@ noted_fits v is records k lt = record {
 -- ---- the whole log
 
 pub log_says : (v : ImageValue) → IsImage v → HasTrueRecordsOf v → EachRevision v (λ k. IsPrintable (words_of v.pool (command_at v k)))
-    → ReadsScript (lines_of (log_of Whole v)) (map (words_of v.pool) (commands v))
+    → SaysEach (lines_of (log_of Whole v)) (map (words_of v.pool) (commands v))
 log_says v is records lines =
     let ks = range_with_len 0 (length v.revisions) in
     let printed : AllByRecursion IsPrinted (map (printed_at v) ks) =
     each_printed IsPrinted (printed_at v) 0 (length v.revisions) (λ k lt. let there : k < length v.revisions = omega (arith, lt) in
     note_printed (words_of v.pool (command_at v k)) (noted_of v k) (lines k there) (some_words v.pool (command_at v k)) (noted_fits v is records k there)) in
-    let reads = log_reads (map (printed_at v) ks) printed in
-    subst (λ (t : List ℕ). ReadsScript (lines_of t) (map (words_of v.pool) (commands v))) (sym (log_as_script v ks))
-    (subst (ReadsScript (lines_of (script_of (map (printed_at v) ks)))) (words_at v ks ∙ commands_are v) reads)
+    let says = log_says_each (map (printed_at v) ks) printed in
+    subst (λ (t : List ℕ). SaysEach (lines_of t) (map (words_of v.pool) (commands v))) (sym (log_as_script v ks))
+    (subst (SaysEach (lines_of (script_of (map (printed_at v) ks)))) (words_at v ks ∙ commands_are v) says)

@@ -1,28 +1,24 @@
 -- What a script makes behind the session of an image.
-use Rattle.std.proofs.Common.{◌≡◌, ℕ, suc, List, [], ◌∷◌, ◌++◌, length, map, take, Option, Result, Ok, Err, refl, sym, ap, subst, ◌∙◌, arith}
+use Rattle.std.proofs.Common.{◌≡◌, ℕ, suc, List, [], ◌∷◌, ◌++◌, length, map, Option, Result, Ok, Err, refl, sym, ap, subst, ◌∙◌, arith}
 use Rattle.std.specs.Prelude.{All}
 use Rattle.std.specs.List.{AllByRecursion}
 use Rattle.std.specs.Io.KnownBytes.{Keeps}
-use Rattle.std.proofs.lemmas.List.{length-map, map-append, take_at}
 use Rattle.lazy_file.specs.SourceTexts.{Stated}
 use Rattle.lazy_file.specs.Readings.{Reading}
-use Rattle.rope_node.specs.declared.node.NodeId.{NodeId}
-use Rattle.rope_node.specs.Denotes.{rope_cells, text}
-use Rattle.span_certificate.specs.Commands.{FullEdit}
-use Rattle.edit_commands.specs.Session.{IsSession, SessionValue, commands_of, roots_of, session_table, texts_of}
+use Rattle.command_parts.specs.Commands.{FullEdit}
+use Rattle.edit_commands.specs.Session.{IsSession, SessionValue, commands_of}
 use Rattle.edit_script.specs.Words.{Word}
 use Rattle.edit_script.specs.Commands.{StandsInside, words_of}
 use Rattle.edit_script.specs.Applied.{lines_of}
 use Rattle.edit_script.specs.Scripts.{AreInside, words_held}
 use Rattle.edit_script.proofs.Sessions.{says_script}
-use Rattle.image_reader.specs.declared.revision.Revision.{Revision}
 use Rattle.image_reader.specs.Value.{ImageValue}
 use Rattle.session_checker.specs.declared.fault.CheckFault.{CheckFault}
-use Rattle.session_checker.specs.Faithful.{commands, texts}
+use Rattle.session_checker.specs.Faithful.{commands}
 use Rattle.session_checker.specs.Limits.{ChecksWithin}
 use Rattle.session_checker.specs.RevisionRules.{AreGoodOver}
 use Rattle.saved_session.specs.TakenUp.{TakesUp}
-use Rattle.saved_session.proofs.SameTexts.{same_commands, same_texts}
+use Rattle.saved_session.proofs.SameTexts.{same_commands}
 use Rattle.script_tools.specs.declared.fault.OntoFault.{OntoFault}
 use Rattle.script_tools.specs.declared.fault.OntoFault.TheVariants.{Check, TakeUp, Stop, Write}
 use Rattle.saved_session.specs.GoneFurther.{GoesFurther, IsTakenUp}

@@ -3,12 +3,12 @@ use Rattle.std.proofs.Common.{ℕ, zero, suc, ◌<◌, List, [], ◌∷◌, take
 use Rattle.std.specs.List.{AllByRecursion}
 use Rattle.rope_node.specs.declared.node.NodeId.{NodeId}
 use Rattle.rope_node.specs.Table.{Table}
-use Rattle.span_certificate.specs.declared.edit.Edit.{Edit}
-use Rattle.span_certificate.specs.declared.edit.Edit.TheVariants.{New, Open, Insert, Delete, Replace, Paste, Join, Cut, Fill, Back, Balance, Many}
-use Rattle.span_certificate.specs.declared.edit.Splice.{Splice}
-use Rattle.span_certificate.specs.Commands.{full_edit}
-use Rattle.span_certificate.specs.Fields.{FitsRecord}
-use Rattle.span_certificate.specs.Parts.{IsInRange}
+use Rattle.command_parts.specs.declared.edit.Edit.{Edit}
+use Rattle.command_parts.specs.declared.edit.Edit.TheVariants.{New, Open, Insert, Delete, Replace, Paste, Join, Cut, Fill, Back, Balance, Many}
+use Rattle.command_parts.specs.declared.edit.Splice.{Splice}
+use Rattle.command_parts.specs.Commands.{full_edit}
+use Rattle.command_parts.specs.Fields.{FitsRecord}
+use Rattle.command_parts.specs.Parts.{IsInRange}
 use Rattle.image_reader.specs.Layout.{IsBytes}
 use Rattle.image_reader.specs.Value.{FitsSplice}
 use Rattle.edit_script.specs.Commands.{Revision, Place, Byte, Text, only, splice_kinds, splice_words, words_of, HasKinds, HasBytes, IsPrintable}

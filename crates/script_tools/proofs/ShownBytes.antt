@@ -1,12 +1,11 @@
 -- What lines of runs have in quotes are the text's bytes.
-use Rattle.std.proofs.Common.{◌≡◌, ℕ, zero, suc, ◌+◌, ◌-◌, ◌<◌, ◌≤◌, min, List, [], ◌∷◌, ◌++◌, length, map, take, drop, Option, Some, None, refl, sym, ap, subst, ◌∙◌, arith}
+use Rattle.std.proofs.Common.{◌≡◌, ℕ, zero, suc, ◌+◌, ◌-◌, ◌<◌, ◌≤◌, List, [], ◌∷◌, ◌++◌, length, map, take, drop, Some, refl, sym, ap, ◌∙◌, arith}
 use Rattle.std.specs.Prelude.{slice_get}
-use Rattle.std.specs.List.{flat_map, range_with_len, AllByRecursion}
+use Rattle.std.specs.List.{flat_map, range_with_len}
 use Rattle.std.proofs.lemmas.List.{length-append, length-take, drop-drop, drop-take, take-take, take_at}
-use Rattle.std.proofs.lemmas.List.FromFn.{length-range_with_len}
 use Rattle.std.proofs.lemmas.Option.{same_Some, none-some}
 use Rattle.rope_node.proofs.Parts.{slice_get-take}
-use Rattle.span_certificate.specs.Commands.{IsHistory}
+use Rattle.command_parts.specs.Commands.{IsHistory}
 use Rattle.image_reader.specs.Value.{ImageValue}
 use Rattle.session_checker.specs.Faithful.{EachRevision, commands, givens, revision_text, texts}
 use Rattle.edit_script.specs.Words.{Word, Quoted}
@@ -15,7 +14,7 @@ use Rattle.byte_origins.specs.declared.run.Brought.TheVariants.{Pool, Source, Fi
 use Rattle.byte_origins.specs.declared.run.Origin.{Origin}
 use Rattle.byte_origins.specs.declared.run.OriginRun.{OriginRun}
 use Rattle.byte_origins.specs.Behind.{origin_behind}
-use Rattle.byte_origins.specs.Origins.{AreApart, AreRuns, brought_byte, origins_at, run_origins}
+use Rattle.byte_origins.specs.Origins.{AreRuns, brought_byte, origins_at, run_origins}
 use Rattle.byte_origins.proofs.NamedBytes.{names_each}
 use Rattle.byte_origins.proofs.RunOrigins.{length-run}
 use Rattle.script_tools.specs.Blamed.{ShowBytes, run_texts}

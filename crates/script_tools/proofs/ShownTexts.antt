@@ -4,7 +4,7 @@ use Rattle.std.specs.Prelude.{slice_get}
 use Rattle.std.specs.List.{flat_map, range_with_len}
 use Rattle.std.specs.Fmt.{decimal}
 use Rattle.std.proofs.lemmas.List.{append-nil}
-use Rattle.span_certificate.specs.declared.edit.Splice.{Splice}
+use Rattle.command_parts.specs.declared.edit.Splice.{Splice}
 use Rattle.edit_script.specs.Words.{Word, Quoted, escaped, numbers_on}
 use Rattle.edit_script.specs.Commands.{splice_words}
 use Rattle.script_tools.specs.declared.shown.LogTexts.{LogTexts}

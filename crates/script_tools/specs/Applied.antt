@@ -1,8 +1,12 @@
 -- What applying a script to a new session writes.
-use Rattle.std.specs.Prelude.{◌≡◌, ℕ, List, [], Option, Result, Ok, Err}
+use Rattle.std.specs.Prelude.{◌≡◌, ℕ, ◌<◌, ◌≤◌, List, [], length, Any, Option, Result, Ok, Err}
 use Rattle.std.specs.Io.KnownBytes.{Appends, Keeps}
 use Rattle.byte_output.specs.Prefix.{AppendsPrefix}
-use Rattle.edit_commands.specs.Session.{SessionValue, HoldsHistory}
+use Rattle.rope_node.specs.declared.limits.TheConstants.{MOST_SOURCES, TEXT_LIMIT}
+use Rattle.node_table.specs.declared.fault.NodeFault.TheVariants.{TooManySources, TooLong}
+use Rattle.edit_commands.specs.declared.fault.EditFault.{EditFault}
+use Rattle.edit_commands.specs.declared.fault.EditFault.TheVariants.{Node, Memory}
+use Rattle.edit_commands.specs.Session.{SessionValue, HoldsHistory, IsSession}
 use Rattle.edit_script.specs.declared.fault.Stopped.{Stopped}
 use Rattle.edit_script.specs.Words.{Word}
 use Rattle.edit_script.specs.Applied.{TakesLines, lines_of}
@@ -29,17 +33,25 @@ pub record IsMadeByScript (lens script : List ℕ) (v : SessionValue) : Type 0 w
   pub sources : v.held.sources ≡ lens
   pub history : HoldsHistory v
 
--- the script stops at this line, over a new session with these sources
+-- the script stops at this line, over a new session with these sources; what it leaves is a session
 pub record IsStopped (lens script : List ℕ) (at : Stopped) : Type 0 where
   pub begun : SessionValue
   pub sources : IsBegun lens begun
   pub last : SessionValue
   pub stops : TakesLines begun 0 (lines_of script) (Err at) last
+  pub session : IsSession last
+
+-- why sources of these lengths are not added: there are too many, one is too long, or memory is refused
+abbrev pub AreRefused : List ℕ → EditFault → Type 0
+AreRefused lens (Node TooManySources) = MOST_SOURCES < length lens
+AreRefused lens (Node TooLong) = Any (λ len. TEXT_LIMIT ≤ len) lens
+AreRefused lens Memory = Unit {0}
+AreRefused lens _ = ⊥
 
 -- a source is refused, or the script is
 abbrev pub MakesNone : List ℕ → List ℕ → ApplyFault → Type 0
 MakesNone lens script (Stop at) = IsStopped lens script at
-MakesNone lens script (Source fault) = Unit {0}
+MakesNone lens script (Source fault) = AreRefused lens fault
 MakesNone lens script Write = ⊥
 
 -- the image of the session that the script makes was written, or a prefix of it; or nothing, where it makes none
@@ -50,4 +62,4 @@ AppliesScript lens script before after (Ok u) =
 AppliesScript lens script before after (Err Write) =
     (v : SessionValue) × IsMadeByScript lens script v × AppendsPrefix before after (spelling (image_of v))
 AppliesScript lens script before after (Err (Stop at)) = Keeps before after × IsStopped lens script at
-AppliesScript lens script before after (Err (Source fault)) = Keeps before after
+AppliesScript lens script before after (Err (Source fault)) = Keeps before after × AreRefused lens fault

@@ -5,7 +5,7 @@ use Rattle.std.specs.Io.KnownBytes.{Appends, Keeps}
 use Rattle.byte_output.specs.Prefix.{AppendsPrefix}
 use Rattle.lazy_file.specs.Readings.{Reading}
 use Rattle.rope_node.specs.Denotes.{rope_len, rope_depth}
-use Rattle.span_certificate.specs.Commands.{FullEdit}
+use Rattle.command_parts.specs.Commands.{FullEdit}
 use Rattle.image_reader.specs.Value.{ImageValue, image_table}
 use Rattle.image_reader.specs.Accepted.{command_at, revision_at}
 use Rattle.session_checker.specs.declared.fault.CheckFault.{CheckFault}

@@ -1,7 +1,7 @@
 //! A script applied to a new session, whose image is written.
 
 ghost use Rattle.std.specs.Prelude.{IfOk, IfErr};
-ghost use Rattle.script_tools.specs.Applied.{AppliesScript, IsBegun, IsMadeByScript, MakesNone};
+ghost use Rattle.script_tools.specs.Applied.{AppliesScript, AreRefused, IsBegun, IsMadeByScript, MakesNone};
 
 use crate::fault::ApplyFault;
 use edit_commands::{EditFault, Session};
@@ -13,7 +13,8 @@ use work_progress::{Progress, Untold};
 
 /// A session with sources of these lengths, and no revisions.
 fn begun(alloc: Global, lens: &[u64]) -> Result<Session, EditFault>
-    ensures { IfOk result (IsBegun lens.now) }
+    ensures made { IfOk result (IsBegun lens.now) }
+    ensures refused { IfErr result (AreRefused lens.now) }
 {
     let mut session = Session::new(alloc);
     for len in lens {
@@ -43,7 +44,10 @@ fn made<P: Progress>(
             let _count = session.count();
             Ok(session)
         }
-        Err(at) => Err(ApplyFault::Stop(at)),
+        Err(at) => {
+            let _count = session.count();
+            Err(ApplyFault::Stop(at))
+        }
     }
 }
 

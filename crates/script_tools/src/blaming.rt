@@ -2,8 +2,8 @@
 
 ghost use Rattle.std.specs.Prelude.{◌≡◌, ◌∷◌, ◌++◌, ◌+◌, ◌<◌, ◌≤◌, ◌^◌, [], List, length, take, drop, Ok, IfOk, OnOk};
 ghost use Rattle.std.specs.Fmt.{decimal};
-ghost use Rattle.span_certificate.specs.declared.edit.Splice.{Splice};
-ghost use Rattle.span_certificate.specs.Commands.{with_splices};
+ghost use Rattle.command_parts.specs.declared.edit.Splice.{Splice};
+ghost use Rattle.command_parts.specs.Commands.{with_splices};
 ghost use Rattle.image_reader.specs.Accepted.{splices_before};
 ghost use Rattle.edit_script.specs.Words.{Number, line_of};
 ghost use Rattle.edit_script.specs.Commands.{front_of};
@@ -15,13 +15,12 @@ ghost use Rattle.script_tools.specs.Blamed.{BlamesImage, IsLongestRun, WritesBla
 use crate::fault::{BlameFault, PieceFault};
 use crate::shown::{LogTexts, write_piece, write_text};
 use crate::wanted::BytesOfText;
-use byte_origins::{Brought, OriginRun, Origins};
+use byte_origins::{Brought, OriginRun, Origins, next_start};
+use command_parts::Edit;
 use edit_script::{push_front, push_number};
-use image_reader::Revisions;
 use itoa::Buffer;
 use lazy_file::Sources;
 use session_checker::{Checked, check_told};
-use span_certificate::Edit;
 use std::alloc::{AllocError, Global};
 use std::io;
 use work_progress::{Progress, Untold};
@@ -89,18 +88,6 @@ fn write_bytes_of<W: io::Write>(
         ),
         _ => Ok(()),
     }
-}
-
-/// How many splices the revisions before the next one have, where those before revision `k` have `first`.
-fn next_start(image: &Checked, k: u32, first: u32) -> u32
-    requires there { k < length image.now.revisions }
-    requires first { first ≡ splices_before image.now k }
-    ensures { result ≡ splices_before image.now (k + 1) }
-{
-    let revisions = Revisions::over(image.image());
-    // The value is an image, as its count says.
-    let _count = revisions.count();
-    first + image.image().splices_of(k)
 }
 
 /// How many splices the revisions before each revision have, so that no line goes through them again.

@@ -1,19 +1,25 @@
 //! What a log and a script without a command are worth, what a line of blame shows, and that what is written needs no read.
 
-ghost use Rattle.std.specs.Prelude.{◌≡◌, ◌≢◌, ℕ, List, [], All, Ok, Option, length, map, take, drop};
+ghost use Rattle.std.specs.Prelude.{◌≡◌, ◌≢◌, ℕ, List, [], All, Ok, Err, Option, length, map, take, drop};
+ghost use Rattle.edit_commands.specs.declared.command.Command.{Command};
+ghost use Rattle.edit_commands.specs.declared.fault.EditFault.{EditFault};
+ghost use Rattle.edit_commands.specs.Applying.{AppliesOrNot};
 ghost use Rattle.edit_commands.specs.Session.{SessionValue, texts_of};
 ghost use Rattle.edit_script.specs.declared.fault.Stop.TheVariants.{NoCommand};
 ghost use Rattle.edit_script.specs.declared.fault.Stopped.{Stopped};
 ghost use Rattle.edit_script.specs.Commands.{StandsInside, words_of};
 ghost use Rattle.edit_script.specs.Applied.{lines_of};
-ghost use Rattle.edit_script.specs.Scripts.{ReadsScript};
-ghost use Rattle.script_tools.specs.Applied.{IsMadeByScript, IsStopped};
+ghost use Rattle.edit_script.specs.Scripts.{ReadsScript, SaysEach};
+ghost use Rattle.script_tools.specs.Applied.{AppliesScript, IsMadeByScript, IsStopped};
 ghost use Rattle.script_tools.specs.Blamed.{ShowBytes};
 ghost use Rattle.script_tools.specs.Logged.{log_of};
 ghost use Rattle.script_tools.specs.Onto.{IsMadeOnto};
+ghost use Rattle.script_tools.specs.Refused.{IsLimit, IsNextOf, MeetsLimit, StopsAtLimit};
+ghost use Rattle.script_tools.specs.declared.fault.ApplyFault.{ApplyFault};
 ghost use Rattle.script_tools.specs.declared.shown.LogTexts.TheVariants.{Whole};
 ghost use Rattle.byte_origins.specs.declared.run.OriginRun.{OriginRun};
 ghost use Rattle.byte_origins.specs.Origins.{AreRuns, origins_at};
+ghost use Rattle.image_reader.specs.Accepted.{command_at};
 ghost use Rattle.image_reader.specs.Spelling.{spelling};
 ghost use Rattle.image_reader.specs.Value.{ImageValue, IsImage};
 ghost use Rattle.lazy_file.specs.Readings.{Reading};
@@ -22,7 +28,7 @@ ghost use Rattle.session_checker.specs.Faithful.{EachRevision, givens, commands,
 ghost use Rattle.session_checker.specs.Limits.{ChecksWithin};
 ghost use Rattle.session_checker.specs.RevisionRules.{HasSameBytes};
 ghost use Rattle.session_image.specs.Written.{AreAsMade, IsTrusted, image_of};
-ghost use Rattle.span_certificate.specs.Commands.{IsHistory};
+ghost use Rattle.command_parts.specs.Commands.{IsHistory};
 ghost use Rattle.span_certificate.specs.Covers.{SameOver};
 
 use edit_script::says_the_texts;
@@ -40,9 +46,12 @@ pub fn has_the_texts()
     says_the_texts();
 }
 
-/// The log of an accepted image, with its texts whole, is read as the image's commands, bytes for bytes.
+/// The log of an accepted image, with its texts whole, is read as the image's commands, bytes for bytes, a line each.
 pub fn says_the_commands()
-    ensures { (at_most : Option ℕ) (old new : Reading) (bytes : List ℕ) (w : ImageValue)
+    ensures each { (at_most : Option ℕ) (old new : Reading) (bytes : List ℕ) (w : ImageValue)
+        → ChecksWithin at_most old new bytes (Ok w)
+        → SaysEach (lines_of (log_of Whole w)) (map (words_of w.pool) (commands w)) }
+    ensures all { (at_most : Option ℕ) (old new : Reading) (bytes : List ℕ) (w : ImageValue)
         → ChecksWithin at_most old new bytes (Ok w)
         → ReadsScript (lines_of (log_of Whole w)) (map (words_of w.pool) (commands w)) }
 {}
@@ -56,6 +65,41 @@ pub fn reads_each_line()
         → at.why ≢ NoCommand }
 {
     says_the_commands();
+}
+
+/// A session that says what the first commands of an accepted image say, over sources of the image's lengths, refuses
+/// the next one at a limit alone.
+pub fn refuses_at_a_limit()
+    ensures { (at_most : Option ℕ) (old new : Reading) (bytes : List ℕ) (w : ImageValue) (v after : SessionValue)
+        (command : Command) (fault : EditFault)
+        → ChecksWithin at_most old new bytes (Ok w)
+        → IsNextOf w v command
+        → AppliesOrNot v command (Err fault) after
+        → MeetsLimit (command_at w (length v.revisions)) fault }
+{}
+
+/// Where a session does not take a line of the log of an accepted image,
+/// the line's command meets a limit, or memory is refused.
+pub fn stops_at_a_limit()
+    ensures { (at_most : Option ℕ) (old new : Reading) (bytes : List ℕ) (w : ImageValue) (at : Stopped)
+        → ChecksWithin at_most old new bytes (Ok w)
+        → IsStopped w.sources (log_of Whole w) at
+        → StopsAtLimit w at.line at.why }
+{
+    says_the_commands();
+    refuses_at_a_limit();
+}
+
+/// Where the log of an accepted image, applied over sources of the image's lengths, gives no
+/// image, a limit is met, memory is refused or the writer failed.
+pub fn applies_up_to_limits()
+    ensures { (at_most : Option ℕ) (old new : Reading) (bytes : List ℕ) (w : ImageValue)
+        (before after : Option (List ℕ)) (fault : ApplyFault)
+        → ChecksWithin at_most old new bytes (Ok w)
+        → AppliesScript w.sources (log_of Whole w) before after (Err fault)
+        → IsLimit w fault }
+{
+    stops_at_a_limit();
 }
 
 /// A session that the log of an accepted image made, over sources of the image's lengths, has the image's texts,

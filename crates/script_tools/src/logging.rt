@@ -6,8 +6,8 @@
 ghost use Rattle.std.specs.Prelude.{◌≡◌, ◌∷◌, ◌++◌, ◌+◌, ◌<◌, ◌≤◌, ◌^◌, [], List, length, take, drop, Ok, OnOk};
 ghost use Rattle.std.specs.List.{AllByRecursion};
 ghost use Rattle.rope_node.specs.Denotes.{IsRope, rope_depth};
-ghost use Rattle.span_certificate.specs.declared.edit.Splice.{Splice};
-ghost use Rattle.span_certificate.specs.Commands.{NamesSplices, full_edit, with_splices};
+ghost use Rattle.command_parts.specs.declared.edit.Splice.{Splice};
+ghost use Rattle.command_parts.specs.Commands.{NamesSplices, full_edit, with_splices};
 ghost use Rattle.image_reader.specs.Value.{IsImage, image_table};
 ghost use Rattle.image_reader.specs.Accepted.{command_at, revision_at};
 ghost use Rattle.session_checker.specs.Faithful.{EachRevision};
@@ -18,12 +18,12 @@ ghost use Rattle.script_tools.specs.Logged.{LogsImage, WritesLog, WritesText, lo
 
 use crate::fault::{LogFault, PieceFault};
 use crate::shown::{LogTexts, put_numbers, write_piece, write_text};
+use command_parts::{Edit, Splice};
 use edit_script::{Note, comment_text, push_front, span};
 use image_reader::{Image, Revision};
 use lazy_file::Sources;
 use rope_node::{NodeSpace, Rope, rope_len};
 use session_checker::{Checked, check_told};
-use span_certificate::{Edit, Splice};
 use std::alloc::{AllocError, Global};
 use std::io;
 use work_progress::{Progress, Untold};
@@ -121,7 +121,15 @@ fn write_texts<W: io::Write>(
         Edit::Many { first, count, .. } => {
             write_splices(texts, piece, image, first, count, writer)
         }
-        _ => Ok(()),
+        Edit::New
+        | Edit::Open { .. }
+        | Edit::Delete { .. }
+        | Edit::Paste { .. }
+        | Edit::Join { .. }
+        | Edit::Cut { .. }
+        | Edit::Fill { .. }
+        | Edit::Back { .. }
+        | Edit::Balance { .. } => Ok(()),
     }
 }
 

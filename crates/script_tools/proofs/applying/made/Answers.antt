@@ -11,11 +11,11 @@ returns-in-Ok-apply_script_told-clause-ok g c =
     let new = c.apply_script_told.new.session in
     record {
       begun = begun;
-      from_lens = c.in-Ok.ensures;
+      from_lens = c.in-Ok.ensures.made;
       takes = takes;
       says = λ commands reads.
-          let both = c.says_the_script.ensures begun 0 (lines_of c.args.script.now) new commands (none_inside begun c.in-Ok.ensures.revisions) takes reads in
-          (both.0 ∙ ap (λ (ws : List (List Word)). ws ++ commands) (no_words begun c.in-Ok.ensures.revisions), both.1);
-      sources = sources_kept begun 0 (lines_of c.args.script.now) (Ok tt) new refl takes ∙ c.in-Ok.ensures.sources;
+          let both = c.says_the_script.ensures begun 0 (lines_of c.args.script.now) new commands (none_inside begun c.in-Ok.ensures.made.revisions) takes reads in
+          (both.0 ∙ ap (λ (ws : List (List Word)). ws ++ commands) (no_words begun c.in-Ok.ensures.made.revisions), both.1);
+      sources = sources_kept begun 0 (lines_of c.args.script.now) (Ok tt) new refl takes ∙ c.in-Ok.ensures.made.sources;
       history = c.count-count.ensures.history;
     }

@@ -1,5 +1,5 @@
 use Rattle.std.proofs.Common.{◌≡◌, ◌∷◌, ◌++◌}
-use Rattle.span_certificate.specs.Commands.{with_splices}
+use Rattle.command_parts.specs.Commands.{with_splices}
 use Rattle.edit_script.specs.Words.{Number, line_of}
 use Rattle.edit_script.specs.Commands.{front_of}
 use Rattle.script_tools.proofs.BlamedLines.{line_put, then_is}

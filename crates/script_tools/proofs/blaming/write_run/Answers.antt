@@ -1,7 +1,7 @@
 use Rattle.std.proofs.Common.{◌≡◌, [], ◌∷◌, ◌++◌, ◌∙◌, List, ℕ, ap, refl, subst, append_assoc}
 use Rattle.std.specs.Io.KnownBytes.{Appends}
 use Rattle.byte_output.specs.Prefix.{AppendsPrefix}
-use Rattle.span_certificate.specs.Commands.{full_edit, named_splices}
+use Rattle.command_parts.specs.Commands.{full_edit, named_splices}
 use Rattle.image_reader.specs.declared.revision.Revision.{Revision}
 use Rattle.image_reader.specs.Value.{ImageValue}
 use Rattle.image_reader.specs.Accepted.{revision_at}

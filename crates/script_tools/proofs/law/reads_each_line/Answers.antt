@@ -10,4 +10,4 @@ use Rattle.script_tools.proofs.law.reads_each_line.Goals as goal
 pub returns : goal.returns
 returns c = λ at_most old new bytes w at checked stopped.
     never_unread stopped.begun 0 (lines_of (log_of Whole w)) (map (words_of w.pool) (commands w)) at stopped.last (Err at) refl
-    (c.says_the_commands.ensures at_most old new bytes w checked) stopped.stops
+    (c.says_the_commands.ensures.all at_most old new bytes w checked) stopped.stops

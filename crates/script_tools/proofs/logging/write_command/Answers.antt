@@ -1,7 +1,7 @@
 use Rattle.std.proofs.Common.{[], ◌∙◌, refl, subst}
 use Rattle.std.specs.Io.KnownBytes.{Appends}
 use Rattle.byte_output.specs.Prefix.{AppendsPrefix}
-use Rattle.span_certificate.specs.Commands.{full_edit, named_splices}
+use Rattle.command_parts.specs.Commands.{full_edit, named_splices}
 use Rattle.edit_script.specs.Words.{line_of}
 use Rattle.edit_script.specs.Commands.{front_of, texts_of}
 use Rattle.session_image.proofs.Sections.{appends_nothing}

@@ -2,7 +2,7 @@ use Rattle.std.proofs.Common.{◌≡◌, ℕ, ◌+◌, ◌<◌, ◌≤◌, ◌�
 use Rattle.std.specs.Prelude.{slice_get}
 use Rattle.std.specs.List.{range_with_len}
 use Rattle.std.proofs.lemmas.List.FromFn.{length-range_with_len}
-use Rattle.span_certificate.specs.Fields.{splices_of}
+use Rattle.command_parts.specs.Fields.{splices_of}
 use Rattle.image_reader.specs.declared.revision.Revision.{Revision}
 use Rattle.image_reader.specs.Value.{ImageValue}
 use Rattle.image_reader.specs.Accepted.{revision_at}

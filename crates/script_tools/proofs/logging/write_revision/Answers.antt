@@ -1,7 +1,7 @@
 use Rattle.std.proofs.Common.{[], ◌∷◌, ◌++◌, ◌∙◌, ap, refl, subst, sym}
 use Rattle.std.specs.Io.KnownBytes.{Appends}
 use Rattle.byte_output.specs.Prefix.{AppendsPrefix}
-use Rattle.span_certificate.specs.Commands.{NamesSplices, full_edit}
+use Rattle.command_parts.specs.Commands.{NamesSplices, full_edit}
 use Rattle.image_reader.specs.declared.revision.Revision.{Revision}
 use Rattle.image_reader.specs.Value.{ImageValue, IsImage}
 use Rattle.image_reader.specs.Accepted.{command_at}

@@ -1,6 +1,6 @@
 use Rattle.std.proofs.Common.{subst, sym}
-use Rattle.span_certificate.specs.declared.edit.Edit.{Edit}
-use Rattle.span_certificate.specs.Commands.{full_edit}
+use Rattle.command_parts.specs.declared.edit.Edit.{Edit}
+use Rattle.command_parts.specs.Commands.{full_edit}
 use Rattle.edit_script.specs.Commands.{texts_of}
 use Rattle.script_tools.specs.Logged.{WritesText, shown_on}
 use Rattle.script_tools.proofs.logging.write_texts.Goals as goal
