@@ -16,9 +16,9 @@ use Rattle.rebalance.specs.declared.fault.BalanceFault.TheVariants.{TooManyPiece
 use Rattle.rebalance.specs.AnyForms.{lifted}
 use Rattle.lazy_file.specs.declared.sources.TheConstants.{SOURCE_LIMIT}
 use Rattle.span_certificate.specs.declared.row.Row.{Row}
-use Rattle.span_certificate.specs.declared.part.Part.TheVariants.{Source as Whole}
+use Rattle.command_parts.specs.declared.part.Part.TheVariants.{Source as Whole}
 use Rattle.span_certificate.specs.Longest.{AreMade}
-use Rattle.span_certificate.specs.Parts.{nonempty}
+use Rattle.command_parts.specs.Parts.{nonempty}
 use Rattle.span_certificate.proofs.OneRow.{one_source_row}
 use Rattle.edit_commands.specs.declared.fault.EditFault.{EditFault}
 use Rattle.edit_commands.specs.declared.fault.EditFault.TheVariants as Edit
@@ -33,7 +33,7 @@ use Rattle.screen_editor.specs.declared.workspace.TheConstants.{LONGEST_TEXT}
 use Rattle.screen_editor.specs.Opening.{HoldsOnly}
 use Rattle.screen_editor.specs.Refusals.{first_command}
 
--- a source that may be added wants nothing but memory
+-- a source that may be added is refused for memory alone
 pub only_memory : (old new : SessionValue) (len : ℕ) (f : EditFault) → length old.held.sources < MOST_SOURCES → len ≤ SOURCE_LIMIT → AddsSourceOrNot old len (Err f) new → f ≡ Edit.Memory
 only_memory old new len f few short h = of_plain h.plain h.told h.adds
   where
@@ -82,7 +82,7 @@ pub record IsOfEmpty (fault : BalanceFault) : Type 0 where
   pub not_table : ¬ (plain ≡ NodeFault.TableFull)
   pub not_pool : ¬ (plain ≡ NodeFault.PoolFull)
 
--- so much room has an empty table that no limit is met
+-- an empty table has so much room that no limit is met
 term_refused : (sizes : List ℕ) (old new : Held Coded) (fault : BalanceFault) → old.nodes ≡ [] → old.pool.bytes ≡ [] → TermRefused old [] (first_command sizes) fault new → IsOfEmpty fault
 term_refused [] old new fault no_node no_byte h = of_chain h.1.chain
   where

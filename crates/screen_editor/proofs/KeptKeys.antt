@@ -1,12 +1,12 @@
 -- Which keys a journal keeps.
-use Rattle.std.proofs.Common.{◌≡◌, ℕ, List, [], ◌∷◌, ◌++◌, Bool, true, false, not, ◌&&◌, ◌||◌, ◌==◌, nat_le, if◌then◌else◌, inl, inr, ◌⊎◌, refl, sym, ap, ◌∙◌, append-nil}
+use Rattle.std.proofs.Common.{◌≡◌, ℕ, List, [], ◌∷◌, ◌++◌, Bool, true, false, not, ◌&&◌, ◌||◌, ◌==◌, nat_le, if◌then◌else◌, inl, inr, ◌⊎◌, refl, sym, ap, subst, ◌∙◌, append-nil}
 use borrow.Author.Tests.{eqb-true}
 use Rattle.std.proofs.lemmas.List.Elements.{All-head, All-tail}
 use Rattle.key_journal.specs.Keys.{goes_on, kept_of}
 use Rattle.screen_editor.specs.declared.key.Key.{Key}
-use Rattle.screen_editor.specs.declared.key.Key.TheVariants.{Typed, EraseBefore, EraseAt, Left, Right, LineStart, LineEnd, Up, Down, Mark, Cut, Paste, DropCut, Undo, Balance, Save, Leave, Nothing}
+use Rattle.screen_editor.specs.declared.key.Key.TheVariants.{Typed}
 use Rattle.screen_editor.specs.declared.key.Step.{Step}
-use Rattle.screen_editor.specs.Keys.{answer_to, key_of}
+use Rattle.screen_editor.specs.Keys.{answer_to, key_in, key_of, key_table}
 use Rattle.screen_editor.specs.Playing.{EndsRun}
 use Rattle.screen_editor.specs.Runs.{GoesOn}
 use Rattle.screen_editor.proofs.Playing.{kept_append}
@@ -14,35 +14,46 @@ use Rattle.screen_editor.proofs.Playing.{kept_append}
 abbrev Continues : ℕ → Type 0
 Continues b = answer_to (key_of b) ≡ Step.Going
 
-either : (test : Bool) (key other : Key) → answer_to key ≡ Step.Going → answer_to other ≡ Step.Going → answer_to (if test then key else other) ≡ Step.Going
-either true key other h k = h
-either false key other h k = k
+abbrev is_going : Step → Bool
+is_going Step.Going = true
+is_going _ = false
 
-passed : (save leave : Bool) → (not save && not leave) ≡ true → answer_to (if save then Save else (if leave then Leave else Nothing)) ≡ Step.Going
-passed true leave h = absurd cc
-passed false true h = absurd cc
-passed false false h = refl
+going_is : (step : Step) → is_going step ≡ true → step ≡ Step.Going
+going_is Step.Going h = refl
+going_is Step.Save h = absurd cc
+going_is Step.Leave h = absurd cc
+
+-- each byte of the rows that is kept ends no run
+abbrev are_rows_kept : List (ℕ × Key) → Bool
+are_rows_kept [] = true
+are_rows_kept (row ∷ rows) = (not (goes_on row.0) || is_going (answer_to row.1)) && are_rows_kept rows
+
+both : (x y : Bool) → (x && y) ≡ true → (x ≡ true) × (y ≡ true)
+both true y h = (refl, h)
+both false y h = absurd cc
+
+going_row : (is_kept goes : Bool) → is_kept ≡ true → (not is_kept || goes) ≡ true → goes ≡ true
+going_row true goes kept h = h
+going_row false goes kept h = absurd cc
+
+by_row : (test : Bool) (b : ℕ) (row : ℕ × Key) (other : Key) → (b == row.0) ≡ test → goes_on b ≡ true
+    → (not (goes_on row.0) || is_going (answer_to row.1)) ≡ true → answer_to other ≡ Step.Going → answer_to (if test then row.1 else other) ≡ Step.Going
+by_row true b row other is kept h k = going_is (answer_to row.1) (going_row (goes_on row.0) (is_going (answer_to row.1)) (subst (λ (n : ℕ). goes_on n ≡ true) (eqb-true b row.0 is) kept) h)
+by_row false b row other is kept h k = k
+
+kept_in : (rows : List (ℕ × Key)) (b : ℕ) → are_rows_kept rows ≡ true → goes_on b ≡ true → answer_to (key_in rows b) ≡ Step.Going
+kept_in [] b h kept = refl
+kept_in (row ∷ rows) b h kept =
+    let each = both (not (goes_on row.0) || is_going (answer_to row.1)) (are_rows_kept rows) h in
+    by_row (b == row.0) b row (key_in rows b) refl kept each.0 (kept_in rows b each.1 kept)
+
+printed : (test : Bool) (b : ℕ) (other : Key) → answer_to other ≡ Step.Going → answer_to (if test then Typed b else other) ≡ Step.Going
+printed true b other h = refl
+printed false b other h = h
 
 -- a key that is kept ends no run
 kept_continues : (b : ℕ) → goes_on b ≡ true → Continues b
-kept_continues b h =
-    either ((nat_le 0x20 b && nat_le b 0x7E) || b == 0x09) (Typed b) _ refl
-    (either (b == 0x0A || b == 0x0D) (Typed 0x0A) _ refl
-    (either (b == 0x08 || b == 0x7F) EraseBefore _ refl
-    (either (b == 0x04) EraseAt _ refl
-    (either (b == 0x02) Left _ refl
-    (either (b == 0x06) Right _ refl
-    (either (b == 0x01) LineStart _ refl
-    (either (b == 0x05) LineEnd _ refl
-    (either (b == 0x10) Up _ refl
-    (either (b == 0x0E) Down _ refl
-    (either (b == 0x00) Mark _ refl
-    (either (b == 0x17) Cut _ refl
-    (either (b == 0x19) Paste _ refl
-    (either (b == 0x14) DropCut _ refl
-    (either (b == 0x15) Undo _ refl
-    (either (b == 0x0C) Balance _ refl
-    (passed (b == 0x18) (b == 0x03) h))))))))))))))))
+kept_continues b kept = printed (nat_le 0x20 b && nat_le b 0x7E) b (key_in key_table b) (kept_in key_table b refl kept)
 
 not_kept : (save leave : Bool) → (not save && not leave) ≡ false → (save ≡ true) ⊎ (leave ≡ true)
 not_kept true leave h = inl refl

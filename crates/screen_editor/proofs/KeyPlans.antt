@@ -64,7 +64,7 @@ too_long_kept key e one long = record {
 
 -- ---- no revision
 
--- a key that leaves the texts as they are makes no revision, and no text that is too long
+-- a key that leaves the texts as they are makes no revision
 pub makes_none : (key : Key) (e : Editing) → (done key (state_of no_source e)).texts ≡ texts_of no_source e.session → MakesRevision key e → ⊥
 makes_none key e same one =
     let count : length (done key (state_of no_source e)).texts ≡ length e.session.revisions = ap length same ∙ count_texts e.session no_source in
@@ -123,7 +123,8 @@ long_kept key e prior q t does long = too_long_kept key e
     (λ source. ap (λ (s : EditorState). length s.texts) (does source) ∙ count_revised source e (t source))
     (λ source. subst (λ n. LONGEST_TEXT < n) (sym (ap (λ (s : EditorState). length (current s)) (does source) ∙ ap length (current_revised source e (t source)))) (long source))
 
--- the command by which the key does its work on this session, with the revision's prior, the place and the cut spans that it leaves
+-- the command by which the key does its work on this session, with the revision's prior, the place and the cut spans
+-- after it
 pub record IsPlan (key : Key) (e : Editing) (command : Command) (prior : Option ℕ) (q : ℕ) (cuts : List CutSpan) : Type 0 where
   pub edit : (a : ℕ) (source : ℕ → ℕ → ℕ) → edit_of a key (state_of source e) ≡ Some (edit_at a command)
   pub does : (source : ℕ → ℕ → ℕ) → done key (state_of source e) ≡ record (revised (state_of source e) (text_given (texts_of source e.session) command) prior q) { cuts = cuts }

@@ -5,8 +5,8 @@ use Rattle.std.specs.Borrow.{Bor}
 use Rattle.std.specs.Option.{option_map}
 use Rattle.std.proofs.lemmas.Bool.{lt-ltb, le-ltb, eq-eqb, ne_eqb}
 use Rattle.std.proofs.lemmas.List.{length-take, length-drop}
-use Rattle.span_certificate.specs.declared.edit.Edit.TheVariants as Recorded
-use Rattle.span_certificate.specs.Commands.{replaced}
+use Rattle.command_parts.specs.declared.edit.Edit.TheVariants as Recorded
+use Rattle.command_parts.specs.Commands.{replaced}
 use Rattle.edit_commands.specs.declared.command.Command.TheVariants.{Insert, Delete, Paste, Back, Balance}
 use Rattle.edit_commands.specs.Session.{HoldsHistory, length_at, texts_of}
 use Rattle.screen_editor.specs.declared.cut_span.CutSpan.{CutSpan}

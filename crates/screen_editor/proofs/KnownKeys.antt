@@ -13,7 +13,7 @@ use Rattle.rope_node.specs.Denotes.{rope_len}
 use Rattle.lazy_file.specs.SourceTexts.{Agrees, Stated}
 use Rattle.cord_position.specs.Fetched.{IsStated, rope_cell}
 use Rattle.cord_search.specs.Stated.{OfText}
-use Rattle.span_certificate.specs.Commands.{replaced}
+use Rattle.command_parts.specs.Commands.{replaced}
 use Rattle.edit_commands.specs.Session.{HoldsHistory, SessionValue}
 use Rattle.screen_editor.specs.declared.cut_span.CutSpan.{CutSpan}
 use Rattle.screen_editor.specs.declared.fault.KeyFault.{KeyFault}
@@ -48,14 +48,14 @@ known_of st old new f known later h becomes each more is source agrees stated =
     let before : IsKnownIn known (current (state_of source old)) = subst (IsKnownIn known) (sym (current_text source old)) (is source agrees (each source agrees stated)) in
     subst (IsKnownIn later) (sym (becomes source agrees) ∙ current_text source new) (more source (current (state_of source old)) (current_text_len old h source) before)
 
--- the same text
+-- lines that are known stay so where the text stays
 known_kept : (st : Stated) (old new : Editing) (known : KnownLines) → HoldsHistory old.session → HoldsHistory new.session → Becomes st old new (λ source t. t) → IsKnownLine st old known → IsKnownLine st new known
 known_kept st old new known h hn becomes is =
     known_of st old new (λ source t. t) known known h becomes
     (λ source agrees stated k _ lt. stated_before st old new (λ source t. t) h hn becomes source agrees stated k k lt (λ source t _. refl))
     (λ source t _ known. known) is
 
--- so many bytes more
+-- n bytes are put in at p
 known_put : (st : Stated) (old new : Editing) (p n : ℕ) (x : (ℕ → ℕ → ℕ) → List ℕ) (known later : KnownLines) → HoldsHistory old.session → HoldsHistory new.session → p ≤ current_len old
     → ((source : ℕ → ℕ → ℕ) → length (x source) ≡ n) → Becomes st old new (λ source t. replaced t p 0 (x source))
     → ((source : ℕ → ℕ → ℕ) (t : List ℕ) → p ≤ length t → IsKnownIn known t → IsKnownIn later (replaced t p 0 (x source)))
@@ -78,7 +78,7 @@ ToldFrom e p m = AreToldByOthers (current_cell e) (current_len e) p m
 abbrev pub WithoutLines : ℕ → ℕ → KnownLines → KnownLines → Type 0
 WithoutLines p m known later = (t : List ℕ) → p + m ≤ length t → IsKnownIn known t → IsKnownIn later (replaced t p m [])
 
--- so many bytes less, whose cells are stated where all others are
+-- m bytes are taken out at p, whose cells are stated where all others are
 known_without : (st : Stated) (old new : Editing) (p m : ℕ) (known later : KnownLines) → HoldsHistory old.session → HoldsHistory new.session → p + m ≤ current_len old → ToldFrom old p m
     → Becomes st old new (λ source t. replaced t p m []) → WithoutLines p m known later → IsKnownLine st old known → IsKnownLine st new later
 known_without st old new p m known later h hn inside told becomes law is =

@@ -19,7 +19,7 @@ use Rattle.edit_commands.proofs.GoingOn.{goes_on_itself}
 use Rattle.screen_editor.specs.declared.fault.KeyFault.{KeyFault}
 use Rattle.screen_editor.specs.declared.fault.KeyFault.TheVariants as Fault
 use Rattle.screen_editor.specs.declared.key.Key.{Key}
-use Rattle.screen_editor.specs.declared.key.Key.TheVariants.{Typed, EraseBefore, EraseAt, Left, Right, LineStart, LineEnd, Up, Down, Mark, Cut, Paste, DropCut, Undo, Balance, Save, Leave, Nothing}
+use Rattle.screen_editor.specs.declared.key.Key.TheVariants.{LineStart, LineEnd, Up, Down}
 use Rattle.screen_editor.specs.Editing.{Editing, EachCurrent, IsEditing, current_cell, current_len, current_root, last_of, state_of}
 use Rattle.screen_editor.specs.Keys.{looks_for_lines}
 use Rattle.screen_editor.specs.LineKeys.{DoesStated, IsLinePlace, Takes, line_place}
@@ -55,60 +55,21 @@ moves_there LineStart s p e = ap (moved s) (same_Some _ p e)
 moves_there LineEnd s p e = ap (moved s) (same_Some _ p e)
 moves_there Up s p e = ap (moved s) (same_Some _ p e)
 moves_there Down s p e = ap (moved s) (same_Some _ p e)
-moves_there (Typed b) s p e = absurd cc
-moves_there EraseBefore s p e = absurd cc
-moves_there EraseAt s p e = absurd cc
-moves_there Left s p e = absurd cc
-moves_there Right s p e = absurd cc
-moves_there Mark s p e = absurd cc
-moves_there Cut s p e = absurd cc
-moves_there Paste s p e = absurd cc
-moves_there DropCut s p e = absurd cc
-moves_there Undo s p e = absurd cc
-moves_there Balance s p e = absurd cc
-moves_there Save s p e = absurd cc
-moves_there Leave s p e = absurd cc
-moves_there Nothing s p e = absurd cc
+moves_there _ s p e = absurd cc
 
 no_edit : (key : Key) (a : ℕ) (s : EditorState) → looks_for_lines key ≡ true → edit_of a key s ≡ None
 no_edit LineStart a s e = refl
 no_edit LineEnd a s e = refl
 no_edit Up a s e = refl
 no_edit Down a s e = refl
-no_edit (Typed b) a s e = absurd cc
-no_edit EraseBefore a s e = absurd cc
-no_edit EraseAt a s e = absurd cc
-no_edit Left a s e = refl
-no_edit Right a s e = refl
-no_edit Mark a s e = refl
-no_edit Cut a s e = absurd cc
-no_edit Paste a s e = absurd cc
-no_edit DropCut a s e = refl
-no_edit Undo a s e = absurd cc
-no_edit Balance a s e = absurd cc
-no_edit Save a s e = refl
-no_edit Leave a s e = refl
-no_edit Nothing a s e = refl
+no_edit _ a s e = absurd cc
 
 same_texts : (key : Key) (s : EditorState) → looks_for_lines key ≡ true → (done key s).texts ≡ s.texts
 same_texts LineStart s e = refl
 same_texts LineEnd s e = refl
 same_texts Up s e = refl
 same_texts Down s e = refl
-same_texts (Typed b) s e = absurd cc
-same_texts EraseBefore s e = absurd cc
-same_texts EraseAt s e = absurd cc
-same_texts Left s e = absurd cc
-same_texts Right s e = absurd cc
-same_texts Mark s e = absurd cc
-same_texts Cut s e = absurd cc
-same_texts Paste s e = absurd cc
-same_texts DropCut s e = absurd cc
-same_texts Undo s e = absurd cc
-same_texts Balance s e = absurd cc
-same_texts Save s e = absurd cc
-same_texts Leave s e = absurd cc
-same_texts Nothing s e = absurd cc
+same_texts _ s e = absurd cc
 
 -- ---- what taking such a key does
 
@@ -157,7 +118,7 @@ failed_takes key before now old f is history looks h = record {
   sources = refl;
 }
 
--- ---- and any other key
+-- ---- all other keys
 
 any_fault : (key : Key) (old new : Editing) (result : Result (Unit {0}) KeyFault) → IfErr result (λ f. IsPlainFault key old f new) → IfErr result (λ f. key_source_fault f ≡ None → IsPlainFault key old f new)
 any_fault key old new (Ok u) h = tt

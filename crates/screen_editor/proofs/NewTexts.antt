@@ -9,11 +9,11 @@ use Rattle.std.proofs.lemmas.Option.{same_Some, get_or_from_slice_get}
 use Rattle.rope_node.specs.declared.node.NodeId.{NodeId}
 use Rattle.rope_node.specs.Table.{Table}
 use Rattle.rope_node.specs.Denotes.{Cell, Byte, cell_byte, rope_cells, rope_len, text}
-use Rattle.span_certificate.specs.declared.edit.Edit.{Edit}
-use Rattle.span_certificate.specs.declared.edit.Splice.{Splice}
-use Rattle.span_certificate.specs.Commands.{FullEdit, with_splices, Givens, ◌>>=◌, span, bounded, replaced, spliced, result_of}
-use Rattle.span_certificate.specs.Parts.{givens_of}
-use Rattle.span_certificate.proofs.MappedResults.{mapped_givens, result_mapped}
+use Rattle.command_parts.specs.declared.edit.Edit.{Edit}
+use Rattle.command_parts.specs.declared.edit.Splice.{Splice}
+use Rattle.command_parts.specs.Commands.{FullEdit, with_splices, Givens, ◌>>=◌, span, bounded, replaced, spliced, result_of}
+use Rattle.command_parts.specs.Parts.{givens_of}
+use Rattle.command_parts.proofs.MappedResults.{mapped_givens, result_mapped}
 use Rattle.edit_commands.specs.declared.command.Command.{Command}
 use Rattle.edit_commands.specs.declared.command.Command.TheVariants.{New, Open, Insert, Delete, Replace, Paste, Join, Cut, Fill, Back, Balance, Many}
 use Rattle.edit_commands.specs.declared.revision.Revision.{Revision}

@@ -1,4 +1,5 @@
--- A session that is gone on with keeps to the editor's rules; a saved one is opened with the texts and the priors that it had.
+-- A session that is gone on with keeps to the editor's rules; a saved one is opened with the texts and the priors that
+-- it had.
 use Rattle.std.proofs.Common.{◌≡◌, ℕ, ◌<◌, ◌≤◌, List, [], length, Option, None, refl, sym, ap, arith, ◌∙◌}
 use Rattle.std.proofs.lemmas.List.{length-map}
 use Rattle.edit_commands.specs.declared.revision.Revision.{Revision}

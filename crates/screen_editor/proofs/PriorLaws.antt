@@ -7,11 +7,11 @@ use Rattle.std.proofs.lemmas.Option.{get_or_from_slice_get, same_Some, slice_get
 use Rattle.std.proofs.Math.Seq.{take-suc}
 use Rattle.std.specs.Option.{option_map}
 use Rattle.circular_buffer.proofs.Places.{slice_get-append_left, slice_get-append_right}
-use Rattle.span_certificate.specs.declared.edit.Edit.{Edit}
-use Rattle.span_certificate.specs.declared.edit.Edit.TheVariants as Recorded
-use Rattle.span_certificate.specs.declared.edit.Splice.{Splice}
-use Rattle.span_certificate.specs.Commands.{with_splices}
-use Rattle.span_certificate.specs.Parts.{IsInRange}
+use Rattle.command_parts.specs.declared.edit.Edit.{Edit}
+use Rattle.command_parts.specs.declared.edit.Edit.TheVariants as Recorded
+use Rattle.command_parts.specs.declared.edit.Splice.{Splice}
+use Rattle.command_parts.specs.Commands.{with_splices}
+use Rattle.command_parts.specs.Parts.{IsInRange}
 use Rattle.rope_node.specs.declared.node.NodeId.{NodeId}
 use Rattle.rope_node.specs.Table.{Table}
 use Rattle.edit_commands.specs.declared.revision.Revision.{Revision}
@@ -118,7 +118,7 @@ behind_earlier before (Recorded.Back r) earlier named = go (get_or before r None
     go None at = tt
     go (Some j) at = let lt = earlier r j at in omega (arith, lt, named)
 
--- each of these commands names none but revisions before its own, where so many stand before them
+-- each of these commands names only revisions before its own, where n stand before them
 abbrev NameBefore : ℕ → List Edit → Type 0
 NameBefore n edits = (k : ℕ) (e : Edit) → slice_get edits k ≡ Some e → IfSome (made_from e) (λ r. r < n + k)
 

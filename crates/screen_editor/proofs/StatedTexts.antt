@@ -1,4 +1,5 @@
--- Which cells of the current text are stated: those whose bytes are the same over two kinds of sources that agree with what is stated.
+-- Which cells of the current text are stated: those whose bytes are the same over two kinds of sources that agree with
+-- what is stated.
 use Rattle.std.proofs.Common.{◌≡◌, ℕ, suc, ◌<◌, List, length, get_or, Option, Some, None, inl, inr, refl, sym, ap, ◌∙◌, arith}
 use Rattle.std.specs.Prelude.{IsSome}
 use Rattle.std.proofs.lemmas.Bool.{cases_lt}

@@ -20,7 +20,7 @@ use Rattle.screen_editor.proofs.ToldKeys.{goes_on}
 
 -- ---- a key that is refused ends no run
 
--- one that changes no text and looks for no line break is not refused
+-- a key that leaves the texts as they are, without a look for line breaks, is taken
 is_taken : (before now : Reading) (key : Key) (old new : Editing) (fault : KeyFault) → (done key (state_of no_source old)).texts ≡ texts_of no_source old.session → looks_for_lines key ≡ false
     → (key_source_fault fault ≡ None → IsPlainFault key old fault new) → Reads before now (KeyAsks key old) (key_source_fault fault) → ⊥
 is_taken before now key old new Fault.TooLong same plain h reads = makes_none key old same (h refl)

@@ -10,7 +10,7 @@ use Rattle.edit_commands.specs.Session.{cells_of, texts_of}
 use Rattle.screen_editor.specs.declared.fault.KeyFault.{KeyFault}
 use Rattle.screen_editor.specs.declared.fault.KeyFault.TheVariants as Fault
 use Rattle.screen_editor.specs.declared.key.Key.{Key}
-use Rattle.screen_editor.specs.declared.key.Key.TheVariants.{Typed, EraseBefore, EraseAt, Left, Right, LineStart, LineEnd, Up, Down, Mark, Cut, Paste, DropCut, Undo, Balance, Save, Leave, Nothing}
+use Rattle.screen_editor.specs.declared.key.Key.TheVariants.{Save, Leave}
 use Rattle.screen_editor.specs.declared.key.Step.{Step}
 use Rattle.screen_editor.specs.Editing.{Editing, key_code, state_of}
 use Rattle.screen_editor.specs.Keys.{answer_to, looks_for_lines}
@@ -23,52 +23,24 @@ use Rattle.screen_editor.specs.State.{EditorState}
 -- ---- the message of a key
 
 -- Save and Leave keep it
-pub saves : (key : Key) → key ≡ Save → answer_to key ≡ Step.Save
-saves key e = subst (λ (k : Key). answer_to k ≡ Step.Save) (sym e) refl
+pub saves : (key : Key) → Step.Save ≡ answer_to key → key ≡ Save
+saves Save e = refl
+saves _ e = absurd cc
 
-pub leaves : (key : Key) → key ≡ Leave → answer_to key ≡ Step.Leave
-leaves key e = subst (λ (k : Key). answer_to k ≡ Step.Leave) (sym e) refl
+pub leaves : (key : Key) → Step.Leave ≡ answer_to key → key ≡ Leave
+leaves Leave e = refl
+leaves _ e = absurd cc
 
 -- each other key clears it
 cleared : (key : Key) (m : Option (List ℕ)) → answer_to key ≡ Step.Going → message_after key m ≡ None
-cleared (Typed b) m e = refl
-cleared EraseBefore m e = refl
-cleared EraseAt m e = refl
-cleared Left m e = refl
-cleared Right m e = refl
-cleared LineStart m e = refl
-cleared LineEnd m e = refl
-cleared Up m e = refl
-cleared Down m e = refl
-cleared Mark m e = refl
-cleared Cut m e = refl
-cleared Paste m e = refl
-cleared DropCut m e = refl
-cleared Undo m e = refl
-cleared Balance m e = refl
 cleared Save m e = absurd cc
 cleared Leave m e = absurd cc
-cleared Nothing m e = refl
+cleared _ m e = refl
 
 pub goes_on : (key : Key) → ((key ≡ Save) → ⊥) → ((key ≡ Leave) → ⊥) → answer_to key ≡ Step.Going
-goes_on (Typed b) h k = refl
-goes_on EraseBefore h k = refl
-goes_on EraseAt h k = refl
-goes_on Left h k = refl
-goes_on Right h k = refl
-goes_on LineStart h k = refl
-goes_on LineEnd h k = refl
-goes_on Up h k = refl
-goes_on Down h k = refl
-goes_on Mark h k = refl
-goes_on Cut h k = refl
-goes_on Paste h k = refl
-goes_on DropCut h k = refl
-goes_on Undo h k = refl
-goes_on Balance h k = refl
 goes_on Save h k = absurd (h refl)
 goes_on Leave h k = absurd (k refl)
-goes_on Nothing h k = refl
+goes_on _ h k = refl
 
 -- ---- the same fault of another call
 

@@ -97,8 +97,8 @@ pub record IsCutSpan (v : SessionValue) (c : CutSpan) : Type 0 where
   pub inside : c.start + c.len ≤ length_at v c.revision
   pub some : 1 ≤ c.len
 
--- There is a revision, each has its prior, which its command names, and each text is short enough; the place and the mark lie in
--- the current text, and the cut spans in theirs.
+-- There is a revision, each has its prior, which its command names, and each text is short enough; the place and the
+-- mark lie in the current text, and the cut spans in theirs.
 pub record IsEditing (e : Editing) : Type 0 where
   pub session : IsSession e.session
   pub some : 1 ≤ length e.session.revisions

@@ -5,25 +5,32 @@ use Rattle.lazy_file.specs.Readings.{Reading, Reads, fault_by}
 use Rattle.cord_position.specs.Fetched.{IsStated}
 use Rattle.cord_search.specs.Stated.{OfText}
 use Rattle.edit_commands.specs.declared.fault.EditFault.TheVariants as Edit
-use Rattle.span_certificate.specs.declared.edit.TheConstants.{MOST_REVISIONS}
+use Rattle.command_parts.specs.declared.edit.TheConstants.{MOST_REVISIONS}
 use Rattle.edit_commands.specs.Session.{session_table}
 use Rattle.screen_editor.specs.declared.fault.KeyFault.{KeyFault}
 use Rattle.screen_editor.specs.declared.fault.KeyFault.TheVariants as Fault
+use Rattle.screen_editor.specs.declared.key.Effect.{Effect}
+use Rattle.screen_editor.specs.declared.key.Effect.TheVariants.{Looks}
+use Rattle.screen_editor.specs.declared.key.LinePlace.TheVariants as LinePlace
 use Rattle.screen_editor.specs.declared.key.Key.{Key}
 use Rattle.screen_editor.specs.Editing.{Editing, EachCurrent, current_len, current_root, state_of}
-use Rattle.screen_editor.specs.Keys.{looks_for_lines}
+use Rattle.screen_editor.specs.Keys.{effect_of, looks_for_lines}
 use Rattle.text_lines.specs.Lines.{line_start, line_end, place_up, place_down}
 use Rattle.screen_editor.specs.Machine.{done}
 use Rattle.screen_editor.specs.Refusals.{GrowsTooLong, IsPlainFault, KeyAsks, MakesRevision, key_source_fault}
 use Rattle.screen_editor.specs.Revising.{AppliesCommand, KeepsAll}
 
+-- where it leads from a place, if it looks for line breaks
+abbrev pub place_by : Effect → List ℕ → ℕ → Option ℕ
+place_by (Looks LinePlace.Start) t p = Some (line_start t p)
+place_by (Looks LinePlace.End) t p = Some (line_end t p)
+place_by (Looks LinePlace.Above) t p = Some (place_up t p)
+place_by (Looks LinePlace.Below) t p = Some (place_down t p)
+place_by _ t p = None
+
 -- where a key leads that looks for line breaks
 abbrev pub line_place : Key → List ℕ → ℕ → Option ℕ
-line_place Key.LineStart t p = Some (line_start t p)
-line_place Key.LineEnd t p = Some (line_end t p)
-line_place Key.Up t p = Some (place_up t p)
-line_place Key.Down t p = Some (place_down t p)
-line_place _ t p = None
+line_place key t p = place_by (effect_of key) t p
 
 -- a place of the current text; it is the key's, where each cell of the text is stated
 pub record IsLinePlace (st : Stated) (key : Key) (e : Editing) (p : ℕ) : Type 0 where

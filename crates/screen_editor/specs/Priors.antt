@@ -1,7 +1,7 @@
 -- Which revision Undo goes back to, as the commands of a session say it.
 use Rattle.std.specs.Prelude.{ℕ, List, [], ◌∷◌, ◌++◌, get_or, Option, Some, None}
-use Rattle.span_certificate.specs.declared.edit.Edit.{Edit}
-use Rattle.span_certificate.specs.declared.edit.Edit.TheVariants.{New, Open, Insert, Delete, Replace, Paste, Join, Cut, Fill, Back, Balance, Many}
+use Rattle.command_parts.specs.declared.edit.Edit.{Edit}
+use Rattle.command_parts.specs.declared.edit.Edit.TheVariants.{New, Open, Insert, Delete, Replace, Paste, Join, Cut, Fill, Back, Balance, Many}
 
 -- the revision that a command names first, if it names one
 abbrev pub made_from : Edit → Option ℕ
@@ -18,8 +18,8 @@ made_from (Back r) = Some r
 made_from (Balance r) = Some r
 made_from (Many r first count) = Some r
 
--- Behind revisions with these priors, that of the one that a command makes: the revision from which its text was made. A text that
--- stands again has the prior that it had.
+-- Behind revisions with these priors, that of the one that a command makes: the revision from which its text was made.
+-- A text that stands again has the prior that it had.
 abbrev pub prior_behind : List (Option ℕ) → Edit → Option ℕ
 prior_behind priors (Back r) = get_or priors r None
 prior_behind priors edit = made_from edit

@@ -1,6 +1,6 @@
 -- The commands of an editor's session as they are recorded.
 use Rattle.std.specs.Prelude.{ℕ, List, [], ◌∷◌, map}
-use Rattle.span_certificate.specs.declared.edit.Edit.{Edit}
+use Rattle.command_parts.specs.declared.edit.Edit.{Edit}
 use Rattle.edit_commands.specs.declared.command.Command.{Command}
 use Rattle.edit_commands.specs.declared.command.Command.TheVariants.{Many}
 use Rattle.edit_commands.specs.declared.revision.Revision.{Revision}

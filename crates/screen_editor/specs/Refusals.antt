@@ -6,7 +6,7 @@ use Rattle.cord_position.specs.Fetched.{InCells}
 use Rattle.edit_commands.specs.declared.command.Command.{Command}
 use Rattle.edit_commands.specs.declared.fault.EditFault.{EditFault}
 use Rattle.edit_commands.specs.declared.fault.EditFault.TheVariants as Edit
-use Rattle.span_certificate.specs.declared.edit.TheConstants.{MOST_REVISIONS}
+use Rattle.command_parts.specs.declared.edit.TheConstants.{MOST_REVISIONS}
 use Rattle.edit_commands.specs.Applying.{IsLaterFault}
 use Rattle.screen_editor.specs.declared.fault.EditorFault.{EditorFault}
 use Rattle.screen_editor.specs.declared.fault.EditorFault.TheVariants as New

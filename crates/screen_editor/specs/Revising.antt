@@ -6,7 +6,7 @@ use Rattle.lazy_file.specs.Readings.{Reading, Reads, fault_by}
 use Rattle.cord_position.specs.Fetched.{IsStated}
 use Rattle.edit_commands.specs.declared.command.Command.{Command}
 use Rattle.edit_commands.specs.declared.fault.EditFault.TheVariants as Edit
-use Rattle.span_certificate.specs.declared.edit.TheConstants.{MOST_REVISIONS}
+use Rattle.command_parts.specs.declared.edit.TheConstants.{MOST_REVISIONS}
 use Rattle.edit_commands.specs.Applying.{Applies, Keeps}
 use Rattle.edit_commands.specs.Session.{SessionValue}
 use Rattle.screen_editor.specs.declared.fault.KeyFault.{KeyFault}

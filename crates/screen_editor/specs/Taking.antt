@@ -3,7 +3,7 @@ use Rattle.std.specs.Prelude.{◌≡◌, ◌↔◌, ◌⊎◌, ℕ, ◌+◌, ◌
 use Rattle.edit_commands.specs.declared.command.Command.{Command}
 use Rattle.edit_commands.specs.declared.command.Command.TheVariants.{Insert, Delete, Paste, Back, Balance}
 use Rattle.edit_commands.specs.declared.fault.EditFault.TheVariants as Edit
-use Rattle.span_certificate.specs.declared.edit.TheConstants.{MOST_REVISIONS}
+use Rattle.command_parts.specs.declared.edit.TheConstants.{MOST_REVISIONS}
 use Rattle.edit_commands.specs.Applying.{IsLaterFault}
 use Rattle.edit_commands.specs.Session.{SessionValue, length_at}
 use Rattle.screen_editor.specs.declared.fault.KeyFault.{KeyFault}

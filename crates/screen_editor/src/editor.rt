@@ -13,7 +13,7 @@ ghost use Rattle.screen_editor.specs.Refusals.{IsNewFault, IsTooLong};
 ghost use Rattle.screen_editor.specs.Runs.{MakesFrame};
 
 use crate::fault::{EditorFault, KeyFault};
-use crate::key::{Key, Step};
+use crate::key::{Effect, Key, LinePlace, Step};
 use crate::known::known_after;
 use crate::opening::{first_session, opened_session};
 use crate::workspace::Workspace;
@@ -62,12 +62,20 @@ fn line_place<R: Sources>(
 {
     let space = workspace.session().space();
     let (root, place) = (workspace.root(), workspace.place());
-    match key {
-        Key::LineStart => Ok(Some(line_start(alloc, space, sources, root, known, place)?)),
-        Key::LineEnd => Ok(Some(line_end(alloc, space, sources, root, known, place)?)),
-        Key::Up => Ok(Some(place_up(alloc, space, sources, root, known, place)?)),
-        Key::Down => Ok(Some(place_down(alloc, space, sources, root, known, place)?)),
-        _ => Ok(None),
+    match key.effect() {
+        Effect::Looks(LinePlace::Start) => Ok(Some(line_start(
+            alloc, space, sources, root, known, place,
+        )?)),
+        Effect::Looks(LinePlace::End) => Ok(Some(line_end(
+            alloc, space, sources, root, known, place,
+        )?)),
+        Effect::Looks(LinePlace::Above) => Ok(Some(place_up(
+            alloc, space, sources, root, known, place,
+        )?)),
+        Effect::Looks(LinePlace::Below) => Ok(Some(place_down(
+            alloc, space, sources, root, known, place,
+        )?)),
+        Effect::Moves | Effect::Edits | Effect::Ends(_) => Ok(None),
     }
 }
 
@@ -118,10 +126,10 @@ fn take_key<R: Sources>(
     }
     let _taken = workspace.last();
     *known = later;
-    match key {
-        Key::Save => Ok(Step::Save),
-        Key::Leave => Ok(Step::Leave),
-        _ => {
+    match key.answer() {
+        Step::Save => Ok(Step::Save),
+        Step::Leave => Ok(Step::Leave),
+        Step::Going => {
             workspace.tell(None);
             Ok(Step::Going)
         }
@@ -187,13 +195,13 @@ impl<R: Sources + Drop> Editor<R> {
         })
     }
 
-    /// An editor that goes on with a session over its sources, at the first byte of its last text; where it has no revision, with the text of
-    /// source 0, or an empty one where there is no source.
+    /// An editor that goes on with a session over its sources, at the first byte of its last text; where it has no
+    /// revision, with the text of source 0, or an empty one where there is no source.
     ///
     /// # Errors
     ///
-    /// `TooLong` where a text of the session has more than 2,147,483,647 bytes, or, where it has none, source 0. `Edit` where the session has no
-    /// revision, and refuses its first. `Memory`, where memory was refused.
+    /// `TooLong` where a text of the session has more than 2,147,483,647 bytes, or, where it has none, source 0. `Edit`
+    /// where the session has no revision, and refuses its first. `Memory`, where memory was refused.
     pub fn over(alloc: Global, sources: R, session: Session) -> Result<Editor<R>, EditorFault>
         requires { session.held.sources ≡ (R.reading sources).stated.sizes }
         ensures sources { IfOk result (λ e. e.sources ≡ sources) }

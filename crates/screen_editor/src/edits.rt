@@ -12,8 +12,8 @@ use crate::workspace::{LONGEST_TEXT, Workspace};
 use edit_commands::Command;
 
 impl Workspace {
-    /// Takes a key that looks for no line break. A refused one changes nothing but nodes and bytes of the session
-    /// to which nothing refers.
+    /// Takes a key that looks for no line break. What a refused one leaves in the session is only nodes and bytes to
+    /// which nothing refers.
     ///
     /// # Errors
     ///

@@ -13,9 +13,9 @@ use text_lines::FrameFault;
 /// Why no editor was made.
 #[derive(Clone, Copy, Debug, PartialEq, Eq)]
 pub enum EditorFault {
-    /// `K1`: source 0 has more than 2,147,483,647 bytes.
+    /// `K1`: source 0, or a text of the session that is gone on with, has more than 2,147,483,647 bytes.
     TooLong,
-    /// The session was refused memory, or its first revision would have too many rows.
+    /// The session refused its first revision, or memory was refused.
     Edit(EditFault),
     /// Memory was refused.
     Memory,

@@ -37,8 +37,8 @@ impl<R: Sources + Drop> Editor<R> {
         Ok(self.press(byte))
     }
 
-    /// Shows the state, takes a key, which is kept before it is taken, and so on: up to the key Save or Leave, which is not
-    /// kept, or where no key is left.
+    /// Shows the state, takes a key, which is kept before it is taken, and so on: up to the key Save or Leave, which is
+    /// not kept, or where no key is left.
     ///
     /// # Errors
     ///

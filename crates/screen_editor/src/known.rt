@@ -2,7 +2,7 @@
 
 ghost use Rattle.screen_editor.specs.declared.key.Key.TheVariants as Keys;
 ghost use Rattle.std.specs.Prelude.{◌<◌, ◌≤◌, ◌+◌, [], ℕ, List, length};
-ghost use Rattle.span_certificate.specs.Commands.{replaced};
+ghost use Rattle.command_parts.specs.Commands.{replaced};
 ghost use Rattle.text_lines.specs.KnownLines.{IsKnownIn, known_lines};
 ghost use Rattle.text_lines.specs.StatedCells.{AreToldByOthers};
 ghost use Rattle.screen_editor.specs.Editing.{current_cell, current_len};
@@ -13,7 +13,7 @@ use crate::workspace::Workspace;
 use std::alloc::Global;
 use text_lines::{KnownLines, are_told_by_others};
 
-/// The lines behind so many bytes of the current text that go out.
+/// The lines that stay known after `count` bytes of the current text are taken out at a place.
 fn known_without(
     alloc: Global,
     workspace: &Workspace,
@@ -39,7 +39,7 @@ fn known_without(
     }
 }
 
-/// The lines behind a cut. They stay where there is nothing to cut.
+/// The lines that stay known after a cut: all, where there is nothing to cut.
 fn known_cut(alloc: Global, workspace: &Workspace, known: &KnownLines) -> KnownLines
     ensures { StaysKnown Keys.Cut workspace.now known.now result }
 {
@@ -57,7 +57,7 @@ fn known_cut(alloc: Global, workspace: &Workspace, known: &KnownLines) -> KnownL
     known_without(alloc, workspace, known, start, count)
 }
 
-/// The lines behind the latest cut span that is put in at the place.
+/// The lines that stay known after the latest cut span is put in at the place.
 fn known_pasted(workspace: &Workspace, known: &KnownLines) -> KnownLines
     ensures { StaysKnown Keys.Paste workspace.now known.now result }
 {
@@ -70,7 +70,7 @@ fn known_pasted(workspace: &Workspace, known: &KnownLines) -> KnownLines
     }
 }
 
-/// What is known of the current text behind a key that is taken, where this was known before it.
+/// The lines that stay known after a key is taken, of those that are known before it.
 pub fn known_after(alloc: Global, workspace: &Workspace, known: &KnownLines, key: Key) -> KnownLines
     ensures { StaysKnown key workspace.now known.now result }
 {

@@ -1,4 +1,4 @@
-//! What is kept of a run's keys, and what a saved session is worth. The laws are contracts, and their bodies do nothing.
+//! What is kept of a run's keys, and what a saved session is worth. The laws are contracts; their bodies do nothing.
 
 ghost use Rattle.std.specs.Prelude.{◌≡◌, ◌++◌, ◌∷◌, [], ℕ, List};
 ghost use Rattle.key_journal.specs.Keys.{kept_of};
@@ -17,8 +17,9 @@ pub fn kept_keys()
         → kept_of (before ++ last ∷ []) ≡ before }
 {}
 
-/// A session with the commands and the texts of an editor's, where it is gone on with, is in the editor's last state but for the place, the mark, the
-/// cut spans and the message. So each Undo leads to the text to which it would have led.
+/// A session with the commands and the texts of an editor's, where it is gone on with, is in the editor's last state
+/// but for the place, the mark, the cut spans and the message. So each Undo leads to the text to which it would have
+/// led.
 #[tactic(auto, using(crate::proofs::OpenedSessions::opens_saved))]
 pub fn opens_what_was_saved()
     ensures same_state { (old e : Editing) (saved : SessionValue) → IsEditing old → OpensSession saved e

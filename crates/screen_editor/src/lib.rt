@@ -16,6 +16,6 @@ mod workspace;
 
 pub use editor::Editor;
 pub use fault::{EditorFault, End, KeyFault, RunFault};
-pub use key::{Key, Step};
+pub use key::{Effect, Key, LinePlace, Step};
 pub use running::MOST_KEYS;
 pub use text_lines::FrameFault;

@@ -9,10 +9,10 @@ ghost use Rattle.screen_editor.specs.Refusals.{IsNewFault, IsTooLong, first_comm
 
 use crate::fault::EditorFault;
 use crate::workspace::LONGEST_TEXT;
+use command_parts::Roots;
 use edit_commands::{Command, EditFault, Session};
 use lazy_file::Sources;
 use rope_node::{NodeSpace, rope_len};
-use span_certificate::Roots;
 use std::alloc::Global;
 
 /// Whether source 0 has too many bytes.
@@ -66,7 +66,8 @@ fn has_long_source(session: &Session) -> bool
     space.source_count() > 0 && space.source_len(0) > LONGEST_TEXT
 }
 
-/// The session that is gone on with: where it has no revision, with the text of source 0, or an empty one where there is no source.
+/// The session that is gone on with: where it has no revision, with the text of source 0, or an empty one where there
+/// is no source.
 pub(crate) fn opened_session(session: Session) -> Result<Session, EditorFault>
     ensures begins { IfOk result (GoesOnFrom session) }
     ensures some { IfOk result (λ v. 1 ≤ length v.revisions) }

@@ -1,19 +1,20 @@
 //! What Undo goes back to, as the commands of a session say it.
 
 ghost use Rattle.std.specs.Prelude.{◌≡◌, IfOk};
-ghost use Rattle.screen_editor.specs.Priors.{made_from, prior_behind, priors_of};
+ghost use Rattle.screen_editor.specs.Priors.{prior_behind, priors_of};
 ghost use Rattle.screen_editor.specs.Recorded.{edits_of};
 
+use command_parts::Edit;
 use edit_commands::Session;
-use span_certificate::Edit;
 use std::alloc::{AllocError, Global};
 
-/// The revision that a command names first, if it names one.
-fn made_from(edit: Edit) -> Option<u32>
-    ensures { result ≡ made_from edit }
+/// What Undo goes back to from the revision that a command makes behind revisions of which each has its own.
+fn prior_behind(priors: &[Option<u32>], edit: Edit) -> Option<u32>
+    ensures { result ≡ prior_behind priors.now edit }
 {
     match edit {
         Edit::New | Edit::Open { .. } => None,
+        Edit::Back { r } => *priors.get(r as usize)?,
         Edit::Insert { r, .. }
         | Edit::Delete { r, .. }
         | Edit::Replace { r, .. }
@@ -21,19 +22,8 @@ fn made_from(edit: Edit) -> Option<u32>
         | Edit::Join { r, .. }
         | Edit::Cut { r, .. }
         | Edit::Fill { r, .. }
-        | Edit::Back { r }
         | Edit::Balance { r }
         | Edit::Many { r, .. } => Some(r),
-    }
-}
-
-/// What Undo goes back to from the revision that a command makes behind revisions of which each has its own.
-fn prior_behind(priors: &[Option<u32>], edit: Edit) -> Option<u32>
-    ensures { result ≡ prior_behind priors.now edit }
-{
-    match edit {
-        Edit::Back { r } => *priors.get(r as usize)?,
-        _ => made_from(edit),
     }
 }
 

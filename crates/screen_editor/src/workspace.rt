@@ -17,9 +17,9 @@ use crate::cut_span::{CutSpan, MOST_CUTS};
 use crate::fault::KeyFault;
 use crate::priors::priors_of;
 use circular_buffer::HeapCircularBuffer;
+use command_parts::Roots;
 use edit_commands::{Command, EditFault, Session};
 use rope_node::{Rope, rope_len};
-use span_certificate::Roots;
 use std::alloc::{AllocError, Global};
 use std::marker::Model;
 

@@ -1,7 +1,7 @@
-use Rattle.std.proofs.Common.{Some, inl, inr}
+use Rattle.std.proofs.Common.{Some, inl, inr, sym}
 use Rattle.screen_editor.specs.declared.key.Step.TheVariants as Step
 use Rattle.screen_editor.proofs.KnownKeys.{refused_known}
-use Rattle.screen_editor.proofs.ToldKeys.{ending_told, going_told, goes_on, leaves, refused_told, saves}
+use Rattle.screen_editor.proofs.ToldKeys.{ending_told, going_told, leaves, refused_told, saves}
 use Rattle.screen_editor.proofs.editor.take_key.Goals as goal
 
 pub returns-in-Err-clause-takes : goal.returns-in-Err-clause-takes
@@ -9,20 +9,20 @@ returns-in-Err-clause-takes g c = refused_told c.args.key (g.R.Sources.reading c
 
 pub returns-in-Save-clause-takes : goal.returns-in-Save-clause-takes
 returns-in-Save-clause-takes g c =
-    let e = c.in-Save.is in
-    ending_told c.args.key (g.R.Sources.reading c.args.sources.now) (g.R.Sources.reading c.take.new.sources) c.args.workspace.now c.take.new.workspace Step.Save c.in_default.ensures (saves _ e) (inl e)
+    let e = c.in-Save.ensures in
+    ending_told c.args.key (g.R.Sources.reading c.args.sources.now) (g.R.Sources.reading c.take.new.sources) c.args.workspace.now c.take.new.workspace Step.Save c.in_default.ensures (sym e) (inl (saves c.args.key e))
 
 pub returns-in-Leave-clause-takes : goal.returns-in-Leave-clause-takes
 returns-in-Leave-clause-takes g c =
-    let e = c.in-Leave.is in
-    ending_told c.args.key (g.R.Sources.reading c.args.sources.now) (g.R.Sources.reading c.take.new.sources) c.args.workspace.now c.take.new.workspace Step.Leave c.in_default.ensures (leaves _ e) (inr e)
+    let e = c.in-Leave.ensures in
+    ending_told c.args.key (g.R.Sources.reading c.args.sources.now) (g.R.Sources.reading c.take.new.sources) c.args.workspace.now c.take.new.workspace Step.Leave c.in_default.ensures (sym e) (inr (leaves c.args.key e))
 
-pub returns-in_default-key : goal.returns-in_default-key
-returns-in_default-key g c = record {
-  takes = going_told c.args.key (g.R.Sources.reading c.args.sources.now) (g.R.Sources.reading c.take.new.sources) c.args.workspace.now c.take.new.workspace c.tell-in_default-key.new.self c.in_default.ensures
-      (goes_on c.args.key c.in_default-key.not-Save c.in_default-key.not-Leave) c.tell-in_default-key.ensures;
-  sizes = rw c.tell-in_default-key.ensures c.take.ensures.sources;
-  known = rw c.tell-in_default-key.ensures (c.known_after-later.ensures (g.R.Sources.reading c.args.sources.now) (g.R.Sources.reading c.take.new.sources) c.take.new.workspace c.in_default.ensures c.last-taken.ensures.history c.requires.known);
+pub returns-in-Going : goal.returns-in-Going
+returns-in-Going g c = record {
+  takes = going_told c.args.key (g.R.Sources.reading c.args.sources.now) (g.R.Sources.reading c.take.new.sources) c.args.workspace.now c.take.new.workspace c.tell-in-Going.new.self c.in_default.ensures
+      (sym c.in-Going.ensures) c.tell-in-Going.ensures;
+  sizes = rw c.tell-in-Going.ensures c.take.ensures.sources;
+  known = rw c.tell-in-Going.ensures (c.known_after-later.ensures (g.R.Sources.reading c.args.sources.now) (g.R.Sources.reading c.take.new.sources) c.take.new.workspace c.in_default.ensures c.last-taken.ensures.history c.requires.known);
 }
 
 pub returns-in-Err-clause-known : goal.returns-in-Err-clause-known
