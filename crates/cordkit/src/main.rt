@@ -326,6 +326,67 @@ fn run_over_image<L: Ledger, W: io::Write>(
     }
 }
 
+/// Makes a session or goes on with one, as the words ask.
+fn run_session<L: Ledger, W: io::Write>(
+    rt: &HostRuntime,
+    action: &Action<'_>,
+    answer: &mut Answer<W>,
+    meter: &mut Meter<'_>,
+    blank: Blank,
+) -> Result<Status, ToolFault>
+    requires name { blank.name ≡ L.name }
+    requires parts { blank.parts ≡ L.parts }
+    requires many { blank.parts ≡ 2 ^ 64 - 1 }
+{
+    match action {
+        Action::Edit {
+            onto,
+            keys,
+            session,
+            no_clobber,
+            image,
+            file,
+        } => {
+            let words = Editing {
+                onto: *onto,
+                keys: *keys,
+                session: *session,
+                no_clobber: *no_clobber,
+                image,
+                file: *file,
+            };
+            edit::<L, W>(rt, words, answer, blank)
+        }
+        Action::Discard { keys } => discard(rt, keys),
+        Action::Commit {
+            at_most,
+            image,
+            file,
+            sources,
+        } => {
+            let words = Committing {
+                at_most: *at_most,
+                image,
+                file,
+                sources,
+            };
+            commit::<L>(rt, words, meter, blank)
+        }
+        Action::Apply {
+            onto: Some(image),
+            at_most,
+            script,
+            sources,
+        } => apply_onto::<L, W>(rt, image, *at_most, script, sources, answer, meter, blank),
+        Action::Apply {
+            script,
+            sources,
+            ..
+        } => apply::<L, W>(rt, script, sources, answer, meter, blank),
+        _ => run_over_image::<L, W>(rt, action, answer, meter, blank),
+    }
+}
+
 /// Does what the words ask for. Files are opened in the order of the words
 /// before anything is written, the image of `edit` when it is saved.
 fn run<L: Ledger, W: io::Write>(
@@ -355,54 +416,10 @@ fn run<L: Ledger, W: io::Write>(
             file,
         } => find::<L>(rt, *all, *start, pattern.as_bytes(), file, meter, blank),
         Action::Cmp { first, second } => compare::<L>(rt, first, second, blank),
-        Action::Edit {
-            onto,
-            keys,
-            session,
-            no_clobber,
-            image,
-            file,
-        } => edit::<L, W>(
-            rt,
-            Editing {
-                onto: *onto,
-                keys: *keys,
-                session: *session,
-                no_clobber: *no_clobber,
-                image,
-                file: *file,
-            },
-            answer,
-            blank,
-        ),
-        Action::Discard { keys } => discard(rt, keys),
-        Action::Commit {
-            at_most,
-            image,
-            file,
-            sources,
-        } => commit::<L>(
-            rt,
-            Committing {
-                at_most: *at_most,
-                image,
-                file,
-                sources,
-            },
-            meter,
-            blank,
-        ),
-        Action::Apply {
-            onto: Some(image),
-            at_most,
-            script,
-            sources,
-        } => apply_onto::<L, W>(rt, image, *at_most, script, sources, answer, meter, blank),
-        Action::Apply {
-            script,
-            sources,
-            ..
-        } => apply::<L, W>(rt, script, sources, answer, meter, blank),
+        Action::Edit { .. }
+        | Action::Discard { .. }
+        | Action::Commit { .. }
+        | Action::Apply { .. } => { run_session::<L, W>(rt, action, answer, meter, blank) }
     }
 }
 
