@@ -308,7 +308,7 @@ try_pages() {
     done
     if [ "$all_examples" -ge 5 ]; then passes; else fails "$all_examples examples in the manual pages"; fi
     is_same 'the commands of the manual page' \
-        "$(sed -n 's/^\.It Cm \([a-z]*\).*/\1/p' "$prefix/share/man/man1/cordkit.1" | sort)" "$(commands)"
+        "$(sed -n 's/^\.It Cm \([a-z]*\).*/\1/p' "$prefix/share/man/man1/cordkit.1" | sort -u)" "$(commands)"
     is_same 'the options of the manual page' \
         "$(sed -n 's/^\.It Fl \(. , \)\{0,1\}-\([a-z-][a-z-]*\).*/--\2/p' "$prefix/share/man/man1/cordkit.1" | sort)" \
         "$({ options && for command in $(commands); do options "$command"; done; } | sort -u)"
@@ -361,6 +361,7 @@ cordkit check -- ses*;|check|--|session.cord
 cordkit sh*ses*1* te*te*;|show|session.cord|1|text|text
 cordkit mi*ses*te*;|migrate|session.cord|text
 cordkit l*--b*ses*te*;|log|--brief|session.cord|text
+cordkit blame --start 1* ses*1* te*;|blame|--start|1|session.cord|1|text
 cordkit cu*1* 1* te*te*;|cut|1|1|text|te
 cordkit j*te*a*;|join|text|a file
 cordkit f*1* te* te*;|find|1|te|text

@@ -250,7 +250,8 @@ begin() {
     "$CORDKIT" edit --explain "$@" < "$who.in" > "$who.out" 2> "$who.said" 8>&- 9>&- &
     if [ "$who" = A ]; then a=$! && exec 8> A.in; else b=$! && exec 9> B.in; fi
 }
-type_keys() { if [ "$1" = A ]; then printf "$2" >&8; else printf "$2" >&9; fi; }
+# A session may be refused before it reads a key: the pipe is broken then, which ends no more than the process that writes.
+type_keys() { if [ "$1" = A ]; then (printf "$2" >&8); else (printf "$2" >&9); fi; }
 close() {
     if [ "$1" = A ]; then exec 8>&- && wait "$a" 2> /dev/null; else exec 9>&- && wait "$b" 2> /dev/null; fi
     got=$?

@@ -4,19 +4,21 @@
 - in each run of refusal_tests, which makes the call that was refused once more and looks at what it left; in the runs whose names begin with
   `twice_` each two of them. Each run has to give back what it took, but for as many blocks as the frame of the tests holds where it runs no test.
   No contract says that: a leaf_buffer that derives `Drop` for `Room`, `Deed` and `RawBlock` is proved, and loses each block of the pool;
-- in runs of the built cordkit, each a row of the table of tests/program.sh. A run gives what the row says, or ends with `memory` and the status 3
-  behind a front of that; the editor may also refuse a key, which a frame tells, and then saves an image of the other keys. A run of the editor is
-  made once more with each allocation, and then gives what the row says;
+- in runs of the built cordkit, each a row of the table of tests/program.sh, or `--version`. A run gives what the row says, or ends with `memory` and
+  the status 3 behind a front of that; with `--explain` the explanation may be missing, or a plainer one of the same code; the editor may also refuse
+  a key, which a frame tells, and then saves an image of the other keys. A run of the editor is made once more with each allocation, and then gives
+  what the row says;
 - in a commit of a file, behind an image and anew: where it ended with `memory` the image is as it was, or none, and the same command with each allocation
   commits the file;
-- in a session whose keys are kept, over an image whose place it takes: where it ended with `memory` that image is as it was, and the same command with
-  each allocation plays what was kept and saves it.
+- in a session whose keys are kept, from nothing, and over an image whose place it takes: where it ended with `memory` there is no image, or that one as
+  it was, and the same command with each allocation plays what was kept and saves it.
 
 Usage: tests/refused.py [PROGRAM [TESTS]], the built program and the built tests, which `rt test` builds where they are not there. Where there is no
 gcc nothing is tried, which is told. The last line says how many allocations were refused; the status is not 0 where a run failed.
 """
 
 import os
+import re
 import shutil
 import subprocess
 import sys
@@ -47,6 +49,8 @@ a part of standard input
 files are joined in their order
 a script goes on from an image
 a row of bytes over a source
+an image is logged
+an image over a source is logged
 where bytes come from
 a byte of them
 a source shows no bytes
@@ -54,6 +58,8 @@ a revision that is not there to blame
 each second byte is of another command
 a pattern is found
 a pattern that does not occur
+each place of a pattern
+no place of a pattern
 a prefix is less
 equal files
 keys are shown and saved
@@ -61,6 +67,9 @@ a file is shown where no key comes
 keys go on from an image
 an image with a file that is shorter
 a row of bytes over a file
+* a source of another length in words
+a place past the end in words
+a file that is not there in words
 """
 
 MEMORY = b"memory\n"
@@ -95,6 +104,7 @@ def files():
     for name in ("one_insert", "bytes_row_over_a_source"):
         made[f"{name}_in_two"] = in_version_two(made[name])
     made |= {"abcde": b"abcde", "abc": b"abc", "ab": b"ab", "highest": b"\xff", "nothing": b"", "keys_saved": b"ab\x15c\x18", "key_save": SAVE}
+    made["weeks"] = b"abcdefg abcdefg abcdefg a"
     made["script_of_abc"] = b'new\n\n# the fox\ninsert 0 0 "abc" # revision 1\r\n'
     made["script_past_the_end"] = b'new\n\ninsert 0 1 "x"\n'
     made["script_of_d"] = b'# one more byte\ninsert 1 3 "d"\n'
@@ -131,10 +141,26 @@ def rows(made):
         yield name, words.split(), given, int(status), text_of(out, made), text_of(err, made)
 
 
+def version_row():
+    """What `--version` writes, as tests/program.sh has it: the version that CHANGELOG.md names first, and the toolchain that README.md names."""
+    with open(f"{TOP}/CHANGELOG.md") as changes, open(f"{TOP}/README.md") as readme:
+        version = re.search(r"^## ([0-9.]*)", changes.read(), re.M)[1]
+        kit = re.search(r"rattle-kit-[0-9a-z]* logic [0-9a-f]*", readme.read())[0]
+    return "the version", ["--version"], "", 0, f"cordkit {version} ({kit})\n".encode(), b""
+
+
+def told_by(out, err):
+    """The code that a run told, and what it told without the line that explains it, if there is one."""
+    codes = re.findall(rb"^(?:refused )?([^:\n]*)$", out + err, re.M)
+    lines = err.splitlines(keepends=True)
+    return codes[0], b"".join(line for line in lines if not line.startswith(codes[0] + b": "))
+
+
 # A file that is committed, and the answers behind an image of two revisions and anew.
 COMMIT = ["commit", "kept", "abcde"]
 
-# A session that goes on from an image, and takes its place.
+# A session whose keys are kept, from nothing; and one that goes on from an image, and takes its place.
+KEPT = ["edit", "--keep=image.keys", "image"]
 ONTO = ["edit", "--onto=image", "--keep=image.keys", "image"]
 SAVE = b"\x18"
 
@@ -182,6 +208,9 @@ class Room:
     def is_well(self, row, found, saved):
         """Whether a run of which an allocation was refused did what it may, and again with each allocation what it has to."""
         _, words, given, status, out, err = row
+        if "--explain" in words:
+            code, told = told_by(found[1], found[2])
+            return (found[0], found[1], told) == (status, out, told_by(out, err)[1]) or (*found[:2], code, told) == (3, b"", b"memory", MEMORY)
         is_edit = words[0:1] == ["edit"]
         image = self.image(image_name(words)) if is_edit else None
         if is_edit and (self.run(words, given)[:3] != (status, out, err) or self.image(image_name(words)) != saved):
@@ -242,44 +271,45 @@ class Room:
             refused += 1
             spared += found[0] == 0
 
-    def begun_onto(self, older):
-        """The older image stands there, and no key is kept."""
-        for name in ("image.keys", "image.keys.saved", "image.new"):
+    def begun_kept(self, older):
+        """The older image stands there, or none, and no key is kept."""
+        for name in ("image", "image.keys", "image.keys.saved", "image.new"):
             self.image(name)
-        self.put("image", older)
+        if older is not None:
+            self.put("image", older)
 
-    def images_onto(self, older):
-        """The images of the first of keys_saved behind the older one."""
+    def images_kept(self, words, older):
+        """The images of the first of keys_saved behind the older one, or from nothing."""
         images = []
         for n in range(len(self.made["keys_saved"])):
-            self.begun_onto(older)
+            self.begun_kept(older)
             self.put("first_keys", self.made["keys_saved"][:n] + SAVE)
-            self.run(ONTO, "first_keys")
+            self.run(words, "first_keys")
             images.append(self.image("image"))
         return images
 
-    def is_well_onto(self, found, older, images):
-        """Whether a session over an image, of which an allocation was refused, and the same command behind it did what they may."""
+    def is_well_kept(self, words, found, older, images):
+        """Whether a session whose keys are kept, of which an allocation was refused, and the same command behind it did what they may."""
         there = self.image("image")
         if found[0] == 0:
             return not self.image("image.keys") and (found[2] == b"" and there == images[-1] or self.has_refused_a_key(found, there))
         if found[0] != 3 or found[2] != MEMORY or there != older:
             return False
-        self.put("image", there)
-        again = self.run(ONTO, "key_save")
+        if older is not None:
+            self.put("image", older)
+        again = self.run(words, "key_save")
         left = [name for name in ("image.keys", "image.keys.saved", "image.new") if self.image(name) is not None]
         told = found[1].count(b"\x1b[2J") - 1
         return again[0] == 0 and again[2] == b"" and not left and self.image("image") in images[max(told, 0) :]
 
-    def try_onto(self):
-        """How many allocations of a session were refused whose keys are kept over an image, and in how many of these runs it could live without."""
-        older = self.made["one_insert_in_two"]
-        images, spared, refused = self.images_onto(older), 0, 0
+    def try_kept(self, words, older):
+        """How many allocations of a session were refused whose keys are kept, and in how many of these runs it could live without."""
+        images, spared, refused = self.images_kept(words, older), 0, 0
         while True:
-            self.begun_onto(older)
-            found = self.run(ONTO, "keys_saved", refused + 1)
-            if not self.is_well_onto(found, older, images):
-                self.fail("keys kept over an image", refused + 1, found)
+            self.begun_kept(older)
+            found = self.run(words, "keys_saved", refused + 1)
+            if not self.is_well_kept(words, found, older, images):
+                self.fail(" ".join(words), refused + 1, found)
             if found[3] <= refused:
                 return refused, spared
             refused += 1
@@ -336,7 +366,7 @@ def main():
         os.mkdir(f"{folder}/room")
         refused, failed = try_tests(tests, library, folder)
         room = Room(program, library, f"{folder}/room")
-        for row in rows(room.made):
+        for row in [*rows(room.made), version_row()]:
             count, spared = room.try_row(row)
             print(f"{row[0]}: {count} allocations refused, {spared} of them spared")
             refused += count
@@ -344,9 +374,10 @@ def main():
             count, spared = room.try_commit(older, answer)
             print(f"a commit {'anew' if older is None else 'behind an image'}: {count} allocations refused, {spared} of them spared")
             refused += count
-        count, spared = room.try_onto()
-        print(f"keys kept over an image: {count} allocations refused, {spared} of them spared")
-        refused += count
+        for words, older in (KEPT, None), (ONTO, room.made["one_insert_in_two"]):
+            count, spared = room.try_kept(words, older)
+            print(f"keys kept {'from nothing' if older is None else 'over an image'}: {count} allocations refused, {spared} of them spared")
+            refused += count
     failed += room.failed
     print(f"{refused} refused, {failed} runs failed")
     return 1 if failed else 0

@@ -69,7 +69,10 @@ fn is_refused(fault: EditorFault) -> bool {
     )
 }
 
-fn editor<A: AllocGlobal + Abort>(rt: &A, refusals: &mut Refusals) -> Editor<MemSources<'static>> {
+pub(crate) fn editor<A: AllocGlobal + Abort>(
+    rt: &A,
+    refusals: &mut Refusals,
+) -> Editor<MemSources<'static>> {
     for _ in 0..TRIES {
         match new_editor(rt) {
             Ok(editor) => return editor,
@@ -118,7 +121,7 @@ fn assert_shown<S: Sources + Drop, A: Abort>(
 }
 
 /// The revisions of an editor's session, and what there was of its store.
-fn kept<S: Sources + Drop, A: AllocGlobal + Abort>(
+pub(crate) fn kept<S: Sources + Drop, A: AllocGlobal + Abort>(
     rt: &A,
     editor: &Editor<S>,
     reach: Reach,
@@ -258,7 +261,7 @@ const CUT_AND_PASTED: [Typed<'static>; 11] = [
 ];
 
 /// The keys of that, and the key Save.
-const KEYS: &[u8] = b"abc\x01\0\x06\x06\x17\x05\x19\x19\x18";
+pub(crate) const KEYS: &[u8] = b"abc\x01\0\x06\x06\x17\x05\x19\x19\x18";
 
 /// The texts of its revisions.
 const TEXTS: [&[u8]; 7] = [b"", b"a", b"ab", b"abc", b"c", b"cab", b"cabab"];
@@ -267,11 +270,11 @@ pub(crate) fn cut_and_pasted<A: AllocGlobal + Abort>(rt: &A, refusals: &mut Refu
     typed_into(rt, &CUT_AND_PASTED, &TEXTS, refusals);
 }
 
-/// Whether a screen has so many frames, the first before all keys and one behind each, and no more.
-fn are_frames(screen: &[u8], count: usize) -> bool {
+/// Whether a screen has so many frames and no more: those behind so many keys and on, each behind one key more.
+pub(crate) fn are_frames(screen: &[u8], behind_keys: usize, count: usize) -> bool {
     let first = after_key(0, b"", b"rev 0 byte 0 of 0", b"\x1b[1;1H");
     let mut rest = Some(screen);
-    for k in 0..count {
+    for k in behind_keys..behind_keys.saturating_add(count) {
         let shown = if k == 0 {
             first
         } else {
@@ -310,17 +313,19 @@ pub(crate) fn has_texts(image: &Checked<'_>, texts: &[&[u8]], none: &mut MemSour
     is_so
 }
 
-/// Looks at what a run that ended well has shown and saved. Where its texts are not those of the keys, a key was
-/// refused, and the screen says so; that is told.
-fn is_saved<A: AllocGlobal + Abort>(
+/// Looks at what a run that ended well has shown, behind so many keys and on, and saved. Where its texts are not those
+/// of the keys, a key was refused, and the screen says so; that is told.
+pub(crate) fn is_saved<A: AllocGlobal + Abort>(
     rt: &A,
     screen: &[u8],
+    behind_keys: usize,
     image: &[u8],
     refusals: &mut Refusals,
 ) -> bool {
     let mut none = MemSources::new(rt.alloc());
     let checked = check(image, &mut none).expect(rt, "the image is accepted");
-    if has_texts(&checked, &TEXTS, &mut none) && are_frames(screen, 12) {
+    let frames = KEYS.len().saturating_sub(behind_keys);
+    if has_texts(&checked, &TEXTS, &mut none) && are_frames(screen, behind_keys, frames) {
         return true;
     }
     refusals.met(rt, &(), &());
@@ -341,13 +346,13 @@ fn is_edited<A: AllocGlobal + Abort>(rt: &A, refusals: &mut Refusals) -> bool {
     match run_edit(rt.alloc(), sources, &mut keys, &mut screen, &mut image) {
         Ok(status) => {
             assert_same(rt, &status, &Status::Success, &"status");
-            is_saved(rt, screen.taken(), image.taken(), refusals)
+            is_saved(rt, screen.taken(), 0, image.taken(), refusals)
         }
         Err(fault) => {
             assert_same(rt, &fault, &ToolFault::Memory, &"memory");
             assert_same(rt, &exit_status(Outcome::Ended(fault)), &3, &"status");
             let shown = frame_count(screen.taken());
-            assert!(rt; are_frames(screen.taken(), shown), "frames");
+            assert!(rt; are_frames(screen.taken(), 0, shown), "frames");
             refusals.met(rt, &image.taken().len(), &0);
             false
         }

@@ -10,6 +10,8 @@ mod fakes;
 #[cfg(test)]
 mod files;
 #[cfg(test)]
+mod keeping;
+#[cfg(test)]
 mod kept;
 #[cfg(test)]
 mod onto;

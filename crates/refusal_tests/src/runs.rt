@@ -3,7 +3,8 @@
 
 use crate::refusals::Refusals;
 use crate::{
-    commits, editors, files, onto, pools, ropes, saved, scripts, searches, sessions, tools, words,
+    commits, editors, files, keeping, onto, pools, ropes, saved, scripts, searches, sessions,
+    tools, words,
 };
 use std::alloc::AllocGlobal;
 use std::process::Abort;
@@ -35,13 +36,19 @@ fn all_runs<A: AllocGlobal + Abort>(rt: &A, refusals: &mut Refusals) {
     scripts::lines(rt, refusals);
     scripts::image(rt, refusals);
     scripts::images_behind(rt, refusals);
+    scripts::logged(rt, refusals);
     scripts::blamed(rt, refusals);
     commits::committed(rt, refusals);
+    commits::committed_anew(rt, refusals);
     editors::undo_then_type(rt, refusals);
     editors::cut_and_pasted(rt, refusals);
     editors::edited(rt, refusals);
     editors::run_again(rt, refusals);
+    keeping::played_keys(rt, refusals);
+    keeping::resumed(rt, refusals);
+    keeping::edited_kept(rt, refusals);
     onto::edited_onto(rt, refusals);
+    onto::edited_kept_onto(rt, refusals);
     editors::lines_of_a_file(rt, refusals);
     tools::checked(rt, refusals);
     tools::shown(rt, refusals);
@@ -181,6 +188,11 @@ fn images_behind(rt: HostRuntime) {
 }
 
 #[test]
+fn logged(rt: HostRuntime) {
+    scripts::logged(&rt, &mut Refusals::at_most(1));
+}
+
+#[test]
 fn blamed(rt: HostRuntime) {
     scripts::blamed(&rt, &mut Refusals::at_most(1));
 }
@@ -188,6 +200,11 @@ fn blamed(rt: HostRuntime) {
 #[test]
 fn committed(rt: HostRuntime) {
     commits::committed(&rt, &mut Refusals::at_most(1));
+}
+
+#[test]
+fn committed_anew(rt: HostRuntime) {
+    commits::committed_anew(&rt, &mut Refusals::at_most(1));
 }
 
 #[test]
@@ -211,8 +228,28 @@ fn run_again(rt: HostRuntime) {
 }
 
 #[test]
+fn played_keys(rt: HostRuntime) {
+    keeping::played_keys(&rt, &mut Refusals::at_most(1));
+}
+
+#[test]
+fn resumed(rt: HostRuntime) {
+    keeping::resumed(&rt, &mut Refusals::at_most(1));
+}
+
+#[test]
+fn edited_kept(rt: HostRuntime) {
+    keeping::edited_kept(&rt, &mut Refusals::at_most(1));
+}
+
+#[test]
 fn edited_onto(rt: HostRuntime) {
     onto::edited_onto(&rt, &mut Refusals::at_most(1));
+}
+
+#[test]
+fn edited_kept_onto(rt: HostRuntime) {
+    onto::edited_kept_onto(&rt, &mut Refusals::at_most(1));
 }
 
 #[test]

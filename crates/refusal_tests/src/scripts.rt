@@ -1,4 +1,4 @@
-//! Scripts that are applied, the image of one, and where its bytes come from.
+//! Scripts that are applied, the image of one, its log, and where its bytes come from.
 
 use crate::fakes::{ONE_INSERT_IN_TWO, Taker};
 use crate::kept::{Reach, session_digest};
@@ -9,7 +9,8 @@ use edit_script::{Room, Stop, Stopped, apply_script};
 use lazy_file::MemSources;
 use saved_session::TakeFault;
 use script_tools::{
-    ApplyFault, BlameFault, BytesOfText, OntoFault, run_apply, run_apply_onto, run_blame,
+    ApplyFault, BlameFault, BytesOfText, LogFault, LogTexts, OntoFault, run_apply, run_apply_onto,
+    run_blame, run_log,
 };
 use std::alloc::AllocGlobal;
 use std::process::Abort;
@@ -147,6 +148,36 @@ pub(crate) fn images_behind<A: AllocGlobal + Abort>(rt: &A, refusals: &mut Refus
     let longer = image_behind(rt, b"new", refusals);
     let wanted = ONE_INSERT_IN_TWO.len() + 56;
     assert_same(rt, &longer.taken().len(), &wanted, &"a revision more");
+}
+
+/// The log of the image.
+const LOG: &[u8] = b"new # 0: 0 bytes, depth 0, 0 rows\n\
+    insert 0 0 \"abc\" # 1: 3 bytes, depth 0, balanced, 1 rows\n";
+
+/// The log of an image. A front of it is written where memory is refused.
+pub(crate) fn logged<A: AllocGlobal + Abort>(rt: &A, refusals: &mut Refusals) {
+    for _ in 0..TRIES {
+        let mut writer = Taker::new();
+        let mut none = MemSources::new(rt.alloc());
+        match run_log(
+            rt.alloc(),
+            ONE_INSERT_IN_TWO,
+            &mut none,
+            None,
+            LogTexts::Whole,
+            &mut writer,
+        ) {
+            Ok(()) => {
+                assert_same(rt, &writer.taken(), &LOG, &"the log");
+                return;
+            }
+            Err(fault) => {
+                assert_same(rt, &fault, &LogFault::Memory, &"the fault");
+                refusals.met(rt, &LOG.starts_with(writer.taken()), &true);
+            }
+        }
+    }
+    panic!(rt; "refused each time")
 }
 
 /// Where the bytes of a text come from. A front of the lines is written where memory is refused.

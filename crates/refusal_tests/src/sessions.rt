@@ -7,13 +7,13 @@ ghost use Rattle.edit_commands.specs.Refusals.{TakesAll};
 use crate::fakes::{ONE_INSERT, ONE_INSERT_IN_TWO, Taker};
 use crate::kept::{Reach, byte_at, session_digest, size_of};
 use crate::refusals::{Refusals, TRIES, assert_same};
+use command_parts::Splice;
 use edit_commands::{Change, Command, EditFault, Session};
 use image_reader::Image;
 use lazy_file::MemSources;
 use rope_node::{NodeId, NodeSpace, NodeView};
 use session_checker::check;
 use session_image::{restate, write};
-use span_certificate::Splice;
 use std::alloc::AllocGlobal;
 use std::process::Abort;
 

@@ -6,7 +6,7 @@ use crate::refusals::{Refusals, TRIES, assert_same};
 use crate::searches::added;
 use cord_tools::{
     Outcome, Status, ToolFault, exit_status, refuse_check, run_check, run_cmp, run_cut, run_find,
-    run_join, run_migrate, run_show, run_stdin,
+    run_find_all, run_join, run_migrate, run_show, run_stdin,
 };
 use lazy_file::{AddFault, MemSources, Sources};
 use std::alloc::AllocGlobal;
@@ -23,6 +23,7 @@ pub enum Tool<'a> {
     Cut(u64, u64),
     Join,
     Find(u64, &'a [u8]),
+    FindAll(u64, &'a [u8]),
     Cmp,
 }
 
@@ -36,7 +37,7 @@ fn done(answer: Result<(), ToolFault>) -> Answer {
 }
 
 /// Runs a tool of images.
-fn run_of_image<A: AllocGlobal>(
+fn run_of_image<A: AllocGlobal + Abort>(
     rt: &A,
     tool: Tool<'_>,
     sources: &mut MemSources<'_>,
@@ -53,7 +54,9 @@ fn run_of_image<A: AllocGlobal>(
             done(run_migrate(alloc, Giver { bytes }, 0, sources, None, writer))
         }
         Tool::Refuse(refusal) => refuse_check(alloc, refusal, writer),
-        _ => done(run_join(alloc, sources, writer)),
+        Tool::Cut(..) | Tool::Join | Tool::Find(..) | Tool::FindAll(..) | Tool::Cmp => {
+            panic!(rt; "no tool of images")
+        }
     }
 }
 
@@ -75,11 +78,18 @@ fn run<A: AllocGlobal + Abort>(
             assert!(rt; count >= 1);
             run_find(alloc, sources, start, pattern, writer)
         }
+        Tool::FindAll(start, pattern) => {
+            assert!(rt; count >= 1);
+            run_find_all(alloc, sources, start, pattern, writer)
+        }
         Tool::Cmp => {
             assert!(rt; count >= 2);
             run_cmp(alloc, sources, writer)
         }
-        _ => run_of_image(rt, tool, sources, writer),
+        Tool::Join => done(run_join(alloc, sources, writer)),
+        Tool::Stdin(_) | Tool::Check(_) | Tool::Show(..) | Tool::Migrate(_) | Tool::Refuse(_) => {
+            run_of_image(rt, tool, sources, writer)
+        }
     }
 }
 
@@ -139,7 +149,7 @@ pub(crate) fn migrated<A: AllocGlobal + Abort>(rt: &A, refusals: &mut Refusals) 
     answers(rt, Tool::Migrate(ONE_INSERT), &[], anew, refusals);
 }
 
-/// The four tools of texts.
+/// The tools of texts.
 pub(crate) fn texts<A: AllocGlobal + Abort>(rt: &A, refusals: &mut Refusals) {
     let files = [b"abcde".as_slice(), b"ab"];
     for (tool, status, line) in [
@@ -148,6 +158,9 @@ pub(crate) fn texts<A: AllocGlobal + Abort>(rt: &A, refusals: &mut Refusals) {
         (Tool::Join, Status::Success, b"abcdeab"),
         (Tool::Find(0, b"zz"), Status::Failure, b""),
         (Tool::Find(1, b"cd"), Status::Success, b"2\n"),
+        (Tool::FindAll(1, b"de"), Status::Success, b"3\n"),
+        (Tool::FindAll(2, b""), Status::Success, b"2\n3\n4\n5\n"),
+        (Tool::FindAll(0, b"zz"), Status::Failure, b""),
         (Tool::Cmp, Status::Failure, b"greater\n"),
     ] {
         answers(rt, tool, &files, (Ok(status), line), refusals);

@@ -1,9 +1,12 @@
 //! Images logged as scripts. What a log tells of each revision was found
 //! by hand or by `bin/cordkit-verify`, on other bytes than the log's.
 
-use super::tools::{ONE_INSERT, ONE_INSERT_LINES, Taker, applied, assert_same};
+use super::tools::{ONE_INSERT, ONE_INSERT_LINES, Taker, applied, assert_same, stopped};
+use edit_commands::EditFault;
+use edit_script::Stop;
 use image_reader::ReadFault;
 use lazy_file::MemSources;
+use node_table::NodeFault;
 use script_tools::{LogFault, LogTexts, run_log};
 use session_checker::CheckFault;
 use std::alloc::AllocGlobal;
@@ -81,6 +84,36 @@ fn log_of_each_command(rt: HostRuntime) {
     // Its log makes it again.
     let again = applied(&rt, &log, &[10]).expect(&rt, "an image");
     assert_same(&rt, &again, &image);
+}
+
+/// The image of one insertion, of `len` bytes `a` in place of its three.
+fn one_insert_of<A: AllocGlobal + Abort>(rt: &A, len: u64) -> Vec<u8> {
+    let mut image: Vec<u8> = Vec::new(rt.alloc());
+    // What stands before the lengths of the pool, the node, the command and the row.
+    for (from, to) in [(0, 32), (40, 48), (56, 168), (176, 192)] {
+        let before = ONE_INSERT.get(from..to).expect(rt, "a piece");
+        image.extend_from_slice(before).expect(rt, "room");
+        image
+            .extend_from_slice(&len.to_be_bytes())
+            .expect(rt, "room");
+    }
+    let before = ONE_INSERT.get(200..208).expect(rt, "a piece");
+    image.extend_from_slice(before).expect(rt, "room");
+    for _ in 0..len {
+        image.push(b'a').expect(rt, "room");
+    }
+    image
+}
+
+#[test]
+fn a_log_that_hands_in_too_many_bytes_at_once(rt: HostRuntime) {
+    let longest = one_insert_of(&rt, 65_536);
+    let log = logged(&rt, &longest, &[], LogTexts::Whole);
+    assert_same(&rt, &applied(&rt, &log, &[]), &Ok(longest));
+    let longer = one_insert_of(&rt, 65_537);
+    let log = logged(&rt, &longer, &[], LogTexts::Whole);
+    let too_long = Stop::Refused(EditFault::Node(NodeFault::TooLong));
+    assert_same(&rt, &applied(&rt, &log, &[]), &Err(stopped(2, too_long)));
 }
 
 /// The log in brief of texts of 60 and of 61 bytes.

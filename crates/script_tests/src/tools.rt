@@ -2,6 +2,7 @@
 
 use edit_commands::EditFault;
 use edit_script::{Stop, Stopped};
+use node_table::NodeFault;
 use script_tools::{ApplyFault, run_apply};
 use std::alloc::AllocGlobal;
 use std::fmt::Debug;
@@ -80,7 +81,7 @@ fn image_of_one_insertion(rt: HostRuntime) {
     }
 }
 
-fn stopped(line: u64, why: Stop) -> ApplyFault {
+pub(crate) fn stopped(line: u64, why: Stop) -> ApplyFault {
     ApplyFault::Stop(Stopped { line, why })
 }
 
@@ -108,8 +109,13 @@ fn scripts_without_an_image(rt: HostRuntime) {
         assert_same(&rt, &answer, &Err(wanted));
         assert_same(&rt, &taken.len(), &0);
     }
-    let long = applied(&rt, b"new", &[1 << 40]);
-    assert!(&rt; matches!(long, Err(ApplyFault::Source(_))));
+    for (lens, fault) in [
+        ([1 << 40].as_slice(), NodeFault::TooLong),
+        ([0; 256].as_slice(), NodeFault::TooManySources),
+    ] {
+        let refused = ApplyFault::Source(EditFault::Node(fault));
+        assert_same(&rt, &applied(&rt, b"new", lens), &Err(refused));
+    }
 }
 
 #[test]

@@ -7,7 +7,9 @@ use cord_tools::{Status, ToolFault, may_replace, only_look, run_edit, run_kept};
 use image_reader::ReadFault;
 use key_journal::Kept;
 use lazy_file::{SOURCE_LIMIT, SourceFault, Sources};
-use screen_editor::{Editor, EditorFault, End, FrameFault, KeyFault, RunFault, Step};
+use screen_editor::{
+    Editor, EditorFault, Effect, End, FrameFault, Key, KeyFault, LinePlace, RunFault, Step,
+};
 use session_checker::CheckFault;
 use std::alloc::AllocGlobal;
 use std::io::{ErrorKind, Write};
@@ -246,6 +248,26 @@ fn an_image_replaces_an_image_or_nothing(rt: HostRuntime) {
         (b"an essay", refused),
     ] {
         assert_same(&rt, &may_replace(front), &wanted, &front);
+    }
+}
+
+/// The bytes of each row, as docs/EDITOR.md tells what its keys do.
+#[test]
+fn each_key_has_its_row(rt: HostRuntime) {
+    let rows: [(&[u8], Effect); 8] = [
+        (b"a~ \t\r\n\x08\x7f\x04\x17\x19\x15\x0c", Effect::Edits),
+        (b"\x02\x06\x00\x14\x1b\xff", Effect::Moves),
+        (b"\x01", Effect::Looks(LinePlace::Start)),
+        (b"\x05", Effect::Looks(LinePlace::End)),
+        (b"\x10", Effect::Looks(LinePlace::Above)),
+        (b"\x0e", Effect::Looks(LinePlace::Below)),
+        (b"\x18", Effect::Ends(Step::Save)),
+        (b"\x03", Effect::Ends(Step::Leave)),
+    ];
+    for (keys, effect) in rows {
+        for key in keys {
+            assert_same(&rt, &Key::of(*key).effect(), &effect, key);
+        }
     }
 }
 

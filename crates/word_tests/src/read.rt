@@ -47,7 +47,7 @@ fn assert_told<A: AllocGlobal + Abort>(rt: &A, rows: &[(&str, &str)]) -> Result<
 }
 
 #[test]
-fn words_over_images_and_scripts_are_read(rt: HostRuntime) -> Result<(), Fail> {
+fn words_over_images_are_read(rt: HostRuntime) -> Result<(), Fail> {
     assert_told(
         &rt,
         &[
@@ -69,18 +69,6 @@ fn words_over_images_and_scripts_are_read(rt: HostRuntime) -> Result<(), Fail> {
                 r#"Show { at_most: Some(137), image: "a", revision: 2, sources: [] }"#,
             ),
             (
-                "cordkit apply s.txt b a",
-                r#"Apply { onto: None, at_most: None, script: "s.txt", sources: ["b", "a"] }"#,
-            ),
-            (
-                "cordkit apply --onto a.cord s.txt b",
-                r#"Apply { onto: Some("a.cord"), at_most: None, script: "s.txt", sources: ["b"] }"#,
-            ),
-            (
-                "cordkit apply --at-most 9 s.txt --onto=-",
-                r#"Apply { onto: Some("-"), at_most: Some(9), script: "s.txt", sources: [] }"#,
-            ),
-            (
                 "cordkit migrate --at-most 0 a b",
                 r#"Migrate { at_most: Some(0), image: "a", sources: ["b"] }"#,
             ),
@@ -99,6 +87,27 @@ fn words_over_images_and_scripts_are_read(rt: HostRuntime) -> Result<(), Fail> {
             (
                 "cordkit blame --start 4 --count=1 --at-most 7 a 2",
                 r#"Blame { at_most: Some(7), start: Some(4), count: Some(1), image: "a", revision: 2, sources: [] }"#,
+            ),
+        ],
+    )
+}
+
+#[test]
+fn words_of_scripts_and_commits_are_read(rt: HostRuntime) -> Result<(), Fail> {
+    assert_told(
+        &rt,
+        &[
+            (
+                "cordkit apply s.txt b a",
+                r#"Apply { onto: None, at_most: None, script: "s.txt", sources: ["b", "a"] }"#,
+            ),
+            (
+                "cordkit apply --onto a.cord s.txt b",
+                r#"Apply { onto: Some("a.cord"), at_most: None, script: "s.txt", sources: ["b"] }"#,
+            ),
+            (
+                "cordkit apply --at-most 9 s.txt --onto=-",
+                r#"Apply { onto: Some("-"), at_most: Some(9), script: "s.txt", sources: [] }"#,
             ),
             (
                 "cordkit commit a b",

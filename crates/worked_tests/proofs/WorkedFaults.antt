@@ -4,7 +4,7 @@ use Rattle.function_leaf.specs.declared.coded.Coded.{Coded}
 use Rattle.rope_node.specs.Balance.{fibonacci, IsBalanced}
 use Rattle.worked_tests.specs.Tables.{number, child_not_earlier, part_of_a_part, part_of_a_part_recorded, too_long_together}
 use Rattle.span_certificate.specs.declared.row.Row.{Row}
-use Rattle.span_certificate.specs.declared.part.Part.TheVariants.{Pool}
+use Rattle.command_parts.specs.declared.part.Part.TheVariants.{Pool}
 use Rattle.rope_node.specs.Denotes.{Cell}
 use Rattle.span_certificate.specs.Covers.{FitsBy, IsFirstBadBy, SameOver, place_of, row_at}
 use Rattle.span_certificate.specs.Verdicts.{CanBeSame, SameStated}

@@ -6,8 +6,8 @@ use Rattle.worked_tests.specs.Tables.{number, part_of_a_part, one_literal}
 use Rattle.span_certificate.specs.declared.describe.Description.{Description}
 use Rattle.span_certificate.specs.declared.describe.Description.TheVariants.{Pooled}
 use Rattle.span_certificate.specs.declared.row.Row.{Row}
-use Rattle.span_certificate.specs.declared.part.Part.{Part}
-use Rattle.span_certificate.specs.declared.part.Part.TheVariants.{Pool}
+use Rattle.command_parts.specs.declared.part.Part.{Part}
+use Rattle.command_parts.specs.declared.part.Part.TheVariants.{Pool}
 use Rattle.span_certificate.specs.Leads.{Leads, here, in_left, in_right, in_base, leaf_description, PartHasDescription}
 use Rattle.rope_node.specs.Denotes.{Cell}
 use Rattle.span_certificate.specs.Covers.{place_of, row_at, Fits, FitsBy, Covers, IsFirstBad, IsFirstBadBy, SameOver}

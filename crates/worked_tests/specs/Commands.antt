@@ -1,9 +1,9 @@
 -- The commands and rows of the worked examples.
 use Rattle.std.specs.Prelude.{ℕ, List, [], ◌∷◌, Option, codes}
-use Rattle.span_certificate.specs.declared.edit.Splice.{Splice}
+use Rattle.command_parts.specs.declared.edit.Splice.{Splice}
 use Rattle.span_certificate.specs.declared.row.Row.{Row}
 use Rattle.span_certificate.specs.declared.row.RowKind.TheVariants.{Leaf}
-use Rattle.span_certificate.specs.Commands.{Givens, Many, result_of}
+use Rattle.command_parts.specs.Commands.{Givens, Many, result_of}
 
 -- a pool of these bytes, and no sources
 abbrev pub pool_of : List ℕ → Givens ℕ

@@ -3,7 +3,7 @@ use Rattle.std.specs.Prelude.{Bool, true, false, List, [], ◌∷◌, length, ma
 use Rattle.rope_node.specs.declared.node.NodeView.TheVariants.{Lit}
 use Rattle.rope_node.specs.Table.{Node}
 use Rattle.worked_tests.specs.Tables.{recorded, number, chain_of_four}
-use Rattle.span_certificate.specs.declared.edit.Edit.TheVariants.{New, Insert}
+use Rattle.command_parts.specs.declared.edit.Edit.TheVariants.{New, Insert}
 use Rattle.span_certificate.specs.declared.row.Row.{Row}
 use Rattle.worked_tests.specs.Commands.{leaf_row}
 use Rattle.image_reader.specs.declared.revision.Revision.{Revision}

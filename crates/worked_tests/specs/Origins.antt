@@ -1,6 +1,6 @@
 -- The histories of the worked examples of origins, over a pool of so many bytes and sources of these lengths.
 use Rattle.std.specs.Prelude.{ℕ, List, [], ◌∷◌, get_or}
-use Rattle.span_certificate.specs.Commands.{FullEdit, New, Open, Insert, Delete, Replace, Paste, Fill, Back, Balance, Many}
+use Rattle.command_parts.specs.Commands.{FullEdit, New, Open, Insert, Delete, Replace, Paste, Fill, Back, Balance, Many}
 use Rattle.worked_tests.specs.Commands.{splice}
 use Rattle.byte_origins.specs.declared.run.Brought.{Brought}
 use Rattle.byte_origins.specs.declared.run.Origin.{Origin}

@@ -3,10 +3,10 @@
 ghost use Rattle.std.specs.Prelude.{◌≡◌, ℕ, ◌∷◌, [], codes, Some, None};
 ghost use Rattle.function_leaf.specs.declared.coded.Coded.{Coded};
 ghost use Rattle.worked_tests.specs.Tables.{number, literal_of, part_of_a_part, one_literal};
-ghost use Rattle.span_certificate.specs.declared.part.Part.TheVariants.{Old, Pool};
-ghost use Rattle.span_certificate.specs.Commands.{IsHistory, full_edit, result_of, New, Insert, Many};
-ghost use Rattle.span_certificate.specs.declared.edit.Edit.TheVariants as Recorded;
-ghost use Rattle.span_certificate.specs.Parts.{parts_of};
+ghost use Rattle.command_parts.specs.declared.part.Part.TheVariants.{Old, Pool};
+ghost use Rattle.command_parts.specs.Commands.{IsHistory, full_edit, result_of, New, Insert, Many};
+ghost use Rattle.command_parts.specs.declared.edit.Edit.TheVariants as Recorded;
+ghost use Rattle.command_parts.specs.Parts.{parts_of};
 ghost use Rattle.span_certificate.specs.Covers.{Fits, Covers, IsFirstBad};
 ghost use Rattle.worked_tests.specs.Commands.{pool_of, splice, three_splices, replaced_in_abcdef, leaf_row};
 

@@ -2,8 +2,8 @@
 
 ghost use Rattle.std.specs.Prelude.{◌≡◌, ◌+◌, ◌*◌, ◌-◌, [], length, replicate};
 ghost use Rattle.worked_tests.specs.Keys.{stated_of_size};
-ghost use Rattle.span_certificate.specs.declared.codes.TheConstants.{BACK, BALANCE, CUT, DELETE, FILL, INSERT, JOIN, MANY, NEW, OPEN, PASTE, REPLACE};
-ghost use Rattle.span_certificate.specs.declared.edit.TheConstants.{MOST_REVISIONS, MOST_SPLICES, SPLICES_LIMIT};
+ghost use Rattle.command_parts.specs.declared.codes.TheConstants.{BACK, BALANCE, CUT, DELETE, FILL, INSERT, JOIN, MANY, NEW, OPEN, PASTE, REPLACE};
+ghost use Rattle.command_parts.specs.declared.edit.TheConstants.{MOST_REVISIONS, MOST_SPLICES, SPLICES_LIMIT};
 ghost use Rattle.cord_search.specs.declared.pattern.TheConstants.{PATTERN_LIMIT as SEARCH_LIMIT};
 ghost use Rattle.function_leaf.specs.declared.pattern.TheConstants.{PATTERN_LIMIT};
 ghost use Rattle.image_reader.specs.declared.codes.TheConstants.{BYTES_ROW, CONCATENATION, CYCLE, FILL as FILL_FUNCTION, FUNCTION, LEAF_ROW, LITERAL, RAMP, SHARED_ROW, SOURCE_SPAN, SUBSTRING};
@@ -22,6 +22,7 @@ ghost use Rattle.text_lines.specs.declared.rows.TheConstants.{SCREEN_COLUMNS};
 ghost use Rattle.screen_editor.specs.declared.running.TheConstants.{MOST_KEYS};
 ghost use Rattle.text_lines.specs.Screen.{first_line, rows_of_text};
 ghost use Rattle.screen_editor.specs.Refusals.{IsTooLong};
+ghost use Rattle.span_certificate.specs.declared.looks.TheConstants.{LOOKS_LIMIT};
 ghost use Rattle.span_certificate.specs.declared.making.TheConstants.{ROWS_LIMIT};
 ghost use Rattle.span_certificate.specs.declared.walk.TheConstants.{BYTES_LIMIT};
 
@@ -106,6 +107,7 @@ fn limits_of_sessions()
     ensures spliced { MOST_SPLICES ≡ 4096 }
     ensures rows { ROWS_LIMIT ≡ 16777216 }
     ensures bytes { BYTES_LIMIT ≡ 4096 }
+    ensures looks { LOOKS_LIMIT ≡ 132 }
 {}
 
 /// Of the editor and its screen: an empty row is two bytes.

@@ -2,13 +2,13 @@
 
 ghost use Rattle.std.specs.Prelude.{◌≡◌, ◌+◌, ◌≤◌, IsTrue, length};
 ghost use Rattle.std.specs.List.{AllByRecursion};
-ghost use Rattle.span_certificate.specs.declared.edit.Splice.{Splice};
-ghost use Rattle.span_certificate.specs.Commands.{with_splices};
+ghost use Rattle.command_parts.specs.declared.edit.Splice.{Splice};
+ghost use Rattle.command_parts.specs.Commands.{with_splices};
 ghost use Rattle.edit_script.specs.Commands.{StandsInside};
 
 use super::assert_same_at;
+use command_parts::{Edit, Splice};
 use edit_script::{Note, comment_text, push_line};
-use span_certificate::{Edit, Splice};
 use std::alloc::AllocGlobal;
 use std::process::Abort;
 

@@ -3,12 +3,13 @@
 use super::fakes::{LONGEST, Unreadable};
 use super::texts::{applied, counts, made, row_count, size, text, two_texts, written};
 use super::{assert_same, assert_same_at};
+use command_parts::Edit;
 use edit_commands::{Command, EditFault, Session};
 use lazy_file::MemSources;
 use node_table::NodeFault;
 use rope_node::{NodeId, NodeSpace, NodeView};
 use session_checker::check;
-use span_certificate::{Edit, Row, RowKind};
+use span_certificate::{Row, RowKind};
 use std::alloc::AllocGlobal;
 use std::process::Abort;
 

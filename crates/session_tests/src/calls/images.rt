@@ -4,10 +4,11 @@ use super::records::{
     Records, compared, filled, image_of, joined, literal, one_insert, open, opened,
 };
 use super::{assert_same, assert_same_at};
+use command_parts::Edit;
 use function_leaf::Coded;
 use image_reader::{FormatVersion, HEADER_SIZE, Image, Revision, judged_len, looks_bound};
 use rope_node::{NodeId, NodeView};
-use span_certificate::{Edit, Row, RowKind};
+use span_certificate::{Row, RowKind};
 use std::alloc::AllocGlobal;
 use std::process::Abort;
 

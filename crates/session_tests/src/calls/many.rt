@@ -2,9 +2,9 @@
 
 use super::texts::{applied, counts_alone, made, text, two_texts, written};
 use super::{assert_same, assert_same_at};
+use command_parts::{Edit, Splice};
 use edit_commands::{Change, Command, EditFault, Session};
 use image_reader::{FormatVersion, Image};
-use span_certificate::{Edit, Splice};
 use std::alloc::AllocGlobal;
 use std::process::Abort;
 

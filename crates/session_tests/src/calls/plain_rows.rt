@@ -1,10 +1,11 @@
 //! The rows of a revision by the plainest walk: down two sides, with both looked at anew at each step.
 
+use command_parts::{Edit, Part, Splice};
 use edit_commands::Session;
 use function_leaf::Coded;
 use rope_node::{NodeId, NodeSpace, NodeView, Rope};
 use rope_store::Store;
-use span_certificate::{BYTES_LIMIT, Description, Edit, Part, Row, RowKind, Splice, describe_leaf};
+use span_certificate::{BYTES_LIMIT, Description, Row, RowKind, describe_leaf};
 use std::alloc::AllocGlobal;
 use std::process::Abort;
 

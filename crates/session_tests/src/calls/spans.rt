@@ -4,14 +4,12 @@
 
 use super::texts::{made, two_texts};
 use super::{assert_same, assert_same_at};
+use command_parts::{Edit, Part, PartIter, Splice, Splices, parts};
 use edit_commands::Command;
 use function_leaf::Coded;
 use rope_node::{NodeId, NodeSpace, Rope};
 use rope_store::Store;
-use span_certificate::{
-    Description, Edit, Part, PartIter, Row, RowKind, Splice, Splices, describe_leaf, describe_part,
-    parts,
-};
+use span_certificate::{Description, Row, RowKind, describe_leaf, describe_part};
 use std::alloc::AllocGlobal;
 use std::process::Abort;
 

@@ -8,6 +8,7 @@ use super::records::{
 use super::texts::{made, restated, two_texts, written};
 use super::{assert_same, assert_same_at};
 use byte_output::WriteFault;
+use command_parts::{Edit, Splice};
 use edit_commands::{Command, Session};
 use image_reader::{FormatVersion, Image, Revision};
 use rope_node::{NodeId, NodeView};
@@ -15,7 +16,7 @@ use session_image::{
     Counts, Record, header_record, node_record, restate, revision_record, row_record,
     source_record, splice_record, write,
 };
-use span_certificate::{Edit, Row, RowKind, Splice};
+use span_certificate::{Row, RowKind};
 use std::alloc::AllocGlobal;
 use std::process::Abort;
 
