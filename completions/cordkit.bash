@@ -43,7 +43,7 @@ _cordkit_read() {
             ((++place))
         elif [[ $word == -- ]]; then
             ended=yes
-        elif [[ $word == --at-most || $word == --text || $word == --onto || $word == --keep || $word == --session ]]; then
+        elif [[ $word == --at-most || $word == --start || $word == --count || $word == --text || $word == --onto || $word == --keep || $word == --session ]]; then
             [[ ${COMP_WORDS[k + 1]} == = ]] && ((++k))
             ((++k >= COMP_CWORD)) && valued=$command$word
         elif [[ $word == --continue ]]; then

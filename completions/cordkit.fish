@@ -17,7 +17,7 @@ complete -c cordkit -n $none -a cmp -d 'Say whether a file is less than another,
 complete -c cordkit -n $none -a edit -d 'Edit a text on the screen, and save the session'
 complete -c cordkit -n $none -a migrate -d 'Write a saved session anew, in the latest version of its format'
 complete -c cordkit -n $none -a log -d 'Write a saved session as a script of its commands'
-complete -c cordkit -n $none -a blame -d 'Tell where each byte of a text comes from'
+complete -c cordkit -n $none -a blame -d 'Tell where each byte of a revision\'s text comes from'
 complete -c cordkit -n $none -a apply -d 'Write the session that a script of commands makes'
 complete -c cordkit -n $none -a commit -d 'Keep what a file holds now as the next state of a saved session'
 complete -c cordkit -n $none -a help -d 'Print the help of the program or of a command'
