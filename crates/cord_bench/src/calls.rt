@@ -9,7 +9,7 @@ ghost use Rattle.rope_node.specs.Denotes.{rope_cells, rope_len, IsRope};
 ghost use Rattle.rope_node.specs.Extends.{Extends};
 ghost use Rattle.node_table.specs.Held.{table_of};
 ghost use Rattle.command_parts.specs.Commands.{full_edit, NamesSplices};
-ghost use Rattle.span_certificate.specs.Looks.{BeginsCount};
+ghost use Rattle.span_descent.specs.Counts.{BeginsCount};
 ghost use Rattle.command_parts.specs.Parts.{part_len, parts_cells, parts_of, AreRopes, IsInRange, IsPart};
 ghost use Rattle.span_certificate.specs.declared.row.RowKind.TheVariants.{Leaf};
 
@@ -23,9 +23,8 @@ use node_table::NodeFault;
 use rope_node::{NodeSpace, Rope};
 use rope_store::Store;
 use session_image::write;
-use span_certificate::{
-    Count, Description, Looks, Row, RowKind, Verdict, describe_part, make, verify, verify_counted,
-};
+use span_certificate::{Looks, Row, RowKind, Verdict, describe_part, make, verify, verify_counted};
+use span_descent::{Count, Description};
 use std::alloc::Global;
 use std::marker::Brand;
 use std::sync::ledger::{Blank, Ledger};

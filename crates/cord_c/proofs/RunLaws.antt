@@ -12,10 +12,10 @@ use Rattle.cord_position.specs.Fetched.{EachCell, IsReadable, ReadsSpan}
 use Rattle.cord_position.specs.Runs.{IsRun, rope_span, span_len}
 use Rattle.cord_position.proofs.LeafParts.{run_part}
 use Rattle.cord_position.proofs.Spans.{span_read}
-use Rattle.span_certificate.specs.declared.describe.Description.{Description}
-use Rattle.span_certificate.specs.declared.describe.Description.TheVariants.{Pooled, Sourced, Computed}
+use Rattle.span_descent.specs.declared.description.Description.{Description}
+use Rattle.span_descent.specs.declared.description.Description.TheVariants.{Pooled, Sourced, Computed}
 use Rattle.function_leaf.specs.declared.coded.Coded.TheVariants.{Fill, Ramp, Cycle}
-use Rattle.span_certificate.specs.Leads.{leaf_description, Describes}
+use Rattle.span_descent.specs.Leads.{leaf_description, Describes}
 use Rattle.image_reader.specs.Value.{ImageValue, coded_at, image_table}
 use Rattle.session_checker.specs.Faithful.{fetched_cell}
 use Rattle.cord_c.specs.declared.run.CordRun.{CordRun}

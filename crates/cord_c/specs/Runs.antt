@@ -10,9 +10,9 @@ use Rattle.rope_node.specs.Denotes.{Cell, rope_len}
 use Rattle.lazy_file.specs.SourceTexts.{AreSizes, Stated}
 use Rattle.cord_position.specs.Fetched.{EachCell, IsReadable, rope_part}
 use Rattle.cord_position.specs.Runs.{AreBytesOf, rope_span, run_left}
-use Rattle.span_certificate.specs.declared.describe.Description.{Description}
-use Rattle.span_certificate.specs.declared.describe.Description.TheVariants.{Pooled, Sourced, Computed}
-use Rattle.span_certificate.specs.Leads.{described_cells, leaf_description}
+use Rattle.span_descent.specs.declared.description.Description.{Description}
+use Rattle.span_descent.specs.declared.description.Description.TheVariants.{Pooled, Sourced, Computed}
+use Rattle.span_descent.specs.Leads.{described_cells, leaf_description}
 use Rattle.image_reader.specs.declared.codes.TheConstants.{CYCLE, FILL, RAMP}
 use Rattle.image_reader.specs.Value.{ImageValue, coded_at, image_table}
 use Rattle.image_reader.specs.Accepted.{revision_at}

@@ -7,7 +7,7 @@ ghost use Rattle.cord_c.specs.Runs.{computed_run, run_told};
 
 use function_leaf::{Coded, PATTERN_LIMIT};
 use image_reader::codes::{CYCLE, FILL, RAMP};
-use span_certificate::Description;
+use span_descent::Description;
 
 /// A run in the pool.
 pub const POOLED: u32 = 1;

@@ -4,13 +4,13 @@ ghost use Rattle.std.specs.Prelude.{◌≡◌, ◌↔◌, ◌<◌, ◌≤◌, �
 ghost use Rattle.rope_node.specs.Table.{len_at, view_at, IsLeaf};
 ghost use Rattle.cord_position.specs.Runs.{rope_span, IsRun};
 ghost use Rattle.image_reader.specs.Value.{coded_at, image_table};
-ghost use Rattle.span_certificate.specs.Leads.{leaf_description, Describes};
+ghost use Rattle.span_descent.specs.Leads.{leaf_description, Describes};
 ghost use Rattle.cord_c.specs.Runs.{text_root, revision_len};
 
 use byte_origins::leaf_span;
 use rope_node::{LeafSpan, NodeSpace};
 use session_checker::Checked;
-use span_certificate::{Description, describe_leaf};
+use span_descent::{Description, describe_leaf};
 
 /// The leaf span that the text of a revision has from a place on; at its end and past it, none.
 pub fn span_of(image: &Checked, revision: u32, place: u64) -> Option<LeafSpan>

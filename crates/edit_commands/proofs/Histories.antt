@@ -13,7 +13,7 @@ use Rattle.rope_node.specs.Table.{Table, IsSound, HasTrueRecords}
 use Rattle.rope_node.specs.Denotes.{Cell, Byte, Place, cell_byte, rope_cells, rope_len}
 use Rattle.node_table.specs.Held.{Held, table_of, coded_at}
 use Rattle.command_parts.specs.Commands.{FullEdit, Givens, result_of, IsHistory}
-use Rattle.span_certificate.specs.Leads.{AreAnswered}
+use Rattle.span_descent.specs.Leads.{AreAnswered}
 use Rattle.command_parts.specs.Parts.{AreRopes, givens_of}
 use Rattle.command_parts.proofs.Joined.{parts_joined}
 use Rattle.command_parts.proofs.MappedResults.{mapped_givens, history_mapped}

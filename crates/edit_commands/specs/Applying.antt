@@ -1,6 +1,5 @@
 -- What a command does to a session: what it makes, why it is refused on the way, and what a refusal keeps.
-use Rattle.std.specs.Prelude.{◌≡◌, ℕ, ◌+◌, ◌<◌, ◌≤◌, List, [], ◌∷◌, ◌++◌, length, map, Option, Some, None, Result, Ok, Err, IfOk, IfErr, IsErrOf, OnErr}
-use Rattle.std.specs.Global.{Vec}
+use Rattle.std.specs.Prelude.{◌≡◌, ℕ, ◌+◌, ◌<◌, ◌≤◌, List, [], ◌∷◌, ◌++◌, length, map, Option, Some, None, Result, Ok, Err, IfOk, IfErr, OnErr}
 use Rattle.function_leaf.specs.declared.coded.Coded.{Coded}
 use Rattle.function_leaf.specs.Coded.{coded_byte}
 use Rattle.rope_node.specs.declared.node.NodeId.{NodeId}
@@ -14,12 +13,8 @@ use Rattle.span_certificate.specs.declared.row.Row.{Row}
 use Rattle.command_parts.specs.declared.edit.Edit.{Edit}
 use Rattle.command_parts.specs.declared.edit.Splice.{Splice}
 use Rattle.command_parts.specs.Commands.{result_of, with_splices}
-use Rattle.span_certificate.specs.Covers.{CoversAlways, MeetsNoSource, rows_len}
-use Rattle.span_certificate.specs.Longest.{AreLongest, AreMade, IsCutShort}
-use Rattle.span_certificate.specs.declared.making.MakeFault.{MakeFault}
-use Rattle.span_certificate.specs.declared.making.MakeFault.TheVariants.{TooManyRows}
-use Rattle.command_parts.specs.declared.part.Part.{Part}
-use Rattle.rope_node.specs.Table.{Table}
+use Rattle.span_certificate.specs.Covers.{rows_len}
+use Rattle.span_certificate.specs.Longest.{AreLongest, AreMade}
 use Rattle.span_certificate.specs.declared.making.TheConstants.{ROWS_LIMIT}
 use Rattle.command_parts.specs.Parts.{givens_of, parts_of}
 use Rattle.edit_commands.specs.declared.command.Command.{Command}
@@ -35,15 +30,6 @@ use Rattle.edit_commands.specs.Session.{SessionValue, IsRevision, AreRevisions, 
 pub record Keeps (old new : SessionValue) : Type 0 where
   pub goes_on : GoesOn old.held new.held
   pub cells : cells_of (record { held = new.held; revisions = old.revisions }) ≡ cells_of old
-
--- the longest rows that show, whatever the sources hold, that these parts have the root's text; or why there are none
-pub record MakesRows (coded : ℕ → Coded) (t : Table) (parts : List Part) (root : Option NodeId)
-    (result : Result (Vec Row) MakeFault) : Type 0 where
-  pub covers : IfOk result (λ rows. CoversAlways t coded parts root rows.items)
-  pub no_source : IfOk result (λ rows. MeetsNoSource t parts root rows.items)
-  pub longest : IfOk result (λ rows. AreLongest t parts root rows.items)
-  pub few : IfOk result (λ rows. length rows.items ≤ ROWS_LIMIT)
-  pub too_many : IsErrOf result TooManyRows → IsCutShort t coded parts root
 
 -- ---- refused on the way
 

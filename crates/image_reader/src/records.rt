@@ -9,7 +9,7 @@ use crate::image::Image;
 use crate::version::FormatVersion;
 use function_leaf::Coded;
 use rope_node::{NodeId, NodeView};
-use span_certificate::Count;
+use span_descent::Count;
 use std::sync::ledger::Ledger;
 
 /// What a node's record says; of a function node, with its function.

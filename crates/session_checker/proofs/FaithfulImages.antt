@@ -13,7 +13,7 @@ use Rattle.rope_node.proofs.Cells.{cells_length}
 use Rattle.lazy_file.specs.SourceTexts.{Agrees, Stated}
 use Rattle.command_parts.specs.Commands.{FullEdit, full_edit, Givens, result_of, IsHistory}
 use Rattle.command_parts.specs.Parts.{parts_cells, AreRopes, AreParts, givens_of}
-use Rattle.span_certificate.specs.Leads.{AreAnswered}
+use Rattle.span_descent.specs.Leads.{AreAnswered}
 use Rattle.command_parts.proofs.Joined.{parts_joined}
 use Rattle.command_parts.proofs.MappedResults.{mapped_givens, result_mapped}
 use Rattle.span_certificate.proofs.Sameness.{covered_bytes, covered_text}

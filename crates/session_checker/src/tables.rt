@@ -2,7 +2,7 @@
 
 ghost use Rattle.std.specs.Prelude.{◌≡◌, ◌+◌, ◌<◌, ◌≤◌, ◌↔◌, length, IfOk, IfErr, IsOk};
 ghost use Rattle.rope_node.specs.Table.{IsSound, HasTrueRecords};
-ghost use Rattle.span_certificate.specs.Looks.{BeginsCount};
+ghost use Rattle.span_descent.specs.Counts.{BeginsCount};
 ghost use Rattle.image_reader.specs.Value.{IsImage, image_table};
 ghost use Rattle.image_reader.specs.Looks.{looks_bound};
 ghost use Rattle.image_reader.specs.Accepted.{AreGoodNodes};
@@ -18,7 +18,7 @@ use function_leaf::{Coded, LeafFn};
 use image_reader::{Image, Records, looks_bound};
 use lazy_file::Sources;
 use rope_node::{CodedSpace, NodeId, NodeSpace, NodeView};
-use span_certificate::Count;
+use span_descent::Count;
 use std::marker::{Brand, Model};
 use std::sync::ledger::{Blank, Ledger};
 use work_progress::{Progress, Untold};

@@ -14,7 +14,7 @@ use Rattle.lazy_file.proofs.LaterReads.{reads_then, reads_weaker}
 use Rattle.span_certificate.specs.declared.row.RowKind.{RowKind}
 use Rattle.span_certificate.specs.declared.row.RowKind.TheVariants.{Shared, Leaf, Bytes}
 use Rattle.span_certificate.specs.Covers.{IsByte, compared}
-use Rattle.span_certificate.specs.Steps.{AreBytes}
+use Rattle.span_certificate.specs.SpanRows.{AreBytes}
 use Rattle.span_certificate.specs.Runs.{AmongCells, listed_cell, ReadsCells}
 
 -- each of these cells is one of the others

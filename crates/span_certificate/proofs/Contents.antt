@@ -13,13 +13,14 @@ use Rattle.rope_node.specs.Denotes.{Cell, Byte, Place, cells}
 use Rattle.rope_node.proofs.Parts.{span_within, span-map, span-range_with_len}
 use Rattle.span_certificate.specs.declared.content.Content.{Content}
 use Rattle.span_certificate.specs.declared.content.Content.TheVariants.{Within, Described}
-use Rattle.span_certificate.specs.declared.describe.Description.{Description}
-use Rattle.span_certificate.specs.declared.describe.Description.TheVariants.{Pooled, Sourced, Computed}
+use Rattle.span_descent.specs.declared.description.Description.{Description}
+use Rattle.span_descent.specs.declared.description.Description.TheVariants.{Pooled, Sourced, Computed}
 use Rattle.command_parts.specs.declared.part.Part.{Part}
 use Rattle.command_parts.specs.declared.part.Part.TheVariants.{Old, Pool, Source, Fill}
-use Rattle.span_certificate.specs.Leads.{content_from, described_cells, HasRoom, PartHasDescription}
+use Rattle.span_certificate.specs.PartLeads.{content_from, PartHasDescription}
+use Rattle.span_descent.specs.Leads.{described_cells, HasRoom}
 use Rattle.command_parts.specs.Parts.{part_len, part_cells, IsPart}
-use Rattle.span_certificate.specs.Steps.{CellsAs}
+use Rattle.span_certificate.specs.SpanRows.{CellsAs}
 
 -- what n bytes of a content denote
 abbrev pub content_cells : Table → ℕ → Content → List Cell

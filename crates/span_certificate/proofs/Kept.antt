@@ -9,7 +9,7 @@ use Rattle.rope_node.specs.Denotes.{Cell, Byte, rope_cells, rope_len, IsRope}
 use Rattle.rope_node.specs.Extends.{Extends}
 use Rattle.rope_node.proofs.Extensions.{view_kept, len_kept}
 use Rattle.rope_node.proofs.Ropes.{rope_kept, rope_cells_kept}
-use Rattle.span_certificate.specs.declared.describe.Description.{Description}
+use Rattle.span_descent.specs.declared.description.Description.{Description}
 use Rattle.command_parts.specs.Commands as Command
 use Rattle.command_parts.specs.Commands.{FullEdit}
 use Rattle.command_parts.specs.declared.part.Part.{Part}
@@ -19,11 +19,12 @@ use Rattle.span_certificate.specs.declared.row.RowKind.{RowKind}
 use Rattle.span_certificate.specs.declared.row.RowKind.TheVariants.{Shared, Leaf, Bytes}
 use Rattle.command_parts.specs.Parts.{part_at, part_len, part_cells, parts_cells, IsPart, AreParts, root_at, terms_of, parts_of, AreRopes, IsInRange, front, rest, whole, pieces}
 use Rattle.command_parts.proofs.SplicedTexts.{can_splice_kept}
-use Rattle.span_certificate.specs.Leads.{Leads, here, in_left, in_right, in_base, RopeLeads, PartLeads, RopeHasDescription, PartHasDescription}
+use Rattle.span_certificate.specs.PartLeads.{RopeLeads, PartLeads, RopeHasDescription, PartHasDescription}
+use Rattle.span_descent.specs.Leads.{Leads, here, in_left, in_right, in_base}
 use Rattle.span_certificate.specs.Longest.{PartLiesInLeaf, RopeLiesInLeaf, StayWithin, AreLongest}
 use Rattle.span_certificate.specs.Covers.{row_at, place_of, KindFits, Fits, Covers, MeetsNoSource}
 use Rattle.span_certificate.proofs.Covering.{holds_place}
-use Rattle.span_certificate.proofs.Descents.{children_of_cat, base_of_sub}
+use Rattle.span_descent.proofs.Descents.{children_of_cat, base_of_sub}
 
 -- the coded functions of the older nodes are as they were
 abbrev pub AgreeBelow : Table → (ℕ → Coded) → (ℕ → Coded) → Type 0

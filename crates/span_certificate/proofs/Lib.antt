@@ -1,15 +1,6 @@
-pub mod Descents
-pub mod Cells
 pub mod Contents
-pub mod Describing
-pub mod Depths
-pub mod Ways
-pub mod Steps
-pub mod FirstLeaves
 pub mod Walks
 pub mod RowEnds
-pub mod Stands
-pub mod Stops
 pub mod NextRows
 pub mod ComparedCells
 pub mod RunLaws

@@ -14,10 +14,10 @@ use Rattle.span_certificate.proofs.Covering.{place_of_more}
 use Rattle.command_parts.proofs.PartPlaces.{at_is_part, at_part, at_inside_parts}
 use Rattle.rope_node.specs.declared.node.NodeId.{NodeId}
 use Rattle.rope_node.specs.Table.{Table, view_at}
-use Rattle.span_certificate.specs.declared.descent.SpanPlace.{SpanPlace}
+use Rattle.span_descent.specs.declared.descent.SpanPlace.{SpanPlace}
 use Rattle.command_parts.specs.declared.part.Part.TheVariants.{Old}
-use Rattle.span_certificate.specs.Descents.{LeadsToSpan}
-use Rattle.span_certificate.specs.Leads.{PartLeads, RopeLeads}
+use Rattle.span_descent.specs.Descents.{LeadsToSpan}
+use Rattle.span_certificate.specs.PartLeads.{PartLeads, RopeLeads}
 use Rattle.span_certificate.specs.Longest.{LieInLeaf, PartLiesInLeaf, RopeLiesInLeaf, StandsInBoth}
 
 -- what a way down tells

@@ -1,6 +1,7 @@
 -- Rows made one behind the other.
-use Rattle.std.proofs.Common.{All, ◌≡◌, ℕ, ◌+◌, ◌-◌, ◌<◌, ◌≤◌, List, [], ◌∷◌, ◌++◌, length, take, drop, Option, Some, refl, sym, ap, subst, ◌∙◌, arith, inl, inr}
+use Rattle.std.proofs.Common.{All, Err, Ok, ◌≡◌, ℕ, ◌+◌, ◌-◌, ◌<◌, ◌≤◌, List, [], ◌∷◌, ◌++◌, length, take, drop, Option, Some, refl, sym, ap, subst, ◌∙◌, arith, inl, inr}
 use Rattle.std.proofs.lemmas.Bool.{cases_lt}
+use Rattle.std.specs.Global.{Vec}
 use Rattle.std.proofs.lemmas.List.{take-append-le, get_or_append_left, length-append}
 use Rattle.std.proofs.lemmas.List.Sums.{sum_by-append}
 use Rattle.std.proofs.Math.Seq.{get_or-append_seam}
@@ -12,9 +13,11 @@ use Rattle.command_parts.specs.declared.part.Part.{Part}
 use Rattle.span_certificate.specs.declared.row.Row.{Row}
 use Rattle.command_parts.specs.Parts.{part_len, parts_len, part_cells, parts_cells, IsPart, AreParts, part_at}
 use Rattle.span_certificate.specs.Covers.{row_at, no_row, rows_len, place_of, row_compares, IsByte, Fits, CoversAlways}
-use Rattle.span_certificate.specs.Longest.{AreMade, IsLongest}
+use Rattle.span_certificate.specs.Longest.{AreMade, IsCutShort, IsLongest, MakesRows}
+use Rattle.span_certificate.specs.declared.making.MakeFault.{MakeFault}
+use Rattle.span_certificate.specs.declared.making.MakeFault.TheVariants.{TooManyRows}
 use Rattle.span_certificate.specs.declared.making.TheConstants.{ROWS_LIMIT}
-use Rattle.span_certificate.specs.Steps.{IsNext}
+use Rattle.span_certificate.specs.SpanRows.{IsNext}
 use Rattle.span_certificate.proofs.ComparedCells.{all_compared, each_byte}
 use Rattle.span_certificate.proofs.Covering.{length-parts_cells, holds_place, place_of_all}
 use Rattle.rope_node.proofs.Ropes.{rope_length}
@@ -116,3 +119,25 @@ covers_at_end t s h coded parts root rows place are there same making past sourc
     let whole : parts_len parts ≡ rope_len t root = sym (length-parts_cells t s h parts are) ∙ ap length same ∙ rope_length t s h root there in
     let end : rows_len rows ≡ rope_len t root = omega (arith, making.stands, making.made.in_root, past) in
     record { fit = making.made.fit source; whole_root = end; whole_parts = end ∙ sym whole }
+
+-- rows that reach the root's end are what is to be made
+pub made_rows : (t : Table) (coded : ℕ → Coded) (parts : List Part) (root : Option NodeId) (rows : Vec Row) (place : ℕ) → IsMaking t coded parts root rows.items place → CoversAlways t coded parts root rows.items
+    → MakesRows coded t parts root (Ok rows)
+made_rows t coded parts root rows place making covers = record {
+  covers = covers;
+  no_source = making.made.no_source;
+  longest = making.made.longest;
+  few = making.limit;
+  too_many = λ is. absurd cc;
+}
+
+-- a refusal tells of no rows, and of too many only where the greatest number of them leaves text
+pub made_none : (t : Table) (coded : ℕ → Coded) (parts : List Part) (root : Option NodeId) (fault : MakeFault) → (fault ≡ TooManyRows → IsCutShort t coded parts root)
+    → MakesRows coded t parts root (Err fault)
+made_none t coded parts root fault cut = record {
+  covers = tt;
+  no_source = tt;
+  longest = tt;
+  few = tt;
+  too_many = λ is. let same : fault ≡ TooManyRows = cc in cut same;
+}

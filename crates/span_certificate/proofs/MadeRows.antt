@@ -23,7 +23,7 @@ use Rattle.span_certificate.specs.declared.row.RowKind.{RowKind}
 use Rattle.span_certificate.specs.declared.row.RowKind.TheVariants.{Shared, Leaf, Bytes}
 use Rattle.span_certificate.specs.Covers.{row_at, place_of, row_compares, CoversAlways, CoversBy, Fits, FitsBy, HaveSameBytes, IsByte, KindFits, KindFitsBy, MeetsNoSource, SameOver}
 use Rattle.span_certificate.specs.Verdicts.{CanBeSame, IsAskedFor, SameStated, ShowsSame, TellsRows}
-use Rattle.span_certificate.specs.Leads.{AreAnswered}
+use Rattle.span_descent.specs.Leads.{AreAnswered}
 use Rattle.span_certificate.proofs.Sameness.{bytes_are_cells, covered_bytes, covered_cells_by, covered_text}
 use Rattle.span_certificate.proofs.Covering.{holds_place}
 use Rattle.span_certificate.proofs.Verdicts.{AreReadableRows, AreStatedRows, kind_of_fits, MayFit, rows_read}

@@ -6,18 +6,18 @@ use Rattle.rope_node.specs.declared.node.NodeId.{NodeId}
 use Rattle.rope_node.specs.Table.{Table, len_at, IsSound, HasTrueRecords}
 use Rattle.rope_node.specs.Denotes.{Cell, cells, text}
 use Rattle.span_certificate.specs.declared.content.Content.TheVariants.{Within}
-use Rattle.span_certificate.specs.declared.describe.Description.{Description}
+use Rattle.span_descent.specs.declared.description.Description.{Description}
 use Rattle.command_parts.specs.declared.part.Part.{Part}
 use Rattle.command_parts.specs.declared.part.Part.TheVariants.{Old}
 use Rattle.span_certificate.specs.declared.row.Row.{Row}
 use Rattle.span_certificate.specs.declared.row.RowKind.{RowKind}
 use Rattle.span_certificate.specs.declared.row.RowKind.TheVariants.{Shared, Leaf, Bytes}
 use Rattle.command_parts.specs.Parts.{part_cells}
-use Rattle.span_certificate.specs.Leads.{content_from, PartHasDescription}
+use Rattle.span_certificate.specs.PartLeads.{content_from, PartHasDescription}
 use Rattle.span_certificate.specs.Covers.{KindFits}
-use Rattle.span_certificate.specs.Descents.{first_of}
+use Rattle.span_descent.specs.Descents.{first_of}
 use Rattle.span_certificate.specs.Longest.{GoesToLeafEnd, SpansStayWithin, StayWithin}
-use Rattle.span_certificate.specs.Steps.{SpansFit, IsRowOf, DescribedFits, IsDescribedRow, IsNext, AreBytes}
+use Rattle.span_certificate.specs.SpanRows.{SpansFit, IsRowOf, DescribedFits, IsDescribedRow, IsNext, AreBytes}
 use Rattle.span_certificate.proofs.RowEnds.{beside_end}
 use Rattle.span_certificate.proofs.Contents.{of_node}
 

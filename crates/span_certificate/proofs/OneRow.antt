@@ -18,7 +18,8 @@ use Rattle.span_certificate.specs.declared.row.Row.{Row}
 use Rattle.span_certificate.specs.declared.row.RowKind.{RowKind}
 use Rattle.span_certificate.specs.declared.row.RowKind.TheVariants.{Shared, Leaf, Bytes}
 use Rattle.span_certificate.specs.Covers.{IsByte, compared, KindFits}
-use Rattle.span_certificate.specs.Leads.{here, PartLeads}
+use Rattle.span_certificate.specs.PartLeads.{PartLeads}
+use Rattle.span_descent.specs.Leads.{here}
 use Rattle.span_certificate.specs.Longest.{AreMade, StayWithin}
 use Rattle.command_parts.specs.Parts.{part_at, parts_cells}
 

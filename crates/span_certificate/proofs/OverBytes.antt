@@ -8,10 +8,10 @@ use Rattle.std.proofs.lemmas.List.Elements.{All-append, All-drop, All-head, All-
 use Rattle.function_leaf.specs.Coded.{coded_byte}
 use Rattle.rope_node.specs.Table.{Table}
 use Rattle.rope_node.specs.Denotes.{Cell, Byte, Place}
-use Rattle.span_certificate.specs.declared.describe.Description.{Description}
-use Rattle.span_certificate.specs.declared.describe.Description.TheVariants.{Pooled, Sourced, Computed}
+use Rattle.span_descent.specs.declared.description.Description.{Description}
+use Rattle.span_descent.specs.declared.description.Description.TheVariants.{Pooled, Sourced, Computed}
 use Rattle.span_certificate.specs.Covers.{IsByte}
-use Rattle.span_certificate.specs.Leads.{described_cells}
+use Rattle.span_descent.specs.Leads.{described_cells}
 use Rattle.span_certificate.specs.Runs.{IsSourced}
 
 -- bytes of a description that is no source's are bytes

@@ -19,17 +19,18 @@ use Rattle.lazy_file.specs.declared.faults.SourceFault.{SourceFault}
 use Rattle.span_certificate.specs.declared.bytes.Run.{Run}
 use Rattle.cord_position.specs.Runs.{AreBytesOf}
 use Rattle.cord_position.proofs.LeafParts.{bytes_of_bytes, bytes_of_map}
-use Rattle.span_certificate.specs.declared.describe.Description.{Description}
+use Rattle.span_descent.specs.declared.description.Description.{Description}
 use Rattle.span_certificate.specs.declared.content.Content.TheVariants.{Within, Described}
-use Rattle.span_certificate.specs.declared.describe.Description.TheVariants.{Pooled, Computed}
+use Rattle.span_descent.specs.declared.description.Description.TheVariants.{Pooled, Computed}
 use Rattle.command_parts.specs.declared.part.Part.{Part}
-use Rattle.span_certificate.specs.declared.walk.Span.{Span}
+use Rattle.span_descent.specs.declared.span.Span.{Span}
 use Rattle.command_parts.specs.Parts.{part_len, part_cells, IsPart}
-use Rattle.span_certificate.specs.Leads.{content_from, described_cells, Describes}
-use Rattle.span_certificate.specs.Steps.{IsReached, IsSpan}
+use Rattle.span_certificate.specs.PartLeads.{content_from}
+use Rattle.span_descent.specs.Leads.{described_cells, Describes}
+use Rattle.span_descent.specs.Steps.{IsReached, IsSpan}
 use Rattle.span_certificate.specs.Runs.{IsRunOf, ReadsCells, TellsSame}
 use Rattle.span_certificate.proofs.ComparedCells.{AreAmong, among_first, among_second, among_span, among_through, among_both, all_among, cells_among}
-use Rattle.span_certificate.proofs.Cells.{leads_cells}
+use Rattle.span_descent.proofs.Cells.{leads_cells}
 use Rattle.span_certificate.proofs.Contents.{part_content, described_room}
 use Rattle.span_certificate.proofs.NextRows.{fewer_same}
 

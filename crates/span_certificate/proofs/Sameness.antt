@@ -10,20 +10,21 @@ use Rattle.rope_node.specs.Table.{Table, view_at, IsSound, HasTrueRecords}
 use Rattle.rope_node.specs.Denotes.{Cell, Byte, cells, cell_byte, rope_cells, rope_len, IsRope, text}
 use Rattle.rope_node.proofs.Parts.{span_within, span-map}
 use Rattle.span_certificate.specs.declared.content.Content.TheVariants.{Described}
-use Rattle.span_certificate.specs.declared.describe.Description.{Description}
-use Rattle.span_certificate.specs.declared.describe.Description.TheVariants.{Pooled, Sourced, Computed}
+use Rattle.span_descent.specs.declared.description.Description.{Description}
+use Rattle.span_descent.specs.declared.description.Description.TheVariants.{Pooled, Sourced, Computed}
 use Rattle.command_parts.specs.declared.part.Part.{Part}
 use Rattle.command_parts.specs.declared.part.Part.TheVariants.{Old, Pool, Source, Fill}
 use Rattle.span_certificate.specs.declared.row.Row.{Row}
 use Rattle.span_certificate.specs.declared.row.RowKind.{RowKind}
 use Rattle.span_certificate.specs.declared.row.RowKind.TheVariants.{Shared, Leaf, Bytes}
 use Rattle.command_parts.specs.Parts.{part_len, part_cells, parts_cells, IsPart, AreParts}
-use Rattle.span_certificate.specs.Leads.{RopeLeads, PartLeads, RopeHasDescription, PartHasDescription, described_cells, AreAnswered}
+use Rattle.span_certificate.specs.PartLeads.{RopeLeads, PartLeads, RopeHasDescription, PartHasDescription}
+use Rattle.span_descent.specs.Leads.{described_cells, AreAnswered}
 use Rattle.span_certificate.specs.Covers.{row_at, rows_len, place_of, HaveOneDescription, HaveSameBytes, IsByte, KindFitsBy, Covers, CoversBy, MeetsNoSource, SameOver}
-use Rattle.span_certificate.specs.Steps.{AreBytes}
+use Rattle.span_certificate.specs.SpanRows.{AreBytes}
 use Rattle.span_certificate.proofs.ComparedCells.{bytes_of_each, compared_all}
-use Rattle.span_certificate.proofs.Cells.{leads_cells, leads_inside}
-use Rattle.span_certificate.proofs.Describing.{leaf_cells}
+use Rattle.span_descent.proofs.Cells.{leads_cells, leads_inside}
+use Rattle.span_descent.proofs.Describing.{leaf_cells}
 use Rattle.span_certificate.proofs.Covering.{holds_place, length-parts_cells, place_of_more, place_of_all}
 use Rattle.span_certificate.proofs.Contents.{part_content}
 use Rattle.rope_node.proofs.Ropes.{rope_length}

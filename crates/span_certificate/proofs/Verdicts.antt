@@ -21,7 +21,7 @@ use Rattle.command_parts.specs.declared.part.Part.TheVariants.{Old}
 use Rattle.span_certificate.specs.declared.row.Row.{Row}
 use Rattle.span_certificate.specs.declared.row.RowKind.TheVariants.{Shared, Bytes}
 use Rattle.command_parts.specs.Parts.{part_len, parts_len, part_cells, AreParts, part_at}
-use Rattle.span_certificate.specs.Leads.{PartLeads, RopeLeads}
+use Rattle.span_certificate.specs.PartLeads.{PartLeads, RopeLeads}
 use Rattle.span_certificate.specs.Covers.{row_at, no_row, rows_len, place_of, ComparesOnly, compared, kind_compares, row_compares, KindFitsBy, FitsBy, CoversBy, IsFirstBadBy}
 use Rattle.span_certificate.specs.declared.walk.TheConstants.{BYTES_LIMIT}
 use Rattle.span_certificate.specs.Runs.{AmongCells, listed_cell, ReadsCells, TellsSame}

@@ -14,17 +14,18 @@ use Rattle.rope_node.specs.Table.{Table, view_at, len_at, IsLeaf, IsSound, HasTr
 use Rattle.rope_node.specs.Denotes.{Cell, Byte, Place, cells}
 use Rattle.rope_node.proofs.Cells.{cells_at}
 use Rattle.rope_node.proofs.Parts.{span-map, span-range_with_len}
-use Rattle.span_certificate.specs.declared.describe.Description.{Description}
-use Rattle.span_certificate.specs.declared.describe.Description.TheVariants.{Pooled, Sourced, Computed}
+use Rattle.span_descent.specs.declared.description.Description.{Description}
+use Rattle.span_descent.specs.declared.description.Description.TheVariants.{Pooled, Sourced, Computed}
 use Rattle.span_certificate.specs.declared.row.Row.{Row}
 use Rattle.span_certificate.specs.declared.row.RowKind.{RowKind}
 use Rattle.span_certificate.specs.declared.row.RowKind.TheVariants.{Shared, Leaf, Bytes}
-use Rattle.span_certificate.specs.declared.walk.Span.{Span}
-use Rattle.span_certificate.specs.Leads.{here, leaf_description, coded_description}
+use Rattle.span_descent.specs.declared.span.Span.{Span}
+use Rattle.span_descent.specs.Leads.{here, leaf_description, coded_description}
 use Rattle.span_certificate.specs.declared.walk.TheConstants.{BYTES_LIMIT}
-use Rattle.span_certificate.specs.Steps.{IsSpan, span_cells, IsReached, SpansFit, IsRowOf, CellsAs, DescribedFits, IsDescribedRow, AreBytes}
-use Rattle.span_certificate.proofs.Steps.{leads_shorter, leads_through}
-use Rattle.span_certificate.proofs.Cells.{leads_cells}
+use Rattle.span_certificate.specs.SpanRows.{SpansFit, IsRowOf, CellsAs, DescribedFits, IsDescribedRow, AreBytes}
+use Rattle.span_descent.specs.Steps.{IsSpan, span_cells, IsReached}
+use Rattle.span_descent.proofs.Steps.{leads_shorter, leads_through}
+use Rattle.span_descent.proofs.Cells.{leads_cells}
 
 -- the first bytes of x and y lead to a and b, of one length
 pub record AreReached (t : Table) (x y a b : Span) : Type 0 where

@@ -5,13 +5,13 @@ use Rattle.function_leaf.specs.declared.coded.Coded.{Coded}
 use Rattle.rope_node.specs.declared.node.NodeId.{NodeId}
 use Rattle.rope_node.specs.Table.{Table}
 use Rattle.rope_node.specs.Denotes.{Cell, Byte, Place, rope_len, rope_cells, text}
-use Rattle.span_certificate.specs.declared.describe.Description.{Description}
+use Rattle.span_descent.specs.declared.description.Description.{Description}
 use Rattle.command_parts.specs.declared.part.Part.{Part}
 use Rattle.span_certificate.specs.declared.row.Row.{Row}
 use Rattle.span_certificate.specs.declared.row.RowKind.{RowKind}
 use Rattle.span_certificate.specs.declared.row.RowKind.TheVariants.{Shared, Leaf, Bytes}
 use Rattle.command_parts.specs.Parts.{part_at, part_len, parts_len, part_cells, parts_cells}
-use Rattle.span_certificate.specs.Leads.{RopeLeads, PartLeads, RopeHasDescription, PartHasDescription}
+use Rattle.span_certificate.specs.PartLeads.{RopeLeads, PartLeads, RopeHasDescription, PartHasDescription}
 use Rattle.span_certificate.specs.declared.walk.TheConstants.{BYTES_LIMIT}
 
 -- what is read past the last row

@@ -1,9 +1,7 @@
-pub mod Leads
+pub mod PartLeads
 pub mod Covers
 pub mod Longest
-pub mod Steps
-pub mod Descents
+pub mod SpanRows
 pub mod Runs
 pub mod Verdicts
 pub mod Looks
-pub mod Trails

@@ -1,5 +1,6 @@
 -- How far a row goes: as far as both sides stay in what it is over. And rows that are made.
-use Rattle.std.specs.Prelude.{◌≡◌, ℕ, ◌+◌, ◌<◌, ◌≤◌, min, List, length, Option, Some, None, IfSome}
+use Rattle.std.specs.Prelude.{◌≡◌, ℕ, ◌+◌, ◌<◌, ◌≤◌, min, List, length, Option, Some, None, IfSome, Result, IfOk, IsErrOf}
+use Rattle.std.specs.Global.{Vec}
 use Rattle.rope_node.specs.declared.node.NodeId.{NodeId}
 use Rattle.rope_node.specs.Table.{Table}
 use Rattle.command_parts.specs.declared.part.Part.{Part}
@@ -7,13 +8,16 @@ use Rattle.command_parts.specs.declared.part.Part.TheVariants.{Old, Pool, Source
 use Rattle.span_certificate.specs.declared.row.Row.{Row}
 use Rattle.span_certificate.specs.declared.row.RowKind.{RowKind}
 use Rattle.span_certificate.specs.declared.row.RowKind.TheVariants.{Shared, Leaf, Bytes}
-use Rattle.span_certificate.specs.declared.walk.Span.{Span}
+use Rattle.span_descent.specs.declared.span.Span.{Span}
 use Rattle.span_certificate.specs.declared.walk.TheConstants.{BYTES_LIMIT}
 use Rattle.function_leaf.specs.declared.coded.Coded.{Coded}
 use Rattle.rope_node.specs.Denotes.{rope_len, IsRope}
+use Rattle.span_certificate.specs.declared.making.MakeFault.{MakeFault}
+use Rattle.span_certificate.specs.declared.making.MakeFault.TheVariants.{TooManyRows}
 use Rattle.span_certificate.specs.declared.making.TheConstants.{ROWS_LIMIT}
-use Rattle.span_certificate.specs.Covers.{row_at, place_of, rows_len, Fits, MeetsNoSource}
-use Rattle.span_certificate.specs.Leads.{Leads, LeadsToLeaf, RopeLeads, PartLeads}
+use Rattle.span_certificate.specs.Covers.{row_at, place_of, rows_len, Fits, CoversAlways, MeetsNoSource}
+use Rattle.span_certificate.specs.PartLeads.{RopeLeads, PartLeads}
+use Rattle.span_descent.specs.Leads.{Leads, LeadsToLeaf}
 use Rattle.command_parts.specs.Parts.{part_at, part_len, IsPart}
 
 -- the n bytes of node x from p on lie in one leaf
@@ -64,6 +68,15 @@ pub record AreMade (t : Table) (coded : ℕ → Coded) (parts : List Part) (root
 abbrev pub IsCutShort : Table → (ℕ → Coded) → List Part → Option NodeId → Type 0
 IsCutShort t coded parts root =
     (rows : List Row) × AreMade t coded parts root rows × (length rows ≡ ROWS_LIMIT) × (rows_len rows < rope_len t root)
+
+-- the longest rows that show, whatever the sources hold, that these parts have the root's text; or why there are none
+pub record MakesRows (coded : ℕ → Coded) (t : Table) (parts : List Part) (root : Option NodeId)
+    (result : Result (Vec Row) MakeFault) : Type 0 where
+  pub covers : IfOk result (λ rows. CoversAlways t coded parts root rows.items)
+  pub no_source : IfOk result (λ rows. MeetsNoSource t parts root rows.items)
+  pub longest : IfOk result (λ rows. AreLongest t parts root rows.items)
+  pub few : IfOk result (λ rows. length rows.items ≤ ROWS_LIMIT)
+  pub too_many : IsErrOf result TooManyRows → IsCutShort t coded parts root
 
 -- a row at place that is not empty, inside this part from off on and inside the root, which goes on as far as the part
 pub record StandsInBoth (t : Table) (part : Part) (off : ℕ) (root : Option NodeId) (place : ℕ) (row : Row) : Type 0 where

@@ -1,17 +1,11 @@
--- How many looks descents take, and when a count may begin.
-use Rattle.std.specs.Prelude.{◌≡◌, ℕ, ◌+◌, ◌*◌, ◌<◌, min, List, length}
+-- How many looks descents take.
+use Rattle.std.specs.Prelude.{ℕ, ◌+◌, ◌*◌, min, List, length}
 use Rattle.std.specs.List.{sum_by}
 use Rattle.span_certificate.specs.declared.row.Row.{Row}
 use Rattle.span_certificate.specs.declared.row.RowKind.{RowKind}
 use Rattle.span_certificate.specs.declared.row.RowKind.TheVariants.{Shared, Leaf, Bytes}
 use Rattle.span_certificate.specs.declared.looks.TheConstants.{LOOKS_LIMIT}
 use Rattle.span_certificate.specs.declared.walk.TheConstants.{BYTES_LIMIT}
-
--- a blank of this name and number of parts begins a count of the ledger
-pub record BeginsCount (ledger_name ledger_parts name parts : ℕ) : Type 0 where
-  pub same_name : name ≡ ledger_name
-  pub same_parts : parts ≡ ledger_parts
-  pub some : 0 < parts
 
 -- how many bytes a row of this kind and length compares: of a row that is too long the most that one may have
 abbrev pub kind_bytes : RowKind → ℕ → ℕ

@@ -6,12 +6,12 @@ use Rattle.lazy_file.specs.SourceTexts.{Agrees, Stated}
 use Rattle.lazy_file.specs.declared.faults.SourceFault.{SourceFault}
 use Rattle.lazy_file.specs.Readings.{fault_in, Reading, Reads}
 use Rattle.cord_position.specs.Fetched.{AreStated, InCells}
-use Rattle.span_certificate.specs.declared.describe.Description.{Description}
-use Rattle.span_certificate.specs.declared.describe.Description.TheVariants.{Pooled, Sourced, Computed}
+use Rattle.span_descent.specs.declared.description.Description.{Description}
+use Rattle.span_descent.specs.declared.description.Description.TheVariants.{Pooled, Sourced, Computed}
 use Rattle.command_parts.specs.declared.part.Part.{Part}
 use Rattle.span_certificate.specs.declared.bytes.Run.{Run}
 use Rattle.command_parts.specs.Parts.{part_cells}
-use Rattle.span_certificate.specs.Leads.{described_cells, HasRoom}
+use Rattle.span_descent.specs.Leads.{described_cells, HasRoom}
 
 -- the first bytes of the next `left` ones of a part are those of a description
 pub record IsRunOf (t : Table) (part : Part) (off left : ℕ) (run : Run) : Type 0 where

@@ -1,10 +1,12 @@
 -- What verifying tells of rows over what the sources state, and when it answers a source's fault.
-use Rattle.std.specs.Prelude.{◌≡◌, ℕ, ◌+◌, ◌<◌, ◌≤◌, List, ◌++◌, length, Option, Some, Bool, IsTrue}
+use Rattle.std.specs.Prelude.{◌≡◌, ℕ, ◌+◌, ◌<◌, ◌≤◌, List, ◌++◌, length, Option, Some, Bool, IsTrue, Result, Ok, IfOk}
 use Rattle.function_leaf.specs.declared.coded.Coded.{Coded}
 use Rattle.rope_node.specs.declared.node.NodeId.{NodeId}
 use Rattle.rope_node.specs.Table.{Table}
 use Rattle.rope_node.specs.Denotes.{Cell, rope_cells, rope_len, text}
 use Rattle.lazy_file.specs.SourceTexts.{Agrees, Stated}
+use Rattle.lazy_file.specs.declared.faults.SourceFault.{SourceFault}
+use Rattle.lazy_file.specs.Readings.{fault_in, Reading, Reads}
 use Rattle.cord_position.specs.Fetched.{AreStated}
 use Rattle.command_parts.specs.declared.part.Part.{Part}
 use Rattle.span_certificate.specs.declared.row.Row.{Row}
@@ -74,3 +76,10 @@ pub record IsAskedFor (t : Table) (coded : ℕ → Coded) (st : Stated) (parts :
   pub may_be_read : MayBeRead t parts root (place_of rows j) (row_at rows j)
   pub compared : AmongCells (row_compares t parts root (place_of rows j) (row_at rows j)) s p
   pub fit : (i : ℕ) → i < j → FitsBy t coded (SameStated st) parts root (place_of rows i) (row_at rows i)
+
+-- what verifying rows answers by what the sources state, what good rows show, and what it reads of the sources
+pub record VerifiesRows (t : Table) (coded : ℕ → Coded) (parts : List Part) (root : Option NodeId) (rows : List Row)
+    (before after : Reading) (outcome : Result Verdict SourceFault) : Type 0 where
+  pub exact : IfOk outcome (TellsRows t coded before.stated parts root rows)
+  pub shows : outcome ≡ Ok Good → ShowsSame t parts root rows
+  pub reads : Reads before after (IsAskedFor t coded before.stated parts root rows) (fault_in outcome)

@@ -3,21 +3,17 @@
 ghost use Rattle.std.specs.Prelude.{◌≡◌, ◌+◌, ◌*◌, ◌<◌, ◌≤◌, ◌↔◌, ◌++◌, length, take, drop, IsTrue, IfOk, OnOk};
 ghost use Rattle.cord_position.specs.Runs.{AreBytesOf};
 ghost use Rattle.command_parts.specs.Parts.{part_len, part_cells, IsPart};
-ghost use Rattle.span_certificate.specs.Leads.{described_cells, HasRoom};
+ghost use Rattle.span_descent.specs.Leads.{described_cells, HasRoom};
 ghost use Rattle.span_certificate.specs.Runs.{IsRunOf, ReadsCells, TellsSame};
-ghost use Rattle.span_certificate.specs.Trails.{AreWays, IsWayOf};
+ghost use Rattle.span_descent.specs.Trails.{AreWays, IsWayOf};
 ghost use Rattle.span_certificate.specs.declared.looks.TheConstants.{LOOKS_LIMIT};
 
 use crate::content::{Content, content_of};
-use crate::descent::first_leaf;
-use crate::describe::{Description, describe};
-use crate::looks::{Count, CountedSpace};
-use crate::walk::Span;
-use crate::way::{Way, Ways};
 use command_parts::Part;
 use cord_position::fill_source;
 use function_leaf::fill;
 use lazy_file::{SourceFault, Sources};
+use span_descent::{Count, CountedSpace, Description, Span, Way, Ways, describe, first_leaf};
 use std::sync::ledger::Ledger;
 
 /// The most bytes that are compared at once.

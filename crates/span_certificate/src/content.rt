@@ -3,13 +3,12 @@
 ghost use Rattle.std.specs.Prelude.{◌≡◌, ◌-◌, ◌≤◌, Some};
 ghost use Rattle.rope_node.specs.Table.{IsSound};
 ghost use Rattle.command_parts.specs.Parts.{part_len, IsPart};
-ghost use Rattle.span_certificate.specs.Leads.{content_from, LiesWithin};
+ghost use Rattle.span_certificate.specs.PartLeads.{content_from, LiesWithin};
 
-use crate::describe::Description;
-use crate::looks::CountedSpace;
 use command_parts::Part;
 use function_leaf::Coded;
 use rope_node::NodeId;
+use span_descent::{CountedSpace, Description};
 use std::sync::ledger::Ledger;
 
 /// What bytes are.

@@ -8,9 +8,10 @@ ghost use Rattle.command_parts.specs.Parts.{part_at, part_len, IsPart, AreParts}
 ghost use Rattle.command_parts.specs.Places.{held, len_here};
 ghost use Rattle.span_certificate.specs.Covers.{HaveOneDescription, kind_compares, row_compares};
 ghost use Rattle.span_certificate.specs.Runs.{ReadsCells};
-ghost use Rattle.span_certificate.specs.Trails.{AreWays};
-ghost use Rattle.span_certificate.specs.Looks.{BeginsCount, row_bytes, most_looks};
-ghost use Rattle.span_certificate.specs.Verdicts.{IsAskedFor, MayBeRead, ShowsSame, TellsKind, TellsRow, TellsRows};
+ghost use Rattle.span_descent.specs.Trails.{AreWays};
+ghost use Rattle.span_certificate.specs.Looks.{row_bytes, most_looks};
+ghost use Rattle.span_descent.specs.Counts.{BeginsCount};
+ghost use Rattle.span_certificate.specs.Verdicts.{IsAskedFor, MayBeRead, ShowsSame, TellsKind, TellsRow, TellsRows, VerifiesRows};
 ghost use Rattle.lazy_file.specs.Readings.{fault_in, Reads};
 ghost use Rattle.span_certificate.specs.declared.row.RowKind.TheVariants.{Bytes};
 ghost use Rattle.span_certificate.specs.declared.looks.TheConstants.{LOOKS_LIMIT};
@@ -18,13 +19,14 @@ ghost use Rattle.span_certificate.specs.declared.walk.TheConstants.{BYTES_LIMIT}
 
 use crate::bytes::same_bytes;
 use crate::exact::{describe_span, part_leads};
-use crate::looks::{Count, CountedSpace, Looks};
+use crate::kept_ways::{Trails, are_short};
+use crate::looks::Looks;
 use crate::row::{Row, RowKind, Rows};
 use crate::walk::BYTES_LIMIT;
-use crate::way::{Trails, Way, Ways, are_short};
 use command_parts::{Part, PartIter, PartPlace, Splices};
 use lazy_file::{SourceFault, Sources};
 use rope_node::{CodedSpace, Rope};
+use span_descent::{Count, CountedSpace, Way, Ways};
 use std::marker::Brand;
 use std::sync::ledger::{Blank, Ledger};
 use work_progress::{Progress, Untold};
@@ -239,13 +241,8 @@ fn verify_with<S: CountedSpace<L>, T: Sources, P: Splices, R: Rows, W: Way, L: L
 ) -> Result<Verdict, SourceFault>
     requires parts { AreParts (S.table looks.old.space.now) parts }
     requires root { IsRope (S.table looks.old.space.now) root }
-    ensures exact { IfOk result (TellsRows (S.table looks.old.space.now)
-        (S.coded looks.old.space.now) (T.reading sources.old).stated parts.entry root (R.listed rows.now)) }
-    ensures shows { result ≡ Ok Verdict.Good → ShowsSame
-        (S.table looks.old.space.now) parts.entry root (R.listed rows.now) }
-    ensures reads { Reads (T.reading sources.old) (T.reading sources.new)
-        (IsAskedFor (S.table looks.old.space.now) (S.coded looks.old.space.now)
-        (T.reading sources.old).stated parts.entry root (R.listed rows.now)) (fault_in result) }
+    ensures verified { VerifiesRows (S.table looks.old.space.now) (S.coded looks.old.space.now)
+        parts.entry root (R.listed rows.now) (T.reading sources.old) (T.reading sources.new) result }
     ensures looks { looks.new.count.now ≤ looks.old.count.now + most_looks (R.listed rows.now) }
     ensures space { looks.new.space.now ≡ looks.old.space.now }
     ensures same_reference { looks.new.count.ghost_name ≡ looks.old.count.ghost_name }
@@ -278,13 +275,8 @@ pub fn verify_by<S: CountedSpace<L>, T: Sources, P: Splices, R: Rows, L: Ledger>
 ) -> Result<Verdict, SourceFault>
     requires parts { AreParts (S.table looks.old.space.now) parts }
     requires root { IsRope (S.table looks.old.space.now) root }
-    ensures exact { IfOk result (TellsRows (S.table looks.old.space.now)
-        (S.coded looks.old.space.now) (T.reading sources.old).stated parts.entry root (R.listed rows.now)) }
-    ensures shows { result ≡ Ok Verdict.Good → ShowsSame
-        (S.table looks.old.space.now) parts.entry root (R.listed rows.now) }
-    ensures reads { Reads (T.reading sources.old) (T.reading sources.new)
-        (IsAskedFor (S.table looks.old.space.now) (S.coded looks.old.space.now)
-        (T.reading sources.old).stated parts.entry root (R.listed rows.now)) (fault_in result) }
+    ensures verified { VerifiesRows (S.table looks.old.space.now) (S.coded looks.old.space.now)
+        parts.entry root (R.listed rows.now) (T.reading sources.old) (T.reading sources.new) result }
     ensures looks { looks.new.count.now ≤ looks.old.count.now + most_looks (R.listed rows.now) }
     ensures space { looks.new.space.now ≡ looks.old.space.now }
     ensures same_reference { looks.new.count.ghost_name ≡ looks.old.count.ghost_name }
@@ -319,13 +311,8 @@ pub fn verify_told<S: CountedSpace<L>, T: Sources, P: Splices, R: Rows, L: Ledge
 ) -> Result<Verdict, SourceFault>
     requires parts { AreParts (S.table looks.old.space.now) parts }
     requires root { IsRope (S.table looks.old.space.now) root }
-    ensures exact { IfOk result (TellsRows (S.table looks.old.space.now)
-        (S.coded looks.old.space.now) (T.reading sources.old).stated parts.entry root (R.listed rows.now)) }
-    ensures shows { result ≡ Ok Verdict.Good → ShowsSame
-        (S.table looks.old.space.now) parts.entry root (R.listed rows.now) }
-    ensures reads { Reads (T.reading sources.old) (T.reading sources.new)
-        (IsAskedFor (S.table looks.old.space.now) (S.coded looks.old.space.now)
-        (T.reading sources.old).stated parts.entry root (R.listed rows.now)) (fault_in result) }
+    ensures verified { VerifiesRows (S.table looks.old.space.now) (S.coded looks.old.space.now)
+        parts.entry root (R.listed rows.now) (T.reading sources.old) (T.reading sources.new) result }
     ensures looks { looks.new.count.now ≤ looks.old.count.now + most_looks (R.listed rows.now) }
     ensures space { looks.new.space.now ≡ looks.old.space.now }
     ensures same_reference { looks.new.count.ghost_name ≡ looks.old.count.ghost_name }
@@ -369,13 +356,8 @@ pub fn verify_counted<S: CountedSpace<L>, T: Sources, P: Splices, R: Rows, L: Le
 ) -> Result<Verdict, SourceFault>
     requires parts { AreParts (S.table looks.old.space.now) parts }
     requires root { IsRope (S.table looks.old.space.now) root }
-    ensures exact { IfOk result (TellsRows (S.table looks.old.space.now)
-        (S.coded looks.old.space.now) (T.reading sources.old).stated parts.entry root (R.listed rows.now)) }
-    ensures shows { result ≡ Ok Verdict.Good → ShowsSame
-        (S.table looks.old.space.now) parts.entry root (R.listed rows.now) }
-    ensures reads { Reads (T.reading sources.old) (T.reading sources.new)
-        (IsAskedFor (S.table looks.old.space.now) (S.coded looks.old.space.now)
-        (T.reading sources.old).stated parts.entry root (R.listed rows.now)) (fault_in result) }
+    ensures verified { VerifiesRows (S.table looks.old.space.now) (S.coded looks.old.space.now)
+        parts.entry root (R.listed rows.now) (T.reading sources.old) (T.reading sources.new) result }
     ensures looks { looks.new.count.now ≤ looks.old.count.now + most_looks (R.listed rows.now) }
     ensures space { looks.new.space.now ≡ looks.old.space.now }
     ensures same_reference { looks.new.count.ghost_name ≡ looks.old.count.ghost_name }
@@ -403,13 +385,8 @@ fn verify_over<S: CodedSpace, T: Sources, P: Splices, R: Rows, L: Ledger>(
     requires parts { AreParts (S.NodeSpace.table space.now) parts }
     requires root { IsRope (S.NodeSpace.table space.now) root }
     requires blank { BeginsCount L.name L.parts blank.name blank.parts }
-    ensures exact { IfOk result (TellsRows (S.NodeSpace.table space.now) (S.coded space.now)
-        (T.reading sources.old).stated parts.entry root (R.listed rows.now)) }
-    ensures shows { result ≡ Ok Verdict.Good → ShowsSame
-        (S.NodeSpace.table space.now) parts.entry root (R.listed rows.now) }
-    ensures reads { Reads (T.reading sources.old) (T.reading sources.new)
-        (IsAskedFor (S.NodeSpace.table space.now) (S.coded space.now)
-        (T.reading sources.old).stated parts.entry root (R.listed rows.now)) (fault_in result) }
+    ensures { VerifiesRows (S.NodeSpace.table space.now) (S.coded space.now) parts.entry root (R.listed rows.now)
+        (T.reading sources.old) (T.reading sources.new) result }
 {
     let mut count = Count::<L>::new(blank);
     let mut looks = Looks::over(space, &mut count);
@@ -432,13 +409,8 @@ pub fn verify<S: CodedSpace, T: Sources, P: Splices, R: Rows>(
 ) -> Result<Verdict, SourceFault>
     requires parts { AreParts (S.NodeSpace.table space.now) parts }
     requires root { IsRope (S.NodeSpace.table space.now) root }
-    ensures exact { IfOk result (TellsRows (S.NodeSpace.table space.now) (S.coded space.now)
-        (T.reading sources.old).stated parts.entry root (R.listed rows.now)) }
-    ensures shows { result ≡ Ok Verdict.Good → ShowsSame
-        (S.NodeSpace.table space.now) parts.entry root (R.listed rows.now) }
-    ensures reads { Reads (T.reading sources.old) (T.reading sources.new)
-        (IsAskedFor (S.NodeSpace.table space.now) (S.coded space.now)
-        (T.reading sources.old).stated parts.entry root (R.listed rows.now)) (fault_in result) }
+    ensures { VerifiesRows (S.NodeSpace.table space.now) (S.coded space.now) parts.entry root (R.listed rows.now)
+        (T.reading sources.old) (T.reading sources.new) result }
 {
     verify_over::<S, T, P, R, Brand>(space, sources, parts, root, rows, Blank::new(1))
 }

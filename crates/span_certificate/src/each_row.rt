@@ -3,16 +3,14 @@
 ghost use Rattle.std.specs.Prelude.{◌≡◌, ◌↔◌, ℕ, ◌<◌, length, IsTrue, IsSome, Some};
 ghost use Rattle.rope_node.specs.Denotes.{IsRope};
 ghost use Rattle.span_certificate.specs.Covers.{CoversAnyhow, place_of, row_at};
-ghost use Rattle.span_certificate.specs.Looks.{BeginsCount};
+ghost use Rattle.span_descent.specs.Counts.{BeginsCount};
 ghost use Rattle.command_parts.specs.Parts.{AreParts};
 
-use crate::from_root::FromRoot;
-use crate::looks::{Count, CountedSpace};
+use crate::kept_ways::{Trails, are_short};
 use crate::row::Row;
-use crate::trail::Trail;
-use crate::way::{Trails, Way, Ways, are_short};
 use command_parts::{Part, PartIter, PartPlace, Splices};
 use rope_node::{CodedSpace, NodeSpace, Rope, rope_len};
+use span_descent::{Count, CountedSpace, FromRoot, Trail, Way, Ways};
 use std::marker::Brand;
 use std::sync::ledger::{Blank, Ledger};
 
@@ -25,7 +23,7 @@ pub trait Question {
     ghost use Rattle.span_certificate.specs.declared.row.Row.{Row};
     ghost use Rattle.span_certificate.specs.Longest.{StandsInBoth};
     ghost use Rattle.command_parts.specs.Parts.{part_at, AreParts};
-    ghost use Rattle.span_certificate.specs.Trails.{AreWays};
+    ghost use Rattle.span_descent.specs.Trails.{AreWays};
 
     // It holds of a row of these parts and this root, at this place.
     ghost holds: { Table → List Part → Option NodeId → ℕ → Row → Type 0 };

@@ -3,21 +3,19 @@
 ghost use Rattle.std.specs.Prelude.{◌≡◌, ◌↔◌, ◌+◌, ◌≤◌, Some, IsTrue};
 ghost use Rattle.rope_node.specs.Table.{IsSound};
 ghost use Rattle.command_parts.specs.Parts.{part_len, IsPart};
-ghost use Rattle.span_certificate.specs.Leads.{PartLeads, HasDescription, PartHasDescription};
-ghost use Rattle.span_certificate.specs.Looks.{BeginsCount};
-ghost use Rattle.span_certificate.specs.Steps.{IsSpan};
-ghost use Rattle.span_certificate.specs.Trails.{IsWayOf};
-ghost use Rattle.span_certificate.specs.declared.describe.Description.{Description};
+ghost use Rattle.span_certificate.specs.PartLeads.{PartLeads, PartHasDescription};
+ghost use Rattle.span_descent.specs.Leads.{HasDescription};
+ghost use Rattle.span_descent.specs.Counts.{BeginsCount};
+ghost use Rattle.span_descent.specs.Steps.{IsSpan};
+ghost use Rattle.span_descent.specs.Trails.{IsWayOf};
+ghost use Rattle.span_descent.specs.declared.description.Description.{Description};
 
 use crate::content::{Content, content_of};
-use crate::descent::{leads_to, leaf_span};
-use crate::describe::{Description, describe};
-use crate::from_root::FromRoot;
-use crate::looks::{Count, CountedSpace};
-use crate::walk::Span;
-use crate::way::Way;
 use command_parts::Part;
 use rope_node::{CodedSpace, NodeId};
+use span_descent::{
+    Count, CountedSpace, Description, FromRoot, Span, Way, describe, leads_to, leaf_span,
+};
 use std::marker::Brand;
 use std::sync::ledger::{Blank, Ledger};
 

@@ -4,19 +4,18 @@ ghost use Rattle.std.specs.Prelude.{◌≡◌, ◌↔◌, ◌+◌, ◌≤◌, Li
 ghost use Rattle.rope_node.specs.Denotes.{rope_len, IsRope};
 ghost use Rattle.span_certificate.specs.Covers.{CoversAnyhow};
 ghost use Rattle.span_certificate.specs.Longest.{AreLongest, IsLongest, PartLiesInLeaf, RopeLiesInLeaf, StayWithin};
-ghost use Rattle.span_certificate.specs.Leads.{PartLeads, RopeLeads};
+ghost use Rattle.span_certificate.specs.PartLeads.{PartLeads, RopeLeads};
 ghost use Rattle.command_parts.specs.Parts.{part_len, IsPart, AreParts};
-ghost use Rattle.span_certificate.specs.Trails.{AreWays, IsWayOf};
+ghost use Rattle.span_descent.specs.Trails.{AreWays, IsWayOf};
 
-use crate::descent::leaf_span;
 use crate::each_row::{Question, all_hold};
 use crate::exact::part_leads;
-use crate::looks::{Count, CountedSpace};
+use crate::kept_ways::Trails;
 use crate::row::{Row, RowKind};
-use crate::walk::{BYTES_LIMIT, Span};
-use crate::way::{Trails, Way, Ways};
+use crate::walk::BYTES_LIMIT;
 use command_parts::{Part, PartIter, Splices};
 use rope_node::{CodedSpace, NodeId, Rope};
+use span_descent::{Count, CountedSpace, Span, Way, Ways, leaf_span};
 use std::sync::ledger::Ledger;
 
 /// Whether the `len` bytes of a part from `off` on lie in one leaf.

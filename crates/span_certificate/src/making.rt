@@ -1,22 +1,21 @@
 //! Rows made for the parts of a command and its root.
 
-ghost use Rattle.std.specs.Prelude.{◌≡◌, ◌+◌, ◌<◌, ◌≤◌, length, take, drop, Some, IfOk, IsErrOf};
+ghost use Rattle.std.specs.Prelude.{◌≡◌, ◌+◌, ◌<◌, ◌≤◌, length, take, drop, Some};
 ghost use Rattle.rope_node.specs.Denotes.{cells, rope_cells, IsRope};
 ghost use Rattle.command_parts.specs.Parts.{part_len, part_cells, parts_cells, IsPart, AreParts};
-ghost use Rattle.span_certificate.specs.Covers.{CoversAlways, MeetsNoSource};
-ghost use Rattle.span_certificate.specs.Longest.{AreLongest, IsCutShort, StayWithin};
-ghost use Rattle.span_certificate.specs.declared.making.TheConstants.{ROWS_LIMIT};
-ghost use Rattle.span_certificate.specs.Looks.{BeginsCount};
-ghost use Rattle.span_certificate.specs.Steps.{IsNext, IsSpan, span_cells};
-ghost use Rattle.span_certificate.specs.Trails.{AreWays};
+ghost use Rattle.span_certificate.specs.Longest.{MakesRows, StayWithin};
+ghost use Rattle.span_descent.specs.Counts.{BeginsCount};
+ghost use Rattle.span_certificate.specs.SpanRows.{IsNext};
+ghost use Rattle.span_descent.specs.Steps.{IsSpan, span_cells};
+ghost use Rattle.span_descent.specs.Trails.{AreWays};
 
 use crate::content::{Content, content_of};
-use crate::looks::{Count, CountedSpace};
+use crate::kept_ways::{Trails, are_short};
 use crate::row::Row;
-use crate::walk::{Span, next_leaf, next_old};
-use crate::way::{Trails, Way, Ways, are_short};
+use crate::walk::{next_leaf, next_old};
 use command_parts::{Part, PartIter, PartPlace, Splices};
 use rope_node::{CodedSpace, NodeId, NodeSpace, Rope};
+use span_descent::{Count, CountedSpace, Span, Way, Ways};
 use std::alloc::Global;
 use std::marker::Brand;
 use std::sync::ledger::{Blank, Ledger};
@@ -77,15 +76,7 @@ fn make_for<S: CodedSpace, P: Splices, W: Way, L: Ledger>(
     requires same { parts_cells (S.NodeSpace.table space.now) parts
         ≡ cells (S.NodeSpace.table space.now) root.0 }
     requires blank { BeginsCount L.name L.parts blank.name blank.parts }
-    ensures covers { IfOk result (λ rows. CoversAlways
-        (S.NodeSpace.table space.now) (S.coded space.now) parts.entry (Some root) rows.items) }
-    ensures no_source { IfOk result (λ rows. MeetsNoSource
-        (S.NodeSpace.table space.now) parts.entry (Some root) rows.items) }
-    ensures longest { IfOk result (λ rows. AreLongest
-        (S.NodeSpace.table space.now) parts.entry (Some root) rows.items) }
-    ensures few { IfOk result (λ rows. length rows.items ≤ ROWS_LIMIT) }
-    ensures too_many { IsErrOf result MakeFault.TooManyRows → IsCutShort
-        (S.NodeSpace.table space.now) (S.coded space.now) parts.entry (Some root) }
+    ensures { MakesRows (S.coded space.now) (S.NodeSpace.table space.now) parts.entry (Some root) result }
 {
     let mut rows = Vec::new(alloc);
     let mut count = Count::<L>::new(blank);
@@ -129,15 +120,7 @@ fn make_with<S: CodedSpace, P: Splices, W: Way>(
     requires root { IsRope (S.NodeSpace.table space.now) root }
     requires same { parts_cells (S.NodeSpace.table space.now) parts
         ≡ rope_cells (S.NodeSpace.table space.now) root }
-    ensures covers { IfOk result (λ rows. CoversAlways
-        (S.NodeSpace.table space.now) (S.coded space.now) parts.entry root rows.items) }
-    ensures no_source { IfOk result (λ rows. MeetsNoSource
-        (S.NodeSpace.table space.now) parts.entry root rows.items) }
-    ensures longest { IfOk result (λ rows. AreLongest
-        (S.NodeSpace.table space.now) parts.entry root rows.items) }
-    ensures few { IfOk result (λ rows. length rows.items ≤ ROWS_LIMIT) }
-    ensures too_many { IsErrOf result MakeFault.TooManyRows → IsCutShort
-        (S.NodeSpace.table space.now) (S.coded space.now) parts.entry root }
+    ensures { MakesRows (S.coded space.now) (S.NodeSpace.table space.now) parts.entry root result }
 {
     // The space is sound, as each of its calls says.
     let _nodes = space.count();
@@ -164,15 +147,7 @@ pub fn make_by<S: CodedSpace, P: Splices>(
     requires root { IsRope (S.NodeSpace.table space.now) root }
     requires same { parts_cells (S.NodeSpace.table space.now) parts
         ≡ rope_cells (S.NodeSpace.table space.now) root }
-    ensures covers { IfOk result (λ rows. CoversAlways
-        (S.NodeSpace.table space.now) (S.coded space.now) parts.entry root rows.items) }
-    ensures no_source { IfOk result (λ rows. MeetsNoSource
-        (S.NodeSpace.table space.now) parts.entry root rows.items) }
-    ensures longest { IfOk result (λ rows. AreLongest
-        (S.NodeSpace.table space.now) parts.entry root rows.items) }
-    ensures few { IfOk result (λ rows. length rows.items ≤ ROWS_LIMIT) }
-    ensures too_many { IsErrOf result MakeFault.TooManyRows → IsCutShort
-        (S.NodeSpace.table space.now) (S.coded space.now) parts.entry root }
+    ensures { MakesRows (S.coded space.now) (S.NodeSpace.table space.now) parts.entry root result }
 {
     if are_short::<S, P, Brand>(space, &parts, root) {
         return make(alloc, space, parts, root);
@@ -199,15 +174,7 @@ pub fn make<S: CodedSpace, P: Splices>(
     requires root { IsRope (S.NodeSpace.table space.now) root }
     requires same { parts_cells (S.NodeSpace.table space.now) parts
         ≡ rope_cells (S.NodeSpace.table space.now) root }
-    ensures covers { IfOk result (λ rows. CoversAlways
-        (S.NodeSpace.table space.now) (S.coded space.now) parts.entry root rows.items) }
-    ensures no_source { IfOk result (λ rows. MeetsNoSource
-        (S.NodeSpace.table space.now) parts.entry root rows.items) }
-    ensures longest { IfOk result (λ rows. AreLongest
-        (S.NodeSpace.table space.now) parts.entry root rows.items) }
-    ensures few { IfOk result (λ rows. length rows.items ≤ ROWS_LIMIT) }
-    ensures too_many { IsErrOf result MakeFault.TooManyRows → IsCutShort
-        (S.NodeSpace.table space.now) (S.coded space.now) parts.entry root }
+    ensures { MakesRows (S.coded space.now) (S.NodeSpace.table space.now) parts.entry root result }
 {
     make_with(alloc, space, parts, root, &mut Ways::from_root())
 }

@@ -5,16 +5,15 @@ ghost use Rattle.rope_node.specs.Denotes.{IsRope};
 ghost use Rattle.span_certificate.specs.Covers.{CoversAnyhow, IsByte, MeetsNoSource, row_compares};
 ghost use Rattle.command_parts.specs.Parts.{part_len, part_cells, IsPart, AreParts};
 ghost use Rattle.span_certificate.specs.Runs.{IsSourced};
-ghost use Rattle.span_certificate.specs.Trails.{IsWayOf};
+ghost use Rattle.span_descent.specs.Trails.{IsWayOf};
 
 use crate::bytes::run_of;
-use crate::describe::Description;
 use crate::each_row::{Question, all_hold};
-use crate::looks::{Count, CountedSpace};
+use crate::kept_ways::Trails;
 use crate::row::{Row, RowKind};
-use crate::way::{Trails, Way, Ways};
 use command_parts::{Part, PartIter, Splices};
 use rope_node::{CodedSpace, Rope};
+use span_descent::{Count, CountedSpace, Description, Way, Ways};
 use std::sync::ledger::Ledger;
 
 /// Whether the bytes of a description are those of a source.

@@ -2,39 +2,21 @@
 
 ghost use Rattle.std.specs.Prelude.{◌≡◌, ◌↔◌, ℕ, ◌+◌, ◌<◌, ◌≤◌, min, IsTrue};
 ghost use Rattle.rope_node.specs.Table.{view_at, IsLeaf, IsSound, HasTrueRecords};
-ghost use Rattle.span_certificate.specs.Descents.{IsStand, first_of};
+ghost use Rattle.span_descent.specs.Descents.{IsStand, first_of};
 ghost use Rattle.span_certificate.specs.Longest.{GoesToLeafEnd, SpansStayWithin};
-ghost use Rattle.span_certificate.specs.Steps.{IsSpan, span_cells, CellsAs, IsRowOf, IsDescribedRow};
-ghost use Rattle.span_certificate.specs.Trails.{IsOnWay, IsWayOf};
+ghost use Rattle.span_certificate.specs.SpanRows.{CellsAs, IsRowOf, IsDescribedRow};
+ghost use Rattle.span_descent.specs.Steps.{IsSpan, span_cells};
+ghost use Rattle.span_descent.specs.Trails.{IsOnWay, IsWayOf};
 ghost use Rattle.span_certificate.specs.declared.walk.TheConstants.{BYTES_LIMIT};
 ghost use Rattle.rope_node.specs.declared.node.NodeId.{NodeId};
 
-use crate::descent::first_leaf;
-use crate::describe::{Description, describe};
-use crate::looks::{Count, CountedSpace};
 use crate::row::{Row, RowKind};
-use crate::way::{Descent, Way};
 use rope_node::{NodeId, NodeView};
+use span_descent::{Count, CountedSpace, Descent, Description, Span, Way, describe, first_leaf};
 use std::sync::ledger::Ledger;
 
 /// The most bytes of a row that compares bytes.
 pub const BYTES_LIMIT: u64 = 4096;
-
-/// Some bytes of a node.
-#[derive(Clone, Copy, Debug, PartialEq, Eq)]
-pub struct Span {
-    pub node: NodeId,
-    /// The first of them, counted from the node's.
-    pub start: u64,
-    pub len: u64,
-}
-
-/// A leaf span that is the first bytes of another span, and what its leaf is.
-#[derive(Clone, Copy, Debug, PartialEq, Eq)]
-pub struct Reached {
-    pub span: Span,
-    pub view: NodeView,
-}
 
 /// The row for two leaf spans of one length and the same cells.
 pub fn leaf_row<S: CountedSpace<L>, L: Ledger>(

@@ -3,12 +3,13 @@ use Rattle.std.proofs.Common.{◌≡◌, ℕ, zero, suc, ◌+◌, ◌<◌, ◌�
 use Rattle.function_leaf.specs.declared.coded.Coded.{Coded}
 use Rattle.rope_node.specs.Table.{Table, view_at}
 use Rattle.worked_tests.specs.Tables.{number, part_of_a_part, one_literal}
-use Rattle.span_certificate.specs.declared.describe.Description.{Description}
-use Rattle.span_certificate.specs.declared.describe.Description.TheVariants.{Pooled}
+use Rattle.span_descent.specs.declared.description.Description.{Description}
+use Rattle.span_descent.specs.declared.description.Description.TheVariants.{Pooled}
 use Rattle.span_certificate.specs.declared.row.Row.{Row}
 use Rattle.command_parts.specs.declared.part.Part.{Part}
 use Rattle.command_parts.specs.declared.part.Part.TheVariants.{Pool}
-use Rattle.span_certificate.specs.Leads.{Leads, here, in_left, in_right, in_base, leaf_description, PartHasDescription}
+use Rattle.span_certificate.specs.PartLeads.{PartHasDescription}
+use Rattle.span_descent.specs.Leads.{Leads, here, in_left, in_right, in_base, leaf_description}
 use Rattle.rope_node.specs.Denotes.{Cell}
 use Rattle.span_certificate.specs.Covers.{place_of, row_at, Fits, FitsBy, Covers, IsFirstBad, IsFirstBadBy, SameOver}
 use Rattle.worked_tests.specs.Commands.{leaf_row}

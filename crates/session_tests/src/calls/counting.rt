@@ -1,6 +1,6 @@
 //! Calls whose looks at nodes are counted.
 
-ghost use Rattle.span_certificate.specs.Looks.{BeginsCount};
+ghost use Rattle.span_descent.specs.Counts.{BeginsCount};
 
 use super::records::{inserted, leaf};
 use super::texts::made;
@@ -12,7 +12,8 @@ use image_reader::{Image, NodeRecord, Records, Revisions};
 use lazy_file::MemSources;
 use rope_node::{NodeId, NodeView};
 use session_checker::{CheckFault, check_tables, revisions_counted, tables_counted};
-use span_certificate::{Count, Looks, Row, RowKind, Verdict, verify_counted};
+use span_certificate::{Looks, Row, RowKind, Verdict, verify_counted};
+use span_descent::Count;
 use std::alloc::AllocGlobal;
 use std::marker::Brand;
 use std::process::Abort;

@@ -5,7 +5,8 @@ use edit_commands::Session;
 use function_leaf::Coded;
 use rope_node::{NodeId, NodeSpace, NodeView, Rope};
 use rope_store::Store;
-use span_certificate::{BYTES_LIMIT, Description, Row, RowKind, describe_leaf};
+use span_certificate::{BYTES_LIMIT, Row, RowKind};
+use span_descent::{Description, describe_leaf};
 use std::alloc::AllocGlobal;
 use std::process::Abort;
 

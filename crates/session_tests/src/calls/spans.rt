@@ -9,7 +9,8 @@ use edit_commands::Command;
 use function_leaf::Coded;
 use rope_node::{NodeId, NodeSpace, Rope};
 use rope_store::Store;
-use span_certificate::{Description, Row, RowKind, describe_leaf, describe_part};
+use span_certificate::{Row, RowKind, describe_part};
+use span_descent::{Description, describe_leaf};
 use std::alloc::AllocGlobal;
 use std::process::Abort;
 

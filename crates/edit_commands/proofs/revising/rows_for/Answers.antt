@@ -5,7 +5,7 @@ use Rattle.command_parts.specs.declared.edit.Splice.{Splice}
 use Rattle.command_parts.specs.declared.part.Part.{Part}
 use Rattle.command_parts.specs.Commands.{full_edit}
 use Rattle.command_parts.specs.Parts.{parts_of}
-use Rattle.edit_commands.specs.Applying.{MakesRows}
+use Rattle.span_certificate.specs.Longest.{MakesRows}
 use Rattle.edit_commands.specs.Building.{edit_with}
 use Rattle.edit_commands.specs.Session.{roots_of}
 use Rattle.edit_commands.proofs.MadeRevisions.{own_edit}
@@ -22,4 +22,4 @@ returns c =
     ∙ own_edit places command (c.requires.many ∙ ap length c.requires.splices) in
     let same = c.parts-parts.ensures.exact ∙ ap (parts_of t (roots_of c.args.revisions.now)) says in
     subst (λ (ps : List Part). MakesRows (coded_at c.args.store.now) t ps c.args.root c.make_by.result) same
-    (record { covers = c.make_by.ensures.covers; no_source = c.make_by.ensures.no_source; longest = c.make_by.ensures.longest; few = c.make_by.ensures.few; too_many = c.make_by.ensures.too_many })
+    c.make_by.ensures

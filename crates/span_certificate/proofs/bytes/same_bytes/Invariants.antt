@@ -1,6 +1,6 @@
 use Rattle.std.proofs.Common.{◌≡◌, ◌-◌, ◌+◌, ◌*◌, ◌≤◌}
 use Rattle.span_certificate.specs.declared.looks.TheConstants.{LOOKS_LIMIT}
-use Rattle.span_certificate.specs.Trails.{AreWays}
+use Rattle.span_descent.specs.Trails.{AreWays}
 use Rattle.span_certificate.proofs.RunLaws.{IsComparing}
 use Rattle.span_certificate.proofs.bytes.same_bytes.Given as goal
 

@@ -1,5 +1,5 @@
 use Rattle.std.proofs.lemmas.Result.{err_from_is_err_and}
-use Rattle.span_certificate.specs.Leads.{described_cells}
+use Rattle.span_descent.specs.Leads.{described_cells}
 use Rattle.std.proofs.Common.{◌≡◌, Err, length}
 use Rattle.span_certificate.proofs.RunLaws.{tells_same, first_read, second_read}
 use Rattle.span_certificate.proofs.bytes.same_described.Goals as goal

@@ -1,6 +1,6 @@
 use Rattle.std.proofs.Common.{◌≡◌, ◌+◌, ◌≤◌}
 use Rattle.command_parts.specs.Places.{IsAt}
-use Rattle.span_certificate.specs.Trails.{AreWays}
+use Rattle.span_descent.specs.Trails.{AreWays}
 use Rattle.span_certificate.proofs.RowLooks.{looks_before}
 use Rattle.span_certificate.proofs.Verdicts.{IsVerifying}
 use Rattle.span_certificate.proofs.cover.verify_rows.Given as goal

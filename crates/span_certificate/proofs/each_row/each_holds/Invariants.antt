@@ -1,7 +1,7 @@
 use Rattle.std.proofs.Common.{◌≡◌, ℕ, ◌<◌}
 use Rattle.span_certificate.specs.Covers.{place_of, row_at}
 use Rattle.command_parts.specs.Places.{IsAt}
-use Rattle.span_certificate.specs.Trails.{AreWays}
+use Rattle.span_descent.specs.Trails.{AreWays}
 use Rattle.span_certificate.proofs.each_row.each_holds.Given as goal
 
 abbrev pub invariant-loop-j : goal.invariant-loop-j

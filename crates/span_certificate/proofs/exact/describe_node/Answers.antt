@@ -1,4 +1,4 @@
-use Rattle.span_certificate.proofs.Ways.{described_by_leaf, described_by_none}
+use Rattle.span_descent.proofs.OnePlace.{described_by_leaf, described_by_none}
 use Rattle.span_certificate.proofs.exact.describe_node.Goals as goal
 
 pub returns-in-None-clause-value : goal.returns-in-None-clause-value

@@ -8,7 +8,7 @@ use Rattle.span_certificate.specs.Longest.{IsLongest, StayWithin}
 use Rattle.command_parts.specs.Parts.{part_len, part_at, parts_cells, AreParts}
 use Rattle.command_parts.specs.Places.{held, IsAt}
 use Rattle.command_parts.proofs.PartPlaces.{at_part, at_whole}
-use Rattle.span_certificate.proofs.Made.{IsStep, step_of, whole_parts, making_more, making_none, covers_at_end}
+use Rattle.span_certificate.proofs.Made.{IsStep, step_of, whole_parts, making_more, making_none, made_none, made_rows, covers_at_end}
 use Rattle.span_certificate.proofs.making.make_for.Goals as goal
 
 part_here : (parts : List Part) (place : ℕ) (here : Option Part) (off : ℕ) (rest : List Part) (part : Part) → IsAt parts place here off rest → here ≡ Some part → part_at parts place ≡ Some (part, off)
@@ -68,10 +68,13 @@ loop-place-preserved g c =
       at = c.skip.ensures c.args.parts c.loop-place.place c.loop-place.invariant.at;
     }
 
-pub returns-clause-covers : goal.returns-clause-covers
-returns-clause-covers g c =
-    covers_at_end (g.S.NodeSpace.table c.args.space.now) c.len-end.ensures.sound c.len-end.ensures.true_records (g.S.CodedSpace.coded c.args.space.now) c.args.parts (Some c.args.root) c.loop-place.rows.items c.loop-place.place
-    c.requires.parts c.requires.root c.requires.same c.loop-place.invariant.making (omega (arith, c.len-end.ensures.value, c.loop-place-test.false))
+pub returns : goal.returns
+returns g c =
+    let t = g.S.NodeSpace.table c.args.space.now in
+    let coded = g.S.CodedSpace.coded c.args.space.now in
+    made_rows t coded c.args.parts (Some c.args.root) c.loop-place.rows c.loop-place.place c.loop-place.invariant.making
+    (covers_at_end t c.len-end.ensures.sound c.len-end.ensures.true_records coded c.args.parts (Some c.args.root) c.loop-place.rows.items c.loop-place.place
+    c.requires.parts c.requires.root c.requires.same c.loop-place.invariant.making (omega (arith, c.len-end.ensures.value, c.loop-place-test.false)))
 
 pub loop-place-init : goal.loop-place-init
 loop-place-init g c = record {

@@ -1,7 +1,7 @@
 use Rattle.std.proofs.Common.{◌-◌, Some}
 use Rattle.rope_node.specs.Table.{len_at}
 use Rattle.command_parts.specs.Places.{IsAt}
-use Rattle.span_certificate.specs.Trails.{AreWays}
+use Rattle.span_descent.specs.Trails.{AreWays}
 use Rattle.span_certificate.proofs.Made.{IsMaking}
 use Rattle.span_certificate.proofs.making.make_for.Given as goal
 

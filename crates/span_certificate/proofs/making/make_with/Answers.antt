@@ -1,18 +1,15 @@
 use Rattle.std.proofs.Common.{arith}
-use Rattle.span_certificate.proofs.Made.{making_none, covers_at_end}
+use Rattle.span_certificate.proofs.Made.{IsMaking, making_none, covers_at_end, made_rows}
 use Rattle.span_certificate.proofs.making.make_with.Goals as goal
 
-pub returns-in-None-clause-covers : goal.returns-in-None-clause-covers
-returns-in-None-clause-covers g c =
-    rw c.new.ensures.items
-    (covers_at_end (g.S.NodeSpace.table c.args.space.now) c.count-nodes.ensures.sound c.count-nodes.ensures.true_records (g.S.CodedSpace.coded c.args.space.now) c.args.parts c.args.root _ 0
-    c.requires.parts c.requires.root c.requires.same (making_none (g.S.NodeSpace.table c.args.space.now) (g.S.CodedSpace.coded c.args.space.now) c.args.parts c.args.root) (rw c.in-None.is (omega arith)))
+pub returns-in-None : goal.returns-in-None
+returns-in-None g c =
+    let t = g.S.NodeSpace.table c.args.space.now in
+    let coded = g.S.CodedSpace.coded c.args.space.now in
+    let making : IsMaking t coded c.args.parts c.args.root c.new.result.items 0 = rw c.new.ensures.items (making_none t coded c.args.parts c.args.root) in
+    made_rows t coded c.args.parts c.args.root c.new.result 0 making
+    (covers_at_end t c.count-nodes.ensures.sound c.count-nodes.ensures.true_records coded c.args.parts c.args.root c.new.result.items 0
+    c.requires.parts c.requires.root c.requires.same making (rw c.in-None.is (omega arith)))
 
-pub returns-in-Some-clause-covers : goal.returns-in-Some-clause-covers
-returns-in-Some-clause-covers g c = rw c.in-Some.is c.make_for.ensures.covers
-
-pub returns-in-Some-clause-no_source : goal.returns-in-Some-clause-no_source
-returns-in-Some-clause-no_source g c = rw c.in-Some.is c.make_for.ensures.no_source
-
-pub returns-in-Some-clause-longest : goal.returns-in-Some-clause-longest
-returns-in-Some-clause-longest g c = rw c.in-Some.is c.make_for.ensures.longest
+pub returns-in-Some : goal.returns-in-Some
+returns-in-Some g c = rw c.in-Some.is c.make_for.ensures

@@ -1,6 +1,6 @@
 use Rattle.std.proofs.Common.{refl, sym, ◌∙◌, subst}
 use Rattle.span_certificate.specs.declared.content.Content.TheVariants.{Within, Described}
-use Rattle.span_certificate.specs.Steps.{CellsAs}
+use Rattle.span_certificate.specs.SpanRows.{CellsAs}
 use Rattle.span_certificate.proofs.Contents.{part_content, described_as, described_only}
 use Rattle.span_certificate.proofs.NextRows.{old_next, described_next, old_longest, beside_longest}
 use Rattle.span_certificate.proofs.making.next_row.Goals as goal

@@ -2,7 +2,7 @@ use Rattle.std.proofs.Common.{◌-◌, ◌≤◌, take, drop}
 use Rattle.std.specs.Prelude.{All}
 use Rattle.span_certificate.specs.Covers.{IsByte}
 use Rattle.command_parts.specs.Parts.{part_cells}
-use Rattle.span_certificate.specs.Trails.{IsWayOf}
+use Rattle.span_descent.specs.Trails.{IsWayOf}
 use Rattle.span_certificate.proofs.over_bytes.are_bytes.Given as goal
 
 abbrev pub invariant-loop-done : goal.invariant-loop-done

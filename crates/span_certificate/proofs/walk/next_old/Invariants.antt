@@ -1,6 +1,6 @@
 use Rattle.std.proofs.Common.{◌≡◌, ◌+◌}
 use Rattle.rope_node.specs.Table.{view_at}
-use Rattle.span_certificate.specs.Trails.{IsOnWay}
+use Rattle.span_descent.specs.Trails.{IsOnWay}
 use Rattle.span_certificate.proofs.walk.next_old.Given as goal
 
 abbrev pub invariant-down : goal.invariant-down

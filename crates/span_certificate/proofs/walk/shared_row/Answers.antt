@@ -1,7 +1,7 @@
 use Rattle.std.proofs.Common.{ap}
 use Rattle.rope_node.specs.declared.node.NodeId.{NodeId}
 use Rattle.span_certificate.proofs.RowEnds.{shared_ends}
-use Rattle.span_certificate.proofs.Stands.{both_stand}
+use Rattle.span_certificate.proofs.RowEnds.{both_stand}
 use Rattle.span_certificate.proofs.walk.shared_row.Goals as goal
 
 pub returns : goal.returns

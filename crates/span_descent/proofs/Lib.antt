@@ -1,0 +1,10 @@
+pub mod Descents
+pub mod Cells
+pub mod Describing
+pub mod Depths
+pub mod OnePlace
+pub mod Steps
+pub mod FirstLeaves
+pub mod Cuts
+pub mod Stands
+pub mod Stops

@@ -1,0 +1,5 @@
+pub mod Counts
+pub mod Leads
+pub mod Steps
+pub mod Descents
+pub mod Trails
