@@ -7,7 +7,7 @@ use Rattle.lazy_file.specs.declared.faults.AddFault.{AddFault}
 use Rattle.lazy_file.proofs.LaterReads.{reads_same}
 use Rattle.image_reader.specs.Accepted.{HasSources}
 use Rattle.image_reader.specs.Value.{ImageValue, IsImage}
-use Rattle.image_reader.specs.Reading.{fault_of, image_of}
+use Rattle.image_reader.specs.Reading.{fault_of, image_in}
 use Rattle.image_reader.specs.Spelling.{spelling}
 use Rattle.image_reader.proofs.WholeImages.{whole_again}
 use Rattle.session_checker.specs.Accepted.{Accepts, BytesAsk, IsAccepted, IsExact, IsFirstFault, NeedsNoRead}
@@ -21,15 +21,15 @@ use Rattle.cord_c.specs.Answers.{JudgesImage, SpellsFaithful}
 use Rattle.cord_c.specs.Opened.{WasAccepted}
 
 -- the image that bytes spell
-pub image_again : (bytes : List ℕ) (v : ImageValue) → IsImage v → bytes ≡ spelling v → image_of bytes ≡ v
-image_again bytes v image spelled = ap image_of spelled ∙ (whole_again v image).1
+pub image_again : (bytes : List ℕ) (v : ImageValue) → IsImage v → bytes ≡ spelling v → image_in bytes ≡ v
+image_again bytes v image spelled = ap image_in spelled ∙ (whole_again v image).1
 
 pub faultless : (bytes : List ℕ) (v : ImageValue) → IsImage v → bytes ≡ spelling v → fault_of bytes ≡ None
 faultless bytes v image spelled = ap fault_of spelled ∙ (whole_again v image).0
 
 -- what is accepted can be opened again
-pub opens : (bytes : List ℕ) (st : Stated) → SpellsFaithful bytes st (image_of bytes) → WasAccepted bytes
-opens bytes st is = record { read = faultless bytes (image_of bytes) is.image is.spelled; true_records = is.faithful.true_records }
+pub opens : (bytes : List ℕ) (st : Stated) → SpellsFaithful bytes st (image_in bytes) → WasAccepted bytes
+opens bytes st is = record { read = faultless bytes (image_in bytes) is.image is.spelled; true_records = is.faithful.true_records }
 
 -- sources that are none
 pub none_checks : (bytes : List ℕ) (st : Stated) (x : CordVerdict) (f : AddFault) → (AreSizes st.sizes → ⊥) → f ≡ limit_fault st.sizes → x ≡ limit_verdict f → JudgesImage bytes st false x
@@ -46,7 +46,7 @@ none_checks bytes st x f none fault named = record {
 pub accepted_checks : (bytes : List ℕ) (held st : Stated) (v : ImageValue) (x : CordVerdict) → held ≡ st → IsFaithful v held → IsImage v × (bytes ≡ spelling v) → HasSources v held.sizes → (IsOk {E = CheckFault} (Ok v) → IsAccepted bytes held)
     → IsExact held bytes (Ok v) → x ≡ accepted_verdict v → JudgesImage bytes st true x
 accepted_checks bytes held st v x is faithful image sources accepted exact named =
-    let same : image_of bytes ≡ v = image_again bytes v image.0 image.1 in
+    let same : image_in bytes ≡ v = image_again bytes v image.0 image.1 in
     subst (λ (y : Stated). JudgesImage bytes y true x) is (record {
       faithful = λ _. subst (SpellsFaithful bytes held) (sym same) (record { accepted = accepted refl; image = image.0; spelled = image.1; sources = sources; faithful = faithful });
       counts = λ _. named ∙ ap accepted_verdict (sym same);

@@ -9,7 +9,7 @@ use Rattle.rope_node.specs.Table.{Table, len_at, view_at, IsSound, HasTrueRecord
 use Rattle.rope_node.specs.Path.{span_at}
 use Rattle.rope_node.proofs.LeafSpans.{begins}
 use Rattle.cord_position.specs.Fetched.{EachCell, IsReadable, ReadsSpan}
-use Rattle.cord_position.specs.Runs.{IsRun, rope_span, span_len}
+use Rattle.cord_position.specs.Runs.{IsLeafRun, rope_span, span_len}
 use Rattle.cord_position.proofs.LeafParts.{run_part}
 use Rattle.cord_position.proofs.Spans.{span_read}
 use Rattle.span_descent.specs.declared.description.Description.{Description}
@@ -24,10 +24,10 @@ use Rattle.cord_c.specs.HeldTexts.{reading_of}
 use Rattle.cord_c.specs.Runs.{IsLocated, ReadsRun, left_of, span_description, text_root, run_told}
 
 -- the leaf span at a place of a rope is its run
-pub span_run : (t : Table) → IsSound t → HasTrueRecords t → (rope : Option NodeId) (node : NodeId) (i : ℕ) (x : LeafSpan) → rope ≡ Some node → node.0 < length t.nodes → i < len_at t node.0 → x ≡ span_at t node.0 i → IsRun t rope i x
+pub span_run : (t : Table) → IsSound t → HasTrueRecords t → (rope : Option NodeId) (node : NodeId) (i : ℕ) (x : LeafSpan) → rope ≡ Some node → node.0 < length t.nodes → i < len_at t node.0 → x ≡ span_at t node.0 i → IsLeafRun t rope i x
 span_run t s h rope node i x is there inside same =
     let all = begins t s h node.0 i there inside in
-    subst (λ (r : Option NodeId). IsRun t r i x) (sym is) (subst (IsRun t (Some node) i) (sym same) (record {
+    subst (λ (r : Option NodeId). IsLeafRun t r i x) (sym is) (subst (IsLeafRun t (Some node) i) (sym same) (record {
       there = all.there;
       leaf = all.leaf;
       some = all.some;
@@ -46,7 +46,7 @@ told_len (Computed (Cycle pattern) i) n = refl
 
 -- where a run stands that was found and described
 pub located : (v w : ImageValue) (k place : ℕ) (x : LeafSpan) (what : Description) (run : CordRun) → w ≡ v → Some x ≡ rope_span (image_table w) (text_root w k) place
-    → IsRun (image_table w) (text_root w k) place x → leaf_description (coded_at w x.leaf.0) x.start (view_at (image_table w) x.leaf.0) ≡ Some what
+    → IsLeafRun (image_table w) (text_root w k) place x → leaf_description (coded_at w x.leaf.0) x.start (view_at (image_table w) x.leaf.0) ≡ Some what
     → Describes (image_table w) x.leaf.0 x.start what → run ≡ run_told what x.len → IsLocated v k place run
 located v w k place x what run of is found value describes told =
     let len : run.len ≡ x.len = ap (λ (r : CordRun). r.len) told ∙ told_len what x.len in

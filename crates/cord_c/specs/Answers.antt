@@ -4,7 +4,7 @@ use Rattle.lazy_file.specs.SourceTexts.{AreSizes, Stated}
 use Rattle.lazy_file.specs.Readings.{Reads}
 use Rattle.image_reader.specs.Accepted.{HasSources}
 use Rattle.image_reader.specs.Value.{ImageValue, IsImage}
-use Rattle.image_reader.specs.Reading.{image_of}
+use Rattle.image_reader.specs.Reading.{image_in}
 use Rattle.image_reader.specs.Spelling.{spelling}
 use Rattle.session_checker.specs.Accepted.{BytesAsk, IsAccepted, IsFirstFault, NeedsNoRead, StatesAll}
 use Rattle.session_checker.specs.RevisionRules.{source_fault}
@@ -39,8 +39,8 @@ pub record IsNoSources (sizes : List ℕ) (x : CordVerdict) : Type 0 where
 -- What keeps the rules and needs no byte of the sources is accepted, even where none is held; and where all are held,
 -- all that keeps the rules is, and all else is refused by its first fault.
 pub record JudgesImage (bytes : List ℕ) (st : Stated) (accepted : Bool) (x : CordVerdict) : Type 0 where
-  pub faithful : IsTrue accepted → SpellsFaithful bytes st (image_of bytes)
-  pub counts : IsTrue accepted → x ≡ accepted_verdict (image_of bytes)
+  pub faithful : IsTrue accepted → SpellsFaithful bytes st (image_in bytes)
+  pub counts : IsTrue accepted → x ≡ accepted_verdict (image_in bytes)
   pub refused : accepted ≡ false → IsNoSources st.sizes x ⊎ IsRefusedAs bytes st x
   pub always : AreSizes st.sizes → NeedsNoRead bytes st.sizes → IsTrue accepted
   pub accepts : AreSizes st.sizes → StatesAll st → IsAccepted bytes st → IsTrue accepted

@@ -2,7 +2,7 @@
 
 ghost use Rattle.std.specs.Prelude.{◌≡◌, ◌↔◌, None, false, IsTrue};
 ghost use Rattle.image_reader.specs.Looks.{looks_bound};
-ghost use Rattle.image_reader.specs.Reading.{fault_of, image_of};
+ghost use Rattle.image_reader.specs.Reading.{fault_of, image_in};
 ghost use Rattle.cord_c.specs.HeldTexts.{stated_as_held};
 ghost use Rattle.cord_c.specs.Answers.{JudgesImage};
 
@@ -16,7 +16,7 @@ use session_checker::check;
 #[unsafe(no_mangle)]
 pub extern "C" fn cord_looks_bound(image: &[u8], bound: &mut u64) -> bool
     ensures there { IsTrue result ↔ (fault_of image.now ≡ None) }
-    ensures value { IsTrue result → bound.new ≡ looks_bound (image_of image.now) }
+    ensures value { IsTrue result → bound.new ≡ looks_bound (image_in image.now) }
     ensures kept { result ≡ false → bound.new ≡ bound.old }
 {
     match Image::read(image) {

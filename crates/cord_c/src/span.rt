@@ -2,7 +2,7 @@
 
 ghost use Rattle.std.specs.Prelude.{◌≡◌, ◌↔◌, ◌<◌, ◌≤◌, ◌+◌, None, Some, length, IfSome};
 ghost use Rattle.rope_node.specs.Table.{len_at, view_at, IsLeaf};
-ghost use Rattle.cord_position.specs.Runs.{rope_span, IsRun};
+ghost use Rattle.cord_position.specs.Runs.{rope_span, IsLeafRun};
 ghost use Rattle.image_reader.specs.Value.{coded_at, image_table};
 ghost use Rattle.span_descent.specs.Leads.{leaf_description, Describes};
 ghost use Rattle.cord_c.specs.Runs.{text_root, revision_len};
@@ -15,7 +15,7 @@ use span_descent::{Description, describe_leaf};
 /// The leaf span that the text of a revision has from a place on; at its end and past it, none.
 pub fn span_of(image: &Checked, revision: u32, place: u64) -> Option<LeafSpan>
     ensures exact { result ≡ rope_span (image_table image.now) (text_root image.now revision) place }
-    ensures run { IfSome result (IsRun (image_table image.now) (text_root image.now revision) place) }
+    ensures run { IfSome result (IsLeafRun (image_table image.now) (text_root image.now revision) place) }
     ensures none { result ≡ None ↔ revision_len image.now revision ≤ place }
 {
     // The nodes are a sound table, as their count says.

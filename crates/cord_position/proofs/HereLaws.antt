@@ -13,13 +13,13 @@ use Rattle.rope_node.proofs.LeafSpans.{begins, rest_at}
 use Rattle.lazy_file.specs.SourceTexts.{Stated}
 use Rattle.cord_position.specs.declared.path.Step.{Step}
 use Rattle.cord_position.specs.Fetched.{IsByteOf, IsFetched, rope_cell, rope_part}
-use Rattle.cord_position.specs.Runs.{rope_span, run_bytes, run_left, span_bytes, span_len, IsRun, IsRunStart, IsSpanBorder}
-use Rattle.cord_position.specs.Steps.{AreStepBytes, Holds, IsHere, IsLeafStep, span_from}
+use Rattle.cord_position.specs.Runs.{rope_span, run_bytes, run_left, span_bytes, span_len, IsLeafRun, IsRunStart, IsSpanBorder}
+use Rattle.cord_position.specs.Steps.{AreStepBytes, IsHere, IsLeafStep, StepHolds, span_from}
 use Rattle.cord_position.proofs.LeafParts.{run_cells}
 use Rattle.cord_position.proofs.RopeBytes.{fetched_inside, fetched_past}
 
 -- the leaf span at a place is what is left of the step that holds it
-pub leaf_span : (t : Table) → IsSound t → (rope : Option NodeId) (i : ℕ) (x : Step) → IsLeafStep t rope x → Holds x i → rope_span t rope i ≡ Some (span_from x i)
+pub leaf_span : (t : Table) → IsSound t → (rope : Option NodeId) (i : ℕ) (x : Step) → IsLeafStep t rope x → StepHolds x i → rope_span t rope i ≡ Some (span_from x i)
 leaf_span t s rope i x here held =
     let q = x.skipped + (i - x.first) in
     let rest = rest_at t s x.node.0 q here.step.there (view_at t x.node.0) refl here.leaf in
@@ -27,13 +27,13 @@ leaf_span t s rope i x here held =
     let many : min ((x.first + x.len) - i) (len_at t x.node.0 - q) ≡ x.len - (i - x.first) = omega (arith, here.step.in_node, held.0, held.1) in
     here.step.spans i held ∙ ap Some (ap (shortened ((x.first + x.len) - i)) rest ∙ ap (λ (m : ℕ). record found { len = m }) many)
 
-run_of_span : (t : Table) → IsSound t → HasTrueRecords t → (rope : Option NodeId) (i : ℕ) (x : LeafSpan) → IsRope t rope → i < rope_len t rope → rope_span t rope i ≡ Some x → IsRun t rope i x
+run_of_span : (t : Table) → IsSound t → HasTrueRecords t → (rope : Option NodeId) (i : ℕ) (x : LeafSpan) → IsRope t rope → i < rope_len t rope → rope_span t rope i ≡ Some x → IsLeafRun t rope i x
 run_of_span t s h None i x root inside e = absurd cc
 run_of_span t s h (Some id) i x root inside e =
     let same : Some (span_at t id.0 i) ≡ Some x = rw (lt-ltb i (len_at t id.0) inside) at e in
     let is : span_at t id.0 i ≡ x = cc in
     let all = begins t s h id.0 i root inside in
-    subst (IsRun t (Some id) i) is (record {
+    subst (IsLeafRun t (Some id) i) is (record {
       there = all.there;
       leaf = all.leaf;
       some = all.some;
@@ -45,7 +45,7 @@ run_of_span t s h (Some id) i x root inside e =
 pub here_span : (t : Table) (rope : Option NodeId) (i : ℕ) (x : Step) → IsHere t rope i x → i - x.first < x.len → rope_span t rope i ≡ Some (span_from x i)
 here_span t rope i x here lt = leaf_span t here.sound rope i x (here.leaf (omega (arith, lt))) (here.begun, omega (arith, here.begun, lt))
 
-pub here_run : (t : Table) (rope : Option NodeId) (i : ℕ) (x : Step) → IsHere t rope i x → i - x.first < x.len → IsRun t rope i (span_from x i)
+pub here_run : (t : Table) (rope : Option NodeId) (i : ℕ) (x : Step) → IsHere t rope i x → i - x.first < x.len → IsLeafRun t rope i (span_from x i)
 here_run t rope i x here lt =
     let inside : i < rope_len t rope = omega (arith, (here.leaf (omega (arith, lt))).step.in_rope, here.begun, lt) in
     run_of_span t here.sound here.true_records rope i (span_from x i) here.root inside (here_span t rope i x here lt)
@@ -66,7 +66,7 @@ pub past_here : (t : Table) (rope : Option NodeId) (i : ℕ) (x : Step) → IsHe
 past_here t rope i x here past = past_rope t rope i (past_end t rope i x here past)
 
 -- where the leaf span at a place begins, by the step that holds it
-pub starts_here : (t : Table) (rope : Option NodeId) (i : ℕ) (x : Step) → IsHere t rope i x → Holds x i → IsRunStart t rope i x.first
+pub starts_here : (t : Table) (rope : Option NodeId) (i : ℕ) (x : Step) → IsHere t rope i x → StepHolds x i → IsRunStart t rope i x.first
 starts_here t rope i x here held =
     let leaf = here.leaf (omega (arith, held.0, held.1)) in
     let first = ap span_len (leaf_span t here.sound rope x.first x leaf (omega arith, omega (arith, held.0, held.1))) in
@@ -89,7 +89,7 @@ end_border t s h (Some id) i root end k lt =
       | inr past ↦ omega (arith, lt, ap span_len (past_rope t (Some id) k past))
     ]
 
-pub starts_there : (t : Table) (rope : Option NodeId) (i : ℕ) (x : Step) → IsHere t rope i x → (Holds x i → ⊥) → IsRunStart t rope i i
+pub starts_there : (t : Table) (rope : Option NodeId) (i : ℕ) (x : Step) → IsHere t rope i x → (StepHolds x i → ⊥) → IsRunStart t rope i i
 starts_there t rope i x here away =
     let end : rope_len t rope ≤ i = elim (cases_lt i (rope_len t rope)) [
       | inl inside ↦ absurd (away (here.begun, here.held inside))

@@ -21,7 +21,7 @@ use Rattle.lazy_file.specs.declared.faults.SourceFault.TheVariants.{BadSource}
 use Rattle.lazy_file.proofs.ReadOutcomes.{refused_span}
 use Rattle.lazy_file.proofs.AgreedBytes.{agreed_read}
 use Rattle.cord_position.specs.Fetched.{InCells, IsStated, ReadsSpan, rope_cell}
-use Rattle.cord_position.specs.Runs.{IsRun, AreBytesOf}
+use Rattle.cord_position.specs.Runs.{IsLeafRun, AreBytesOf}
 
 -- a part of a literal, of a source and of a function
 pub literal_part : (t : Table) → IsSound t → (id start n : ℕ) → id < length t.nodes → start + n ≤ len_at t id → (w : NodeView) → view_at t id ≡ w → IsLiteral w
@@ -54,7 +54,7 @@ function_part t s id start n lt fits e =
     ∙ ap (map (λ k. Byte (t.answer id k))) (span-range_with_len n start 0 (len_at t id) fits ∙ ap (λ (j : ℕ). range_with_len j n) (omega arith))
 
 -- a part of a run is that of its leaf
-pub run_part : (t : Table) (rope : Option NodeId) (i n : ℕ) (x : LeafSpan) → IsRun t rope i x → n ≤ x.len → take n (drop i (rope_cells t rope)) ≡ take n (drop x.start (cells t x.leaf.0))
+pub run_part : (t : Table) (rope : Option NodeId) (i n : ℕ) (x : LeafSpan) → IsLeafRun t rope i x → n ≤ x.len → take n (drop i (rope_cells t rope)) ≡ take n (drop x.start (cells t x.leaf.0))
 run_part t rope i n x run few =
     sym (take-take n x.len (drop i (rope_cells t rope)) few) ∙ ap (take n) run.cells ∙ take-take n x.len (drop x.start (cells t x.leaf.0)) few
 
@@ -106,7 +106,7 @@ moved old new f g i j n r same h =
     h
 
 -- the cells of a part of a run
-pub run_cells : (t : Table) (rope : Option NodeId) (i : ℕ) (x : LeafSpan) → IsRun t rope i x → (k : ℕ) → k < x.len → rope_cell t rope (i + k) ≡ cell_at t x.leaf.0 (x.start + k)
+pub run_cells : (t : Table) (rope : Option NodeId) (i : ℕ) (x : LeafSpan) → IsLeafRun t rope i x → (k : ℕ) → k < x.len → rope_cell t rope (i + k) ≡ cell_at t x.leaf.0 (x.start + k)
 run_cells t rope i x run k lt =
     by_rope rope ∙ sym (at_part (rope_cells t rope) i) ∙ ap (λ cs. get_or cs k (Byte 0)) run.cells ∙ at_part (cells t x.leaf.0) x.start
   where

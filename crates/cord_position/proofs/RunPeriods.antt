@@ -7,11 +7,11 @@ use Rattle.rope_node.specs.declared.node.NodeId.{NodeId}
 use Rattle.rope_node.specs.declared.node.NodeView.TheVariants.{Fun}
 use Rattle.rope_node.specs.Table.{Table, view_at, IsSound}
 use Rattle.rope_node.specs.Denotes.{Byte}
-use Rattle.cord_position.specs.Runs.{rope_span, span_len, IsRun, IsRunPeriod}
+use Rattle.cord_position.specs.Runs.{rope_span, span_len, IsLeafRun, IsRunPeriod}
 use Rattle.cord_position.proofs.LeafCells.{function_cell}
 use Rattle.cord_position.proofs.LeafParts.{run_cells}
 
-pub period_of_run : (t : Table) → IsSound t → (rope : Option NodeId) (i : ℕ) (x : LeafSpan) → Some x ≡ rope_span t rope i → IsRun t rope i x → view_at t x.leaf.0 ≡ Fun
+pub period_of_run : (t : Table) → IsSound t → (rope : Option NodeId) (i : ℕ) (x : LeafSpan) → Some x ≡ rope_span t rope i → IsLeafRun t rope i x → view_at t x.leaf.0 ≡ Fun
     → (found : Option ℕ) → IfSome found (Repeats (t.answer x.leaf.0)) → IfSome found (IsRunPeriod t rope i)
 period_of_run t s rope i x span run e None h = tt
 period_of_run t s rope i x span run e (Some p) h = record {

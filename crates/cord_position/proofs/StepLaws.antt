@@ -12,7 +12,7 @@ use Rattle.cord_position.specs.declared.path.Step.{Step}
 use Rattle.cord_position.specs.declared.path.Fork.{Fork}
 use Rattle.smallvec.specs.SmallVec.{SmallVec, small_vec_len}
 use Rattle.cord_position.specs.Runs.{run_left, span_len, IsSpanBorder}
-use Rattle.cord_position.specs.Steps.{Holds, IsStep, IsStepAt, IsForkAt, AreForks, IsPath, left_step, right_step, base_step}
+use Rattle.cord_position.specs.Steps.{StepHolds, IsStepOfRope, IsStepAt, IsForkAt, AreForks, IsPath, left_step, right_step, base_step}
 
 -- the root's own step
 pub root_step : (t : Table) → IsSound t → HasTrueRecords t → (root : NodeId) (n : ℕ) → root.0 < length t.nodes → n ≡ len_at t root.0
@@ -48,7 +48,7 @@ left_is_step t s h rope n x l r e some at =
         spans = λ i held.
             let q = x.skipped + (i - x.first) in
             let fits : q < len_at t l.0 = omega (arith, held.0, held.1, some) in
-            let whole : Holds x i = (held.0, omega (arith, held.1)) in
+            let whole : StepHolds x i = (held.0, omega (arith, held.1)) in
             let y = span_at t l.0 q in
             let few = (begins t s h l.0 q there fits).in_node in
             let down : span_at t x.node.0 q ≡ y = rw (lt-ltb q (len_at t l.0) fits) at (span_step t s x.node.0 q at.step.there (Cat l r) e) in
@@ -59,7 +59,7 @@ left_is_step t s h rope n x l r e some at =
     }
 
 -- a leaf span that begins within a step ends within it
-held_run : (t : Table) (rope : Option NodeId) (x : Step) (i : ℕ) → IsStep t rope x → Holds x i → i + run_left t rope i ≤ x.first + x.len
+held_run : (t : Table) (rope : Option NodeId) (x : Step) (i : ℕ) → IsStepOfRope t rope x → StepHolds x i → i + run_left t rope i ≤ x.first + x.len
 held_run t rope x i step held = omega (arith, held.1, ap span_len (step.spans i held))
 
 -- where the left child's part of a step ends no leaf span goes on
@@ -88,7 +88,7 @@ right_is_step t s h rope n x l r e some at =
         spans = λ i held.
             let q = x.skipped + (i - x.first) in
             let past : len_at t l.0 ≤ q = omega (arith, held.0) in
-            let whole : Holds x i = (omega (arith, held.0), omega (arith, held.1, some)) in
+            let whole : StepHolds x i = (omega (arith, held.0), omega (arith, held.1, some)) in
             let down : span_at t x.node.0 q ≡ span_at t r.0 (q - len_at t l.0) = rw (le-ltb q (len_at t l.0) past) at (span_step t s x.node.0 q at.step.there (Cat l r) e) in
             let room : (x.first + x.len) - i ≡ ((x.first + cut) + (x.len - cut)) - i = omega (arith, some) in
             let place : q - len_at t l.0 ≡ (x.skipped - len_at t l.0) + (i - (x.first + cut)) = omega (arith, held.0) in
@@ -158,15 +158,15 @@ path_last t rope xs y forks = forks (length xs) y (get_last xs y)
 -- the step from a fork to the child that holds a place
 pub side_is_step : (t : Table) → IsSound t → HasTrueRecords t → (rope : Option NodeId) (n : ℕ) (x : Fork) (y : Step) (i : ℕ)
     → (x.step.skipped + (i - x.step.first) < x.left → y ≡ left_step x.step x.l x.left) → (x.left ≤ x.step.skipped + (i - x.step.first) → y ≡ right_step x.step x.r x.left)
-    → IsForkAt t rope n x → Holds x.step i → IsStepAt t rope (n + 1) y × Holds y i
+    → IsForkAt t rope n x → StepHolds x.step i → IsStepAt t rope (n + 1) y × StepHolds y i
 side_is_step t s h rope n x y i left right fork held =
     let m = x.left in
     let z = x.step in
     let same = fork.left in
     elim (cases_lt (z.skipped + (i - z.first)) m) [
-      | inl lt ↦ subst (λ w. IsStepAt t rope (n + 1) w × Holds w i) (sym (left lt))
+      | inl lt ↦ subst (λ w. IsStepAt t rope (n + 1) w × StepHolds w i) (sym (left lt))
           (subst (λ (k : ℕ). IsStepAt t rope (n + 1) (left_step z x.l k)) (sym same) (left_is_step t s h rope n z x.l x.r fork.view (omega (arith, lt, same)) fork.at), (held.0, omega (arith, lt, held.0, held.1)))
-      | inr past ↦ subst (λ w. IsStepAt t rope (n + 1) w × Holds w i) (sym (right past))
+      | inr past ↦ subst (λ w. IsStepAt t rope (n + 1) w × StepHolds w i) (sym (right past))
           (subst (λ (k : ℕ). IsStepAt t rope (n + 1) (right_step z x.r k)) (sym same) (right_is_step t s h rope n z x.l x.r fork.view (omega (arith, past, same, held.0, held.1)) fork.at), (omega (arith, past, held.0, held.1), omega (arith, past, held.0, held.1)))
     ]
 
@@ -178,7 +178,7 @@ fewer_above t rope n x at = record { step = at.step; deep = omega (arith, at.dee
 pub record IsOnWay (t : Table) (rope : Option NodeId) (path : SmallVec Fork) (x : Step) (i : ℕ) : Type 0 where
   pub way : IsPath t rope path
   pub at : IsStepAt t rope (small_vec_len path) x
-  pub held : Holds x i
+  pub held : StepHolds x i
 
 -- a fork goes onto the path
 pub fork_pushed : (t : Table) (rope : Option NodeId) (path new : SmallVec Fork) (x : Fork) → new.items ≡ path.items ++ x ∷ [] → new.capacity ≡ path.capacity
@@ -199,7 +199,7 @@ fork_popped t rope path new x items room way =
 pub way_to_side : (t : Table) → IsSound t → HasTrueRecords t → (rope : Option NodeId) (path new : SmallVec Fork) (x : Fork) (y : Step) (i : ℕ)
     → new.items ≡ path.items ++ x ∷ [] → new.capacity ≡ path.capacity
     → (x.step.skipped + (i - x.step.first) < x.left → y ≡ left_step x.step x.l x.left) → (x.left ≤ x.step.skipped + (i - x.step.first) → y ≡ right_step x.step x.r x.left)
-    → IsPath t rope path → IsForkAt t rope (small_vec_len path) x → Holds x.step i → IsOnWay t rope new y i
+    → IsPath t rope path → IsForkAt t rope (small_vec_len path) x → StepHolds x.step i → IsOnWay t rope new y i
 way_to_side t s h rope path new x y i items room left right way fork held =
     let longer : small_vec_len path + 1 ≡ small_vec_len new = omega (arith, ap length items, length-append path.items (x ∷ [])) in
     let side = side_is_step t s h rope (small_vec_len path) x y i left right fork held in
@@ -211,7 +211,7 @@ way_to_side t s h rope path new x y i items room left right way fork held =
 
 pub way_past_fork : (t : Table) → IsSound t → HasTrueRecords t → (rope : Option NodeId) (path : SmallVec Fork) (x : Fork) (y : Step) (i : ℕ)
     → (x.step.skipped + (i - x.step.first) < x.left → y ≡ left_step x.step x.l x.left) → (x.left ≤ x.step.skipped + (i - x.step.first) → y ≡ right_step x.step x.r x.left)
-    → IsPath t rope path → IsForkAt t rope (small_vec_len path) x → Holds x.step i → IsOnWay t rope path y i
+    → IsPath t rope path → IsForkAt t rope (small_vec_len path) x → StepHolds x.step i → IsOnWay t rope path y i
 way_past_fork t s h rope path x y i left right way fork held =
     let side = side_is_step t s h rope (small_vec_len path) x y i left right fork held in
     record { way = way; at = fewer_above t rope (small_vec_len path) y side.0; held = side.1 }

@@ -42,7 +42,7 @@ abbrev pub run_bytes : Table → Option NodeId → ℕ → List ℕ
 run_bytes t rope i = span_bytes t (rope_span t rope i)
 
 -- this span of a leaf is what a rope's cells begin with at place i
-pub record IsRun (t : Table) (rope : Option NodeId) (i : ℕ) (x : LeafSpan) : Type 0 where
+pub record IsLeafRun (t : Table) (rope : Option NodeId) (i : ℕ) (x : LeafSpan) : Type 0 where
   pub there : x.leaf.0 < length t.nodes
   pub leaf : IsLeaf (view_at t x.leaf.0)
   pub some : 1 ≤ x.len

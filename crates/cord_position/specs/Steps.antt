@@ -16,22 +16,22 @@ use Rattle.cord_position.specs.Position.{IsPosition}
 use Rattle.cord_position.specs.Runs.{rope_span, span_bytes, IsSpanBorder}
 
 -- the place is one of the step's bytes
-abbrev pub Holds : Step → ℕ → Type 0
-Holds x i = (x.first ≤ i) × (i < x.first + x.len)
+abbrev pub StepHolds : Step → ℕ → Type 0
+StepHolds x i = (x.first ≤ i) × (i < x.first + x.len)
 
 -- the rope's bytes from place first on, len of them, are the node's from its byte skipped on, leaf span by leaf span;
 -- and place first is a border between the rope's leaf spans
-pub record IsStep (t : Table) (rope : Option NodeId) (x : Step) : Type 0 where
+pub record IsStepOfRope (t : Table) (rope : Option NodeId) (x : Step) : Type 0 where
   pub there : x.node.0 < length t.nodes
   pub in_node : x.skipped + x.len ≤ len_at t x.node.0
   pub in_rope : x.first + x.len ≤ rope_len t rope
-  pub spans : (i : ℕ) → Holds x i
+  pub spans : (i : ℕ) → StepHolds x i
       → rope_span t rope i ≡ Some (shortened ((x.first + x.len) - i) (span_at t x.node.0 (x.skipped + (i - x.first))))
   pub border : IsSpanBorder t rope x.first
 
 -- a step with n forks above it
 pub record IsStepAt (t : Table) (rope : Option NodeId) (n : ℕ) (x : Step) : Type 0 where
-  pub step : IsStep t rope x
+  pub step : IsStepOfRope t rope x
   pub deep : depth_at t x.node.0 + n ≤ MOST_DEPTH
 
 -- a step to a concatenation with n forks above it: its children, and how many bytes the left one has
@@ -51,7 +51,7 @@ pub record IsPath (t : Table) (rope : Option NodeId) (path : SmallVec Fork) : Ty
 
 -- a step to a leaf
 pub record IsLeafStep (t : Table) (rope : Option NodeId) (x : Step) : Type 0 where
-  pub step : IsStep t rope x
+  pub step : IsStepOfRope t rope x
   pub leaf : IsLeaf (view_at t x.node.0)
 
 -- the parts of a step to a concatenation that its children have, where the left one has so many bytes
@@ -90,7 +90,7 @@ pub record IsRunAt (t : Table) (x : Step) (i : ℕ) (run : Progress) : Type 0 wh
   pub passed : length run.passed ≡ min (i - x.first) (length (leaf_of run))
 
 -- a place of a rope, with the step to its leaf, a cursor there and the path to it
-pub record IsPlaced (t : Table) (rope : Option NodeId) (i : ℕ) (x : Step) (run : Progress) (path : SmallVec Fork)
+pub record IsReachedPlace (t : Table) (rope : Option NodeId) (i : ℕ) (x : Step) (run : Progress) (path : SmallVec Fork)
     : Type 0 where
   pub position : IsPosition t rope i
   pub here : IsHere t rope i x

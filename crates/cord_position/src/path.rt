@@ -4,7 +4,7 @@ ghost use Rattle.std.specs.Prelude.{◌≡◌, ◌↔◌, ◌<◌, ◌≤◌, �
 ghost use Rattle.smallvec.specs.SmallVec.{small_vec_len};
 ghost use Rattle.rope_node.specs.declared.limits.TheConstants.{TEXT_LIMIT};
 ghost use Rattle.rope_node.specs.Table.{len_at};
-ghost use Rattle.cord_position.specs.Steps.{Holds, IsLeafStep, IsPath, IsStepAt, left_step, right_step};
+ghost use Rattle.cord_position.specs.Steps.{IsLeafStep, IsPath, IsStepAt, StepHolds, left_step, right_step};
 
 use rope_node::{NodeId, NodeSpace, NodeView};
 use smallvec::SmallVec;
@@ -60,14 +60,14 @@ pub type Path = SmallVec<Fork, 65>;
 /// Whether the place is one of the step's bytes.
 #[inline]
 pub fn holds(step: Step, place: u64) -> bool
-    ensures { IsTrue result ↔ Holds step place }
+    ensures { IsTrue result ↔ StepHolds step place }
 {
     step.first <= place && place - step.first < step.len
 }
 
 /// What the child that holds the place has of a fork's step.
 fn side_of(fork: Fork, place: u64) -> Step
-    requires holds { Holds fork.step place }
+    requires holds { StepHolds fork.step place }
     requires limit { fork.step.skipped + fork.step.len < TEXT_LIMIT }
     ensures left { fork.step.skipped + (place - fork.step.first) < fork.left
         → result ≡ left_step fork.step fork.l fork.left }
@@ -101,7 +101,7 @@ fn climb<S: NodeSpace>(space: &S, root: NodeId, path: &mut Path, place: u64) -> 
     requires path { IsPath (S.table space.now) (Some root) path.old }
     ensures path { IsPath (S.table space.now) (Some root) path.new }
     ensures step { IsStepAt (S.table space.now) (Some root) (small_vec_len path.new) result }
-    ensures holds { Holds result place }
+    ensures holds { StepHolds result place }
 {
     // The table is sound, as its count says.
     let _count = space.count();
@@ -124,10 +124,10 @@ fn climb<S: NodeSpace>(space: &S, root: NodeId, path: &mut Path, place: u64) -> 
 fn descend<S: NodeSpace>(space: &S, root: NodeId, path: &mut Path, from: Step, place: u64) -> Step
     requires path { IsPath (S.table space.now) (Some root) path.old }
     requires step { IsStepAt (S.table space.now) (Some root) (small_vec_len path.old) from }
-    requires holds { Holds from place }
+    requires holds { StepHolds from place }
     ensures path { IsPath (S.table space.now) (Some root) path.new }
     ensures leaf { IsLeafStep (S.table space.now) (Some root) result }
-    ensures holds { Holds result place }
+    ensures holds { StepHolds result place }
 {
     let mut step = from;
     'down: loop {
@@ -157,7 +157,7 @@ pub fn seek<S: NodeSpace>(space: &S, root: NodeId, path: &mut Path, place: u64) 
     requires path { IsPath (S.table space.now) (Some root) path.old }
     ensures path { IsPath (S.table space.now) (Some root) path.new }
     ensures leaf { IsLeafStep (S.table space.now) (Some root) result }
-    ensures holds { Holds result place }
+    ensures holds { StepHolds result place }
 {
     let from = climb(space, root, path, place);
     descend(space, root, path, from, place)

@@ -5,7 +5,7 @@ ghost use Rattle.rope_node.specs.declared.limits.TheConstants.{TEXT_LIMIT};
 ghost use Rattle.rope_node.specs.Denotes.{Byte, rope_len, IsRope};
 ghost use Rattle.cord_position.specs.Fetched.{IsFetched, ReadsSpan};
 ghost use Rattle.cord_position.specs.Position.{bytes_here, cell_of, cells_here, left_here, text_len};
-ghost use Rattle.cord_position.specs.Runs.{rope_span, AreBytesOf, IsRun, IsRunPeriod, IsRunStart};
+ghost use Rattle.cord_position.specs.Runs.{rope_span, AreBytesOf, IsLeafRun, IsRunPeriod, IsRunStart};
 
 use crate::fetching::fetch_here;
 use crate::fill::fill_part;
@@ -34,13 +34,13 @@ pub struct Pos<'a, S: NodeSpace> {
 
 impl<'a, S: NodeSpace> Model for Pos<'a, S> {
     ghost use Rattle.cord_position.specs.Position.{Position};
-    ghost use Rattle.cord_position.specs.Steps.{IsPlaced};
+    ghost use Rattle.cord_position.specs.Steps.{IsReachedPlace};
 
     ghost Value = { Position S };
 
     ghost view = { λ a. record { space = a.space.now; rope = a.rope; index = a.place } };
 
-    ghost invariant = { λ a. IsPlaced (S.table a.space.now) a.rope a.place a.here a.run a.path };
+    ghost invariant = { λ a. IsReachedPlace (S.table a.space.now) a.rope a.place a.here a.run a.path };
 }
 
 impl<'a, S: NodeSpace> Pos<'a, S> {
@@ -187,7 +187,7 @@ impl<'a, S: NodeSpace> Pos<'a, S> {
         ensures exact { result ≡ left_here S.table self.now }
         ensures inside { self.now.index + result ≤ text_len S.table self.now }
         ensures run { IfSome (rope_span (S.table self.now.space) self.now.rope self.now.index)
-            (IsRun (S.table self.now.space) self.now.rope self.now.index) }
+            (IsLeafRun (S.table self.now.space) self.now.rope self.now.index) }
         ensures some { self.now.index < text_len S.table self.now → 1 ≤ result }
     {
         match find_run(self.space, self.rope, self.here, self.place) {

@@ -5,7 +5,7 @@ ghost use Rattle.std.specs.Prelude.{◌≡◌, ◌↔◌, ◌<◌, ◌≤◌, �
 ghost use Rattle.rope_node.specs.Table.{len_at};
 ghost use Rattle.rope_node.specs.Denotes.{Byte, rope_len};
 ghost use Rattle.cord_position.specs.Fetched.{leaf_part, rope_part};
-ghost use Rattle.cord_position.specs.Runs.{rope_span, run_bytes, run_left, span_bytes, IsRun, IsRunPeriod};
+ghost use Rattle.cord_position.specs.Runs.{rope_span, run_bytes, run_left, span_bytes, IsLeafRun, IsRunPeriod};
 ghost use Rattle.cord_position.specs.Steps.{AreStepBytes, IsHere, IsRunAt};
 
 use crate::path::Step;
@@ -18,7 +18,7 @@ use rope_node::{LeafSpan, NodeSpace, NodeView, Rope};
 pub fn find_run<S: NodeSpace>(space: &S, rope: Rope, here: Step, place: u64) -> Option<LeafSpan>
     requires { IsHere (S.table space.now) rope place here }
     ensures exact { result ≡ rope_span (S.table space.now) rope place }
-    ensures run { IfSome result (IsRun (S.table space.now) rope place) }
+    ensures run { IfSome result (IsLeafRun (S.table space.now) rope place) }
     ensures none { result ≡ None ↔ rope_len (S.table space.now) rope ≤ place }
 {
     let offset = place - here.first;

@@ -18,7 +18,7 @@ use Rattle.rope_node.specs.Denotes.{Cell, Byte, Place, cell_at, cell_byte, cells
 use Rattle.rope_node.proofs.Parts.{span-map}
 use Rattle.lazy_file.specs.SourceTexts.{Agrees, Stated}
 use Rattle.cord_position.specs.Fetched.{AreStated, IsStated, rope_cell, rope_part}
-use Rattle.cord_position.specs.Runs.{AreBytesOf, IsRun, span_len}
+use Rattle.cord_position.specs.Runs.{AreBytesOf, IsLeafRun, span_len}
 use Rattle.cord_position.proofs.LeafParts.{run_cells}
 use Rattle.cord_search.specs.Pieces.{IsPiece}
 
@@ -65,7 +65,7 @@ leaf_stated t st below id n j k (Cat l r) leaf left right h = absurd leaf
 leaf_stated t st below id n j k (Sub b i) leaf left right h = absurd leaf
 
 -- so are those of a run
-run_stated : (t : Table) (st : Stated) (rope : Option NodeId) (i : ℕ) (x : LeafSpan) → IsRun t rope i x → (j k : ℕ) → j < x.len → k < x.len
+run_stated : (t : Table) (st : Stated) (rope : Option NodeId) (i : ℕ) (x : LeafSpan) → IsLeafRun t rope i x → (j k : ℕ) → j < x.len → k < x.len
     → IsStated st (rope_cell t rope (i + j)) → IsStated st (rope_cell t rope (i + k))
 run_stated t st rope i x run j k left right h =
     let there = subst (IsStated st) (run_cells t rope i x run j left) h in
@@ -84,14 +84,14 @@ part_stated t st (Some id) i n h k d lt =
     get_or-take n (drop i cs) k d (omega (arith, lt, few)) ∙ get_or-drop i cs k d ∙ get_or_default cs (i + k) d (Byte 0) (omega (arith, lt, few, long)) in
     subst (IsStated st) (sym same) (h k (omega (arith, lt, few)))
 
-pub filled_piece : (t : Table) (st : Stated) (rope : Option NodeId) (i n : ℕ) (span : Option LeafSpan) (bytes : List ℕ) → IfSome span (IsRun t rope i) → n ≤ span_len span → length bytes ≤ n
+pub filled_piece : (t : Table) (st : Stated) (rope : Option NodeId) (i n : ℕ) (span : Option LeafSpan) (bytes : List ℕ) → IfSome span (IsLeafRun t rope i) → n ≤ span_len span → length bytes ≤ n
     → AreBytesOf st (rope_part t rope i n) bytes → IsPiece t st rope i bytes
 filled_piece t st rope i n None bytes run inside few are source agrees k lt stated = absurd (omega (arith, inside, few, lt))
 filled_piece t st rope i n (Some x) bytes run inside few are source agrees k lt stated =
     let all = part_stated t st rope i n (λ p below. run_stated t st rope i x run k p (omega (arith, lt, few, inside)) (omega (arith, below, inside)) stated) in
     byte_of_part (text source (rope_cells t rope)) bytes i n k (are source agrees all ∙ sym (span-map (cell_byte source) n i (rope_cells t rope))) lt
 
-pub filled_run : (t : Table) (st : Stated) (rope : Option NodeId) (i m : ℕ) (span : Option LeafSpan) (buffer : List ℕ) (r : Result ℕ SourceFault) → IfSome span (IsRun t rope i) → IfOk r (λ n. n ≡ min (span_len span) m)
+pub filled_run : (t : Table) (st : Stated) (rope : Option NodeId) (i m : ℕ) (span : Option LeafSpan) (buffer : List ℕ) (r : Result ℕ SourceFault) → IfSome span (IsLeafRun t rope i) → IfOk r (λ n. n ≡ min (span_len span) m)
     → IfOk r (λ n. AreBytesOf st (rope_part t rope i n) (take n buffer)) → IfOk r (λ n. IsPiece t st rope i (take n buffer))
 filled_run t st rope i m span buffer (Err e) run count are = tt
 filled_run t st rope i m span buffer (Ok n) run count are = filled_piece t st rope i n span (take n buffer) run (omega (arith, count)) (omega (arith, length-take n buffer)) are

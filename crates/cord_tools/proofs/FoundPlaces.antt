@@ -20,7 +20,7 @@ use Rattle.cord_search.specs.Places.{StandsAt}
 use Rattle.cord_tools.specs.AllPlaces.{AnswersFindAll, FindsIn, FindsOn, OfFirstPlaces, behind, place_lines, places_status}
 use Rattle.cord_tools.specs.Faults.{read_fault}
 use Rattle.cord_tools.specs.Files.{OfFile, file_bytes, file_cells, place_line}
-use Rattle.cord_tools.specs.Unread.{AmongCells, IsUnread, ReadsCells}
+use Rattle.cord_tools.specs.Unread.{IsPlaceAmong, IsUnread, ToolReadsCells}
 use Rattle.cord_tools.specs.declared.fault.ToolFault.{ToolFault}
 use Rattle.cord_tools.specs.declared.fault.ToolFault.TheVariants.{PatternTooLong, Write}
 use Rattle.cord_tools.specs.declared.status.Status.{Status}
@@ -82,17 +82,17 @@ none_stand st from read none inside source agrees stated =
 
 -- a read of them that failed
 pub part_unread : {X : Type 0} (old new : Reading) (from n : ℕ) (e : SourceFault) → 0 < n → from + n ≤ slice_index old.stated.sizes 0 → Reads old new (InSpan 0 from (max 1 n)) (Some e)
-    → ReadsCells {X = X} old new (drop from (file_cells old.stated.sizes 0)) (Err (read_fault e))
+    → ToolReadsCells {X = X} old new (drop from (file_cells old.stated.sizes 0)) (Err (read_fault e))
 part_unread old new from n e some inside h = record {
   at = record {
     fault = Some e;
-    reads = reads_weaker old new (InSpan 0 from (max 1 n)) (AmongCells (drop from (file_cells old.stated.sizes 0))) (Some e) (λ s p asked. among s p asked) h;
+    reads = reads_weaker old new (InSpan 0 from (max 1 n)) (IsPlaceAmong (drop from (file_cells old.stated.sizes 0))) (Some e) (λ s p asked. among s p asked) h;
     told = read_told e;
   };
   unread = λ is. refl;
 }
   where
-    among : (s p : ℕ) → InSpan 0 from (max 1 n) s p → AmongCells (drop from (file_cells old.stated.sizes 0)) s p
+    among : (s p : ℕ) → InSpan 0 from (max 1 n) s p → IsPlaceAmong (drop from (file_cells old.stated.sizes 0)) s p
     among s p (own, above, below) =
         let size = get_or old.stated.sizes 0 0 in
         let place : from + (p - from) ≡ p = omega (arith, above) in
@@ -102,28 +102,28 @@ part_unread old new from n e some inside h = record {
         (p - from, Place 0 p, omega (arith, lt, above, length-drop from (file_cells old.stated.sizes 0), length-map-range_with_len (Place 0) 0 size), at, ap (λ (r : ℕ). Place r p) (sym own))
 
 -- and of the file from an earlier place on
-pub cells_earlier : {X : Type 0} (old new : Reading) (cells : List Cell) (start from : ℕ) (outcome : Result X ToolFault) → start ≤ from → ReadsCells old new (drop from cells) outcome → ReadsCells old new (drop start cells) outcome
+pub cells_earlier : {X : Type 0} (old new : Reading) (cells : List Cell) (start from : ℕ) (outcome : Result X ToolFault) → start ≤ from → ToolReadsCells old new (drop from cells) outcome → ToolReadsCells old new (drop start cells) outcome
 cells_earlier old new cells start from outcome le h = record {
   at = record {
     fault = h.at.fault;
-    reads = reads_weaker old new (AmongCells (drop from cells)) (AmongCells (drop start cells)) h.at.fault among h.at.reads;
+    reads = reads_weaker old new (IsPlaceAmong (drop from cells)) (IsPlaceAmong (drop start cells)) h.at.fault among h.at.reads;
     told = h.at.told;
   };
   unread = h.unread;
 }
   where
-    among : (s p : ℕ) → AmongCells (drop from cells) s p → AmongCells (drop start cells) s p
+    among : (s p : ℕ) → IsPlaceAmong (drop from cells) s p → IsPlaceAmong (drop start cells) s p
     among s p (k, x, lt, at, is) =
         let same : start + ((from - start) + k) ≡ from + k = omega (arith, le) in
         let there : get_or (drop start cells) ((from - start) + k) x ≡ x = get_or-drop start cells ((from - start) + k) x ∙ ap (λ (m : ℕ). get_or cells m x) same ∙ sym (get_or-drop from cells k x) ∙ at in
         ((from - start) + k, x, omega (arith, lt, le, length-drop from cells, length-drop start cells), there, is)
 
 -- what a call read that was stopped, of sources that are as they were
-pub reads_earlier : {X Y : Type 0} (old mid new : Reading) (start from : ℕ) (e : ToolFault) → mid ≡ old → start ≤ from → ReadsCells {X = X} mid new (drop from (file_cells mid.stated.sizes 0)) (Err e)
-    → ReadsCells {X = Y} old new (drop start (file_cells old.stated.sizes 0)) (Err e)
+pub reads_earlier : {X Y : Type 0} (old mid new : Reading) (start from : ℕ) (e : ToolFault) → mid ≡ old → start ≤ from → ToolReadsCells {X = X} mid new (drop from (file_cells mid.stated.sizes 0)) (Err e)
+    → ToolReadsCells {X = Y} old new (drop start (file_cells old.stated.sizes 0)) (Err e)
 reads_earlier {X} {Y} old mid new start from e same le h =
     let cells = file_cells old.stated.sizes 0 in
-    let there : ReadsCells {X = X} old new (drop from cells) (Err e) = subst (λ (r : Reading). ReadsCells {X = X} r new (drop from (file_cells r.stated.sizes 0)) (Err e)) same h in
+    let there : ToolReadsCells {X = X} old new (drop from cells) (Err e) = subst (λ (r : Reading). ToolReadsCells {X = X} r new (drop from (file_cells r.stated.sizes 0)) (Err e)) same h in
     cells_earlier {X = Y} old new cells start from (Err e) le (other_cells old new (drop from cells) e there)
 
 -- ---- a file's places so far

@@ -13,7 +13,7 @@ use Rattle.screen_editor.specs.Editing.{Editing, EditorValue}
 use Rattle.screen_editor.specs.Keys.{key_of}
 use Rattle.screen_editor.specs.Opening.{GoesOnFrom}
 use Rattle.screen_editor.specs.Revising.{AppliesCommand, TakesKey}
-use Rattle.screen_editor.specs.Runs.{Follow, Passes}
+use Rattle.screen_editor.specs.Runs.{StatesFollow, AnswersByte}
 
 further_by : {key : Key} {old : Editing} {new : SessionValue} → AppliesCommand key old new → GoesFurther old.session new
 further_by {key} {old} {new} (AppliesCommand.none unasked same) = subst (GoesFurther old.session) (sym same) (further_itself old.session)
@@ -27,10 +27,10 @@ taken_further key old new (Err fault) t = record {
   keeps = t.refused.keeps;
 }
 
-passes_further : {first now : Reading} {b : ℕ} {old new : Editing} → Passes first now b old new → GoesFurther old.session new.session
+passes_further : {first now : Reading} {b : ℕ} {old new : Editing} → AnswersByte first now b old new → GoesFurther old.session new.session
 passes_further {first} {now} {b} {old} {new} p = taken_further (key_of b) (record { sources = first; editing = old }) (record { sources = now; editing = new }) p.result p.takes
 
-pub keys_further : (first last : Reading) (old new : Editing) (keys : List ℕ) (behind : List Editing) → Follow first last old keys behind
+pub keys_further : (first last : Reading) (old new : Editing) (keys : List ℕ) (behind : List Editing) → StatesFollow first last old keys behind
     → slice_get (old ∷ behind) (length keys) ≡ Some new → GoesFurther old.session new.session
 keys_further first last old new [] [] follow is = let same : old ≡ new = cc in subst (λ (e : Editing). GoesFurther old.session e.session) same (further_itself old.session)
 keys_further first last old new [] (e ∷ es) follow is = absurd follow

@@ -18,13 +18,13 @@ use Rattle.node_table.specs.declared.fault.NodeFault.TheVariants.{TooLong, TooDe
 use Rattle.node_table.specs.Held.{Held, node_of, table_of}
 use Rattle.rope_store.specs.Additions.{Addition, Makes, after, concatenated}
 use Rattle.rope_store.specs.Joining.{right_ending, view_ending, short_ending, ending_for, merged, piece, nodes_joined, joined}
-use Rattle.rope_store.specs.Refusals.{Refuses, IsTooDeep, IsTableFull, IsPoolFull}
+use Rattle.rope_store.specs.Refusals.{Refuses, IsTooDeep, IsTableFull, PassesPoolLimit}
 use Rattle.rope_store.proofs.CallSizes.{joined_few, joined_shallow}
 use Rattle.rebalance.specs.AnyForms.{AnyForm, lifted}
 use Rattle.rebalance.specs.declared.fault.BalanceFault.{BalanceFault}
 use Rattle.rebalance.proofs.AnyLaws.{lifted_is_ok}
 use Rattle.rebalance.proofs.StoreCalls.{made_grows}
-use Rattle.cord_tools.specs.Faults.{IsJoinFault, rope_fault}
+use Rattle.cord_tools.specs.Faults.{IsJoinFault, tool_rope_fault}
 
 -- the depth of the rope that an addition answers
 abbrev depth_after : Held Coded → Addition Coded → ℕ
@@ -132,7 +132,7 @@ on_ok (Err e) holds h = tt
 
 -- ---- the rope of both is refused as too long, or for want of memory
 
-plain_fault : (old : Held Coded) (a : Addition Coded) (IsLong : Type 0) (plain : Result (Option NodeId) NodeFault) → Refuses old a ⊥ IsLong plain → ¬ IsTooDeep a → ¬ IsTableFull old a → ¬ IsPoolFull old a → IfErr (lifted plain) (λ e. IsJoinFault (rope_fault e))
+plain_fault : (old : Held Coded) (a : Addition Coded) (IsLong : Type 0) (plain : Result (Option NodeId) NodeFault) → Refuses old a ⊥ IsLong plain → ¬ IsTooDeep a → ¬ IsTableFull old a → ¬ PassesPoolLimit old a → IfErr (lifted plain) (λ e. IsJoinFault (tool_rope_fault e))
 plain_fault old a IsLong (Ok rope) r shallow free room = tt
 plain_fault old a IsLong (Err TooLong) r shallow free room = refl
 plain_fault old a IsLong (Err TooDeep) r shallow free room = absurd (shallow (r.too_deep.0 refl).2)
@@ -144,11 +144,11 @@ plain_fault old a IsLong (Err Memory) r shallow free room = tt
 
 pub halves_refused : (old new : Held Coded) (l r : Option NodeId) (wanted : List Cell) (p q : ℕ) (result : Result (Option NodeId) BalanceFault) → IsSound (table_of coded_byte old) → HasTrueRecords (table_of coded_byte old) → IsRope (table_of coded_byte old) l → IsRope (table_of coded_byte old) r
     → rope_depth (table_of coded_byte old) l ≤ 63 → rope_depth (table_of coded_byte old) r ≤ 63 → length old.nodes + 3 ≤ MOST_NODES → length old.pool.bytes + 31 < 2 ^ 32 → AnyForm coded_byte old (joined (table_of coded_byte old) l r) wanted (AreLong old l r) p q 2 31 result new
-    → IfErr result (λ e. IsJoinFault (rope_fault e))
+    → IfErr result (λ e. IsJoinFault (tool_rope_fault e))
 halves_refused old new l r wanted p q result s h left right dl dr nodes bytes any =
     let t = table_of coded_byte old in
     let few = joined_few {F = Coded} t s h l r left right in
     let shallow = joined_shallow Coded t s h l r left right dl dr in
     let call = any.as_plain (inl shallow) in
-    subst (λ (k : Result (Option NodeId) BalanceFault). IfErr k (λ e. IsJoinFault (rope_fault e))) (sym call.same)
+    subst (λ (k : Result (Option NodeId) BalanceFault). IfErr k (λ e. IsJoinFault (tool_rope_fault e))) (sym call.same)
     (plain_fault old (joined t l r) (AreLong old l r) call.plain call.refuses shallow (λ full. omega (arith, full, few.records, nodes)) (λ full. omega (arith, full, few.bytes_added, bytes)))

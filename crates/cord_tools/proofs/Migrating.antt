@@ -2,7 +2,7 @@
 use Rattle.std.proofs.Common.{ℕ, Option, List, Err, refl}
 use Rattle.lazy_file.specs.SourceTexts.{Stated}
 use Rattle.lazy_file.specs.Readings.{Reading}
-use Rattle.session_checker.specs.Limits.{IsWithin}
+use Rattle.session_checker.specs.Limits.{AreLooksWithin}
 use Rattle.session_checker.proofs.Restated.{accepted_anew, texts_in_two}
 use Rattle.image_reader.specs.Value.{ImageValue, in_version_two}
 use Rattle.image_reader.specs.Spelling.{spelling}
@@ -19,7 +19,7 @@ migrates_none at_most reading old new remaining before after Write ends = absurd
 migrates_none at_most reading old new remaining before after other ends = ends
 
 -- the image is accepted
-pub migrates_to : (at_most : Option ℕ) (remaining : Option (List ℕ)) (st : Stated) (bytes : List ℕ) (v : ImageValue) (P : List ℕ → Type 0) → AreRead remaining bytes → SpellsFaithful bytes st v → IsWithin at_most v → P (spelling (in_version_two v)) → MigratesTo at_most remaining st v P
+pub migrates_to : (at_most : Option ℕ) (remaining : Option (List ℕ)) (st : Stated) (bytes : List ℕ) (v : ImageValue) (P : List ℕ → Type 0) → AreRead remaining bytes → SpellsFaithful bytes st v → AreLooksWithin at_most v → P (spelling (in_version_two v)) → MigratesTo at_most remaining st v P
 migrates_to at_most remaining st bytes v P read accepted within written =
     let anew = accepted_anew bytes v st accepted.image accepted.spelled accepted.accepted in
     record {

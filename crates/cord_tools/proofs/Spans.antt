@@ -25,7 +25,7 @@ use Rattle.cord_position.specs.Fetched.{AreStated, EachCell, IsStated, rope_cell
 use Rattle.cord_position.proofs.Spans.{each_cell}
 use Rattle.cord_search.specs.Stated.{OfSpan, OfTexts}
 use Rattle.cord_tools.specs.Files.{OfFile, OfFiles, file_bytes, file_cells}
-use Rattle.cord_tools.specs.Spans.{IsSourcePart, IsSpan, source_leaf}
+use Rattle.cord_tools.specs.Spans.{IsSourcePart, IsSourceSpan, source_leaf}
 
 -- ---- which fault comes
 
@@ -57,20 +57,20 @@ part_only_memory t h s a (suc n) PoolFull refuses there inside few empty = absur
 -- ---- which rope is made
 
 span_made : {F : Type 0} (meaning : F → ℕ → ℕ) (old new : Held F) (s a n : ℕ) (rope : Option NodeId) → new ≡ after old (source_added {F = F} (table_of meaning old) s a n)
-    → rope ≡ (source_added {F = F} (table_of meaning old) s a n).rope → IsSpan (table_of meaning new) s a n rope
-span_made meaning old new s a zero rope table is = subst (IsSpan (table_of meaning new) s a zero) (sym is) refl
+    → rope ≡ (source_added {F = F} (table_of meaning old) s a n).rope → IsSourceSpan (table_of meaning new) s a n rope
+span_made meaning old new s a zero rope table is = subst (IsSourceSpan (table_of meaning new) s a zero) (sym is) refl
 span_made {F} meaning old new s a (suc n) rope table is =
     let grown = after old (source_added {F = F} (table_of meaning old) s a (suc n)) in
     let added : List Node = source_leaf s a (suc n) ∷ [] in
     let there : length old.nodes + 0 < length (old.nodes ++ added) = omega (arith, length-append old.nodes added) in
     let leaf : get_or (old.nodes ++ added) (length old.nodes + 0) no_node ≡ source_leaf s a (suc n) = get_or-append-add old.nodes added 0 no_node in
-    let made : IsSpan (table_of meaning grown) s a (suc n) (Some (new_node (table_of meaning old) 0)) = (there, leaf) in
-    subst (λ (h : Held F). IsSpan (table_of meaning h) s a (suc n) rope) (sym table) (subst (IsSpan (table_of meaning grown) s a (suc n)) (sym is) made)
+    let made : IsSourceSpan (table_of meaning grown) s a (suc n) (Some (new_node (table_of meaning old) 0)) = (there, leaf) in
+    subst (λ (h : Held F). IsSourceSpan (table_of meaning h) s a (suc n) rope) (sym table) (subst (IsSourceSpan (table_of meaning grown) s a (suc n)) (sym is) made)
 
 pub part_made : {F : Type 0} (meaning : F → ℕ → ℕ) (old new : Held F) (s r start count len a n : ℕ) (rope : Option NodeId) → r ≡ s → len ≡ get_or old.sources r 0 → a ≡ min start len → n ≡ min count (len - a)
     → new ≡ after old (source_added {F = F} (table_of meaning old) r a n) → rope ≡ (source_added {F = F} (table_of meaning old) r a n).rope → IsSourcePart (table_of meaning new) s start count rope
 part_made {F} meaning old new s r start count len a n rope same_s is_len is_a is_n table is =
-    let made : IsSpan (table_of meaning new) r a n rope = span_made {F = F} meaning old new r a n rope table is in
+    let made : IsSourceSpan (table_of meaning new) r a n rope = span_made {F = F} meaning old new r a n rope table is in
     let sizes : old.sources ≡ new.sources = sym (ap (λ (h : Held F). h.sources) table) in
     rw (is_n, is_a, is_len, same_s, sizes) at made
 
@@ -81,16 +81,16 @@ pool_after {F} meaning old new s a (suc n) table = ap (λ (h : Held F). h.pool) 
 -- a later table has the same rope
 pub part_kept : (old new : Table) (s start count : ℕ) (rope : Option NodeId) → Extends old new → new.sources ≡ old.sources → IsSourcePart old s start count rope → IsSourcePart new s start count rope
 part_kept old new s start count rope extends same is =
-    subst (λ (sizes : List ℕ). IsSpan new s (min start (get_or sizes s 0)) (min count (get_or sizes s 0 - min start (get_or sizes s 0))) rope) (sym same)
+    subst (λ (sizes : List ℕ). IsSourceSpan new s (min start (get_or sizes s 0)) (min count (get_or sizes s 0 - min start (get_or sizes s 0))) rope) (sym same)
     (kept (min start (get_or old.sources s 0)) (min count (get_or old.sources s 0 - min start (get_or old.sources s 0))) rope is)
   where
-    kept : (a n : ℕ) (rope : Option NodeId) → IsSpan old s a n rope → IsSpan new s a n rope
+    kept : (a n : ℕ) (rope : Option NodeId) → IsSourceSpan old s a n rope → IsSourceSpan new s a n rope
     kept a n None h = h
     kept a n (Some id) h = (omega (arith, h.0, extends.more_nodes), extends.nodes id.0 h.0 ∙ h.1)
 
 -- ---- its text
 
-span_cells : (t : Table) (s a n : ℕ) (rope : Option NodeId) → IsSpan t s a n rope → rope_cells t rope ≡ map (Place s) (range_with_len a n)
+span_cells : (t : Table) (s a n : ℕ) (rope : Option NodeId) → IsSourceSpan t s a n rope → rope_cells t rope ≡ map (Place s) (range_with_len a n)
 span_cells t s a n None none = sym (ap (λ (m : ℕ). map (Place s) (range_with_len a m)) none)
 span_cells t s a n (Some id) is = ap (λ (node : Node). node_cells t (cells_in t id.0) id.0 node.len node.view) is.1
 

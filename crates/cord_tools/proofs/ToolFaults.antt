@@ -20,9 +20,9 @@ use Rattle.cord_search.specs.declared.fault.PutFault.{PutFault}
 use Rattle.cord_search.specs.declared.fault.PutFault.TheVariants as Put
 use Rattle.image_reader.specs.Value.{ImageValue}
 use Rattle.cord_tools.specs.Answers.{AnswersCheck, AnswersShow, AreRead, CheckAsks, EndsUnwritten, ReadsRevision, ShowAsks, SpellsFaithful, revision_cells}
-use Rattle.cord_tools.specs.Faults.{IsJoinFault, IsStop, check_fault, put_fault, read_fault, rope_fault}
+use Rattle.cord_tools.specs.Faults.{IsJoinFault, IsStop, check_fault, put_fault, read_fault, tool_rope_fault}
 use Rattle.cord_tools.specs.Files.{AnswersCompare, AnswersFind}
-use Rattle.cord_tools.specs.Unread.{AmongCells, ReadsAt, ReadsCells, StopsAt}
+use Rattle.cord_tools.specs.Unread.{IsPlaceAmong, StopsAt, ToolReads, ToolReadsCells}
 use Rattle.cord_tools.specs.declared.fault.ToolFault.{ToolFault}
 use Rattle.cord_tools.specs.declared.fault.ToolFault.TheVariants as Tool
 use Rattle.cord_tools.specs.declared.fault.ToolFault.TheVariants.{Memory, PatternTooLong, Read, Refused, Write, Rope}
@@ -51,7 +51,7 @@ put_refuses_none (Put.Source Source.BadSource) f is = absurd cc
 put_refuses_none (Put.Source Source.Memory) f is = absurd cc
 
 -- a refusal of a rope is told as it is
-pub refused_as : (e f : BalanceFault) → rope_fault e ≡ Rope f → e ≡ f
+pub refused_as : (e f : BalanceFault) → tool_rope_fault e ≡ Rope f → e ≡ f
 refused_as Balance.TooManyPieces f is = cc
 refused_as (Balance.Node Node.TooLong) f is = cc
 refused_as (Balance.Node Node.TooDeep) f is = cc
@@ -62,7 +62,7 @@ refused_as (Balance.Node Node.TooManySources) f is = cc
 refused_as (Balance.Node Node.Memory) f is = absurd cc
 
 -- and it is no failed read or write
-pub rope_writes_none : (e : BalanceFault) → rope_fault e ≡ Write → ⊥
+pub rope_writes_none : (e : BalanceFault) → tool_rope_fault e ≡ Write → ⊥
 rope_writes_none Balance.TooManyPieces is = absurd cc
 rope_writes_none (Balance.Node Node.TooLong) is = absurd cc
 rope_writes_none (Balance.Node Node.TooDeep) is = absurd cc
@@ -72,7 +72,7 @@ rope_writes_none (Balance.Node Node.BadSpan) is = absurd cc
 rope_writes_none (Balance.Node Node.TooManySources) is = absurd cc
 rope_writes_none (Balance.Node Node.Memory) is = absurd cc
 
-pub rope_reads_none : (e : BalanceFault) → rope_fault e ≡ Read → ⊥
+pub rope_reads_none : (e : BalanceFault) → tool_rope_fault e ≡ Read → ⊥
 rope_reads_none Balance.TooManyPieces is = absurd cc
 rope_reads_none (Balance.Node Node.TooLong) is = absurd cc
 rope_reads_none (Balance.Node Node.TooDeep) is = absurd cc
@@ -158,7 +158,7 @@ check_told (Check.Rows x j) g is = absurd cc
 check_told (Check.Looks n) g is = absurd cc
 
 -- what a check that fails reads of its image
-pub image_reads : {X : Type 0} (old new : Reading) (remaining : Option (List ℕ)) (bytes : List ℕ) (f : CheckFault) → AreRead remaining bytes → Reads old new (BytesAsk old.stated bytes) (source_fault f) → ReadsAt {X = X} old new (CheckAsks remaining old.stated) (Err (check_fault f))
+pub image_reads : {X : Type 0} (old new : Reading) (remaining : Option (List ℕ)) (bytes : List ℕ) (f : CheckFault) → AreRead remaining bytes → Reads old new (BytesAsk old.stated bytes) (source_fault f) → ToolReads {X = X} old new (CheckAsks remaining old.stated) (Err (check_fault f))
 image_reads old new remaining bytes f read h = record {
   fault = source_fault f;
   reads = reads_weaker old new (BytesAsk old.stated bytes) (CheckAsks remaining old.stated) (source_fault f) (λ s p asks. (bytes, read, asks)) h;
@@ -166,7 +166,7 @@ image_reads old new remaining bytes f read h = record {
 }
 
 -- and for a revision to be shown
-pub check_reads : {X : Type 0} (old new : Reading) (remaining : Option (List ℕ)) (k : ℕ) (bytes : List ℕ) (f : CheckFault) → AreRead remaining bytes → Reads old new (BytesAsk old.stated bytes) (source_fault f) → ReadsAt {X = X} old new (ShowAsks remaining old.stated k) (Err (check_fault f))
+pub check_reads : {X : Type 0} (old new : Reading) (remaining : Option (List ℕ)) (k : ℕ) (bytes : List ℕ) (f : CheckFault) → AreRead remaining bytes → Reads old new (BytesAsk old.stated bytes) (source_fault f) → ToolReads {X = X} old new (ShowAsks remaining old.stated k) (Err (check_fault f))
 check_reads old new remaining k bytes f read h = record {
   fault = source_fault f;
   reads = reads_weaker old new (BytesAsk old.stated bytes) (ShowAsks remaining old.stated k) (source_fault f) (λ s p asks. inl (bytes, read, asks)) h;
@@ -174,10 +174,10 @@ check_reads old new remaining k bytes f read h = record {
 }
 
 -- and what its text asks for
-pub text_reads : {X : Type 0} (old new : Reading) (remaining : Option (List ℕ)) (k : ℕ) (bytes : List ℕ) (v : ImageValue) (outcome : Result X ToolFault) → AreRead remaining bytes → SpellsFaithful bytes old.stated v → ReadsCells old new (revision_cells v k) outcome → ReadsAt old new (ShowAsks remaining old.stated k) outcome
+pub text_reads : {X : Type 0} (old new : Reading) (remaining : Option (List ℕ)) (k : ℕ) (bytes : List ℕ) (v : ImageValue) (outcome : Result X ToolFault) → AreRead remaining bytes → SpellsFaithful bytes old.stated v → ToolReadsCells old new (revision_cells v k) outcome → ToolReads old new (ShowAsks remaining old.stated k) outcome
 text_reads old new remaining k bytes v outcome read spelled h = record {
   fault = h.at.fault;
-  reads = reads_weaker old new (AmongCells (revision_cells v k)) (ShowAsks remaining old.stated k) h.at.fault (λ s p asked. inr (v, bytes, read, spelled, asked)) h.at.reads;
+  reads = reads_weaker old new (IsPlaceAmong (revision_cells v k)) (ShowAsks remaining old.stated k) h.at.fault (λ s p asked. inr (v, bytes, read, spelled, asked)) h.at.reads;
   told = h.at.told;
 }
 
@@ -188,7 +188,7 @@ no_texts (text ∷ texts) is = let sizes = ap (λ (st : Stated). st.sizes) is in
 
 -- what is told where the text of a revision was not written to its end
 pub show_stopped : {T : Type 0} (at_most : Option ℕ) (reading : T → Reading) (old new : T) (remaining : Option (List ℕ)) (k : ℕ) (before after : Option (List ℕ)) (v : ImageValue) (e : PutFault)
-    → ReadsRevision at_most remaining (reading old).stated k v (AppendsPrefix before after) → Reads (reading old) (reading new) (AmongCells (revision_cells v k)) (put_source_fault e)
+    → ReadsRevision at_most remaining (reading old).stated k v (AppendsPrefix before after) → Reads (reading old) (reading new) (IsPlaceAmong (revision_cells v k)) (put_source_fault e)
     → AnswersShow at_most reading old new remaining k before after (Err (put_fault e))
 show_stopped at_most reading old new remaining k before after v Put.Write h reads = (v, h)
 show_stopped at_most reading old new remaining k before after v (Put.Source Source.Device) h reads = inr (v, h, record { fault = Source.Device; read = reads; told_as = refl })

@@ -17,7 +17,7 @@ use Rattle.cord_search.specs.declared.fault.FindFault.TheVariants as Find
 use Rattle.cord_search.specs.declared.fault.PutFault.{PutFault}
 use Rattle.cord_search.specs.declared.fault.PutFault.TheVariants as Put
 use Rattle.cord_tools.specs.Faults.{find_fault, put_fault, read_fault}
-use Rattle.cord_tools.specs.Unread.{AmongCells, ReadsAt, ReadsCells}
+use Rattle.cord_tools.specs.Unread.{IsPlaceAmong, ToolReads, ToolReadsCells}
 use Rattle.cord_tools.specs.declared.fault.ToolFault.{ToolFault}
 use Rattle.cord_tools.specs.declared.fault.ToolFault.TheVariants.{Read}
 
@@ -38,17 +38,17 @@ not_some : (f : SourceFault) → ◌≡◌ {A = Option SourceFault} None (Some f
 not_some f is = absurd cc
 
 -- a tool that no read stopped
-pub not_read_at : {X : Type 0} (old new : Reading) (Asked : ℕ → ℕ → Type 0) (outcome : Result X ToolFault) → new ≡ old → ReadsAt old new Asked outcome
+pub not_read_at : {X : Type 0} (old new : Reading) (Asked : ℕ → ℕ → Type 0) (outcome : Result X ToolFault) → new ≡ old → ToolReads old new Asked outcome
 not_read_at old new Asked outcome same = record { fault = None; reads = same; told = λ f is. absurd (not_some f is) }
 
-pub not_read : {X : Type 0} (old new : Reading) (cells : List Cell) (outcome : Result X ToolFault) → new ≡ old → ¬ IsErrOf outcome Read → ReadsCells old new cells outcome
-not_read old new cells outcome same never = record { at = not_read_at old new (AmongCells cells) outcome same; unread = λ is. absurd (never is) }
+pub not_read : {X : Type 0} (old new : Reading) (cells : List Cell) (outcome : Result X ToolFault) → new ≡ old → ¬ IsErrOf outcome Read → ToolReadsCells old new cells outcome
+not_read old new cells outcome same never = record { at = not_read_at old new (IsPlaceAmong cells) outcome same; unread = λ is. absurd (never is) }
 
 -- one that a call's fault stopped, which that call told
-pub other_at : {X Y : Type 0} (old new : Reading) (Asked Others : ℕ → ℕ → Type 0) (e : ToolFault) → ((s p : ℕ) → Asked s p → Others s p) → ReadsAt {X = X} old new Asked (Err e) → ReadsAt {X = Y} old new Others (Err e)
+pub other_at : {X Y : Type 0} (old new : Reading) (Asked Others : ℕ → ℕ → Type 0) (e : ToolFault) → ((s p : ℕ) → Asked s p → Others s p) → ToolReads {X = X} old new Asked (Err e) → ToolReads {X = Y} old new Others (Err e)
 other_at old new Asked Others e more h = record { fault = h.fault; reads = reads_weaker old new Asked Others h.fault more h.reads; told = λ f is. same_error e (read_fault f) (h.told f is) }
 
-pub other_cells : {X Y : Type 0} (old new : Reading) (cells : List Cell) (e : ToolFault) → ReadsCells {X = X} old new cells (Err e) → ReadsCells {X = Y} old new cells (Err e)
+pub other_cells : {X Y : Type 0} (old new : Reading) (cells : List Cell) (e : ToolFault) → ToolReadsCells {X = X} old new cells (Err e) → ToolReadsCells {X = Y} old new cells (Err e)
 other_cells old new cells e h = record {
   at = record { fault = h.at.fault; reads = h.at.reads; told = λ f is. same_error e (read_fault f) (h.at.told f is) };
   unread = λ is. h.unread (same_error e Read is);
@@ -59,7 +59,7 @@ ok_same : {X : Type 0} (old new : Reading) (Asked : ℕ → ℕ → Type 0) (x :
 ok_same old new Asked x None reads told = reads
 ok_same old new Asked x (Some f) reads told = absurd (no_fault x (read_fault f) (told f refl))
 
-pub same_after : {X : Type 0} (old new : Reading) (Asked : ℕ → ℕ → Type 0) (x : X) → ReadsAt old new Asked (Ok x) → new ≡ old
+pub same_after : {X : Type 0} (old new : Reading) (Asked : ℕ → ℕ → Type 0) (x : X) → ToolReads old new Asked (Ok x) → new ≡ old
 same_after old new Asked x h = ok_same old new Asked x h.fault h.reads h.told
 
 -- ---- cells
@@ -71,7 +71,7 @@ any_right : {X : Type 0} (P : X → Type 0) (xs ys : List X) → Any P ys → An
 any_right P xs ys (k, x, lt, at, p) = (length xs + k, x, omega (arith, lt, length-append xs ys), get_or-append-add xs ys k x ∙ at, p)
 
 -- the cell of a place of a rope is one of the rope's
-among : (t : Table) (rope : Option NodeId) (i j s p : ℕ) → InCells (rope_cell t rope) i j s p → AmongCells (drop i (rope_cells t rope)) s p
+among : (t : Table) (rope : Option NodeId) (i j s p : ℕ) → InCells (rope_cell t rope) i j s p → IsPlaceAmong (drop i (rope_cells t rope)) s p
 among t None i j s p h = let none : Byte 0 ≡ Place s p = h.3 in absurd cc
 among t (Some id) i j s p (k, from, until, is) =
     elim (cases_lt k (length (cells t id.0))) [
@@ -85,12 +85,12 @@ among t (Some id) i j s p (k, from, until, is) =
           let none : Byte 0 ≡ Place s p = sym (get_or_past (cells t id.0) k (Byte 0) past) ∙ is in absurd cc
     ]
 
-among_these : (t : Table) (rope : Option NodeId) (i j : ℕ) (cs : List Cell) → drop i (rope_cells t rope) ≡ cs → (s p : ℕ) → InCells (rope_cell t rope) i j s p → AmongCells cs s p
-among_these t rope i j cs is s p asked = subst (λ (xs : List Cell). AmongCells xs s p) is (among t rope i j s p asked)
+among_these : (t : Table) (rope : Option NodeId) (i j : ℕ) (cs : List Cell) → drop i (rope_cells t rope) ≡ cs → (s p : ℕ) → InCells (rope_cell t rope) i j s p → IsPlaceAmong cs s p
+among_these t rope i j cs is s p asked = subst (λ (xs : List Cell). IsPlaceAmong xs s p) is (among t rope i j s p asked)
 
 -- what a call reads of all of a rope's cells, it reads of these
-pub among_cells : (old new : Reading) (t : Table) (rope : Option NodeId) (j : ℕ) (fault : Option SourceFault) (cs : List Cell) → rope_cells t rope ≡ cs → Reads old new (InCells (rope_cell t rope) 0 j) fault → Reads old new (AmongCells cs) fault
-among_cells old new t rope j fault cs is h = reads_weaker old new (InCells (rope_cell t rope) 0 j) (AmongCells cs) fault (among_these t rope 0 j cs is) h
+pub among_cells : (old new : Reading) (t : Table) (rope : Option NodeId) (j : ℕ) (fault : Option SourceFault) (cs : List Cell) → rope_cells t rope ≡ cs → Reads old new (InCells (rope_cell t rope) 0 j) fault → Reads old new (IsPlaceAmong cs) fault
+among_cells old new t rope j fault cs is h = reads_weaker old new (InCells (rope_cell t rope) 0 j) (IsPlaceAmong cs) fault (among_these t rope 0 j cs is) h
 
 -- ---- what the tools call
 
@@ -117,11 +117,11 @@ find_is_read (Find.Source e) is = refl
 
 -- a rope was not written, or it was not written to its end
 pub put_read : {X : Type 0} (old new : Reading) (t : Table) (rope : Option NodeId) (j : ℕ) (e : PutFault) (cs : List Cell) → rope_cells t rope ≡ cs
-    → Reads old new (InCells (rope_cell t rope) 0 j) (put_source_fault e) → ReadsCells {X = X} old new cs (Err (put_fault e))
+    → Reads old new (InCells (rope_cell t rope) 0 j) (put_source_fault e) → ToolReadsCells {X = X} old new cs (Err (put_fault e))
 put_read old new t rope j e cs is h = record {
   at = record {
     fault = put_source_fault e;
-    reads = reads_weaker old new (InCells (rope_cell t rope) 0 j) (AmongCells cs) (put_source_fault e) (among_these t rope 0 j cs is) h;
+    reads = reads_weaker old new (InCells (rope_cell t rope) 0 j) (IsPlaceAmong cs) (put_source_fault e) (among_these t rope 0 j cs is) h;
     told = put_told e;
   };
   unread = put_is_read e;
@@ -129,11 +129,11 @@ put_read old new t rope j e cs is h = record {
 
 -- a pattern was not found
 pub find_read : {X : Type 0} (old new : Reading) (t : Table) (rope : Option NodeId) (i j : ℕ) (e : FindFault) (cs : List Cell) → drop i (rope_cells t rope) ≡ cs
-    → Reads old new (InCells (rope_cell t rope) i j) (find_source_fault e) → ReadsCells {X = X} old new cs (Err (find_fault e))
+    → Reads old new (InCells (rope_cell t rope) i j) (find_source_fault e) → ToolReadsCells {X = X} old new cs (Err (find_fault e))
 find_read old new t rope i j e cs is h = record {
   at = record {
     fault = find_source_fault e;
-    reads = reads_weaker old new (InCells (rope_cell t rope) i j) (AmongCells cs) (find_source_fault e) (among_these t rope i j cs is) h;
+    reads = reads_weaker old new (InCells (rope_cell t rope) i j) (IsPlaceAmong cs) (find_source_fault e) (among_these t rope i j cs is) h;
     told = find_told e;
   };
   unread = find_is_read e;
@@ -141,7 +141,7 @@ find_read old new t rope i j e cs is h = record {
 
 -- two ropes were not compared
 pub two_read : {X : Type 0} (old new : Reading) (t : Table) (x y : Option NodeId) (n : ℕ) (e : SourceFault) (cs ds : List Cell) → rope_cells t x ≡ cs → rope_cells t y ≡ ds
-    → ReadsTwoSpans {X = Unit {0}} old new (rope_cell t x) 0 (rope_cell t y) 0 n (Err e) → ReadsCells {X = X} old new (cs ++ ds) (Err (read_fault e))
+    → ReadsTwoSpans {X = Unit {0}} old new (rope_cell t x) 0 (rope_cell t y) 0 n (Err e) → ToolReadsCells {X = X} old new (cs ++ ds) (Err (read_fault e))
 two_read old new t x y n e cs ds left right h = record {
   at = record {
     fault = Some e;

@@ -8,7 +8,7 @@ use Rattle.lazy_file.specs.Readings.{Reading}
 use Rattle.cord_search.specs.Places.{IsFirst, StandsAt}
 use Rattle.cord_search.specs.declared.pattern.TheConstants.{PATTERN_LIMIT}
 use Rattle.cord_tools.specs.Files.{OfFile, file_cells, place_line}
-use Rattle.cord_tools.specs.Unread.{ReadsCells}
+use Rattle.cord_tools.specs.Unread.{ToolReadsCells}
 use Rattle.cord_tools.specs.declared.fault.ToolFault.{ToolFault}
 use Rattle.cord_tools.specs.declared.fault.ToolFault.TheVariants.{Memory, Read, Write, PatternTooLong}
 use Rattle.cord_tools.specs.declared.status.Status.{Status}
@@ -57,7 +57,7 @@ AnswersFindAll st start pattern before after (Err other) = ⊥
 -- The search reads source 0 from start on, and refuses long patterns alone.
 pub record FindsAll (old new : Reading) (start : ℕ) (pattern : List ℕ) (before after : Option (List ℕ))
     (outcome : Result Status ToolFault) : Type 0 where
-  pub reads : ReadsCells old new (drop start (file_cells old.stated.sizes 0)) outcome
+  pub reads : ToolReadsCells old new (drop start (file_cells old.stated.sizes 0)) outcome
   pub answer : AnswersFindAll old.stated start pattern before after outcome
   pub too_long : IsErrOf outcome PatternTooLong ↔ (PATTERN_LIMIT < length pattern)
 

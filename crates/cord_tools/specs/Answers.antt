@@ -16,11 +16,11 @@ use Rattle.image_reader.specs.Value.{ImageValue, IsImage, image_table}
 use Rattle.image_reader.specs.Spelling.{spelling}
 use Rattle.session_checker.specs.declared.fault.CheckFault.{CheckFault}
 use Rattle.session_checker.specs.Accepted.{BytesAsk, IsAccepted}
-use Rattle.session_checker.specs.Limits.{IsFirstFaultWithin, IsWithin}
+use Rattle.session_checker.specs.Limits.{IsFirstFaultWithin, AreLooksWithin}
 use Rattle.session_checker.specs.Faithful.{IsFaithful, revision_text}
-use Rattle.session_checker.specs.Codes.{fault_code}
+use Rattle.session_checker.specs.Codes.{check_fault_code}
 use Rattle.cord_tools.specs.Faults.{check_fault}
-use Rattle.cord_tools.specs.Unread.{AmongCells, ReadsAt, StopsAt}
+use Rattle.cord_tools.specs.Unread.{IsPlaceAmong, StopsAt, ToolReads}
 use Rattle.cord_tools.specs.declared.fault.ToolFault.{ToolFault}
 use Rattle.cord_tools.specs.declared.fault.ToolFault.TheVariants.{Memory, Read, Write, Refused, NoRevision}
 use Rattle.cord_tools.specs.declared.status.Status.{Status}
@@ -32,7 +32,7 @@ accepted_line v =
     ++ (decimal (length (image_table v).nodes) ++ (codes " nodes " ++ (decimal (length v.rows) ++ codes " rows\n")))))
 
 abbrev pub refused_line : CheckFault → List ℕ
-refused_line fault = codes "refused " ++ fault_code fault ++ codes "\n"
+refused_line fault = codes "refused " ++ check_fault_code fault ++ codes "\n"
 
 -- the bytes are those that the reader had, up to the limit
 abbrev pub AreReadUpTo : ℕ → Option (List ℕ) → List ℕ → Type 0
@@ -63,7 +63,7 @@ pub record IsRefusal (at_most : Option ℕ) (st : Stated) (bytes : List ℕ) (fa
 -- the line and the status that answer for these bytes
 abbrev pub AnswersWith : Option ℕ → Stated → List ℕ → List ℕ → Status → Type 0
 AnswersWith at_most st bytes line Success =
-    (v : ImageValue) × SpellsFaithful bytes st v × IsWithin at_most v × (line ≡ accepted_line v)
+    (v : ImageValue) × SpellsFaithful bytes st v × AreLooksWithin at_most v × (line ≡ accepted_line v)
 AnswersWith at_most st bytes line Failure =
     (f : CheckFault) × IsRefusal at_most st bytes f × (line ≡ refused_line f)
 
@@ -92,7 +92,7 @@ AnswersCheck at_most reading old new remaining before after (Err other) = ⊥
 pub record ChecksImage {T : Type 0} (at_most : Option ℕ) (reading : T → Reading) (old new : T)
     (remaining before after : Option (List ℕ)) (outcome : Result Status ToolFault) : Type 0 where
   pub answer : AnswersCheck at_most reading old new remaining before after outcome
-  pub reads : ReadsAt (reading old) (reading new) (CheckAsks remaining (reading old).stated) outcome
+  pub reads : ToolReads (reading old) (reading new) (CheckAsks remaining (reading old).stated) outcome
 
 -- what is known of texts in memory, of which no read fails
 abbrev pub reading_in_memory : List (List ℕ) → Reading
@@ -143,7 +143,7 @@ pub record ReadsRevision (at_most : Option ℕ) (remaining : Option (List ℕ)) 
   pub bytes : List ℕ
   pub read : AreRead remaining bytes
   pub spelled : SpellsFaithful bytes st v
-  pub within : IsWithin at_most v
+  pub within : AreLooksWithin at_most v
   pub there : k < length v.revisions
   pub text : OfRevision v st k P
 
@@ -159,14 +159,14 @@ AnswersShow at_most reading old new remaining k before after (Err Write) =
 AnswersShow at_most reading old new remaining k before after (Err Read) =
     EndsUnwritten at_most reading old new remaining before after Read
     ⊎ ((v : ImageValue) × ReadsRevision at_most remaining (reading old).stated k v (AppendsPrefix before after)
-    × StopsAt (reading old) (reading new) (AmongCells (revision_cells v k)) Read)
+    × StopsAt (reading old) (reading new) (IsPlaceAmong (revision_cells v k)) Read)
 AnswersShow at_most reading old new remaining k before after (Err Memory) =
     EndsUnwritten at_most reading old new remaining before after Memory
     ⊎ ((v : ImageValue) × ReadsRevision at_most remaining (reading old).stated k v (AppendsPrefix before after)
-    × StopsAt (reading old) (reading new) (AmongCells (revision_cells v k)) Memory)
+    × StopsAt (reading old) (reading new) (IsPlaceAmong (revision_cells v k)) Memory)
 AnswersShow at_most reading old new remaining k before after (Err NoRevision) =
     Keeps before after × ((v : ImageValue) × (bytes : List ℕ) × AreRead remaining bytes
-    × SpellsFaithful bytes (reading old).stated v × IsWithin at_most v × (length v.revisions ≤ k))
+    × SpellsFaithful bytes (reading old).stated v × AreLooksWithin at_most v × (length v.revisions ≤ k))
 AnswersShow at_most reading old new remaining k before after (Err other) =
     EndsUnwritten at_most reading old new remaining before after other
 
@@ -175,11 +175,11 @@ abbrev pub ShowAsks : Option (List ℕ) → Stated → ℕ → ℕ → ℕ → T
 ShowAsks remaining st k s p =
     CheckAsks remaining st s p
     ⊎ ((v : ImageValue) × (bytes : List ℕ) × AreRead remaining bytes × SpellsFaithful bytes st v
-    × AmongCells (revision_cells v k) s p)
+    × IsPlaceAmong (revision_cells v k) s p)
 
 -- what run_show does: the text that it writes, and what it reads of the sources
 pub record ShowsRevision {T : Type 0} (at_most : Option ℕ) (reading : T → Reading) (old new : T)
     (remaining : Option (List ℕ)) (k : ℕ)
     (before after : Option (List ℕ)) (outcome : Result (Unit {0}) ToolFault) : Type 0 where
-  pub reads : ReadsAt (reading old) (reading new) (ShowAsks remaining (reading old).stated k) outcome
+  pub reads : ToolReads (reading old) (reading new) (ShowAsks remaining (reading old).stated k) outcome
   pub answer : AnswersShow at_most reading old new remaining k before after outcome

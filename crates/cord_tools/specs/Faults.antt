@@ -64,15 +64,15 @@ find_fault Find.PatternTooLong = PatternTooLong
 find_fault (Find.Source fault) = read_fault fault
 find_fault Find.Memory = Memory
 
-abbrev pub rope_fault : BalanceFault → ToolFault
-rope_fault Balance.TooManyPieces = Rope Balance.TooManyPieces
-rope_fault (Balance.Node Node.TooLong) = Rope (Balance.Node Node.TooLong)
-rope_fault (Balance.Node Node.TooDeep) = Rope (Balance.Node Node.TooDeep)
-rope_fault (Balance.Node Node.TableFull) = Rope (Balance.Node Node.TableFull)
-rope_fault (Balance.Node Node.PoolFull) = Rope (Balance.Node Node.PoolFull)
-rope_fault (Balance.Node Node.BadSpan) = Rope (Balance.Node Node.BadSpan)
-rope_fault (Balance.Node Node.TooManySources) = Rope (Balance.Node Node.TooManySources)
-rope_fault (Balance.Node Node.Memory) = Memory
+abbrev pub tool_rope_fault : BalanceFault → ToolFault
+tool_rope_fault Balance.TooManyPieces = Rope Balance.TooManyPieces
+tool_rope_fault (Balance.Node Node.TooLong) = Rope (Balance.Node Node.TooLong)
+tool_rope_fault (Balance.Node Node.TooDeep) = Rope (Balance.Node Node.TooDeep)
+tool_rope_fault (Balance.Node Node.TableFull) = Rope (Balance.Node Node.TableFull)
+tool_rope_fault (Balance.Node Node.PoolFull) = Rope (Balance.Node Node.PoolFull)
+tool_rope_fault (Balance.Node Node.BadSpan) = Rope (Balance.Node Node.BadSpan)
+tool_rope_fault (Balance.Node Node.TooManySources) = Rope (Balance.Node Node.TooManySources)
+tool_rope_fault (Balance.Node Node.Memory) = Memory
 
 -- what the refusal of a first revision comes to
 abbrev pub edit_fault : EditFault → ToolFault

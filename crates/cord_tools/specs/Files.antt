@@ -17,7 +17,7 @@ use Rattle.cord_search.specs.Order.{order}
 use Rattle.cord_search.specs.Places.{IsFirst, IsFirstPlace}
 use Rattle.cord_search.specs.declared.pattern.TheConstants.{PATTERN_LIMIT}
 use Rattle.cord_tools.specs.Faults.{IsJoinFault, IsStop}
-use Rattle.cord_tools.specs.Unread.{ReadsCells}
+use Rattle.cord_tools.specs.Unread.{ToolReadsCells}
 use Rattle.cord_tools.specs.declared.fault.ToolFault.{ToolFault}
 use Rattle.cord_tools.specs.declared.fault.ToolFault.TheVariants.{Memory, Read, Write, PatternTooLong, Rope}
 use Rattle.cord_tools.specs.declared.status.Status.{Status}
@@ -42,12 +42,12 @@ abbrev pub file_cells : List ℕ → ℕ → List Cell
 file_cells sizes s = map (Place s) (range_with_len 0 (get_or sizes s 0))
 
 -- the cells of n sources from source first on, one behind the other
-abbrev pub cells_of : List ℕ → ℕ → ℕ → List Cell
-cells_of sizes first n = flat_map (file_cells sizes) (range_with_len first n)
+abbrev pub cells_of_sources : List ℕ → ℕ → ℕ → List Cell
+cells_of_sources sizes first n = flat_map (file_cells sizes) (range_with_len first n)
 
 -- the cells of all the sources
 abbrev pub all_cells : List ℕ → List Cell
-all_cells sizes = cells_of sizes 0 (length sizes)
+all_cells sizes = cells_of_sources sizes 0 (length sizes)
 
 -- the bytes of all the sources, one behind the other
 abbrev pub joined_bytes : List ℕ → (ℕ → ℕ → ℕ) → List ℕ
@@ -64,7 +64,7 @@ OfAllFiles st P = (source : ℕ → ℕ → ℕ) → Agrees st source → ((s : 
 -- them.
 pub record CutsFile (old new : Reading) (start count : ℕ)
     (before after : Option (List ℕ)) (outcome : Result (Unit {0}) ToolFault) : Type 0 where
-  pub reads : ReadsCells old new (take count (drop start (file_cells old.stated.sizes 0))) outcome
+  pub reads : ToolReadsCells old new (take count (drop start (file_cells old.stated.sizes 0))) outcome
   pub ok : OnOk outcome (OfFile old.stated 0 (λ t. Appends before after (take count (drop start t))))
   pub err : OnErr outcome (OfFile old.stated 0 (λ t. AppendsPrefix before after (take count (drop start t))))
   pub fault : IfErr outcome IsStop
@@ -75,7 +75,7 @@ pub record CutsFile (old new : Reading) (start count : ℕ)
 -- refused as too long alone, and then nothing was written.
 pub record JoinsFiles (old new : Reading)
     (before after : Option (List ℕ)) (outcome : Result (Unit {0}) ToolFault) : Type 0 where
-  pub reads : ReadsCells old new (all_cells old.stated.sizes) outcome
+  pub reads : ToolReadsCells old new (all_cells old.stated.sizes) outcome
   pub ok : OnOk outcome (OfAllFiles old.stated (Appends before after))
   pub err : OnErr outcome (OfAllFiles old.stated (AppendsPrefix before after))
   pub fault : IfErr outcome IsJoinFault
@@ -108,7 +108,7 @@ AnswersFind st start pattern before after (Err other) = ⊥
 pub record FindsPattern (old new : Reading) (start : ℕ)
     (pattern : List ℕ)
     (before after : Option (List ℕ)) (outcome : Result Status ToolFault) : Type 0 where
-  pub reads : ReadsCells old new (drop start (file_cells old.stated.sizes 0)) outcome
+  pub reads : ToolReadsCells old new (drop start (file_cells old.stated.sizes 0)) outcome
   pub answer : AnswersFind old.stated start pattern before after outcome
   pub too_long : IsErrOf outcome PatternTooLong ↔ (PATTERN_LIMIT < length pattern)
 
@@ -144,6 +144,6 @@ AnswersCompare st before after (Err other) = ⊥
 -- The comparison reads sources 0 and 1.
 pub record ComparesFiles (old new : Reading)
     (before after : Option (List ℕ)) (outcome : Result Status ToolFault) : Type 0 where
-  pub reads : ReadsCells old new
+  pub reads : ToolReadsCells old new
       (file_cells old.stated.sizes 0 ++ file_cells old.stated.sizes 1) outcome
   pub answer : AnswersCompare old.stated before after outcome

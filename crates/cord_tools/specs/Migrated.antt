@@ -7,9 +7,9 @@ use Rattle.lazy_file.specs.Readings.{Reading}
 use Rattle.image_reader.specs.Value.{ImageValue, in_version_two}
 use Rattle.image_reader.specs.Spelling.{spelling}
 use Rattle.session_checker.specs.Faithful.{texts}
-use Rattle.session_checker.specs.Limits.{IsWithin}
+use Rattle.session_checker.specs.Limits.{AreLooksWithin}
 use Rattle.cord_tools.specs.Answers.{AreRead, CheckAsks, EndsUnwritten, SpellsFaithful}
-use Rattle.cord_tools.specs.Unread.{ReadsAt}
+use Rattle.cord_tools.specs.Unread.{ToolReads}
 use Rattle.cord_tools.specs.declared.fault.ToolFault.{ToolFault}
 use Rattle.cord_tools.specs.declared.fault.ToolFault.TheVariants.{Write}
 
@@ -20,7 +20,7 @@ pub record MigratesTo (at_most : Option ℕ) (remaining : Option (List ℕ)) (st
   pub bytes : List ℕ
   pub read : AreRead remaining bytes
   pub accepted : SpellsFaithful bytes st v
-  pub within : IsWithin at_most v
+  pub within : AreLooksWithin at_most v
   pub migrated : SpellsFaithful (spelling (in_version_two v)) st (in_version_two v)
   pub same_texts : (source : ℕ → ℕ → ℕ) → texts (in_version_two v) source ≡ texts v source
   pub written : P (spelling (in_version_two v))
@@ -39,5 +39,5 @@ AnswersMigrate at_most reading old new remaining before after (Err other) =
 -- what run_migrate does: the image that it writes, and what it reads of the sources
 pub record MigratesImage {T : Type 0} (at_most : Option ℕ) (reading : T → Reading) (old new : T)
     (remaining before after : Option (List ℕ)) (outcome : Result (Unit {0}) ToolFault) : Type 0 where
-  pub reads : ReadsAt (reading old) (reading new) (CheckAsks remaining (reading old).stated) outcome
+  pub reads : ToolReads (reading old) (reading new) (CheckAsks remaining (reading old).stated) outcome
   pub answer : AnswersMigrate at_most reading old new remaining before after outcome

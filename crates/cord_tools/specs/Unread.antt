@@ -8,8 +8,8 @@ use Rattle.cord_tools.specs.declared.fault.ToolFault.{ToolFault}
 use Rattle.cord_tools.specs.declared.fault.ToolFault.TheVariants.{Memory, Read}
 
 -- the places of sources among these cells
-abbrev pub AmongCells : List Cell → ℕ → ℕ → Type 0
-AmongCells cells s p = Any (λ (cell : Cell). cell ≡ Place s p) cells
+abbrev pub IsPlaceAmong : List Cell → ℕ → ℕ → Type 0
+IsPlaceAmong cells s p = Any (λ (cell : Cell). cell ≡ Place s p) cells
 
 -- a read that asked for one of these places failed, and it is told so
 pub record StopsAt (before after : Reading) (Asked : ℕ → ℕ → Type 0) (told : ToolFault) : Type 0 where
@@ -18,16 +18,16 @@ pub record StopsAt (before after : Reading) (Asked : ℕ → ℕ → Type 0) (to
   pub told_as : told ≡ read_fault fault
 
 -- What a tool does that asks the sources for no other places: all is as before, or one read failed, and that is told.
-pub record ReadsAt {X : Type 0} (before after : Reading) (Asked : ℕ → ℕ → Type 0) (outcome : Result X ToolFault)
+pub record ToolReads {X : Type 0} (before after : Reading) (Asked : ℕ → ℕ → Type 0) (outcome : Result X ToolFault)
     : Type 0 where
   pub fault : Option SourceFault
   pub reads : Reads before after Asked fault
   pub told : (f : SourceFault) → fault ≡ Some f → outcome ≡ Err (read_fault f)
 
 -- the same of a tool that may read these cells, and nothing else
-pub record ReadsCells {X : Type 0} (before after : Reading) (cells : List Cell) (outcome : Result X ToolFault)
+pub record ToolReadsCells {X : Type 0} (before after : Reading) (cells : List Cell) (outcome : Result X ToolFault)
     : Type 0 where
-  pub at : ReadsAt before after (AmongCells cells) outcome
+  pub at : ToolReads before after (IsPlaceAmong cells) outcome
   pub unread : IsErrOf outcome Read → IsSome at.fault
 
 -- what a tool is told that could not read

@@ -4,7 +4,7 @@ ghost use Rattle.std.specs.Prelude.{◌≡◌, ◌⊎◌, IfErr, IfOk, string_by
 ghost use Rattle.session_checker.specs.Accepted.{BytesAsk};
 ghost use Rattle.cord_tools.specs.Answers.{accepted_line, refused_line, refused_source_line};
 ghost use Rattle.cord_tools.specs.Answers.{AnswersWith, ChecksImage, ChecksInput, RefusesCheck};
-ghost use Rattle.cord_tools.specs.Unread.{ReadsAt, StopsAt};
+ghost use Rattle.cord_tools.specs.Unread.{ToolReads, StopsAt};
 
 use crate::fault::ToolFault;
 use crate::input::read_image;
@@ -53,7 +53,7 @@ fn answer_with<S: Sources, P: Progress>(
     ensures fault { IfErr result (λ e. (e ≡ ToolFault.Memory)
         ⊎ StopsAt (S.reading sources.old) (S.reading sources.new)
         (BytesAsk (S.reading sources.old).stated bytes.now) e) }
-    ensures reads { ReadsAt (S.reading sources.old) (S.reading sources.new)
+    ensures reads { ToolReads (S.reading sources.old) (S.reading sources.new)
         (BytesAsk (S.reading sources.old).stated bytes.now) result }
 {
     match check_told(bytes, sources, at_most, progress) {

@@ -2,7 +2,7 @@
 
 ghost use Rattle.std.specs.Prelude.{◌≡◌, ◌⊎◌, ◌≤◌, ◌++◌, length, IfOk, IfErr};
 ghost use Rattle.cord_tools.specs.Files.{ComparesFiles, IsOrderOfFiles, file_cells, order_line, order_status};
-ghost use Rattle.cord_tools.specs.Unread.{ReadsCells};
+ghost use Rattle.cord_tools.specs.Unread.{ToolReadsCells};
 ghost use Rattle.cord_tools.specs.declared.fault.ToolFault.TheVariants.{Memory, Read};
 
 use crate::fault::ToolFault;
@@ -41,7 +41,7 @@ fn order_of<T: Sources>(alloc: Global, sources: &mut T) -> Result<Ordering, Tool
     requires { 2 ≤ length (T.reading sources.old).stated.sizes }
     ensures order { IfOk result (IsOrderOfFiles (T.reading sources.old).stated) }
     ensures fault { IfErr result (λ e. (e ≡ Read) ⊎ (e ≡ Memory)) }
-    ensures reads { ReadsCells (T.reading sources.old) (T.reading sources.new)
+    ensures reads { ToolReadsCells (T.reading sources.old) (T.reading sources.new)
         (file_cells (T.reading sources.old).stated.sizes 0 ++ file_cells (T.reading sources.old).stated.sizes 1)
         result }
 {

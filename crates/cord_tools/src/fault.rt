@@ -1,7 +1,7 @@
 //! Why a tool ended without its answer.
 
 ghost use Rattle.std.specs.Prelude.{◌≡◌};
-ghost use Rattle.cord_tools.specs.Faults.{add_fault, check_fault, edit_fault, editor_fault, find_fault, put_fault, read_fault, rope_fault, run_fault, take_fault};
+ghost use Rattle.cord_tools.specs.Faults.{add_fault, check_fault, edit_fault, editor_fault, find_fault, put_fault, read_fault, run_fault, take_fault, tool_rope_fault};
 
 use byte_output::WriteFault;
 use cord_search::{FindFault, PutFault};
@@ -152,7 +152,7 @@ impl From<FindFault> for ToolFault {
 }
 
 impl From<BalanceFault> for ToolFault {
-    ghost from_gives = { λ e f. f ≡ rope_fault e };
+    ghost from_gives = { λ e f. f ≡ tool_rope_fault e };
 
     fn from(fault: BalanceFault) -> ToolFault {
         match fault {

@@ -4,7 +4,7 @@ ghost use Rattle.std.specs.Prelude.{◌≡◌, ◌↔◌, ◌⊎◌, ◌<◌, �
 ghost use Rattle.cord_search.specs.Places.{IsFirst};
 ghost use Rattle.cord_search.specs.declared.pattern.TheConstants.{PATTERN_LIMIT};
 ghost use Rattle.cord_tools.specs.Files.{FindsPattern, OfFile, file_cells, place_line};
-ghost use Rattle.cord_tools.specs.Unread.{ReadsCells};
+ghost use Rattle.cord_tools.specs.Unread.{ToolReadsCells};
 ghost use Rattle.cord_tools.specs.declared.fault.ToolFault.TheVariants.{Memory, PatternTooLong, Read};
 
 use crate::fault::ToolFault;
@@ -42,7 +42,7 @@ fn first_place<T: Sources>(
         (λ found. OfFile (T.reading sources.old).stated 0 (λ t. IsFirst pattern.now t start found)) }
     ensures too_long { IsErrOf result PatternTooLong ↔ (PATTERN_LIMIT < length pattern.now) }
     ensures fault { IfErr result (λ e. (e ≡ PatternTooLong) ⊎ ((e ≡ Read) ⊎ (e ≡ Memory))) }
-    ensures reads { ReadsCells (T.reading sources.old) (T.reading sources.new)
+    ensures reads { ToolReadsCells (T.reading sources.old) (T.reading sources.new)
         (drop start (file_cells (T.reading sources.old).stated.sizes 0)) result }
 {
     if pattern.len() > PATTERN_LIMIT {

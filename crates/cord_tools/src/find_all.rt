@@ -5,7 +5,7 @@ ghost use Rattle.memchr.specs.Find.{FindsNeedle};
 ghost use Rattle.cord_search.specs.Places.{StandsAt};
 ghost use Rattle.cord_tools.specs.AllPlaces.{FindsAll, FindsIn, FindsOn};
 ghost use Rattle.cord_tools.specs.Files.{OfFile, file_cells};
-ghost use Rattle.cord_tools.specs.Unread.{IsUnread, ReadsCells};
+ghost use Rattle.cord_tools.specs.Unread.{IsUnread, ToolReadsCells};
 ghost use Rattle.cord_tools.specs.declared.status.Status.TheVariants.{Success};
 
 use crate::fault::ToolFault;
@@ -100,7 +100,7 @@ fn read_part<T: Sources>(sources: &mut T, from: u64, part: &mut [u8]) -> Result<
     requires { from + length part.old ≤ slice_index (T.reading sources.old).stated.sizes 0 }
     ensures part { OnOk result (OfFile (T.reading sources.old).stated 0 (λ t. StandsAt part.new t from)) }
     ensures fault { IfErr result IsUnread }
-    ensures reads { ReadsCells (T.reading sources.old) (T.reading sources.new)
+    ensures reads { ToolReadsCells (T.reading sources.old) (T.reading sources.new)
         (drop from (file_cells (T.reading sources.old).stated.sizes 0)) result }
 {
     if part.is_empty() {
@@ -125,7 +125,7 @@ fn found_from<T: Sources>(
         FindsOn (T.reading sources.old).stated finder.now from next lines.new.items) }
     ensures next { IfOk result (λ next. from < next) }
     ensures fault { IfErr result IsUnread }
-    ensures reads { ReadsCells (T.reading sources.old) (T.reading sources.new)
+    ensures reads { ToolReadsCells (T.reading sources.old) (T.reading sources.new)
         (drop from (file_cells (T.reading sources.old).stated.sizes 0)) result }
 {
     read_part(sources, from, window)?;
@@ -156,7 +156,7 @@ fn found_told<T: Sources, P: Progress>(
         FindsOn (T.reading sources.old).stated finder.now from next lines.new.items) }
     ensures next { IfOk result (λ next. from < next) }
     ensures fault { IfErr result IsUnread }
-    ensures reads { ReadsCells (T.reading sources.old) (T.reading sources.new)
+    ensures reads { ToolReadsCells (T.reading sources.old) (T.reading sources.new)
         (drop from (file_cells (T.reading sources.old).stated.sizes 0)) result }
 {
     let found = found_from(lines, finder, sources, from, window);

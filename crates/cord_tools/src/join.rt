@@ -9,8 +9,8 @@ ghost use Rattle.rope_node.specs.Denotes.{IsRope, rope_cells, rope_depth};
 ghost use Rattle.rope_node.specs.Extends.{Extends};
 ghost use Rattle.node_table.specs.Held.{table_of};
 ghost use Rattle.rebalance.specs.declared.fault.BalanceFault.TheVariants.{Node};
-ghost use Rattle.cord_tools.specs.Faults.{IsJoinFault, rope_fault};
-ghost use Rattle.cord_tools.specs.Files.{JoinsFiles, all_cells, cells_of};
+ghost use Rattle.cord_tools.specs.Faults.{IsJoinFault, tool_rope_fault};
+ghost use Rattle.cord_tools.specs.Files.{JoinsFiles, all_cells, cells_of_sources};
 
 use crate::fault::ToolFault;
 use crate::files::store_of;
@@ -34,17 +34,17 @@ fn join_range(store: &mut Store<Coded>, first: u32, count: u32) -> Result<Rope, 
     requires bytes { length store.old.pool.bytes ≤ MOST_MERGED * first }
     ensures is_rope { IfOk result (IsRope (table_of coded_byte store.new)) }
     ensures text { IfOk result (λ rope.
-        rope_cells (table_of coded_byte store.new) rope ≡ cells_of store.old.sources first count) }
+        rope_cells (table_of coded_byte store.new) rope ≡ cells_of_sources store.old.sources first count) }
     ensures depth { (levels : ℕ) → count ≤ 2 ^ levels
         → IfOk result (λ rope. rope_depth (table_of coded_byte store.new) rope ≤ levels) }
     ensures nodes { OnOk result (length store.new.nodes + 3 ≤ length store.old.nodes + 4 * count) }
     ensures bytes { OnOk result
         (length store.new.pool.bytes + MOST_MERGED
         ≤ length store.old.pool.bytes + MOST_MERGED * count) }
-    ensures short { OnOk result (length (cells_of store.old.sources first count) < TEXT_LIMIT) }
+    ensures short { OnOk result (length (cells_of_sources store.old.sources first count) < TEXT_LIMIT) }
     ensures too_long { IsErrOf result (Node NodeFault.TooLong)
-        → TEXT_LIMIT ≤ length (cells_of store.old.sources first count) }
-    ensures fault { IfErr result (λ e. IsJoinFault (rope_fault e)) }
+        → TEXT_LIMIT ≤ length (cells_of_sources store.old.sources first count) }
+    ensures fault { IfErr result (λ e. IsJoinFault (tool_rope_fault e)) }
     ensures kept { Extends (table_of coded_byte store.old) (table_of coded_byte store.new) }
     ensures sources { store.new.sources ≡ store.old.sources }
 {
@@ -73,7 +73,7 @@ fn join_sources(store: &mut Store<Coded>) -> Result<Rope, BalanceFault>
         (λ rope. rope_cells (table_of coded_byte store.new) rope ≡ all_cells store.old.sources) }
     ensures short { OnOk result (sum store.old.sources < TEXT_LIMIT) }
     ensures too_long { IsErrOf result (Node NodeFault.TooLong) → TEXT_LIMIT ≤ sum store.old.sources }
-    ensures fault { IfErr result (λ e. IsJoinFault (rope_fault e)) }
+    ensures fault { IfErr result (λ e. IsJoinFault (tool_rope_fault e)) }
     ensures sources { store.new.sources ≡ store.old.sources }
 {
     let count = store.source_count();

@@ -7,15 +7,15 @@ use Rattle.clap.specs.declared.error.kind.ErrorKind.{ErrorKind}
 use Rattle.clap.specs.declared.error.kind.ErrorKind.TheVariants.{DisplayVersion, OutOfMemory}
 use Rattle.cord_words.specs.declared.fault.WordsFault.{WordsFault}
 use Rattle.cord_words.specs.declared.fault.WordsFault.TheVariants.{Memory, Usage, Version}
-use Rattle.cord_words.specs.Refusals.{FailsAs, fault_by, fault_from}
+use Rattle.cord_words.specs.Refusals.{FailsAs, fault_from, fault_of_kind}
 
 pub memory_from : (e : Error) → kind_of e ≡ OutOfMemory → fault_from e ≡ Memory
-memory_from e out = ap (λ k. fault_by k e) out
+memory_from e out = ap (λ k. fault_of_kind k e) out
 
 pub fails_from : (kinds : Kinds) (e : Error) → HasKind kinds e → FailsAs kinds (fault_from e)
 fails_from kinds e has = go (kind_of e) refl has
   where
-    go : (k : ErrorKind) → kind_of e ≡ k → (k ≡ OutOfMemory) ⊎ IsAmong k kinds → FailsAs kinds (fault_by k e)
+    go : (k : ErrorKind) → kind_of e ≡ k → (k ≡ OutOfMemory) ⊎ IsAmong k kinds → FailsAs kinds (fault_of_kind k e)
     go OutOfMemory at h = tt
     go _ at (inl h) = absurd cc
     go DisplayVersion at (inr h) = (at, subst (λ x. IsAmong x kinds) (sym at) h)

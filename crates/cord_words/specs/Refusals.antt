@@ -7,14 +7,14 @@ use Rattle.clap.specs.declared.error.kind.ErrorKind.TheVariants.{DisplayVersion,
 use Rattle.cord_words.specs.declared.fault.WordsFault.{WordsFault}
 use Rattle.cord_words.specs.declared.fault.WordsFault.TheVariants.{Usage, Version, Memory}
 
-abbrev pub fault_by : ErrorKind → Error → WordsFault
-fault_by OutOfMemory e = Memory
-fault_by DisplayVersion e = Version e
-fault_by _ e = Usage e
+abbrev pub fault_of_kind : ErrorKind → Error → WordsFault
+fault_of_kind OutOfMemory e = Memory
+fault_of_kind DisplayVersion e = Version e
+fault_of_kind _ e = Usage e
 
 -- what an error of `clap` comes to
 abbrev pub fault_from : Error → WordsFault
-fault_from e = fault_by (kind_of e) e
+fault_from e = fault_of_kind (kind_of e) e
 
 -- memory ran out, or the error for the user has one of these kinds; one that has the version is told apart
 abbrev pub FailsAs : Kinds → WordsFault → Type 0

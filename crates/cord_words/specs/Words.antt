@@ -162,16 +162,16 @@ cordkit_app = with_tool (with_tool (with_tool (with_tool (with_tool (with_tool (
 -- ---- what was given
 
 -- the words of a command line as texts
-abbrev pub line_of : {Z : Type 0} → List (String Z) → List Text
-line_of = map string_bytes
+abbrev pub command_line_texts : {Z : Type 0} → List (String Z) → List Text
+command_line_texts = map string_bytes
 
 -- the text of an argument, and the empty text where it has none
-abbrev pub text_of : List Row → Text → Text
-text_of rows id = unwrap_or (first_of id rows) []
+abbrev pub argument_text : List Row → Text → Text
+argument_text rows id = unwrap_or (first_of id rows) []
 
 -- the texts of an argument in their order, and none where it was not given
-abbrev pub texts_of : List Row → Text → List Text
-texts_of rows id = unwrap_or (all_of id rows) []
+abbrev pub argument_texts : List Row → Text → List Text
+argument_texts rows id = unwrap_or (all_of id rows) []
 
 -- the flag was given
 abbrev pub is_set : List Row → Text → Bool
@@ -209,55 +209,56 @@ abbrev pub Holds : Option (Text × List Row) → Action → Type 0
 Holds given CheckInput = given ≡ None
 Holds given (Check at_most image sources) = Gives given (codes "check") (λ rows.
     MayReadAs (first_of (codes "LOOKS") rows) at_most
-    × (image.now ≡ text_of rows (codes "IMAGE"))
-    × (map (λ s. s.now) sources.items ≡ texts_of rows (codes "SOURCE")))
+    × (image.now ≡ argument_text rows (codes "IMAGE"))
+    × (map (λ s. s.now) sources.items ≡ argument_texts rows (codes "SOURCE")))
 Holds given (Show at_most image revision sources) = Gives given (codes "show") (λ rows.
     MayReadAs (first_of (codes "LOOKS") rows) at_most
-    × (image.now ≡ text_of rows (codes "IMAGE")) × ReadsAs (text_of rows (codes "REV")) revision
-    × (map (λ s. s.now) sources.items ≡ texts_of rows (codes "SOURCE")))
+    × (image.now ≡ argument_text rows (codes "IMAGE")) × ReadsAs (argument_text rows (codes "REV")) revision
+    × (map (λ s. s.now) sources.items ≡ argument_texts rows (codes "SOURCE")))
 Holds given (Cut start count file) = Gives given (codes "cut") (λ rows.
-    ReadsAs (text_of rows (codes "START")) start × ReadsAs (text_of rows (codes "COUNT")) count
-    × (file.now ≡ text_of rows (codes "FILE")))
+    ReadsAs (argument_text rows (codes "START")) start × ReadsAs (argument_text rows (codes "COUNT")) count
+    × (file.now ≡ argument_text rows (codes "FILE")))
 Holds given (Join files) = Gives given (codes "join") (λ rows.
-    map (λ s. s.now) files.items ≡ texts_of rows (codes "FILE"))
+    map (λ s. s.now) files.items ≡ argument_texts rows (codes "FILE"))
 Holds given (Find all start pattern file) = Gives given (codes "find") (λ rows.
-    (all ≡ is_set rows (codes "all")) × ReadsAs (text_of rows (codes "START")) start
-    × (pattern.now ≡ text_of rows (codes "PATTERN")) × (file.now ≡ text_of rows (codes "FILE")))
+    (all ≡ is_set rows (codes "all")) × ReadsAs (argument_text rows (codes "START")) start
+    × (pattern.now ≡ argument_text rows (codes "PATTERN")) × (file.now ≡ argument_text rows (codes "FILE")))
 Holds given (Cmp first second) = Gives given (codes "cmp") (λ rows.
-    (first.now ≡ text_of rows (codes "FIRST")) × (second.now ≡ text_of rows (codes "SECOND")))
+    (first.now ≡ argument_text rows (codes "FIRST")) × (second.now ≡ argument_text rows (codes "SECOND")))
 Holds given (Edit onto keys session no_clobber image file) = Gives given (codes "edit") (λ rows.
     (is_set rows (codes "discard") ≡ false)
     × (option_map (λ o. o.now) onto ≡ first_of (codes "OLD") rows)
     × (option_map (λ k. k.now) keys ≡ first_of (codes "KEYS") rows)
     × (option_map (λ s. s.now) session ≡ first_of (codes "SESSION") rows)
     × (no_clobber ≡ is_set rows (codes "no-clobber"))
-    × (image.now ≡ text_of rows (codes "IMAGE"))
+    × (image.now ≡ argument_text rows (codes "IMAGE"))
     × (option_map (λ f. f.now) file ≡ first_of (codes "FILE") rows))
 Holds given (Discard keys) = Gives given (codes "edit") (λ rows.
-    (is_set rows (codes "discard") ≡ true) × (names_session rows ≡ false) × (keys.now ≡ text_of rows (codes "IMAGE")))
+    (is_set rows (codes "discard") ≡ true) × (names_session rows ≡ false)
+    × (keys.now ≡ argument_text rows (codes "IMAGE")))
 Holds given (Migrate at_most image sources) = Gives given (codes "migrate") (λ rows.
     MayReadAs (first_of (codes "LOOKS") rows) at_most
-    × (image.now ≡ text_of rows (codes "IMAGE"))
-    × (map (λ s. s.now) sources.items ≡ texts_of rows (codes "SOURCE")))
+    × (image.now ≡ argument_text rows (codes "IMAGE"))
+    × (map (λ s. s.now) sources.items ≡ argument_texts rows (codes "SOURCE")))
 Holds given (Log at_most brief image sources) = Gives given (codes "log") (λ rows.
     MayReadAs (first_of (codes "LOOKS") rows) at_most × (brief ≡ is_set rows (codes "brief"))
-    × (image.now ≡ text_of rows (codes "IMAGE"))
-    × (map (λ s. s.now) sources.items ≡ texts_of rows (codes "SOURCE")))
+    × (image.now ≡ argument_text rows (codes "IMAGE"))
+    × (map (λ s. s.now) sources.items ≡ argument_texts rows (codes "SOURCE")))
 Holds given (Blame at_most start count image revision sources) = Gives given (codes "blame") (λ rows.
     MayReadAs (first_of (codes "LOOKS") rows) at_most
     × MayReadAs (first_of (codes "START") rows) start × MayReadAs (first_of (codes "COUNT") rows) count
-    × (image.now ≡ text_of rows (codes "IMAGE")) × ReadsAs (text_of rows (codes "REV")) revision
-    × (map (λ s. s.now) sources.items ≡ texts_of rows (codes "SOURCE")))
+    × (image.now ≡ argument_text rows (codes "IMAGE")) × ReadsAs (argument_text rows (codes "REV")) revision
+    × (map (λ s. s.now) sources.items ≡ argument_texts rows (codes "SOURCE")))
 Holds given (Apply onto at_most script sources) = Gives given (codes "apply") (λ rows.
     (limits_a_check rows ≡ true)
     × (option_map (λ i. i.now) onto ≡ first_of (codes "IMAGE") rows)
     × MayReadAs (first_of (codes "LOOKS") rows) at_most
-    × (script.now ≡ text_of rows (codes "SCRIPT"))
-    × (map (λ s. s.now) sources.items ≡ texts_of rows (codes "SOURCE")))
+    × (script.now ≡ argument_text rows (codes "SCRIPT"))
+    × (map (λ s. s.now) sources.items ≡ argument_texts rows (codes "SOURCE")))
 Holds given (Commit at_most image file sources) = Gives given (codes "commit") (λ rows.
     MayReadAs (first_of (codes "LOOKS") rows) at_most
-    × (image.now ≡ text_of rows (codes "IMAGE")) × (file.now ≡ text_of rows (codes "FILE"))
-    × (map (λ s. s.now) sources.items ≡ texts_of rows (codes "SOURCE")))
+    × (image.now ≡ argument_text rows (codes "IMAGE")) × (file.now ≡ argument_text rows (codes "FILE"))
+    × (map (λ s. s.now) sources.items ≡ argument_texts rows (codes "SOURCE")))
 
 -- the matches of the program's own arguments
 abbrev pub own_rows : List Text → List Row
@@ -295,15 +296,15 @@ WhereGiven given name P = (rows : List Row) → given ≡ Some (name, rows) → 
 pub record NumbersRead (given : Option (Text × List Row)) : Type 0 where
   pub check : WhereGiven given (codes "check") (λ rows. IfSome (first_of (codes "LOOKS") rows) IsNumber)
   pub show : WhereGiven given (codes "show") (λ rows.
-      IfSome (first_of (codes "LOOKS") rows) IsNumber × IsNumber (text_of rows (codes "REV")))
+      IfSome (first_of (codes "LOOKS") rows) IsNumber × IsNumber (argument_text rows (codes "REV")))
   pub cut : WhereGiven given (codes "cut") (λ rows.
-      IsNumber (text_of rows (codes "START")) × IsNumber (text_of rows (codes "COUNT")))
-  pub find : WhereGiven given (codes "find") (λ rows. IsNumber (text_of rows (codes "START")))
+      IsNumber (argument_text rows (codes "START")) × IsNumber (argument_text rows (codes "COUNT")))
+  pub find : WhereGiven given (codes "find") (λ rows. IsNumber (argument_text rows (codes "START")))
   pub migrate : WhereGiven given (codes "migrate") (λ rows. IfSome (first_of (codes "LOOKS") rows) IsNumber)
   pub log : WhereGiven given (codes "log") (λ rows. IfSome (first_of (codes "LOOKS") rows) IsNumber)
   pub blame : WhereGiven given (codes "blame") (λ rows.
       IfSome (first_of (codes "LOOKS") rows) IsNumber × IfSome (first_of (codes "START") rows) IsNumber
-      × IfSome (first_of (codes "COUNT") rows) IsNumber × IsNumber (text_of rows (codes "REV")))
+      × IfSome (first_of (codes "COUNT") rows) IsNumber × IsNumber (argument_text rows (codes "REV")))
   pub apply : WhereGiven given (codes "apply") (λ rows. IfSome (first_of (codes "LOOKS") rows) IsNumber)
   pub commit : WhereGiven given (codes "commit") (λ rows. IfSome (first_of (codes "LOOKS") rows) IsNumber)
 

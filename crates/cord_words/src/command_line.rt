@@ -6,7 +6,7 @@ ghost use Rattle.clap.specs.Words.{subcommand_rows_of, takes, with_subcommand};
 ghost use Rattle.clap.specs.declared.builder.command.Command.TheViews.{out-Command as fields_of};
 ghost use Rattle.clap.specs.declared.error.kind.ErrorKind.TheVariants.{ValueValidation};
 ghost use Rattle.cord_words.specs.Words.{Asks, DiscardsAlone, Holds, IsKnown, LimitsACheck, NumbersRead, cordkit_app, is_said};
-ghost use Rattle.cord_words.specs.Words.{line_of, own_kinds, own_rows, refusal_kinds, titled_app, with_tool};
+ghost use Rattle.cord_words.specs.Words.{command_line_texts, own_kinds, own_rows, refusal_kinds, titled_app, with_tool};
 ghost use Rattle.cord_words.specs.Refusals.{FailsAs};
 
 use crate::action::Action;
@@ -31,17 +31,17 @@ const VERSION: &str = "1.0.0 (rattle-kit-13f logic dac8208d650f15bf)";
 /// stands beside a word for a session, or `--at-most` of `apply` without `--onto`,
 /// with the text for the user. `Version`, with the text that was asked for. `Memory`.
 pub fn words<'a>(alloc: Global, words: &'a [String]) -> Result<Request<'a>, WordsFault>
-    ensures asks { IfOk result (Asks (line_of words.entry.now)) }
+    ensures asks { IfOk result (Asks (command_line_texts words.entry.now)) }
 
     // A request is read only of words in which `clap` finds no fault, and where it takes them, each number reads,
     // `--discard` stands alone and `--at-most` beside an image, nothing but memory is in the way.
-    ensures faultless { OnOk result (fault_of cordkit_app (line_of words.entry.now) ≡ []) }
-    ensures only_memory { IfErr result (λ f. takes cordkit_app (line_of words.entry.now) ≡ true
-        → NumbersRead (subcommand_of cordkit_app (line_of words.entry.now))
-        → DiscardsAlone (subcommand_of cordkit_app (line_of words.entry.now))
-        → LimitsACheck (subcommand_of cordkit_app (line_of words.entry.now))
+    ensures faultless { OnOk result (fault_of cordkit_app (command_line_texts words.entry.now) ≡ []) }
+    ensures only_memory { IfErr result (λ f. takes cordkit_app (command_line_texts words.entry.now) ≡ true
+        → NumbersRead (subcommand_of cordkit_app (command_line_texts words.entry.now))
+        → DiscardsAlone (subcommand_of cordkit_app (command_line_texts words.entry.now))
+        → LimitsACheck (subcommand_of cordkit_app (command_line_texts words.entry.now))
         → f ≡ WordsFault.Memory) }
-    ensures kinds { IfErr result (FailsAs (refusal_kinds (line_of words.entry.now))) }
+    ensures kinds { IfErr result (FailsAs (refusal_kinds (command_line_texts words.entry.now))) }
 {
     let mut command = cordkit(alloc)?;
     let matches = matches_of(&mut command, words)?;
@@ -59,13 +59,13 @@ fn matches_of<'a>(
     words: &'a [String],
 ) -> Result<ArgMatches<'a>, WordsFault>
     requires { app_of command.old ≡ cordkit_app }
-    ensures own { IfOk result (λ m. rows_of (found_of m) ≡ own_rows (line_of words.entry.now)) }
+    ensures own { IfOk result (λ m. rows_of (found_of m) ≡ own_rows (command_line_texts words.entry.now)) }
     ensures rows { IfOk result (λ m.
-        subcommand_rows_of m ≡ subcommand_of cordkit_app (line_of words.entry.now)) }
-    ensures faultless { OnOk result (fault_of cordkit_app (line_of words.entry.now) ≡ []) }
+        subcommand_rows_of m ≡ subcommand_of cordkit_app (command_line_texts words.entry.now)) }
+    ensures faultless { OnOk result (fault_of cordkit_app (command_line_texts words.entry.now) ≡ []) }
     ensures only_memory { IfErr result (λ f.
-        takes cordkit_app (line_of words.entry.now) ≡ true → f ≡ WordsFault.Memory) }
-    ensures kinds { IfErr result (FailsAs (fault_of cordkit_app (line_of words.entry.now))) }
+        takes cordkit_app (command_line_texts words.entry.now) ≡ true → f ≡ WordsFault.Memory) }
+    ensures kinds { IfErr result (FailsAs (fault_of cordkit_app (command_line_texts words.entry.now))) }
 {
     Ok(command.try_get_matches_from_mut(words)?)
 }

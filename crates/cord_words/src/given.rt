@@ -4,7 +4,7 @@ ghost use Rattle.std.specs.Prelude.{◌≡◌, ◌∷◌, [], IfOk, IfErr, IfSom
 ghost use Rattle.std.specs.Option.{option_map};
 ghost use Rattle.clap.specs.Words.{first_of, found_of, rows_of};
 ghost use Rattle.clap.specs.declared.error.kind.ErrorKind.TheVariants.{ValueValidation};
-ghost use Rattle.cord_words.specs.Words.{IsNumber, MayReadAs, ReadsAs, is_set, text_of, texts_of};
+ghost use Rattle.cord_words.specs.Words.{IsNumber, MayReadAs, ReadsAs, argument_text, argument_texts, is_set};
 ghost use Rattle.cord_words.specs.Refusals.{FailsAs};
 
 use crate::fault::WordsFault;
@@ -14,7 +14,7 @@ use std::alloc::{AllocError, Global};
 
 /// The text of an argument, and the empty text where it has none.
 pub fn text<'a>(given: &ArgMatches<'a>, id: &str) -> &'a str
-    ensures { result.now ≡ text_of (rows_of (found_of given.now)) id.now }
+    ensures { result.now ≡ argument_text (rows_of (found_of given.now)) id.now }
 {
     given.get_str(id).unwrap_or("")
 }
@@ -53,7 +53,7 @@ pub fn texts<'a>(
     id: &str,
 ) -> Result<Vec<&'a str>, AllocError>
     ensures { IfOk result (λ texts.
-        map (λ text. text.now) texts.items ≡ texts_of (rows_of (found_of given.now)) id.now) }
+        map (λ text. text.now) texts.items ≡ argument_texts (rows_of (found_of given.now)) id.now) }
 {
     Vec::from_slice(alloc, given.get_strs(id).unwrap_or(&[]))
 }
@@ -81,9 +81,9 @@ pub fn number(
     given: &ArgMatches<'_>,
     id: &str,
 ) -> Result<u64, WordsFault>
-    ensures reads { IfOk result (ReadsAs (text_of (rows_of (found_of given.now)) id.now)) }
+    ensures reads { IfOk result (ReadsAs (argument_text (rows_of (found_of given.now)) id.now)) }
     ensures only_memory { IfErr result (λ f.
-        IsNumber (text_of (rows_of (found_of given.now)) id.now) → f ≡ WordsFault.Memory) }
+        IsNumber (argument_text (rows_of (found_of given.now)) id.now) → f ≡ WordsFault.Memory) }
     ensures kind { IfErr result (FailsAs (ValueValidation ∷ [])) }
 {
     parsed(alloc, command, id, text(given, id))

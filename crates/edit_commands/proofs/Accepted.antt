@@ -15,7 +15,7 @@ use Rattle.rope_node.specs.Denotes.{Cell, Byte, Place, rope_cells, rope_len, IsR
 use Rattle.rope_node.proofs.Ropes.{rope_length, rope_short, rope_cells_kept}
 use Rattle.node_table.specs.declared.fault.NodeFault.TheVariants as NodeFault
 use Rattle.node_table.specs.Held.{Held, table_of}
-use Rattle.rebalance.specs.AnyForms.{StandsAt}
+use Rattle.rebalance.specs.AnyForms.{StandInPool}
 use Rattle.rebalance.proofs.AnyCalls.{IsRight}
 use Rattle.command_parts.specs.declared.part.Part.{Part}
 use Rattle.command_parts.specs.Commands.{can_splice, result_of}
@@ -30,9 +30,9 @@ use Rattle.edit_commands.specs.declared.fault.EditFault.{EditFault}
 use Rattle.edit_commands.specs.declared.fault.EditFault.TheVariants.{NoRevision, NoSource, Range, EmptyText, TooManyRevisions, Node, SpliceCount, TooManySplices}
 use Rattle.edit_commands.specs.declared.revision.Revision.{Revision}
 use Rattle.edit_commands.specs.Building.{GoesOn, StandEach, command_with, placed_changes}
-use Rattle.edit_commands.specs.Refusals.{TakesAll, bytes_of, changes_of, changes_nothing, ends_of, names_no_revision, is_wrong_count, names_no_source, are_misplaced, is_out_of_range, is_empty_text, is_empty, is_full, is_full_of_splices, is_long_text, is_too_long, result_len, first_of, refusal_of}
+use Rattle.edit_commands.specs.Refusals.{TakesAll, bytes_of, changes_of, changes_nothing, ends_of, names_no_revision, is_wrong_count, names_no_source, are_misplaced, is_out_of_range, is_empty_text, is_empty, is_full, is_full_of_splices, is_long_text, is_too_long, result_len, first_that_holds, refusal_of}
 use Rattle.edit_commands.specs.Session.{SessionValue, length_at, roots_of}
-use Rattle.edit_commands.specs.Terms.{changed_terms, handed, next_place, terms_of, terms_cells, AreTerms, FillsBytes, IsCommandInRange}
+use Rattle.edit_commands.specs.Terms.{changed_terms, handed, next_place, command_terms, terms_cells, AreTerms, FillsBytes, IsCommandInRange}
 use Rattle.edit_commands.proofs.BuildSteps.{stand_inside}
 use Rattle.edit_commands.proofs.HandedChanges.{are_fine, can_follow, can_splice_changes, changed_are, changed_length, changed_pieces, follow_next, not_wrong, placed_sums}
 
@@ -42,7 +42,7 @@ or_false : (a b : Bool) → (a || b) ≡ false → (a ≡ false) × (b ≡ false
 or_false true b none = absurd cc
 or_false false b none = (refl, none)
 
-none_of : (b : Bool) (f : EditFault) (rest : List (Bool × EditFault)) → first_of ((b, f) ∷ rest) ≡ None → (b ≡ false) × (first_of rest ≡ None)
+none_of : (b : Bool) (f : EditFault) (rest : List (Bool × EditFault)) → first_that_holds ((b, f) ∷ rest) ≡ None → (b ≡ false) × (first_that_holds rest ≡ None)
 none_of true f rest none = absurd cc
 none_of false f rest none = (refl, none)
 
@@ -219,7 +219,7 @@ three_same : {a a' b b' c c' : List Cell} → a ≡ a' → b ≡ b' → c ≡ c'
 three_same {a} {a'} {b} {b'} {c} x y z = ap (λ cs. three cs b c) x ∙ ap (λ cs. a' ++ cs) (two_same y z)
 
 module _ (t : Table) (s : IsSound t) (h : HasTrueRecords t) (roots : List (Option NodeId)) (ropes : AreRopes t roots) where
-  pub terms_are : (command : Command) → IsCommandInRange t roots command → AreTerms t (terms_of t roots command)
+  pub terms_are : (command : Command) → IsCommandInRange t roots command → AreTerms t (command_terms t roots command)
   terms_are New is = tt
   terms_are (Open k) is = (is, tt)
   terms_are (Insert r p bytes) is = (ropes r is.0, (is.3, (ropes r is.0, tt)))
@@ -242,7 +242,7 @@ module _ (t : Table) (s : IsSound t) (h : HasTrueRecords t) (roots : List (Optio
       let rope = root_at roots r in
       omega (arith, few, le, inside, short, span_len rope 0 p, span_len rope q (len_of t roots r - q), three_len (take p (drop 0 (rope_cells t rope))) middle (take (len_of t roots r - q) (drop q (rope_cells t rope))))
 
-  pub terms_short : (command : Command) → IsCommandInRange t roots command → length (terms_cells t (terms_of t roots command)) < TEXT_LIMIT
+  pub terms_short : (command : Command) → IsCommandInRange t roots command → length (terms_cells t (command_terms t roots command)) < TEXT_LIMIT
   terms_short New is = omega arith
   terms_short (Open k) is = omega (arith, s.sources k, one_len (map (Place k) (range_with_len 0 (get_or t.sources k 0))), length-map (range_with_len 0 (get_or t.sources k 0)) (Place k), length-range_with_len 0 (get_or t.sources k 0))
   terms_short (Insert r p bytes) is = around_short r p p (length bytes.now) (map Byte bytes.now) is.0 (omega (arith, length-map bytes.now Byte)) (omega arith) is.1 (omega (arith, is.4))
@@ -281,17 +281,17 @@ module _ (old new : Held Coded) (k : IsRight Coded coded_byte old) (k' : IsRight
   len_same r lt = rope_len_kept (table_of coded_byte old) (table_of coded_byte new) k.sound k.true_records x.kept (root_at roots r) (ropes r lt)
 
   -- bytes handed in alone stand at the first place
-  one_stands : (bytes : List ℕ) → 1 ≤ length bytes → StandEach old.pool.bytes new.pool.bytes (bytes ∷ []) places → StandsAt new.pool.bytes (get_or places 0 0) bytes
+  one_stands : (bytes : List ℕ) → 1 ≤ length bytes → StandEach old.pool.bytes new.pool.bytes (bytes ∷ []) places → StandInPool new.pool.bytes (get_or places 0 0) bytes
   one_stands bytes some stand = one_at places stand
     where
-      one_at : (ps : List ℕ) → StandEach old.pool.bytes new.pool.bytes (bytes ∷ []) ps → StandsAt new.pool.bytes (get_or ps 0 0) bytes
+      one_at : (ps : List ℕ) → StandEach old.pool.bytes new.pool.bytes (bytes ∷ []) ps → StandInPool new.pool.bytes (get_or ps 0 0) bytes
       one_at [] stand = absurd stand
       one_at (a ∷ ps) stand = (stand.0.some some).1
 
   one_inside : (bytes : List ℕ) → 1 ≤ length bytes → StandEach old.pool.bytes new.pool.bytes (bytes ∷ []) places → get_or places 0 0 + length bytes ≤ length new.pool.bytes
   one_inside bytes some stand = stand_inside new.pool.bytes (get_or places 0 0) bytes some (one_stands bytes some stand)
 
-  pub edit_in_range : (command : Command) → IsCommandInRange (table_of coded_byte old) roots command → FillsBytes command → StandEach old.pool.bytes new.pool.bytes (handed (terms_of (table_of coded_byte old) roots command)) places → IsInRange (table_of coded_byte new) roots (command_with places command)
+  pub edit_in_range : (command : Command) → IsCommandInRange (table_of coded_byte old) roots command → FillsBytes command → StandEach old.pool.bytes new.pool.bytes (handed (command_terms (table_of coded_byte old) roots command)) places → IsInRange (table_of coded_byte new) roots (command_with places command)
   edit_in_range New is fills stand = tt
   edit_in_range (Open s) is fills stand = omega (arith, is, ap length x.sources)
   edit_in_range (Insert r p bytes) is fills stand =
@@ -332,13 +332,13 @@ module _ (old new : Held Coded) (k : IsRight Coded coded_byte old) (k' : IsRight
       sym (take_all (rope_len (table_of coded_byte new) rope) (rope_cells (table_of coded_byte old) rope) (omega (arith, len, len_same r lt)))
       ∙ old_part rope 0 (rope_len (table_of coded_byte new) rope) (ropes r lt)
 
-  pool_part : (bytes : List ℕ) (place : ℕ) → StandsAt new.pool.bytes place bytes → map Byte bytes ≡ part_cells (table_of coded_byte new) (Part.Pool place (length bytes))
+  pool_part : (bytes : List ℕ) (place : ℕ) → StandInPool new.pool.bytes place bytes → map Byte bytes ≡ part_cells (table_of coded_byte new) (Part.Pool place (length bytes))
   pool_part bytes place stands =
       let many : (place + length bytes) - place ≡ length bytes = omega arith in
       ap (map Byte) (sym stands ∙ ap (λ (n : ℕ). take n (drop place new.pool.bytes)) many)
 
-  terms_are_parts : (command : Command) → IsCommandInRange (table_of coded_byte old) roots command → StandEach old.pool.bytes new.pool.bytes (handed (terms_of (table_of coded_byte old) roots command)) places
-      → terms_cells (table_of coded_byte old) (terms_of (table_of coded_byte old) roots command) ≡ parts_cells (table_of coded_byte new) (Parts.terms_of (table_of coded_byte new) roots (command_with places command))
+  terms_are_parts : (command : Command) → IsCommandInRange (table_of coded_byte old) roots command → StandEach old.pool.bytes new.pool.bytes (handed (command_terms (table_of coded_byte old) roots command)) places
+      → terms_cells (table_of coded_byte old) (command_terms (table_of coded_byte old) roots command) ≡ parts_cells (table_of coded_byte new) (Parts.terms_of (table_of coded_byte new) roots (command_with places command))
   terms_are_parts New is stand = refl
   terms_are_parts (Open s) is stand = ap (λ (ns : List ℕ). one (map (Place s) (range_with_len 0 (get_or ns s 0)))) (sym x.sources)
   terms_are_parts (Insert r p bytes) is stand = three_same (old_part (root_at roots r) 0 p (ropes r is.0)) (pool_part bytes.now (get_or places 0 0) (one_stands bytes.now is.2 stand)) (rest_part r p is.0)
@@ -362,8 +362,8 @@ module _ (old new : Held Coded) (k : IsRight Coded coded_byte old) (k' : IsRight
       ∙ ap (λ (n : ℕ). parts_cells u (pieces rope n 0 (placed_changes changes.now places))) (sym (len_same r is.0))
 
   -- the terms joined are what the recorded command gives of the earlier texts
-  pub terms_give : (command : Command) → IsCommandInRange (table_of coded_byte old) roots command → FillsBytes command → StandEach old.pool.bytes new.pool.bytes (handed (terms_of (table_of coded_byte old) roots command)) places
-      → result_of (givens_of (table_of coded_byte new)) (map (rope_cells (table_of coded_byte old)) roots) (command_with places command) ≡ Some (terms_cells (table_of coded_byte old) (terms_of (table_of coded_byte old) roots command))
+  pub terms_give : (command : Command) → IsCommandInRange (table_of coded_byte old) roots command → FillsBytes command → StandEach old.pool.bytes new.pool.bytes (handed (command_terms (table_of coded_byte old) roots command)) places
+      → result_of (givens_of (table_of coded_byte new)) (map (rope_cells (table_of coded_byte old)) roots) (command_with places command) ≡ Some (terms_cells (table_of coded_byte old) (command_terms (table_of coded_byte old) roots command))
   terms_give command is fills stand =
       let t = table_of coded_byte old in
       let u = table_of coded_byte new in

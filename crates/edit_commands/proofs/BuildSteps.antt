@@ -15,12 +15,12 @@ use Rattle.node_table.specs.declared.fault.NodeFault.{NodeFault}
 use Rattle.node_table.specs.declared.fault.NodeFault.TheVariants.{TooLong, TooDeep, TableFull, PoolFull, BadSpan, TooManySources, Memory}
 use Rattle.node_table.specs.Held.{Held, table_of}
 use Rattle.rope_store.specs.Additions.{Addition, function_added, source_added}
-use Rattle.rope_store.specs.Appending.{IsTooLong}
+use Rattle.rope_store.specs.Appending.{AppendsTooLong}
 use Rattle.rope_store.specs.Calls.{Adds, MakesFunction, MakesSource}
 use Rattle.rope_store.specs.Refusals.{IsTooDeep}
 use Rattle.rebalance.specs.declared.fault.BalanceFault.{BalanceFault}
 use Rattle.rebalance.specs.declared.fault.BalanceFault.TheVariants.{TooManyPieces, Node}
-use Rattle.rebalance.specs.AnyForms.{AnyForm, AppendsAny, CatsAny, IsPlaced, PartsAny, StandsAt, lifted, next_place}
+use Rattle.rebalance.specs.AnyForms.{AnyForm, AppendsAny, CatsAny, IsPlaced, PartsAny, StandInPool, lifted, place_in_pool}
 use Rattle.rebalance.specs.Balancing.{Rebalances}
 use Rattle.rebalance.specs.Steps.{Grows}
 use Rattle.rebalance.proofs.AnyCalls.{IsRight}
@@ -71,7 +71,7 @@ pub bytes_step : {start old new : Held Coded} {rope : Option NodeId} {cells : Li
     → AppendsAny coded_byte old rope bytes result new → Builds start (cells ++ map Byte bytes) result new
 bytes_step {old = old} {rope = rope} bytes result x k has few short appends =
     let t = table_of coded_byte old in
-    let not_long : ¬ IsTooLong t rope bytes = λ long. ⊎_elim (λ (many : BLOCK_SIZE < length bytes). omega (arith, many, few)) (λ (far : TEXT_LIMIT ≤ rope_len t rope + length bytes). omega (arith, far, short, text_len k has)) long in
+    let not_long : ¬ AppendsTooLong t rope bytes = λ long. ⊎_elim (λ (many : BLOCK_SIZE < length bytes). omega (arith, many, few)) (λ (far : TEXT_LIMIT ≤ rope_len t rope + length bytes). omega (arith, far, short, text_len k has)) long in
     builds_later result x (any_step result not_long appends.any) (ap (λ cs. cs ++ map Byte bytes) has.text)
 
 -- a rope balanced
@@ -140,21 +140,21 @@ chars_built {old} c n plain short makes =
 -- ---- bytes in the pool
 
 -- bytes that stand in a pool lie inside it
-pub stand_inside : (pool : List ℕ) (place : ℕ) (bytes : List ℕ) → 1 ≤ length bytes → StandsAt pool place bytes → place + length bytes ≤ length pool
+pub stand_inside : (pool : List ℕ) (place : ℕ) (bytes : List ℕ) → 1 ≤ length bytes → StandInPool pool place bytes → place + length bytes ≤ length pool
 stand_inside pool place bytes some stands =
     let many : (place + length bytes) - place ≡ length bytes = omega arith in
     let len : length (slice_range pool place (place + length bytes)) ≡ length bytes = ap length stands in
     omega (arith, some, len, many, length-take ((place + length bytes) - place) (drop place pool), length-drop place pool)
 
 -- and still do where the table goes on
-pub stands_later : {a b : Held Coded} (place : ℕ) (bytes : List ℕ) → 1 ≤ length bytes → GoesOn a b → StandsAt a.pool.bytes place bytes → StandsAt b.pool.bytes place bytes
+pub stands_later : {a b : Held Coded} (place : ℕ) (bytes : List ℕ) → 1 ≤ length bytes → GoesOn a b → StandInPool a.pool.bytes place bytes → StandInPool b.pool.bytes place bytes
 stands_later {a} {b} place bytes some x stands = x.kept.pool place (length bytes) (stand_inside a.pool.bytes place bytes some stands) ∙ stands
 
-put_place : (pool bytes : List ℕ) → 1 ≤ length bytes → next_place pool bytes ≡ length pool
+put_place : (pool bytes : List ℕ) → 1 ≤ length bytes → place_in_pool pool bytes ≡ length pool
 put_place pool [] some = absurd (omega (arith, some))
 put_place pool (b ∷ bs) some = refl
 
-pub stand_new : {old mid end new : Held Coded} (front text : Option NodeId) (bytes : List ℕ) (place : ℕ) → 1 ≤ length bytes → GoesOn old mid → IsPlaced coded_byte mid front bytes (text, place) end → GoesOn end new → (length old.pool.bytes ≤ place) × StandsAt new.pool.bytes place bytes
+pub stand_new : {old mid end new : Held Coded} (front text : Option NodeId) (bytes : List ℕ) (place : ℕ) → 1 ≤ length bytes → GoesOn old mid → IsPlaced coded_byte mid front bytes (text, place) end → GoesOn end new → (length old.pool.bytes ≤ place) × StandInPool new.pool.bytes place bytes
 stand_new front text bytes place some x placed y =
     let put = placed.put in
     (omega (arith, x.kept.more_pool, put.kept.more_pool, put.place, put_place put.before.pool.bytes bytes some), stands_later place bytes some y put.stands)

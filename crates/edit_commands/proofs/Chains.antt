@@ -15,8 +15,8 @@ use Rattle.rebalance.specs.AnyForms.{IsPlaced, lifted}
 use Rattle.rebalance.proofs.AnyCalls.{IsRight}
 use Rattle.edit_commands.specs.declared.term.Piece.{Piece}
 use Rattle.edit_commands.specs.declared.term.Piece.TheVariants.{Whole, Span, Balanced, Source, Chars}
-use Rattle.edit_commands.specs.Building.{GoesOn, Builds, IsPut, StandEach}
-use Rattle.edit_commands.specs.Terms.{Term, Taken, Handed, piece_cells, term_cells, terms_cells, handed, rope_alone, with_place, so_far, IsThere, IsTerm, AreTerms, Takes, GoesBehind, PutsTerm, IsRightStore, Chain, done, next, refused}
+use Rattle.edit_commands.specs.Building.{GoesOn, Builds, ArePutAt, StandEach}
+use Rattle.edit_commands.specs.Terms.{Term, Taken, Handed, piece_cells, term_cells, terms_cells, handed, rope_alone, with_place, so_far, IsThere, IsTerm, AreTerms, MakesPiece, GoesBehind, PutsTerm, IsRightStore, Chain, done, next, refused}
 use Rattle.edit_commands.proofs.GoingOn.{HasText, builds_later, built_text, goes_on_itself, goes_on_through, own_text, refused_for, text_later}
 use Rattle.edit_commands.proofs.BuildSteps.{IsMade, balance_step, both_step, bytes_step, chars_built, grows_on, leaf_made, part_step, source_built, stand_new}
 
@@ -35,7 +35,7 @@ told_builds {old} {new} {cells} is step = subst (λ (r : Result (Option NodeId) 
 -- ---- one term
 
 -- the rope of a piece of the first table, made on one that went on from it
-takes_builds : {start old new : Held Coded} (piece : Piece) (result : Result (Option NodeId) BalanceFault) → IsRight Coded coded_byte start → GoesOn start old → IsThere (table_of coded_byte start) piece → length (piece_cells (table_of coded_byte start) piece) < TEXT_LIMIT → Takes old piece result new
+takes_builds : {start old new : Held Coded} (piece : Piece) (result : Result (Option NodeId) BalanceFault) → IsRight Coded coded_byte start → GoesOn start old → IsThere (table_of coded_byte start) piece → length (piece_cells (table_of coded_byte start) piece) < TEXT_LIMIT → MakesPiece old piece result new
     → Builds old (piece_cells (table_of coded_byte start) piece) result new
 takes_builds {start} (Whole rope) result k x there short takes = as_it_is rope result (text_later k x (own_text start rope there)) takes.0 takes.1
 takes_builds {start} {old} (Span rope i n) result k x there short takes = part_step i n result (goes_on_itself old) (text_later k x (own_text start rope there)) takes
@@ -71,7 +71,7 @@ puts_builds built (Taken piece) result k s is short puts =
 puts_builds {old = old} built (Handed bytes) result k s is short puts = bytes_step bytes (rope_alone result) (goes_on_itself old) s.right s.text is (omega (arith, short, length-map bytes Byte)) puts.0
 
 -- bytes that were put stand new, also later; none have place 0
-stand_put : {old mid end new : Held Coded} (front text : Option NodeId) (bytes : List ℕ) (place : ℕ) → GoesOn old mid → IsPlaced coded_byte mid front bytes (text, place) end → GoesOn end new → IsPut old.pool.bytes new.pool.bytes bytes place
+stand_put : {old mid end new : Held Coded} (front text : Option NodeId) (bytes : List ℕ) (place : ℕ) → GoesOn old mid → IsPlaced coded_byte mid front bytes (text, place) end → GoesOn end new → ArePutAt old.pool.bytes new.pool.bytes bytes place
 stand_put front text [] place x placed y = record { none = λ e. placed.put.place; some = λ lt. absurd (omega arith) }
 stand_put front text (b ∷ bytes) place x placed y = record {
   none = λ e. absurd (omega arith);
@@ -91,7 +91,7 @@ stand_more {start} {new = new} built (Handed bytes) terms rope place places all 
 
 -- without regard to texts: what was there is kept, and what is answered is a rope
 
-takes_made : {old new : Held Coded} (piece : Piece) (result : Result (Option NodeId) BalanceFault) → IsThere (table_of coded_byte old) piece → Takes old piece result new → IsMade old result new
+takes_made : {old new : Held Coded} (piece : Piece) (result : Result (Option NodeId) BalanceFault) → IsThere (table_of coded_byte old) piece → MakesPiece old piece result new → IsMade old result new
 takes_made {old} (Whole rope) result there takes =
     let step = as_it_is rope result (own_text old rope there) takes.0 takes.1 in
     record { goes_on = step.goes_on; is_rope = step.is_rope }

@@ -16,7 +16,7 @@ use Rattle.command_parts.specs.declared.edit.TheConstants.{MOST_SPLICES}
 use Rattle.command_parts.specs.Commands.{is_splice, stands_before, are_apart, can_splice}
 use Rattle.command_parts.specs.Parts.{Follow, parts_cells, pieces}
 use Rattle.edit_commands.specs.declared.command.Change.{Change}
-use Rattle.edit_commands.specs.Building.{IsPut, StandEach, placed_changes}
+use Rattle.edit_commands.specs.Building.{ArePutAt, StandEach, placed_changes}
 use Rattle.edit_commands.specs.Refusals.{changes_nothing, is_out_of_range, unplaced}
 use Rattle.edit_commands.specs.declared.command.Command.TheVariants.{Many}
 use Rattle.edit_commands.specs.Session.{SessionValue, length_at}
@@ -77,14 +77,14 @@ can_follow len changes bytes can = changes_follow len 0 changes can.inside can.a
 -- ---- the splices
 
 -- where bytes stand that were put into a pool
-pub put_inside : (old pool bytes : List ℕ) (a : ℕ) → IsPut old pool bytes a → a + length bytes ≤ length pool
+pub put_inside : (old pool bytes : List ℕ) (a : ℕ) → ArePutAt old pool bytes a → a + length bytes ≤ length pool
 put_inside old pool bytes a put =
     elim (cases_lt 0 (length bytes)) [
       | inl some ↦ stand_inside pool a bytes some (put.some some).1
       | inr none ↦ let zero_place = put.none (omega (arith, none)) in omega (arith, none, zero_place)
     ]
 
-pub put_bytes : (old pool bytes : List ℕ) (a n : ℕ) → n ≡ length bytes → IsPut old pool bytes a → take n (drop a (map Byte pool)) ≡ map Byte bytes
+pub put_bytes : (old pool bytes : List ℕ) (a n : ℕ) → n ≡ length bytes → ArePutAt old pool bytes a → take n (drop a (map Byte pool)) ≡ map Byte bytes
 put_bytes old pool [] a n len put = rw len refl
 put_bytes old pool (b ∷ bytes) a n len put =
     let stands = (put.some (omega arith)).1 in
@@ -124,7 +124,7 @@ module _ (old pool : List ℕ) (rope : Option NodeId) (len : ℕ) where
       )
 
   -- a change with its place passes the test
-  passes_one : (bytes : List ℕ) (text_len : ℕ) (c : Change) (a : ℕ) → IsPut old pool (take c.n bytes) a → c.n ≤ length bytes → c.p + c.m ≤ text_len → changes_nothing c ≡ false → is_splice (length pool) text_len (record { p = c.p; m = c.m; a = a; n = c.n }) ≡ true
+  passes_one : (bytes : List ℕ) (text_len : ℕ) (c : Change) (a : ℕ) → ArePutAt old pool (take c.n bytes) a → c.n ≤ length bytes → c.p + c.m ≤ text_len → changes_nothing c ≡ false → is_splice (length pool) text_len (record { p = c.p; m = c.m; a = a; n = c.n }) ≡ true
   passes_one bytes text_len c a put enough inside something =
       let whole : length (take c.n bytes) ≡ c.n = length-take-le c.n bytes enough in
       let pooled = put_inside old pool (take c.n bytes) a put in

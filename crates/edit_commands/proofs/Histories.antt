@@ -11,7 +11,7 @@ use Rattle.rope_node.specs.Coded.{answers_as_filled}
 use Rattle.rope_node.specs.declared.node.NodeId.{NodeId}
 use Rattle.rope_node.specs.Table.{Table, IsSound, HasTrueRecords}
 use Rattle.rope_node.specs.Denotes.{Cell, Byte, Place, cell_byte, rope_cells, rope_len}
-use Rattle.node_table.specs.Held.{Held, table_of, coded_at}
+use Rattle.node_table.specs.Held.{Held, table_of, held_coded}
 use Rattle.command_parts.specs.Commands.{FullEdit, Givens, result_of, IsHistory}
 use Rattle.span_descent.specs.Leads.{AreAnswered}
 use Rattle.command_parts.specs.Parts.{AreRopes, givens_of}
@@ -25,7 +25,7 @@ use Rattle.edit_commands.proofs.RevisionLists.{there_is, are_ropes, ropes_before
 use Rattle.rope_node.proofs.Ropes.{rope_length}
 use Rattle.rope_node.proofs.Parts.{map_alike}
 
-pub answered : (h : Held Coded) → AreAnswered (table_of coded_byte h) (coded_at h)
+pub answered : (h : Held Coded) → AreAnswered (table_of coded_byte h) (held_coded h)
 answered h k = answers_as_filled (get_or h.functions k None)
 
 -- what commands take from outside, as bytes and as cells
@@ -49,7 +49,7 @@ module _ (h : Held Coded) (s : IsSound (table_of coded_byte h)) (true_records : 
       let c = is.certified in
       let are = parts_in_range t (roots_of before) (command_of r) ropes c.range in
       parts_joined t s true_records (roots_of before) (command_of r) ropes c.range
-      ∙ ap Some (covered_cells t s true_records (coded_at h) (answered h) (λ k p. 0) (parts_behind t before r) r.root r.rows.items are c.root (c.rows (λ k p. 0)) c.no_source)
+      ∙ ap Some (covered_cells t s true_records (held_coded h) (answered h) (λ k p. 0) (parts_behind t before r) r.root r.rows.items are c.root (c.rows (λ k p. 0)) c.no_source)
 
   cells_before : (revisions : List Revision) (k : ℕ) → take k (map (rope_cells (table_of coded_byte h)) (roots_of revisions)) ≡ map (rope_cells (table_of coded_byte h)) (roots_of (take k revisions))
   cells_before revisions k =

@@ -9,7 +9,7 @@ use Rattle.rope_node.specs.Denotes.{IsRope}
 use Rattle.node_table.specs.Held.{Held, table_of}
 use Rattle.rebalance.specs.declared.fault.BalanceFault.{BalanceFault}
 use Rattle.edit_commands.specs.Building.{GoesOn}
-use Rattle.edit_commands.specs.Terms.{Term, handed, with_place, so_far, AreTerms, Taken, Handed, IsTerm, PutsTerm, IsRightStore, Joins, Chain, done, next, refused}
+use Rattle.edit_commands.specs.Terms.{Term, handed, with_place, so_far, AreTerms, Taken, Handed, IsTerm, PutsTerm, IsRightStore, JoinsTerms, Chain, done, next, refused}
 use Rattle.edit_commands.proofs.Chains.{puts_made, term_later}
 use Rattle.edit_commands.proofs.GoingOn.{goes_on_itself, goes_on_through}
 
@@ -60,14 +60,14 @@ module _ (start now : Held Coded) (terms : List Term) (built : Option (Option No
               subst (λ (ps : List ℕ). Chain terms start None ps result new) (sym written) after;
         }
 
-    pub joining_refused : (result : Result (Option NodeId) BalanceFault) (fault : BalanceFault) (new : Held Coded) → PutsTerm now built term (Err fault) new → result ≡ Err fault → Joins start terms result places new
+    pub joining_refused : (result : Result (Option NodeId) BalanceFault) (fault : BalanceFault) (new : Held Coded) → PutsTerm now built term (Err fault) new → result ≡ Err fault → JoinsTerms start terms result places new
     joining_refused result fault new puts end = record {
       placed = take count places ++ [];
       chain = j.chain [] result new (subst (λ (xs : List Term). Chain xs now built [] result new) (sym is) (refused puts end));
       written = subst (λ (r : Result (Option NodeId) BalanceFault). IfOk r (λ _. take count places ++ [] ≡ places)) (sym end) tt;
     }
 
-  pub joining_done : (left : List Term) (result : Result (Option NodeId) BalanceFault) → IsJoining start terms now built left count places → left ≡ [] → result ≡ Ok (so_far built) → Joins start terms result places now
+  pub joining_done : (left : List Term) (result : Result (Option NodeId) BalanceFault) → IsJoining start terms now built left count places → left ≡ [] → result ≡ Ok (so_far built) → JoinsTerms start terms result places now
   joining_done left result j none is =
       let whole : count ≡ length places = omega (arith, j.room, ap (λ (xs : List Term). length (handed xs)) none) in
       record {

@@ -11,7 +11,7 @@ use Rattle.rope_node.specs.Denotes.{rope_cells, IsRope}
 use Rattle.rope_node.specs.Extends.{Extends}
 use Rattle.rope_node.proofs.Extensions.{len_kept, depth_kept}
 use Rattle.rope_node.proofs.Ropes.{rope_kept}
-use Rattle.node_table.specs.Held.{Held, table_of, coded_at, KeepsFunctions}
+use Rattle.node_table.specs.Held.{Held, table_of, held_coded, KeepsFunctions}
 use Rattle.command_parts.specs.declared.part.Part.{Part}
 use Rattle.command_parts.specs.Parts.{parts_of, AreRopes}
 use Rattle.span_certificate.specs.Covers.{CoversAlways, MeetsNoSource}
@@ -31,7 +31,7 @@ pub record WentOn (old new : Held Coded) : Type 0 where
   pub functions : KeepsFunctions old new
 
 module _ (old new : Held Coded) (on : WentOn old new) where
-  agree : AgreeBelow (table_of coded_byte old) (coded_at old) (coded_at new)
+  agree : AgreeBelow (table_of coded_byte old) (held_coded old) (held_coded new)
   agree k lt = ap or_fill (on.functions.same k (omega (arith, lt, on.slots)))
 
   mark_kept : (b : Bool) (root : Option NodeId) → IsRope (table_of coded_byte old) root → (IsTrue b ↔ IsBalancedRope (table_of coded_byte old) root) → IsTrue b ↔ IsBalancedRope (table_of coded_byte new) root
@@ -51,8 +51,8 @@ module _ (old new : Held Coded) (on : WentOn old new) where
           range = in_range_kept t u on.sound on.true_records on.kept (roots_of before) (command_of r) ropes c.range;
           names = c.names;
           root = rope_kept t u on.kept r.root c.root;
-          rows = subst (λ (parts : List Part). CoversAlways u (coded_at new) parts r.root r.rows.items) (sym same)
-              (λ source. covers_kept t u on.sound on.true_records on.kept (coded_at old) (coded_at new) agree source (parts_of t (roots_of before) (command_of r)) r.root r.rows.items are c.root (c.rows source));
+          rows = subst (λ (parts : List Part). CoversAlways u (held_coded new) parts r.root r.rows.items) (sym same)
+              (λ source. covers_kept t u on.sound on.true_records on.kept (held_coded old) (held_coded new) agree source (parts_of t (roots_of before) (command_of r)) r.root r.rows.items are c.root (c.rows source));
           no_source = subst (λ (parts : List Part). MeetsNoSource u parts r.root r.rows.items) (sym same)
               (no_source_kept t u on.sound on.true_records on.kept (parts_of t (roots_of before) (command_of r)) r.root r.rows.items are c.root c.no_source);
         };

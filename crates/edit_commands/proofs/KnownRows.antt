@@ -12,7 +12,7 @@ use Rattle.function_leaf.specs.Coded.{coded_byte}
 use Rattle.rope_node.specs.declared.node.NodeId.{NodeId}
 use Rattle.rope_node.specs.Table.{Table, IsSound, HasTrueRecords}
 use Rattle.rope_node.specs.Denotes.{Cell, rope_cells}
-use Rattle.node_table.specs.Held.{Held, table_of, coded_at}
+use Rattle.node_table.specs.Held.{Held, table_of, held_coded}
 use Rattle.command_parts.specs.declared.edit.Edit.{Edit}
 use Rattle.command_parts.specs.declared.edit.Edit.TheVariants as Recorded
 use Rattle.command_parts.specs.declared.edit.Splice.{Splice}
@@ -60,17 +60,17 @@ pub certified_cells : (h : Held Coded) → IsSound (table_of coded_byte h) → H
 certified_cells h s true_records before edit splices root rows ropes c =
     let t = table_of coded_byte h in
     let command = with_splices splices edit in
-    covered_cells t s true_records (coded_at h) (answered h) (λ k p. 0) (parts_of t (roots_of before) command) root rows (parts_in_range t (roots_of before) command ropes c.range) c.root (c.rows (λ k p. 0)) c.no_source
+    covered_cells t s true_records (held_coded h) (answered h) (λ k p. 0) (parts_of t (roots_of before) command) root rows (parts_in_range t (roots_of before) command ropes c.range) c.root (c.rows (λ k p. 0)) c.no_source
 
 -- rows that are made for them are certified too
 pub certified_so : (h : Held Coded) (before : List Revision) (edit : Edit) (splices : List Splice) (root : Option NodeId) (rows : List Row) (parts : List Part) (result : Result (Vec Row) MakeFault) → IsCertified h before edit splices root rows
-    → parts ≡ parts_of (table_of coded_byte h) (roots_of before) (with_splices splices edit) → IfOk result (λ made. CoversAlways (table_of coded_byte h) (coded_at h) parts root made.items) → IfOk result (λ made. MeetsNoSource (table_of coded_byte h) parts root made.items)
+    → parts ≡ parts_of (table_of coded_byte h) (roots_of before) (with_splices splices edit) → IfOk result (λ made. CoversAlways (table_of coded_byte h) (held_coded h) parts root made.items) → IfOk result (λ made. MeetsNoSource (table_of coded_byte h) parts root made.items)
     → IfOk result (λ made. IsCertified h before edit splices root made.items)
 certified_so h before edit splices root rows parts (Ok made) c is covers none = record {
   range = c.range;
   names = c.names;
   root = c.root;
-  rows = subst (λ (ps : List Part). CoversAlways (table_of coded_byte h) (coded_at h) ps root made.items) is covers;
+  rows = subst (λ (ps : List Part). CoversAlways (table_of coded_byte h) (held_coded h) ps root made.items) is covers;
   no_source = subst (λ (ps : List Part). MeetsNoSource (table_of coded_byte h) ps root made.items) is none;
 }
 certified_so h before edit splices root rows parts (Err fault) c is covers none = tt

@@ -8,7 +8,7 @@ use Rattle.rope_node.specs.declared.node.NodeId.{NodeId}
 use Rattle.rope_node.specs.Table.{Table, IsSound, HasTrueRecords}
 use Rattle.rope_node.specs.Balance.{IsBalancedRope}
 use Rattle.rope_node.specs.Denotes.{Cell, rope_cells, rope_len, IsRope}
-use Rattle.node_table.specs.Held.{Held, IsKept, table_of, coded_at}
+use Rattle.node_table.specs.Held.{Held, IsKept, table_of, held_coded}
 use Rattle.node_table.specs.declared.fault.NodeFault.TheVariants.{TooLong, TooDeep, TableFull, PoolFull, BadSpan, TooManySources, Memory}
 use Rattle.rebalance.specs.declared.fault.BalanceFault.{BalanceFault}
 use Rattle.rebalance.specs.declared.fault.BalanceFault.TheVariants.{TooManyPieces, Node}
@@ -28,7 +28,7 @@ use Rattle.edit_commands.specs.declared.command.Command.TheVariants.{New, Many}
 use Rattle.command_parts.specs.declared.edit.TheConstants.{SPLICES_LIMIT}
 use Rattle.command_parts.specs.declared.edit.Splice.{Splice}
 use Rattle.edit_commands.specs.Refusals.{changes_of}
-use Rattle.edit_commands.specs.Terms.{handed, terms_of}
+use Rattle.edit_commands.specs.Terms.{handed, command_terms}
 use Rattle.edit_commands.proofs.HandedChanges.{placed_count}
 use Rattle.edit_commands.specs.declared.fault.EditFault.{EditFault}
 use Rattle.edit_commands.specs.declared.revision.Revision.{Revision}
@@ -49,12 +49,12 @@ says_so places first New = refl
 says_so places first _ = refl
 
 -- it names its own, each change with its place
-names_so : (old pool : List ℕ) (t : Table) (roots : List (Option NodeId)) (places : List ℕ) (first : ℕ) (command : Command) → StandEach old pool (handed (terms_of t roots command)) places → NamesThese first (splices_with places command) (edit_with places first command)
+names_so : (old pool : List ℕ) (t : Table) (roots : List (Option NodeId)) (places : List ℕ) (first : ℕ) (command : Command) → StandEach old pool (handed (command_terms t roots command)) places → NamesThese first (splices_with places command) (edit_with places first command)
 names_so old pool t roots places first (Many r changes bytes) stand = (refl, sym (placed_count old pool (root_at roots r) (len_of t roots r) changes.now bytes.now places stand))
 names_so old pool t roots places first _ stand = refl
 
 -- how many splices a command has
-pub splice_count : (old pool : List ℕ) (t : Table) (roots : List (Option NodeId)) (places : List ℕ) (command : Command) → StandEach old pool (handed (terms_of t roots command)) places → length (changes_of command) ≡ length (splices_with places command)
+pub splice_count : (old pool : List ℕ) (t : Table) (roots : List (Option NodeId)) (places : List ℕ) (command : Command) → StandEach old pool (handed (command_terms t roots command)) places → length (changes_of command) ≡ length (splices_with places command)
 splice_count old pool t roots places (Many r changes bytes) stand = sym (placed_count old pool (root_at roots r) (len_of t roots r) changes.now bytes.now places stand)
 splice_count old pool t roots places _ stand = refl
 
@@ -126,7 +126,7 @@ module _ (old new : Held Coded) (revisions : List Revision) (command : Command) 
     memory_behind = revises_not EditFault.Memory (behind root places terms_so)
 
     -- more rows than there is room for
-    pub rows_pass : (rows : List Row) → AreMade (table_of coded_byte new) (coded_at new) (parts_of (table_of coded_byte new) (roots_of revisions) (command_with places command)) root rows → ROWS_LIMIT ≤ rows_held revisions + length rows
+    pub rows_pass : (rows : List Row) → AreMade (table_of coded_byte new) (held_coded new) (parts_of (table_of coded_byte new) (roots_of revisions) (command_with places command)) root rows → ROWS_LIMIT ≤ rows_held revisions + length rows
         → (ROWS_LIMIT ≡ rows_held revisions + length rows → rows_len rows < rope_len (table_of coded_byte new) root) → RowsPass old revisions command new
     rows_pass rows made full left = record {
       root = root;
@@ -140,7 +140,7 @@ module _ (old new : Held Coded) (revisions : List Revision) (command : Command) 
     }
 
     -- why there are no rows, told as a fault of the session
-    pub rows_later : (f : MakeFault) → (f ≡ MakeFault.TooManyRows → IsCutShort (table_of coded_byte new) (coded_at new) (parts_of (table_of coded_byte new) (roots_of revisions) (command_with places command)) root) → IsLaterFault old revisions command (rows_fault f) new
+    pub rows_later : (f : MakeFault) → (f ≡ MakeFault.TooManyRows → IsCutShort (table_of coded_byte new) (held_coded new) (parts_of (table_of coded_byte new) (roots_of revisions) (command_with places command)) root) → IsLaterFault old revisions command (rows_fault f) new
     rows_later MakeFault.TooManyRows cut =
         let (rows, made, many, left) = cut refl in
         rows_pass rows made (omega (arith, many)) (λ full. left)
@@ -148,7 +148,7 @@ module _ (old new : Held Coded) (revisions : List Revision) (command : Command) 
 
     -- the revision
     pub revises_so : (made : Revision) → made.edit ≡ edit_with places (splices_held revisions) command → made.splices.items ≡ splices_with places command → made.root ≡ root
-        → (IsTrue made.mark ↔ IsBalancedRope (table_of coded_byte new) made.root) → CoversAlways (table_of coded_byte new) (coded_at new) (parts_of (table_of coded_byte new) (roots_of revisions) (command_with places command)) made.root made.rows.items
+        → (IsTrue made.mark ↔ IsBalancedRope (table_of coded_byte new) made.root) → CoversAlways (table_of coded_byte new) (held_coded new) (parts_of (table_of coded_byte new) (roots_of revisions) (command_with places command)) made.root made.rows.items
         → MeetsNoSource (table_of coded_byte new) (parts_of (table_of coded_byte new) (roots_of revisions) (command_with places command)) made.root made.rows.items
         → AreLongest (table_of coded_byte new) (parts_of (table_of coded_byte new) (roots_of revisions) (command_with places command)) made.root made.rows.items
         → rows_held revisions + length made.rows.items ≤ ROWS_LIMIT → splices_held revisions + length made.splices.items ≤ SPLICES_LIMIT → Revises old revisions command (Ok made) new
@@ -160,7 +160,7 @@ module _ (old new : Held Coded) (revisions : List Revision) (command : Command) 
           range = subst (IsInRange t (roots_of revisions)) (sym says) edit_in_range;
           names = rw (is_splices, is_edit) (names_so old.pool.bytes new.pool.bytes (table_of coded_byte old) (roots_of revisions) places (splices_held revisions) command terms_so.stand);
           root = subst (IsRope t) (sym is_root) b.builds.is_rope;
-          rows = subst (λ (ps : List Part). CoversAlways t (coded_at new) ps made.root made.rows.items) behind_them rows;
+          rows = subst (λ (ps : List Part). CoversAlways t (held_coded new) ps made.root made.rows.items) behind_them rows;
           no_source = subst (λ (ps : List Part). MeetsNoSource t ps made.root made.rows.items) behind_them none;
         } in
         let revision : IsRevision new revisions made = record {
@@ -186,8 +186,8 @@ module _ (old new : Held Coded) (revisions : List Revision) (command : Command) 
         }
 
 -- the longest rows that cover are made
-pub made_of_covers : (h : Held Coded) (parts : List Part) (root : Option NodeId) (rows : List Row) → CoversAlways (table_of coded_byte h) (coded_at h) parts root rows → MeetsNoSource (table_of coded_byte h) parts root rows
-    → AreLongest (table_of coded_byte h) parts root rows → AreMade (table_of coded_byte h) (coded_at h) parts root rows
+pub made_of_covers : (h : Held Coded) (parts : List Part) (root : Option NodeId) (rows : List Row) → CoversAlways (table_of coded_byte h) (held_coded h) parts root rows → MeetsNoSource (table_of coded_byte h) parts root rows
+    → AreLongest (table_of coded_byte h) parts root rows → AreMade (table_of coded_byte h) (held_coded h) parts root rows
 made_of_covers h parts root rows covers none longest = record {
   fit = λ source. (covers source).fit;
   no_source = none;

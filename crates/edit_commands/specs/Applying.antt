@@ -6,7 +6,7 @@ use Rattle.rope_node.specs.declared.node.NodeId.{NodeId}
 use Rattle.rope_node.specs.Denotes.{rope_cells, rope_len}
 use Rattle.node_table.specs.declared.fault.NodeFault.{NodeFault}
 use Rattle.node_table.specs.declared.fault.NodeFault.TheVariants.{TableFull, PoolFull, Memory}
-use Rattle.node_table.specs.Held.{Held, table_of, coded_at}
+use Rattle.node_table.specs.Held.{Held, table_of, held_coded}
 use Rattle.node_table.specs.Puts.{AddsSource}
 use Rattle.rebalance.specs.declared.fault.BalanceFault.{BalanceFault}
 use Rattle.span_certificate.specs.declared.row.Row.{Row}
@@ -48,7 +48,7 @@ pub record RowsPass (old : Held Coded) (revisions : List Revision) (command : Co
       (map (rope_cells (table_of coded_byte old)) (roots_of revisions)) (command_with places command)
       ≡ Some (rope_cells (table_of coded_byte new) root)
   pub rows : List Row
-  pub made : AreMade (table_of coded_byte new) (coded_at new)
+  pub made : AreMade (table_of coded_byte new) (held_coded new)
       (parts_of (table_of coded_byte new) (roots_of revisions) (command_with places command)) root rows
   pub full : ROWS_LIMIT ≤ rows_held revisions + length rows
   pub left : ROWS_LIMIT ≡ rows_held revisions + length rows → rows_len rows < rope_len (table_of coded_byte new) root
@@ -135,7 +135,7 @@ PassRows old edit splices root rows =
 -- earlier revisions; or they are as many, and text is left.
 pub record KnownRowsPass (old : SessionValue) (edit : Edit) (splices : List Splice) (root : Option NodeId) : Type 0 where
   pub rows : List Row
-  pub made : AreMade (table_of coded_byte old.held) (coded_at old.held) (parts_of (table_of coded_byte old.held)
+  pub made : AreMade (table_of coded_byte old.held) (held_coded old.held) (parts_of (table_of coded_byte old.held)
       (roots_of old.revisions) (with_splices splices edit)) root rows
   pub full : ROWS_LIMIT ≤ rows_held old.revisions + length rows
   pub left : ROWS_LIMIT ≡ rows_held old.revisions + length rows

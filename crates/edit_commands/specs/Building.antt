@@ -10,7 +10,7 @@ use Rattle.node_table.specs.declared.fault.NodeFault.TheVariants.{TableFull, Poo
 use Rattle.node_table.specs.Held.{Held, table_of, KeepsFunctions}
 use Rattle.rebalance.specs.declared.fault.BalanceFault.{BalanceFault}
 use Rattle.rebalance.specs.declared.fault.BalanceFault.TheVariants.{TooManyPieces, Node}
-use Rattle.rebalance.specs.AnyForms.{StandsAt}
+use Rattle.rebalance.specs.AnyForms.{StandInPool}
 use Rattle.rebalance.specs.Balancing.{IsNearlyBalanced}
 use Rattle.command_parts.specs.declared.edit.Edit.{Edit}
 use Rattle.command_parts.specs.declared.edit.Splice.{Splice}
@@ -21,7 +21,7 @@ use Rattle.edit_commands.specs.declared.command.Command.{Command}
 use Rattle.edit_commands.specs.declared.command.Command.TheVariants.{New, Open, Insert, Delete, Replace, Paste, Join, Cut, Fill, Back, Balance, Many}
 use Rattle.edit_commands.specs.declared.revision.Revision.{Revision}
 use Rattle.edit_commands.specs.Session.{roots_of}
-use Rattle.edit_commands.specs.Terms.{Chain, handed, terms_of, terms_cells}
+use Rattle.edit_commands.specs.Terms.{Chain, handed, command_terms, terms_cells}
 
 -- what was there is kept, and the sources are the same
 pub record GoesOn (old new : Held Coded) : Type 0 where
@@ -48,14 +48,14 @@ pub record Builds (old : Held Coded) (wanted : List Cell) (result : Result (Opti
 -- ---- bytes handed in
 
 -- the place that bytes got in a pool: none have place 0, and others stand there, at no place of the older pool
-pub record IsPut (old pool : List ℕ) (bytes : List ℕ) (a : ℕ) : Type 0 where
+pub record ArePutAt (old pool : List ℕ) (bytes : List ℕ) (a : ℕ) : Type 0 where
   pub none : length bytes ≡ 0 → a ≡ 0
-  pub some : 1 ≤ length bytes → (length old ≤ a) × StandsAt pool a bytes
+  pub some : 1 ≤ length bytes → (length old ≤ a) × StandInPool pool a bytes
 
 -- so the places that each of several got
 abbrev pub StandEach : List ℕ → List ℕ → List (List ℕ) → List ℕ → Type 0
 StandEach old pool [] [] = Unit {0}
-StandEach old pool (bytes ∷ others) (a ∷ places) = IsPut old pool bytes a × StandEach old pool others places
+StandEach old pool (bytes ∷ others) (a ∷ places) = ArePutAt old pool bytes a × StandEach old pool others places
 StandEach old pool _ _ = ⊥
 
 -- the command as it is recorded, where these are the places of the bytes that it hands in, its splices behind so many
@@ -102,9 +102,9 @@ IsRootFor t roots _ root = Unit {0}
 -- terms hand in stand new at these places.
 pub record ChainsTerms (old : Held Coded) (revisions : List Revision) (command : Command) (places : List ℕ)
     (result : Result (Option NodeId) BalanceFault) (new : Held Coded) : Type 0 where
-  pub chain : Chain (terms_of (table_of coded_byte old) (roots_of revisions) command) old None places result new
+  pub chain : Chain (command_terms (table_of coded_byte old) (roots_of revisions) command) old None places result new
   pub stand : IfOk result (λ _. StandEach old.pool.bytes new.pool.bytes
-      (handed (terms_of (table_of coded_byte old) (roots_of revisions) command)) places)
+      (handed (command_terms (table_of coded_byte old) (roots_of revisions) command)) places)
 
 -- The command's terms are put one behind the other. A root that this gives has the terms' cells, which are what the
 -- recorded command gives of those of the earlier roots.
@@ -114,10 +114,10 @@ pub record BuildsCommand (old : Held Coded) (revisions : List Revision) (command
   pub terms : ChainsTerms old revisions command placed result new
   pub written : IfOk result (λ _. placed ≡ places)
   pub builds : Builds old
-      (terms_cells (table_of coded_byte old) (terms_of (table_of coded_byte old) (roots_of revisions) command))
+      (terms_cells (table_of coded_byte old) (command_terms (table_of coded_byte old) (roots_of revisions) command))
       result new
   pub gives : IfOk result (λ root. result_of (givens_of (table_of coded_byte new))
       (map (rope_cells (table_of coded_byte old)) (roots_of revisions)) (command_with places command)
       ≡ Some (terms_cells (table_of coded_byte old)
-      (terms_of (table_of coded_byte old) (roots_of revisions) command)))
+      (command_terms (table_of coded_byte old) (roots_of revisions) command)))
   pub root : IfOk result (λ root. IsRootFor (table_of coded_byte new) (roots_of revisions) command root)

@@ -1,6 +1,6 @@
 -- What the faults of lower calls are told as, and the codes that a program prints.
 use Rattle.std.specs.Prelude.{ℕ, List, ◌++◌, codes, Result, Ok, Err}
-use Rattle.node_table.specs.Codes.{fault_code as node_code}
+use Rattle.node_table.specs.Codes.{node_fault_code as node_code}
 use Rattle.node_table.specs.declared.fault.NodeFault.{NodeFault}
 use Rattle.rebalance.specs.declared.fault.BalanceFault.{BalanceFault}
 use Rattle.span_certificate.specs.declared.making.MakeFault.{MakeFault}
@@ -25,15 +25,15 @@ abbrev pub told : {A : Type 0} → Result A NodeFault → Result A EditFault
 told (Ok a) = Ok a
 told (Err fault) = Err (node_fault fault)
 
-abbrev pub fault_code : EditFault → List ℕ
-fault_code NoRevision = codes "E1"
-fault_code NoSource = codes "E2"
-fault_code Range = codes "E3"
-fault_code EmptyText = codes "E4"
-fault_code TooManyRevisions = codes "E5"
-fault_code TooManyRows = codes "E6"
-fault_code (Node fault) = codes "E7(" ++ node_code fault ++ codes ")"
-fault_code TooManyPieces = codes "E8"
-fault_code SpliceCount = codes "E9"
-fault_code TooManySplices = codes "E10"
-fault_code Memory = codes "Memory"
+abbrev pub edit_fault_code : EditFault → List ℕ
+edit_fault_code NoRevision = codes "E1"
+edit_fault_code NoSource = codes "E2"
+edit_fault_code Range = codes "E3"
+edit_fault_code EmptyText = codes "E4"
+edit_fault_code TooManyRevisions = codes "E5"
+edit_fault_code TooManyRows = codes "E6"
+edit_fault_code (Node fault) = codes "E7(" ++ node_code fault ++ codes ")"
+edit_fault_code TooManyPieces = codes "E8"
+edit_fault_code SpliceCount = codes "E9"
+edit_fault_code TooManySplices = codes "E10"
+edit_fault_code Memory = codes "Memory"

@@ -117,12 +117,12 @@ is_too_long v command =
     || list_any (λ c. nat_lt BLOCK_SIZE c.n) (changes_of command)
 
 -- the fault of the first test that holds
-abbrev pub first_of : List (Bool × EditFault) → Option EditFault
-first_of [] = None
-first_of (x ∷ xs) = if x.0 then Some x.1 else first_of xs
+abbrev pub first_that_holds : List (Bool × EditFault) → Option EditFault
+first_that_holds [] = None
+first_that_holds (x ∷ xs) = if x.0 then Some x.1 else first_that_holds xs
 
 abbrev pub refusal_of : SessionValue → Command → Option EditFault
-refusal_of v command = first_of (
+refusal_of v command = first_that_holds (
     (names_no_revision v command, NoRevision)
     ∷ (is_wrong_count command, SpliceCount)
     ∷ (names_no_source v command, NoSource)

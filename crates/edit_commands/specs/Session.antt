@@ -8,7 +8,7 @@ use Rattle.rope_node.specs.declared.node.NodeId.{NodeId}
 use Rattle.rope_node.specs.Table.{Table}
 use Rattle.rope_node.specs.Balance.{IsBalancedRope}
 use Rattle.rope_node.specs.Denotes.{Cell, rope_cells, rope_len, IsRope, text}
-use Rattle.node_table.specs.Held.{Held, table_of, coded_at}
+use Rattle.node_table.specs.Held.{Held, table_of, held_coded}
 use Rattle.command_parts.specs.declared.edit.Edit.{Edit}
 use Rattle.command_parts.specs.declared.edit.Edit.TheVariants.{Many}
 use Rattle.command_parts.specs.declared.edit.Splice.{Splice}
@@ -83,7 +83,7 @@ pub record IsCertified (h : Held Coded) (before : List Revision) (edit : Edit) (
   pub range : IsInRange (table_of coded_byte h) (roots_of before) (with_splices splices edit)
   pub names : NamesThese (splices_held before) splices edit
   pub root : IsRope (table_of coded_byte h) rope
-  pub rows : CoversAlways (table_of coded_byte h) (coded_at h)
+  pub rows : CoversAlways (table_of coded_byte h) (held_coded h)
       (parts_of (table_of coded_byte h) (roots_of before) (with_splices splices edit)) rope covering
   pub no_source : MeetsNoSource (table_of coded_byte h)
       (parts_of (table_of coded_byte h) (roots_of before) (with_splices splices edit)) rope covering
@@ -132,5 +132,5 @@ abbrev pub rows_of : SessionValue → ℕ → Option (List Row)
 rows_of v k = option_map (λ (r : Revision). r.rows.items) (slice_get v.revisions k)
 
 -- the splices of revision k, where there is one
-abbrev pub splices_of : SessionValue → ℕ → Option (List Splice)
-splices_of v k = option_map (λ (r : Revision). r.splices.items) (slice_get v.revisions k)
+abbrev pub splices_of_revision : SessionValue → ℕ → Option (List Splice)
+splices_of_revision v k = option_map (λ (r : Revision). r.splices.items) (slice_get v.revisions k)

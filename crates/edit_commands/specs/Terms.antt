@@ -43,11 +43,11 @@ ready None = []
 ready (Some term) = term_of term ∷ []
 
 -- a root up to place p, and from place p on
-abbrev pub front : Option NodeId → ℕ → Term
-front rope p = Taken (Span rope 0 p)
+abbrev pub front_term : Option NodeId → ℕ → Term
+front_term rope p = Taken (Span rope 0 p)
 
-abbrev pub rest : Table → Option NodeId → ℕ → Term
-rest t rope p = Taken (Span rope p (rope_len t rope - p))
+abbrev pub rest_term : Table → Option NodeId → ℕ → Term
+rest_term t rope p = Taken (Span rope p (rope_len t rope - p))
 
 -- where the next change stands, or a length where there is none
 abbrev pub next_place : ℕ → List Change → ℕ
@@ -67,24 +67,25 @@ AreInOrder len [] = Unit {0}
 AreInOrder len (c ∷ changes) = (c.p + c.m ≤ next_place len changes) × AreInOrder len changes
 
 -- the terms of a command in their order
-abbrev pub terms_of : Table → List (Option NodeId) → Command → List Term
-terms_of t roots Command.New = []
-terms_of t roots (Command.Open s) = Taken (Source s) ∷ []
-terms_of t roots (Command.Insert r p bytes) =
-    front (root_at roots r) p ∷ Handed bytes.now ∷ rest t (root_at roots r) p ∷ []
-terms_of t roots (Command.Delete r p n) = front (root_at roots r) p ∷ rest t (root_at roots r) (p + n) ∷ []
-terms_of t roots (Command.Replace r p m bytes) =
-    front (root_at roots r) p ∷ Handed bytes.now ∷ rest t (root_at roots r) (p + m) ∷ []
-terms_of t roots (Command.Paste r p q i n) =
-    front (root_at roots r) p ∷ Taken (Span (root_at roots q) i n) ∷ rest t (root_at roots r) p ∷ []
-terms_of t roots (Command.Join r q) = Taken (Whole (root_at roots r)) ∷ Taken (Whole (root_at roots q)) ∷ []
-terms_of t roots (Command.Cut r i n) = Taken (Span (root_at roots r) i n) ∷ []
-terms_of t roots (Command.Fill r p c n) =
-    front (root_at roots r) p ∷ Taken (Chars c n) ∷ rest t (root_at roots r) p ∷ []
-terms_of t roots (Command.Back r) = Taken (Whole (root_at roots r)) ∷ []
-terms_of t roots (Command.Balance r) = Taken (Balanced (root_at roots r)) ∷ []
-terms_of t roots (Command.Many r changes bytes) =
-    front (root_at roots r) (next_place (len_of t roots r) changes.now)
+abbrev pub command_terms : Table → List (Option NodeId) → Command → List Term
+command_terms t roots Command.New = []
+command_terms t roots (Command.Open s) = Taken (Source s) ∷ []
+command_terms t roots (Command.Insert r p bytes) =
+    front_term (root_at roots r) p ∷ Handed bytes.now ∷ rest_term t (root_at roots r) p ∷ []
+command_terms t roots (Command.Delete r p n) =
+    front_term (root_at roots r) p ∷ rest_term t (root_at roots r) (p + n) ∷ []
+command_terms t roots (Command.Replace r p m bytes) =
+    front_term (root_at roots r) p ∷ Handed bytes.now ∷ rest_term t (root_at roots r) (p + m) ∷ []
+command_terms t roots (Command.Paste r p q i n) =
+    front_term (root_at roots r) p ∷ Taken (Span (root_at roots q) i n) ∷ rest_term t (root_at roots r) p ∷ []
+command_terms t roots (Command.Join r q) = Taken (Whole (root_at roots r)) ∷ Taken (Whole (root_at roots q)) ∷ []
+command_terms t roots (Command.Cut r i n) = Taken (Span (root_at roots r) i n) ∷ []
+command_terms t roots (Command.Fill r p c n) =
+    front_term (root_at roots r) p ∷ Taken (Chars c n) ∷ rest_term t (root_at roots r) p ∷ []
+command_terms t roots (Command.Back r) = Taken (Whole (root_at roots r)) ∷ []
+command_terms t roots (Command.Balance r) = Taken (Balanced (root_at roots r)) ∷ []
+command_terms t roots (Command.Many r changes bytes) =
+    front_term (root_at roots r) (next_place (len_of t roots r) changes.now)
     ∷ changed_terms (root_at roots r) (len_of t roots r) changes.now bytes.now
 
 -- what they denote
@@ -186,13 +187,13 @@ pub record IsTold (Says : Result (Option NodeId) NodeFault → Type 0) (result :
   pub told : result ≡ lifted plain
 
 -- the rope of a piece is made
-abbrev pub Takes : Held Coded → Piece → Result (Option NodeId) BalanceFault → Held Coded → Type 0
-Takes old (Whole rope) result new = (result ≡ Ok rope) × (new ≡ old)
-Takes old (Span rope i n) result new = PartsAny coded_byte old rope i n result new
-Takes old (Balanced rope) result new = Rebalances coded_byte old rope result new
-Takes old (Source s) result new =
+abbrev pub MakesPiece : Held Coded → Piece → Result (Option NodeId) BalanceFault → Held Coded → Type 0
+MakesPiece old (Whole rope) result new = (result ≡ Ok rope) × (new ≡ old)
+MakesPiece old (Span rope i n) result new = PartsAny coded_byte old rope i n result new
+MakesPiece old (Balanced rope) result new = Rebalances coded_byte old rope result new
+MakesPiece old (Source s) result new =
     IsTold (λ plain. MakesSource coded_byte old s 0 (get_or old.sources s 0) plain new) result
-Takes old (Chars c n) result new = IsTold (λ plain. MakesFunction coded_byte old (Fill c) n plain new) result
+MakesPiece old (Chars c n) result new = IsTold (λ plain. MakesFunction coded_byte old (Fill c) n plain new) result
 
 -- a store with sound nodes and true records
 pub record IsRightStore (h : Held Coded) : Type 0 where
@@ -215,7 +216,7 @@ pub record PutsPiece (old : Held Coded) (built : Option (Option NodeId)) (piece 
     (result : Result (Option NodeId) BalanceFault) (new : Held Coded) : Type 0 where
   pub made : Result (Option NodeId) BalanceFault
   pub between : Held Coded
-  pub takes : Takes old piece made between
+  pub takes : MakesPiece old piece made between
   pub right : IsRightStore between
   pub behind : GoesBehind between built made result new
 
@@ -257,7 +258,7 @@ pub data Chain : List Term → Held Coded → Option (Option NodeId) → List �
       → PutsTerm old built term (Err fault) new → result ≡ Err fault → Chain (term ∷ terms) old built [] result new
 
 -- the chain of these terms from nothing; where it gives a rope, these are its places
-pub record Joins (old : Held Coded) (terms : List Term) (result : Result (Option NodeId) BalanceFault)
+pub record JoinsTerms (old : Held Coded) (terms : List Term) (result : Result (Option NodeId) BalanceFault)
     (places : List ℕ) (new : Held Coded) : Type 0 where
   pub placed : List ℕ
   pub chain : Chain terms old None placed result new

@@ -11,7 +11,7 @@ ghost use Rattle.command_parts.specs.Parts.{AreRopes};
 ghost use Rattle.edit_commands.specs.Building.{BuildsCommand};
 ghost use Rattle.edit_commands.specs.Refusals.{refusal_of, TakesAll};
 ghost use Rattle.edit_commands.specs.Session.{roots_of};
-ghost use Rattle.edit_commands.specs.Terms.{front, rest, term_of, terms_of, so_far, handed, times_handed, with_place, Handed, Taken, IsThere, IsTerm, AreTerms, IsCommandInRange, Takes, PutsPiece, PutsTerm, Joins, FillsBytes};
+ghost use Rattle.edit_commands.specs.Terms.{front_term, rest_term, term_of, command_terms, so_far, handed, times_handed, with_place, Handed, Taken, IsThere, IsTerm, AreTerms, IsCommandInRange, MakesPiece, PutsPiece, PutsTerm, JoinsTerms, FillsBytes};
 
 use crate::command::{Command, Hands};
 use crate::revision::Revision;
@@ -39,7 +39,7 @@ fn span<'a>(rope: Rope, i: u64, n: u64) -> NextTerm<'a>
 
 /// A rope up to place `p`.
 fn front<'a>(rope: Rope, p: u64) -> NextTerm<'a>
-    ensures { term_of result ≡ front rope p }
+    ensures { term_of result ≡ front_term rope p }
 {
     span(rope, 0, p)
 }
@@ -48,7 +48,7 @@ fn front<'a>(rope: Rope, p: u64) -> NextTerm<'a>
 fn rest<'a>(store: &Store<Coded>, rope: Rope, p: u64, m: u64) -> NextTerm<'a>
     requires there { IsRope (table_of coded_byte store.now) rope }
     requires inside { p + m ≤ rope_len (table_of coded_byte store.now) rope }
-    ensures { term_of result ≡ rest (table_of coded_byte store.now) rope (p + m) }
+    ensures { term_of result ≡ rest_term (table_of coded_byte store.now) rope (p + m) }
 {
     let len = store.len(rope);
     span(rope, p + m, len - (p + m))
@@ -97,7 +97,7 @@ fn around<'a>(store: &Store<Coded>, rope: Rope, p: u64, m: u64, middle: NextTerm
     requires there { IsRope (table_of coded_byte store.now) rope }
     requires inside { p + m ≤ rope_len (table_of coded_byte store.now) rope }
     ensures { result
-        ≡ front rope p ∷ term_of middle.entry ∷ rest (table_of coded_byte store.now) rope (p + m) ∷ [] }
+        ≡ front_term rope p ∷ term_of middle.entry ∷ rest_term (table_of coded_byte store.now) rope (p + m) ∷ [] }
 {
     let behind = rest(store, rope, p, m);
     Terms::few(Some(front(rope, p)), Some(middle), Some(behind))
@@ -107,7 +107,7 @@ fn around<'a>(store: &Store<Coded>, rope: Rope, p: u64, m: u64, middle: NextTerm
 fn terms_of<'a>(store: &Store<Coded>, revisions: &[Revision], command: &Command<'a>) -> Terms<'a>
     requires ropes { AreRopes (table_of coded_byte store.now) (roots_of revisions.now) }
     requires in_range { IsCommandInRange (table_of coded_byte store.now) (roots_of revisions.now) command.now }
-    ensures exact { result ≡ terms_of (table_of coded_byte store.now) (roots_of revisions.now) command.now }
+    ensures exact { result ≡ command_terms (table_of coded_byte store.now) (roots_of revisions.now) command.now }
     ensures bytes { FillsBytes command.now }
 {
     match *command {
@@ -152,7 +152,7 @@ fn terms_of<'a>(store: &Store<Coded>, revisions: &[Revision], command: &Command<
 /// The rope of a piece, made on the table as it is.
 fn taken(store: &mut Store<Coded>, piece: Piece) -> Result<Rope, BalanceFault>
     requires { IsThere (table_of coded_byte store.old) piece }
-    ensures { Takes store.old piece result store.new }
+    ensures { MakesPiece store.old piece result store.new }
 {
     match piece {
         Piece::Whole { rope } => Ok(rope),
@@ -246,7 +246,7 @@ fn join(
 ) -> Result<Rope, BalanceFault>
     requires terms { AreTerms (table_of coded_byte store.old) terms }
     requires room { length places.old ≡ length (handed terms) }
-    ensures { Joins store.old terms.entry result places.new store.new }
+    ensures { JoinsTerms store.old terms.entry result places.new store.new }
 {
     let mut left = terms;
     let mut built = None;

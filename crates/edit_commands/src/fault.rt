@@ -79,9 +79,9 @@ impl From<MakeFault> for EditFault {
 /// `E10`, or `Memory`.
 impl fmt::Display for EditFault {
     ghost use Rattle.std.specs.Prelude.{Some};
-    ghost use Rattle.edit_commands.specs.Codes.{fault_code};
+    ghost use Rattle.edit_commands.specs.Codes.{edit_fault_code};
 
-    ghost output = { λ e. Some (fault_code e) };
+    ghost output = { λ e. Some (edit_fault_code e) };
 
     fn fmt<W: fmt::Write>(&self, f: &mut fmt::Formatter<W>) -> fmt::Result {
         match self {

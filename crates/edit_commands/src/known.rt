@@ -2,7 +2,7 @@
 
 ghost use Rattle.std.specs.Prelude.{◌≡◌, ◌<◌, ◌^◌, ℕ, List, length, IfOk, IsErrOf, Ok};
 ghost use Rattle.function_leaf.specs.Coded.{coded_byte};
-ghost use Rattle.node_table.specs.Held.{coded_at, table_of};
+ghost use Rattle.node_table.specs.Held.{held_coded, table_of};
 ghost use Rattle.command_parts.specs.declared.edit.Splice.{Splice};
 ghost use Rattle.command_parts.specs.Commands.{full_edit, with_splices, NamesSplices};
 ghost use Rattle.span_certificate.specs.Longest.{AreLongest, IsCutShort};
@@ -52,7 +52,7 @@ pub fn longest_rows(
         (parts_of (table_of coded_byte store.now) (roots_of revisions.now) (with_splices splices.now edit))
         root rows.items → result ≡ Ok rows }
     ensures too_many { IsErrOf result MakeFault.TooManyRows
-        → IsCutShort (table_of coded_byte store.now) (coded_at store.now)
+        → IsCutShort (table_of coded_byte store.now) (held_coded store.now)
         (parts_of (table_of coded_byte store.now) (roots_of revisions.now) (with_splices splices.now edit)) root }
 {
     // The store keeps its rules, as its count says.

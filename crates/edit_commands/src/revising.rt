@@ -4,7 +4,7 @@ ghost use Rattle.std.specs.Prelude.{◌≡◌, ◌↔◌, ◌+◌, ◌^◌, ◌<
 ghost use Rattle.function_leaf.specs.Coded.{coded_byte};
 ghost use Rattle.rope_node.specs.Balance.{IsBalancedRope};
 ghost use Rattle.rope_node.specs.Denotes.{rope_cells, IsRope};
-ghost use Rattle.node_table.specs.Held.{table_of, coded_at};
+ghost use Rattle.node_table.specs.Held.{table_of, held_coded};
 ghost use Rattle.command_parts.specs.Parts.{parts_cells, parts_of, AreRopes, IsInRange};
 ghost use Rattle.span_certificate.specs.declared.making.TheConstants.{ROWS_LIMIT};
 ghost use Rattle.edit_commands.specs.Applying.{Revises};
@@ -151,7 +151,7 @@ fn rows_for(
     requires same { parts_cells (table_of coded_byte store.now) (parts_of (table_of coded_byte store.now)
         (roots_of revisions.now) (command_with places.now command.now))
         ≡ rope_cells (table_of coded_byte store.now) root }
-    ensures { MakesRows (coded_at store.now) (table_of coded_byte store.now) (parts_of (table_of coded_byte store.now)
+    ensures { MakesRows (held_coded store.now) (table_of coded_byte store.now) (parts_of (table_of coded_byte store.now)
         (roots_of revisions.now) (command_with places.now command.now)) root result }
 {
     let edit = command.recorded(places, 0);

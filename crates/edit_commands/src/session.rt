@@ -6,7 +6,7 @@ ghost use Rattle.node_table.specs.Held.{held_of};
 ghost use Rattle.edit_commands.specs.Session.{SessionValue, IsCertified, IsRevision, IsSession, HoldsHistory, rows_held, splices_held};
 ghost use Rattle.command_parts.specs.declared.edit.TheConstants.{MOST_REVISIONS, SPLICES_LIMIT};
 ghost use Rattle.span_certificate.specs.declared.making.TheConstants.{ROWS_LIMIT};
-ghost use Rattle.edit_commands.specs.Session.{root_of, mark_of, edit_of, rows_of, splices_of};
+ghost use Rattle.edit_commands.specs.Session.{root_of, mark_of, edit_of, rows_of, splices_of_revision};
 ghost use Rattle.edit_commands.specs.Refusals.{TakesAll};
 ghost use Rattle.edit_commands.specs.Applying.{AppliesOrNot, AddsSourceOrNot, KnownRowsPass, PutsKnown, PassRows};
 
@@ -236,7 +236,7 @@ impl Session {
     /// The splices that the command of revision `k` names, where there is such a revision: none for another command
     /// than `Many`.
     pub fn splices(&self, k: u32) -> Option<&[Splice]>
-        ensures { option_map (λ splices. splices.now) result ≡ splices_of self.now k }
+        ensures { option_map (λ splices. splices.now) result ≡ splices_of_revision self.now k }
     {
         Some(&self.revisions.get(k as usize)?.splices)
     }

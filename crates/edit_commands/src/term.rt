@@ -2,7 +2,7 @@
 
 ghost use Rattle.std.specs.Prelude.{◌≡◌, ◌≤◌, [], ◌∷◌, ◌++◌, length, drop, MatchOption, Some};
 ghost use Rattle.std.specs.List.{sum_by};
-ghost use Rattle.edit_commands.specs.Terms.{changed_terms, front, next_place, ready, term_of, AreInOrder};
+ghost use Rattle.edit_commands.specs.Terms.{changed_terms, front_term, next_place, ready, term_of, AreInOrder};
 
 use crate::command::Change;
 use rope_node::Rope;
@@ -92,7 +92,7 @@ impl<'a> Terms<'a> {
     pub fn changed(rope: Rope, len: u64, changes: &'a [Change], bytes: &'a [u8]) -> Terms<'a>
         requires order { AreInOrder len changes.now }
         requires takes { sum_by (λ c. c.n) changes.now ≤ length bytes.now }
-        ensures { result ≡ front rope (next_place len changes.now) ∷ changed_terms rope len changes.now bytes.now }
+        ensures { result ≡ front_term rope (next_place len changes.now) ∷ changed_terms rope len changes.now bytes.now }
     {
         let n = next_place(changes, len);
         let piece = Piece::Span { rope, i: 0, n };

@@ -9,7 +9,7 @@ use Rattle.edit_script.specs.declared.fault.LineFault.{LineFault}
 use Rattle.edit_script.specs.declared.fault.LineFault.TheVariants.{NoCommand, Memory}
 use Rattle.edit_script.specs.Words.{Word, Number, Quoted, behind_blanks}
 use Rattle.edit_script.specs.Commands.{Kind, Place, Text, splice_words, splice_kinds}
-use Rattle.edit_script.specs.Handed.{places_from, splices_in}
+use Rattle.edit_script.specs.Handed.{places_from, placed_splices}
 use Rattle.edit_script.specs.Reading.{◌>>=◌, Fails, number_at, quoted_at, is_comment, word_at, words_at, groups_at, change_at}
 use Rattle.edit_script.proofs.Choices.{bind_same, some_is}
 use Rattle.edit_script.proofs.Laws.{groups_end, groups_more, word_shrinks}
@@ -172,15 +172,15 @@ pub next_words : (bytes grown : List ℕ) (changes all : List Change) (c : Chang
     → is_comment (behind_blanks rest) ≡ false → all ≡ changes ++ c ∷ [] → length grown ≡ length bytes + c.n → take (length bytes) grown ≡ bytes
     → sum_by (λ (d : Change). d.n) changes ≡ length bytes
     → change_at rest ≡ Some (Number c.p ∷ Number c.m ∷ Quoted (drop (length bytes) grown) ∷ [], after)
-    → ReadSoFar (splice_words bytes (splices_in changes)) rest total → ReadSoFar (splice_words grown (splices_in all)) after total
+    → ReadSoFar (splice_words bytes (placed_splices changes)) rest total → ReadSoFar (splice_words grown (placed_splices all)) after total
 next_words bytes grown changes all c rest after total words_left push len kept sum read so_far =
     let more = drop (length bytes) grown in
     let word = Number c.p ∷ Number c.m ∷ Quoted more ∷ [] in
     let parts : grown ≡ bytes ++ more = sym (take-append-drop (length bytes) grown) ∙ ap (λ (t : List ℕ). t ++ more) kept in
     let long : length more ≡ c.n = omega (arith, len, length-drop (length bytes) grown) in
-    let words : splice_words grown (splices_in all) ≡ splice_words bytes (splices_in changes) ++ word =
-    ap (λ (xs : List Change). splice_words grown (splices_in xs)) push
-    ∙ ap (λ (b : List ℕ). splice_words b (splices_in (changes ++ c ∷ []))) parts
+    let words : splice_words grown (placed_splices all) ≡ splice_words bytes (placed_splices changes) ++ word =
+    ap (λ (xs : List Change). splice_words grown (placed_splices xs)) push
+    ∙ ap (λ (b : List ℕ). splice_words b (placed_splices (changes ++ c ∷ []))) parts
     ∙ words_more bytes more 0 changes c (omega (arith, sum)) long in
     subst (λ (ws : List Word). ReadSoFar ws after total) (sym words)
-    (goes_at (splice_words bytes (splices_in changes)) word rest after total words_left read (change_shrinks rest word after read) so_far)
+    (goes_at (splice_words bytes (placed_splices changes)) word rest after total words_left read (change_shrinks rest word after read) so_far)

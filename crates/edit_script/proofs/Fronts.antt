@@ -8,7 +8,7 @@ use Rattle.std.proofs.lemmas.Bool.{cases_Bool, and_parts, and_from, not_from_fal
 use Rattle.std.proofs.lemmas.List.{take_at, drop_at, take-append-drop}
 use Rattle.std.proofs.lemmas.Str.Parse.{digit_from_value}
 use Rattle.edit_script.specs.Words.{Number, BeginsWith, IsBehindWord, ends_word, behind_blanks}
-use Rattle.edit_script.specs.Reading.{front, behind_front, is_numeral, numeral, number_at, number_below}
+use Rattle.edit_script.specs.Reading.{front_word, behind_front, is_numeral, numeral, number_at, number_below}
 use Rattle.edit_script.proofs.Choices.{passed, bind_some, some_is}
 use Rattle.edit_script.proofs.Numbers.{digits_model}
 
@@ -23,13 +23,13 @@ front_len_is (c ∷ text) rest plain ends =
     let p = and_parts (not (ends_word c)) (list_all (λ b. not (ends_word b)) text) plain in
     rw p.0 (omega (arith, front_len_is text rest p.1 ends))
 
-pub front_is : (text rest : List ℕ) → IsFront text → IsBehindWord rest → front (text ++ rest) ≡ text
+pub front_is : (text rest : List ℕ) → IsFront text → IsBehindWord rest → front_word (text ++ rest) ≡ text
 front_is text rest plain ends = rw (front_len_is text rest plain ends) (take_at text rest (length text) refl)
 
 pub behind_front_is : (text rest : List ℕ) → IsFront text → IsBehindWord rest → behind_front (text ++ rest) ≡ rest
 behind_front_is text rest plain ends = rw (front_len_is text rest plain ends) (drop_at text rest (length text) refl)
 
-pub front_parts : (t : List ℕ) → t ≡ front t ++ behind_front t
+pub front_parts : (t : List ℕ) → t ≡ front_word t ++ behind_front t
 front_parts t = sym (take-append-drop (position_or_len ends_word t) t)
 
 pub behind_front_ends : (t : List ℕ) → IsBehindWord (behind_front t)
@@ -68,11 +68,11 @@ numeral_again text n is value small =
 pub number_back : (line : List ℕ) (x : ℕ × List ℕ) → number_at line ≡ Some x → BeginsWith line (Number x.0) x.1 × (x.0 < 2 ^ 64)
 number_back line x e =
     let t = behind_blanks line in
-    let n = bind_some (numeral (front t)) (λ n. Some (n, behind_front t)) x e in
-    let is = numeral_is (front t) n.0 n.1 in
+    let n = bind_some (numeral (front_word t)) (λ n. Some (n, behind_front t)) x e in
+    let is = numeral_is (front_word t) n.0 n.1 in
     let made : ℕ × List ℕ = (n.0, behind_front t) in
     subst (λ (y : ℕ × List ℕ). BeginsWith line (Number y.0) y.1 × (y.0 < 2 ^ 64)) (some_is made x n.2)
-    (record { text = front t; spelled = (is.0, is.1); parts = front_parts t; ends = behind_front_ends t }, is.2)
+    (record { text = front_word t; spelled = (is.0, is.1); parts = front_parts t; ends = behind_front_ends t }, is.2)
 
 -- a number that stands there is read
 pub number_again : (line : List ℕ) (n : ℕ) (rest : List ℕ) → BeginsWith line (Number n) rest → n < 2 ^ 64 → number_at line ≡ Some (n, rest)

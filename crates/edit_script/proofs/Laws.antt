@@ -13,7 +13,7 @@ use Rattle.edit_script.specs.declared.room.Room.{Room}
 use Rattle.edit_script.specs.Words.{Word, Name, Number, Quoted, BeginsWith, HasWords, IsComment, Spells, is_blank, ends_word, behind_blanks}
 use Rattle.edit_script.specs.Commands.{Kind, Revision, Place, Byte, Text, shapes, shape_in, shape_of, Shape, Suits, HasKinds, IsLine}
 use Rattle.edit_script.specs.Handed.{said}
-use Rattle.edit_script.specs.Reading.{◌>>=◌, IsReadAs, front, behind_front, number_at, number_below, quoted_at, is_comment, word_at, words_at, end_at, groups_at, again_at, named_at, line_at}
+use Rattle.edit_script.specs.Reading.{◌>>=◌, IsReadAs, front_word, behind_front, number_at, number_below, quoted_at, is_comment, word_at, words_at, end_at, groups_at, again_at, named_at, line_at}
 use Rattle.edit_script.proofs.Choices.{chosen, passed, bind_some, some_is}
 use Rattle.edit_script.proofs.Fronts.{IsFront, digit_is_no_end, front_is, behind_front_is, front_parts, behind_front_ends, number_back, number_again, below_back, below_again}
 use Rattle.edit_script.proofs.Quotes.{quoted_back, quoted_again}
@@ -218,14 +218,14 @@ not_comment (b ∷ name) rest h =
 pub line_back : (line : List ℕ) (ws : List Word) → line_at line ≡ Some ws → IsLine ws × HasWords line ws
 line_back line ws e =
     let t = behind_blanks line in
-    elim (chosen (is_comment t) (Some []) (named_at (front t) (behind_front t)) (Some ws) e) [
+    elim (chosen (is_comment t) (Some []) (named_at (front_word t) (behind_front t)) (Some ws) e) [
       | inl p ↦ subst (λ (vs : List Word). IsLine vs × HasWords line vs) (some_is [] ws p.1) (refl, comment_back t p.0)
       | inr p ↦
-          let s = bind_some (shape_of (front t)) (λ shape. words_at (again_at shape.again) shape.once (behind_front t) >>= λ ws. Some (Name (front t) ∷ ws)) ws p.1 in
-          let y = bind_some (words_at (again_at s.0.again) s.0.once (behind_front t)) (λ ws. Some (Name (front t) ∷ ws)) ws s.2 in
+          let s = bind_some (shape_of (front_word t)) (λ shape. words_at (again_at shape.again) shape.once (behind_front t) >>= λ ws. Some (Name (front_word t) ∷ ws)) ws p.1 in
+          let y = bind_some (words_at (again_at s.0.again) s.0.once (behind_front t)) (λ ws. Some (Name (front_word t) ∷ ws)) ws s.2 in
           let others = words_back (again_at s.0.again) s.0.again (again_back s.0.again) s.0.once (behind_front t) y.0 y.1 in
-          let first : BeginsWith line (Name (front t)) (behind_front t) = record { text = front t; spelled = refl; parts = front_parts t; ends = behind_front_ends t } in
-          subst (λ (vs : List Word). IsLine vs × HasWords line vs) (some_is (Name (front t) ∷ y.0) ws y.2)
+          let first : BeginsWith line (Name (front_word t)) (behind_front t) = record { text = front_word t; spelled = refl; parts = front_parts t; ends = behind_front_ends t } in
+          subst (λ (vs : List Word). IsLine vs × HasWords line vs) (some_is (Name (front_word t) ∷ y.0) ws y.2)
           ((s.0, s.1, others.1), (behind_front t, first, others.0))
     ]
 

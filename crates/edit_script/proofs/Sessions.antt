@@ -16,10 +16,10 @@ use Rattle.command_parts.proofs.SplicedTexts.{are_splices}
 use Rattle.edit_commands.specs.declared.command.Change.{Change}
 use Rattle.edit_commands.specs.declared.command.Command.{Command}
 use Rattle.edit_commands.specs.declared.command.Command.TheVariants.{New, Open, Insert, Delete, Replace, Paste, Join, Cut, Fill, Back, Balance, Many}
-use Rattle.edit_commands.specs.Building.{IsPut, StandEach, edit_with, splices_with, placed_changes}
+use Rattle.edit_commands.specs.Building.{ArePutAt, StandEach, edit_with, splices_with, placed_changes}
 use Rattle.edit_commands.specs.Refusals.{TakesAll}
 use Rattle.edit_commands.specs.Session.{SessionValue, session_table, command_of, commands_of, roots_of, splices_held}
-use Rattle.edit_commands.specs.Terms.{changed_terms, handed, terms_of}
+use Rattle.edit_commands.specs.Terms.{changed_terms, command_terms, handed}
 use Rattle.edit_script.specs.declared.fault.Stopped.{Stopped}
 use Rattle.edit_script.specs.Words.{Word, Name, Number, Quoted}
 use Rattle.edit_script.specs.Commands.{StandsInside, splice_words, words_of}
@@ -32,7 +32,7 @@ use Rattle.node_table.specs.Held.{table_of}
 use Rattle.function_leaf.specs.Coded.{coded_byte}
 
 -- bytes that were put into a pool stand there
-put_bytes : (old pool bytes : List ℕ) (a : ℕ) → IsPut old pool bytes a → take (length bytes) (drop a pool) ≡ bytes
+put_bytes : (old pool bytes : List ℕ) (a : ℕ) → ArePutAt old pool bytes a → take (length bytes) (drop a pool) ≡ bytes
 put_bytes old pool bytes a put =
     elim (cases_lt 0 (length bytes)) [
       | inl some ↦
@@ -47,7 +47,7 @@ put_bytes old pool bytes a put =
     no_bytes [] e = refl
     no_bytes (x ∷ xs) e = absurd (omega (arith, e))
 
-same_bytes : (old pool bytes : List ℕ) (a : ℕ) → IsPut old pool bytes a → take (length bytes) (drop a pool) ≡ take (length bytes) (drop 0 bytes)
+same_bytes : (old pool bytes : List ℕ) (a : ℕ) → ArePutAt old pool bytes a → take (length bytes) (drop a pool) ≡ take (length bytes) (drop 0 bytes)
 same_bytes old pool bytes a put = put_bytes old pool bytes a put ∙ sym (take_all (length bytes) bytes (omega arith))
 
 -- so the bytes of changes, which they take one behind the other
@@ -69,7 +69,7 @@ changes_say old pool rope len whole a (c ∷ changes) (b ∷ places) fits stand 
 
 -- a command is recorded with the words that it was handed in with
 pub recorded_says : (old pool : List ℕ) (first : ℕ) (t : Table) (roots : List (Option NodeId)) (command : Command) (places : List ℕ)
-    → TakesAll command → StandEach old pool (handed (terms_of t roots command)) places
+    → TakesAll command → StandEach old pool (handed (command_terms t roots command)) places
     → words_of pool (with_splices (splices_with places command) (edit_with places first command)) ≡ words_handed command
 recorded_says old pool first t roots (Insert r p bytes) [] takes stand = absurd stand
 recorded_says old pool first t roots (Insert r p bytes) (a ∷ places) takes stand =

@@ -28,14 +28,14 @@ front_of (Balance r) = Name (codes "balance") ∷ Number r ∷ []
 front_of (Many r splices) = Name (codes "many") ∷ Number r ∷ []
 
 -- in place of a place in the pool, the bytes that stand there
-abbrev pub texts_of : List ℕ → FullEdit → List Word
-texts_of pool (Insert r p a n) = Quoted (take n (drop a pool)) ∷ []
-texts_of pool (Replace r p m a n) = Quoted (take n (drop a pool)) ∷ []
-texts_of pool (Many r splices) = splice_words pool splices
-texts_of pool _ = []
+abbrev pub quoted_texts : List ℕ → FullEdit → List Word
+quoted_texts pool (Insert r p a n) = Quoted (take n (drop a pool)) ∷ []
+quoted_texts pool (Replace r p m a n) = Quoted (take n (drop a pool)) ∷ []
+quoted_texts pool (Many r splices) = splice_words pool splices
+quoted_texts pool _ = []
 
 abbrev pub words_of : List ℕ → FullEdit → List Word
-words_of pool edit = front_of edit ++ texts_of pool edit
+words_of pool edit = front_of edit ++ quoted_texts pool edit
 
 -- the bytes that a command names stand in a pool of so many
 abbrev pub StandsInside : ℕ → FullEdit → Type 0

@@ -38,12 +38,12 @@ words_handed command = words_of (bytes_handed command) (command_with (places_han
 -- ---- as read into a room
 
 -- the changes, each with the place of its bytes
-abbrev pub splices_in : List Change → List Splice
-splices_in changes = placed_changes changes (places_from 0 changes)
+abbrev pub placed_splices : List Change → List Splice
+placed_splices changes = placed_changes changes (places_from 0 changes)
 
 -- the words of a command whose bytes and changes these are
 abbrev pub words_in : List ℕ → List Change → Edit → List Word
-words_in bytes changes edit = words_of bytes (with_splices (splices_in changes) edit)
+words_in bytes changes edit = words_of bytes (with_splices (placed_splices changes) edit)
 
 -- the words of a line's command, none where it has none
 abbrev pub said : Room → Option Edit → List Word

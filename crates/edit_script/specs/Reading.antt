@@ -26,8 +26,8 @@ IsReadAs view (Err e) read = Fails e read
 -- ---- numbers
 
 -- the bytes before the first that ends a word, and those from it on
-abbrev pub front : List ℕ → List ℕ
-front t = take (position_or_len ends_word t) t
+abbrev pub front_word : List ℕ → List ℕ
+front_word t = take (position_or_len ends_word t) t
 
 abbrev pub behind_front : List ℕ → List ℕ
 behind_front t = drop (position_or_len ends_word t) t
@@ -42,7 +42,7 @@ numeral text =
 
 abbrev pub number_at : List ℕ → Option (ℕ × List ℕ)
 number_at line = do
-  n ← numeral (front (behind_blanks line))
+  n ← numeral (front_word (behind_blanks line))
   Some (n, behind_front (behind_blanks line))
 
 abbrev pub number_below : ℕ → List ℕ → Option (ℕ × List ℕ)
@@ -160,4 +160,4 @@ change_at line = do
 abbrev pub line_at : List ℕ → Option (List Word)
 line_at line =
     if is_comment (behind_blanks line) then Some []
-    else named_at (front (behind_blanks line)) (behind_front (behind_blanks line))
+    else named_at (front_word (behind_blanks line)) (behind_front (behind_blanks line))

@@ -5,7 +5,7 @@ ghost use Rattle.std.specs.List.{sum_by};
 ghost use Rattle.edit_script.specs.declared.fault.LineFault.TheVariants.{Memory};
 ghost use Rattle.edit_script.specs.Words.{Number, Quoted};
 ghost use Rattle.edit_script.specs.Commands.{splice_words, splice_kinds};
-ghost use Rattle.edit_script.specs.Handed.{splices_in};
+ghost use Rattle.edit_script.specs.Handed.{placed_splices};
 ghost use Rattle.edit_script.specs.Reading.{IsReadAs, change_at, groups_at};
 
 use crate::blanks::is_end;
@@ -45,7 +45,7 @@ pub fn count_of(changes: &[Change]) -> Result<u32, LineFault>
 pub fn changes(line: &[u8], room: &mut Room) -> Result<(), LineFault>
     requires bytes { room.now.bytes.items ≡ [] }
     requires changes { room.now.changes.items ≡ [] }
-    ensures read { IsReadAs (λ _. splice_words room.new.bytes.items (splices_in room.new.changes.items)) result
+    ensures read { IsReadAs (λ _. splice_words room.new.bytes.items (placed_splices room.new.changes.items)) result
         (groups_at (length line.now) splice_kinds line.now) }
     ensures takes { OnOk result (sum_by (λ c. c.n) room.new.changes.items ≡ length room.new.bytes.items) }
 {

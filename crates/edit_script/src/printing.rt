@@ -6,7 +6,7 @@ ghost use Rattle.std.specs.List.{flat_map, AllByRecursion};
 ghost use Rattle.command_parts.specs.Commands.{with_splices};
 ghost use Rattle.edit_script.specs.Words.{escaped, numbers_on, printed_word, spelled_on, line_of, Number, Quoted};
 ghost use Rattle.command_parts.specs.declared.edit.Splice.{Splice};
-ghost use Rattle.edit_script.specs.Commands.{front_of, texts_of, words_of, splice_words, StandsInside};
+ghost use Rattle.edit_script.specs.Commands.{front_of, quoted_texts, words_of, splice_words, StandsInside};
 
 use crate::handing::span;
 use command_parts::{Edit, Splice};
@@ -140,7 +140,7 @@ fn push_texts(
 ) -> Result<(), AllocError>
     requires { StandsInside (length pool.now) (with_splices splices.now edit.now) }
     ensures { OnOk result (out.new.items ≡ out.old.items
-        ++ spelled_on (texts_of pool.now (with_splices splices.now edit.now))) }
+        ++ spelled_on (quoted_texts pool.now (with_splices splices.now edit.now))) }
 {
     match *edit {
         Edit::Insert { a, n, .. } => push_quoted(out, span(pool, a, n)),

@@ -7,7 +7,7 @@ use Rattle.image_reader.specs.declared.revision.Revision.{Revision}
 use Rattle.image_reader.specs.Layout.{records}
 use Rattle.image_reader.specs.Value.{ImageValue}
 use Rattle.image_reader.specs.Accepted.{no_revision, revision_at, splices_before}
-use Rattle.image_reader.specs.Reading.{is_marked, root_in, splices_in, revision_of, revisions_of}
+use Rattle.image_reader.specs.Reading.{is_marked, root_in, splice_count_in, revision_of, revisions_of}
 use Rattle.command_parts.specs.Fields.{splices_of}
 use Rattle.image_reader.proofs.RevisionRecords.{splices_read}
 use Rattle.image_reader.proofs.RevisionSections.{length-revisions, slice_get-revisions}
@@ -44,5 +44,5 @@ module _ (count : ℕ) (bytes : List ℕ) (v : ImageValue) (c : AreCut count byt
   unfolding revision_of
   mark_read = ap (λ (r : Revision). r.mark) (revision_read_at (splices_before v k) refl)
 
-  pub splices_counted : splices_in cell ≡ splices_of (revision_at v k).edit
+  pub splices_counted : splice_count_in cell ≡ splices_of (revision_at v k).edit
   splices_counted = sym (splices_read (splices_before v k) cell) ∙ ap (λ (r : Revision). splices_of r.edit) (revision_read_at (splices_before v k) refl)

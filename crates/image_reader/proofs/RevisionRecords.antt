@@ -16,7 +16,7 @@ use Rattle.image_reader.specs.Versions.{last_code}
 use Rattle.image_reader.specs.Layout.{IsBytes, spelled, number_in}
 use Rattle.image_reader.specs.Value.{FitsRoot, FitsRevision}
 use Rattle.image_reader.specs.Spelling.{field_of, numbers_of, mark_number, root_number, revision_layout, revision_numbers, revision_spelling}
-use Rattle.image_reader.specs.Reading.{command_code_in, numbers_in, edit_of, root_of, rows_in, splices_in, revision_of, is_unknown_revision, any_nonzero, unused_in_revision, revision_record_fault}
+use Rattle.image_reader.specs.Reading.{command_code_in, numbers_in, edit_in_bytes, root_by_number, row_count_in, splice_count_in, revision_of, is_unknown_revision, any_nonzero, unused_in_revision, revision_record_fault}
 use Rattle.image_reader.proofs.Commands.{edit_again, unused_again, code_small, number_fits, is_of_code, edit_fits, placed_by, splices_by}
 use Rattle.image_reader.proofs.Faults.{else_none, fault_if_none, zero_first}
 use Rattle.image_reader.proofs.Fields.{AreWide, FitFields, wide8, wide16, wide32, wide64, number_in_small, numbers_from, spelled_whole, numbers_whole, length-spelled}
@@ -44,11 +44,11 @@ root_small : (root : Option NodeId) → FitsRoot root → root_number root < 2 ^
 root_small None fits = lit< tt
 root_small (Some id) fits = omega arith
 
-root_again : (root : Option NodeId) → FitsRoot root → root_of (root_number root) ≡ root
+root_again : (root : Option NodeId) → FitsRoot root → root_by_number (root_number root) ≡ root
 root_again None fits = refl
 root_again (Some id) fits = let other : eqb id.0 NIL_ROOT ≡ false = ne_eqb _ _ (λ e. absurd (omega arith)) in rw other refl
 
-root_back : (n : ℕ) → n < 2 ^ 32 → (root_number (root_of n) ≡ n) × FitsRoot (root_of n)
+root_back : (n : ℕ) → n < 2 ^ 32 → (root_number (root_by_number n) ≡ n) × FitsRoot (root_by_number n)
 root_back n small =
     elim (cases_Bool (eqb n NIL_ROOT)) [
       | inl is ↦ rw is (sym (eqb-true _ _ is), tt)
@@ -98,7 +98,7 @@ again_at : (last first : ℕ) (cell : List ℕ) (edit : Edit) (mark : Bool) (roo
 unfolding revision_record_fault revision_of
 again_at last first cell edit mark root rows low placed fits h =
     let code = code_small edit in
-    let edit_is : edit_of first cell ≡ edit = ap (λ (x : Numbers). edit_by first (command_code_in cell) (field_of x)) h.numbers ∙ ap (λ (k : ℕ). edit_by first k (field_of (numbers_of edit))) h.code_is ∙ edit_again first edit placed in
+    let edit_is : edit_in_bytes first cell ≡ edit = ap (λ (x : Numbers). edit_by first (command_code_in cell) (field_of x)) h.numbers ∙ ap (λ (k : ℕ). edit_by first k (field_of (numbers_of edit))) h.code_is ∙ edit_again first edit placed in
     let known : is_unknown_revision last cell ≡ false = rw (h.code_is, h.mark_is) (or_from _ _ (le-ltb _ _ code.0) (or_from _ _ (le-ltb _ _ low) (mark_again mark).0)) in
     let none : any_nonzero (unused_in_revision cell) ≡ false =
     ap (λ (x : Numbers). any_nonzero (number_in w16 2 cell ∷ number_in w32 52 cell ∷ unused (edit_by 0 (command_code_in cell) (field_of x)) (field_of x))) h.numbers
@@ -136,19 +136,19 @@ last_small : (version : FormatVersion) → last_code version ≤ MANY
 last_small One = omega arith
 last_small Two = omega arith
 
-edit_back : (version : FormatVersion) (first : ℕ) (cell : List ℕ) → IsBytes cell → revision_record_fault (last_code version) cell ≡ None → ReadsEdit version cell (edit_of first cell)
+edit_back : (version : FormatVersion) (first : ℕ) (cell : List ℕ) → IsBytes cell → revision_record_fault (last_code version) cell ≡ None → ReadsEdit version cell (edit_in_bytes first cell)
 unfolding revision_record_fault numbers_from
 edit_back version first cell bytes none =
     let parts = else_none _ _ none in
     let kinds = or_parts _ _ (fault_if_none _ _ parts.0) in
     let last = or_parts _ _ kinds.1 in
     let zeros : any_nonzero (unused_in_revision cell) ≡ false = fault_if_none (any_nonzero (unused_in_revision cell)) NonZeroPad parts.1 in
-    let others : List ℕ = unused (edit_of 0 cell) (field_of (numbers_in cell)) in
+    let others : List ℕ = unused (edit_in_bytes 0 cell) (field_of (numbers_in cell)) in
     let pad = zero_first (number_in w16 2 cell) (number_in w32 52 cell ∷ others) zeros in
     let end = zero_first (number_in w32 52 cell) others pad.1 in
     let low : command_code_in cell ≤ last_code version = ltb-false _ _ last.0 in
     let is = is_of_code first (command_code_in cell) (numbers_in cell) (ltb-false _ _ kinds.0) (omega (arith, low, last_small version)) end.1 in
-    record { known = rw is.code_is low; same = ap (λ (x : Numbers). revision_numbers (recorded (edit_of first cell)).code x (number_in w8 1 cell) (number_in w32 4 cell) (number_in w32 48 cell)) is.numbers ∙ rw (is.code_is, pad.0, end.0) refl; fits = edit_fits first (command_code_in cell) (field_of (numbers_in cell)) (field_small cell bytes) }
+    record { known = rw is.code_is low; same = ap (λ (x : Numbers). revision_numbers (recorded (edit_in_bytes first cell)).code x (number_in w8 1 cell) (number_in w32 4 cell) (number_in w32 48 cell)) is.numbers ∙ rw (is.code_is, pad.0, end.0) refl; fits = edit_fits first (command_code_in cell) (field_of (numbers_in cell)) (field_small cell bytes) }
 
 revision_back : (version : FormatVersion) (first : ℕ) (cell : List ℕ) → length cell ≡ 56 → IsBytes cell → revision_record_fault (last_code version) cell ≡ None → FitsAt version first (revision_of first cell) × (revision_spelling (revision_of first cell) ≡ cell)
 unfolding revision_spelling revision_of revision_record_fault
@@ -165,10 +165,10 @@ pub revision_record : (version : FormatVersion) (first : ℕ) → IsRecord (revi
 revision_record version first = record { len = λ r fits. revision_len version r fits.0; back = revision_back version first; again = revision_again version first }
 
 -- a revision has as many splices and rows as its record says
-pub splices_read : (first : ℕ) (cell : List ℕ) → splices_of (revision_of first cell).edit ≡ splices_in cell
+pub splices_read : (first : ℕ) (cell : List ℕ) → splices_of (revision_of first cell).edit ≡ splice_count_in cell
 unfolding revision_of
 splices_read first cell = splices_by first (command_code_in cell) (field_of (numbers_in cell))
 
-pub rows_read : (first : ℕ) (cell : List ℕ) → (revision_of first cell).rows ≡ rows_in cell
+pub rows_read : (first : ℕ) (cell : List ℕ) → (revision_of first cell).rows ≡ row_count_in cell
 unfolding revision_of
 rows_read first cell = refl

@@ -12,7 +12,7 @@ use Rattle.image_reader.specs.Layout.{IsBytes, records}
 use Rattle.image_reader.specs.Versions.{last_code}
 use Rattle.image_reader.specs.Value.{FitsRevision, ArePlaced}
 use Rattle.image_reader.specs.Spelling.{revision_spelling}
-use Rattle.image_reader.specs.Reading.{rows_in, splices_in, revision_of, revisions_of, revision_record_fault, first_fault}
+use Rattle.image_reader.specs.Reading.{row_count_in, splice_count_in, revision_of, revisions_of, revision_record_fault, first_fault}
 use Rattle.image_reader.proofs.Faults.{else_none}
 use Rattle.image_reader.proofs.Fields.{IsBytes-drop, IsBytes-take}
 use Rattle.image_reader.proofs.RevisionRecords.{revision_record, rows_read, splices_read}
@@ -26,23 +26,23 @@ rows_counted r = r.rows
 pub length-revisions : (first n : ℕ) (bytes : List ℕ) → length (revisions_of first (records 56 n bytes)) ≡ n
 unfolding records revisions_of
 length-revisions first zero bytes = refl
-length-revisions first (suc n) bytes = ap suc (length-revisions (first + splices_in (take 56 bytes)) n (drop 56 bytes))
+length-revisions first (suc n) bytes = ap suc (length-revisions (first + splice_count_in (take 56 bytes)) n (drop 56 bytes))
 
 -- ---- what they have in all
 
-pub sum_rows : (first : ℕ) (cells : List (List ℕ)) → sum_by rows_counted (revisions_of first cells) ≡ sum_by rows_in cells
+pub sum_rows : (first : ℕ) (cells : List (List ℕ)) → sum_by rows_counted (revisions_of first cells) ≡ sum_by row_count_in cells
 unfolding revisions_of
 sum_rows first [] = refl
 sum_rows first (x ∷ xs) =
-    sum_by-cons rows_counted (revision_of first x) (revisions_of (first + splices_in x) xs)
-    ∙ rw (rows_read first x, sum_rows (first + splices_in x) xs) (sym (sum_by-cons rows_in x xs))
+    sum_by-cons rows_counted (revision_of first x) (revisions_of (first + splice_count_in x) xs)
+    ∙ rw (rows_read first x, sum_rows (first + splice_count_in x) xs) (sym (sum_by-cons row_count_in x xs))
 
-pub sum_splices : (first : ℕ) (cells : List (List ℕ)) → sum_by spliced (revisions_of first cells) ≡ sum_by splices_in cells
+pub sum_splices : (first : ℕ) (cells : List (List ℕ)) → sum_by spliced (revisions_of first cells) ≡ sum_by splice_count_in cells
 unfolding revisions_of
 sum_splices first [] = refl
 sum_splices first (x ∷ xs) =
-    sum_by-cons spliced (revision_of first x) (revisions_of (first + splices_in x) xs)
-    ∙ rw (splices_read first x, sum_splices (first + splices_in x) xs) (sym (sum_by-cons splices_in x xs))
+    sum_by-cons spliced (revision_of first x) (revisions_of (first + splice_count_in x) xs)
+    ∙ rw (splices_read first x, sum_splices (first + splice_count_in x) xs) (sym (sum_by-cons splice_count_in x xs))
 
 -- ---- the one at a place
 
@@ -52,9 +52,9 @@ slice_get-revisions first zero i bytes lt = absurd (omega arith)
 slice_get-revisions first (suc n) zero bytes lt = ap (λ (k : ℕ). Some (revision_of k (take 56 bytes))) (omega arith)
 slice_get-revisions first (suc n) (suc i) bytes lt =
     let x : List ℕ = take 56 bytes in
-    let others = revisions_of (first + splices_in x) (records 56 n (drop 56 bytes)) in
-    let here : first + splices_in x + sum_by spliced (take i others) ≡ first + sum_by spliced (revision_of first x ∷ take i others) = omega (arith, sum_by-cons spliced (revision_of first x) (take i others), splices_read first x) in
-    slice_get-revisions (first + splices_in x) n i (drop 56 bytes) (omega arith)
+    let others = revisions_of (first + splice_count_in x) (records 56 n (drop 56 bytes)) in
+    let here : first + splice_count_in x + sum_by spliced (take i others) ≡ first + sum_by spliced (revision_of first x ∷ take i others) = omega (arith, sum_by-cons spliced (revision_of first x) (take i others), splices_read first x) in
+    slice_get-revisions (first + splice_count_in x) n i (drop 56 bytes) (omega arith)
     ∙ ap (λ (k : ℕ). Some (revision_of k (take 56 (drop (56 * i) (drop 56 bytes))))) here
     ∙ ap (λ (b : List ℕ). Some (revision_of (first + sum_by spliced (revision_of first x ∷ take i others)) (take 56 b))) (drop-drop (56 * i) 56 bytes ∙ ap (λ (k : ℕ). drop k bytes) (rw mul-suc (omega arith)))
 
@@ -72,7 +72,7 @@ revisions_back version first (suc n) bytes enough h none =
     let parts = else_none _ _ none in
     let room = rw mul-suc at enough in
     let x : List ℕ = take 56 bytes in
-    let next : ℕ = first + splices_in x in
+    let next : ℕ = first + splice_count_in x in
     let len : length x ≡ 56 = omega (arith, length-take 56 bytes) in
     let one = (revision_record version first).back x len (IsBytes-take 56 bytes h) parts.0 in
     let others = revisions_back version next n (drop 56 bytes) (omega (arith, length-drop 56 bytes)) (IsBytes-drop 56 bytes h) parts.1 in
@@ -104,7 +104,7 @@ revisions_again version first (x ∷ xs) rest fits placed =
     let front : take 56 bytes ≡ revision_spelling x = ap (take 56) regrouped ∙ take_at (revision_spelling x) (flat_map revision_spelling xs ++ rest) 56 len in
     let after : drop 56 bytes ≡ flat_map revision_spelling xs ++ rest = ap (drop 56) regrouped ∙ drop_at (revision_spelling x) (flat_map revision_spelling xs ++ rest) 56 len in
     let one = law.again x (fits.0, placed.0) in
-    let count : splices_in (revision_spelling x) ≡ splices_of x.edit = sym (splices_read first (revision_spelling x)) ∙ ap spliced one.1 in
+    let count : splice_count_in (revision_spelling x) ≡ splices_of x.edit = sym (splices_read first (revision_spelling x)) ∙ ap spliced one.1 in
     let others = revisions_again version (first + splices_of x.edit) xs rest fits.1 placed.1 in
     record {
       sound = rw (front, after, one.0) others.sound;

@@ -23,7 +23,7 @@ use Rattle.image_reader.specs.Layout.{IsBytes, spelled, number_in, records}
 use Rattle.image_reader.specs.Versions.{version_number, version_by, is_two}
 use Rattle.image_reader.specs.Value.{ImageValue, IsImage, FitsSource, FitsNode, FitsRevision, FitsSplice, FitsRow}
 use Rattle.image_reader.specs.Spelling.{records_spelling, header_layout, header_numbers, source_spelling, node_spelling, revision_spelling, splice_spelling, row_spelling, spelling}
-use Rattle.image_reader.specs.Reading.{AreSections, HasHeader, source_of, image_node, revisions_of, splice_of, row_of, version_in, source_count, node_count, revision_count, splice_count, row_count, pool_len, stated_len, is_over_limit, is_unknown_version, has_header_pad, from_sources, from_nodes, from_revisions, from_splices, from_rows, from_pool, sections_value, image_of, front_fault, header_fault, source_record_fault, node_record_fault, row_record_fault, counted_rows, counted_splices, first_fault, sections_fault, fault_of}
+use Rattle.image_reader.specs.Reading.{AreSections, HasHeader, source_of, image_node, revisions_of, splice_of, row_of, version_in, source_count, node_count, revision_count, splice_count, row_count, pool_len, stated_len, is_over_limit, is_unknown_version, has_header_pad, from_sources, from_nodes, from_revisions, from_splices, from_rows, from_pool, sections_value, image_in, front_fault, header_fault, source_record_fault, node_record_fault, row_record_fault, counted_rows, counted_splices, first_fault, sections_fault, fault_of}
 use Rattle.image_reader.proofs.Faults.{else_none, fault_if_none}
 use Rattle.image_reader.proofs.Cutting.{length-map-records}
 use Rattle.image_reader.proofs.Fields.{AreWide, FitFields, wide32, wide64, IsBytes-drop, numbers_from, spelled_back, spelled_again, length-spelled}
@@ -120,7 +120,7 @@ header_spelled bytes h is =
     sym (spelled_back header_layout header_wide 0 bytes h is.long) ∙ ap (spelled header_layout) same
 
 -- bytes without a fault
-pub whole_back : (bytes : List ℕ) → IsBytes bytes → fault_of bytes ≡ None → IsImage (image_of bytes) × (bytes ≡ spelling (image_of bytes))
+pub whole_back : (bytes : List ℕ) → IsBytes bytes → fault_of bytes ≡ None → IsImage (image_in bytes) × (bytes ≡ spelling (image_in bytes))
 unfolding fault_of sections_fault sections_value spelling counted_rows counted_splices
 whole_back bytes h none =
     let p0 = else_none _ _ none in
@@ -228,7 +228,7 @@ says v is = record {
   none = λ one. sym is.splices_counted ∙ none_spliced v.revisions (subst (λ (version : FormatVersion). AllByRecursion (FitsRevision version) v.revisions) one is.revisions);
 }
 
-pub whole_again : (v : ImageValue) → IsImage v → (fault_of (spelling v) ≡ None) × (image_of (spelling v) ≡ v)
+pub whole_again : (v : ImageValue) → IsImage v → (fault_of (spelling v) ≡ None) × (image_in (spelling v) ≡ v)
 unfolding fault_of sections_fault sections_value spelling counted_rows counted_splices numbers_from
 whole_again v is =
     let header : List ℕ = spelled header_layout (header_numbers v) in
@@ -280,12 +280,12 @@ whole_again v is =
     )
 
 -- what reading promises, from which fault it finds and what it gives
-pub is_found : (bytes : List ℕ) (r : Result ImageValue ReadFault) → IsBytes bytes → result_err r ≡ fault_of bytes → IfOk r (λ v. v ≡ image_of bytes) → IfOk r (λ v. IsImage v × (bytes ≡ spelling v))
+pub is_found : (bytes : List ℕ) (r : Result ImageValue ReadFault) → IsBytes bytes → result_err r ≡ fault_of bytes → IfOk r (λ v. v ≡ image_in bytes) → IfOk r (λ v. IsImage v × (bytes ≡ spelling v))
 is_found bytes (Ok v) h fault value = rw value (whole_back bytes h (sym fault))
 is_found bytes (Err f) h fault value = tt
 
-pub is_only : (bytes : List ℕ) (r : Result ImageValue ReadFault) → result_err r ≡ fault_of bytes → IfOk r (λ v. v ≡ image_of bytes) → (v : ImageValue) → IsImage v → bytes ≡ spelling v → r ≡ Ok v
-is_only bytes (Ok x) fault value v is spelled_so = ap Ok (value ∙ ap image_of spelled_so ∙ (whole_again v is).1)
+pub is_only : (bytes : List ℕ) (r : Result ImageValue ReadFault) → result_err r ≡ fault_of bytes → IfOk r (λ v. v ≡ image_in bytes) → (v : ImageValue) → IsImage v → bytes ≡ spelling v → r ≡ Ok v
+is_only bytes (Ok x) fault value v is spelled_so = ap Ok (value ∙ ap image_in spelled_so ∙ (whole_again v is).1)
 is_only bytes (Err f) fault value v is spelled_so =
     let none : Some f ≡ None = fault ∙ ap fault_of spelled_so ∙ (whole_again v is).0 in
     absurd cc
@@ -309,7 +309,7 @@ pub sections_image : (bytes : List ℕ) (h : Header) (x : Sections) → IsBytes 
 unfolding fault_of sections_fault sections_value
 sections_image bytes h x is_bytes header none are =
     let back = whole_back bytes is_bytes none in
-    let in_front = records_back bytes (image_of bytes) back.0 back.1 in
+    let in_front = records_back bytes (image_in bytes) back.0 back.1 in
     let nodes : first_fault node_record_fault (records 32 (node_count bytes) (from_nodes bytes)) ≡ None = (else_none _ _ (else_none _ _ (else_none _ _ none).1).1).0 in (
       rw (← header.version, ← header.sources, ← header.nodes, ← header.revisions, ← header.splices, ← header.rows, ← are.sources, ← are.nodes, ← are.revisions, ← are.splices, ← are.rows, ← are.pool) at back.0,
       rw (← header.sources, ← header.nodes, ← are.sources, ← are.nodes) at nodes,

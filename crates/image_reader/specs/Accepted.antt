@@ -22,11 +22,11 @@ abbrev pub HasSources : ImageValue → List ℕ → Type 0
 HasSources v sizes = v.sources ≡ sizes
 
 -- a node that breaks no rule
-abbrev pub IsGoodNode : Table → ℕ → Type 0
-IsGoodNode t id = IsSoundNode t id (node_at t id) × IsTrueNode t (node_at t id)
+abbrev pub IsAcceptedNode : Table → ℕ → Type 0
+IsAcceptedNode t id = IsSoundNode t id (node_at t id) × IsTrueNode t (node_at t id)
 
 abbrev pub AreGoodNodes : Table → Type 0
-AreGoodNodes t = (id : ℕ) → id < length t.nodes → IsGoodNode t id
+AreGoodNodes t = (id : ℕ) → id < length t.nodes → IsAcceptedNode t id
 
 -- ---- revisions
 

@@ -94,38 +94,38 @@ numbers_in bytes = record {
 }
 
 -- the command of a revision, where the revisions before it have so many splices
-abbrev pub edit_of : ℕ → List ℕ → Edit
-edit_of first bytes = edit_by first (command_code_in bytes) (field_of (numbers_in bytes))
+abbrev pub edit_in_bytes : ℕ → List ℕ → Edit
+edit_in_bytes first bytes = edit_by first (command_code_in bytes) (field_of (numbers_in bytes))
 
-abbrev pub root_of : ℕ → Option NodeId
-root_of n = if n == NIL_ROOT then None else Some (id_of n)
+abbrev pub root_by_number : ℕ → Option NodeId
+root_by_number n = if n == NIL_ROOT then None else Some (id_of n)
 
 abbrev pub root_in : List ℕ → Option NodeId
-root_in bytes = root_of (number_in w32 4 bytes)
+root_in bytes = root_by_number (number_in w32 4 bytes)
 
 abbrev pub is_marked : List ℕ → Bool
 is_marked bytes = number_in w8 1 bytes == 1
 
 -- how many rows it has
-abbrev pub rows_in : List ℕ → ℕ
-rows_in bytes = number_in w32 48 bytes
+abbrev pub row_count_in : List ℕ → ℕ
+row_count_in bytes = number_in w32 48 bytes
 
 -- how many splices it has
-abbrev pub splices_in : List ℕ → ℕ
-splices_in bytes = if command_code_in bytes == MANY then number_in w32 12 bytes else 0
+abbrev pub splice_count_in : List ℕ → ℕ
+splice_count_in bytes = if command_code_in bytes == MANY then number_in w32 12 bytes else 0
 
 unfoldable pub revision_of : ℕ → List ℕ → Revision
 revision_of first bytes = record {
-  edit = edit_of first bytes;
+  edit = edit_in_bytes first bytes;
   mark = is_marked bytes;
   root = root_in bytes;
-  rows = rows_in bytes;
+  rows = row_count_in bytes;
 }
 
 -- the revisions of some records, each of which knows how many splices those before it have
 unfoldable pub revisions_of : ℕ → List (List ℕ) → List Revision
 revisions_of first [] = []
-revisions_of first (x ∷ xs) = revision_of first x ∷ revisions_of (first + splices_in x) xs
+revisions_of first (x ∷ xs) = revision_of first x ∷ revisions_of (first + splice_count_in x) xs
 
 unfoldable pub splice_of : List ℕ → Splice
 splice_of bytes = record {
@@ -213,7 +213,7 @@ abbrev pub from_pool : List ℕ → List ℕ
 from_pool bytes = drop (ROW_SIZE * row_count bytes) (from_rows bytes)
 
 -- the bytes from each section on are enough for its records
-pub record HasRoom (s : ℕ) (sources : List ℕ) (n : ℕ) (nodes : List ℕ) (k : ℕ) (revisions : List ℕ) (i : ℕ)
+pub record HasEnoughBytes (s : ℕ) (sources : List ℕ) (n : ℕ) (nodes : List ℕ) (k : ℕ) (revisions : List ℕ) (i : ℕ)
     (splices : List ℕ) (j : ℕ) (rows : List ℕ) : Type 0 where
   pub for_sources : SOURCE_SIZE * s ≤ length sources
   pub for_nodes : NODE_SIZE * n ≤ length nodes
@@ -245,8 +245,8 @@ sections_value version source_count sources node_count nodes revision_count revi
     }
 
 -- what bytes say
-abbrev pub image_of : List ℕ → ImageValue
-image_of bytes =
+abbrev pub image_in : List ℕ → ImageValue
+image_in bytes =
     sections_value (version_in bytes) (source_count bytes) (from_sources bytes) (node_count bytes) (from_nodes bytes)
     (revision_count bytes) (from_revisions bytes) (splice_count bytes) (from_splices bytes) (row_count bytes)
     (from_rows bytes) (from_pool bytes)
@@ -347,7 +347,7 @@ node_record_fault bytes =
 -- the fields that no revision uses, and those that a command does not use
 abbrev pub unused_in_revision : List ℕ → List ℕ
 unused_in_revision bytes =
-    number_in w16 2 bytes ∷ number_in w32 52 bytes ∷ unused (edit_of 0 bytes) (field_of (numbers_in bytes))
+    number_in w16 2 bytes ∷ number_in w32 52 bytes ∷ unused (edit_in_bytes 0 bytes) (field_of (numbers_in bytes))
 
 -- where `last` is the highest code of a command
 abbrev pub is_unknown_revision : ℕ → List ℕ → Bool
@@ -372,11 +372,11 @@ row_record_fault bytes =
 
 -- the rows that revisions have in all
 unfoldable pub counted_rows : ℕ → List ℕ → ℕ
-counted_rows count revisions = sum_by rows_in (records REVISION_SIZE count revisions)
+counted_rows count revisions = sum_by row_count_in (records REVISION_SIZE count revisions)
 
 -- and the splices
 unfoldable pub counted_splices : ℕ → List ℕ → ℕ
-counted_splices count revisions = sum_by splices_in (records REVISION_SIZE count revisions)
+counted_splices count revisions = sum_by splice_count_in (records REVISION_SIZE count revisions)
 
 -- the first fault of sections, each given with its number of records and with the bytes from it on
 unfoldable pub sections_fault : FormatVersion → ℕ → List ℕ → ℕ → List ℕ → ℕ → List ℕ → ℕ → ℕ → List ℕ → Option ReadFault
@@ -414,11 +414,11 @@ pub record JudgesAll (n : ℕ) (header : List ℕ) : Type 0 where
   pub whole : (rest : List ℕ) → fault_of (header ++ rest) ≡ None → take n (header ++ rest) ≡ header ++ rest
 
 -- the code that the program prints
-abbrev pub fault_code : ReadFault → List ℕ
-fault_code Truncated = codes "I1"
-fault_code Trailing = codes "I2"
-fault_code Magic = codes "I3"
-fault_code Version = codes "I4"
-fault_code Count = codes "I5"
-fault_code NonZeroPad = codes "I6"
-fault_code Kind = codes "I7"
+abbrev pub read_fault_code : ReadFault → List ℕ
+read_fault_code Truncated = codes "I1"
+read_fault_code Trailing = codes "I2"
+read_fault_code Magic = codes "I3"
+read_fault_code Version = codes "I4"
+read_fault_code Count = codes "I5"
+read_fault_code NonZeroPad = codes "I6"
+read_fault_code Kind = codes "I7"

@@ -2,7 +2,7 @@
 
 ghost use Rattle.std.specs.Prelude.{◌≡◌, ◌+◌, ◌*◌, ◌≤◌, length};
 ghost use Rattle.image_reader.specs.declared.layout.TheConstants.{REVISION_SIZE, ROW_SIZE, SOURCE_SIZE, SPLICE_SIZE};
-ghost use Rattle.image_reader.specs.Reading.{source_of, root_of, root_in, is_marked, revision_of, splice_of, splices_in, row_kind_of, row_of, counted_rows, counted_splices};
+ghost use Rattle.image_reader.specs.Reading.{source_of, root_by_number, root_in, is_marked, revision_of, splice_of, splice_count_in, row_kind_of, row_of, counted_rows, counted_splices};
 
 use crate::codes::{LEAF_ROW, SHARED_ROW};
 use crate::command::{edit_by, numbers_in};
@@ -27,7 +27,7 @@ pub fn source_in(bytes: &[u8]) -> u64
 pub const NIL_ROOT: u32 = u32::MAX;
 
 fn root_by(number: u32) -> Rope
-    ensures { result ≡ root_of number }
+    ensures { result ≡ root_by_number number }
 {
     if number == NIL_ROOT {
         None
@@ -83,7 +83,7 @@ pub fn splice_in(bytes: &[u8]) -> Splice
 /// How many splices a revision has.
 pub fn splices_in(bytes: &[u8]) -> u32
     requires { length bytes.now ≡ REVISION_SIZE }
-    ensures { result ≡ splices_in bytes.now }
+    ensures { result ≡ splice_count_in bytes.now }
 {
     if u8_in(bytes, 0) == MANY {
         u32_in(bytes, 12)

@@ -1,7 +1,7 @@
 //! Why bytes are no image.
 
 ghost use Rattle.std.specs.Prelude.{Some};
-ghost use Rattle.image_reader.specs.Reading.{fault_code};
+ghost use Rattle.image_reader.specs.Reading.{read_fault_code};
 
 use std::fmt;
 
@@ -25,7 +25,7 @@ pub enum ReadFault {
 }
 
 impl fmt::Display for ReadFault {
-    ghost output = { λ fault. Some (fault_code fault) };
+    ghost output = { λ fault. Some (read_fault_code fault) };
 
     fn fmt<W: fmt::Write>(&self, f: &mut fmt::Formatter<W>) -> fmt::Result {
         match self {

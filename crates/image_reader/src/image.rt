@@ -9,7 +9,7 @@ ghost use Rattle.command_parts.specs.Fields.{splices_of};
 ghost use Rattle.image_reader.specs.Value.{ImageValue, IsImage, function_at, image_table};
 ghost use Rattle.image_reader.specs.Accepted.{revision_at, splices_before};
 ghost use Rattle.image_reader.specs.Spelling.{spelling, records_spelling};
-ghost use Rattle.image_reader.specs.Reading.{fault_of, image_of, whole_len, HasHeader};
+ghost use Rattle.image_reader.specs.Reading.{fault_of, image_in, whole_len, HasHeader};
 
 use crate::decode::{mark_in, revision_in, root_in, row_in, source_in, splice_in, splices_in};
 use crate::fault::ReadFault;
@@ -51,14 +51,14 @@ impl<'a> Model for Image<'a> {
     ghost use Rattle.image_reader.specs.Layout.{records};
     ghost use Rattle.image_reader.specs.declared.layout.TheConstants.{NODE_SIZE};
     ghost use Rattle.image_reader.specs.Spelling.{records_spelling};
-    ghost use Rattle.image_reader.specs.Reading.{sections_value, HasRoom, first_fault, node_record_fault};
+    ghost use Rattle.image_reader.specs.Reading.{sections_value, HasEnoughBytes, first_fault, node_record_fault};
 
     ghost Value = { ImageValue };
 
     ghost view = { λ a. sections_value a.version a.source_count a.sources.now a.node_count a.nodes.now
         a.revision_count a.revisions.now a.splice_count a.splices.now a.row_count a.rows.now a.pool.now };
 
-    ghost invariant = { λ a. HasRoom a.source_count a.sources.now a.node_count a.nodes.now
+    ghost invariant = { λ a. HasEnoughBytes a.source_count a.sources.now a.node_count a.nodes.now
         a.revision_count a.revisions.now a.splice_count a.splices.now a.row_count a.rows.now
         × IsImage (sections_value a.version a.source_count a.sources.now a.node_count a.nodes.now
         a.revision_count a.revisions.now a.splice_count a.splices.now a.row_count a.rows.now a.pool.now)
@@ -81,7 +81,7 @@ impl<'a> Image<'a> {
         requires read { fault_of bytes.now ≡ None }
         requires numbers { HasHeader bytes.now header.now }
         requires whole { length bytes.now ≡ whole_len header.now }
-        ensures { result ≡ image_of bytes.now }
+        ensures { result ≡ image_in bytes.now }
     {
         let sections = sections_of(header, bytes);
         Image {
@@ -105,7 +105,7 @@ impl<'a> Image<'a> {
     #[tactic(auto, unfolding(crate::specs::Reading::fault_of))]
     fn read_sections(bytes: &'a [u8]) -> Result<Image<'a>, ReadFault>
         ensures fault { result_err result ≡ fault_of bytes.now }
-        ensures value { IfOk result (λ v. v ≡ image_of bytes.now) }
+        ensures value { IfOk result (λ v. v ≡ image_in bytes.now) }
     {
         let header = read_header(bytes)?;
         check_sections(&header, &sections_of(&header, bytes))?;
@@ -132,7 +132,7 @@ impl<'a> Image<'a> {
     #[tactic(auto, unfolding(crate::specs::Reading::fault_of))]
     pub fn again(bytes: &'a [u8]) -> Image<'a>
         requires { fault_of bytes.now ≡ None }
-        ensures { result ≡ image_of bytes.now }
+        ensures { result ≡ image_in bytes.now }
     {
         match read_header(bytes) {
             Ok(header) => Image::cut(bytes, &header),

@@ -7,7 +7,7 @@ ghost use Rattle.image_reader.specs.declared.layout.TheConstants.{NODE_SIZE, REV
 ghost use Rattle.image_reader.specs.Versions.{last_code};
 ghost use Rattle.command_parts.specs.declared.codes.TheConstants.{BALANCE, MANY};
 ghost use Rattle.image_reader.specs.Layout.{records};
-ghost use Rattle.image_reader.specs.Reading.{source_record_fault, node_record_fault, revision_record_fault, row_record_fault, first_fault, any_nonzero, unused_in_revision, unused_in_row, sections_fault, whole_len, AreSections, HasRoom};
+ghost use Rattle.image_reader.specs.Reading.{source_record_fault, node_record_fault, revision_record_fault, row_record_fault, first_fault, any_nonzero, unused_in_revision, unused_in_row, sections_fault, whole_len, AreSections, HasEnoughBytes};
 
 use crate::codes::{BYTES_ROW, SHARED_ROW};
 use crate::command::{edit_by, has_unused_number, numbers_in};
@@ -65,7 +65,7 @@ pub fn sections_of<'a>(header: &Header, bytes: &'a [u8]) -> Sections<'a>
     requires { length bytes.now ≡ whole_len header.now }
     ensures sections { AreSections header.now bytes.now result }
     ensures pool { length result.pool.now ≤ length result.sources.now }
-    ensures room { HasRoom header.now.sources result.sources.now header.now.nodes result.nodes.now
+    ensures room { HasEnoughBytes header.now.sources result.sources.now header.now.nodes result.nodes.now
         header.now.revisions result.revisions.now header.now.splices result.splices.now
         header.now.rows result.rows.now }
 {
@@ -88,7 +88,7 @@ pub fn sections_of<'a>(header: &Header, bytes: &'a [u8]) -> Sections<'a>
 /// Refuses sections with a fault: the first one's, section by section.
 #[tactic(auto, unfolding(crate::specs::Reading::sections_fault))]
 pub fn check_sections(header: &Header, sections: &Sections) -> Result<(), ReadFault>
-    requires { HasRoom header.now.sources sections.now.sources.now header.now.nodes sections.now.nodes.now
+    requires { HasEnoughBytes header.now.sources sections.now.sources.now header.now.nodes sections.now.nodes.now
         header.now.revisions sections.now.revisions.now header.now.splices sections.now.splices.now
         header.now.rows sections.now.rows.now }
     ensures { result_err result ≡ sections_fault header.now.version header.now.sources sections.now.sources.now

@@ -6,7 +6,7 @@ use Rattle.std.specs.Prelude.{Option, Some, None, Result, Ok, Err, max, slice_ge
 use Rattle.std.proofs.lemmas.List.{get_or-map, length-map, take-take}
 use Rattle.std.proofs.lemmas.Result.{on_ok_weaker}
 use Rattle.std.proofs.lemmas.Slice.{between_is}
-use Rattle.lazy_file.specs.DeviceTexts.{AreBytesAt, AreBytesOf, DeviceReading, DeviceText, FillsFrom, HasSpan, KeepsOthers, ReadsSource, calls_of, failures_of, no_device, no_reading, reading_by, source_text, stated_by, texts_of}
+use Rattle.lazy_file.specs.DeviceTexts.{AreBytesAt, AreSourceBytes, DeviceReading, DeviceText, FillsFrom, HasSpan, KeepsOthers, ReadsSource, calls_of, device_text, failures_of, no_device, no_reading, reading_by, stated_by, stated_texts}
 use Rattle.lazy_file.specs.Readings.{fault_in, InSpan, Reads}
 use Rattle.lazy_file.specs.SourceTexts.{text_at}
 use Rattle.lazy_file.specs.declared.faults.SourceFault.{SourceFault}
@@ -21,7 +21,7 @@ slice_get-set_other (x ∷ xs) (suc s) (suc k) d other = slice_get-set_other xs 
 
 -- bytes of a text that end inside its first n are bytes of those
 pub bytes_inside : (n : ℕ) (text : Option (List ℕ)) (off : ℕ) (xs : List ℕ) → off + length xs ≤ n
-    → AreBytesAt text off xs → AreBytesAt (source_text (record { size = n; text = text })) off xs
+    → AreBytesAt text off xs → AreBytesAt (device_text (record { size = n; text = text })) off xs
 bytes_inside n None off xs inside h = h
 bytes_inside n (Some t) off xs inside h =
     let cut : take (n - off) (drop off t) ≡ drop off (take n t) = between_is t off n in
@@ -30,7 +30,7 @@ bytes_inside n (Some t) off xs inside h =
 
 -- a text that ends before the end of a span is shorter than the size in which that lies
 pub shorter : (n : ℕ) (text : Option (List ℕ)) (m : ℕ) → m ≤ n → IfSome text (λ t. length t < m)
-    → IfSome (source_text (record { size = n; text = text })) (λ t. length t < n)
+    → IfSome (device_text (record { size = n; text = text })) (λ t. length t < n)
 shorter n None m inside h = h
 shorter n (Some t) m inside h = omega (arith, h, inside, length-take n t)
 
@@ -51,30 +51,30 @@ reading_alike f (x ∷ xs) (y ∷ ys) zero e = let same : x ≡ y = cc in ap f s
 reading_alike f (x ∷ xs) (y ∷ ys) (suc k) e = reading_alike f xs ys k e
 
 -- what a device states among those of all
-pub texts_at : (rs : List DeviceReading) (s : ℕ) → get_or (texts_of rs) s no_device ≡ (get_or rs s no_reading).stated
+pub texts_at : (rs : List DeviceReading) (s : ℕ) → get_or (stated_texts rs) s no_device ≡ (get_or rs s no_reading).stated
 texts_at [] s = refl
 texts_at (r ∷ rs) zero = refl
 texts_at (r ∷ rs) (suc s) = texts_at rs s
 
 -- what all state, where one is set that states the same
-texts_set : {D : Type 0} (f : D → DeviceReading) (ds : List D) (s : ℕ) (d after : D) → s < length ds → (f after).stated ≡ (f (get_or ds s d)).stated → texts_of (map f (slice_set ds s after)) ≡ texts_of (map f ds)
+texts_set : {D : Type 0} (f : D → DeviceReading) (ds : List D) (s : ℕ) (d after : D) → s < length ds → (f after).stated ≡ (f (get_or ds s d)).stated → stated_texts (map f (slice_set ds s after)) ≡ stated_texts (map f ds)
 texts_set f [] s d after there same = absurd (omega arith)
-texts_set f (x ∷ xs) zero d after there same = ap (λ (t : DeviceText). t ∷ texts_of (map f xs)) same
+texts_set f (x ∷ xs) zero d after there same = ap (λ (t : DeviceText). t ∷ stated_texts (map f xs)) same
 texts_set f (x ∷ xs) (suc s) d after there same = ap (λ (ts : List DeviceText). (f x).stated ∷ ts) (texts_set f xs s d after (omega arith) same)
 
-pub text_of_device : {D : Type 0} (reading : D → DeviceReading) (ds : List D) (s : ℕ) (d : D) → s < length ds → get_or (texts_of (map reading ds)) s no_device ≡ (reading (get_or ds s d)).stated
+pub text_of_device : {D : Type 0} (reading : D → DeviceReading) (ds : List D) (s : ℕ) (d : D) → s < length ds → get_or (stated_texts (map reading ds)) s no_device ≡ (reading (get_or ds s d)).stated
 text_of_device reading ds s d there = texts_at (map reading ds) s ∙ ap (λ (r : DeviceReading). r.stated) (get_or-map reading ds s d no_reading there)
 
 -- a read of one of the devices, as one of source s
 pub read_of_one : {D X : Type 0} (reading : D → DeviceReading) (ds : List D) (d after : D) (s off : ℕ) (buffer : List ℕ) (outcome : Result X SourceFault)
-    → HasSpan (texts_of (map reading ds)) s off (length buffer)
+    → HasSpan (stated_texts (map reading ds)) s off (length buffer)
     → FillsFrom (reading (get_or ds s d)) (reading after) off buffer outcome
-    → ReadsSource reading ds (slice_set ds s after) s (length buffer) outcome × OnOk outcome (AreBytesOf (texts_of (map reading ds)) s off buffer)
+    → ReadsSource reading ds (slice_set ds s after) s (length buffer) outcome × OnOk outcome (AreSourceBytes (stated_texts (map reading ds)) s off buffer)
 read_of_one reading ds d after s off buffer outcome span fills =
     let there : s < length ds = rw (length-map, length-map) at span.there in
     let was : get_or (map reading ds) s no_reading ≡ reading (get_or ds s d) = get_or-map reading ds s d no_reading there in
     let is : get_or (map reading (slice_set ds s after)) s no_reading ≡ reading after = get_or-set_same reading ds s after there in
-    let own : get_or (texts_of (map reading ds)) s no_device ≡ (reading (get_or ds s d)).stated = text_of_device reading ds s d there in
+    let own : get_or (stated_texts (map reading ds)) s no_device ≡ (reading (get_or ds s d)).stated = text_of_device reading ds s d there in
     let one = (reading (get_or ds s d)).stated in
     let failed_was : failures_of (map reading ds) s ≡ (reading (get_or ds s d)).failures = ap (λ (r : DeviceReading). r.failures) was in
     let failed_is : failures_of (map reading (slice_set ds s after)) s ≡ (reading after).failures = ap (λ (r : DeviceReading). r.failures) is in
@@ -118,8 +118,8 @@ module _ {D : Type 0} (reading : D → DeviceReading) (ds es : List D) (s off n 
       later = h.later;
       device = (λ is. h.device.0 (ap Err is), λ more. (let failed = h.device.1 more in cc));
       short = λ is.
-          let text : text_at (reading_by (map reading ds)).stated s ≡ source_text (get_or (texts_of (map reading ds)) s no_device) = list.get_or-map source_text (texts_of (map reading ds)) s no_device in
-          let size : slice_index (reading_by (map reading ds)).stated.sizes s ≡ (get_or (texts_of (map reading ds)) s no_device).size = list.get_or-map (λ (t : DeviceText). t.size) (texts_of (map reading ds)) s no_device in
+          let text : text_at (reading_by (map reading ds)).stated s ≡ device_text (get_or (stated_texts (map reading ds)) s no_device) = list.get_or-map device_text (stated_texts (map reading ds)) s no_device in
+          let size : slice_index (reading_by (map reading ds)).stated.sizes s ≡ (get_or (stated_texts (map reading ds)) s no_device).size = list.get_or-map (λ (t : DeviceText). t.size) (stated_texts (map reading ds)) s no_device in
           rw (text, size) (h.short (ap Err is));
       bad_source = λ is. absurd (h.inside (ap Err is));
       unfailing = λ never. absurd cc;

@@ -8,7 +8,7 @@ use Rattle.std.proofs.lemmas.List.Elements.{All-append, All-get_or}
 use Rattle.std.proofs.Math.Seq.{take-append_seam}
 use Rattle.lazy_file.specs.SourceTexts.{AreSizes}
 use Rattle.lazy_file.specs.declared.sources.TheConstants.{COUNT_LIMIT, SOURCE_LIMIT}
-use Rattle.lazy_file.specs.DeviceTexts.{DeviceReading, DeviceText, no_device, stated_by, texts_of}
+use Rattle.lazy_file.specs.DeviceTexts.{DeviceReading, DeviceText, no_device, stated_by, stated_texts}
 use Rattle.lazy_file.specs.KeptBlocks.{AreKept, AreWithin, IsBlockOf, Kept}
 use Rattle.std.specs.Map.{keys_of}
 
@@ -48,14 +48,14 @@ sizes_of_more ds d sizes room size =
     })
 
 -- the devices after one was added or not
-pub sound_after : {A D : Type 0} (reading : D → DeviceReading) (added : Bool) (old new : List D) (d : D) (most : ℕ) (kept : Kept A) → AreSound (texts_of (map reading old)) most kept
-    → length old < COUNT_LIMIT → (reading d).stated.size ≤ SOURCE_LIMIT → new ≡ cond added (old ++ d ∷ []) old → AreSound (texts_of (map reading new)) most kept
+pub sound_after : {A D : Type 0} (reading : D → DeviceReading) (added : Bool) (old new : List D) (d : D) (most : ℕ) (kept : Kept A) → AreSound (stated_texts (map reading old)) most kept
+    → length old < COUNT_LIMIT → (reading d).stated.size ≤ SOURCE_LIMIT → new ≡ cond added (old ++ d ∷ []) old → AreSound (stated_texts (map reading new)) most kept
 sound_after reading false old new d most kept sound room size is = rw is sound
 sound_after reading true old new d most kept sound room size is =
-    let ds = texts_of (map reading old) in
+    let ds = stated_texts (map reading old) in
     let text = (reading d).stated in
     let more : AreSound (ds ++ text ∷ []) most kept = (sizes_of_more ds text sound.0 (rw (length-map, length-map) room) size, λ key block there. block_of_more ds text key block.items (sound.1 key block there), sound.2) in
-    let all : texts_of (map reading (old ++ d ∷ [])) ≡ ds ++ text ∷ [] = rw (map-append reading old (d ∷ []), map-append (λ (r : DeviceReading). r.stated) (map reading old) (reading d ∷ [])) refl in
+    let all : stated_texts (map reading (old ++ d ∷ [])) ≡ ds ++ text ∷ [] = rw (map-append reading old (d ∷ []), map-append (λ (r : DeviceReading). r.stated) (map reading old) (reading d ∷ [])) refl in
     rw (is, all) more
 
 -- a vector's items, whose slice was written: all that was written

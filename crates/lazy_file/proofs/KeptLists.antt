@@ -7,7 +7,7 @@ use Rattle.std.proofs.lemmas.Bool.{eqb-true, eq-eqb}
 use Rattle.lru.specs.LruCache.{LruCache, promoted, put_entries}
 use Rattle.lru.proofs.CallerLemmas.{Contains-lookup, Contains-lookup_entry, Contains-promoted, Contains-put_entries}
 use Rattle.lru.proofs.Splits.{Contains-cons, Contains-head, Contains-nil, Contains-tail}
-use Rattle.lazy_file.specs.KeptBlocks.{CopiesKept, IsKept, Kept, KeepsOne, is_same_block}
+use Rattle.lazy_file.specs.KeptBlocks.{CopiesKept, KeepsBlock, Kept, KeepsOne, is_same_block}
 
 both : (a b : Bool) → (a && b) ≡ true → (a ≡ true) × (b ≡ true)
 both true b h = (refl, h)
@@ -25,7 +25,7 @@ pub is_same_block-refl : (x : ℕ × ℕ) → is_same_block x x ≡ true
 is_same_block-refl x = rw (eq-eqb x.0 x.0 refl, eq-eqb x.1 x.1 refl) refl
 
 -- a block that is kept is found
-pub kept_found : {A : Type 0} (kept : Kept A) (key : ℕ × ℕ) → IsKept kept key → lookup (is_same_block key) kept ≡ None → ⊥
+pub kept_found : {A : Type 0} (kept : Kept A) (key : ℕ × ℕ) → KeepsBlock kept key → lookup (is_same_block key) kept ≡ None → ⊥
 kept_found [] key there none = Contains-nil key there
 kept_found (e ∷ es) key there none =
     elim (Contains-cons e.0 (keys_of es) key there) [
@@ -37,7 +37,7 @@ kept_found (e ∷ es) key there none =
     ]
 
 -- a key that is not the one that is removed stays
-stays_removed : {A : Type 0} (test : ℕ × ℕ → Bool) (kept : Kept A) (e : (ℕ × ℕ) × Vec ℕ A) (other : ℕ × ℕ) → lookup_entry test kept ≡ Some e → IsKept kept other → Contains (e.0 ∷ keys_of (remove_entry test kept)) other
+stays_removed : {A : Type 0} (test : ℕ × ℕ → Bool) (kept : Kept A) (e : (ℕ × ℕ) × Vec ℕ A) (other : ℕ × ℕ) → lookup_entry test kept ≡ Some e → KeepsBlock kept other → Contains (e.0 ∷ keys_of (remove_entry test kept)) other
 stays_removed test [] e other found there = absurd (Contains-nil other there)
 stays_removed test (f ∷ es) e other found there = (elim (test f.0) as (λ y. test f.0 ≡ y → Contains (e.0 ∷ keys_of (remove_entry test (f ∷ es))) other) [
   | true ↦ λ t.
@@ -55,23 +55,23 @@ stays_removed test (f ∷ es) e other found there = (elim (test f.0) as (λ y. t
       ])
 ]) refl
 
-stays_by : {A : Type 0} (test : ℕ × ℕ → Bool) (kept : Kept A) (other : ℕ × ℕ) (o : Option ((ℕ × ℕ) × Vec ℕ A)) → lookup_entry test kept ≡ o → IsKept kept other
-    → IsKept (option_map_or (λ e. e ∷ remove_entry test kept) o kept) other
+stays_by : {A : Type 0} (test : ℕ × ℕ → Bool) (kept : Kept A) (other : ℕ × ℕ) (o : Option ((ℕ × ℕ) × Vec ℕ A)) → lookup_entry test kept ≡ o → KeepsBlock kept other
+    → KeepsBlock (option_map_or (λ e. e ∷ remove_entry test kept) o kept) other
 stays_by test kept other None found there = there
 stays_by test kept other (Some e) found there = stays_removed test kept e other found there
 
-pub stays_promoted : {A : Type 0} (test : ℕ × ℕ → Bool) (kept : Kept A) (other : ℕ × ℕ) → IsKept kept other → IsKept (promoted test kept) other
+pub stays_promoted : {A : Type 0} (test : ℕ × ℕ → Bool) (kept : Kept A) (other : ℕ × ℕ) → KeepsBlock kept other → KeepsBlock (promoted test kept) other
 stays_promoted test kept other there = stays_by test kept other (lookup_entry test kept) refl there
 
 -- what was put is kept
 put_by : {A : Type 0} (old : LruCache (ℕ × ℕ) (Vec ℕ A)) (key : ℕ × ℕ) (block : Vec ℕ A) (o : Option ((ℕ × ℕ) × Vec ℕ A)) → lookup_entry (is_same_block key) old.entries ≡ o
-    → IsKept (option_map_or (λ e. (e.0, block) ∷ remove_entry (is_same_block key) old.entries) o ((key, block) ∷ take (old.cap - 1) old.entries)) key
+    → KeepsBlock (option_map_or (λ e. (e.0, block) ∷ remove_entry (is_same_block key) old.entries) o ((key, block) ∷ take (old.cap - 1) old.entries)) key
 put_by old key block None found = Contains-head key (keys_of (take (old.cap - 1) old.entries))
 put_by old key block (Some e) found =
     let is : e.0 ≡ key = sym (same_key key e.0 (Contains-lookup_entry (is_same_block key) old.entries e found).1) in
     subst (Contains (e.0 ∷ keys_of (remove_entry (is_same_block key) old.entries))) is (Contains-head e.0 (keys_of (remove_entry (is_same_block key) old.entries)))
 
-pub put_kept : {A : Type 0} (old : LruCache (ℕ × ℕ) (Vec ℕ A)) (key : ℕ × ℕ) (block : Vec ℕ A) → IsKept (put_entries is_same_block old key block) key
+pub put_kept : {A : Type 0} (old : LruCache (ℕ × ℕ) (Vec ℕ A)) (key : ℕ × ℕ) (block : Vec ℕ A) → KeepsBlock (put_entries is_same_block old key block) key
 put_kept old key block = put_by old key block (lookup_entry (is_same_block key) old.entries) refl
 
 -- a look-up found a block
@@ -81,7 +81,7 @@ found_block kept key block h =
     subst (λ k. Contains kept (k, block)) (sym (same_key key found.0 found.2)) found.1
 
 -- a kept block's key is among the keys
-pub key_of_kept : {A : Type 0} (kept : Kept A) (key : ℕ × ℕ) (block : Vec ℕ A) → Contains kept (key, block) → IsKept kept key
+pub key_of_kept : {A : Type 0} (kept : Kept A) (key : ℕ × ℕ) (block : Vec ℕ A) → Contains kept (key, block) → KeepsBlock kept key
 key_of_kept [] key block there = absurd (Contains-nil (key, block) there)
 key_of_kept (e ∷ es) key block there = elim (Contains-cons e es (key, block) there) [
   | inl same ↦ let is : e.0 ≡ key = ap (λ x. x.0) same in subst (Contains (e.0 ∷ keys_of es)) is (Contains-head e.0 (keys_of es))
@@ -95,7 +95,7 @@ pub copied_part : {A : Type 0} (old new : Kept A) (key : ℕ × ℕ) (from : ℕ
 copied_part old new key from part copied block moved h is inside = record {
   found = λ yes. (block, found_block old key block h, is yes);
   copied_if = λ there each. inside (each block (found_block old key block h));
-  stays = λ other there. subst (λ es. IsKept es other) (sym moved) (stays_promoted (is_same_block key) old other there);
+  stays = λ other there. subst (λ es. KeepsBlock es other) (sym moved) (stays_promoted (is_same_block key) old other there);
   kept = λ other bytes there. Contains-promoted (is_same_block key) old (other, bytes) (subst (λ es. Contains es (other, bytes)) moved there);
 }
 
@@ -105,7 +105,7 @@ pub nothing_copied : {A : Type 0} (old new : Kept A) (key : ℕ × ℕ) (from : 
 nothing_copied old new key from part moved none = record {
   found = λ yes. absurd cc;
   copied_if = λ there each. absurd (kept_found old key there none);
-  stays = λ other there. subst (λ es. IsKept es other) (sym moved) (stays_promoted (is_same_block key) old other there);
+  stays = λ other there. subst (λ es. KeepsBlock es other) (sym moved) (stays_promoted (is_same_block key) old other there);
   kept = λ other bytes there. Contains-promoted (is_same_block key) old (other, bytes) (subst (λ es. Contains es (other, bytes)) moved there);
 }
 

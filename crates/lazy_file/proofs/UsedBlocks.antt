@@ -8,7 +8,7 @@ use Rattle.std.proofs.lemmas.Bool.{cases_lt}
 use Rattle.lru.specs.LruCache.{LruCache, promoted, put_entries}
 use Rattle.lru.proofs.CallerLemmas.{Contains-lookup_entry}
 use Rattle.lru.proofs.Pairs.{lookup-lookup_entry}
-use Rattle.lazy_file.specs.KeptBlocks.{AreWithin, IsKept, Kept, UsesBlock, UsesBlocks, but_block, is_same_block, used_block, used_for}
+use Rattle.lazy_file.specs.KeptBlocks.{AreWithin, KeepsBlock, Kept, UsesBlock, UsesBlocks, but_block, is_same_block, used_block, used_for}
 use Rattle.lazy_file.specs.declared.kept_blocks.TheConstants.{BLOCK_SIZE}
 use Rattle.lazy_file.proofs.KeptLists.{found_block, is_same_block-refl, key_of_kept, same_key}
 
@@ -160,7 +160,7 @@ module _ {A : Type 0} where
   promoted_none key kept none = same_by key kept (lookup_entry (is_same_block key) kept) (lookup-lookup_entry (is_same_block key) kept ∙ none)
 
   -- the blocks stay in their order where this one is not kept
-  pub promoted_unkept : (key : ℕ × ℕ) (kept : Kept A) (block : Vec ℕ A) → lookup (is_same_block key) kept ≡ Some block → IsKept kept key
+  pub promoted_unkept : (key : ℕ × ℕ) (kept : Kept A) (block : Vec ℕ A) → lookup (is_same_block key) kept ≡ Some block → KeepsBlock kept key
   promoted_unkept key kept block found = key_of_kept kept key block (found_block kept key block found)
 
 -- blocks of n places that lie in one block, where there is a place

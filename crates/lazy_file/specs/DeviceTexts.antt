@@ -44,19 +44,19 @@ pub record ReadsAt {E : Type 0} (before after : DeviceReading) (off : ℕ) (old 
   pub end : IfOk outcome (λ n. n ≡ 0 → 0 < length old → IfSome before.stated.text (λ t. length t ≤ off))
 
 -- the text of a source that is a device: as many bytes as its size
-abbrev pub source_text : DeviceText → Option (List ℕ)
-source_text d = option_map (take d.size) d.text
+abbrev pub device_text : DeviceText → Option (List ℕ)
+device_text d = option_map (take d.size) d.text
 
 -- what sources state that are devices
 abbrev pub stated_by : List DeviceText → Stated
-stated_by ds = record { sizes = map (λ d. d.size) ds; texts = map source_text ds; never_fails = false }
+stated_by ds = record { sizes = map (λ d. d.size) ds; texts = map device_text ds; never_fails = false }
 
 -- a device that is not there, which nobody reads
 abbrev pub no_reading : DeviceReading
 no_reading = record { stated = no_device; failures = 0; calls = 0 }
 
-abbrev pub texts_of : List DeviceReading → List DeviceText
-texts_of ds = map (λ d. d.stated) ds
+abbrev pub stated_texts : List DeviceReading → List DeviceText
+stated_texts ds = map (λ d. d.stated) ds
 
 -- how many reads of source s have failed
 abbrev pub failures_of : List DeviceReading → ℕ → ℕ
@@ -64,7 +64,7 @@ failures_of ds s = (get_or ds s no_reading).failures
 
 -- what is known of sources that are devices
 abbrev pub reading_by : List DeviceReading → Reading
-reading_by ds = record { stated = stated_by (texts_of ds); failures = failures_of ds }
+reading_by ds = record { stated = stated_by (stated_texts ds); failures = failures_of ds }
 
 -- the outcome of reading a device from off on until the buffer was full
 pub record FillsFrom {X : Type 0} (before after : DeviceReading) (off : ℕ) (buffer : List ℕ)
@@ -85,8 +85,8 @@ pub record HasSpan (ds : List DeviceText) (s off n : ℕ) : Type 0 where
   pub limit : (get_or ds s no_device).size ≤ SOURCE_LIMIT
 
 -- these bytes stand at off in the text of source s, where it states one
-abbrev pub AreBytesOf : List DeviceText → ℕ → ℕ → List ℕ → Type 0
-AreBytesOf ds s off bytes = AreBytesAt (source_text (get_or ds s no_device)) off bytes
+abbrev pub AreSourceBytes : List DeviceText → ℕ → ℕ → List ℕ → Type 0
+AreSourceBytes ds s off bytes = AreBytesAt (device_text (get_or ds s no_device)) off bytes
 
 -- every device but that of source s is as it was
 abbrev pub KeepsOthers : {D : Type 0} → List D → List D → ℕ → Type 0
@@ -103,13 +103,13 @@ blocks_in off n = (off + n + (BLOCK_SIZE - 1)) / BLOCK_SIZE - off / BLOCK_SIZE
 -- what reading source s by at most `most` calls of its device leaves of the devices, and when each fault of it comes
 pub record ReadsSource {D X : Type 0} (reading : D → DeviceReading) (before after : List D) (s most : ℕ)
     (outcome : Result X SourceFault) : Type 0 where
-  pub same : texts_of (map reading after) ≡ texts_of (map reading before)
+  pub same : stated_texts (map reading after) ≡ stated_texts (map reading before)
   pub others : KeepsOthers before after s
   pub later : failures_of (map reading before) s ≤ failures_of (map reading after) s
   pub calls : calls_of (map reading after) s ≤ calls_of (map reading before) s + most
   pub device : IsErrOf outcome Device ↔ failures_of (map reading before) s < failures_of (map reading after) s
   pub once : failures_of (map reading after) s ≤ failures_of (map reading before) s + 1
   pub short : IsErrOf outcome Short
-      → IfSome (source_text (get_or (texts_of (map reading before)) s no_device))
-      (λ t. length t < (get_or (texts_of (map reading before)) s no_device).size)
+      → IfSome (device_text (get_or (stated_texts (map reading before)) s no_device))
+      (λ t. length t < (get_or (stated_texts (map reading before)) s no_device).size)
   pub inside : IsErrOf outcome BadSource → ⊥

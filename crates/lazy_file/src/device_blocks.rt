@@ -2,8 +2,8 @@
 ghost use Rattle.std.specs.Prelude.{◌≡◌, ◌↔◌, ◌+◌, ◌*◌, ◌<◌, ◌≤◌, false, IfOk, IfSome, IsErrOf, OnOk, drop, get_or, length, map, max, take};
 ghost use Rattle.lazy_file.specs.SourceTexts.{AreSizes, holds_span, text_at};
 ghost use Rattle.lazy_file.specs.Readings.{fault_in, InSpan, Reads};
-ghost use Rattle.lazy_file.specs.DeviceTexts.{AreBytesOf, calls_of, failures_of, HasSpan, KeepsOthers, ReadsSource, blocks_in, no_device, reading_by, texts_of};
-ghost use Rattle.lazy_file.specs.KeptBlocks.{AreKept, AreKeptFor, AreWithin, IsKept, last_block, ReadsBlock, UsesBlock, UsesBlocks};
+ghost use Rattle.lazy_file.specs.DeviceTexts.{AreSourceBytes, calls_of, failures_of, HasSpan, KeepsOthers, ReadsSource, blocks_in, no_device, reading_by, stated_texts};
+ghost use Rattle.lazy_file.specs.KeptBlocks.{AreKept, AreKeptFor, AreWithin, KeepsBlock, last_block, ReadsBlock, UsesBlock, UsesBlocks};
 ghost use Rattle.std.specs.Map.{keys_of};
 
 use crate::device::Device;
@@ -16,7 +16,7 @@ use std::alloc::Global;
 /// The size of source `s` in bytes.
 pub(crate) fn source_size<D: Device>(devices: &[D], s: u8) -> u64
     requires { s < length devices.now }
-    ensures { result ≡ (get_or (texts_of (map D.reading devices.now)) s no_device).size }
+    ensures { result ≡ (get_or (stated_texts (map D.reading devices.now)) s no_device).size }
 {
     devices[s as usize].size()
 }
@@ -29,9 +29,9 @@ fn fill_source<D: Device>(
     off: u64,
     buffer: &mut [u8],
 ) -> Result<(), SourceFault>
-    requires { HasSpan (texts_of (map D.reading devices.old)) s off (length buffer.old) }
+    requires { HasSpan (stated_texts (map D.reading devices.old)) s off (length buffer.old) }
     ensures reads { ReadsSource D.reading devices.old devices.new s (length buffer.old) result }
-    ensures bytes { OnOk result (AreBytesOf (texts_of (map D.reading devices.old)) s off buffer.new) }
+    ensures bytes { OnOk result (AreSourceBytes (stated_texts (map D.reading devices.old)) s off buffer.new) }
 {
     fill(&mut devices[s as usize], book, off, buffer)
 }
@@ -45,10 +45,10 @@ fn load_block<D: Device>(
     start: u64,
     len: usize,
 ) -> Result<Vec<u8>, SourceFault>
-    requires { HasSpan (texts_of (map D.reading devices.old)) s start len }
+    requires { HasSpan (stated_texts (map D.reading devices.old)) s start len }
     ensures reads { ReadsSource D.reading devices.old devices.new s len result }
     ensures bytes { IfOk result
-        (λ block. AreBytesOf (texts_of (map D.reading devices.old)) s start block.items) }
+        (λ block. AreSourceBytes (stated_texts (map D.reading devices.old)) s start block.items) }
     ensures len { IfOk result (λ block. length block.items ≡ len) }
 {
     let mut block = Vec::new(alloc);
@@ -69,16 +69,16 @@ fn read_anew<D: Device>(
     from: usize,
     part: &mut [u8],
 ) -> Result<(), SourceFault>
-    requires span { HasSpan (texts_of (map D.reading devices.old)) key.0
+    requires span { HasSpan (stated_texts (map D.reading devices.old)) key.0
         (key.1 * BLOCK_SIZE + from) (length part.old) }
     requires block { from + length part.old ≤ BLOCK_SIZE }
-    requires kept { AreKept (texts_of (map D.reading devices.old)) kept.old.entries }
+    requires kept { AreKept (stated_texts (map D.reading devices.old)) kept.old.entries }
     requires within { AreWithin kept.old.cap (keys_of kept.old.entries) }
     ensures reads { ReadsSource D.reading devices.old devices.new key.0 BLOCK_SIZE result }
     ensures bytes { OnOk result
-        (AreBytesOf (texts_of (map D.reading devices.old)) key.0 (key.1 * BLOCK_SIZE + from) part.new) }
-    ensures kept { AreKept (texts_of (map D.reading devices.new)) kept.new.entries }
-    ensures keeps { OnOk result (IsKept kept.new.entries key) }
+        (AreSourceBytes (stated_texts (map D.reading devices.old)) key.0 (key.1 * BLOCK_SIZE + from) part.new) }
+    ensures kept { AreKept (stated_texts (map D.reading devices.new)) kept.new.entries }
+    ensures keeps { OnOk result (KeepsBlock kept.new.entries key) }
     ensures uses { UsesBlock kept.old.cap (keys_of kept.old.entries) (keys_of kept.new.entries) key result }
     ensures most { kept.new.cap ≡ kept.old.cap }
 {
@@ -103,16 +103,16 @@ fn read_in_block<D: Device>(
     from: usize,
     part: &mut [u8],
 ) -> Result<(), SourceFault>
-    requires span { HasSpan (texts_of (map D.reading devices.old)) key.0
+    requires span { HasSpan (stated_texts (map D.reading devices.old)) key.0
         (key.1 * BLOCK_SIZE + from) (length part.old) }
     requires block { from + length part.old ≤ BLOCK_SIZE }
-    requires kept { AreKept (texts_of (map D.reading devices.old)) kept.old.entries }
+    requires kept { AreKept (stated_texts (map D.reading devices.old)) kept.old.entries }
     requires within { AreWithin kept.old.cap (keys_of kept.old.entries) }
     ensures reads { ReadsSource D.reading devices.old devices.new key.0 BLOCK_SIZE result }
     ensures bytes { OnOk result
-        (AreBytesOf (texts_of (map D.reading devices.old)) key.0 (key.1 * BLOCK_SIZE + from) part.new) }
-    ensures kept { AreKept (texts_of (map D.reading devices.new)) kept.new.entries }
-    ensures keeps { OnOk result (IsKept kept.new.entries key) }
+        (AreSourceBytes (stated_texts (map D.reading devices.old)) key.0 (key.1 * BLOCK_SIZE + from) part.new) }
+    ensures kept { AreKept (stated_texts (map D.reading devices.new)) kept.new.entries }
+    ensures keeps { OnOk result (KeepsBlock kept.new.entries key) }
     ensures block { ReadsBlock devices.old devices.new kept.old.entries kept.new.entries key }
     ensures uses { UsesBlock kept.old.cap (keys_of kept.old.entries) (keys_of kept.new.entries) key result }
     ensures most { kept.new.cap ≡ kept.old.cap }
@@ -133,17 +133,17 @@ fn read_short<D: Device>(
     off: u64,
     buffer: &mut [u8],
 ) -> Result<(), SourceFault>
-    requires span { HasSpan (texts_of (map D.reading devices.old)) s off (length buffer.old) }
+    requires span { HasSpan (stated_texts (map D.reading devices.old)) s off (length buffer.old) }
     requires some { 1 ≤ length buffer.old }
     requires short { length buffer.old ≤ BLOCK_SIZE }
-    requires kept { AreKept (texts_of (map D.reading devices.old)) kept.old.entries }
+    requires kept { AreKept (stated_texts (map D.reading devices.old)) kept.old.entries }
     requires within { AreWithin kept.old.cap (keys_of kept.old.entries) }
     ensures reads { ReadsSource D.reading devices.old devices.new s
         (BLOCK_SIZE * blocks_in off (length buffer.old)) result }
-    ensures bytes { OnOk result (AreBytesOf (texts_of (map D.reading devices.old)) s off buffer.new) }
-    ensures kept { AreKept (texts_of (map D.reading devices.new)) kept.new.entries }
+    ensures bytes { OnOk result (AreSourceBytes (stated_texts (map D.reading devices.old)) s off buffer.new) }
+    ensures kept { AreKept (stated_texts (map D.reading devices.new)) kept.new.entries }
     ensures keeps { OnOk result
-        (IsKept kept.new.entries (last_block s off (length buffer.old))) }
+        (KeepsBlock kept.new.entries (last_block s off (length buffer.old))) }
     ensures unread { AreKeptFor (keys_of kept.old.entries) s off (length buffer.old)
         → devices.new ≡ devices.old }
     ensures uses { UsesBlocks kept.old.cap (keys_of kept.old.entries) (keys_of kept.new.entries)
@@ -171,15 +171,15 @@ fn read_inside<D: Device>(
     off: u64,
     buffer: &mut [u8],
 ) -> Result<(), SourceFault>
-    requires span { HasSpan (texts_of (map D.reading devices.old)) s off (length buffer.old) }
-    requires kept { AreKept (texts_of (map D.reading devices.old)) kept.old.entries }
+    requires span { HasSpan (stated_texts (map D.reading devices.old)) s off (length buffer.old) }
+    requires kept { AreKept (stated_texts (map D.reading devices.old)) kept.old.entries }
     requires within { AreWithin kept.old.cap (keys_of kept.old.entries) }
     ensures reads { ReadsSource D.reading devices.old devices.new s
         (BLOCK_SIZE * blocks_in off (length buffer.old)) result }
-    ensures bytes { OnOk result (AreBytesOf (texts_of (map D.reading devices.old)) s off buffer.new) }
-    ensures kept { AreKept (texts_of (map D.reading devices.new)) kept.new.entries }
+    ensures bytes { OnOk result (AreSourceBytes (stated_texts (map D.reading devices.old)) s off buffer.new) }
+    ensures kept { AreKept (stated_texts (map D.reading devices.new)) kept.new.entries }
     ensures keeps { OnOk result (1 ≤ length buffer.old → length buffer.old < BLOCK_SIZE
-        → IsKept kept.new.entries (last_block s off (length buffer.old))) }
+        → KeepsBlock kept.new.entries (last_block s off (length buffer.old))) }
     ensures unread { length buffer.old < BLOCK_SIZE
         → AreKeptFor (keys_of kept.old.entries) s off (length buffer.old)
         → devices.new ≡ devices.old }
@@ -226,9 +226,9 @@ pub(crate) fn read_source<D: Device>(
     buffer: &mut [u8],
 ) -> Result<(), SourceFault>
     requires sizes { AreSizes (reading_by (map D.reading devices.old)).stated.sizes }
-    requires kept { AreKept (texts_of (map D.reading devices.old)) kept.old.entries }
+    requires kept { AreKept (stated_texts (map D.reading devices.old)) kept.old.entries }
     requires within { AreWithin kept.old.cap (keys_of kept.old.entries) }
-    ensures same { texts_of (map D.reading devices.new) ≡ texts_of (map D.reading devices.old) }
+    ensures same { stated_texts (map D.reading devices.new) ≡ stated_texts (map D.reading devices.old) }
     ensures others { KeepsOthers devices.old devices.new s }
     ensures calls { calls_of (map D.reading devices.new) s
         ≤ calls_of (map D.reading devices.old) s + BLOCK_SIZE * blocks_in off (length buffer.old) }
@@ -242,9 +242,9 @@ pub(crate) fn read_source<D: Device>(
     ensures bad_source { IsErrOf result SourceFault.BadSource
         ↔ (holds_span (reading_by (map D.reading devices.old)).stated s off (length buffer.old)
         ≡ false) }
-    ensures kept { AreKept (texts_of (map D.reading devices.new)) kept.new.entries }
+    ensures kept { AreKept (stated_texts (map D.reading devices.new)) kept.new.entries }
     ensures keeps { OnOk result (1 ≤ length buffer.old → length buffer.old < BLOCK_SIZE
-        → IsKept kept.new.entries (last_block s off (length buffer.old))) }
+        → KeepsBlock kept.new.entries (last_block s off (length buffer.old))) }
     ensures unread { length buffer.old < BLOCK_SIZE
         → AreKeptFor (keys_of kept.old.entries) s off (length buffer.old)
         → devices.new ≡ devices.old }

@@ -31,7 +31,7 @@ impl<D: Device> Model for FileSources<D> {
     ghost use Rattle.std.specs.Prelude.{map};
     ghost use Rattle.std.specs.Map.{keys_of};
     ghost use Rattle.lazy_file.specs.SourceTexts.{AreSizes};
-    ghost use Rattle.lazy_file.specs.DeviceTexts.{reading_by, texts_of};
+    ghost use Rattle.lazy_file.specs.DeviceTexts.{reading_by, stated_texts};
     ghost use Rattle.lazy_file.specs.KeptBlocks.{AreKept, AreWithin, Files};
 
     ghost Value = { Files D };
@@ -39,7 +39,7 @@ impl<D: Device> Model for FileSources<D> {
     ghost view = { λ a. record { devices = a.devices.items; most = a.kept.cap; kept = keys_of a.kept.entries } };
 
     ghost invariant = { λ a. AreSizes (reading_by (map D.reading a.devices.items)).stated.sizes
-        × AreKept (texts_of (map D.reading a.devices.items)) a.kept.entries
+        × AreKept (stated_texts (map D.reading a.devices.items)) a.kept.entries
         × AreWithin a.kept.cap (keys_of a.kept.entries) };
 }
 

@@ -1,7 +1,7 @@
 //! Blocks of sources that are kept in memory, the last ones that were read.
 ghost use Rattle.std.specs.Prelude.{◌≡◌, ◌≤◌, ◌+◌, IsTrue, OnOk, drop, length, take};
 ghost use Rattle.std.specs.Map.{keys_of};
-ghost use Rattle.lazy_file.specs.KeptBlocks.{AreWithin, CopiesKept, IsKept, KeepsOne, UsesBlock, used_block};
+ghost use Rattle.lazy_file.specs.KeptBlocks.{AreWithin, CopiesKept, KeepsBlock, KeepsOne, UsesBlock, used_block};
 
 use lru::LruCache;
 use std::alloc::AllocError;
@@ -36,7 +36,7 @@ pub(crate) fn copy_kept(
     ensures copies { CopiesKept kept.old.entries kept.new.entries key from part.new result }
     ensures uses { IsTrue result
         → keys_of kept.new.entries ≡ used_block kept.old.cap (keys_of kept.old.entries) key }
-    ensures unkept { (IsKept kept.old.entries key → ⊥) → kept.new.entries ≡ kept.old.entries }
+    ensures unkept { (KeepsBlock kept.old.entries key → ⊥) → kept.new.entries ≡ kept.old.entries }
     ensures most { kept.new.cap ≡ kept.old.cap }
 {
     match kept.get(&key) {
@@ -53,7 +53,7 @@ pub(crate) fn keep(
 ) -> Result<(), AllocError>
     requires within { AreWithin kept.old.cap (keys_of kept.old.entries) }
     ensures one { KeepsOne kept.old.entries kept.new.entries key block }
-    ensures kept { OnOk result (IsKept kept.new.entries key) }
+    ensures kept { OnOk result (KeepsBlock kept.new.entries key) }
     ensures uses { UsesBlock kept.old.cap (keys_of kept.old.entries) (keys_of kept.new.entries) key result }
     ensures most { kept.new.cap ≡ kept.old.cap }
 {

@@ -10,8 +10,8 @@ use denote.Slice.{elements_shared}
 use Rattle.leaf_buffer.specs.declared.block.TheConstants.{BLOCK_SIZE}
 
 -- the pointer is not null
-abbrev pub IsPlaced : Ptr → Type 0
-IsPlaced p = p ≡ block_ptr (block_of p) (count_of p)
+abbrev pub IsNotNull : Ptr → Type 0
+IsNotNull p = p ≡ block_ptr (block_of p) (count_of p)
 
 -- n bytes that hold nothing yet
 abbrev pub bare : ℕ → Ty

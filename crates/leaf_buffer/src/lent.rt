@@ -2,7 +2,7 @@
 
 ghost use Rattle.std.specs.Prelude.{◌≡◌, ℕ, List, ◌+◌, ◌^◌, ◌<◌, ◌≤◌, take, drop, length, slice_index_or};
 ghost use denote.RawPtr.{Ptr, InBlock, ◌+ₚ◌};
-ghost use Rattle.leaf_buffer.specs.Memory.{IsPlaced, lent_bytes};
+ghost use Rattle.leaf_buffer.specs.Memory.{IsNotNull, lent_bytes};
 
 use std::marker::{Model, PhantomData};
 use std::slice;
@@ -13,7 +13,7 @@ pub(crate) struct Lent<'a> {
     borrow: PhantomData<&'a [u8]>,
     ghost first: { Ptr },
     ghost bytes: { List ℕ },
-    ghost placed: { IsPlaced first × (length bytes < 2 ^ 63) },
+    ghost placed: { IsNotNull first × (length bytes < 2 ^ 63) },
 }
 
 impl<'a> Model for Lent<'a> {

@@ -2,8 +2,8 @@
 
 ghost use Rattle.std.specs.Prelude.{◌≡◌, ℕ, ◌+◌, ◌-◌, ◌^◌, ◌<◌, ◌≤◌, ◌↔◌, [], All, length, slice_range, IsSome, IfSome, OnSome, IfNone, IsOk, IfOk, OnOk, OnErr, IsErr, IsErrOf, IsTrue};
 ghost use Rattle.std.specs.List.{AllWithin};
-ghost use Rattle.leaf_buffer.specs.Contents.{IsInOneBlock, KeepsPieces, IsLastPiece, Takes, CanExtend, IsPoolFull, extended, with_block, appended, held_whole};
-ghost use Rattle.leaf_buffer.specs.Blocks.{AreConsecutive, IsLastBlock, IsBlockOf};
+ghost use Rattle.leaf_buffer.specs.Contents.{IsInOneBlock, KeepsPieces, IsLastPiece, LastBlockTakes, CanExtend, IsPoolFull, extended, with_block, appended, held_whole};
+ghost use Rattle.leaf_buffer.specs.Blocks.{AreConsecutive, IsLastBlock, IsBlockAt};
 
 use crate::block::{BLOCK_SIZE, Block};
 use crate::fault::LeafError;
@@ -58,7 +58,7 @@ fn count_begun(blocks: &[PlacedBlock], place: u32) -> usize
 fn block_of(blocks: &[PlacedBlock], place: u32) -> Option<&PlacedBlock>
     requires { AreConsecutive 0 blocks.now }
     ensures none { IfNone result (blocks.now ≡ []) }
-    ensures some { IfSome result (λ block. IsBlockOf blocks.now place block.now) }
+    ensures some { IfSome result (λ block. IsBlockAt blocks.now place block.now) }
 {
     let last = count_begun(blocks, place).checked_sub(1)?;
     Some(&blocks[last])
@@ -132,7 +132,7 @@ impl Pool {
         ensures too_long { IsErrOf result LeafError.TooLong ↔ (BLOCK_SIZE < length bytes.now) }
         ensures full { IsErrOf result LeafError.PoolFull ↔ IsPoolFull self.old (length bytes.now) }
         ensures memory { IsErrOf result LeafError.Memory → self.old.room < length bytes.now }
-        ensures succeeds { Takes self.old (length bytes.now) → IsOk result }
+        ensures succeeds { LastBlockTakes self.old (length bytes.now) → IsOk result }
         ensures err { OnErr result (self.new ≡ self.old) }
 
         ensures in_one_block { IfOk result (λ p. IsInOneBlock self.new p.start p.len) }
@@ -252,14 +252,14 @@ impl Pool {
 
     /// Whether the last block takes this many bytes more.
     fn takes(&self, count: usize) -> bool
-        ensures { IsTrue result ↔ Takes self.now count }
+        ensures { IsTrue result ↔ LastBlockTakes self.now count }
     {
         count > 0 && count <= self.room() && (count as u64) < POOL_LIMIT - self.len()
     }
 
     /// Writes these bytes into the room of the last block, behind those that are there. It takes no memory.
     pub fn extend(&mut self, bytes: &[u8])
-        requires { Takes self.old (length bytes.now) }
+        requires { LastBlockTakes self.old (length bytes.now) }
         ensures new { self.new ≡ extended self.old bytes.now }
         ensures keeps { KeepsPieces self.old self.new }
         ensures borders { All (λ border. border < length self.old.bytes) self.old.borders }

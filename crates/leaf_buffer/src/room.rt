@@ -3,7 +3,7 @@
 ghost use Rattle.std.specs.Prelude.{◌≡◌, ℕ, List, ◌+◌, ◌<◌, ◌≤◌, [], ◌∷◌, ◌++◌, length, IfOk};
 ghost use denote.RawPtr.{Ptr};
 ghost use Rattle.leaf_buffer.specs.declared.block.TheConstants.{BLOCK_SIZE};
-ghost use Rattle.leaf_buffer.specs.Memory.{IsPlaced, bare, room_owns, lent_bytes, IsTaken};
+ghost use Rattle.leaf_buffer.specs.Memory.{IsNotNull, bare, room_owns, lent_bytes, IsTaken};
 
 use crate::block::BLOCK_SIZE;
 use std::alloc::{AllocError, Allocator};
@@ -14,7 +14,7 @@ use std::slice;
 pub(crate) struct Room {
     ghost first: { Ptr },
     ghost bytes: { List ℕ },
-    ghost placed: { IsPlaced first × (length bytes ≤ BLOCK_SIZE) },
+    ghost placed: { IsNotNull first × (length bytes ≤ BLOCK_SIZE) },
 }
 
 impl Model for Room {

@@ -11,7 +11,7 @@ use Rattle.rope_node.specs.declared.node.NodeView.TheVariants.{Lit, Src, Fun, Ca
 use Rattle.rope_node.specs.Table.{Node, Table, node_at, no_node, depth_of, HasGoodReferences, HasSpanInside, HasTrueLength, IsSoundNode, IsTrueNode, IsSound, HasTrueRecords}
 use Rattle.node_table.specs.declared.record.Record.{Record}
 use Rattle.node_table.specs.Copies.{CopiesFirst, IsCopyOf, function_in}
-use Rattle.node_table.specs.Held.{Held, IsKept, IsGoodNode, IsKeptNode, table_of, held_of, node_of, function_of}
+use Rattle.node_table.specs.Held.{Held, IsKept, IsGoodNode, IsKeptNode, table_of, held_of, node_of, function_of_record}
 
 -- two tables of the same nodes, sources and pool, whatever their functions answer
 references_alike : (t u : Table) (id : ℕ) (v : NodeView) → u.sources ≡ t.sources → HasGoodReferences t id v → HasGoodReferences u id v
@@ -100,4 +100,4 @@ copy_of_all t coded records pool sources c is lengths = record {
 }
 
 pub copy_counts : (records : List (Record Coded)) (pool : Contents) (sources : List ℕ) → length (held_of records pool sources).functions ≡ length (held_of records pool sources).nodes
-copy_counts records pool sources = length-map records function_of ∙ sym (length-map records node_of)
+copy_counts records pool sources = length-map records function_of_record ∙ sym (length-map records node_of)

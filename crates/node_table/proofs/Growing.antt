@@ -20,7 +20,7 @@ use Rattle.node_table.specs.declared.entry.Entry.{Entry}
 use Rattle.node_table.specs.declared.record.Record.{Record}
 use Rattle.node_table.specs.declared.fault.NodeFault.{NodeFault}
 use Rattle.node_table.specs.Entries.{record_of, stored_function, CanStore, IsStorable}
-use Rattle.node_table.specs.Held.{Held, IsKept, IsGoodNode, IsKeptNode, CanHold, table_of, with_records, held_of, node_of, function_of}
+use Rattle.node_table.specs.Held.{Held, IsKept, IsGoodNode, IsKeptNode, CanHold, table_of, with_records, held_of, node_of, function_of_record}
 
 -- ---- the table of a store that was kept
 
@@ -40,7 +40,7 @@ extends_records {F} meaning h pool records same keeps longer = record {
   more_pool = longer;
   sources = λ s lt. refl;
   more_sources = omega arith;
-  answer = λ id lt. ap (λ (f : Option F). answer_of meaning f) (get_or_append_left h.functions (map function_of records) None id (omega arith));
+  answer = λ id lt. ap (λ (f : Option F). answer_of meaning f) (get_or_append_left h.functions (map function_of_record records) None id (omega arith));
 }
 
 kept_node : {F : Type 0} (old new : Contents) → KeepsPieces old new → (n : ℕ) (v : NodeView) (f : Option F) → IsKeptNode old n v f → IsKeptNode new n v f
@@ -67,10 +67,10 @@ good_kept {F} meaning old new x keeps id inside f g =
 pub kept_records : {F : Type 0} (meaning : F → ℕ → ℕ) (h : Held F) (pool : Contents) (records : List (Record F)) → IsKept meaning h → CanHold meaning h pool records → PoolGrows h.pool pool → length pool.bytes < POOL_LIMIT → length h.nodes + length records ≤ MOST_NODES → IsKept meaning (with_records h pool records)
 kept_records {F} meaning h pool records k can grows limit few =
     let whole : length (h.nodes ++ map node_of records) ≡ length h.nodes + length records = rw (length-append, length-map) refl in
-    let functions : length (h.functions ++ map function_of records) ≡ length h.functions + length records = rw (length-append, length-map) refl in
+    let functions : length (h.functions ++ map function_of_record records) ≡ length h.functions + length records = rw (length-append, length-map) refl in
     record {
       nodes = λ id lt. elim (cases_lt id (length h.nodes)) [
-        | inl old ↦ good_kept meaning h (with_records h pool records) (extends_records meaning h pool records k.functions grows.pieces grows.longer) grows.pieces id old (get_or_append_left h.functions (map function_of records) None id (omega (arith, k.functions))) (k.nodes id old)
+        | inl old ↦ good_kept meaning h (with_records h pool records) (extends_records meaning h pool records k.functions grows.pieces grows.longer) grows.pieces id old (get_or_append_left h.functions (map function_of_record records) None id (omega (arith, k.functions))) (k.nodes id old)
         | inr new ↦ can.nodes id new (omega (arith, whole))
       ];
       functions = omega (arith, whole, functions, k.functions);
@@ -133,7 +133,7 @@ kept_put {F} meaning h before old pool sources put reserved after view k can gro
     let whole : after ≡ before ++ put = is ∙ ap (λ (rs : List (Record F)). rs ++ put) same in
     let counted : length (map (node_of {F = F}) before) + length put ≤ MOST_NODES = rw length-map few in
     let held : IsKept meaning (with_records (held_of before old sources) pool put) = kept_records meaning (held_of before old sources) pool put k (subst (λ (x : Held F). CanHold meaning x pool put) (sym view) can) grows limit counted in
-    rw (whole, map-append node_of before put, map-append function_of before put) held
+    rw (whole, map-append node_of before put, map-append function_of_record before put) held
 
 -- the last of them
 pub last_put : {F : Type 0} (h : Held F) (put : List (Record F)) (last : ℕ) → last ≡ length h.nodes + (length put - 1) → ◌≡◌ {A = Option NodeId} (Some (record { 0 = last })) (Some (record { 0 = length h.nodes + (length put - 1) }))
@@ -143,7 +143,7 @@ last_put h put last is = ap (λ (k : ℕ). let node : NodeId = record { 0 = k } 
 pub held_put : {F : Type 0} (h : Held F) (before : List (Record F)) (old pool : Contents) (sources : List ℕ) (put reserved after : List (Record F)) → held_of before old sources ≡ h → reserved ≡ before → after ≡ reserved ++ put → held_of after pool sources ≡ with_records h pool put
 held_put {F} h before old pool sources put reserved after view same is =
     let whole : after ≡ before ++ put = is ∙ ap (λ (rs : List (Record F)). rs ++ put) same in
-    rw (whole, map-append node_of before put, map-append function_of before put) (ap (λ (x : Held F). with_records x pool put) view)
+    rw (whole, map-append node_of before put, map-append function_of_record before put) (ap (λ (x : Held F). with_records x pool put) view)
 
 -- ---- the record of a node
 
@@ -153,11 +153,11 @@ node_of_entry {F} entries id e inside is =
     get_or-map node_of (map record_of entries) id (record_of e) no_node behind
     ∙ ap node_of (get_or-map record_of entries id e (record_of e) inside ∙ ap record_of (sym is))
 
-pub function_of_entry : {F : Type 0} (entries : List (Entry F)) (id : ℕ) (e : Entry F) → id < length entries → e ≡ get_or entries id e → get_or (map function_of (map record_of entries)) id None ≡ stored_function e.kind
+pub function_of_entry : {F : Type 0} (entries : List (Entry F)) (id : ℕ) (e : Entry F) → id < length entries → e ≡ get_or entries id e → get_or (map function_of_record (map record_of entries)) id None ≡ stored_function e.kind
 function_of_entry {F} entries id e inside is =
     let behind : id < length (map (record_of {F = F}) entries) = rw length-map inside in
-    get_or-map function_of (map record_of entries) id (record_of e) None behind
-    ∙ ap function_of (get_or-map record_of entries id e (record_of e) inside ∙ ap record_of (sym is))
+    get_or-map function_of_record (map record_of entries) id (record_of e) None behind
+    ∙ ap function_of_record (get_or-map record_of entries id e (record_of e) inside ∙ ap record_of (sym is))
 
 -- ---- what can be held can be stored
 
@@ -179,10 +179,10 @@ storable_record {F} meaning h pool records same can d i inside =
     get_or-append_right h.nodes (map node_of records) (length h.nodes) id no_node refl (omega arith)
     ∙ ap (λ (k : ℕ). get_or (map node_of records) k no_node) at
     ∙ get_or-map node_of records i d no_node inside in
-    let function : get_or (h.functions ++ map function_of records) id None ≡ function_of r =
-    get_or-append_right h.functions (map function_of records) (length h.nodes) id None same (omega arith)
-    ∙ ap (λ (k : ℕ). get_or (map function_of records) k None) at
-    ∙ get_or-map function_of records i d None inside in
+    let function : get_or (h.functions ++ map function_of_record records) id None ≡ function_of_record r =
+    get_or-append_right h.functions (map function_of_record records) (length h.nodes) id None same (omega arith)
+    ∙ ap (λ (k : ℕ). get_or (map function_of_record records) k None) at
+    ∙ get_or-map function_of_record records i d None inside in
     let kept : IsKeptNode pool r.len r.view r.function = rw (node, function) at g.kept in
     let depth : r.depth ≡ depth_of (table_of meaning (with_records h pool records)) r.view = rw node at g.true_record.depth in
     storable (table_of meaning (with_records h pool records)) pool r.len r.view r.depth r.function depth kept

@@ -12,8 +12,8 @@ abbrev pub all_items : {T : Type 0} → List (List T) → List T
 all_items [] = []
 all_items (b ∷ bs) = b ++ all_items bs
 
-abbrev pub contents_of : {T : Type 0} → List (List T) → BlockContents T
-contents_of blocks = record {
+abbrev pub block_contents : {T : Type 0} → List (List T) → BlockContents T
+block_contents blocks = record {
   items = all_items blocks;
   room = length blocks * ITEMS_IN_BLOCK - length (all_items blocks);
 }

@@ -6,7 +6,7 @@ use Rattle.rope_node.specs.declared.node.NodeView.{NodeView}
 use Rattle.rope_node.specs.declared.node.NodeView.TheVariants.{Lit, Src, Fun, Cat, Sub}
 use Rattle.rope_node.specs.Table.{Table, view_at, len_at, depth_at}
 use Rattle.node_table.specs.declared.record.Record.{Record}
-use Rattle.node_table.specs.Held.{Held, node_of, function_of}
+use Rattle.node_table.specs.Held.{Held, node_of, function_of_record}
 
 -- the function of a node, where it is a function's
 abbrev pub function_in : Coded → NodeView → Option Coded
@@ -29,7 +29,8 @@ copied_record t coded id = record {
 pub record CopiesFirst (t : Table) (coded : ℕ → Coded) (k : ℕ) (records : List (Record Coded)) : Type 0 where
   pub inside : k ≤ length t.nodes
   pub nodes : map node_of records ≡ take k t.nodes
-  pub functions : (id : ℕ) → id < k → get_or (map function_of records) id None ≡ function_in (coded id) (view_at t id)
+  pub functions : (id : ℕ) → id < k
+      → get_or (map function_of_record records) id None ≡ function_in (coded id) (view_at t id)
 
 -- what a table of coded functions has, as one that can be held
 pub record IsCopyOf (t : Table) (coded : ℕ → Coded) (h : Held Coded) : Type 0 where

@@ -20,14 +20,14 @@ pub record Held (F : Type 0) : Type 0 where
 abbrev pub node_of : {F : Type 0} → Record F → Node
 node_of r = record { view = r.view; len = r.len; depth = r.depth }
 
-abbrev pub function_of : {F : Type 0} → Record F → Option F
-function_of r = r.function
+abbrev pub function_of_record : {F : Type 0} → Record F → Option F
+function_of_record r = r.function
 
 -- what records, a pool and sources hold together
 abbrev pub held_of : {F : Type 0} → List (Record F) → Contents → List ℕ → Held F
 held_of records pool sources = record {
   nodes = map node_of records;
-  functions = map function_of records;
+  functions = map function_of_record records;
   pool = pool;
   sources = sources;
 }
@@ -42,14 +42,14 @@ table_of meaning h = record {
 }
 
 -- the coded function of a node, a fill of zeros where there is none
-abbrev pub coded_at : Held Coded → ℕ → Coded
-coded_at h id = or_fill (get_or h.functions id None)
+abbrev pub held_coded : Held Coded → ℕ → Coded
+held_coded h id = or_fill (get_or h.functions id None)
 
 -- with these nodes behind the others, and this pool
 abbrev pub with_records : {F : Type 0} → Held F → Contents → List (Record F) → Held F
 with_records h pool records = record {
   nodes = h.nodes ++ map node_of records;
-  functions = h.functions ++ map function_of records;
+  functions = h.functions ++ map function_of_record records;
   pool = pool;
   sources = h.sources;
 }

@@ -16,11 +16,11 @@ pub(crate) struct Blocks<T: Copy> {
 }
 
 impl<T: Copy> Model for Blocks<T> {
-    ghost use Rattle.node_table.specs.Blocks.{BlockContents, contents_of, HasBlocks};
+    ghost use Rattle.node_table.specs.Blocks.{block_contents, BlockContents, HasBlocks};
 
     ghost Value = { BlockContents T };
 
-    ghost view = { λ a. contents_of a.blocks.items };
+    ghost view = { λ a. block_contents a.blocks.items };
 
     ghost invariant = { λ a. HasBlocks a.blocks.items a.len };
 }

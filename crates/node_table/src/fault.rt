@@ -37,9 +37,9 @@ impl From<AllocError> for NodeFault {
 /// The code that a program prints: `N1` to `N6`, or `Memory`.
 impl fmt::Display for NodeFault {
     ghost use Rattle.std.specs.Prelude.{Some};
-    ghost use Rattle.node_table.specs.Codes.{fault_code};
+    ghost use Rattle.node_table.specs.Codes.{node_fault_code};
 
-    ghost output = { λ e. Some (fault_code e) };
+    ghost output = { λ e. Some (node_fault_code e) };
 
     fn fmt<W: fmt::Write>(&self, f: &mut fmt::Formatter<W>) -> fmt::Result {
         f.write_str(match self {

@@ -1,7 +1,7 @@
 //! The table.
 
 ghost use Rattle.std.specs.Prelude.{◌≡◌, ◌↔◌, ◌+◌, ◌<◌, ◌≤◌, [], length, get_or, None, IsTrue, OnOk, OnErr, IfErr};
-ghost use Rattle.leaf_buffer.specs.Contents.{appended, extended, CanExtend, KeepsPieces, Takes};
+ghost use Rattle.leaf_buffer.specs.Contents.{appended, extended, CanExtend, KeepsPieces, LastBlockTakes};
 ghost use Rattle.rope_node.specs.Table.{no_node};
 ghost use Rattle.node_table.specs.Entries.{record_of, stored_function};
 ghost use Rattle.node_table.specs.Held.{Held, held_of, node_of, CanHold, IsKept};
@@ -156,7 +156,7 @@ impl<F: LeafFn> NodeTable<F> {
     /// `TableFull`, then `Memory`.
     #[inline(always)]
     pub fn put_grown(&mut self, bytes: &[u8], nodes: NewNodes<F>) -> Result<Rope, NodeFault>
-        requires takes { Takes self.old.pool (length bytes.now) }
+        requires takes { LastBlockTakes self.old.pool (length bytes.now) }
         requires nodes { CanHold F.meaning self.old (extended self.old.pool bytes.now) (listed nodes) }
         ensures { PutsGrown F.meaning self.old bytes.now (listed nodes) result self.new }
     {

@@ -83,11 +83,11 @@ impl<F: LeafFn> NodeSpace for NodeTable<F> {
 }
 
 impl CodedSpace for NodeTable<Coded> {
-    ghost use Rattle.node_table.specs.Held.{coded_at};
+    ghost use Rattle.node_table.specs.Held.{held_coded};
     ghost use Rattle.std.specs.Prelude.{get_or, None};
     ghost use Rattle.rope_node.specs.Coded.{answers_as_filled};
 
-    ghost coded = { coded_at };
+    ghost coded = { held_coded };
 
     ghost answered = { λ h id. answers_as_filled (get_or h.functions id None) };
 

@@ -13,18 +13,18 @@ use Rattle.node_table.specs.declared.fault.NodeFault.{NodeFault}
 use Rattle.node_table.specs.declared.fault.NodeFault.TheVariants.{TooLong, TooDeep}
 use Rattle.node_table.specs.Held.{Held, table_of}
 use Rattle.rope_store.specs.Additions.{Addition, Makes, node_part, part_added, pool_with}
-use Rattle.rope_store.specs.Appending.{Appends, IsTooLong}
+use Rattle.rope_store.specs.Appending.{Appends, AppendsTooLong}
 use Rattle.rope_store.specs.Joining.{joined}
 use Rattle.rope_store.specs.Refusals.{Refuses, IsTooDeep, deepest}
 use Rattle.rope_node.proofs.Cells.{cells_length}
 use Rattle.rope_store.proofs.PartTexts.{no_part, take_least}
 use Rattle.rope_store.proofs.CallSizes.{joined_few, joined_shallow, part_few, sized_append}
 use Rattle.leaf_buffer.proofs.Appending.{appended_bytes}
-use Rattle.rebalance.specs.AnyForms.{AnyForm, Anew, AppendsAny, IsLowest, IsPlaced, IsPut, LiesLower, StandsAt, next_place, PartsAny, lifted}
+use Rattle.rebalance.specs.AnyForms.{AnyForm, Anew, AppendsAny, IsLowest, IsPlaced, IsPut, LiesLower, StandInPool, place_in_pool, PartsAny, lifted}
 use Rattle.rebalance.specs.declared.fault.BalanceFault.{BalanceFault}
 use Rattle.rebalance.specs.declared.pieces.Span.{Span}
 use Rattle.rebalance.specs.Balancing.{Rebuilds}
-use Rattle.rebalance.specs.Pieces.{kept_pieces, part_count, part_pieces, pieces, IsWithin, LiesInChild, RopeLeadsDown, here}
+use Rattle.rebalance.specs.Pieces.{kept_pieces, part_count, part_pieces, piece_count, LeadsWithin, LiesInChild, RopeLeadsDown, here}
 use Rattle.rebalance.specs.Steps.{Grows}
 use Rattle.rebalance.proofs.AnyLaws.{any_anew, any_plain, any_plain_if, rebuilt_anew, rebuilt_grows, called_anew, few_pieces, stands_earlier, stands_for, stands_later, unchanged_at}
 use Rattle.rebalance.proofs.AnyDepths.{append_roughly, joined_roughly, nearly_kept}
@@ -40,13 +40,13 @@ pub record IsRight (F : Type 0) (meaning : F → ℕ → ℕ) (h : Held F) : Typ
 
 -- all of a node's text
 pub all_rebuilt : {F : Type 0} (meaning : F → ℕ → ℕ) (old new : Held F) (keep : Bool) (node : NodeId) (n : ℕ) (result : Result (Option NodeId) BalanceFault) → IsSound (table_of meaning old) → HasTrueRecords (table_of meaning old) → node.0 < length old.nodes → n ≡ len_at (table_of meaning old) node.0
-    → Rebuilds meaning old (take n (drop 0 (cells (table_of meaning old) node.0))) (pieces keep (table_of meaning old) node.0 0 n) result new
-    → Rebuilds meaning old (cells (table_of meaning old) node.0) (pieces keep (table_of meaning old) node.0 0 (len_at (table_of meaning old) node.0)) result new
+    → Rebuilds meaning old (take n (drop 0 (cells (table_of meaning old) node.0))) (piece_count keep (table_of meaning old) node.0 0 n) result new
+    → Rebuilds meaning old (cells (table_of meaning old) node.0) (piece_count keep (table_of meaning old) node.0 0 (len_at (table_of meaning old) node.0)) result new
 all_rebuilt meaning old new keep node n result s h there all built =
     let t = table_of meaning old in
     let text = whole_text t s h node.0 n there all in
-    let built' = subst (λ (k : ℕ). Rebuilds meaning old (take n (drop 0 (cells t node.0))) (pieces keep t node.0 0 k) result new) all built in
-    subst (λ cs. Rebuilds meaning old cs (pieces keep t node.0 0 (len_at t node.0)) result new) text built'
+    let built' = subst (λ (k : ℕ). Rebuilds meaning old (take n (drop 0 (cells t node.0))) (piece_count keep t node.0 0 k) result new) all built in
+    subst (λ cs. Rebuilds meaning old cs (piece_count keep t node.0 0 (len_at t node.0)) result new) text built'
 
 pub cat_called : {F : Type 0} (meaning : F → ℕ → ℕ) (old one two new : Held F) (l r left right : Option NodeId) (plain : Result (Option NodeId) NodeFault) → IsRight F meaning old → IsRight F meaning one → IsRight F meaning two → IsRope (table_of meaning old) l → IsRope (table_of meaning old) r
     → rope_len (table_of meaning old) l + rope_len (table_of meaning old) r < 2 ^ 40 → Rebuilds meaning old (rope_cells (table_of meaning old) l) (kept_pieces (table_of meaning old) l) (Ok left) one → Rebuilds meaning one (rope_cells (table_of meaning one) r) (kept_pieces (table_of meaning one) r) (Ok right) two
@@ -72,8 +72,8 @@ cat_called {F = F} meaning old one two new l r left right plain k0 k1 k2 left_th
 -- ---- parts
 
 -- the part of a node that is some of it
-part_of : (t : Table) (node : NodeId) (i n : ℕ) → i + n ≤ len_at t node.0 → part_pieces t (Some node) i n ≡ pieces true t node.0 i n
-part_of t node i n fits = let all : min n (len_at t node.0 - i) ≡ n = omega (arith, fits) in ap (λ (k : ℕ). pieces true t node.0 i k) all
+part_of : (t : Table) (node : NodeId) (i n : ℕ) → i + n ≤ len_at t node.0 → part_pieces t (Some node) i n ≡ piece_count true t node.0 i n
+part_of t node i n fits = let all : min n (len_at t node.0 - i) ≡ n = omega (arith, fits) in ap (λ (k : ℕ). piece_count true t node.0 i k) all
 
 -- no bytes are nil
 no_bytes_shallow : (F : Type 0) (t : Table) (x : Option NodeId) (i n : ℕ) → ((node : NodeId) → x ≡ Some node → min n (len_at t node.0 - i) ≡ 0) → ¬ IsTooDeep {F = F} (part_added t x i n)
@@ -101,7 +101,7 @@ lies_above t node i n fits some down =
     subst (λ (k : ℕ). (1 ≤ k) × (k < len_at t node.0) × LiesInChild t i k (view_at t node.0)) (sym all) (some, down.0, down.1)
 
 -- the lowest node that all of the bytes lie in
-within_is_lowest : (t : Table) (node : NodeId) (i n : ℕ) (p : Span) → 1 ≤ n → i + n ≤ len_at t node.0 → IsWithin t node.0 i n p → IsLowest t (Some node) i (part_count t (Some node) i n) (Some p.node) p.start
+within_is_lowest : (t : Table) (node : NodeId) (i n : ℕ) (p : Span) → 1 ≤ n → i + n ≤ len_at t node.0 → LeadsWithin t node.0 i n p → IsLowest t (Some node) i (part_count t (Some node) i n) (Some p.node) p.start
 within_is_lowest t node i n p some fits within =
     let lowest : IsLowest t (Some node) i n (Some p.node) p.start = record {
       there = within.there;
@@ -172,7 +172,7 @@ pub part_more : {F : Type 0} (meaning : F → ℕ → ℕ) (old new : Held F) (n
 part_more {F = F} meaning old new node i n m result s h there least part =
     let t = table_of meaning old in
     let few : part_count t (Some node) i m ≡ part_count t (Some node) i n = omega (arith, least) in
-    let count : part_pieces t (Some node) i m ≡ part_pieces t (Some node) i n = ap (λ (k : ℕ). pieces true t node.0 i k) few in
+    let count : part_pieces t (Some node) i m ≡ part_pieces t (Some node) i n = ap (λ (k : ℕ). piece_count true t node.0 i k) few in
     let text : take m (drop i (cells t node.0)) ≡ take n (drop i (cells t node.0)) =
     ap (λ (k : ℕ). take k (drop i (cells t node.0))) least ∙ take_least (cells t node.0) i n (len_at t node.0) (cells_length t s h node.0 there) in
     let with_count = subst (λ (k : ℕ). PartIs meaning old (Some node) i k (take m (drop i (cells t node.0))) (part_pieces t (Some node) i m) part.inner part.start result new) few (record { is_lowest = part.is_lowest; any = part.any; rebuilt = part.rebuilt }) in
@@ -197,7 +197,7 @@ part_is {F = F} meaning old new node i n inner start result fits lowest any rebu
     }
 
 -- the plain call takes the part of a lower node
-pub part_plain : {F : Type 0} (meaning : F → ℕ → ℕ) (old new : Held F) (node : NodeId) (i n : ℕ) (p : Span) (plain : Result (Option NodeId) NodeFault) → IsWithin (table_of meaning old) node.0 i n p → 1 ≤ n → i + n ≤ len_at (table_of meaning old) node.0
+pub part_plain : {F : Type 0} (meaning : F → ℕ → ℕ) (old new : Held F) (node : NodeId) (i n : ℕ) (p : Span) (plain : Result (Option NodeId) NodeFault) → LeadsWithin (table_of meaning old) node.0 i n p → 1 ≤ n → i + n ≤ len_at (table_of meaning old) node.0
     → Makes meaning old (part_added (table_of meaning old) (Some p.node) p.start n) (take n (drop p.start (cells (table_of meaning old) p.node.0))) plain new → Refuses old (part_added (table_of meaning old) (Some p.node) p.start n) ⊥ ⊥ plain → ¬ IsErrOf plain TooDeep
     → PartsAny meaning old (Some node) i n (lifted plain) new
 part_plain {F = F} meaning old new node i n p plain within some fits made refuses shallow =
@@ -208,8 +208,8 @@ part_plain {F = F} meaning old new node i n p plain within some fits made refuse
     part_is meaning old new node i n (Some p.node) p.start (lifted plain) fits (within_is_lowest t node i n p some fits within) any (λ deep. absurd (shallow (refuses.too_deep.1 ((λ bad. bad), (λ long. long), deep))))
 
 -- the part is put together alone
-part_anew : {F : Type 0} (meaning : F → ℕ → ℕ) (old new : Held F) (node : NodeId) (i n : ℕ) (p : Span) (result : Result (Option NodeId) BalanceFault) → IsWithin (table_of meaning old) node.0 i n p → 1 ≤ n → i + n ≤ len_at (table_of meaning old) node.0
-    → IsTooDeep {F = F} (part_added (table_of meaning old) (Some p.node) p.start n) → Rebuilds meaning old (take n (drop i (cells (table_of meaning old) node.0))) (pieces true (table_of meaning old) node.0 i n) result new
+part_anew : {F : Type 0} (meaning : F → ℕ → ℕ) (old new : Held F) (node : NodeId) (i n : ℕ) (p : Span) (result : Result (Option NodeId) BalanceFault) → LeadsWithin (table_of meaning old) node.0 i n p → 1 ≤ n → i + n ≤ len_at (table_of meaning old) node.0
+    → IsTooDeep {F = F} (part_added (table_of meaning old) (Some p.node) p.start n) → Rebuilds meaning old (take n (drop i (cells (table_of meaning old) node.0))) (piece_count true (table_of meaning old) node.0 i n) result new
     → PartsAny meaning old (Some node) i n result new
 part_anew {F = F} meaning old new node i n p result within some fits deep built =
     let t = table_of meaning old in
@@ -220,12 +220,12 @@ part_anew {F = F} meaning old new node i n p result within some fits deep built 
     part_is meaning old new node i n (Some p.node) p.start result fits (within_is_lowest t node i n p some fits within) any (λ _. built')
 
 -- behind a plain call that changed nothing
-pub part_deep : {F : Type 0} (meaning : F → ℕ → ℕ) (old mid new : Held F) (node : NodeId) (i n : ℕ) (p : Span) (plain : Result (Option NodeId) NodeFault) (result : Result (Option NodeId) BalanceFault) → IsWithin (table_of meaning old) node.0 i n p → 1 ≤ n → i + n ≤ len_at (table_of meaning old) node.0
+pub part_deep : {F : Type 0} (meaning : F → ℕ → ℕ) (old mid new : Held F) (node : NodeId) (i n : ℕ) (p : Span) (plain : Result (Option NodeId) NodeFault) (result : Result (Option NodeId) BalanceFault) → LeadsWithin (table_of meaning old) node.0 i n p → 1 ≤ n → i + n ≤ len_at (table_of meaning old) node.0
     → Makes meaning old (part_added (table_of meaning old) (Some p.node) p.start n) (take n (drop p.start (cells (table_of meaning old) p.node.0))) plain mid → Refuses old (part_added (table_of meaning old) (Some p.node) p.start n) ⊥ ⊥ plain → IsErrOf plain TooDeep
-    → Rebuilds meaning mid (take n (drop i (cells (table_of meaning mid) node.0))) (pieces true (table_of meaning mid) node.0 i n) result new → PartsAny meaning old (Some node) i n result new
+    → Rebuilds meaning mid (take n (drop i (cells (table_of meaning mid) node.0))) (piece_count true (table_of meaning mid) node.0 i n) result new → PartsAny meaning old (Some node) i n result new
 part_deep {F = F} meaning old mid new node i n p plain result within some fits made refuses deep built =
     let same = unchanged_at plain TooDeep made deep in
-    let built' = subst (λ (h : Held F). Rebuilds meaning h (take n (drop i (cells (table_of meaning h) node.0))) (pieces true (table_of meaning h) node.0 i n) result new) same built in
+    let built' = subst (λ (h : Held F). Rebuilds meaning h (take n (drop i (cells (table_of meaning h) node.0))) (piece_count true (table_of meaning h) node.0 i n) result new) same built in
     part_anew meaning old new node i n p result within some fits (refuses.too_deep.0 deep).2 built'
 
 -- ---- bytes put behind a rope
@@ -238,18 +238,18 @@ ok_is_no_err : (rope : Option NodeId) (e : NodeFault) → ◌≡◌ {A = Result 
 ok_is_no_err rope e is = cc
 
 -- the bytes stand where the pool ended
-stands : {F : Type 0} (meaning : F → ℕ → ℕ) (old new : Held F) (x rope : Option NodeId) (bytes : List ℕ) → IsRight F meaning old → IsRope (table_of meaning old) x → Appends meaning old x bytes (Ok rope) new → StandsAt new.pool.bytes (next_place old.pool.bytes bytes) bytes
+stands : {F : Type 0} (meaning : F → ℕ → ℕ) (old new : Held F) (x rope : Option NodeId) (bytes : List ℕ) → IsRight F meaning old → IsRope (table_of meaning old) x → Appends meaning old x bytes (Ok rope) new → StandInPool new.pool.bytes (place_in_pool old.pool.bytes bytes) bytes
 stands meaning old new x rope [] k there done = refl
 stands {F = F} meaning old new x rope (b ∷ bs) k there done =
     let bytes = b ∷ bs in
     let a = done.addition in
-    let short : ¬ IsTooLong (table_of meaning old) x bytes = λ long. let no = done.refuses.too_long.1 ((λ bad. bad), long) in ok_is_no_err rope TooLong no in
+    let short : ¬ AppendsTooLong (table_of meaning old) x bytes = λ long. let no = done.refuses.too_long.1 ((λ bad. bad), long) in ok_is_no_err rope TooLong no in
     let sized = sized_append old.pool (table_of meaning old) k.sound k.true_records x there bytes a (done.is short) in
     let pool : new.pool.bytes ≡ old.pool.bytes ++ a.bytes = ap (λ (h : Held F). h.pool.bytes) done.makes.table ∙ pool_bytes old.pool a.in_place a.bytes in
     let many : (length old.pool.bytes + length bytes) - length old.pool.bytes ≡ length bytes = omega arith in
     rw pool (ap (λ (n : ℕ). take n (drop (length old.pool.bytes) (old.pool.bytes ++ a.bytes))) many ∙ ap (take (length bytes)) (drop-append_seam old.pool.bytes a.bytes) ∙ sized.first)
 
-place_is : (pool bytes : List ℕ) (place : ℕ) → (bytes ≡ [] → place ≡ 0) → (1 ≤ length bytes → place ≡ length pool) → place ≡ next_place pool bytes
+place_is : (pool bytes : List ℕ) (place : ℕ) → (bytes ≡ [] → place ≡ 0) → (1 ≤ length bytes → place ≡ length pool) → place ≡ place_in_pool pool bytes
 place_is pool [] place none some = none refl
 place_is pool (b ∷ bs) place none some = some (omega arith)
 
@@ -263,7 +263,7 @@ put_behind meaning old mid new x rope bytes place kept k there done none some =
       kept = kept;
       appends = done;
       place = at;
-      stands = subst (λ (n : ℕ). StandsAt new.pool.bytes n bytes) (sym at) (stands meaning mid new x rope bytes k there done);
+      stands = subst (λ (n : ℕ). StandInPool new.pool.bytes n bytes) (sym at) (stands meaning mid new x rope bytes k there done);
     }
 
 pub placed_at_once : {F : Type 0} (meaning : F → ℕ → ℕ) (old new : Held F) (x rope : Option NodeId) (bytes : List ℕ) (place : ℕ) → IsRight F meaning old → IsRope (table_of meaning old) x → Appends meaning old x bytes (Ok rope) new → (bytes ≡ [] → place ≡ 0) → (1 ≤ length bytes → place ≡ length old.pool.bytes)
@@ -281,22 +281,22 @@ append_plain meaning old new x bytes plain k there done shallow =
     record {
       addition = done.addition;
       is = done.is;
-      any = any_plain_if meaning old new done.addition (rope_cells t x ++ map Byte bytes) (IsTooLong t x bytes) (kept_pieces t x) 0 3 (length bytes + 31) plain
+      any = any_plain_if meaning old new done.addition (rope_cells t x ++ map Byte bytes) (AppendsTooLong t x bytes) (kept_pieces t x) 0 3 (length bytes + 31) plain
           (λ short. (sized_append old.pool t k.sound k.true_records x there bytes done.addition (done.is short)).few) done.makes done.refuses shallow;
     }
 
-pub append_called : {F : Type 0} (meaning : F → ℕ → ℕ) (old one new : Held F) (x rope : Option NodeId) (bytes : List ℕ) (plain : Result (Option NodeId) NodeFault) → IsRight F meaning old → IsRight F meaning one → IsRope (table_of meaning old) x → ¬ IsTooLong (table_of meaning old) x bytes
+pub append_called : {F : Type 0} (meaning : F → ℕ → ℕ) (old one new : Held F) (x rope : Option NodeId) (bytes : List ℕ) (plain : Result (Option NodeId) NodeFault) → IsRight F meaning old → IsRight F meaning one → IsRope (table_of meaning old) x → ¬ AppendsTooLong (table_of meaning old) x bytes
     → Rebuilds meaning old (rope_cells (table_of meaning old) x) (kept_pieces (table_of meaning old) x) (Ok rope) one → Appends meaning one rope bytes plain new
     → Anew meaning old (rope_cells (table_of meaning old) x ++ map Byte bytes) (kept_pieces (table_of meaning old) x) 0 3 (length bytes + 31) (lifted plain) new
 append_called {F = F} meaning old one new x rope bytes plain k0 k1 there short first done =
     let t0 = table_of meaning old in
     let t1 = table_of meaning one in
     let a = stands_for meaning old one x rope _ k0.sound k0.true_records k1.sound k1.true_records there first in
-    let still : ¬ IsTooLong t1 rope bytes = λ long. ⊎_elim (λ (many : BLOCK_SIZE < length bytes). short (inl many)) (λ (far : 2 ^ 40 ≤ rope_len t1 rope + length bytes). short (inr (omega (arith, far, a.len)))) long in
+    let still : ¬ AppendsTooLong t1 rope bytes = λ long. ⊎_elim (λ (many : BLOCK_SIZE < length bytes). short (inl many)) (λ (far : 2 ^ 40 ≤ rope_len t1 rope + length bytes). short (inr (omega (arith, far, a.len)))) long in
     let sized = sized_append one.pool t1 k1.sound k1.true_records rope a.is_rope bytes done.addition (done.is still) in
     let low = sized.shallow a.shallow in
     let p = kept_pieces t0 x in
     let grows : Grows meaning old (length old.nodes + (2 * p + 2 * 0)) (length old.pool.bytes + (31 * p + 31 * 0)) one = grows_within (rebuilt_grows first) (omega arith) (omega arith) in
-    called_anew meaning old one new done.addition (rope_cells t0 x ++ map Byte bytes) (rope_cells t1 rope ++ map Byte bytes) (IsTooLong t1 rope bytes) p 0 3 (length bytes + 31) plain grows (few_pieces first) (λ many. omega (arith, many))
+    called_anew meaning old one new done.addition (rope_cells t0 x ++ map Byte bytes) (rope_cells t1 rope ++ map Byte bytes) (AppendsTooLong t1 rope bytes) p 0 3 (length bytes + 31) plain grows (few_pieces first) (λ many. omega (arith, many))
     sized.few (λ deep. omega (arith, deep, low)) still done.makes done.refuses (rw a.text refl)
     (append_roughly meaning one new (rope_cells t1 rope ++ map Byte bytes) rope bytes done.addition k1.sound k1.true_records a.is_rope first.shallow (done.is still) plain done.makes)

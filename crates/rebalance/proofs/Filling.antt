@@ -13,7 +13,7 @@ use Rattle.node_table.specs.declared.fault.NodeFault.{NodeFault}
 use Rattle.node_table.specs.Held.{Held, table_of}
 use Rattle.rebalance.specs.declared.pieces.Span.{Span}
 use Rattle.rebalance.specs.Balancing.{text_with, Fills, FillsSpan}
-use Rattle.rebalance.specs.Pieces.{span_cells, span_pieces, IsOfBase, IsOfChildren}
+use Rattle.rebalance.specs.Pieces.{cells_in_span, span_pieces, IsOfBase, IsOfChildren}
 use Rattle.rebalance.specs.Slots.{full_slots, slots_cells, AreSlots, Inserts, IsSpread}
 use Rattle.rebalance.specs.Steps.{AddsNodes, Grows, Steps}
 use Rattle.rebalance.proofs.Gathered.{spread_text}
@@ -36,7 +36,7 @@ spread_is spread same more = record {
 pub fills_nothing : {F A : Type 0} (meaning : F → ℕ → ℕ) (h : Held F) (keep : Bool) (slots : List (Option NodeId)) (p : Span) (a : A) → p.len ≡ 0 → AreSlots (table_of meaning h) slots → FillsSpan meaning h keep slots p (Ok a) slots h
 fills_nothing meaning h keep slots p a none are =
     let t = table_of meaning h in
-    let text : span_cells t p ≡ [] = rw none refl in
+    let text : cells_in_span t p ≡ [] = rw none refl in
     record {
       steps = record { grows = grows_itself meaning h _ _ (omega arith) (omega arith); fault = tt };
       spread = record {
@@ -96,13 +96,13 @@ fills_children meaning old mid new keep slots between after p left right a resul
     let count = span_pieces_kept keep t (table_of meaning mid) s kept right of.right_below.span in
     let cells = span_cells_kept t (table_of meaning mid) s kept right of.right_below.span in
     let second' = rw (count, cells) at second in
-    rw (of.count, of.cells) (fills_both meaning old mid new slots between after (span_pieces keep t left) (span_pieces keep t right) (span_cells t left) (span_cells t right) a result first second')
+    rw (of.count, of.cells) (fills_both meaning old mid new slots between after (span_pieces keep t left) (span_pieces keep t right) (cells_in_span t left) (cells_in_span t right) a result first second')
 
 -- the left span leaves the text short, and then the right one makes it whole
 pub left_short : (keep : Bool) (t : Table) (slots : List (Option NodeId)) (p left right : Span) → IsOfChildren keep t p left right → length (text_with t slots p) < TEXT_LIMIT → length (text_with t slots left) < TEXT_LIMIT
 left_short keep t slots p left right of short =
     let text = slots_cells t slots in
-    omega (arith, short, length-append text (span_cells t p), length-append text (span_cells t left), length-append (span_cells t left) (span_cells t right), ap length of.cells)
+    omega (arith, short, length-append text (cells_in_span t p), length-append text (cells_in_span t left), length-append (cells_in_span t left) (cells_in_span t right), ap length of.cells)
 
 pub right_text : {F A : Type 0} (meaning : F → ℕ → ℕ) (old mid : Held F) (keep : Bool) (slots between : List (Option NodeId)) (p left right : Span) (a : A) → IsSound (table_of meaning old) → IsOfChildren keep (table_of meaning old) p left right → FillsSpan meaning old keep slots left (Ok a) between mid
     → text_with (table_of meaning mid) between right ≡ text_with (table_of meaning old) slots p
@@ -110,7 +110,7 @@ right_text meaning old mid keep slots between p left right a s of first =
     let t = table_of meaning old in
     let t1 = table_of meaning mid in
     let cells = span_cells_kept t t1 s first.steps.grows.kept right of.right_below.span in
-    rw (of.cells, cells, spread_text t1 _ _ 0 between first.spread) (append_assoc (slots_cells t slots) (span_cells t left) (span_cells t right))
+    rw (of.cells, cells, spread_text t1 _ _ 0 between first.spread) (append_assoc (slots_cells t slots) (cells_in_span t left) (cells_in_span t right))
 
 -- ---- all of a text
 

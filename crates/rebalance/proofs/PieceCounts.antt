@@ -12,7 +12,7 @@ use Rattle.rope_node.proofs.Extensions.{len_kept}
 use Rattle.rebalance.specs.declared.pieces.TheConstants.{MOST_PIECES}
 use Rattle.rebalance.specs.declared.pieces.Tally.{Tally}
 use Rattle.rebalance.specs.declared.pieces.Tally.TheVariants.{So, Few, Many}
-use Rattle.rebalance.specs.Pieces.{is_kept, node_pieces, pieces_in, pieces, all_pieces, Tallies}
+use Rattle.rebalance.specs.Pieces.{is_kept, node_pieces, pieces_in, piece_count, all_pieces, Tallies}
 
 -- the count at a node depends on its children's alone
 node_pieces_alike : (t : Table) (f g : ℕ → ℕ → ℕ → ℕ) (id i n : ℕ) (v : NodeView) → HasGoodReferences t id v → ((c j k : ℕ) → c < id → f c j k ≡ g c j k) → node_pieces t f i n v ≡ node_pieces t g i n v
@@ -32,16 +32,16 @@ steps_enough keep t s (suc m) (suc k) id i (suc n) inside a b =
     (λ c j o lt. steps_enough keep t s m k c j o (omega arith) (omega arith) (omega arith)))
 
 -- one step of the count, where the node is not kept and it is known what it is
-pub pieces_step : (keep : Bool) (t : Table) → IsSound t → (id i n : ℕ) → id < length t.nodes → 1 ≤ n → (v : NodeView) → view_at t id ≡ v → is_kept keep t id i n ≡ false → pieces keep t id i n ≡ node_pieces t (pieces keep t) i n v
+pub pieces_step : (keep : Bool) (t : Table) → IsSound t → (id i n : ℕ) → id < length t.nodes → 1 ≤ n → (v : NodeView) → view_at t id ≡ v → is_kept keep t id i n ≡ false → piece_count keep t id i n ≡ node_pieces t (piece_count keep t) i n v
 pieces_step keep t s id i zero inside some v is free = absurd (omega arith)
 pieces_step keep t s id i (suc n) inside some v is free =
     ap (λ (b : Bool). if b then 1 else node_pieces t (pieces_in keep t id) i (suc n) (view_at t id)) free
-    ∙ node_pieces_alike t (pieces_in keep t id) (pieces keep t) id i (suc n) (view_at t id) (s.nodes id inside).references
+    ∙ node_pieces_alike t (pieces_in keep t id) (piece_count keep t) id i (suc n) (view_at t id) (s.nodes id inside).references
     (λ c j o lt. steps_enough keep t s id (suc c) c j o (omega arith) lt (omega arith))
-    ∙ ap (node_pieces t (pieces keep t) i (suc n)) is
+    ∙ ap (node_pieces t (piece_count keep t) i (suc n)) is
 
 -- what is kept is one piece, and so is a span of a leaf
-pub one_kept : (keep : Bool) (t : Table) (id i n : ℕ) → 1 ≤ n → is_kept keep t id i n ≡ true → pieces keep t id i n ≡ 1
+pub one_kept : (keep : Bool) (t : Table) (id i n : ℕ) → 1 ≤ n → is_kept keep t id i n ≡ true → piece_count keep t id i n ≡ 1
 one_kept keep t id i zero some is = absurd (omega arith)
 one_kept keep t id i (suc n) some is = ap (λ (b : Bool). if b then 1 else node_pieces t (pieces_in keep t id) i (suc n) (view_at t id)) is
 
@@ -52,21 +52,21 @@ leaf_alone t f i n Fun leaf = refl
 leaf_alone t f i n (Cat l r) leaf = absurd leaf
 leaf_alone t f i n (Sub b start) leaf = absurd leaf
 
-pub one_leaf : (keep : Bool) (t : Table) (id i n : ℕ) → 1 ≤ n → IsLeaf (view_at t id) → pieces keep t id i n ≡ 1
+pub one_leaf : (keep : Bool) (t : Table) (id i n : ℕ) → 1 ≤ n → IsLeaf (view_at t id) → piece_count keep t id i n ≡ 1
 one_leaf keep t id i zero some leaf = absurd (omega arith)
 one_leaf keep t id i (suc n) some leaf =
     cond_both (is_kept keep t id i (suc n)) 1 (node_pieces t (pieces_in keep t id) i (suc n) (view_at t id)) (λ (c : ℕ). c ≡ 1) (λ e. refl) (λ e. leaf_alone t (pieces_in keep t id) i (suc n) (view_at t id) leaf)
 
 -- the step of a concatenation, whether there are bytes or not
 pub cat_pieces : (keep : Bool) (t : Table) → IsSound t → (id i n : ℕ) → id < length t.nodes → (l r : NodeId) → view_at t id ≡ Cat l r → is_kept keep t id i n ≡ false
-    → pieces keep t id i n ≡ pieces keep t l.0 i (min n (len_at t l.0 - i)) + pieces keep t r.0 (i - len_at t l.0) (n - (len_at t l.0 - i))
+    → piece_count keep t id i n ≡ piece_count keep t l.0 i (min n (len_at t l.0 - i)) + piece_count keep t r.0 (i - len_at t l.0) (n - (len_at t l.0 - i))
 cat_pieces keep t s id i zero inside l r e free =
     let none : min 0 (len_at t l.0 - i) ≡ 0 = omega arith in
     let less : 0 - (len_at t l.0 - i) ≡ 0 = omega arith in
     rw (none, less) refl
 cat_pieces keep t s id i (suc n) inside l r e free = pieces_step keep t s id i (suc n) inside (omega arith) (Cat l r) e free
 
-pub sub_pieces : (keep : Bool) (t : Table) → IsSound t → (id i n : ℕ) → id < length t.nodes → (b : NodeId) (start : ℕ) → view_at t id ≡ Sub b start → is_kept keep t id i n ≡ false → pieces keep t id i n ≡ pieces keep t b.0 (start + i) n
+pub sub_pieces : (keep : Bool) (t : Table) → IsSound t → (id i n : ℕ) → id < length t.nodes → (b : NodeId) (start : ℕ) → view_at t id ≡ Sub b start → is_kept keep t id i n ≡ false → piece_count keep t id i n ≡ piece_count keep t b.0 (start + i) n
 sub_pieces keep t s id i zero inside b start e free = refl
 sub_pieces keep t s id i (suc n) inside b start e free = pieces_step keep t s id i (suc n) inside (omega arith) (Sub b start) e free
 
@@ -86,7 +86,7 @@ few_in keep t (suc m) id i (suc n) =
     cond_both (is_kept keep t id i (suc n)) 1 (node_pieces t (pieces_in keep t m) i (suc n) (view_at t id)) (λ (c : ℕ). c ≤ suc n) (λ e. omega arith)
     (λ e. node_few t (pieces_in keep t m) i (suc n) (view_at t id) (omega arith) (λ c j k. few_in keep t m c j k))
 
-pub few_pieces : (keep : Bool) (t : Table) (id i n : ℕ) → pieces keep t id i n ≤ n
+pub few_pieces : (keep : Bool) (t : Table) (id i n : ℕ) → piece_count keep t id i n ≤ n
 few_pieces keep t id i n = few_in keep t (suc id) id i n
 
 -- ---- what is kept
@@ -122,12 +122,12 @@ pieces_in_kept keep old new s x (suc m) id i (suc n) inside below =
     (λ c j k lt. pieces_in_kept keep old new s x m c j k (omega arith) (omega arith)))
 
 -- an earlier node keeps its count, and so does an earlier rope
-pub pieces_kept : (keep : Bool) (old new : Table) → IsSound old → Extends old new → (id i n : ℕ) → id < length old.nodes → pieces keep new id i n ≡ pieces keep old id i n
+pub pieces_kept : (keep : Bool) (old new : Table) → IsSound old → Extends old new → (id i n : ℕ) → id < length old.nodes → piece_count keep new id i n ≡ piece_count keep old id i n
 pieces_kept keep old new s x id i n there = pieces_in_kept keep old new s x (suc id) id i n there (omega arith)
 
 pub all_pieces_kept : (keep : Bool) (old new : Table) → IsSound old → Extends old new → (rope : Option NodeId) → IsRope old rope → all_pieces keep new rope ≡ all_pieces keep old rope
 all_pieces_kept keep old new s x None there = refl
-all_pieces_kept keep old new s x (Some id) there = ap (λ (n : ℕ). pieces keep new id.0 0 n) (len_kept old new x id.0 there) ∙ pieces_kept keep old new s x id.0 0 (len_at old id.0) there
+all_pieces_kept keep old new s x (Some id) there = ap (λ (n : ℕ). piece_count keep new id.0 0 n) (len_kept old new x id.0 there) ∙ pieces_kept keep old new s x id.0 0 (len_at old id.0) there
 
 -- what is told of p pieces, other than their number, is told of all, where those behind them are as many as n bytes at most
 pub told_of_all : (all p q n count behind before : ℕ) (told : Tally) → ((more : ℕ) → ¬ (told ≡ So more)) → all ≡ p + q → q ≤ n → (before ≤ MOST_PIECES → behind + n ≤ before) → Tallies p count before told → Tallies all count behind told

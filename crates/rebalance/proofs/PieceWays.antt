@@ -7,7 +7,7 @@ use Rattle.rope_node.specs.Table.{Table, view_at, len_at, depth_at, IsLeaf, IsSo
 use Rattle.rope_node.specs.Denotes.{cells}
 use Rattle.rope_node.proofs.Cells.{cells_at, cells_length}
 use Rattle.rope_node.proofs.Parts.{span_left, span_right, span_within}
-use Rattle.rebalance.specs.Pieces.{IsWithin, LiesInChild, LeadsDown, here, in_left, in_right, in_base}
+use Rattle.rebalance.specs.Pieces.{LeadsWithin, LiesInChild, LeadsDown, here, in_left, in_right, in_base}
 
 -- ---- the cells of a span of a node, one step down
 
@@ -92,7 +92,7 @@ lower_down t s h y q n x p b i e some way =
     }
 
 -- the way ends where no child holds the bytes
-pub lower_is : (t : Table) (y q n : ℕ) (x : NodeId) (p : ℕ) → (n < len_at t x.0 → ¬ LiesInChild t p n (view_at t x.0)) → IsLower t y q n x.0 p → IsWithin t y q n (record { node = x; start = p; len = n })
+pub lower_is : (t : Table) (y q n : ℕ) (x : NodeId) (p : ℕ) → (n < len_at t x.0 → ¬ LiesInChild t p n (view_at t x.0)) → IsLower t y q n x.0 p → LeadsWithin t y q n (record { node = x; start = p; len = n })
 lower_is t y q n x p lowest way = record {
   leads = way.forth x.0 p (here refl refl);
   there = way.there;
@@ -106,13 +106,13 @@ lower_is t y q n x p lowest way = record {
       (λ (less : depth_at t x.0 < depth_at t y). less) way.moved;
 }
 
-pub lower_is_whole : (t : Table) (y q n : ℕ) (x : NodeId) (p : ℕ) → n ≡ len_at t x.0 → IsLower t y q n x.0 p → IsWithin t y q n (record { node = x; start = p; len = n })
+pub lower_is_whole : (t : Table) (y q n : ℕ) (x : NodeId) (p : ℕ) → n ≡ len_at t x.0 → IsLower t y q n x.0 p → LeadsWithin t y q n (record { node = x; start = p; len = n })
 lower_is_whole t y q n x p whole way = lower_is t y q n x p (λ some. absurd (omega (arith, whole, some))) way
 
-pub lower_is_leaf : (t : Table) (y q n : ℕ) (x : NodeId) (p : ℕ) → IsLeaf (view_at t x.0) → IsLower t y q n x.0 p → IsWithin t y q n (record { node = x; start = p; len = n })
+pub lower_is_leaf : (t : Table) (y q n : ℕ) (x : NodeId) (p : ℕ) → IsLeaf (view_at t x.0) → IsLower t y q n x.0 p → LeadsWithin t y q n (record { node = x; start = p; len = n })
 lower_is_leaf t y q n x p leaf way = lower_is t y q n x p (λ _. leaf_has_no_child t p n (view_at t x.0) leaf) way
 
-pub lower_is_cut : (t : Table) (y q n : ℕ) (x : NodeId) (p : ℕ) (l r : NodeId) → view_at t x.0 ≡ Cat l r → p < len_at t l.0 → len_at t l.0 < p + n → IsLower t y q n x.0 p → IsWithin t y q n (record { node = x; start = p; len = n })
+pub lower_is_cut : (t : Table) (y q n : ℕ) (x : NodeId) (p : ℕ) (l r : NodeId) → view_at t x.0 ≡ Cat l r → p < len_at t l.0 → len_at t l.0 < p + n → IsLower t y q n x.0 p → LeadsWithin t y q n (record { node = x; start = p; len = n })
 lower_is_cut t y q n x p l r e before past way =
     lower_is t y q n x p (λ some. rw e (λ (lies : (p + n ≤ len_at t l.0) ⊎ (len_at t l.0 ≤ p)). ⊎_elim (λ (left : p + n ≤ len_at t l.0). omega (arith, left, past)) (λ (right : len_at t l.0 ≤ p). omega (arith, right, before)) lies)) way
 

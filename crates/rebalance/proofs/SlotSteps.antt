@@ -10,7 +10,7 @@ use Rattle.rope_node.specs.Extends.{Extends}
 use Rattle.std.specs.Option.{is_some}
 use Rattle.rope_node.proofs.Extensions.{len_kept, depth_kept}
 use Rattle.node_table.specs.Held.{Held, table_of}
-use Rattle.rebalance.specs.Slots.{ropes_in, slots_cells, AreSlots, AreEmptyBelow, IsSlot, IsGathered, IsCarried, IsPiece, IsJoin, IsSpread}
+use Rattle.rebalance.specs.Slots.{ropes_in, slots_cells, AreSlots, AreEmptyBelow, IsSlot, IsGathered, IsCarried, IsShallowPiece, IsJoin, IsSpread}
 use Rattle.rebalance.proofs.Fibonacci.{fibonacci_sum, fibonacci_up, fibonacci_below, first_ones, sixtieth, over_both}
 use Rattle.rebalance.proofs.SlotLists.{full-set, cells-set, cells_stay, slots_stay, slot_rope}
 use Rattle.rope_node.proofs.Ropes.{rope_length, rope_short}
@@ -163,7 +163,7 @@ carry_step meaning old new m (Some l) (Some r) joined slot carried long join =
     }
 
 -- a piece behind what the slots below its own join to
-pub first_carry : {F : Type 0} (meaning : F → ℕ → ℕ) (old new : Held F) (m : ℕ) (l r joined : Option NodeId) → IsGathered (table_of meaning old) m l → IsPiece (table_of meaning old) r → 2 ≤ m → fibonacci m ≤ rope_len (table_of meaning old) r → rope_len (table_of meaning old) r < fibonacci (m + 1)
+pub first_carry : {F : Type 0} (meaning : F → ℕ → ℕ) (old new : Held F) (m : ℕ) (l r joined : Option NodeId) → IsGathered (table_of meaning old) m l → IsShallowPiece (table_of meaning old) r → 2 ≤ m → fibonacci m ≤ rope_len (table_of meaning old) r → rope_len (table_of meaning old) r < fibonacci (m + 1)
     → IsJoin meaning old l r joined new → IsCarried (table_of meaning new) m joined
 first_carry meaning old new m None r joined low piece some long short join =
     let t = table_of meaning old in
@@ -278,7 +278,7 @@ behind_short t s h most text cs m slots lower piece spread there is short =
     let same = ap length is in
     omega (arith, all, both, left, right, same, short)
 
-pub piece_kept : (old new : Table) → Extends old new → (rope : Option NodeId) → IsPiece old rope → IsPiece new rope
+pub piece_kept : (old new : Table) → Extends old new → (rope : Option NodeId) → IsShallowPiece old rope → IsShallowPiece new rope
 piece_kept old new x None piece = record { there = tt; some = piece.some; shallow = piece.shallow }
 piece_kept old new x (Some id) piece = record {
   there = omega (arith, piece.there, x.more_nodes);
@@ -287,7 +287,7 @@ piece_kept old new x (Some id) piece = record {
 }
 
 -- a piece is far from too deep
-pub piece_shallow : (t : Table) → IsSound t → (rope : Option NodeId) → IsPiece t rope → rope_depth t rope < 64
+pub piece_shallow : (t : Table) → IsSound t → (rope : Option NodeId) → IsShallowPiece t rope → rope_depth t rope < 64
 piece_shallow t s rope piece =
     let short = rope_short t s rope piece.there in
     elim piece.shallow [

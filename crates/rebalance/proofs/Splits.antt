@@ -11,7 +11,7 @@ use Rattle.rope_node.proofs.Cells.{cells_at, cells_length}
 use Rattle.rope_node.proofs.Extensions.{cells_kept, len_kept}
 use Rattle.rope_store.proofs.PartTexts.{take_least}
 use Rattle.rebalance.specs.declared.pieces.Span.{Span}
-use Rattle.rebalance.specs.Pieces.{is_kept, pieces, span_cells, span_pieces, IsOfBase, IsOfChildren, IsPieceSpan, IsSpan}
+use Rattle.rebalance.specs.Pieces.{is_kept, piece_count, cells_in_span, span_pieces, IsOfBase, IsOfChildren, IsPieceSpan, IsInsideNode}
 use Rattle.rebalance.proofs.PieceCounts.{cat_pieces, kept_is, one_kept, one_leaf, pieces_kept, sub_pieces}
 use Rattle.rebalance.proofs.PieceWays.{cells_below}
 
@@ -62,7 +62,7 @@ split_kept keep t p some is =
 pub split_leaf : (keep : Bool) (t : Table) (p : Span) → 1 ≤ p.len → IsLeaf (view_at t p.node.0) → IsPieceSpan t p × (span_pieces keep t p ≡ 1)
 split_leaf keep t p some leaf = (inl leaf, one_leaf keep t p.node.0 p.start p.len some leaf)
 
-pub split_base : (keep : Bool) (t : Table) → IsSound t → (p : Span) (b : NodeId) (i : ℕ) → IsSpan t p → view_at t p.node.0 ≡ Sub b i → is_kept keep t p.node.0 p.start p.len ≡ false → IsOfBase keep t p (record { node = b; start = p.start + i; len = p.len })
+pub split_base : (keep : Bool) (t : Table) → IsSound t → (p : Span) (b : NodeId) (i : ℕ) → IsInsideNode t p → view_at t p.node.0 ≡ Sub b i → is_kept keep t p.node.0 p.start p.len ≡ false → IsOfBase keep t p (record { node = b; start = p.start + i; len = p.len })
 split_base keep t s p b i is e free =
     let first = rw e at (s.nodes p.node.0 is.there).references in
     let held = rw e at (s.nodes p.node.0 is.there).span in
@@ -77,15 +77,15 @@ split_base keep t s p b i is e free =
     }
 
 -- the left child's pieces, from a place inside it
-left_pieces : (keep : Bool) (t : Table) (id i n k : ℕ) → pieces keep t id (min i k) (min n (k - min i k)) ≡ pieces keep t id i (min n (k - i))
+left_pieces : (keep : Bool) (t : Table) (id i n k : ℕ) → piece_count keep t id (min i k) (min n (k - min i k)) ≡ piece_count keep t id i (min n (k - i))
 left_pieces keep t id i n k =
-    ⊎_elim (λ (before : i < k). ap (λ (j : ℕ). pieces keep t id j (min n (k - j))) (omega (arith, before)))
+    ⊎_elim (λ (before : i < k). ap (λ (j : ℕ). piece_count keep t id j (min n (k - j))) (omega (arith, before)))
     (λ (past : k ≤ i).
     let none : min n (k - min i k) ≡ 0 = omega (arith, past) in
     let none' : min n (k - i) ≡ 0 = omega (arith, past) in
     rw (none, none') refl) (cases_lt i k)
 
-pub split_children : (keep : Bool) (t : Table) → IsSound t → HasTrueRecords t → (p : Span) (l r : NodeId) (k : ℕ) → IsSpan t p → view_at t p.node.0 ≡ Cat l r → is_kept keep t p.node.0 p.start p.len ≡ false → k ≡ len_at t l.0
+pub split_children : (keep : Bool) (t : Table) → IsSound t → HasTrueRecords t → (p : Span) (l r : NodeId) (k : ℕ) → IsInsideNode t p → view_at t p.node.0 ≡ Cat l r → is_kept keep t p.node.0 p.start p.len ≡ false → k ≡ len_at t l.0
     → IsOfChildren keep t p (record { node = l; start = min p.start k; len = min p.len (k - min p.start k) }) (record { node = r; start = p.start - min p.start k; len = p.len - min p.len (k - min p.start k) })
 split_children keep t s h p l r k is e free own =
     let first = rw e at (s.nodes p.node.0 is.there).references in
@@ -111,11 +111,11 @@ split_children keep t s h p l r k is e free own =
 
 -- ---- a table that goes on
 
-pub span_stays : (old new : Table) → Extends old new → (p : Span) → IsSpan old p → IsSpan new p
+pub span_stays : (old new : Table) → Extends old new → (p : Span) → IsInsideNode old p → IsInsideNode new p
 span_stays old new x p is = record { there = omega (arith, is.there, x.more_nodes); inside = omega (arith, is.inside, len_kept old new x p.node.0 is.there) }
 
-pub span_cells_kept : (old new : Table) → IsSound old → Extends old new → (p : Span) → IsSpan old p → span_cells new p ≡ span_cells old p
+pub span_cells_kept : (old new : Table) → IsSound old → Extends old new → (p : Span) → IsInsideNode old p → cells_in_span new p ≡ cells_in_span old p
 span_cells_kept old new s x p is = ap (λ cs. take p.len (drop p.start cs)) (cells_kept old new s x p.node.0 is.there)
 
-pub span_pieces_kept : (keep : Bool) (old new : Table) → IsSound old → Extends old new → (p : Span) → IsSpan old p → span_pieces keep new p ≡ span_pieces keep old p
+pub span_pieces_kept : (keep : Bool) (old new : Table) → IsSound old → Extends old new → (p : Span) → IsInsideNode old p → span_pieces keep new p ≡ span_pieces keep old p
 span_pieces_kept keep old new s x p is = pieces_kept keep old new s x p.node.0 p.start p.len is.there

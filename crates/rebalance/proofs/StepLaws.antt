@@ -5,7 +5,7 @@ use Rattle.std.specs.Prelude.{IfOk}
 use Rattle.rope_node.proofs.Ropes.{extends_itself, extends_through}
 use Rattle.node_table.specs.declared.fault.NodeFault.{NodeFault}
 use Rattle.node_table.specs.declared.fault.NodeFault.TheVariants.{TooLong, TooDeep, TableFull, PoolFull, BadSpan, TooManySources, Memory}
-use Rattle.node_table.specs.Held.{Held, table_of, function_of, KeepsFunctions}
+use Rattle.node_table.specs.Held.{Held, table_of, function_of_record, KeepsFunctions}
 use Rattle.rope_store.specs.Additions.{Addition, after}
 use Rattle.rebalance.specs.Steps.{IsStepFault, Grows, Steps}
 
@@ -17,8 +17,8 @@ functions_through x y = record { same = λ id lt. y.same id (omega (arith, x.mor
 
 pub functions_after : {F : Type 0} (h : Held F) (a : Addition F) → KeepsFunctions h (after h a)
 functions_after h a = record {
-  same = λ id lt. get_or_append_left h.functions (map function_of a.records) None id lt;
-  more = omega (arith, length-append h.functions (map function_of a.records));
+  same = λ id lt. get_or_append_left h.functions (map function_of_record a.records) None id lt;
+  more = omega (arith, length-append h.functions (map function_of_record a.records));
 }
 
 pub grows_itself : {F : Type 0} (meaning : F → ℕ → ℕ) (h : Held F) (nodes bytes : ℕ) → length h.nodes ≤ nodes → length h.pool.bytes ≤ bytes → Grows meaning h nodes bytes h

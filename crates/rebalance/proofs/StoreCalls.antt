@@ -19,7 +19,7 @@ use Rattle.rope_store.proofs.PartTexts.{some_part}
 use Rattle.rope_node.specs.Balance.{fibonacci}
 use Rattle.rebalance.specs.declared.pieces.Span.{Span}
 use Rattle.rebalance.specs.Pieces.{IsWhole}
-use Rattle.rebalance.specs.Slots.{IsPiece}
+use Rattle.rebalance.specs.Slots.{IsShallowPiece}
 use Rattle.rebalance.proofs.Fibonacci.{first_ones}
 use Rattle.rebalance.proofs.StepLaws.{functions_after, functions_itself}
 use Rattle.rebalance.specs.Steps.{IsStepFault, Grows, Steps}
@@ -79,7 +79,7 @@ one_made {F = F} meaning old new a r wanted rope one is made =
     (ap (rope_len (table_of meaning new)) there ∙ ap (λ (n : Node). n.len) node, ap (rope_depth (table_of meaning new)) there ∙ ap (λ (n : Node). n.depth) node)
 
 pub one_piece : {F : Type 0} (meaning : F → ℕ → ℕ) (old new : Held F) (a : Addition F) (r : Record F) (wanted : List Cell) (result : Result (Option NodeId) NodeFault) → a.records ≡ r ∷ [] → a.rope ≡ Some (new_node (table_of meaning old) 0) → 1 ≤ r.len → (r.depth ≡ 0) ⊎ ((r.depth ≡ 1) × (32 ≤ r.len))
-    → Makes meaning old a wanted result new → IfOk result (λ rope. IsPiece (table_of meaning new) rope)
+    → Makes meaning old a wanted result new → IfOk result (λ rope. IsShallowPiece (table_of meaning new) rope)
 one_piece meaning old new a r wanted (Err e) one is some shallow made = tt
 one_piece meaning old new a r wanted (Ok rope) one is some shallow made =
     let at = one_made meaning old new a r wanted rope one is made in
@@ -97,7 +97,7 @@ no_depth t (Cat l r) k = absurd k
 no_depth t (Sub b i) k = absurd k
 
 -- a node as a whole
-pub whole_piece : (t : Table) → IsSound t → HasTrueRecords t → (p : Span) → p.node.0 < length t.nodes → p.len ≡ len_at t p.node.0 → IsLeaf (view_at t p.node.0) ⊎ IsWhole t p → IsPiece t (Some p.node)
+pub whole_piece : (t : Table) → IsSound t → HasTrueRecords t → (p : Span) → p.node.0 < length t.nodes → p.len ≡ len_at t p.node.0 → IsLeaf (view_at t p.node.0) ⊎ IsWhole t p → IsShallowPiece t (Some p.node)
 whole_piece t s h p there all is = record {
   there = there;
   some = (s.nodes p.node.0 there).not_empty;
@@ -148,6 +148,6 @@ part_steps {F = F} meaning old new n a wanted result part made refuses =
     }
 
 pub part_piece : {F : Type 0} (meaning : F → ℕ → ℕ) (old new : Held F) (n : ℕ) (a : Addition F) (wanted : List Cell) (result : Result (Option NodeId) NodeFault) → IsLeafPart (table_of meaning old) n a → 1 ≤ n → Makes meaning old a wanted result new
-    → IfOk result (λ rope. IsPiece (table_of meaning new) rope)
+    → IfOk result (λ rope. IsShallowPiece (table_of meaning new) rope)
 part_piece meaning old new n a wanted result part some made =
     one_piece meaning old new a part.r wanted result part.records part.rope (rw part.len some) (rw part.len part.shallow) made

@@ -12,7 +12,7 @@ use Rattle.rope_store.specs.Additions.{Addition, Makes, part_added}
 use Rattle.rope_node.specs.Extends.{Extends}
 use Rattle.rope_store.specs.declared.endings.TheConstants.{MOST_MERGED}
 use Rattle.rope_store.specs.Joining.{joined}
-use Rattle.rope_store.specs.Appending.{Appends, IsAppend, IsTooLong}
+use Rattle.rope_store.specs.Appending.{Appends, AppendsTooLong, IsAppend}
 use Rattle.rope_store.specs.Refusals.{Refuses, IsTooDeep}
 use Rattle.rebalance.specs.declared.fault.BalanceFault.{BalanceFault}
 use Rattle.rebalance.specs.declared.fault.BalanceFault.TheVariants.{TooManyPieces, Node}
@@ -140,13 +140,13 @@ AppendsAnew meaning old x bytes result new =
     Anew meaning old (rope_cells t x ++ map Byte bytes) (kept_pieces t x) 0 3 (length bytes + MOST_MERGED) result new
 
 -- the place that bytes get in a pool: its end, and 0 for none of them
-abbrev pub next_place : List ℕ → List ℕ → ℕ
-next_place pool [] = 0
-next_place pool (b ∷ bs) = length pool
+abbrev pub place_in_pool : List ℕ → List ℕ → ℕ
+place_in_pool pool [] = 0
+place_in_pool pool (b ∷ bs) = length pool
 
 -- the bytes stand in the pool from this place on
-abbrev pub StandsAt : List ℕ → ℕ → List ℕ → Type 0
-StandsAt pool place bytes = slice_range pool place (place + length bytes) ≡ bytes
+abbrev pub StandInPool : List ℕ → ℕ → List ℕ → Type 0
+StandInPool pool place bytes = slice_range pool place (place + length bytes) ≡ bytes
 
 -- the plain call put the bytes behind a rope of a table that went on from the old one, and their place is where its
 -- pool ended then
@@ -156,8 +156,8 @@ pub record IsPut {F : Type 0} (meaning : F → ℕ → ℕ) (old : Held F) (byte
   pub behind : Option NodeId
   pub kept : Extends (table_of meaning old) (table_of meaning before)
   pub appends : Appends meaning before behind bytes (Ok p.0) new
-  pub place : p.1 ≡ next_place before.pool.bytes bytes
-  pub stands : StandsAt new.pool.bytes p.1 bytes
+  pub place : p.1 ≡ place_in_pool before.pool.bytes bytes
+  pub stands : StandInPool new.pool.bytes p.1 bytes
 
 -- that table is the old one, unless the plain call refuses there as too deep
 pub record IsPlaced {F : Type 0} (meaning : F → ℕ → ℕ) (old : Held F) (x : Option NodeId) (bytes : List ℕ)
@@ -169,7 +169,7 @@ pub record IsPlaced {F : Type 0} (meaning : F → ℕ → ℕ) (old : Held F) (x
 pub record AppendsAny {F : Type 0} (meaning : F → ℕ → ℕ) (old : Held F) (x : Option NodeId) (bytes : List ℕ)
     (result : Result (Option NodeId) BalanceFault) (new : Held F) : Type 0 where
   pub addition : Addition F
-  pub is : ¬ IsTooLong (table_of meaning old) x bytes → IsAppend old.pool (table_of meaning old) x bytes addition
+  pub is : ¬ AppendsTooLong (table_of meaning old) x bytes → IsAppend old.pool (table_of meaning old) x bytes addition
   pub any : AnyForm meaning old addition (rope_cells (table_of meaning old) x ++ map Byte bytes)
-      (IsTooLong (table_of meaning old) x bytes) (kept_pieces (table_of meaning old) x) 0 3
+      (AppendsTooLong (table_of meaning old) x bytes) (kept_pieces (table_of meaning old) x) 0 3
       (length bytes + MOST_MERGED) result new

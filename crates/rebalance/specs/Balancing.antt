@@ -16,7 +16,7 @@ use Rattle.rebalance.specs.declared.pieces.Span.{Span}
 use Rattle.rebalance.specs.Steps.{AddsPieces, Steps}
 use Rattle.rebalance.specs.Slots.{full_slots, slots_cells, Spreads}
 use Rattle.node_table.specs.declared.fault.NodeFault.{NodeFault}
-use Rattle.rebalance.specs.Pieces.{all_pieces, pieces, rope_pieces, span_cells, span_pieces}
+use Rattle.rebalance.specs.Pieces.{all_pieces, cells_in_span, piece_count, rope_pieces, span_pieces}
 use Rattle.rebalance.specs.declared.pieces.TheConstants.{MOST_PIECES}
 
 -- a rope as long as its depth asks for, but for one
@@ -49,19 +49,19 @@ pub record Rebuilds {F : Type 0} (meaning : F → ℕ → ℕ) (old : Held F) (w
   pub no_source : ¬ IsErrOf result (Node TooManySources)
 
 -- the rope is so many bytes of a node from start on
-abbrev pub IsPart : {F : Type 0} → (F → ℕ → ℕ) → Held F → NodeId → ℕ → ℕ → Held F → Option NodeId → Type 0
-IsPart meaning old node start len new rope =
+abbrev pub IsPartOfNode : {F : Type 0} → (F → ℕ → ℕ) → Held F → NodeId → ℕ → ℕ → Held F → Option NodeId → Type 0
+IsPartOfNode meaning old node start len new rope =
     rope_cells (table_of meaning new) rope ≡ take len (drop start (cells (table_of meaning old) node.0))
 
 -- a step that goes through the pieces of these bytes
 abbrev pub StepsThrough : {F : Type 0} {A : Type 0} → (F → ℕ → ℕ) → Held F → Bool → NodeId → ℕ → ℕ → Result A NodeFault
     → Held F → Type 0
 StepsThrough meaning old keep node start len result new =
-    AddsPieces meaning old (pieces keep (table_of meaning old) node.0 start len) result new
+    AddsPieces meaning old (piece_count keep (table_of meaning old) node.0 start len) result new
 
 -- the text of the slots, and then of a span
 abbrev pub text_with : Table → List (Option NodeId) → Span → List Cell
-text_with t slots span = slots_cells t slots ++ span_cells t span
+text_with t slots span = slots_cells t slots ++ cells_in_span t span
 
 -- a step that puts a text of p pieces behind that of the slots
 pub record Fills {F : Type 0} {A : Type 0} (meaning : F → ℕ → ℕ) (old : Held F) (slots : List (Option NodeId)) (p : ℕ)
@@ -76,7 +76,7 @@ abbrev pub FillsSpan : {F : Type 0} {A : Type 0} → (F → ℕ → ℕ) → Hel
     → Result A NodeFault → List (Option NodeId) → Held F → Type 0
 FillsSpan meaning old keep slots span result after new =
     let t = table_of meaning old in
-    Fills meaning old slots (span_pieces keep t span) (span_cells t span) result after new
+    Fills meaning old slots (span_pieces keep t span) (cells_in_span t span) result after new
 
 -- all of a rope is put together from its pieces
 abbrev pub RebuildsRope : {F : Type 0} → (F → ℕ → ℕ) → Held F → Bool → Option NodeId
@@ -90,7 +90,7 @@ abbrev pub RebuildsPart : {F : Type 0} → (F → ℕ → ℕ) → Held F → Bo
     → Result (Option NodeId) BalanceFault → Held F → Type 0
 RebuildsPart meaning old keep node start len result new =
     let t = table_of meaning old in
-    Rebuilds meaning old (take len (drop start (cells t node.0))) (pieces keep t node.0 start len) result new
+    Rebuilds meaning old (take len (drop start (cells t node.0))) (piece_count keep t node.0 start len) result new
 
 -- a rope put together from its leaf spans
 abbrev pub Rebalances : {F : Type 0} → (F → ℕ → ℕ) → Held F → Option NodeId → Result (Option NodeId) BalanceFault

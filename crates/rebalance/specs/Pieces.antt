@@ -35,13 +35,13 @@ pieces_in keep t (suc steps) id i zero = 0
 pieces_in keep t (suc steps) id i (suc n) =
     if is_kept keep t id i (suc n) then 1 else node_pieces t (pieces_in keep t steps) i (suc n) (view_at t id)
 
-abbrev pub pieces : Bool → Table → ℕ → ℕ → ℕ → ℕ
-pieces keep t id i n = pieces_in keep t (suc id) id i n
+abbrev pub piece_count : Bool → Table → ℕ → ℕ → ℕ → ℕ
+piece_count keep t id i n = pieces_in keep t (suc id) id i n
 
 -- all of a rope's
 abbrev pub all_pieces : Bool → Table → Option NodeId → ℕ
 all_pieces keep t None = 0
-all_pieces keep t (Some id) = pieces keep t id.0 0 (len_at t id.0)
+all_pieces keep t (Some id) = piece_count keep t id.0 0 (len_at t id.0)
 
 -- a rope's leaf spans
 abbrev pub rope_pieces : Table → Option NodeId → ℕ
@@ -53,7 +53,7 @@ kept_pieces t rope = all_pieces true t rope
 
 abbrev pub part_pieces : Table → Option NodeId → ℕ → ℕ → ℕ
 part_pieces t None i n = 0
-part_pieces t (Some id) i n = pieces true t id.0 i (min n (len_at t id.0 - i))
+part_pieces t (Some id) i n = piece_count true t id.0 i (min n (len_at t id.0 - i))
 
 -- how many bytes a rope has from i on, at most n
 abbrev pub part_count : Table → Option NodeId → ℕ → ℕ → ℕ
@@ -78,32 +78,32 @@ abbrev pub IsPieceSpan : Table → Span → Type 0
 IsPieceSpan t p = IsLeaf (view_at t p.node.0) ⊎ IsWhole t p
 
 -- the cells of a span, and how many pieces it goes through
-abbrev pub span_cells : Table → Span → List Cell
-span_cells t p = take p.len (drop p.start (cells t p.node.0))
+abbrev pub cells_in_span : Table → Span → List Cell
+cells_in_span t p = take p.len (drop p.start (cells t p.node.0))
 
 abbrev pub span_pieces : Bool → Table → Span → ℕ
-span_pieces keep t p = pieces keep t p.node.0 p.start p.len
+span_pieces keep t p = piece_count keep t p.node.0 p.start p.len
 
 -- its bytes are there
-pub record IsSpan (t : Table) (p : Span) : Type 0 where
+pub record IsInsideNode (t : Table) (p : Span) : Type 0 where
   pub there : p.node.0 < length t.nodes
   pub inside : p.start + p.len ≤ len_at t p.node.0
 
 -- it is a span of an earlier node
-pub record IsBelow (t : Table) (p below : Span) : Type 0 where
-  pub span : IsSpan t below
+pub record IsEarlierSpan (t : Table) (p below : Span) : Type 0 where
+  pub span : IsInsideNode t below
   pub earlier : below.node.0 < p.node.0
 
 -- it has the cells and the pieces of a span below it, or of two, one behind the other
 pub record IsOfBase (keep : Bool) (t : Table) (p base : Span) : Type 0 where
-  pub below : IsBelow t p base
-  pub cells : span_cells t p ≡ span_cells t base
+  pub below : IsEarlierSpan t p base
+  pub cells : cells_in_span t p ≡ cells_in_span t base
   pub count : span_pieces keep t p ≡ span_pieces keep t base
 
 pub record IsOfChildren (keep : Bool) (t : Table) (p left right : Span) : Type 0 where
-  pub left_below : IsBelow t p left
-  pub right_below : IsBelow t p right
-  pub cells : span_cells t p ≡ span_cells t left ++ span_cells t right
+  pub left_below : IsEarlierSpan t p left
+  pub right_below : IsEarlierSpan t p right
+  pub cells : cells_in_span t p ≡ cells_in_span t left ++ cells_in_span t right
   pub count : span_pieces keep t p ≡ span_pieces keep t left + span_pieces keep t right
 
 -- what a span is, one step down
@@ -146,7 +146,7 @@ RopeLeadsDown t n (Some k) o (Some x) p = LeadsDown t n k.0 o x.0 p
 
 -- The n bytes of a node from i on lead down to these: no child holds them, and where one held those, this node is less
 -- deep.
-pub record IsWithin (t : Table) (id i n : ℕ) (p : Span) : Type 0 where
+pub record LeadsWithin (t : Table) (id i n : ℕ) (p : Span) : Type 0 where
   pub leads : LeadsDown t n p.node.0 p.start id i
   pub there : p.node.0 < length t.nodes
   pub inside : p.start + p.len ≤ len_at t p.node.0

@@ -46,7 +46,7 @@ pub record IsCarried (t : Table) (m : ℕ) (rope : Option NodeId) : Type 0 where
   pub balanced : IsBalanced (rope_len t rope) (rope_depth t rope)
 
 -- a leaf, or a rope whose length is at least the Fibonacci number at its depth and three
-pub record IsPiece (t : Table) (rope : Option NodeId) : Type 0 where
+pub record IsShallowPiece (t : Table) (rope : Option NodeId) : Type 0 where
   pub there : IsRope t rope
   pub some : 1 ≤ rope_len t rope
   pub shallow : (rope_depth t rope ≡ 0) ⊎ (fibonacci (rope_depth t rope + 3) ≤ rope_len t rope)

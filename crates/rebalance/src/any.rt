@@ -7,10 +7,10 @@ ghost use Rattle.rope_node.specs.declared.limits.TheConstants.{TEXT_LIMIT};
 ghost use Rattle.rope_node.specs.Table.{len_at};
 ghost use Rattle.rope_node.specs.Denotes.{IsRope};
 ghost use Rattle.node_table.specs.Held.{table_of};
-ghost use Rattle.rope_store.specs.Appending.{IsTooLong};
+ghost use Rattle.rope_store.specs.Appending.{AppendsTooLong};
 ghost use Rattle.rebalance.specs.AnyForms.{AppendsAny, AppendsAnew, CatsAny, CatsAnew, IsPlaced, IsPut, PartsAny, lifted, ropes_of};
 ghost use Rattle.rebalance.specs.Slots.{joined_len};
-ghost use Rattle.rebalance.specs.Pieces.{HaveFewPieces, IsWithin};
+ghost use Rattle.rebalance.specs.Pieces.{HaveFewPieces, LeadsWithin};
 
 use crate::balancing::{balance_by, balance_part, rebuild_rope, rope_has_few_pieces};
 use crate::fault::BalanceFault;
@@ -144,7 +144,7 @@ fn lowest<F: LeafFn>(store: &Store<F>, node: NodeId, start: u64, len: u64) -> Sp
     requires there { node.0 < length store.now.nodes }
     requires some { 1 ≤ len }
     requires inside { start + len ≤ len_at (table_of F.meaning store.now) node.0 }
-    ensures { IsWithin (table_of F.meaning store.now) node.0 start len result }
+    ensures { LeadsWithin (table_of F.meaning store.now) node.0 start len result }
 {
     let _count = store.count();
     let mut below = node;
@@ -233,7 +233,7 @@ fn append_anew<F: LeafFn>(
     bytes: &[u8],
 ) -> Result<(Rope, u64), BalanceFault>
     requires there { IsRope (table_of F.meaning store.old) x }
-    requires short { ¬ IsTooLong (table_of F.meaning store.old) x bytes.now }
+    requires short { ¬ AppendsTooLong (table_of F.meaning store.old) x bytes.now }
     ensures anew { AppendsAnew F.meaning store.old x bytes.now (ropes_of result) store.new }
     ensures place { IfOk result (λ p. IsPut F.meaning store.old bytes.now p store.new) }
 {

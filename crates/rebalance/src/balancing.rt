@@ -7,8 +7,8 @@ ghost use Rattle.rope_node.specs.declared.limits.TheConstants.{TEXT_LIMIT};
 ghost use Rattle.rope_node.specs.Table.{len_at};
 ghost use Rattle.rope_node.specs.Denotes.{IsRope};
 ghost use Rattle.node_table.specs.Held.{table_of};
-ghost use Rattle.rebalance.specs.Balancing.{text_with, Fills, FillsSpan, IsNearlyBalanced, IsPart, Rebalances, RebuildsPart, RebuildsRope, StepsThrough};
-ghost use Rattle.rebalance.specs.Pieces.{all_pieces, span_cells, span_pieces, IsPieceSpan, IsSpan};
+ghost use Rattle.rebalance.specs.Balancing.{text_with, Fills, FillsSpan, IsNearlyBalanced, IsPartOfNode, Rebalances, RebuildsPart, RebuildsRope, StepsThrough};
+ghost use Rattle.rebalance.specs.Pieces.{all_pieces, cells_in_span, span_pieces, IsPieceSpan, IsInsideNode};
 ghost use Rattle.rebalance.specs.declared.pieces.TheConstants.{MOST_PIECES};
 ghost use Rattle.rebalance.specs.Slots.{AreEmptyBelow, AreSlots};
 
@@ -104,7 +104,7 @@ fn rebuild_few<F: LeafFn>(
     keep: bool,
     span: Span,
 ) -> Result<Rope, BalanceFault>
-    requires span { IsSpan (table_of F.meaning store.old) span }
+    requires span { IsInsideNode (table_of F.meaning store.old) span }
     requires few { span_pieces keep (table_of F.meaning store.old) span ≤ MOST_PIECES }
     ensures { RebuildsPart F.meaning store.old keep span.node span.start span.len result store.new }
 {
@@ -113,10 +113,10 @@ fn rebuild_few<F: LeafFn>(
 
 /// A span put together from its pieces.
 fn rebuild<F: LeafFn>(store: &mut Store<F>, keep: bool, span: Span) -> Result<Rope, NodeFault>
-    requires { IsSpan (table_of F.meaning store.old) span }
+    requires { IsInsideNode (table_of F.meaning store.old) span }
     ensures steps { StepsThrough F.meaning store.old keep span.node span.start span.len result store.new }
     ensures is_rope { IfOk result (λ rope. IsRope (table_of F.meaning store.new) rope) }
-    ensures text { IfOk result (IsPart F.meaning store.old span.node span.start span.len store.new) }
+    ensures text { IfOk result (IsPartOfNode F.meaning store.old span.node span.start span.len store.new) }
     ensures shallow { IfOk result (λ rope. IsNearlyBalanced (table_of F.meaning store.new) rope) }
 {
     let _count = store.count();
@@ -134,7 +134,7 @@ fn fill<F: LeafFn>(
     keep: bool,
     span: Span,
 ) -> Result<(), NodeFault>
-    requires span { IsSpan (table_of F.meaning store.old) span }
+    requires span { IsInsideNode (table_of F.meaning store.old) span }
     requires slots { AreSlots (table_of F.meaning store.old) slots.old.ropes }
     requires empty { AreEmptyBelow slots.old.low slots.old.ropes }
     requires short { length (text_with (table_of F.meaning store.old) slots.old.ropes span) < TEXT_LIMIT }
@@ -158,14 +158,14 @@ fn fill<F: LeafFn>(
 
 /// Puts a span that is one piece behind the text of the slots.
 fn put<F: LeafFn>(store: &mut Store<F>, slots: &mut Slots, span: Span) -> Result<(), NodeFault>
-    requires span { IsSpan (table_of F.meaning store.old) span }
+    requires span { IsInsideNode (table_of F.meaning store.old) span }
     requires piece { IsPieceSpan (table_of F.meaning store.old) span }
     requires some { 1 ≤ span.len }
     requires slots { AreSlots (table_of F.meaning store.old) slots.old.ropes }
     requires empty { AreEmptyBelow slots.old.low slots.old.ropes }
     requires short { length (text_with (table_of F.meaning store.old) slots.old.ropes span) < TEXT_LIMIT }
     ensures fills { Fills F.meaning store.old slots.old.ropes 1
-        (span_cells (table_of F.meaning store.old) span) result slots.new.ropes store.new }
+        (cells_in_span (table_of F.meaning store.old) span) result slots.new.ropes store.new }
     ensures empty { IfOk result (λ _. AreEmptyBelow slots.new.low slots.new.ropes) }
 {
     let _count = store.count();

@@ -27,9 +27,9 @@ impl From<NodeFault> for BalanceFault {
 /// The code that a program prints: `B1`, or that of the store's refusal.
 impl fmt::Display for BalanceFault {
     ghost use Rattle.std.specs.Prelude.{Some};
-    ghost use Rattle.rebalance.specs.Codes.{fault_code};
+    ghost use Rattle.rebalance.specs.Codes.{balance_fault_code};
 
-    ghost output = { λ e. Some (fault_code e) };
+    ghost output = { λ e. Some (balance_fault_code e) };
 
     fn fmt<W: fmt::Write>(&self, f: &mut fmt::Formatter<W>) -> fmt::Result {
         match self {

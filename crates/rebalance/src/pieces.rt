@@ -6,10 +6,10 @@
 ghost use Rattle.std.specs.Prelude.{◌≡◌, ◌↔◌, ◌+◌, ◌<◌, ◌≤◌, length, take, IsTrue, IfOk};
 ghost use Rattle.rope_node.specs.Table.{view_at, len_at, IsLeaf, IsFunction};
 ghost use Rattle.node_table.specs.Held.{table_of};
-ghost use Rattle.rebalance.specs.Pieces.{answered_bytes, is_kept, span_pieces, IsBelow, IsOfChildren, IsPieceSpan, IsSpan, IsSplit, Tallies};
+ghost use Rattle.rebalance.specs.Pieces.{answered_bytes, is_kept, span_pieces, IsEarlierSpan, IsOfChildren, IsPieceSpan, IsInsideNode, IsSplit, Tallies};
 ghost use Rattle.rebalance.specs.declared.pieces.TheConstants.{MOST_PIECES};
-ghost use Rattle.rebalance.specs.Balancing.{IsPart};
-ghost use Rattle.rebalance.specs.Slots.{IsPiece};
+ghost use Rattle.rebalance.specs.Balancing.{IsPartOfNode};
+ghost use Rattle.rebalance.specs.Slots.{IsShallowPiece};
 ghost use Rattle.rebalance.specs.Steps.{AddsPiece};
 
 use crate::balanced::fibonacci;
@@ -38,7 +38,7 @@ pub(crate) struct Span {
 pub(crate) fn whole<F: LeafFn>(store: &Store<F>, node: NodeId) -> Span
     requires { node.0 < length store.now.nodes }
     ensures is { result ≡ record { node = node; start = 0; len = len_at (table_of F.meaning store.now) node.0 } }
-    ensures span { IsSpan (table_of F.meaning store.now) result }
+    ensures span { IsInsideNode (table_of F.meaning store.now) result }
 {
     Span {
         node,
@@ -70,7 +70,7 @@ pub(crate) enum Split {
 
 /// What a span's bytes are, one step down.
 pub(crate) fn step_down<F: LeafFn>(store: &Store<F>, keep: bool, span: Span) -> Split
-    requires span { IsSpan (table_of F.meaning store.now) span }
+    requires span { IsInsideNode (table_of F.meaning store.now) span }
     requires some { 1 ≤ span.len }
     ensures { IsSplit keep (table_of F.meaning store.now) span result }
 {
@@ -125,8 +125,8 @@ fn longer_first<F: LeafFn>(
     right: Span,
 ) -> (Span, Span)
     requires { IsOfChildren keep (table_of F.meaning store.now) span left right }
-    ensures first { IsBelow (table_of F.meaning store.now) span result.0 }
-    ensures second { IsBelow (table_of F.meaning store.now) span result.1 }
+    ensures first { IsEarlierSpan (table_of F.meaning store.now) span result.0 }
+    ensures second { IsEarlierSpan (table_of F.meaning store.now) span result.1 }
     ensures count { span_pieces keep (table_of F.meaning store.now) span
         ≡ span_pieces keep (table_of F.meaning store.now) result.0
         + span_pieces keep (table_of F.meaning store.now) result.1 }
@@ -142,7 +142,7 @@ fn longer_first<F: LeafFn>(
 /// it ends where the bytes that are left can be no pieces too many: early, as it goes to the longer child first. It
 /// goes past no more pieces than a rope is put together from, and calls itself as deep as the node is.
 fn count_on<F: LeafFn>(store: &Store<F>, keep: bool, span: Span, count: u32, behind: u64) -> Tally
-    requires span { IsSpan (table_of F.meaning store.now) span }
+    requires span { IsInsideNode (table_of F.meaning store.now) span }
     requires few { count ≤ MOST_PIECES }
     ensures { Tallies (span_pieces keep (table_of F.meaning store.now) span) count behind result }
 {
@@ -174,7 +174,7 @@ fn count_on<F: LeafFn>(store: &Store<F>, keep: bool, span: Span, count: u32, beh
 
 /// Whether a span goes through at most as many pieces as a rope is put together from.
 pub(crate) fn has_few_pieces<F: LeafFn>(store: &Store<F>, keep: bool, span: Span) -> bool
-    requires { IsSpan (table_of F.meaning store.now) span }
+    requires { IsInsideNode (table_of F.meaning store.now) span }
     ensures { IsTrue result ↔ (span_pieces keep (table_of F.meaning store.now) span ≤ MOST_PIECES) }
 {
     match count_on(store, keep, span, 0, 0) {
@@ -190,8 +190,8 @@ pub(crate) fn piece<F: LeafFn>(store: &mut Store<F>, span: Span) -> Result<Rope,
     requires some { 1 ≤ span.len }
     requires inside { span.start + span.len ≤ len_at (table_of F.meaning store.old) span.node.0 }
     ensures steps { AddsPiece F.meaning store.old result store.new }
-    ensures piece { IfOk result (λ rope. IsPiece (table_of F.meaning store.new) rope) }
-    ensures text { IfOk result (IsPart F.meaning store.old span.node span.start span.len store.new) }
+    ensures piece { IfOk result (λ rope. IsShallowPiece (table_of F.meaning store.new) rope) }
+    ensures text { IfOk result (IsPartOfNode F.meaning store.old span.node span.start span.len store.new) }
 {
     let Span { node, start, len } = span;
     if len == NodeSpace::len(store, node) {
@@ -213,8 +213,8 @@ fn leaf_part<F: LeafFn>(
     requires inside { start + len ≤ len_at (table_of F.meaning store.old) leaf.0 }
     requires less { ¬ (len ≡ len_at (table_of F.meaning store.old) leaf.0) }
     ensures steps { AddsPiece F.meaning store.old result store.new }
-    ensures piece { IfOk result (λ rope. IsPiece (table_of F.meaning store.new) rope) }
-    ensures text { IfOk result (IsPart F.meaning store.old leaf start len store.new) }
+    ensures piece { IfOk result (λ rope. IsShallowPiece (table_of F.meaning store.new) rope) }
+    ensures text { IfOk result (IsPartOfNode F.meaning store.old leaf start len store.new) }
 {
     let _count = store.count();
     match store.node(leaf) {
@@ -235,8 +235,8 @@ fn written<F: LeafFn>(
     requires short { len < 32 }
     requires inside { start + len ≤ len_at (table_of F.meaning store.old) leaf.0 }
     ensures steps { AddsPiece F.meaning store.old result store.new }
-    ensures piece { IfOk result (λ rope. IsPiece (table_of F.meaning store.new) rope) }
-    ensures text { IfOk result (IsPart F.meaning store.old leaf start len store.new) }
+    ensures piece { IfOk result (λ rope. IsShallowPiece (table_of F.meaning store.new) rope) }
+    ensures text { IfOk result (IsPartOfNode F.meaning store.old leaf start len store.new) }
 {
     let _len = NodeSpace::len(store, leaf);
     let bytes = read(store, leaf, start, len);

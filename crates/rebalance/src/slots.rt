@@ -7,7 +7,7 @@ ghost use Rattle.rope_node.specs.declared.limits.TheConstants.{MOST_DEPTH, TEXT_
 ghost use Rattle.rope_node.specs.Balance.{fibonacci};
 ghost use Rattle.rope_node.specs.Denotes.{rope_depth, IsRope};
 ghost use Rattle.node_table.specs.Held.{table_of};
-ghost use Rattle.rebalance.specs.Slots.{full_slots, ropes_in, slots_cells, AreSlots, AreEmptyBelow, IsCarried, IsGathered, IsJoin, IsPiece, Gathers, Inserts, Settles, cells_with, joined_len};
+ghost use Rattle.rebalance.specs.Slots.{full_slots, ropes_in, slots_cells, AreSlots, AreEmptyBelow, IsCarried, IsGathered, IsJoin, IsShallowPiece, Gathers, Inserts, Settles, cells_with, joined_len};
 ghost use Rattle.rebalance.specs.Steps.{AddsNodes};
 ghost use Rattle.rebalance.specs.declared.slots.TheConstants.{SLOTS};
 
@@ -155,7 +155,7 @@ pub(crate) fn insert<F: LeafFn>(
 ) -> Result<(), NodeFault>
     requires slots { AreSlots (table_of F.meaning store.old) slots.old.ropes }
     requires empty { AreEmptyBelow slots.old.low slots.old.ropes }
-    requires piece { IsPiece (table_of F.meaning store.old) piece }
+    requires piece { IsShallowPiece (table_of F.meaning store.old) piece }
     requires short { length (cells_with (table_of F.meaning store.old) slots.old.ropes piece) < TEXT_LIMIT }
     ensures steps { AddsNodes F.meaning store.old (full_slots slots.old.ropes + 1) result store.new }
     ensures spread { IfOk result (λ _. Inserts F.meaning store.old slots.old.ropes piece slots.new.ropes store.new) }

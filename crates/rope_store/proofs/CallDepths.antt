@@ -14,7 +14,7 @@ use Rattle.node_table.specs.Held.{Held, table_of, node_of}
 use Rattle.rope_store.specs.declared.endings.TheConstants.{MOST_MERGED}
 use Rattle.rope_store.specs.declared.endings.Ending.{Ending}
 use Rattle.rope_store.specs.Additions.{Addition, Makes, concatenated, new_node}
-use Rattle.rope_store.specs.Appending.{IsAppendTo, copied, copied_behind, grown, grown_by, merged_after, place_of}
+use Rattle.rope_store.specs.Appending.{IsAppendTo, copied, copied_behind, grown, grown_by, literal_place, merged_after}
 use Rattle.rope_store.specs.Joining.{ending_for, ending_of, ending_with, joined, merged, nodes_joined, piece, right_ending, short_ending, view_ending}
 use Rattle.rope_store.proofs.CallSizes.{ending_short}
 use Rattle.rope_store.proofs.LastLiterals.{ending_found, piece_length}
@@ -156,7 +156,7 @@ appended_low {F = F} meaning old new wanted answer x bytes a s h there is made =
     let by_growth : (e : Ending) → ending_of t x ≡ Some e → Makes meaning old (grown_by t e bytes) wanted (Ok answer) new → IsLow (table_of meaning new) answer (1 + depth_at t x.0) (len_at t x.0 + length bytes) = λ e found grew.
     let p = ending_found t s h x there e found in
     let below = before_depth t h x there (view_at t x.0) refl e found in
-    let low = grown_low meaning old new wanted answer e.before (place_of (view_at t e.literal.0)) (len_at t e.literal.0) bytes grew in
+    let low = grown_low meaning old new wanted answer e.before (literal_place (view_at t e.literal.0)) (len_at t e.literal.0) bytes grew in
     record { shallow = omega (arith, low.shallow, below); long = omega (arith, low.long, p.len) } in
     low_surely (table_of meaning new) answer _ _ (λ no.
     no (copied_low meaning old new wanted answer x bytes s h there (ending_with t x (length bytes)) (λ e found. found) (made_so (copied_behind t x bytes) (is.copied (λ e found can.

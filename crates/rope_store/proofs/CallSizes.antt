@@ -12,7 +12,7 @@ use Rattle.rope_node.specs.Table.{Table, view_at, len_at, depth_at, depth_of, Is
 use Rattle.rope_node.specs.Denotes.{rope_depth, IsRope}
 use Rattle.rope_store.specs.declared.endings.Ending.{Ending}
 use Rattle.rope_store.specs.Additions.{Addition, nothing, inner_part, node_part, part_added}
-use Rattle.rope_store.specs.Appending.{place_of, grown, merged_after, copied, IsAppendTo, IsAppend}
+use Rattle.rope_store.specs.Appending.{literal_place, grown, merged_after, copied, IsAppendTo, IsAppend}
 use Rattle.rope_store.specs.Joining.{ending_of, short_ending, ending_for, piece, merged, nodes_joined, joined, IsShortEnding}
 use Rattle.rope_store.specs.Refusals.{deepest, IsTooDeep}
 use Rattle.rope_store.proofs.LastLiterals.{ending_found, piece_length, short_found}
@@ -175,7 +175,7 @@ sized_node {F = F} pool t s h x there bytes a is =
     sized_surely t (Some x) bytes a (λ no.
     no (subst (λ (k : Addition F). IsSized t (Some x) bytes k) (sym (is.copied (λ e found can.
     no (subst (λ (k : Addition F). IsSized t (Some x) bytes k) (sym (is.in_place e found can))
-    (sized_grown t (Some x) e.before (place_of (view_at t e.literal.0)) (len_at t e.literal.0) bytes (ending_found t s h x there e found).shallow)))))
+    (sized_grown t (Some x) e.before (literal_place (view_at t e.literal.0)) (len_at t e.literal.0) bytes (ending_found t s h x there e found).shallow)))))
     (sized_copied t s h x bytes (short_ending t (length bytes) (ending_of t x)) (ending_short t s h x (length bytes) there))))
 
 pub sized_append : {F : Type 0} (pool : Contents) (t : Table) → IsSound t → HasTrueRecords t → (x : Option NodeId) → IsRope t x → (bytes : List ℕ) (a : Addition F) → IsAppend pool t x bytes a → IsSized t x bytes a

@@ -17,7 +17,7 @@ use Rattle.node_table.specs.Held.{IsKept}
 use Rattle.node_table.specs.Records.{literal_record, concatenation_record}
 use Rattle.rope_store.specs.Additions.{new_node}
 use Rattle.rope_store.specs.Joining.{piece}
-use Rattle.rope_store.specs.Appending.{place_of, grown, merged_after}
+use Rattle.rope_store.specs.Appending.{literal_place, grown, merged_after}
 use Rattle.leaf_buffer.proofs.Appending.{appended_bytes, in_one_block_appended}
 use Rattle.leaf_buffer.proofs.Pieces.{in_one_block_part}
 use Rattle.leaf_buffer.proofs.PoolGrowth.{grows_itself, grows_extended, grows_appended, in_one_block_grown, slice_grown, slice_at_end}
@@ -26,17 +26,17 @@ use Rattle.rope_store.proofs.Nodes.{IsGood, literal_good, then_good}
 use Rattle.rope_store.proofs.MergedTexts.{good_as, rejoined_good}
 
 -- a literal lies in the pool
-span_by : (t : Table) → IsSound t → (x : NodeId) → x.0 < length t.nodes → (v : NodeView) → view_at t x.0 ≡ v → IsLiteral v → place_of v + len_at t x.0 ≤ length t.pool
+span_by : (t : Table) → IsSound t → (x : NodeId) → x.0 < length t.nodes → (v : NodeView) → view_at t x.0 ≡ v → IsLiteral v → literal_place v + len_at t x.0 ≤ length t.pool
 span_by t s x there (Lit a) is literal = rw is at (s.nodes x.0 there).span
 span_by t s x there (Src s' a) is literal = absurd literal
 span_by t s x there Fun is literal = absurd literal
 span_by t s x there (Cat l r) is literal = absurd literal
 span_by t s x there (Sub b i) is literal = absurd literal
 
-pub literal_span : (t : Table) → IsSound t → (x : NodeId) → x.0 < length t.nodes → IsLiteral (view_at t x.0) → place_of (view_at t x.0) + len_at t x.0 ≤ length t.pool
+pub literal_span : (t : Table) → IsSound t → (x : NodeId) → x.0 < length t.nodes → IsLiteral (view_at t x.0) → literal_place (view_at t x.0) + len_at t x.0 ≤ length t.pool
 literal_span t s x there literal = span_by t s x there (view_at t x.0) refl literal
 
-piece_by : (t : Table) (n : ℕ) (v : NodeView) → IsLiteral v → slice_range t.pool (place_of v) (place_of v + n) ≡ literal_bytes t 0 n v
+piece_by : (t : Table) (n : ℕ) (v : NodeView) → IsLiteral v → slice_range t.pool (literal_place v) (literal_place v + n) ≡ literal_bytes t 0 n v
 piece_by t n (Lit a) literal = ap (λ (k : ℕ). slice_range t.pool k (a + n)) (sym (add-zero a))
 piece_by t n (Src s a) literal = absurd literal
 piece_by t n Fun literal = absurd literal
@@ -44,13 +44,13 @@ piece_by t n (Cat l r) literal = absurd literal
 piece_by t n (Sub b i) literal = absurd literal
 
 -- the longer literal, behind what stands before it
-pub grown_good : {F : Type 0} (meaning : F → ℕ → ℕ) (h : Held F) → IsKept meaning h → (before : Option NodeId) (x : NodeId) (bytes : List ℕ) → IsLiteral (view_at (table_of meaning h) x.0) → IsLastPiece h.pool (place_of (view_at (table_of meaning h) x.0)) (len_at (table_of meaning h) x.0) → IsRope (table_of meaning h) before
+pub grown_good : {F : Type 0} (meaning : F → ℕ → ℕ) (h : Held F) → IsKept meaning h → (before : Option NodeId) (x : NodeId) (bytes : List ℕ) → IsLiteral (view_at (table_of meaning h) x.0) → IsLastPiece h.pool (literal_place (view_at (table_of meaning h) x.0)) (len_at (table_of meaning h) x.0) → IsRope (table_of meaning h) before
     → rope_len (table_of meaning h) before + (len_at (table_of meaning h) x.0 + length bytes) < TEXT_LIMIT → 1 + rope_depth (table_of meaning h) before ≤ 64
-    → IsGood meaning h (extended h.pool bytes) (grown {F = F} (table_of meaning h) before (place_of (view_at (table_of meaning h) x.0)) (len_at (table_of meaning h) x.0) bytes).records (grown {F = F} (table_of meaning h) before (place_of (view_at (table_of meaning h) x.0)) (len_at (table_of meaning h) x.0) bytes).rope
+    → IsGood meaning h (extended h.pool bytes) (grown {F = F} (table_of meaning h) before (literal_place (view_at (table_of meaning h) x.0)) (len_at (table_of meaning h) x.0) bytes).records (grown {F = F} (table_of meaning h) before (literal_place (view_at (table_of meaning h) x.0)) (len_at (table_of meaning h) x.0) bytes).rope
     (rope_cells (table_of meaning h) before ++ map Byte (piece (table_of meaning h) x ++ bytes))
 grown_good {F = F} meaning h store None x bytes literal last there short shallow =
     let t = table_of meaning h in
-    let a = place_of (view_at t x.0) in
+    let a = literal_place (view_at t x.0) in
     let n = len_at t x.0 in
     let pool = extended h.pool bytes in
     let text : slice_range pool.bytes a (a + (n + length bytes)) ≡ piece t x ++ bytes = slice_grown h.pool.bytes bytes a n last.last ∙ ap (λ (bs : List ℕ). bs ++ bytes) (piece_by t n (view_at t x.0) literal) in
@@ -59,7 +59,7 @@ grown_good {F = F} meaning h store None x bytes literal last there short shallow
     (literal_good meaning h pool a (n + length bytes) (holds_of meaning h store) (grows_extended h.pool bytes store.borders) (in_one_block_grown h.pool a n bytes store.borders last) (omega (arith, last.not_empty)) (omega (arith, short)))
 grown_good {F = F} meaning h store (Some l) x bytes literal last there short shallow =
     let t = table_of meaning h in
-    let a = place_of (view_at t x.0) in
+    let a = literal_place (view_at t x.0) in
     let n = len_at t x.0 in
     let k = n + length bytes in
     let pool = extended h.pool bytes in
@@ -130,11 +130,11 @@ after_good {F = F} meaning h store (Some l) xs ys there some more fits short sha
     (then_good meaning h pool (lit1 ∷ []) (lit2 ∷ cat1 ∷ []) (Some (new_node t 0)) (Some (new_node t1 1)) (map Byte (slice_range pool.bytes start (start + length xs))) (cells t1 l.0 ++ map Byte slice) holds grows one two))
 
 -- the records that are put, as the addition names them
-pub grown_one : {F : Type 0} (t : Table) (x : NodeId) (bytes : List ℕ) {a n : ℕ} (r : Record F) → r ≡ literal_record a (n + length bytes) → a ≡ place_of (view_at t x.0) → n ≡ len_at t x.0 → r ∷ [] ≡ literal_record (place_of (view_at t x.0)) (len_at t x.0 + length bytes) ∷ []
+pub grown_one : {F : Type 0} (t : Table) (x : NodeId) (bytes : List ℕ) {a n : ℕ} (r : Record F) → r ≡ literal_record a (n + length bytes) → a ≡ literal_place (view_at t x.0) → n ≡ len_at t x.0 → r ∷ [] ≡ literal_record (literal_place (view_at t x.0)) (len_at t x.0 + length bytes) ∷ []
 grown_one t x bytes r is_literal is_place is_len = rw (is_literal, is_place, is_len) refl
 
-pub grown_two : {F : Type 0} (t : Table) (x l : NodeId) (bytes : List ℕ) (first len depth : ℕ) {a n : ℕ} (r s : Record F) → r ≡ literal_record a (n + length bytes) → s ≡ concatenation_record l (record { 0 = first }) (len + (n + length bytes)) (1 + depth) → a ≡ place_of (view_at t x.0) → n ≡ len_at t x.0 → first ≡ length t.nodes → len ≡ len_at t l.0 → depth ≡ depth_at t l.0
-    → r ∷ s ∷ [] ≡ literal_record (place_of (view_at t x.0)) (len_at t x.0 + length bytes) ∷ concatenation_record l (new_node t 0) (len_at t l.0 + (len_at t x.0 + length bytes)) (1 + depth_at t l.0) ∷ []
+pub grown_two : {F : Type 0} (t : Table) (x l : NodeId) (bytes : List ℕ) (first len depth : ℕ) {a n : ℕ} (r s : Record F) → r ≡ literal_record a (n + length bytes) → s ≡ concatenation_record l (record { 0 = first }) (len + (n + length bytes)) (1 + depth) → a ≡ literal_place (view_at t x.0) → n ≡ len_at t x.0 → first ≡ length t.nodes → len ≡ len_at t l.0 → depth ≡ depth_at t l.0
+    → r ∷ s ∷ [] ≡ literal_record (literal_place (view_at t x.0)) (len_at t x.0 + length bytes) ∷ concatenation_record l (new_node t 0) (len_at t l.0 + (len_at t x.0 + length bytes)) (1 + depth_at t l.0) ∷ []
 grown_two t x l bytes first len depth r s is_literal is_cat is_place is_len is_first is_left is_depth =
     let last : first ≡ length t.nodes + 0 = omega arith in
     rw (is_literal, is_cat, is_place, is_len, last, is_left, is_depth) refl

@@ -10,7 +10,7 @@ use Rattle.rope_node.specs.Denotes.{cells, node_cells}
 use Rattle.rope_node.specs.Extends.{Extends}
 use Rattle.rope_node.proofs.Cells.{cells_at}
 use Rattle.node_table.specs.declared.record.Record.{Record}
-use Rattle.node_table.specs.Held.{Held, node_of, function_of, table_of, with_records, IsKept, IsKeptNode, IsGoodNode, CanHold}
+use Rattle.node_table.specs.Held.{Held, node_of, function_of_record, table_of, with_records, IsKept, IsKeptNode, IsGoodNode, CanHold}
 use Rattle.node_table.proofs.Growing.{extends_records, good_kept}
 use Rattle.leaf_buffer.proofs.PoolGrowth.{PoolGrows}
 
@@ -37,14 +37,14 @@ extends_with meaning h pool rs same grows = extends_records meaning h pool rs sa
 good_stays : {F : Type 0} (meaning : F → ℕ → ℕ) (h : Held F) (pool : Contents) (rs : List (Record F)) → length h.functions ≡ length h.nodes → PoolGrows h.pool pool → (id : ℕ) → id < length h.nodes → IsGoodNode meaning h id → IsGoodNode meaning (with_records h pool rs) id
 good_stays meaning h pool rs same grows id lt good =
     good_kept meaning h (with_records h pool rs) (extends_with meaning h pool rs same grows) grows.pieces id lt
-    (get_or_append_left h.functions (map function_of rs) None id (omega arith)) good
+    (get_or_append_left h.functions (map function_of_record rs) None id (omega arith)) good
 
 pub holds_after : {F : Type 0} (meaning : F → ℕ → ℕ) (h : Held F) (pool : Contents) (rs : List (Record F)) → Holds meaning h → PoolGrows h.pool pool → CanHold meaning h pool rs → Holds meaning (with_records h pool rs)
 holds_after meaning h pool rs holds grows can = record {
   nodes = λ id lt.
       ⊎_elim (λ (below : id < length h.nodes). good_stays meaning h pool rs holds.functions grows id below (holds.nodes id below))
       (λ (over : length h.nodes ≤ id). can.nodes id over (omega (arith, length-append h.nodes (map node_of rs), length-map rs node_of))) (cases_lt id (length h.nodes));
-  functions = omega (arith, length-append h.nodes (map node_of rs), length-map rs node_of, length-append h.functions (map function_of rs), length-map rs function_of, holds.functions);
+  functions = omega (arith, length-append h.nodes (map node_of rs), length-map rs node_of, length-append h.functions (map function_of_record rs), length-map rs function_of_record, holds.functions);
   sources = holds.sources;
 }
 
@@ -53,8 +53,8 @@ pub with_records_twice : {F : Type 0} (h : Held F) (pool : Contents) (rs ss : Li
 with_records_twice h pool rs ss =
     let nodes : (h.nodes ++ map node_of rs) ++ map node_of ss ≡ h.nodes ++ map node_of (rs ++ ss) =
     append_assoc h.nodes (map node_of rs) (map node_of ss) ∙ ap (λ ns. h.nodes ++ ns) (sym (map-append node_of rs ss)) in
-    let functions : (h.functions ++ map function_of rs) ++ map function_of ss ≡ h.functions ++ map function_of (rs ++ ss) =
-    append_assoc h.functions (map function_of rs) (map function_of ss) ∙ ap (λ fs. h.functions ++ fs) (sym (map-append function_of rs ss)) in
+    let functions : (h.functions ++ map function_of_record rs) ++ map function_of_record ss ≡ h.functions ++ map function_of_record (rs ++ ss) =
+    append_assoc h.functions (map function_of_record rs) (map function_of_record ss) ∙ ap (λ fs. h.functions ++ fs) (sym (map-append function_of_record rs ss)) in
     λ i. record { nodes = nodes i; functions = functions i; pool = pool; sources = h.sources }
 
 -- what is put behind nodes that are put behind others

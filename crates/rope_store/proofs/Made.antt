@@ -16,7 +16,7 @@ use Rattle.node_table.specs.declared.fault.NodeFault.TheVariants.{TooLong, TooDe
 use Rattle.node_table.specs.Held.{Held, table_of, with_records}
 use Rattle.node_table.specs.Held.{IsKept}
 use Rattle.rope_store.specs.Additions.{Addition, pool_with, after, nothing, Makes}
-use Rattle.rope_store.specs.Refusals.{deepest, IsTooDeep, IsTableFull, IsPoolFull, Refuses}
+use Rattle.rope_store.specs.Refusals.{deepest, IsTooDeep, IsTableFull, PassesPoolLimit, Refuses}
 use Rattle.leaf_buffer.proofs.Appending.{appended_nothing}
 use Rattle.leaf_buffer.proofs.PoolGrowth.{PoolGrows, grows_extended, grows_appended}
 use Rattle.rope_store.proofs.Growth.{extends_with}
@@ -109,7 +109,7 @@ fault_at result e faults is = subst (λ (r : Result (Option NodeId) NodeFault). 
 
 -- a call that leaves the rest to the table
 pub refuses_rest : {F : Type 0} (old : Held F) (a : Addition F) (IsBad IsLong : Type 0) → ¬ IsBad → ¬ IsLong → ¬ IsTooDeep a → 1 ≤ length a.records → (result : Result (Option NodeId) NodeFault) → (IsErrOf result TableFull ↔ IsTableFull old a)
-    → (IsErrOf result PoolFull ↔ ((length old.nodes + length a.records ≤ MOST_NODES) × IsPoolFull old a)) → IfErr result IsTableFault → Refuses old a IsBad IsLong result
+    → (IsErrOf result PoolFull ↔ ((length old.nodes + length a.records ≤ MOST_NODES) × PassesPoolLimit old a)) → IfErr result IsTableFault → Refuses old a IsBad IsLong result
 refuses_rest old a IsBad IsLong fine short shallow some result table_full pool_full faults = record {
   bad_span = (λ e. other (fault_at result BadSpan faults e) (λ x. cc) (λ x. cc) (λ x. cc), λ h. absurd (fine h));
   too_long = (λ e. other (fault_at result TooLong faults e) (λ x. cc) (λ x. cc) (λ x. cc), λ h. absurd (short h.1));

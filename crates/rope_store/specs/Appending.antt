@@ -18,16 +18,16 @@ use Rattle.rope_store.specs.Refusals.{Refuses}
 use Rattle.rope_store.specs.Joining.{ending_of, ending_with, piece, merged}
 
 -- the place of a literal in the pool
-abbrev pub place_of : NodeView → ℕ
-place_of (Lit a) = a
-place_of (Src s a) = 0
-place_of Fun = 0
-place_of (Cat l r) = 0
-place_of (Sub b i) = 0
+abbrev pub literal_place : NodeView → ℕ
+literal_place (Lit a) = a
+literal_place (Src s a) = 0
+literal_place Fun = 0
+literal_place (Cat l r) = 0
+literal_place (Sub b i) = 0
 
 -- the piece of the pool that a literal is
 abbrev pub pool_piece : Table → NodeId → Piece
-pool_piece t x = record { start = place_of (view_at t x.0); len = len_at t x.0 }
+pool_piece t x = record { start = literal_place (view_at t x.0); len = len_at t x.0 }
 
 -- the literal, longer by bytes that are written behind it, and behind what stands before it
 abbrev pub grown : {F : Type 0} → Table → Option NodeId → ℕ → ℕ → List ℕ → Addition F
@@ -51,7 +51,7 @@ grown_len t e n = rope_len t e.before + (len_at t e.literal.0 + n)
 
 -- the same where the literal ends a text
 abbrev pub grown_by : {F : Type 0} → Table → Ending → List ℕ → Addition F
-grown_by t e bytes = grown t e.before (place_of (view_at t e.literal.0)) (len_at t e.literal.0) bytes
+grown_by t e bytes = grown t e.before (literal_place (view_at t e.literal.0)) (len_at t e.literal.0) bytes
 
 -- a literal of the bytes, and then one of the ending's bytes and these, behind what stands before the ending
 abbrev pub merged_after : {F : Type 0} → Table → Option NodeId → List ℕ → List ℕ → Addition F
@@ -104,16 +104,16 @@ IsAppend pool t None (b ∷ bs) a = a ≡ merged t None (b ∷ bs)
 IsAppend pool t (Some x) (b ∷ bs) a = IsAppendTo pool t x (b ∷ bs) a
 
 -- more bytes than a call takes, or than a text has
-abbrev pub IsTooLong : Table → Option NodeId → List ℕ → Type 0
-IsTooLong t x bytes = (BLOCK_SIZE < length bytes) ⊎ (TEXT_LIMIT ≤ rope_len t x + length bytes)
+abbrev pub AppendsTooLong : Table → Option NodeId → List ℕ → Type 0
+AppendsTooLong t x bytes = (BLOCK_SIZE < length bytes) ⊎ (TEXT_LIMIT ≤ rope_len t x + length bytes)
 
 -- what a call did that puts bytes behind a rope
 pub record Appends {F : Type 0} (meaning : F → ℕ → ℕ) (old : Held F) (x : Option NodeId) (bytes : List ℕ)
     (result : Result (Option NodeId) NodeFault) (new : Held F) : Type 0 where
   pub addition : Addition F
-  pub is : ¬ IsTooLong (table_of meaning old) x bytes → IsAppend old.pool (table_of meaning old) x bytes addition
+  pub is : ¬ AppendsTooLong (table_of meaning old) x bytes → IsAppend old.pool (table_of meaning old) x bytes addition
   pub makes : Makes meaning old addition (rope_cells (table_of meaning old) x ++ map Byte bytes) result new
-  pub refuses : Refuses old addition ⊥ (IsTooLong (table_of meaning old) x bytes) result
+  pub refuses : Refuses old addition ⊥ (AppendsTooLong (table_of meaning old) x bytes) result
 
 -- the same where bytes are put behind a node, and nothing is too long
 pub record AppendsTo {F : Type 0} (meaning : F → ℕ → ℕ) (old : Held F) (x : NodeId) (bytes : List ℕ)

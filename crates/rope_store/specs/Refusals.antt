@@ -21,8 +21,8 @@ IsTooDeep a = MOST_DEPTH < deepest a.records
 abbrev pub IsTableFull : {F : Type 0} → Held F → Addition F → Type 0
 IsTableFull h a = MOST_NODES < length h.nodes + length a.records
 
-abbrev pub IsPoolFull : {F : Type 0} → Held F → Addition F → Type 0
-IsPoolFull h a = POOL_LIMIT ≤ length h.pool.bytes + length a.bytes
+abbrev pub PassesPoolLimit : {F : Type 0} → Held F → Addition F → Type 0
+PassesPoolLimit h a = POOL_LIMIT ≤ length h.pool.bytes + length a.bytes
 
 -- each refusal comes exactly where its condition is the first that holds, and beside them there is want of memory
 -- alone, which a call that makes no node has not; where the span is bad, and where the result is too long, is the
@@ -34,6 +34,6 @@ pub record Refuses {F : Type 0} (old : Held F) (a : Addition F) (IsBad IsLong : 
   pub too_deep : IsErrOf result TooDeep ↔ ((¬ IsBad) × (¬ IsLong) × IsTooDeep a)
   pub table_full : IsErrOf result TableFull ↔ ((¬ IsBad) × (¬ IsLong) × (¬ IsTooDeep a) × IsTableFull old a)
   pub pool_full : IsErrOf result PoolFull
-      ↔ ((¬ IsBad) × (¬ IsLong) × (¬ IsTooDeep a) × (¬ IsTableFull old a) × IsPoolFull old a)
+      ↔ ((¬ IsBad) × (¬ IsLong) × (¬ IsTooDeep a) × (¬ IsTableFull old a) × PassesPoolLimit old a)
   pub no_other : ¬ IsErrOf result TooManySources
   pub memory : IsErrOf result Memory → 1 ≤ length a.records

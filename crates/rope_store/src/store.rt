@@ -1,7 +1,7 @@
 //! The store.
 
 ghost use Rattle.std.specs.Prelude.{◌≡◌, ◌↔◌, ◌<◌, ◌≤◌, [], length, IsTrue};
-ghost use Rattle.leaf_buffer.specs.Contents.{appended, extended, Takes};
+ghost use Rattle.leaf_buffer.specs.Contents.{appended, extended, LastBlockTakes};
 ghost use Rattle.rope_node.specs.Denotes.{rope_len, rope_depth, IsRope};
 ghost use Rattle.node_table.specs.Held.{Held, held_of, table_of, CanHold};
 ghost use Rattle.node_table.specs.NodeLists.{listed};
@@ -101,7 +101,7 @@ impl<F: LeafFn> Store<F> {
     /// these nodes behind the others, and answers the last of them.
     #[inline(always)]
     pub(crate) fn make_grown(&mut self, bytes: &[u8], nodes: NewNodes<F>) -> Result<Rope, NodeFault>
-        requires takes { Takes self.old.pool (length bytes.now) }
+        requires takes { LastBlockTakes self.old.pool (length bytes.now) }
         requires nodes { CanHold F.meaning self.old (extended self.old.pool bytes.now) (listed nodes) }
         ensures { PutsGrown F.meaning self.old bytes.now (listed nodes) result self.new }
     {

@@ -7,7 +7,7 @@ use Rattle.rope_node.specs.declared.node.NodeId.{NodeId}
 use Rattle.rope_node.specs.Table.{Table}
 use Rattle.rope_node.specs.Denotes.{IsRope}
 use Rattle.lazy_file.specs.SourceTexts.{Stated}
-use Rattle.node_table.specs.Held.{Held, table_of, coded_at as held_coded}
+use Rattle.node_table.specs.Held.{Held, table_of, held_coded}
 use Rattle.command_parts.specs.declared.edit.Edit.{Edit}
 use Rattle.command_parts.specs.declared.edit.Edit.TheVariants.{New, Open, Insert, Delete, Replace, Paste, Join, Cut, Fill, Back, Balance, Many}
 use Rattle.command_parts.specs.declared.edit.Splice.{Splice}

@@ -12,7 +12,7 @@ use Rattle.rope_node.specs.declared.node.NodeView.{NodeView}
 use Rattle.rope_node.specs.declared.node.NodeView.TheVariants.{Lit, Src, Fun, Cat, Sub}
 use Rattle.rope_node.specs.Table.{Node, no_node, view_at}
 use Rattle.node_table.specs.Copies.{IsCopyOf, function_in}
-use Rattle.node_table.specs.Held.{Held, table_of, coded_at as held_coded}
+use Rattle.node_table.specs.Held.{Held, table_of, held_coded}
 use Rattle.image_reader.specs.Value.{ImageNode, ImageValue, IsImage, FitsView, no_image_node, image_table, coded_at, function_at}
 use Rattle.image_reader.proofs.HeldFunctions.{node_fits}
 use Rattle.session_image.specs.Written.{nodes_of}

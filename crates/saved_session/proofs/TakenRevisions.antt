@@ -11,7 +11,7 @@ use Rattle.function_leaf.specs.Coded.{coded_byte}
 use Rattle.rope_node.specs.Balance.{IsBalancedRope}
 use Rattle.rope_node.specs.declared.node.NodeId.{NodeId}
 use Rattle.rope_node.specs.Table.{Table}
-use Rattle.node_table.specs.Held.{Held, table_of, coded_at as held_coded}
+use Rattle.node_table.specs.Held.{Held, table_of, held_coded}
 use Rattle.command_parts.specs.declared.edit.Edit.{Edit}
 use Rattle.command_parts.specs.declared.edit.Edit.TheVariants.{New, Open, Insert, Delete, Replace, Paste, Join, Cut, Fill, Back, Balance, Many}
 use Rattle.command_parts.specs.declared.edit.Splice.{Splice}
@@ -33,7 +33,7 @@ use Rattle.image_reader.specs.declared.revision.Revision.{Revision}
 use Rattle.image_reader.specs.declared.version.FormatVersion.TheVariants.{Two}
 use Rattle.image_reader.specs.Value.{ImageValue, IsImage, coded_at, image_table}
 use Rattle.image_reader.specs.Accepted.{no_revision, parts_at, revision_at, roots_before, rows_at, rows_before, splices_before}
-use Rattle.session_image.specs.Written.{AreAsMade, IsAsMade, edits_of, recorded_revision, rows_in, splices_in}
+use Rattle.session_image.specs.Written.{AreAsMade, IsAsMade, recorded_edits, recorded_revision, rows_in, splices_in}
 use Rattle.session_image.proofs.RowLists.{length-rows}
 use Rattle.session_checker.specs.RevisionRules.{HasRowsOverNoSource}
 use Rattle.session_checker.proofs.EarlierRevisions.{rows_before_more, rows_inside, splices_before_more, splices_inside}
@@ -215,8 +215,8 @@ module _ (v : ImageValue) (is : IsImage v) (k : ℕ) (lt : k < length v.revision
           record {
             holds = subst (HoldsImage v) (sym puts.held) takes.holds;
             inside = omega (arith, lt);
-            edits = ap edits_of puts.revisions ∙ map_push (λ (r : Kept.Revision). r.edit) before made
-                ∙ ap (λ (e : Edit). edits_of before ++ (e ∷ [])) puts.its_edit
+            edits = ap recorded_edits puts.revisions ∙ map_push (λ (r : Kept.Revision). r.edit) before made
+                ∙ ap (λ (e : Edit). recorded_edits before ++ (e ∷ [])) puts.its_edit
                 ∙ ap (λ (es : List Edit). es ++ ((revision_at v k).edit ∷ [])) takes.edits
                 ∙ sym (map_next (λ (r : Revision). r.edit) v.revisions k no_revision lt);
             roots = ap roots_of puts.revisions ∙ map_push (λ (r : Kept.Revision). r.root) before made

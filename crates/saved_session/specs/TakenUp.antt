@@ -2,7 +2,7 @@
 use Rattle.std.specs.Prelude.{◌≡◌, ℕ, ◌+◌, ◌<◌, ◌≤◌, List, length, map, take, slice_get, Some}
 use Rattle.lazy_file.specs.SourceTexts.{Stated}
 use Rattle.function_leaf.specs.Coded.{coded_byte}
-use Rattle.node_table.specs.Held.{Held, table_of, coded_at as held_coded}
+use Rattle.node_table.specs.Held.{Held, table_of, held_coded}
 use Rattle.function_leaf.specs.declared.coded.Coded.{Coded}
 use Rattle.span_certificate.specs.declared.making.TheConstants.{ROWS_LIMIT}
 use Rattle.edit_commands.specs.declared.revision.Revision as Kept
@@ -15,7 +15,7 @@ use Rattle.edit_commands.specs.Session.{SessionValue, roots_of}
 use Rattle.image_reader.specs.declared.revision.Revision.{Revision}
 use Rattle.image_reader.specs.Value.{ImageValue, image_table, coded_at, in_version_two}
 use Rattle.image_reader.specs.Accepted.{parts_at, revision_at, rows_at, rows_before, splices_before}
-use Rattle.session_image.specs.Written.{AreAsMade, IsAsMade, edits_of, image_of, nodes_of, recorded_revision, rows_in, splices_in}
+use Rattle.session_image.specs.Written.{AreAsMade, IsAsMade, image_of, nodes_of, recorded_edits, recorded_revision, rows_in, splices_in}
 use Rattle.session_checker.specs.RevisionRules.{AreGoodOver, HasRowsOverNoSource}
 
 -- the image keeps its rules over what some sources state
@@ -29,7 +29,7 @@ pub record TakesUp (v : ImageValue) (s : SessionValue) : Type 0 where
   pub pool : s.held.pool.bytes ≡ v.pool
   -- so that no function behind the last node answers otherwise
   pub table : table_of coded_byte s.held ≡ image_table v
-  pub edits : edits_of s.revisions ≡ map (λ (r : Revision). r.edit) v.revisions
+  pub edits : recorded_edits s.revisions ≡ map (λ (r : Revision). r.edit) v.revisions
   pub roots : roots_of s.revisions ≡ map (λ (r : Revision). r.root) v.revisions
   pub splices : splices_in s.revisions ≡ v.splices
   pub as_made : AreAsMade v → image_of s ≡ in_version_two v
@@ -69,7 +69,7 @@ each_rows revisions = map (λ (r : Kept.Revision). r.rows.items) revisions
 pub record TakesFirst (v : ImageValue) (k : ℕ) (s : SessionValue) : Type 0 where
   pub holds : HoldsImage v s.held
   pub inside : k ≤ length v.revisions
-  pub edits : edits_of s.revisions ≡ map (λ (r : Revision). r.edit) (take k v.revisions)
+  pub edits : recorded_edits s.revisions ≡ map (λ (r : Revision). r.edit) (take k v.revisions)
   pub roots : roots_of s.revisions ≡ map (λ (r : Revision). r.root) (take k v.revisions)
   pub splices : splices_in s.revisions ≡ take (splices_before v k) v.splices
   pub no_source : (j : ℕ) → j < k → HasRowsOverNoSource v j

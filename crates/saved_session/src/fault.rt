@@ -1,7 +1,7 @@
 //! Why an image is not taken up.
 
 ghost use Rattle.std.specs.Prelude.{Some};
-ghost use Rattle.saved_session.specs.Codes.{fault_code};
+ghost use Rattle.saved_session.specs.Codes.{take_fault_code};
 
 use std::error::Error;
 use std::fmt;
@@ -19,7 +19,7 @@ pub enum TakeFault {
 
 /// The code that a program prints: `G1(revision)`, `E6` or `Memory`.
 impl fmt::Display for TakeFault {
-    ghost output = { λ fault. Some (fault_code fault) };
+    ghost output = { λ fault. Some (take_fault_code fault) };
 
     fn fmt<W: fmt::Write>(&self, f: &mut fmt::Formatter<W>) -> fmt::Result {
         match self {

@@ -7,7 +7,7 @@ use Rattle.rope_node.specs.declared.limits.TheConstants.{MOST_SOURCES, TEXT_LIMI
 use Rattle.rope_node.specs.declared.node.NodeId.{NodeId}
 use Rattle.rope_node.specs.Table.{Table, view_at, len_at, IsLeaf}
 use Rattle.node_table.specs.declared.fault.NodeFault.{NodeFault}
-use Rattle.node_table.specs.Held.{Held, table_of, coded_at}
+use Rattle.node_table.specs.Held.{Held, table_of, held_coded}
 use Rattle.node_table.specs.Puts.{AddsSource}
 use Rattle.rope_store.specs.Additions.{after, source_added}
 use Rattle.rope_store.specs.Calls.{MakesSource}
@@ -159,12 +159,12 @@ one_row t coded (suc n) (Some x) rows leaf made =
 -- so there are never too many
 few_rows : (sizes : List ℕ) (old new : Held Coded) → old.sources ≡ sizes → old.nodes ≡ [] → ¬ RowsPass old [] (first_command sizes) new
 few_rows [] old new is_sources no_node h =
-    let few = no_row (table_of coded_byte new) (coded_at new) h.root h.rows h.made in
+    let few = no_row (table_of coded_byte new) (held_coded new) h.root h.rows h.made in
     absurd (omega (arith, few, h.full))
 few_rows (n ∷ sizes) old new is_sources no_node h =
     let opened = root_opened (n ∷ sizes) old new h.root h.places is_sources no_node h.terms in
-    let made = subst (λ (s : List ℕ). AreMade (table_of coded_byte new) (coded_at new) (nonempty (Whole 0 (get_or s 0 0) ∷ [])) h.root h.rows) opened.sources h.made in
-    let few = one_row (table_of coded_byte new) (coded_at new) n h.root h.rows opened.leaf made in
+    let made = subst (λ (s : List ℕ). AreMade (table_of coded_byte new) (held_coded new) (nonempty (Whole 0 (get_or s 0 0) ∷ [])) h.root h.rows) opened.sources h.made in
+    let few = one_row (table_of coded_byte new) (held_coded new) n h.root h.rows opened.leaf made in
     absurd (omega (arith, few, h.full))
 
 -- the call for the first revision met this on the way

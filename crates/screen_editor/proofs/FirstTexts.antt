@@ -16,9 +16,9 @@ use Rattle.edit_commands.specs.Building.{splices_with}
 use Rattle.edit_commands.specs.Session.{HoldsHistory, SessionValue, command_of, commands_of, length_at, splices_held, session_table, text_givens, texts_of}
 use Rattle.screen_editor.specs.declared.workspace.TheConstants.{LONGEST_TEXT}
 use Rattle.screen_editor.specs.Editing.{Editing, state_of}
-use Rattle.screen_editor.specs.Opening.{IsFirst, at_first_byte}
+use Rattle.screen_editor.specs.Opening.{IsFirstSession, at_first_byte}
 use Rattle.screen_editor.specs.Priors.{priors_of}
-use Rattle.screen_editor.specs.Recorded.{IsPlain, edit_at, edits_of}
+use Rattle.screen_editor.specs.Recorded.{HandsNoChanges, edit_at, edits_of}
 use Rattle.screen_editor.specs.Refusals.{IsTooLong, first_command}
 use Rattle.screen_editor.specs.Revising.{IsMade, first_text}
 use Rattle.screen_editor.proofs.NewTexts.{plain_edit, plain_says, text_len}
@@ -38,7 +38,7 @@ first_anywhere : (sizes : List ℕ) (a : ℕ) → edit_at a (first_command sizes
 first_anywhere [] a = refl
 first_anywhere (n ∷ sizes) a = refl
 
-first_plain : (sizes : List ℕ) → IsPlain (first_command sizes)
+first_plain : (sizes : List ℕ) → HandsNoChanges (first_command sizes)
 first_plain [] = tt
 first_plain (n ∷ sizes) = tt
 
@@ -46,7 +46,7 @@ first_len : (source : ℕ → ℕ → ℕ) (sizes : List ℕ) → length (first_
 first_len source [] = refl
 first_len source (n ∷ sizes) = length-map (range_with_len 0 n) (source 0) ∙ length-range_with_len 0 n
 
-pub first_made : (sizes : List ℕ) (old new : SessionValue) (k : ℕ) → Applies old (first_command old.held.sources) k new → old.held.sources ≡ sizes → old.revisions ≡ [] → HoldsHistory new → get_or sizes 0 0 ≤ LONGEST_TEXT → IsFirst sizes new
+pub first_made : (sizes : List ℕ) (old new : SessionValue) (k : ℕ) → Applies old (first_command old.held.sources) k new → old.held.sources ≡ sizes → old.revisions ≡ [] → HoldsHistory new → get_or sizes 0 0 ≤ LONGEST_TEXT → IsFirstSession sizes new
 first_made sizes old new k applies is_sources none history short =
     let h = subst (λ (s : List ℕ). Applies old (first_command s) k new) is_sources applies in
     let sources : new.held.sources ≡ sizes = h.keeps.goes_on.sources ∙ is_sources in
@@ -70,7 +70,7 @@ first_made sizes old new k applies is_sources none history short =
     texts_are sizes new edit history command one given source =
         alone (texts_of source new) (first_text source sizes) ((history.texts source).whole ∙ one) ((history.texts source).each 0 edit command ∙ given source)
 
-pub first_short : (sizes : List ℕ) (v : SessionValue) → IsFirst sizes v → (k : ℕ) → k < length v.revisions → length_at v k ≤ LONGEST_TEXT
+pub first_short : (sizes : List ℕ) (v : SessionValue) → IsFirstSession sizes v → (k : ℕ) → k < length v.revisions → length_at v k ≤ LONGEST_TEXT
 first_short sizes v first k lt = let at : 0 ≡ k = omega (arith, lt, first.one) in subst (λ n. length_at v n ≤ LONGEST_TEXT) at first.short
 
 pub is_short_source : (test : Bool) (sizes : List ℕ) → (IsTrue test) ↔ (LONGEST_TEXT < get_or sizes 0 0) → test ≡ false → get_or sizes 0 0 ≤ LONGEST_TEXT
@@ -87,7 +87,7 @@ first_prior : (sizes : List ℕ) → priors_of (edit_at 0 (first_command sizes) 
 first_prior [] = refl
 first_prior (n ∷ sizes) = refl
 
-pub begun : (sizes : List ℕ) (v : SessionValue) (e : Editing) → IsFirst sizes v → e ≡ at_first_byte v → IsMade sizes e
+pub begun : (sizes : List ℕ) (v : SessionValue) (e : Editing) → IsFirstSession sizes v → e ≡ at_first_byte v → IsMade sizes e
 begun sizes v e first is = record {
   state = λ source. ap (state_of source) is
       ∙ ap (λ (ps : List (Option ℕ)). record { texts = texts_of source v; priors = ps; place = 0; mark = None; cuts = []; message = None }) (ap priors_of first.command ∙ first_prior sizes)

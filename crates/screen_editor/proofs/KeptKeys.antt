@@ -8,7 +8,7 @@ use Rattle.screen_editor.specs.declared.key.Key.TheVariants.{Typed}
 use Rattle.screen_editor.specs.declared.key.Step.{Step}
 use Rattle.screen_editor.specs.Keys.{answer_to, key_in, key_of, key_table}
 use Rattle.screen_editor.specs.Playing.{EndsRun}
-use Rattle.screen_editor.specs.Runs.{GoesOn}
+use Rattle.screen_editor.specs.Runs.{NoKeyEndsRun}
 use Rattle.screen_editor.proofs.Playing.{kept_append}
 
 abbrev Continues : ℕ → Type 0
@@ -71,7 +71,7 @@ kept_first : (test : Bool) (b : ℕ) → goes_on b ≡ test → Continues b → 
 kept_first true b is h = is
 kept_first false b is h = absurd (not_both b is h)
 
-pub going_kept : (keys : List ℕ) → GoesOn keys → kept_of keys ≡ keys
+pub going_kept : (keys : List ℕ) → NoKeyEndsRun keys → kept_of keys ≡ keys
 going_kept [] h = refl
 going_kept (b ∷ bs) h =
     let first : goes_on b ≡ true = kept_first (goes_on b) b refl (All-head Continues b bs h) in
@@ -81,6 +81,6 @@ not_last : (test : Bool) (b : ℕ) → goes_on b ≡ test → EndsRun b → kept
 not_last true b is h = absurd (h (kept_continues b is))
 not_last false b is h = rw is refl
 
-pub ended_kept : (before : List ℕ) (last : ℕ) → GoesOn before → EndsRun last → kept_of (before ++ last ∷ []) ≡ before
+pub ended_kept : (before : List ℕ) (last : ℕ) → NoKeyEndsRun before → EndsRun last → kept_of (before ++ last ∷ []) ≡ before
 ended_kept before last h ends =
     kept_append before (last ∷ []) ∙ ap (λ (l : List ℕ). kept_of before ++ l) (not_last (goes_on last) last refl ends) ∙ append-nil (kept_of before) ∙ going_kept before h

@@ -6,14 +6,14 @@ use Rattle.command_parts.specs.declared.edit.Edit.{Edit}
 use Rattle.edit_commands.specs.Session.{SessionValue}
 use Rattle.screen_editor.specs.declared.key.Key.{Key}
 use Rattle.screen_editor.specs.Editing.{Editing, state_of}
-use Rattle.screen_editor.specs.Machine.{edit_of}
+use Rattle.screen_editor.specs.Machine.{edit_by_key}
 use Rattle.screen_editor.specs.Recorded.{edits_of}
 use Rattle.screen_editor.specs.Revising.{AppliesCommand, none, one}
 use Rattle.screen_editor.proofs.NewTexts.{edits_more}
 
 -- those before it, and the key's, if it makes one
 pub edits_after : (key : Key) (old : Editing) (new : SessionValue) → AppliesCommand key old new
-    → (place : ℕ) × ((source : ℕ → ℕ → ℕ) → edits_of new.revisions ≡ edits_of old.session.revisions ++ cons_option (edit_of place key (state_of source old)) [])
+    → (place : ℕ) × ((source : ℕ → ℕ → ℕ) → edits_of new.revisions ≡ edits_of old.session.revisions ++ cons_option (edit_by_key place key (state_of source old)) [])
 edits_after key old new (none edit same) = (
   0,
   λ source. ap (λ (v : SessionValue). edits_of v.revisions) same ∙ sym (append-nil (edits_of old.session.revisions))

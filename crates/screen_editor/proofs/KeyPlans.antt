@@ -19,7 +19,7 @@ use Rattle.screen_editor.specs.declared.fault.KeyFault.TheVariants as Fault
 use Rattle.screen_editor.specs.declared.key.Key.{Key}
 use Rattle.screen_editor.specs.declared.workspace.TheConstants.{LONGEST_TEXT}
 use Rattle.screen_editor.specs.Editing.{Editing, IsEditing, current_len, key_code, last_of, state_of}
-use Rattle.screen_editor.specs.Machine.{done, edit_of, revised}
+use Rattle.screen_editor.specs.Machine.{done, edit_by_key, revised}
 use Rattle.screen_editor.specs.Recorded.{edit_at}
 use Rattle.screen_editor.specs.Refusals.{GrowsTooLong, IsPlainFault, MakesRevision}
 use Rattle.screen_editor.specs.Revising.{AppliesCommand, Does, KeepsAll}
@@ -80,7 +80,7 @@ stays_short key e is h same long =
 
 pub record Stays (key : Key) (old new : Editing) : Type 0 where
   pub texts : (source : ℕ → ℕ → ℕ) → (done key (state_of source old)).texts ≡ texts_of source old.session
-  pub edit : (a : ℕ) (source : ℕ → ℕ → ℕ) → edit_of a key (state_of source old) ≡ None
+  pub edit : (a : ℕ) (source : ℕ → ℕ → ℕ) → edit_by_key a key (state_of source old) ≡ None
   pub does : Does key old new
   pub session : new.session ≡ old.session
 
@@ -96,7 +96,7 @@ stays key old new e h s = record {
 }
 
 pub idle : (key : Key) (e : Editing) → IsEditing e → HoldsHistory e.session → ((source : ℕ → ℕ → ℕ) → done key (state_of source e) ≡ state_of source e)
-    → ((a : ℕ) (source : ℕ → ℕ → ℕ) → edit_of a key (state_of source e) ≡ None) → CarriesOut key e (Ok tt) e
+    → ((a : ℕ) (source : ℕ → ℕ → ℕ) → edit_by_key a key (state_of source e) ≡ None) → CarriesOut key e (Ok tt) e
 idle key e is h same none = stays key e e is h (record {
   texts = λ source. ap (λ (s : EditorState). s.texts) (same source);
   edit = none;
@@ -126,7 +126,7 @@ long_kept key e prior q t does long = too_long_kept key e
 -- the command by which the key does its work on this session, with the revision's prior, the place and the cut spans
 -- after it
 pub record IsPlan (key : Key) (e : Editing) (command : Command) (prior : Option ℕ) (q : ℕ) (cuts : List CutSpan) : Type 0 where
-  pub edit : (a : ℕ) (source : ℕ → ℕ → ℕ) → edit_of a key (state_of source e) ≡ Some (edit_at a command)
+  pub edit : (a : ℕ) (source : ℕ → ℕ → ℕ) → edit_by_key a key (state_of source e) ≡ Some (edit_at a command)
   pub does : (source : ℕ → ℕ → ℕ) → done key (state_of source e) ≡ record (revised (state_of source e) (text_given (texts_of source e.session) command) prior q) { cuts = cuts }
   pub order : IsInOrder e.session command
   pub short : result_len e.session command ≤ LONGEST_TEXT
@@ -164,7 +164,7 @@ plan_taken key old command prior q cuts mid new h p r is = record {
         ∙ ap (λ (ts : List (List ℕ)). record { texts = ts; priors = old.priors ++ prior ∷ []; place = q; mark = None; cuts = cuts; message = option_map key_code old.message }) (texts_more old.session command mid.session p.order r.revises.applies source)
         ∙ sym (p.does source)
 
-plan_fault : (key : Key) (old : Editing) (command : Command) (f : KeyFault) (new : Editing) → ((a : ℕ) (source : ℕ → ℕ → ℕ) → edit_of a key (state_of source old) ≡ Some (edit_at a command)) → MakesRevision key old
+plan_fault : (key : Key) (old : Editing) (command : Command) (f : KeyFault) (new : Editing) → ((a : ℕ) (source : ℕ → ℕ → ℕ) → edit_by_key a key (state_of source old) ≡ Some (edit_at a command)) → MakesRevision key old
     → IsReviseFault command old f new → IsPlainFault key old f new
 plan_fault key old command Fault.TooLong new edit one h = absurd h
 plan_fault key old command (Fault.Source f) new edit one h = absurd h

@@ -23,7 +23,7 @@ use Rattle.screen_editor.specs.declared.key.Key.TheVariants.{LineStart, LineEnd,
 use Rattle.screen_editor.specs.Editing.{Editing, EachCurrent, IsEditing, current_cell, current_len, current_root, last_of, state_of}
 use Rattle.screen_editor.specs.Keys.{looks_for_lines}
 use Rattle.screen_editor.specs.LineKeys.{DoesStated, IsLinePlace, Takes, line_place}
-use Rattle.screen_editor.specs.Machine.{done, edit_of, moved}
+use Rattle.screen_editor.specs.Machine.{done, edit_by_key, moved}
 use Rattle.screen_editor.specs.Refusals.{IsPlainFault, KeyAsks, key_source_fault}
 use Rattle.screen_editor.specs.Revising.{AppliesCommand}
 use Rattle.screen_editor.specs.State.{EditorState, current}
@@ -57,7 +57,7 @@ moves_there Up s p e = ap (moved s) (same_Some _ p e)
 moves_there Down s p e = ap (moved s) (same_Some _ p e)
 moves_there _ s p e = absurd cc
 
-no_edit : (key : Key) (a : ℕ) (s : EditorState) → looks_for_lines key ≡ true → edit_of a key s ≡ None
+no_edit : (key : Key) (a : ℕ) (s : EditorState) → looks_for_lines key ≡ true → edit_by_key a key s ≡ None
 no_edit LineStart a s e = refl
 no_edit LineEnd a s e = refl
 no_edit Up a s e = refl

@@ -22,7 +22,7 @@ use Rattle.screen_editor.specs.Editing.{Editing, EachCurrent, EditorValue, over,
 use Rattle.screen_editor.specs.Frame.{frame_of}
 use Rattle.screen_editor.specs.Keys.{answer_to, key_of}
 use Rattle.screen_editor.specs.Refusals.{KeyAsks, key_source_fault}
-use Rattle.screen_editor.specs.Runs.{Answers, EndsBy, EndsOver, Follow, GoesOn, IsFrame, IsLater, IsRun, MakesFrame, MayGoOn, Passes, Shows, ShowsPrefix, frames_of}
+use Rattle.screen_editor.specs.Runs.{Answers, AnswersByte, EndsBy, EndsOver, IsFrame, IsLater, IsRun, MakesFrame, MayGoOn, NoKeyEndsRun, Shows, ShowsPrefix, StatesFollow, frames_of}
 use Rattle.screen_editor.specs.Turns.{IsTurn, TakesNone, TakesOne}
 
 -- ---- states: all but the last, and the last
@@ -59,21 +59,21 @@ pub get_final : (old : Editing) (behind : List Editing) → slice_get (old ∷ b
 get_final old [] = refl
 get_final old (e ∷ es) = get_final e es
 
-pub follow_length : (a z : Reading) (old : Editing) (keys : List ℕ) (behind : List Editing) → Follow a z old keys behind → length keys ≡ length behind
+pub follow_length : (a z : Reading) (old : Editing) (keys : List ℕ) (behind : List Editing) → StatesFollow a z old keys behind → length keys ≡ length behind
 follow_length a z old [] [] h = refl
 follow_length a z old [] (e ∷ es) h = absurd h
 follow_length a z old (b ∷ bs) [] h = absurd h
 follow_length a z old (b ∷ bs) (e ∷ es) h = ap suc (follow_length h.0 z e bs es h.2)
 
 pub follow_more : (a m z : Reading) (old new : Editing) (keys : List ℕ) (behind : List Editing) (b : ℕ)
-    → Follow a m old keys behind → Passes m z b (final old behind) new → Follow a z old (keys ++ b ∷ []) (behind ++ new ∷ [])
-follow_more a m z old new [] [] b h p = (z, subst (λ (x : Reading). Passes x z b old new) h p, refl)
+    → StatesFollow a m old keys behind → AnswersByte m z b (final old behind) new → StatesFollow a z old (keys ++ b ∷ []) (behind ++ new ∷ [])
+follow_more a m z old new [] [] b h p = (z, subst (λ (x : Reading). AnswersByte x z b old new) h p, refl)
 follow_more a m z old new [] (e ∷ es) b h p = absurd h
 follow_more a m z old new (k ∷ ks) [] b h p = absurd h
 follow_more a m z old new (k ∷ ks) (e ∷ es) b h p = (h.0, h.1, follow_more h.0 m z e new ks es b h.2 p)
 
 -- what is known of the sources from key to key
-pub follow_later : (a z : Reading) (old : Editing) (keys : List ℕ) (behind : List Editing) → Follow a z old keys behind → IsLater a z
+pub follow_later : (a z : Reading) (old : Editing) (keys : List ℕ) (behind : List Editing) → StatesFollow a z old keys behind → IsLater a z
 follow_later a z old [] [] h = later_same h
 follow_later a z old [] (e ∷ es) h = absurd h
 follow_later a z old (k ∷ ks) [] h = absurd h
@@ -130,9 +130,9 @@ pub record Ran (keys_before keys_left before now : Option (List ℕ)) (old new :
   pub behind : List Editing
   pub taken : Consumes keys_before keys_left keys
   pub count : length keys ≡ n
-  pub follow : Follow old.sources new.sources old.editing keys behind
+  pub follow : StatesFollow old.sources new.sources old.editing keys behind
   pub last : final old.editing behind ≡ new.editing
-  pub on : GoesOn keys
+  pub on : NoKeyEndsRun keys
   pub shown : Shows old.sources.stated before now (earlier old.editing behind)
 
 abbrev Continues : ℕ → Type 0
@@ -150,7 +150,7 @@ ran_stated keys_before keys_left before now old new n h = (follow_later old.sour
 record Longer (keys_before keys_left before now : Option (List ℕ)) (old new : EditorValue Reading) (keys : List ℕ) : Type 0 where
   behind : List Editing
   taken : Consumes keys_before keys_left keys
-  follow : Follow old.sources new.sources old.editing keys behind
+  follow : StatesFollow old.sources new.sources old.editing keys behind
   last : final old.editing behind ≡ new.editing
   shown : Shows old.sources.stated before now (earlier old.editing behind)
 
@@ -164,7 +164,7 @@ longer keys_before keys_mid keys_left before mid now old cur new n answer h one 
       behind = h.behind ++ new.editing ∷ [];
       taken = Consumes-trans keys_before keys_mid keys_left h.keys (one.byte ∷ []) h.taken one.key;
       follow = follow_more old.sources cur.sources new.sources old.editing new.editing h.keys h.behind one.byte h.follow
-          (subst (λ (e : Editing). Passes cur.sources new.sources one.byte e new.editing) (sym h.last) one.passes);
+          (subst (λ (e : Editing). AnswersByte cur.sources new.sources one.byte e new.editing) (sym h.last) one.passes);
       last = final_more old.editing new.editing h.behind;
       shown = subst (Shows st before now) (sym (earlier_more old.editing new.editing h.behind)) (shows_more st before mid now (earlier old.editing h.behind) (final old.editing h.behind ∷ []) h.shown (subst (λ (e : Editing). Shows st mid now (e ∷ [])) (sym h.last) (subst (λ (s : Stated). Shows s mid now (cur.editing ∷ [])) same one.shown)));
     }
@@ -188,10 +188,10 @@ ran_more keys_before keys_mid keys_left before mid now old cur new n h one =
 -- ---- the end of a run
 
 -- the last state, as a run names it
-pub last_named : (a z : Reading) (old new : Editing) (keys : List ℕ) (behind : List Editing) → Follow a z old keys behind → final old behind ≡ new → slice_get (old ∷ behind) (length keys) ≡ Some new
+pub last_named : (a z : Reading) (old new : Editing) (keys : List ℕ) (behind : List Editing) → StatesFollow a z old keys behind → final old behind ≡ new → slice_get (old ∷ behind) (length keys) ≡ Some new
 last_named a z old new keys behind follow last = rw (follow_length a z old keys behind follow) (get_final old behind ∙ ap Some last)
 
-earlier_named : (a z : Reading) (old : Editing) (keys : List ℕ) (behind : List Editing) → Follow a z old keys behind → earlier old behind ≡ take (length keys) (old ∷ behind)
+earlier_named : (a z : Reading) (old : Editing) (keys : List ℕ) (behind : List Editing) → StatesFollow a z old keys behind → earlier old behind ≡ take (length keys) (old ∷ behind)
 earlier_named a z old keys behind follow = rw (follow_length a z old keys behind follow) (sym (take_earlier old behind))
 
 -- by a key
@@ -234,7 +234,7 @@ ended_without keys_before keys_mid keys_left before mid now old cur new n result
 }
 
 -- another key may follow these
-may_go_on : (keys : List ℕ) (n : ℕ) → GoesOn keys → length keys ≡ n → n < MOST_KEYS → MayGoOn keys
+may_go_on : (keys : List ℕ) (n : ℕ) → NoKeyEndsRun keys → length keys ≡ n → n < MOST_KEYS → MayGoOn keys
 may_go_on keys n on count few = (on, subst (λ (k : ℕ). k < MOST_KEYS) (sym count) few)
 
 -- all the states are shown, or a prefix, or all but the last

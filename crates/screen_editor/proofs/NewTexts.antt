@@ -20,10 +20,10 @@ use Rattle.edit_commands.specs.declared.revision.Revision.{Revision}
 use Rattle.edit_commands.specs.Applying.{Applies}
 use Rattle.edit_commands.specs.Building.{StandEach, edit_with, splices_with}
 use Rattle.edit_commands.specs.Refusals.{result_len}
-use Rattle.edit_commands.specs.Terms.{handed, terms_of}
+use Rattle.edit_commands.specs.Terms.{handed, command_terms}
 use Rattle.edit_commands.specs.Session.{SessionValue, HoldsHistory, splices_held, cells_of, command_of, length_at, roots_of, session_table, texts_of}
 use Rattle.text_lines.proofs.KnownLaws.{length-replaced}
-use Rattle.screen_editor.specs.Recorded.{IsPlain, edit_at, edits_of}
+use Rattle.screen_editor.specs.Recorded.{HandsNoChanges, edit_at, edits_of}
 use Rattle.screen_editor.specs.Taking.{IsInOrder}
 
 -- ---- a step that may give nothing
@@ -127,22 +127,22 @@ given_len v h source (Many r changes bytes) o = absurd o
 -- ---- the revision that a command makes
 
 -- a command in order hands in no changes, and is recorded with the first place alone
-pub plain_of : (v : SessionValue) (command : Command) → IsInOrder v command → IsPlain command
+pub plain_of : (v : SessionValue) (command : Command) → IsInOrder v command → HandsNoChanges command
 plain_of v (Many r changes bytes) o = absurd o
 plain_of v New o = tt
 plain_of v _ o = tt
 
-pub plain_edit : (places : List ℕ) (first : ℕ) (command : Command) → IsPlain command → edit_with places first command ≡ edit_at (get_or places 0 0) command
+pub plain_edit : (places : List ℕ) (first : ℕ) (command : Command) → HandsNoChanges command → edit_with places first command ≡ edit_at (get_or places 0 0) command
 plain_edit places first (Many r changes bytes) plain = absurd plain
 plain_edit places first New plain = refl
 plain_edit places first _ plain = refl
 
-pub plain_says : (places : List ℕ) (first : ℕ) (command : Command) → IsPlain command → with_splices (splices_with places command) (edit_with places first command) ≡ with_splices [] (edit_at (get_or places 0 0) command)
+pub plain_says : (places : List ℕ) (first : ℕ) (command : Command) → HandsNoChanges command → with_splices (splices_with places command) (edit_with places first command) ≡ with_splices [] (edit_at (get_or places 0 0) command)
 plain_says places first (Many r changes bytes) plain = absurd plain
 plain_says places first New plain = refl
 plain_says places first _ plain = refl
 
-bytes_stand : (old pool : List ℕ) (v : SessionValue) (t : Table) (roots : List (Option NodeId)) (places : List ℕ) (command : Command) → IsInOrder v command → StandEach old pool (handed (terms_of t roots command)) places → StandIn pool (get_or places 0 0) command
+bytes_stand : (old pool : List ℕ) (v : SessionValue) (t : Table) (roots : List (Option NodeId)) (places : List ℕ) (command : Command) → IsInOrder v command → StandEach old pool (handed (command_terms t roots command)) places → StandIn pool (get_or places 0 0) command
 bytes_stand old pool v t roots [] (Insert r p bytes) o s = absurd s
 bytes_stand old pool v t roots (a ∷ places) (Insert r p bytes) o s =
     let stands = (s.0.some (omega (arith, o.2))).1 in
@@ -183,6 +183,6 @@ texts_more old command new o a source =
     ∙ ap (λ (t : List ℕ). texts_of source old ++ t ∷ []) (made_text old command new o a source)
 
 -- the commands then
-pub edits_more : (old : SessionValue) (command : Command) (new : SessionValue) → IsPlain command → (a : Applies old command (length old.revisions) new) → edits_of new.revisions ≡ edits_of old.revisions ++ edit_at (get_or a.is.places 0 0) command ∷ []
+pub edits_more : (old : SessionValue) (command : Command) (new : SessionValue) → HandsNoChanges command → (a : Applies old command (length old.revisions) new) → edits_of new.revisions ≡ edits_of old.revisions ++ edit_at (get_or a.is.places 0 0) command ∷ []
 edits_more old command new plain a =
     ap edits_of a.revisions ∙ map-append (λ (r : Revision). r.edit) old.revisions (a.made ∷ []) ∙ ap (λ (e : Edit). edits_of old.revisions ++ e ∷ []) (a.is.edit ∙ plain_edit a.is.places (splices_held old.revisions) command plain)

@@ -11,7 +11,7 @@ use Rattle.screen_editor.specs.declared.fault.End.{End}
 use Rattle.screen_editor.specs.declared.fault.RunFault.{RunFault}
 use Rattle.screen_editor.specs.Editing.{Editing, EditorValue, over}
 use Rattle.screen_editor.specs.Playing.{KeepsTaken, Plays, Resumes}
-use Rattle.screen_editor.specs.Runs.{Follow, IsRun, Passes, Shows, ShowsPrefix, frames_of}
+use Rattle.screen_editor.specs.Runs.{AnswersByte, IsRun, Shows, ShowsPrefix, StatesFollow, frames_of}
 use Rattle.screen_editor.proofs.ManyTurns.{final, final_more, follow_length, follow_more, get_final, last_named}
 
 -- ---- one key after the other
@@ -19,18 +19,18 @@ use Rattle.screen_editor.proofs.ManyTurns.{final, final_more, follow_length, fol
 -- the keys so far
 pub record Played (old : EditorValue Reading) (keys : List ℕ) (new : EditorValue Reading) : Type 0 where
   pub behind : List Editing
-  pub follow : Follow old.sources new.sources old.editing keys behind
+  pub follow : StatesFollow old.sources new.sources old.editing keys behind
   pub last : final old.editing behind ≡ new.editing
 
 pub played_none : (old : EditorValue Reading) → Played old [] old
 played_none old = record { behind = []; follow = refl; last = refl }
 
 pub played_more : (old mid new : EditorValue Reading) (keys : List ℕ) (b : ℕ)
-    → Played old keys mid → Passes mid.sources new.sources b mid.editing new.editing → Played old (keys ++ b ∷ []) new
+    → Played old keys mid → AnswersByte mid.sources new.sources b mid.editing new.editing → Played old (keys ++ b ∷ []) new
 played_more old mid new keys b h passes = record {
   behind = h.behind ++ new.editing ∷ [];
   follow = follow_more old.sources mid.sources new.sources old.editing new.editing keys h.behind b h.follow
-      (subst (λ (e : Editing). Passes mid.sources new.sources b e new.editing) (sym h.last) passes);
+      (subst (λ (e : Editing). AnswersByte mid.sources new.sources b e new.editing) (sym h.last) passes);
   last = final_more old.editing new.editing h.behind;
 }
 
@@ -44,8 +44,8 @@ all_played old new keys h = record {
 -- ---- what follows what
 
 follow_append : (a m z : Reading) (old : Editing) (keys more : List ℕ) (behind later : List Editing)
-    → Follow a m old keys behind → Follow m z (final old behind) more later → Follow a z old (keys ++ more) (behind ++ later)
-follow_append a m z old [] more [] later h k = subst (λ (x : Reading). Follow x z old more later) h k
+    → StatesFollow a m old keys behind → StatesFollow m z (final old behind) more later → StatesFollow a z old (keys ++ more) (behind ++ later)
+follow_append a m z old [] more [] later h k = subst (λ (x : Reading). StatesFollow x z old more later) h k
 follow_append a m z old [] more (e ∷ es) later h k = absurd h
 follow_append a m z old (b ∷ bs) more [] later h k = absurd h
 follow_append a m z old (b ∷ bs) more (e ∷ es) later h k = (h.0, h.1, follow_append h.0 m z e bs more es later h.2 k)
@@ -58,7 +58,7 @@ same_some : (a b : Editing) → Some a ≡ Some b → a ≡ b
 same_some a b h = cc
 
 -- the last state, by its name
-named_last : (a z : Reading) (old new : Editing) (keys : List ℕ) (behind : List Editing) → Follow a z old keys behind → slice_get (old ∷ behind) (length keys) ≡ Some new → final old behind ≡ new
+named_last : (a z : Reading) (old new : Editing) (keys : List ℕ) (behind : List Editing) → StatesFollow a z old keys behind → slice_get (old ∷ behind) (length keys) ≡ Some new → final old behind ≡ new
 named_last a z old new keys behind follow last =
     same_some (final old behind) new (sym (get_final old behind) ∙ ap (λ (n : ℕ). slice_get (old ∷ behind) n) (sym (follow_length a z old keys behind follow)) ∙ last)
 
@@ -68,7 +68,7 @@ plays_on old mid new keys more h k =
     let at = named_last old.sources mid.sources old.editing mid.editing keys h.behind h.follow h.last in
     let end = named_last mid.sources new.sources mid.editing new.editing more k.behind k.follow k.last in
     let follow = follow_append old.sources mid.sources new.sources old.editing keys more h.behind k.behind h.follow
-    (subst (λ (e : Editing). Follow mid.sources new.sources e more k.behind) (sym at) k.follow) in
+    (subst (λ (e : Editing). StatesFollow mid.sources new.sources e more k.behind) (sym at) k.follow) in
     record {
       behind = h.behind ++ k.behind;
       follow = follow;

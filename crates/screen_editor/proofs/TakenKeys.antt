@@ -13,7 +13,7 @@ use Rattle.screen_editor.specs.Editing.{Editing, EditorValue, state_of}
 use Rattle.screen_editor.specs.Keys.{answer_to, key_of, looks_for_lines}
 use Rattle.screen_editor.specs.Machine.{done}
 use Rattle.screen_editor.specs.Refusals.{IsPlainFault, KeyAsks, key_source_fault}
-use Rattle.screen_editor.specs.Runs.{Passes, Shows}
+use Rattle.screen_editor.specs.Runs.{AnswersByte, Shows}
 use Rattle.screen_editor.specs.Turns.{IsTurn, Presses, TakesOne}
 use Rattle.screen_editor.proofs.KeyPlans.{makes_none, no_source}
 use Rattle.screen_editor.proofs.ToldKeys.{goes_on}
@@ -36,12 +36,12 @@ refused_goes_on before now key old new fault h reads = goes_on key
 
 takes_one : (keys left before now : Option (List ℕ)) (answer : Step) (b : ℕ) (old mid new : EditorValue Reading)
     → Consumes keys left (b ∷ []) → Shows old.sources.stated before now (old.editing ∷ []) → mid.sources ≡ old.sources → mid.editing ≡ old.editing
-    → Passes mid.sources new.sources b mid.editing new.editing → answer_to (key_of b) ≡ answer → TakesOne keys left before now answer old new
+    → AnswersByte mid.sources new.sources b mid.editing new.editing → answer_to (key_of b) ≡ answer → TakesOne keys left before now answer old new
 takes_one keys left before now answer b old mid new key shown unfailed same h answers = record {
   byte = b;
   key = key;
   answers = answers;
-  passes = subst (λ (e : Editing). Passes old.sources new.sources b e new.editing) same (subst (λ (r : Reading). Passes r new.sources b mid.editing new.editing) unfailed h);
+  passes = subst (λ (e : Editing). AnswersByte old.sources new.sources b e new.editing) same (subst (λ (r : Reading). AnswersByte r new.sources b mid.editing new.editing) unfailed h);
   shown = shown;
 }
 

@@ -18,11 +18,11 @@ use Rattle.screen_editor.specs.Editing.{Editing, EditorValue, current_cell, curr
 use Rattle.screen_editor.specs.Keys.{key_of}
 use Rattle.text_lines.specs.Showing.{frame_source_fault}
 use Rattle.screen_editor.specs.Refusals.{KeyAsks, key_source_fault}
-use Rattle.screen_editor.specs.Runs.{EndsOver, Follow, IsRun}
+use Rattle.screen_editor.specs.Runs.{EndsOver, IsRun, StatesFollow}
 
 -- one of these keys told that a device failed
 abbrev pub SomeKeyTells : (a z : Reading) (old : Editing) (keys : List ℕ)
-    (behind : List Editing) → Follow a z old keys behind → Type 0
+    (behind : List Editing) → StatesFollow a z old keys behind → Type 0
 SomeKeyTells a z old [] [] h = ⊥
 SomeKeyTells a z old [] (e ∷ es) h = ⊥
 SomeKeyTells a z old (b ∷ bs) [] h = ⊥
@@ -36,7 +36,7 @@ key_tells (Err (Fault.Edit f)) e = absurd cc
 key_tells (Err (Fault.Source f)) e = let same : f ≡ Device = cc in ap Fault.Source same
 
 keys_tell : (s : ℕ) (a z : Reading) (old : Editing) (keys : List ℕ) (behind : List Editing)
-    → (h : Follow a z old keys behind) → a.failures s < z.failures s → SomeKeyTells a z old keys behind h
+    → (h : StatesFollow a z old keys behind) → a.failures s < z.failures s → SomeKeyTells a z old keys behind h
 keys_tell s a z old [] [] h more = let same : z.failures s ≡ a.failures s = ap (λ (r : Reading). r.failures s) h in absurd (omega (arith, more, same))
 keys_tell s a z old [] (e ∷ es) h more = absurd h
 keys_tell s a z old (b ∷ bs) [] h more = absurd h

@@ -90,13 +90,14 @@ abbrev pub pasting : List CutSpan → EditorState → Option Edit
 pasting [] s = None
 pasting (c ∷ cs) s = Some (Recorded.Paste (last_revision s) s.place c.revision c.start c.len)
 
-abbrev pub edit_of : ℕ → Key → EditorState → Option Edit
-edit_of a (Typed b) s = Some (Recorded.Insert (last_revision s) s.place a 1)
-edit_of a EraseBefore s = if nat_lt 0 s.place then Some (Recorded.Delete (last_revision s) (s.place - 1) 1) else None
-edit_of a EraseAt s =
+abbrev pub edit_by_key : ℕ → Key → EditorState → Option Edit
+edit_by_key a (Typed b) s = Some (Recorded.Insert (last_revision s) s.place a 1)
+edit_by_key a EraseBefore s =
+    if nat_lt 0 s.place then Some (Recorded.Delete (last_revision s) (s.place - 1) 1) else None
+edit_by_key a EraseAt s =
     if nat_lt s.place (length (current s)) then Some (Recorded.Delete (last_revision s) s.place 1) else None
-edit_of a Cut s = cutting s.mark s
-edit_of a Paste s = pasting s.cuts s
-edit_of a Undo s = option_map Recorded.Back (prior_of s (last_revision s))
-edit_of a Balance s = Some (Recorded.Balance (last_revision s))
-edit_of a _ s = None
+edit_by_key a Cut s = cutting s.mark s
+edit_by_key a Paste s = pasting s.cuts s
+edit_by_key a Undo s = option_map Recorded.Back (prior_of s (last_revision s))
+edit_by_key a Balance s = Some (Recorded.Balance (last_revision s))
+edit_by_key a _ s = None

@@ -19,7 +19,7 @@ pub record HoldsOnly (sizes : List ℕ) (v : SessionValue) : Type 0 where
   pub no_revisions : v.revisions ≡ []
 
 -- it has these sources, and one revision, by the first command, of the first text, whatever bytes the sources have
-pub record IsFirst (sizes : List ℕ) (v : SessionValue) : Type 0 where
+pub record IsFirstSession (sizes : List ℕ) (v : SessionValue) : Type 0 where
   pub sources : v.held.sources ≡ sizes
   pub one : length v.revisions ≡ 1
   pub command : edits_of v.revisions ≡ edit_at 0 (first_command sizes) ∷ []

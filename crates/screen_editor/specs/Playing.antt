@@ -8,12 +8,12 @@ use Rattle.screen_editor.specs.declared.fault.RunFault.{RunFault}
 use Rattle.screen_editor.specs.declared.key.Step.{Step}
 use Rattle.screen_editor.specs.Editing.{Editing, EditorValue, over}
 use Rattle.screen_editor.specs.Keys.{answer_to, key_of}
-use Rattle.screen_editor.specs.Runs.{Follow, IsRun}
+use Rattle.screen_editor.specs.Runs.{StatesFollow, IsRun}
 
 -- These keys are taken one after the other, each making the next state, from the first one to the last one.
 pub record Plays (old : EditorValue Reading) (keys : List ℕ) (new : EditorValue Reading) : Type 0 where
   pub behind : List Editing
-  pub follow : Follow old.sources new.sources old.editing keys behind
+  pub follow : StatesFollow old.sources new.sources old.editing keys behind
   pub last : slice_get (old.editing ∷ behind) (length keys) ≡ Some new.editing
 
 -- a run ends behind this key

@@ -11,9 +11,9 @@ abbrev pub edits_of : List Revision → List Edit
 edits_of revisions = map (λ (r : Revision). r.edit) revisions
 
 -- a command that hands in no changes
-abbrev pub IsPlain : Command → Type 0
-IsPlain (Many r changes bytes) = ⊥
-IsPlain _ = Unit {0}
+abbrev pub HandsNoChanges : Command → Type 0
+HandsNoChanges (Many r changes bytes) = ⊥
+HandsNoChanges _ = Unit {0}
 
 -- such a command as it is recorded, its bytes standing in the pool from this place on
 abbrev pub edit_at : ℕ → Command → Edit

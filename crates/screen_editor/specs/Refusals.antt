@@ -16,7 +16,7 @@ use Rattle.screen_editor.specs.declared.key.Key.{Key}
 use Rattle.screen_editor.specs.declared.workspace.TheConstants.{LONGEST_TEXT}
 use Rattle.screen_editor.specs.Editing.{Editing, current_cell, current_len, state_of}
 use Rattle.screen_editor.specs.Keys.{looks_for_lines}
-use Rattle.screen_editor.specs.Machine.{edit_of, step}
+use Rattle.screen_editor.specs.Machine.{edit_by_key, step}
 use Rattle.screen_editor.specs.Recorded.{edit_at}
 use Rattle.screen_editor.specs.State.{current}
 
@@ -33,7 +33,7 @@ GrowsTooLong key e = (source : ℕ → ℕ → ℕ) → LONGEST_TEXT < length (c
 pub record WasRefused (key : Key) (old : Editing) (fault : EditFault) (new : Editing) : Type 0 where
   pub command : Command
   pub place : ℕ
-  pub edit : (source : ℕ → ℕ → ℕ) → edit_of place key (state_of source old) ≡ Some (edit_at place command)
+  pub edit : (source : ℕ → ℕ → ℕ) → edit_by_key place key (state_of source old) ≡ Some (edit_at place command)
   pub met : IsLaterFault old.session.held old.session.revisions command fault new.session.held
 
 -- there are too many revisions, the session's call met a limit, or memory was refused, to it or to the new revision's

@@ -15,8 +15,8 @@ use Rattle.screen_editor.specs.declared.key.Key.{Key}
 use Rattle.screen_editor.specs.declared.key.Step.{Step}
 use Rattle.screen_editor.specs.Editing.{Editing, EditorValue, EachCurrent, key_code, state_of}
 use Rattle.screen_editor.specs.Keys.{answer_to, looks_for_lines}
-use Rattle.screen_editor.specs.Machine.{done, edit_of, refused, step}
-use Rattle.screen_editor.specs.Recorded.{IsPlain, edit_at, edits_of}
+use Rattle.screen_editor.specs.Machine.{done, edit_by_key, refused, step}
+use Rattle.screen_editor.specs.Recorded.{HandsNoChanges, edit_at, edits_of}
 use Rattle.screen_editor.specs.Refusals.{GrowsTooLong, IsPlainFault, KeyAsks, MakesRevision, first_command, key_source_fault}
 use Rattle.screen_editor.specs.State.{start_of}
 
@@ -27,10 +27,10 @@ Does key old new = (source : ℕ → ℕ → ℕ) → state_of source new ≡ do
 -- The session after a key, whatever bytes the sources have: as before, where the key makes no command; else what its
 -- command makes of it, wherever in the pool the command's bytes come to stand.
 pub data AppliesCommand (key : Key) (old : Editing) (new : SessionValue) : Type 0 where
-  none : ((place : ℕ) (source : ℕ → ℕ → ℕ) → edit_of place key (state_of source old) ≡ None)
+  none : ((place : ℕ) (source : ℕ → ℕ → ℕ) → edit_by_key place key (state_of source old) ≡ None)
       → new ≡ old.session → AppliesCommand key old new
-  one : (command : Command) → IsPlain command
-      → ((place : ℕ) (source : ℕ → ℕ → ℕ) → edit_of place key (state_of source old) ≡ Some (edit_at place command))
+  one : (command : Command) → HandsNoChanges command
+      → ((place : ℕ) (source : ℕ → ℕ → ℕ) → edit_by_key place key (state_of source old) ≡ Some (edit_at place command))
       → Applies old.session command (length old.session.revisions) new → AppliesCommand key old new
 
 -- The new state is the machine's, whatever bytes the sources have that agree with what they state: of a key that
@@ -68,7 +68,7 @@ pub record TakesKey (key : Key) (old : EditorValue Reading) (result : Result Ste
 -- ---- a revision more
 
 -- one revision more, by this command, of this prior; the place is then q, and there is no mark
-pub record Revises (command : Command) (prior : Option ℕ) (q : ℕ) (old new : Editing) : Type 0 where
+pub record AddsRevision (command : Command) (prior : Option ℕ) (q : ℕ) (old new : Editing) : Type 0 where
   pub applies : Applies old.session command (length old.session.revisions) new.session
   pub rest : new ≡ record old { session = new.session; priors = old.priors ++ prior ∷ []; place = q; mark = None }
 

@@ -40,17 +40,17 @@ pub record IsLater (before after : Reading) : Type 0 where
   pub later : (s : ℕ) → before.failures s ≤ after.failures s
 
 -- a byte's key is taken, or refused for a reason, over these first sources and then those
-pub record Passes (first now : Reading) (b : ℕ) (old new : Editing) : Type 0 where
+pub record AnswersByte (first now : Reading) (b : ℕ) (old new : Editing) : Type 0 where
   pub result : Result Step KeyFault
   pub takes : TakesKey (key_of b) (over first old) result (over now new)
 
 -- each state follows from the one before it, from the first sources to the last ones
-abbrev pub Follow : Reading → Reading → Editing → List ℕ → List Editing → Type 0
-Follow first last old [] [] = last ≡ first
-Follow first last old [] (e ∷ es) = ⊥
-Follow first last old (b ∷ bs) [] = ⊥
-Follow first last old (b ∷ bs) (e ∷ es) =
-    (now : Reading) × Passes first now b old e × Follow now last e bs es
+abbrev pub StatesFollow : Reading → Reading → Editing → List ℕ → List Editing → Type 0
+StatesFollow first last old [] [] = last ≡ first
+StatesFollow first last old [] (e ∷ es) = ⊥
+StatesFollow first last old (b ∷ bs) [] = ⊥
+StatesFollow first last old (b ∷ bs) (e ∷ es) =
+    (now : Reading) × AnswersByte first now b old e × StatesFollow now last e bs es
 
 -- the frames of these states, one behind the other
 abbrev pub frames_of : (ℕ → ℕ → ℕ) → List Editing → List ℕ
@@ -69,12 +69,12 @@ abbrev pub ShowsPrefix : Stated → Option (List ℕ) → Option (List ℕ) → 
 ShowsPrefix st before now es = OfFrames st es (AppendsPrefix before now)
 
 -- none of these keys ends a run
-abbrev pub GoesOn : List ℕ → Type 0
-GoesOn keys = All (λ b. answer_to (key_of b) ≡ Step.Going) keys
+abbrev pub NoKeyEndsRun : List ℕ → Type 0
+NoKeyEndsRun keys = All (λ b. answer_to (key_of b) ≡ Step.Going) keys
 
 -- none of these keys ends a run, and there may be another
 abbrev pub MayGoOn : List ℕ → Type 0
-MayGoOn keys = GoesOn keys × (length keys < MOST_KEYS)
+MayGoOn keys = NoKeyEndsRun keys × (length keys < MOST_KEYS)
 
 -- the last of these keys, and none before it, ends the run, by this answer
 pub record EndsBy (answer : Step) (keys : List ℕ) : Type 0 where
@@ -82,7 +82,7 @@ pub record EndsBy (answer : Step) (keys : List ℕ) : Type 0 where
   pub last : ℕ
   pub all : keys ≡ before ++ last ∷ []
   pub answers : answer_to (key_of last) ≡ answer
-  pub on : GoesOn before
+  pub on : NoKeyEndsRun before
 
 -- what is answered once these keys are taken, with the states before them and behind each of them, and what is then
 -- shown
@@ -97,7 +97,7 @@ Answers st left before now keys states (Err Read) = MayGoOn keys × Shows st bef
 Answers st left before now keys states (Err Write) = MayGoOn keys × ShowsPrefix st before now states
 Answers st left before now keys states (Err (Frame f)) = MayGoOn keys × Shows st before now (take (length keys) states)
 Answers st left before now keys states (Err TooManyKeys) =
-    GoesOn keys × (length keys ≡ MOST_KEYS) × Shows st before now (take (length keys) states)
+    NoKeyEndsRun keys × (length keys ≡ MOST_KEYS) × Shows st before now (take (length keys) states)
 
 -- behind the last key, over these sources: there is no frame, for this reason; or no read fails
 abbrev pub EndsOver : Reading → Result End RunFault → EditorValue Reading → Type 0
@@ -113,7 +113,7 @@ pub record IsRun (keys_before keys_left before now : Option (List ℕ))
   pub sources : Reading
   pub taken : Consumes keys_before keys_left keys
   pub few : length keys ≤ MOST_KEYS
-  pub follow : Follow old.sources sources old.editing keys behind
+  pub follow : StatesFollow old.sources sources old.editing keys behind
   pub last : slice_get (old.editing ∷ behind) (length keys) ≡ Some new.editing
   pub answers : Answers old.sources.stated keys_left before now keys (old.editing ∷ behind) result
   pub ends : EndsOver sources result new

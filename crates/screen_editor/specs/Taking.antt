@@ -11,7 +11,7 @@ use Rattle.screen_editor.specs.declared.fault.KeyFault.TheVariants as Fault
 use Rattle.screen_editor.specs.declared.key.Key.{Key}
 use Rattle.screen_editor.specs.Editing.{Editing}
 use Rattle.screen_editor.specs.Refusals.{GrowsTooLong, IsPlainFault, MakesRevision}
-use Rattle.screen_editor.specs.Revising.{AppliesCommand, Does, KeepsAll, Revises}
+use Rattle.screen_editor.specs.Revising.{AddsRevision, AppliesCommand, Does, KeepsAll}
 
 -- ---- a command
 
@@ -36,7 +36,7 @@ IsReviseFault command old _ new = ⊥
 -- one revision more, or a refusal that keeps all
 pub record RevisesOrNot (command : Command) (prior : Option ℕ) (q : ℕ) (old : Editing)
     (result : Result (Unit {0}) KeyFault) (new : Editing) : Type 0 where
-  pub revises : OnOk result (Revises command prior q old new)
+  pub revises : OnOk result (AddsRevision command prior q old new)
   pub kept : OnErr result (KeepsAll old new)
   pub too_many : MOST_REVISIONS ≤ length old.session.revisions
       → IsErrOf result (Fault.Edit Edit.TooManyRevisions) ⊎ IsErrOf result (Fault.Edit Edit.Memory)

@@ -9,7 +9,7 @@ use Rattle.screen_editor.specs.declared.fault.RunFault.TheVariants.{Read, Write,
 use Rattle.screen_editor.specs.declared.key.Step.{Step}
 use Rattle.screen_editor.specs.Editing.{Editing, EditorValue}
 use Rattle.screen_editor.specs.Keys.{answer_to, key_of}
-use Rattle.screen_editor.specs.Runs.{MakesFrame, Passes, Shows, ShowsPrefix}
+use Rattle.screen_editor.specs.Runs.{AnswersByte, MakesFrame, Shows, ShowsPrefix}
 
 -- what the screen took where a state was not shown, and why there was no frame
 abbrev pub NotShown : Option (List ℕ) → Option (List ℕ) → EditorValue Reading → EditorValue Reading → RunFault → Type 0
@@ -31,7 +31,7 @@ pub record TakesOne (keys_before keys_left before now : Option (List ℕ)) (answ
   pub byte : ℕ
   pub key : Consumes keys_before keys_left (byte ∷ [])
   pub answers : answer_to (key_of byte) ≡ answer
-  pub passes : Passes old.sources new.sources byte old.editing new.editing
+  pub passes : AnswersByte old.sources new.sources byte old.editing new.editing
   pub shown : Shows old.sources.stated before now (old.editing ∷ [])
 
 -- the answer to the key behind which a run ends so, or goes on
@@ -42,7 +42,8 @@ end_answer (Some Leave) = Step.Leave
 
 -- a byte's key is taken or refused, and so the run ends behind it, or goes on
 abbrev pub Presses : EditorValue Reading → ℕ → Option End → EditorValue Reading → Type 0
-Presses old b end new = Passes old.sources new.sources b old.editing new.editing × (answer_to (key_of b) ≡ end_answer end)
+Presses old b end new =
+    AnswersByte old.sources new.sources b old.editing new.editing × (answer_to (key_of b) ≡ end_answer end)
 
 -- no key is taken
 pub record TakesNone (keys_before keys_left : Option (List ℕ)) (old new : Editing) : Type 0 where

@@ -7,13 +7,13 @@ ghost use Rattle.screen_editor.specs.Editing.{Editing, IsEditing, state_of};
 ghost use Rattle.screen_editor.specs.Opening.{OpensSession};
 ghost use Rattle.screen_editor.specs.Playing.{EndsRun};
 ghost use Rattle.screen_editor.specs.Recorded.{edits_of};
-ghost use Rattle.screen_editor.specs.Runs.{GoesOn};
+ghost use Rattle.screen_editor.specs.Runs.{NoKeyEndsRun};
 ghost use Rattle.screen_editor.specs.State.{reopened};
 
 /// The keys behind which a run goes on are all kept, and of those of a run that a key ended all but that one.
 pub fn kept_keys()
-    ensures going { (keys : List ℕ) → GoesOn keys → kept_of keys ≡ keys }
-    ensures ended { (before : List ℕ) (last : ℕ) → GoesOn before → EndsRun last
+    ensures going { (keys : List ℕ) → NoKeyEndsRun keys → kept_of keys ≡ keys }
+    ensures ended { (before : List ℕ) (last : ℕ) → NoKeyEndsRun before → EndsRun last
         → kept_of (before ++ last ∷ []) ≡ before }
 {}
 

@@ -4,7 +4,7 @@ ghost use Rattle.std.specs.Prelude.{◌≡◌, ◌↔◌, ◌≤◌, ◌<◌, �
 ghost use Rattle.edit_commands.specs.Session.{length_at};
 ghost use Rattle.edit_commands.specs.Applying.{AppliesOrNot};
 ghost use Rattle.screen_editor.specs.declared.workspace.TheConstants.{LONGEST_TEXT};
-ghost use Rattle.screen_editor.specs.Opening.{GoesOnFrom, HasLongText, HoldsOnly, IsFirst, IsOpenFault, IsTooLongToOpen};
+ghost use Rattle.screen_editor.specs.Opening.{GoesOnFrom, HasLongText, HoldsOnly, IsFirstSession, IsOpenFault, IsTooLongToOpen};
 ghost use Rattle.screen_editor.specs.Refusals.{IsNewFault, IsTooLong, first_command};
 
 use crate::fault::EditorFault;
@@ -95,7 +95,7 @@ pub(crate) fn opened_session(session: Session) -> Result<Session, EditorFault>
 
 /// A session of the sources, whose one revision is the text of source 0, or an empty one where there is no source.
 pub(crate) fn first_session<R: Sources>(alloc: Global, sources: &R) -> Result<Session, EditorFault>
-    ensures first { IfOk result (IsFirst (R.reading sources.now).stated.sizes) }
+    ensures first { IfOk result (IsFirstSession (R.reading sources.now).stated.sizes) }
     ensures too_long { IsErrOf result EditorFault.TooLong ↔ IsTooLong (R.reading sources.now).stated }
     ensures fault { IfErr result (IsNewFault (R.reading sources.now).stated) }
 {

@@ -14,7 +14,7 @@ use Rattle.image_reader.specs.Accepted.{command_at, no_revision, revision_at}
 use Rattle.session_checker.specs.Faithful.{EachRevision, HasTrueRecordsOf, commands}
 use Rattle.session_checker.proofs.EarlierRevisions.{rows_inside}
 use Rattle.edit_script.specs.Words.{Word, Quoted, Name, Number, line_of, printed_word, spelled_on}
-use Rattle.edit_script.specs.Commands.{IsPrintable, front_of, texts_of, words_of}
+use Rattle.edit_script.specs.Commands.{IsPrintable, front_of, quoted_texts, words_of}
 use Rattle.edit_script.specs.Applied.{lines_of}
 use Rattle.edit_script.specs.Scripts.{IsPrinted, Printed, SaysEach, comment_of, script_of}
 use Rattle.edit_script.proofs.PrintedWords.{words_split}
@@ -58,7 +58,7 @@ line_split front ws w vs is =
 pub command_whole : (pool : List ℕ) (e : FullEdit) → shown_command Whole pool e ≡ line_of (words_of pool e)
 command_whole pool e =
     let n = named e in
-    ap (λ (t : List ℕ). line_of (front_of e) ++ t) (shown_whole (texts_of pool e)) ∙ line_split (front_of e) (texts_of pool e) n.0 n.1 n.2
+    ap (λ (t : List ℕ). line_of (front_of e) ++ t) (shown_whole (quoted_texts pool e)) ∙ line_split (front_of e) (quoted_texts pool e) n.0 n.1 n.2
 
 -- ---- all lines
 

@@ -33,7 +33,7 @@ use Rattle.edit_commands.specs.declared.fault.EditFault.{EditFault}
 use Rattle.edit_commands.specs.declared.fault.EditFault.TheVariants.{NoRevision, NoSource, Range, EmptyText, TooManyRevisions, TooManyRows, Node, TooManyPieces, SpliceCount, TooManySplices, Memory}
 use Rattle.edit_commands.specs.declared.revision.Revision as Kept
 use Rattle.edit_commands.specs.Applying.{AppliesOrNot, IsLaterFault}
-use Rattle.edit_commands.specs.Refusals.{TakesAll, bytes_of, changes_of, changes_nothing, first_of, is_empty, is_full, is_full_of_splices, is_long_text, is_out_of_range, is_too_long, is_wrong_count, names_no_revision, names_no_source, refusal_of, result_len, unplaced}
+use Rattle.edit_commands.specs.Refusals.{TakesAll, bytes_of, changes_of, changes_nothing, first_that_holds, is_empty, is_full, is_full_of_splices, is_long_text, is_out_of_range, is_too_long, is_wrong_count, names_no_revision, names_no_source, refusal_of, result_len, unplaced}
 use Rattle.edit_commands.specs.Session.{SessionValue, IsSession, NamesThese, command_of, commands_of, length_at, roots_of, session_table, splices_held}
 use Rattle.edit_commands.proofs.HandedChanges.{changes_sum}
 use Rattle.edit_script.specs.Commands.{StandsInside, words_of}
@@ -255,11 +255,11 @@ handed_long v command short long =
 
 -- ---- the first reason
 
-passed_by : (b : Bool) (g f : EditFault) (rest : List (Bool × EditFault)) → b ≡ false → first_of ((b, g) ∷ rest) ≡ Some f → first_of rest ≡ Some f
+passed_by : (b : Bool) (g f : EditFault) (rest : List (Bool × EditFault)) → b ≡ false → first_that_holds ((b, g) ∷ rest) ≡ Some f → first_that_holds rest ≡ Some f
 passed_by true g f rest none is = absurd cc
 passed_by false g f rest none is = is
 
-last_is : (b : Bool) (g f : EditFault) → first_of ((b, g) ∷ []) ≡ Some f → (b ≡ true) × (f ≡ g)
+last_is : (b : Bool) (g f : EditFault) → first_that_holds ((b, g) ∷ []) ≡ Some f → (b ≡ true) × (f ≡ g)
 last_is true g f is = (refl, cc)
 last_is false g f is = absurd cc
 

@@ -11,7 +11,7 @@ use Rattle.image_reader.specs.Accepted.{command_at, revision_at}
 use Rattle.session_checker.specs.declared.fault.CheckFault.{CheckFault}
 use Rattle.session_checker.specs.Limits.{ChecksWithin}
 use Rattle.edit_script.specs.Words.{Word, Quoted, printed_word, line_of}
-use Rattle.edit_script.specs.Commands.{front_of, texts_of}
+use Rattle.edit_script.specs.Commands.{front_of, quoted_texts}
 use Rattle.edit_script.specs.Scripts.{Noted, comment_of}
 use Rattle.script_tools.specs.declared.shown.TheConstants.{BRIEF_LEN}
 use Rattle.script_tools.specs.declared.shown.LogTexts.{LogTexts}
@@ -43,7 +43,7 @@ shown_on texts (w ∷ ws) = (32 ∷ shown_word texts w) ++ shown_on texts ws
 
 -- a command's name and numbers, and the texts that it hands in
 abbrev pub shown_command : LogTexts → List ℕ → FullEdit → List ℕ
-shown_command texts pool command = line_of (front_of command) ++ shown_on texts (texts_of pool command)
+shown_command texts pool command = line_of (front_of command) ++ shown_on texts (quoted_texts pool command)
 
 -- what is told of revision k
 abbrev pub noted_of : ImageValue → ℕ → Noted

@@ -12,7 +12,7 @@ ghost use Rattle.image_reader.specs.Value.{IsImage, image_table};
 ghost use Rattle.image_reader.specs.Accepted.{command_at, revision_at};
 ghost use Rattle.session_checker.specs.Faithful.{EachRevision};
 ghost use Rattle.edit_script.specs.Words.{Quoted, line_of};
-ghost use Rattle.edit_script.specs.Commands.{StandsInside, front_of, splice_words, texts_of};
+ghost use Rattle.edit_script.specs.Commands.{StandsInside, front_of, quoted_texts, splice_words};
 ghost use Rattle.edit_script.specs.Scripts.{comment_of, noted_in};
 ghost use Rattle.script_tools.specs.Logged.{LogsImage, WritesLog, WritesText, log_of, noted_of, revision_line, shown_command, shown_on};
 
@@ -113,7 +113,7 @@ fn write_texts<W: io::Write>(
     requires named { NamesSplices image.now.splices edit.now }
     requires inside { StandsInside (length image.now.pool) (full_edit image.now.splices edit.now) }
     ensures { WritesText (W.contents writer.old) (W.contents writer.new)
-        (shown_on texts (texts_of image.now.pool (full_edit image.now.splices edit.now))) result }
+        (shown_on texts (quoted_texts image.now.pool (full_edit image.now.splices edit.now))) result }
 {
     match *edit {
         Edit::Insert { a, n, .. } => write_span(texts, piece, image, a, n, writer),

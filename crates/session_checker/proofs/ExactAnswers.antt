@@ -14,8 +14,8 @@ use Rattle.span_certificate.proofs.MadeRows.{always_stated, no_source_stated, ow
 use Rattle.image_reader.specs.declared.fault.ReadFault.{ReadFault}
 use Rattle.image_reader.specs.Value.{ImageValue, IsImage, image_table, coded_at}
 use Rattle.image_reader.specs.Spelling.{spelling}
-use Rattle.image_reader.specs.Reading.{fault_of, image_of}
-use Rattle.image_reader.specs.Accepted.{HasSources, AreGoodNodes, IsAlwaysAccepted, IsGoodNode, revision_at, parts_at, rows_at, HasGoodMark, KeepsRules}
+use Rattle.image_reader.specs.Reading.{fault_of, image_in}
+use Rattle.image_reader.specs.Accepted.{HasSources, AreGoodNodes, IsAlwaysAccepted, IsAcceptedNode, revision_at, parts_at, rows_at, HasGoodMark, KeepsRules}
 use Rattle.image_reader.proofs.WholeImages.{whole_again}
 use Rattle.session_checker.specs.declared.fault.CheckFault.{CheckFault}
 use Rattle.session_checker.specs.declared.fault.CheckFault.TheVariants as faults
@@ -23,7 +23,7 @@ use Rattle.session_checker.specs.declared.node_rules.NodeRule.{NodeRule}
 use Rattle.session_checker.specs.declared.node_rules.NodeRule.TheVariants.{Reference, Length, Depth, Span}
 use Rattle.session_checker.specs.SourceRules.{IsFirstSourceFault, count, other_length}
 use Rattle.session_checker.specs.NodeRules.{Breaks, BreaksFirst, fault_at, IsFirstNodeFault}
-use Rattle.session_checker.specs.RevisionRules.{HasRowsOverNoSource, IsGoodOver, AreGoodOver, IsCommandInRange, HasRootOfParts, IsFirstBadRow, BreaksRule, BreaksRows, IsFirstRevisionFault, source_fault, source_fault_in}
+use Rattle.session_checker.specs.RevisionRules.{HasRowsOverNoSource, IsGoodOver, AreGoodOver, IsRevisionInRange, HasRootOfParts, IsFirstBadRow, BreaksRule, BreaksRows, IsFirstRevisionFault, source_fault, source_fault_in}
 use Rattle.session_checker.specs.Accepted.{BytesAsk, StatesAll, HasGoodTables, IsFirstTableFault, IsAccepted, IsFirstFault, IsExact, NeedsNoRead, Accepts}
 use Rattle.session_checker.specs.Faithful.{EachRevision}
 use Rattle.session_checker.proofs.SoundTables.{sound_table, true_table}
@@ -56,7 +56,7 @@ one_source_fault v sizes f g (other_length s same first e) (other_length r also 
 
 -- ---- nodes
 
-not_good_node : (t : Table) (id : ℕ) (rule : NodeRule) → BreaksFirst t id rule → IsGoodNode t id → ⊥
+not_good_node : (t : Table) (id : ℕ) (rule : NodeRule) → BreaksFirst t id rule → IsAcceptedNode t id → ⊥
 not_good_node t id Reference h good = h good.0.references
 not_good_node t id Length h good = h.1 (record { not_empty = good.0.not_empty; not_long = good.0.not_long; sum = good.1.len })
 not_good_node t id Depth h good = h.2 (record { follows = good.1.depth; not_deep = good.0.not_deep })
@@ -82,7 +82,7 @@ one_rule t id n Span Span x y = refl
 
 one_node_fault : (t : Table) (f g : CheckFault) → IsFirstNodeFault t f → IsFirstNodeFault t g → f ≡ g
 one_node_fault t f g a b =
-    let place = one_place (IsGoodNode t) a.id b.id a.earlier (λ good. not_good_node t a.id a.rule a.breaks good) b.earlier (λ good. not_good_node t b.id b.rule b.breaks good) in
+    let place = one_place (IsAcceptedNode t) a.id b.id a.earlier (λ good. not_good_node t a.id a.rule a.breaks good) b.earlier (λ good. not_good_node t b.id b.rule b.breaks good) in
     let other : BreaksFirst t a.id b.rule = subst (λ (c : ℕ). BreaksFirst t c b.rule) (sym place) b.breaks in
     a.is ∙ ap (fault_at a.rule) place ∙ ap (λ (r : NodeRule). fault_at r b.id) (one_rule t a.id _ a.rule b.rule a.breaks other) ∙ sym b.is
 
@@ -129,9 +129,9 @@ readable_rows v st is k earlier rules =
 
 -- what revision k breaks first, where its rows can be read
 data Broken (v : ImageValue) (st : Stated) (k : ℕ) (f : CheckFault) : Type 0 where
-  command : f ≡ faults.Command k → ¬ IsCommandInRange v k → Broken v st k f
-  root : f ≡ faults.Root k → IsCommandInRange v k → ¬ HasRootOfParts v k → Broken v st k f
-  mark : f ≡ faults.Mark k → IsCommandInRange v k → HasRootOfParts v k → ¬ HasGoodMark (image_table v) (revision_at v k) → Broken v st k f
+  command : f ≡ faults.Command k → ¬ IsRevisionInRange v k → Broken v st k f
+  root : f ≡ faults.Root k → IsRevisionInRange v k → ¬ HasRootOfParts v k → Broken v st k f
+  mark : f ≡ faults.Mark k → IsRevisionInRange v k → HasRootOfParts v k → ¬ HasGoodMark (image_table v) (revision_at v k) → Broken v st k f
   row : (j : ℕ) → f ≡ faults.Rows k j → KeepsRules v k → IsFirstBadRow v st k j → MayFitAll v st k → Broken v st k f
 
 broken_rule : (v : ImageValue) (st : Stated) (k : ℕ) (f : CheckFault) → BreaksRule v k f → Broken v st k f
@@ -213,7 +213,7 @@ one_revision_fault st v f g is a b =
 -- ---- images
 
 pub same_image : (v w : ImageValue) → IsImage v → IsImage w → spelling v ≡ spelling w → v ≡ w
-same_image v w is also e = sym (whole_again v is).1 ∙ ap image_of e ∙ (whole_again w also).1
+same_image v w is also e = sym (whole_again v is).1 ∙ ap image_in e ∙ (whole_again w also).1
 
 pub no_read_fault : (bytes : List ℕ) (v : ImageValue) (e : ReadFault) → IsImage v → bytes ≡ spelling v → fault_of bytes ≡ Some e → ⊥
 no_read_fault bytes v e is spelled fault =

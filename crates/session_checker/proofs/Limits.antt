@@ -18,12 +18,12 @@ use Rattle.session_checker.specs.NodeRules.{fault_at}
 use Rattle.session_checker.specs.RevisionRules.{source_fault, source_fault_in}
 use Rattle.session_checker.specs.Accepted.{BytesAsk, IsAccepted, IsFirstFault, IsFirstTableFault}
 use Rattle.session_checker.specs.Faithful.{IsFaithful}
-use Rattle.session_checker.specs.Limits.{ChecksWithin, IsBeyond, IsDear, IsFirstFaultWithin, IsFirstTableFaultWithin, IsNotDear, IsWithin}
+use Rattle.session_checker.specs.Limits.{AreLooksWithin, ChecksWithin, IsBeyond, IsDear, IsFirstFaultWithin, IsFirstTableFaultWithin, IsNotDear}
 use Rattle.session_checker.proofs.ExactAnswers.{accepts_unread, exact, no_read_fault, no_source_fault, same_image, table_fault}
 
 -- ---- the limit
 
-not_both : (at_most : Option ℕ) (v : ImageValue) → IsBeyond at_most v → IsWithin at_most v → ⊥
+not_both : (at_most : Option ℕ) (v : ImageValue) → IsBeyond at_most v → AreLooksWithin at_most v → ⊥
 not_both None v beyond within = beyond
 not_both (Some most) v beyond within = omega (arith, beyond, within)
 
@@ -43,7 +43,7 @@ of_dear at_most sizes bytes v bound found d = same_image d.v v d.image found.0 (
 beyond_of_dear : (at_most : Option ℕ) (sizes bytes : List ℕ) (v : ImageValue) (bound : ℕ) → IsImage v × (bytes ≡ spelling v) → IsDear at_most sizes bytes bound → IsBeyond at_most v
 beyond_of_dear at_most sizes bytes v bound found d = subst (λ (w : ImageValue). IsBeyond at_most w) (of_dear at_most sizes bytes v bound found d) d.beyond
 
-pub within_not_dear : (at_most : Option ℕ) (sizes bytes : List ℕ) (v : ImageValue) → IsImage v × (bytes ≡ spelling v) → IsWithin at_most v → IsNotDear at_most sizes bytes
+pub within_not_dear : (at_most : Option ℕ) (sizes bytes : List ℕ) (v : ImageValue) → IsImage v × (bytes ≡ spelling v) → AreLooksWithin at_most v → IsNotDear at_most sizes bytes
 within_not_dear at_most sizes bytes v found within bound d = not_both at_most v (beyond_of_dear at_most sizes bytes v bound found d) within
 
 -- the sources are others
@@ -89,7 +89,7 @@ refused_within at_most st bytes (Err f) cheap refused = λ none. inr (cheap, ref
 
 -- an answer that is right without a limit is right at what is not dear
 pub checks_within : (at_most : Option ℕ) (old new : Reading) (bytes : List ℕ) (r : Result ImageValue CheckFault) → IsNotDear at_most old.stated.sizes bytes
-    → IfOk r (λ v. IsFaithful v old.stated) → IfOk r (λ v. IsImage v × (bytes ≡ spelling v)) → IfOk r (λ v. HasSources v old.stated.sizes) → (IsOk r → IsAccepted bytes old.stated) → IfOk r (IsWithin at_most)
+    → IfOk r (λ v. IsFaithful v old.stated) → IfOk r (λ v. IsImage v × (bytes ≡ spelling v)) → IfOk r (λ v. HasSources v old.stated.sizes) → (IsOk r → IsAccepted bytes old.stated) → IfOk r (AreLooksWithin at_most)
     → IfErr r (λ f. source_fault f ≡ None → IsFirstFault old.stated bytes f) → Reads old new (BytesAsk old.stated bytes) (source_fault_in r) → ChecksWithin at_most old new bytes r
 checks_within at_most old new bytes r cheap is_faithful is_image has_sources is_accepted is_within is_refused does_read = record {
   faithful = is_faithful;

@@ -15,8 +15,8 @@ use Rattle.session_checker.specs.Accepted.{IsAccepted, IsFirstFault, IsExact, Ne
 use Rattle.session_checker.specs.Faithful.{IsFaithful}
 
 -- the looks that an image's check may take are at most the limit, where there is one
-abbrev pub IsWithin : Option ℕ → ImageValue → Type 0
-IsWithin at_most v = IfSome at_most (λ most. looks_bound v ≤ most)
+abbrev pub AreLooksWithin : Option ℕ → ImageValue → Type 0
+AreLooksWithin at_most v = IfSome at_most (λ most. looks_bound v ≤ most)
 
 -- they are more
 abbrev pub IsBeyond : Option ℕ → ImageValue → Type 0
@@ -40,7 +40,7 @@ abbrev pub IsFirstTableFaultWithin : Option ℕ → ImageValue → List ℕ → 
 IsFirstTableFaultWithin at_most v sizes f =
     IsFirstSourceFault v sizes f
     ⊎ (HasSources v sizes × ((IsBeyond at_most v × (f ≡ Looks (looks_bound v)))
-    ⊎ (IsWithin at_most v × IsFirstNodeFault (image_table v) f)))
+    ⊎ (AreLooksWithin at_most v × IsFirstNodeFault (image_table v) f)))
 
 -- the first fault of bytes that are not accepted, where that of the looks stands before those of the nodes
 abbrev pub IsFirstFaultWithin : Option ℕ → Stated → List ℕ → CheckFault → Type 0
@@ -56,7 +56,7 @@ pub record ChecksWithin (at_most : Option ℕ) (old new : Reading) (bytes : List
   pub image : IfOk r (λ v. IsImage v × (bytes ≡ spelling v))
   pub sources : IfOk r (λ v. HasSources v old.stated.sizes)
   pub accepted : IsOk r → IsAccepted bytes old.stated
-  pub within : IfOk r (IsWithin at_most)
+  pub within : IfOk r (AreLooksWithin at_most)
   pub dear : (bound : ℕ) → ((r ≡ Err (Looks bound)) ↔ IsDear at_most old.stated.sizes bytes bound)
   pub refused : IfErr r (λ f. source_fault f ≡ None → IsFirstFaultWithin at_most old.stated bytes f)
   pub reads : Reads old new (BytesAsk old.stated bytes) (source_fault_in r)

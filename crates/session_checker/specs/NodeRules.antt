@@ -3,7 +3,7 @@ use Rattle.std.specs.Prelude.{◌≡◌, ℕ, ◌<◌, ◌≤◌, length}
 use Rattle.rope_node.specs.declared.limits.TheConstants.{MOST_DEPTH, TEXT_LIMIT}
 use Rattle.rope_node.specs.declared.node.NodeView.{NodeView}
 use Rattle.rope_node.specs.Table.{Node, Table, node_at, HasGoodReferences, HasTrueLength, HasSpanInside, depth_of}
-use Rattle.image_reader.specs.Accepted.{IsGoodNode}
+use Rattle.image_reader.specs.Accepted.{IsAcceptedNode}
 use Rattle.session_checker.specs.declared.fault.CheckFault.{CheckFault}
 use Rattle.session_checker.specs.declared.fault.CheckFault.TheVariants as faults
 use Rattle.session_checker.specs.declared.node_rules.NodeRule.{NodeRule}
@@ -42,7 +42,7 @@ fault_at Span id = faults.Span id
 pub record IsFirstNodeFault (t : Table) (f : CheckFault) : Type 0 where
   pub id : ℕ
   pub there : id < length t.nodes
-  pub earlier : (c : ℕ) → c < id → IsGoodNode t c
+  pub earlier : (c : ℕ) → c < id → IsAcceptedNode t c
   pub rule : NodeRule
   pub breaks : BreaksFirst t id rule
   pub is : f ≡ fault_at rule id

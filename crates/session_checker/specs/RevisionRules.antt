@@ -33,18 +33,18 @@ AreGoodOver v st = AreGoodRevisions v (SameStated st)
 
 -- ---- faults
 
-abbrev pub IsCommandInRange : ImageValue → ℕ → Type 0
-IsCommandInRange v k = IsInRange (image_table v) (roots_before v k) (command_at v k)
+abbrev pub IsRevisionInRange : ImageValue → ℕ → Type 0
+IsRevisionInRange v k = IsInRange (image_table v) (roots_before v k) (command_at v k)
 
 abbrev pub HasRootOfParts : ImageValue → ℕ → Type 0
 HasRootOfParts v k = HasGoodRoot (image_table v) (revision_at v k).root (parts_len (parts_at v k))
 
 -- the first rule that revision k breaks, but for its rows
 abbrev pub BreaksRule : ImageValue → ℕ → CheckFault → Type 0
-BreaksRule v k (Command x) = (x ≡ k) × ¬ IsCommandInRange v k
-BreaksRule v k (Root x) = (x ≡ k) × IsCommandInRange v k × ¬ HasRootOfParts v k
+BreaksRule v k (Command x) = (x ≡ k) × ¬ IsRevisionInRange v k
+BreaksRule v k (Root x) = (x ≡ k) × IsRevisionInRange v k × ¬ HasRootOfParts v k
 BreaksRule v k (Mark x) =
-    (x ≡ k) × IsCommandInRange v k × HasRootOfParts v k × ¬ HasGoodMark (image_table v) (revision_at v k)
+    (x ≡ k) × IsRevisionInRange v k × HasRootOfParts v k × ¬ HasGoodMark (image_table v) (revision_at v k)
 BreaksRule v k other = ⊥
 
 -- j is the first row of revision k that does not fit, as far as the sources state it; so far, the rows before it fit

@@ -6,7 +6,7 @@ ghost use Rattle.cord_position.specs.Fetched.{ReadsSpan};
 ghost use Rattle.image_reader.specs.Accepted.{HasSources, revision_at};
 ghost use Rattle.image_reader.specs.Value.{IsImage, image_table};
 ghost use Rattle.image_reader.specs.Spelling.{spelling};
-ghost use Rattle.image_reader.specs.Reading.{fault_of, image_of};
+ghost use Rattle.image_reader.specs.Reading.{fault_of, image_in};
 ghost use Rattle.span_descent.specs.Counts.{BeginsCount};
 ghost use Rattle.lazy_file.specs.Readings.{Reads};
 ghost use Rattle.session_checker.specs.Accepted.{IsAccepted, IsFirstFault, IsExact, NeedsNoRead, Accepts, BytesAsk};
@@ -49,8 +49,8 @@ impl<'a> Checked<'a> {
     /// The image of bytes that were accepted before, by their header alone. It takes no memory.
     pub fn again(bytes: &'a [u8]) -> Checked<'a>
         requires read { fault_of bytes.now ≡ None }
-        requires true_records { HasTrueRecordsOf (image_of bytes.now) }
-        ensures { result ≡ image_of bytes.now }
+        requires true_records { HasTrueRecordsOf (image_in bytes.now) }
+        ensures { result ≡ image_in bytes.now }
     {
         Checked {
             tables: Tables::again(Image::again(bytes)),

@@ -1,7 +1,7 @@
 //! Why an image is not accepted.
 
 ghost use Rattle.std.specs.Prelude.{Some};
-ghost use Rattle.session_checker.specs.Codes.{fault_code};
+ghost use Rattle.session_checker.specs.Codes.{check_fault_code};
 
 use image_reader::ReadFault;
 use lazy_file::SourceFault;
@@ -39,7 +39,7 @@ pub enum CheckFault {
 }
 
 impl fmt::Display for CheckFault {
-    ghost output = { λ fault. Some (fault_code fault) };
+    ghost output = { λ fault. Some (check_fault_code fault) };
 
     fn fmt<W: fmt::Write>(&self, f: &mut fmt::Formatter<W>) -> fmt::Result {
         match self {

@@ -3,7 +3,7 @@
 ghost use Rattle.std.specs.Prelude.{◌≡◌, ◌+◌, ◌<◌, ◌≤◌, ◌↔◌, length, IsTrue, IsOk, IfErr};
 ghost use Rattle.rope_node.specs.Table.{depth_of, HasGoodReferences, HasSpanInside};
 ghost use Rattle.image_reader.specs.Value.{image_table};
-ghost use Rattle.image_reader.specs.Accepted.{IsGoodNode};
+ghost use Rattle.image_reader.specs.Accepted.{IsAcceptedNode};
 ghost use Rattle.session_checker.specs.NodeRules.{HasGoodLength, HasGoodDepth, BreaksFirst};
 
 use image_reader::Records;
@@ -110,7 +110,7 @@ pub fn check_node<L: Ledger>(
     id: NodeId,
 ) -> Result<(), NodeRule>
     requires { id.0 < length (image_table records.old.image.now).nodes }
-    ensures ok { IsOk result ↔ IsGoodNode (image_table records.old.image.now) id.0 }
+    ensures ok { IsOk result ↔ IsAcceptedNode (image_table records.old.image.now) id.0 }
     ensures err { IfErr result (BreaksFirst (image_table records.old.image.now) id.0) }
     ensures looks { records.new.count.now ≡ records.old.count.now + 1 }
     ensures image { records.new.image.now ≡ records.old.image.now }

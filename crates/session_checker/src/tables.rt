@@ -8,7 +8,7 @@ ghost use Rattle.image_reader.specs.Looks.{looks_bound};
 ghost use Rattle.image_reader.specs.Accepted.{AreGoodNodes};
 ghost use Rattle.session_checker.specs.NodeRules.{IsFirstNodeFault, fault_at};
 ghost use Rattle.session_checker.specs.Accepted.{HasGoodTables, IsFirstTableFault};
-ghost use Rattle.session_checker.specs.Limits.{IsBeyond, IsFirstTableFaultWithin, IsWithin};
+ghost use Rattle.session_checker.specs.Limits.{AreLooksWithin, IsBeyond, IsFirstTableFaultWithin};
 ghost use Rattle.session_checker.specs.declared.fault.CheckFault.TheVariants.{Looks};
 
 use crate::fault::CheckFault;
@@ -207,7 +207,7 @@ pub fn tables_counted<S: Sources, L: Ledger>(
 
 /// Refuses an image whose check may take more looks than the limit, where there is one.
 fn check_bound(image: &Image, at_most: Option<u64>) -> Result<(), CheckFault>
-    ensures ok { IsOk result → IsWithin at_most image.now }
+    ensures ok { IsOk result → AreLooksWithin at_most image.now }
     ensures err { IfErr result (λ f. IsBeyond at_most image.now × (f ≡ Looks (looks_bound image.now))) }
 {
     let Some(most) = at_most else {
@@ -230,7 +230,7 @@ pub fn tables_within<S: Sources, L: Ledger, P: Progress>(
     progress: &mut P,
 ) -> Result<(), CheckFault>
     ensures ok { IsOk result
-        → HasGoodTables image.now (S.reading sources.now).stated.sizes × IsWithin at_most image.now }
+        → HasGoodTables image.now (S.reading sources.now).stated.sizes × AreLooksWithin at_most image.now }
     ensures err { IfErr result
         (IsFirstTableFaultWithin at_most image.now (S.reading sources.now).stated.sizes) }
     ensures looks { count.new ≤ count.old + length (image_table image.now).nodes }

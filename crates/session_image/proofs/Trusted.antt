@@ -8,7 +8,7 @@ use Rattle.function_leaf.specs.Coded.{coded_byte}
 use Rattle.function_leaf.specs.Optional.{answer_of, or_fill}
 use Rattle.rope_node.specs.declared.node.NodeId.{NodeId}
 use Rattle.rope_node.specs.Table.{Table, IsSound, HasTrueRecords}
-use Rattle.node_table.specs.Held.{IsKept, coded_at as held_coded}
+use Rattle.node_table.specs.Held.{IsKept, held_coded}
 use Rattle.span_certificate.specs.declared.row.Row.{Row}
 use Rattle.command_parts.specs.Commands.{FullEdit, full_edit}
 use Rattle.span_certificate.specs.Covers.{Covers, MeetsNoSource}

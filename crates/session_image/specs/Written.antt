@@ -36,8 +36,8 @@ abbrev pub recorded_revision : Kept.Revision → Revision
 recorded_revision r = record { edit = r.edit; mark = r.mark; root = r.root; rows = length r.rows.items }
 
 -- the commands as they are recorded
-abbrev pub edits_of : List Kept.Revision → List Edit
-edits_of revisions = map (λ (r : Kept.Revision). r.edit) revisions
+abbrev pub recorded_edits : List Kept.Revision → List Edit
+recorded_edits revisions = map (λ (r : Kept.Revision). r.edit) revisions
 
 -- all splices, those of revision k behind those of the revisions before it, and all rows
 abbrev pub splices_in : List Kept.Revision → List Splice
@@ -73,7 +73,7 @@ HoldsFit h n = (id : ℕ) → id < n → FitsHeld (get_or h.nodes id no_node).vi
 
 -- the numbers of the first n commands fit
 abbrev pub EditsFit : List Kept.Revision → ℕ → Type 0
-EditsFit revisions n = (k : ℕ) → k < n → FitsRecord (get_or (edits_of revisions) k New)
+EditsFit revisions n = (k : ℕ) → k < n → FitsRecord (get_or (recorded_edits revisions) k New)
 
 -- the functions, the numbers of commands, splices and rows, and the bytes of the pool fit
 pub record SectionsFit (v : SessionValue) : Type 0 where

@@ -1,7 +1,7 @@
 //! The revisions of an image and their rows.
 
 ghost use Rattle.std.specs.Prelude.{◌≡◌, OnOk, length, map, slice_get};
-ghost use Rattle.edit_commands.specs.Session.{rows_of, splices_of};
+ghost use Rattle.edit_commands.specs.Session.{rows_of, splices_of_revision};
 ghost use Rattle.std.specs.List.{flat_map, AllByRecursion};
 ghost use Rattle.image_reader.specs.Spelling.{revision_spelling, row_spelling, splice_spelling};
 ghost use Rattle.image_reader.specs.Value.{FitsRow, FitsSplice};
@@ -61,7 +61,7 @@ pub(crate) fn write_revisions<W: io::Write, const N: usize>(
 
 /// The splices of a revision; none where there is no such revision.
 fn splices_at(session: &Session, k: u32) -> &[Splice]
-    ensures { result.now ≡ splices_or_none (splices_of session.now k) }
+    ensures { result.now ≡ splices_or_none (splices_of_revision session.now k) }
 {
     match session.splices(k) {
         None => &[],

@@ -11,7 +11,7 @@ use Rattle.span_descent.specs.declared.trail.Trail.{Trail}
 use Rattle.span_descent.specs.declared.span.Span.{Span}
 use Rattle.span_descent.specs.Descents.{IsStand, IsStandAt}
 use Rattle.span_descent.specs.Steps.{IsSpan, child_span}
-use Rattle.span_descent.specs.Trails.{AreStopsOf, Holds, IsFound, IsLastStop, IsStopOf, IsTrailStop, StandsAt, base_stop, first_stop, left_stop, no_stop, place_in, right_stop, stop_span, stop_at}
+use Rattle.span_descent.specs.Trails.{AreStopsOf, StopHolds, IsFound, IsLastStop, IsStopOf, IsTrailStop, IsThisStop, base_stop, first_stop, left_stop, no_stop, place_in, right_stop, stop_span, stop_at}
 use Rattle.span_descent.proofs.Depths.{depths_of_cat, depth_of_base}
 use Rattle.span_descent.proofs.Descents.{base_of_sub, children_of_cat}
 use Rattle.span_descent.proofs.FirstLeaves.{span_in_left, span_in_right}
@@ -104,7 +104,7 @@ module _ (t : Table) (s : IsSound t) (h : HasTrueRecords t) (stop : Stop) where
   child_base x b j e = rw e (ap Some (ap (λ (p : ℕ). record { node = b; start = p; len = min x.len (stop.end - x.start) }) (sym (base_start x.start j))))
 
   -- a stop to which they go on from another
-  goes_on : (root c : ℕ) (z : Stop) (x : Span) → IsTrailStop t root c stop → x.node.0 ≡ root → IsSpan t x → Holds stop x.start 1 → Some (stop_span x z) ≡ child_span t (stop_span x stop) (view_at t stop.node.0) → IsStand t x (stop_span x z)
+  goes_on : (root c : ℕ) (z : Stop) (x : Span) → IsTrailStop t root c stop → x.node.0 ≡ root → IsSpan t x → StopHolds stop x.start 1 → Some (stop_span x z) ≡ child_span t (stop_span x stop) (view_at t stop.node.0) → IsStand t x (stop_span x z)
   goes_on root c z x is of span holds child = stand_goes t s h x (stop_span x stop) (stop_span x z) (view_at t stop.node.0) span (is.stands x of span holds) refl child
 
   left_is_stop : (root c : ℕ) (l r : NodeId) → 1 ≤ c → IsTrailStop t root (c - 1) stop → view_at t stop.node.0 ≡ Cat l r → stop.start < len_at t l.0 → IsTrailStop t root c (left_stop stop l (len_at t l.0))
@@ -187,12 +187,12 @@ module _ (t : Table) (s : IsSound t) (h : HasTrueRecords t) (stop : Stop) where
 pub begins_with_root : (t : Table) (root : NodeId) (stops : List Stop) (count : ℕ) → AreStopsOf t root stops count → stop_at stops 0 ≡ first_stop t root
 begins_with_root t root stops count is = is.is_trail.first is.some ∙ ap (first_stop t) is.of_root
 
-pub root_holds : (t : Table) (root : NodeId) (stops : List Stop) (count : ℕ) → AreStopsOf t root stops count → (p n : ℕ) → p + n ≤ len_at t root.0 → Holds (stop_at stops 0) p n
+pub root_holds : (t : Table) (root : NodeId) (stops : List Stop) (count : ℕ) → AreStopsOf t root stops count → (p n : ℕ) → p + n ≤ len_at t root.0 → StopHolds (stop_at stops 0) p n
 root_holds t root stops count is p n fits = rw (begins_with_root t root stops count is) (record { behind = omega arith; before = omega (arith, fits) })
 
 -- a stop that is found is one of the trail's root
 pub found_stop : (t : Table) (root : NodeId) (stops : List Stop) (count : ℕ) → AreStopsOf t root stops count → (i : ℕ) → i < count → (p : ℕ) (node : NodeId) (start : ℕ) (r : Option Stop)
-    → IfSome r (StandsAt (stop_at stops i) p node start) → IfSome r (IsFound t root.0 p node start)
+    → IfSome r (IsThisStop (stop_at stops i) p node start) → IfSome r (IsFound t root.0 p node start)
 found_stop t root stops count is i below p node start None found = found
 found_stop t root stops count is i below p node start (Some z) found = record {
   is_stop = (i, rw found.same (rw is.of_root at (is.is_trail.stops i below)));

@@ -22,7 +22,7 @@ abbrev pub stop_span : Span → Stop → Span
 stop_span x stop = record { node = stop.node; start = place_in stop x.start; len = min x.len (stop.end - x.start) }
 
 -- the n bytes from p on lie in the stop
-pub record Holds (stop : Stop) (p n : ℕ) : Type 0 where
+pub record StopHolds (stop : Stop) (p n : ℕ) : Type 0 where
   pub behind : stop.from ≤ p
   pub before : p + n ≤ stop.end
 
@@ -33,7 +33,7 @@ pub record IsTrailStop (t : Table) (root i : ℕ) (stop : Stop) : Type 0 where
   pub inside : stop.start + (stop.end - stop.from) ≤ len_at t stop.node.0
   pub within : stop.end ≤ len_at t root
   pub shallow : depth_at t stop.node.0 + i ≤ MOST_DEPTH
-  pub stands : (x : Span) → x.node.0 ≡ root → IsSpan t x → Holds stop x.start 1 → IsStand t x (stop_span x stop)
+  pub stands : (x : Span) → x.node.0 ≡ root → IsSpan t x → StopHolds stop x.start 1 → IsStand t x (stop_span x stop)
 
 abbrev pub no_stop : Stop
 no_stop = record { node = record { 0 = 0 }; from = 0; end = 0; start = 0 }
@@ -94,24 +94,24 @@ pub record AreWays {W : Type 0} (is_way : Table → W → Type 0) (t : Table) (w
   pub root : IsWayOf is_way t ways.of_root
 
 -- this very stop, if the root's byte at p is the byte `start` of this node in it
-pub record StandsAt (stop : Stop) (p : ℕ) (node : NodeId) (start : ℕ) (z : Stop) : Type 0 where
+pub record IsThisStop (stop : Stop) (p : ℕ) (node : NodeId) (start : ℕ) (z : Stop) : Type 0 where
   pub same : z ≡ stop
   pub here : z.node ≡ node
-  pub holds : Holds z p 1
+  pub holds : StopHolds z p 1
   pub at : place_in z p ≡ start
 
 -- a stop of this root at which the root's byte at p is the byte `start` of this node
 pub record IsFound (t : Table) (root p : ℕ) (node : NodeId) (start : ℕ) (stop : Stop) : Type 0 where
   pub is_stop : (i : ℕ) × IsTrailStop t root i stop
   pub here : stop.node ≡ node
-  pub holds : Holds stop p 1
+  pub holds : StopHolds stop p 1
   pub at : place_in stop p ≡ start
 
 -- a trail down span x has come to this stop, the ith below the root
 pub record IsStopOf (t : Table) (x : Span) (way : Trail) (i : ℕ) (z : Stop) : Type 0 where
   pub trail : IsTrailOf t x.node way
   pub stop : IsTrailStop t x.node.0 i z
-  pub holds : Holds z x.start 1
+  pub holds : StopHolds z x.start 1
 
 abbrev pub IsLastStop : Table → Span → Trail → Stop → Type 0
 IsLastStop t x trail stop = IsStopOf t x trail (trail.count - 1) stop

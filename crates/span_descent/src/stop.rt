@@ -1,7 +1,7 @@
 //! A node on the way down to a place of a rope.
 
 ghost use Rattle.std.specs.Prelude.{◌≡◌, ◌+◌, ◌-◌, ◌<◌, ◌≤◌, ◌^◌, IfSome};
-ghost use Rattle.span_descent.specs.Trails.{StandsAt, base_stop, left_stop, place_in, right_stop, stop_span};
+ghost use Rattle.span_descent.specs.Trails.{IsThisStop, base_stop, left_stop, place_in, right_stop, stop_span};
 
 use crate::span::Span;
 use rope_node::{MOST_DEPTH, NodeId};
@@ -84,7 +84,7 @@ impl Stop {
     /// This stop, if the root's byte at `place` is the byte `start` of this node in it.
     #[inline(always)]
     pub(crate) fn found(self, place: u64, node: NodeId, start: u64) -> Option<Stop>
-        ensures { IfSome result (StandsAt self place node start) }
+        ensures { IfSome result (IsThisStop self place node start) }
     {
         if self.node.0 == node.0
             && self.from <= place

@@ -27,7 +27,7 @@ impl Trail {
     ghost use Rattle.rope_node.specs.Table.{Table, view_at, IsSound, HasTrueRecords};
     ghost use Rattle.span_descent.specs.Descents.{GoesDownTo};
     ghost use Rattle.span_descent.specs.Steps.{IsSpan};
-    ghost use Rattle.span_descent.specs.Trails.{FollowsLast, Holds, IsFound, IsLastStop, IsStopOf, IsTrail, IsTrailOf, first_stop, stop_span};
+    ghost use Rattle.span_descent.specs.Trails.{FollowsLast, IsFound, IsLastStop, IsStopOf, IsTrail, IsTrailOf, StopHolds, first_stop, stop_span};
 
     /// A trail of no rope.
     pub fn new() -> Trail
@@ -74,7 +74,7 @@ impl Trail {
         requires some { 1 ≤ len }
         requires inside { len ≤ x.len }
         ensures last { IsLastStop (S.table space.now) x self.new result }
-        ensures holds { Holds result x.start len }
+        ensures holds { StopHolds result x.start len }
         ensures low { (low ≤ result.node.0) ⊎ (result ≡ first_stop (S.table space.now) x.node) }
     {
         let end = x.start + len;

@@ -9,7 +9,7 @@ use Rattle.terminal_keys.specs.declared.stage.Stage.{Stage}
 use Rattle.terminal_keys.specs.declared.stage.Stage.TheVariants.{Escape, Intermediate, Control, Single, ControlString}
 use Rattle.terminal_keys.specs.Held.{stage_behind}
 use Rattle.terminal_keys.specs.Keys.{keys_in, keys_of, letter, meant, mode_behind}
-use Rattle.terminal_keys.specs.Laws.{AreParameters, BreaksOff, FallsAway, IsEscape, IsFinal, IsOutside, IsString, IsTooLong, IsWholeSequence, Types}
+use Rattle.terminal_keys.specs.Laws.{AreParameters, BreaksOff, FallsAway, IsEscape, IsFinal, IsOutside, IsSequenceTooLong, IsString, IsWholeSequence, Types}
 use Rattle.terminal_keys.specs.Sequences.{begins_string, ends_with, next_stage, is_in_string, is_intermediate, is_parameter}
 use Rattle.terminal_keys.proofs.SequenceLaws.{broken_off, ended_whole, full_falls, nothing_meant, other_nothing, passed_over}
 
@@ -192,5 +192,5 @@ string_broken first text b h out other = λ m rest.
     let few : length (first ∷ text) < 1023 = let l : length text < 1022 = h.2 in omega (arith, l) in
     broken_off m (first ∷ text) ControlString b rest (string_at first text h.0 h.1) few (none_by (is_in_string b) ControlString out) (other_byte b 0x07 other)
 
-pub too_long_falls : (bytes : List ℕ) → IsTooLong bytes → FallsAway bytes
+pub too_long_falls : (bytes : List ℕ) → IsSequenceTooLong bytes → FallsAway bytes
 too_long_falls bytes h = λ m rest. full_falls m h.0 bytes rest h.1 h.2

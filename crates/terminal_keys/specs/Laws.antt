@@ -31,8 +31,8 @@ IsEscape between last =
     × (between ≡ [] → next_stage Escape last ≡ None)
 
 -- a sequence that has its most bytes and is not whole
-abbrev pub IsTooLong : List ℕ → Type 0
-IsTooLong bytes = (s : Stage) × (stage_behind Text bytes ≡ Some s) × (length bytes ≡ 1024)
+abbrev pub IsSequenceTooLong : List ℕ → Type 0
+IsSequenceTooLong bytes = (s : Stage) × (stage_behind Text bytes ≡ Some s) × (length bytes ≡ 1024)
 
 -- the bytes are no key, and nothing behind them is lost
 abbrev pub FallsAway : List ℕ → Type 0

@@ -14,6 +14,6 @@ TakesByte old old_mode byte new new_mode keys = (rest : List ℕ) →
 
 -- No key is owed then: the keys of what is held and of any other bytes are those of what was held, of the byte and of the
 -- others, whether they are typed or pasted.
-abbrev pub GoesOn : Sequence → ℕ → Sequence → Type 0
-GoesOn old byte new = (mode : Mode) (rest : List ℕ) →
+abbrev pub SequenceGoesOn : Sequence → ℕ → Sequence → Type 0
+SequenceGoesOn old byte new = (mode : Mode) (rest : List ℕ) →
     keys_in mode (bytes_begun new ++ rest) ≡ keys_in mode (bytes_begun old ++ byte ∷ rest)

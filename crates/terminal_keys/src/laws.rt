@@ -3,7 +3,7 @@
 ghost use Rattle.std.specs.Prelude.{◌≡◌, ◌≢◌, ℕ, ◌≤◌, List, [], ◌∷◌, ◌++◌, replicate, All, IsTrue, false};
 ghost use Rattle.terminal_keys.specs.Held.{IsOpen};
 ghost use Rattle.terminal_keys.specs.Keys.{is_text, keys_in, keys_of, letter};
-ghost use Rattle.terminal_keys.specs.Laws.{AreParameters, IsEscape, IsFinal, IsOutside, IsString, IsTooLong};
+ghost use Rattle.terminal_keys.specs.Laws.{AreParameters, IsEscape, IsFinal, IsOutside, IsSequenceTooLong, IsString};
 ghost use Rattle.terminal_keys.specs.Laws.{BreaksOff, FallsAway, IsWholeSequence, Types};
 ghost use Rattle.terminal_keys.specs.Pastes.{pasted_text, PastesText};
 ghost use Rattle.terminal_keys.specs.Sequences.{is_in_string};
@@ -38,7 +38,7 @@ pub fn broken_sequences()
     ensures control { (ps : List ℕ) (b : ℕ) → AreParameters ps → IsOutside b → BreaksOff (0x1B ∷ 0x5B ∷ ps) b }
     ensures string { (first : ℕ) (text : List ℕ) (b : ℕ) → IsString first text → is_in_string b ≡ false → b ≢ 0x07
         → BreaksOff (0x1B ∷ first ∷ text) b }
-    ensures long { (bytes : List ℕ) → IsTooLong bytes → FallsAway bytes }
+    ensures long { (bytes : List ℕ) → IsSequenceTooLong bytes → FallsAway bytes }
     ensures ended { (mode : Mode) (s : Stage) (bytes : List ℕ) → IsOpen s bytes → keys_in mode bytes ≡ [] }
 {}
 

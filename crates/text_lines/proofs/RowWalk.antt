@@ -5,7 +5,7 @@ use Rattle.std.proofs.lemmas.List.{drop-drop, get_or-drop}
 use Rattle.text_lines.specs.declared.rows.TheConstants.{SCREEN_ROWS}
 use Rattle.text_lines.specs.Lines.{is_break}
 use Rattle.text_lines.specs.Screen.{first_column, first_line, rows_of_text}
-use Rattle.text_lines.specs.Rows.{lines_from, row_in, rows_in, shown_of, IsWindow, PushesLine}
+use Rattle.text_lines.specs.Rows.{lines_from, row_in, rows_on_screen, shown_of, IsWindow, PushesLine}
 use Rattle.text_lines.proofs.RowLaws.{row_shown}
 
 -- k rows were pushed, and the line of the next one begins at next, if there is one
@@ -24,9 +24,9 @@ row_more t top left k next after old now shown at line =
     }
 
 -- the rows from the window's top on are those of the screen
-pub rows_of_window : (t : List ℕ) (p top row column : ℕ) → IsWindow t p top row column → rows_in (lines_from t (Some top)) (first_column t p) ≡ rows_of_text t p
+pub rows_of_window : (t : List ℕ) (p top row column : ℕ) → IsWindow t p top row column → rows_on_screen (lines_from t (Some top)) (first_column t p) ≡ rows_of_text t p
 rows_of_window t p top row column window =
-    ap (λ (lines : List (List ℕ)). rows_in lines (first_column t p)) window.lines
+    ap (λ (lines : List (List ℕ)). rows_on_screen lines (first_column t p)) window.lines
     ∙ ap (λ (line : ℕ → List ℕ). flat_map (λ k. shown_of (first_column t p) (line k) ++ 0x0D ∷ 0x0A ∷ []) (range_with_len 0 SCREEN_ROWS)) (same_lines (first_line t p) (slice_split is_break t))
   where
     same_lines : (n : ℕ) (lines : List (List ℕ)) → ◌≡◌ {A = ℕ → List ℕ} (λ k. get_or (drop n lines) k []) (λ k. get_or lines (n + k) [])

@@ -12,7 +12,7 @@ use Rattle.rope_node.specs.Table.{IsLeaf, IsSound, Table, len_at, view_at}
 use Rattle.rope_node.specs.Denotes.{Byte, Cell, Place, cell_at, cells}
 use Rattle.lazy_file.specs.SourceTexts.{Stated}
 use Rattle.cord_position.specs.Fetched.{IsStated, rope_cell}
-use Rattle.cord_position.specs.Runs.{IsRun, span_len}
+use Rattle.cord_position.specs.Runs.{IsLeafRun, span_len}
 use Rattle.cord_position.proofs.LeafCells.{function_cell, literal_first, source_cell}
 use Rattle.text_lines.specs.StatedCells.{AreToldByOthers, HaveOneSource, cell_source}
 
@@ -33,15 +33,15 @@ part_cell : (xs ys : List Cell) (i j n k : ℕ) → k < n → take n (drop i xs)
 part_cell xs ys i j n k lt same =
     sym (get_or-take n (drop i xs) k (Byte 0) lt ∙ get_or-drop i xs k (Byte 0)) ∙ ap (λ (cs : List Cell). get_or cs k (Byte 0)) same ∙ get_or-take n (drop j ys) k (Byte 0) lt ∙ get_or-drop j ys k (Byte 0)
 
-run_cell : (t : Table) (rope : Option NodeId) (i : ℕ) (x : LeafSpan) → IsRun t rope i x → (k : ℕ) → k < x.len → rope_cell t rope (i + k) ≡ cell_at t x.leaf.0 (x.start + k)
+run_cell : (t : Table) (rope : Option NodeId) (i : ℕ) (x : LeafSpan) → IsLeafRun t rope i x → (k : ℕ) → k < x.len → rope_cell t rope (i + k) ≡ cell_at t x.leaf.0 (x.start + k)
 run_cell t None i x run k lt = absurd (omega (arith, run.in_rope, run.some))
 run_cell t (Some id) i x run k lt = part_cell (cells t id.0) (cells t x.leaf.0) i x.start x.len k lt run.cells
 
-run_source : (t : Table) → IsSound t → (rope : Option NodeId) (i : ℕ) (x : LeafSpan) → IsRun t rope i x → (k : ℕ) → k < x.len → cell_source (rope_cell t rope (i + k)) ≡ view_source (view_at t x.leaf.0)
+run_source : (t : Table) → IsSound t → (rope : Option NodeId) (i : ℕ) (x : LeafSpan) → IsLeafRun t rope i x → (k : ℕ) → k < x.len → cell_source (rope_cell t rope (i + k)) ≡ view_source (view_at t x.leaf.0)
 run_source t s rope i x run k lt =
     ap cell_source (run_cell t rope i x run k lt) ∙ leaf_source t s x.leaf.0 (x.start + k) (view_at t x.leaf.0) run.there (omega (arith, run.in_leaf, lt)) refl run.leaf
 
-pub span_source : (t : Table) → IsSound t → (rope : Option NodeId) (i count : ℕ) (o : Option LeafSpan) → IfSome o (IsRun t rope i) → 1 ≤ count → count ≤ span_len o → HaveOneSource (rope_cell t rope) i count
+pub span_source : (t : Table) → IsSound t → (rope : Option NodeId) (i count : ℕ) (o : Option LeafSpan) → IfSome o (IsLeafRun t rope i) → 1 ≤ count → count ≤ span_len o → HaveOneSource (rope_cell t rope) i count
 span_source t s rope i count None run some few k from below = absurd (omega (arith, some, few))
 span_source t s rope i count (Some x) run some few k from below =
     let back : i + (k - i) ≡ k = omega (arith, from) in

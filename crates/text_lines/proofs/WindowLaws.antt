@@ -7,19 +7,19 @@ use Rattle.std.proofs.lemmas.List.Splits.{slice_split-cons_yes, slice_split-cons
 use Rattle.std.proofs.lemmas.List.Sums.{count_by_more_yes, count_by_more_no, suffix_len-take_yes, suffix_len-take_no, sum_by-cons}
 use Rattle.text_lines.specs.declared.window.TheConstants.{LINES_ABOVE}
 use Rattle.text_lines.specs.Lines.{is_break, column, line_start}
-use Rattle.text_lines.specs.Screen.{first_line, line_of}
+use Rattle.text_lines.specs.Screen.{first_line, line_number_of}
 use Rattle.text_lines.specs.Rows.{IsAbove, IsLineStart, IsWindow}
 use Rattle.text_lines.proofs.LineLaws.{column_is}
 
-one_line_back : (t : List ℕ) (s : ℕ) → IsLineStart t s → 1 ≤ s → s ≤ length t → line_of t s ≡ line_of t (s - 1) + 1
+one_line_back : (t : List ℕ) (s : ℕ) → IsLineStart t s → 1 ≤ s → s ≤ length t → line_number_of t s ≡ line_number_of t (s - 1) + 1
 one_line_back t s begins some le =
     let back : s - 1 + 1 ≡ s = omega (arith, some) in
-    ap (λ (n : ℕ). line_of t n) (sym back) ∙ count_by_more_yes is_break t (s - 1) 0 (omega (arith, some, le)) (begins some)
+    ap (λ (n : ℕ). line_number_of t n) (sym back) ∙ count_by_more_yes is_break t (s - 1) 0 (omega (arith, some, le)) (begins some)
 
 -- a place's line begins where its start is
 record Begins (t : List ℕ) (p : ℕ) : Type 0 where
   begins : IsLineStart t (line_start t p)
-  lines : line_of t (line_start t p) ≡ line_of t p
+  lines : line_number_of t (line_start t p) ≡ line_number_of t p
 
 not_true : (b : Bool) → b ≡ true → not b ≡ false
 not_true b e = rw e refl
@@ -40,7 +40,7 @@ begins_more t p q is le before =
           let back : q - 1 ≡ p = omega (arith, is) in
           record {
             begins = subst (IsLineStart t) (sym at) (λ some. rw back broken);
-            lines = ap (line_of t) at;
+            lines = ap (line_number_of t) at;
           }
       | inr plain ↦
           let more : column t q ≡ 1 + column t (p + 1 - 1) = rw is (suffix_len-take_yes (λ b. not (is_break b)) t (p + 1) 0 (omega arith) (omega (arith, is, le)) (rw here (not_false (is_break (get_or t p 0)) plain))) in
@@ -48,7 +48,7 @@ begins_more t p q is le before =
           let at : line_start t q ≡ line_start t p = omega (arith, more, same, is) in
           record {
             begins = subst (IsLineStart t) (sym at) before.begins;
-            lines = ap (line_of t) at ∙ before.lines ∙ sym (rw is (count_by_more_no is_break t p 0 (omega (arith, is, le)) plain));
+            lines = ap (line_number_of t) at ∙ before.lines ∙ sym (rw is (count_by_more_no is_break t p 0 (omega (arith, is, le)) plain));
           }
     ]
 
@@ -67,7 +67,7 @@ above_more t start top next row above some le is =
       begins = λ begins. subst (IsLineStart t) (sym is) at.begins;
       lines = λ begins.
           let one = one_line_back t top (above.begins begins) some le in
-          let same : line_of t next ≡ line_of t (top - 1) = ap (line_of t) is ∙ at.lines in
+          let same : line_number_of t next ≡ line_number_of t (top - 1) = ap (line_number_of t) is ∙ at.lines in
           above.lines begins ∙ omega (arith, one, same);
     }
 
@@ -92,7 +92,7 @@ behind_first x xs (suc s) some =
     let b : suc s - 1 ≡ s = omega arith in
     rw (a, b) refl
 
-lines_more : (x : ℕ) (xs : List ℕ) (s : ℕ) → (IsLineStart xs s → s ≤ length xs → slice_split is_break (drop s xs) ≡ drop (line_of xs s) (slice_split is_break xs))
+lines_more : (x : ℕ) (xs : List ℕ) (s : ℕ) → (IsLineStart xs s → s ≤ length xs → slice_split is_break (drop s xs) ≡ drop (line_number_of xs s) (slice_split is_break xs))
     → IsLineStart (x ∷ xs) (suc s) → s ≤ length xs → slice_split is_break (drop s xs) ≡ drop (count_by is_break (x ∷ take s xs)) (slice_split is_break (x ∷ xs))
 lines_more x xs s rest begins le =
     let inner : IsLineStart xs s = λ some. ap is_break (sym (behind_first x xs s some)) ∙ begins (omega arith) in
@@ -101,7 +101,7 @@ lines_more x xs s rest begins le =
       | inr plain ↦
           let some : 1 ≤ s = at_least s begins plain in
           let one = one_line_back xs s inner some le in
-          rw (count_no x (take s xs) plain, slice_split-cons_no is_break x xs plain, drop_onto x (slice_split is_break xs) (line_of xs s) (omega (arith, one))) (rest inner le)
+          rw (count_no x (take s xs) plain, slice_split-cons_no is_break x xs plain, drop_onto x (slice_split is_break xs) (line_number_of xs s) (omega (arith, one))) (rest inner le)
     ]
   where
     at_least : (s : ℕ) → IsLineStart (x ∷ xs) (suc s) → is_break x ≡ false → 1 ≤ s
@@ -109,7 +109,7 @@ lines_more x xs s rest begins le =
     at_least (suc s) begins plain = omega arith
 
 -- the lines from a line's start on are all but those above it
-pub lines_behind : (t : List ℕ) (s : ℕ) → IsLineStart t s → s ≤ length t → slice_split is_break (drop s t) ≡ drop (line_of t s) (slice_split is_break t)
+pub lines_behind : (t : List ℕ) (s : ℕ) → IsLineStart t s → s ≤ length t → slice_split is_break (drop s t) ≡ drop (line_number_of t s) (slice_split is_break t)
 lines_behind t zero begins le = refl
 lines_behind [] (suc s) begins le = absurd (omega (arith, le))
 lines_behind (x ∷ xs) (suc s) begins le = lines_more x xs s (lines_behind xs s) begins (omega (arith, le))
@@ -119,9 +119,9 @@ pub window_is : (t : List ℕ) (p start top row : ℕ) → p ≤ length t → st
 window_is t p start top row le is inside few all above =
     let at = begins_at t p le in
     let begins : IsLineStart t start = subst (IsLineStart t) (sym is) at.begins in
-    let lines : line_of t p ≡ line_of t top + row = sym at.lines ∙ ap (line_of t) (sym is) ∙ above.lines begins in
-    let none : row < LINES_ABOVE → line_of t top ≡ 0 = λ lt. ap (line_of t) (all lt) in
-    let first : line_of t top ≡ first_line t p = first_is (line_of t p) (line_of t top) row lines few none in
+    let lines : line_number_of t p ≡ line_number_of t top + row = sym at.lines ∙ ap (line_number_of t) (sym is) ∙ above.lines begins in
+    let none : row < LINES_ABOVE → line_number_of t top ≡ 0 = λ lt. ap (line_number_of t) (all lt) in
+    let first : line_number_of t top ≡ first_line t p = first_is (line_number_of t p) (line_number_of t top) row lines few none in
     record {
       lines = lines_behind t top (above.begins begins) (omega (arith, inside, le)) ∙ ap (λ (n : ℕ). drop n (slice_split is_break t)) first;
       row = omega (arith, lines, first);

@@ -7,7 +7,7 @@ ghost use Rattle.cord_search.specs.Stated.{OfText};
 ghost use Rattle.text_lines.specs.Screen.{glyph};
 ghost use Rattle.text_lines.specs.HeldBytes.{AreHeld};
 ghost use Rattle.text_lines.specs.Showing.{ReadsToShow};
-ghost use Rattle.text_lines.specs.Rows.{lines_from, rows_in, PushesLine};
+ghost use Rattle.text_lines.specs.Rows.{lines_from, rows_on_screen, PushesLine};
 
 use crate::behind::near_end;
 use crate::fault::FrameFault;
@@ -219,7 +219,7 @@ pub fn push_rows<S: NodeSpace, T: Sources>(
     requires top { top ≤ rope_len (S.table space.now) rope }
     requires held { OfText (S.table space.now) (T.reading sources.old).stated rope (AreHeld held.old) }
     ensures rows { OnOk result (OfText (S.table space.now) (T.reading sources.old).stated rope
-        (λ t. out.new.items ≡ out.old.items ++ rows_in (lines_from t (Some top)) left)) }
+        (λ t. out.new.items ≡ out.old.items ++ rows_on_screen (lines_from t (Some top)) left)) }
     ensures held { OnOk result (OfText (S.table space.now) (T.reading sources.old).stated rope (AreHeld held.new)) }
     ensures reads { ReadsToShow (T.reading sources.old) (T.reading sources.new)
         (rope_cell (S.table space.now) rope) (rope_len (S.table space.now) rope) result }

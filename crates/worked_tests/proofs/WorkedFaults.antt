@@ -11,7 +11,7 @@ use Rattle.span_certificate.specs.Verdicts.{CanBeSame, SameStated}
 use Rattle.image_reader.specs.declared.version.FormatVersion.TheVariants.{One}
 use Rattle.worked_tests.specs.Commands.{leaf_row}
 use Rattle.worked_tests.proofs.WorkedRows.{first_row, third_byte_uncovered_beside, row_past_the_end_beside}
-use Rattle.image_reader.specs.Accepted.{IsGoodNode, IsGoodRevision, AreGoodNodes, AreGoodRevisions, KeepsRules}
+use Rattle.image_reader.specs.Accepted.{IsAcceptedNode, IsGoodRevision, AreGoodNodes, AreGoodRevisions, KeepsRules}
 use Rattle.image_reader.specs.Value.{ImageNode, ImageValue, coded_at, image_table}
 use Rattle.image_reader.specs.declared.revision.Revision.{Revision}
 use Rattle.worked_tests.specs.Images.{empty_text, one_insert, one_insert_by, IsFirstFaultAlone}
@@ -23,10 +23,10 @@ use Rattle.lazy_file.specs.SourceTexts.{stated_in_memory}
 use Rattle.worked_tests.specs.Images.{inserted_chain}
 
 -- a leaf that keeps its rules, at the front of the table
-literal_good : IsGoodNode child_not_earlier 0
+literal_good : IsAcceptedNode child_not_earlier 0
 literal_good = (record { references = tt; not_empty = lit≤ tt; not_long = lit< tt; not_deep = lit≤ tt; span = lit≤ tt }, record { len = tt; depth = refl })
 
-before_child : (id : ℕ) → id < 1 → IsGoodNode child_not_earlier id
+before_child : (id : ℕ) → id < 1 → IsAcceptedNode child_not_earlier id
 before_child zero lt = literal_good
 before_child (suc id) lt = absurd (omega (arith, lt))
 
@@ -40,7 +40,7 @@ own_child = record {
   is = refl;
 }
 
-before_sum : (id : ℕ) → id < 2 → IsGoodNode too_long_together id
+before_sum : (id : ℕ) → id < 2 → IsAcceptedNode too_long_together id
 before_sum zero lt = (record { references = tt; not_empty = lit≤ tt; not_long = lit< tt; not_deep = lit≤ tt; span = tt }, record { len = tt; depth = refl })
 before_sum (suc zero) lt = (record { references = tt; not_empty = lit≤ tt; not_long = lit< tt; not_deep = lit≤ tt; span = tt }, record { len = tt; depth = refl })
 before_sum (suc (suc id)) lt = absurd (omega (arith, lt))
@@ -56,7 +56,7 @@ sum_over_the_limit = record {
 }
 
 -- whatever depth is recorded with the last node
-before_last : (depth id : ℕ) → id < 4 → IsGoodNode (part_of_a_part_recorded depth) id
+before_last : (depth id : ℕ) → id < 4 → IsAcceptedNode (part_of_a_part_recorded depth) id
 before_last depth zero lt = (record { references = tt; not_empty = lit≤ tt; not_long = lit< tt; not_deep = lit≤ tt; span = lit≤ tt }, record { len = tt; depth = refl })
 before_last depth (suc zero) lt = (record { references = tt; not_empty = lit≤ tt; not_long = lit< tt; not_deep = lit≤ tt; span = lit≤ tt }, record { len = tt; depth = refl })
 before_last depth (suc (suc zero)) lt = (record { references = (lit< tt, lit< tt); not_empty = lit≤ tt; not_long = lit< tt; not_deep = lit≤ tt; span = tt }, record { len = refl; depth = refl })
@@ -73,7 +73,7 @@ depth_too_small = record {
   is = refl;
 }
 
-last_good : IsGoodNode part_of_a_part 4
+last_good : IsAcceptedNode part_of_a_part 4
 last_good = (record { references = lit< tt; not_empty = lit≤ tt; not_long = lit< tt; not_deep = lit≤ tt; span = lit≤ tt }, record { len = tt; depth = refl })
 
 pub part_of_a_part_good : AreGoodNodes part_of_a_part

@@ -2,7 +2,7 @@
 use Rattle.std.proofs.Common.{◌≡◌, ℕ, zero, suc, ◌+◌, ◌<◌, ◌≤◌, List, [], ◌∷◌, Option, Some, None, refl, sym, ap, subst, ◌∙◌, arith, lit≤}
 use Rattle.function_leaf.specs.declared.coded.Coded.{Coded}
 use Rattle.rope_node.specs.Table.{Table, view_at}
-use Rattle.worked_tests.specs.Tables.{number, part_of_a_part, one_literal}
+use Rattle.worked_tests.specs.Tables.{number, part_of_a_part, abc_literal}
 use Rattle.span_descent.specs.declared.description.Description.{Description}
 use Rattle.span_descent.specs.declared.description.Description.TheVariants.{Pooled}
 use Rattle.span_certificate.specs.declared.row.Row.{Row}
@@ -38,7 +38,7 @@ part_of_a_part_covered coded source = record { fit = fit; whole_root = refl; who
 
 -- the literal in a table whose functions answer so
 abbrev pub literal_beside : (ℕ → ℕ → ℕ) → Table
-literal_beside answer = record one_literal { answer = answer }
+literal_beside answer = record abc_literal { answer = answer }
 
 -- a row from the first byte of the literal on, whatever is said of rows of bytes
 pub first_row : (answer : ℕ → ℕ → ℕ) (coded : ℕ → Coded) (Same : List Cell → List Cell → Type 0) (len : ℕ) → 1 ≤ len → len ≤ 3
@@ -77,14 +77,14 @@ row_past_the_end_beside answer coded Same CanBeSame = record {
   uncovered = λ e. absurd (omega (arith, e));
 }
 
-pub third_byte_uncovered : (coded : ℕ → Coded) (source : ℕ → ℕ → ℕ) → IsFirstBad one_literal coded source (Pool 0 3 ∷ []) (Some (number 0)) (leaf_row 2 ∷ []) 1
-third_byte_uncovered coded source = third_byte_uncovered_beside one_literal.answer coded (SameOver source) (SameOver source)
+pub third_byte_uncovered : (coded : ℕ → Coded) (source : ℕ → ℕ → ℕ) → IsFirstBad abc_literal coded source (Pool 0 3 ∷ []) (Some (number 0)) (leaf_row 2 ∷ []) 1
+third_byte_uncovered coded source = third_byte_uncovered_beside abc_literal.answer coded (SameOver source) (SameOver source)
 
-pub row_past_the_end : (coded : ℕ → Coded) (source : ℕ → ℕ → ℕ) → IsFirstBad one_literal coded source (Pool 0 3 ∷ []) (Some (number 0)) (leaf_row 3 ∷ leaf_row 1 ∷ []) 1
-row_past_the_end coded source = row_past_the_end_beside one_literal.answer coded (SameOver source) (SameOver source)
+pub row_past_the_end : (coded : ℕ → Coded) (source : ℕ → ℕ → ℕ) → IsFirstBad abc_literal coded source (Pool 0 3 ∷ []) (Some (number 0)) (leaf_row 3 ∷ leaf_row 1 ∷ []) 1
+row_past_the_end coded source = row_past_the_end_beside abc_literal.answer coded (SameOver source) (SameOver source)
 
 -- the literal's bytes lead to the literal alone
-literal_alone : (n k o : ℕ) → Leads one_literal n k o 0 0 → (k ≡ 0) × (o ≡ 0)
+literal_alone : (n k o : ℕ) → Leads abc_literal n k o 0 0 → (k ≡ 0) × (o ≡ 0)
 literal_alone n k o (here at place) = (sym at, sym place)
 literal_alone n k o (in_left l r is inside lead) = absurd cc
 literal_alone n k o (in_right l r is inside lead) = absurd cc
@@ -103,16 +103,16 @@ place_in (Some (Pooled a)) = a
 place_in other = 0
 
 -- a span of the literal from its first byte on is described by no other place
-pub row_of_another_place : (coded : ℕ → Coded) (source : ℕ → ℕ → ℕ) → ¬ Fits one_literal coded source (Pool 1 2 ∷ []) (Some (number 0)) 0 (leaf_row 2)
+pub row_of_another_place : (coded : ℕ → Coded) (source : ℕ → ℕ → ℕ) → ¬ Fits abc_literal coded source (Pool 1 2 ∷ []) (Some (number 0)) 0 (leaf_row 2)
 row_of_another_place coded source fits =
     let d = fits.kind.0 in
     let root = fits.kind.2 in
     let alone = literal_alone 2 root.0 root.1 root.2.0 in
     let part : Pool 1 2 ≡ fits.part = ap part_in fits.at_part in
     let off : 0 ≡ fits.off = ap off_in fits.at_part in
-    let of_part : PartHasDescription one_literal coded 2 (Pool 1 2) fits.off d = subst (λ (p : Part). PartHasDescription one_literal coded 2 p fits.off d) (sym part) fits.kind.1 in
+    let of_part : PartHasDescription abc_literal coded 2 (Pool 1 2) fits.off d = subst (λ (p : Part). PartHasDescription abc_literal coded 2 p fits.off d) (sym part) fits.kind.1 in
     let described : Pooled (1 + 0) ≡ d = subst (λ (o : ℕ). Pooled (1 + o) ≡ d) (sym off) of_part in
-    let of_leaf = subst (λ (k : ℕ). leaf_description (coded k) root.1 (view_at one_literal k) ≡ Some d) alone.0 root.3 in
-    let found : leaf_description (coded 0) 0 (view_at one_literal 0) ≡ Some d = subst (λ (o : ℕ). leaf_description (coded 0) o (view_at one_literal 0) ≡ Some d) alone.1 of_leaf in
+    let of_leaf = subst (λ (k : ℕ). leaf_description (coded k) root.1 (view_at abc_literal k) ≡ Some d) alone.0 root.3 in
+    let found : leaf_description (coded 0) 0 (view_at abc_literal 0) ≡ Some d = subst (λ (o : ℕ). leaf_description (coded 0) o (view_at abc_literal 0) ≡ Some d) alone.1 of_leaf in
     let places = ap place_in (found ∙ ap (λ (e : Description). Some e) (sym described)) in
     omega (arith, places)

@@ -2,7 +2,7 @@
 use Rattle.std.specs.Prelude.{Bool, true, false, List, [], ◌∷◌, length, map, Some, None, codes}
 use Rattle.rope_node.specs.declared.node.NodeView.TheVariants.{Lit}
 use Rattle.rope_node.specs.Table.{Node}
-use Rattle.worked_tests.specs.Tables.{recorded, number, chain_of_four}
+use Rattle.worked_tests.specs.Tables.{stated_node, number, chain_of_four}
 use Rattle.command_parts.specs.declared.edit.Edit.TheVariants.{New, Insert}
 use Rattle.span_certificate.specs.declared.row.Row.{Row}
 use Rattle.worked_tests.specs.Commands.{leaf_row}
@@ -14,7 +14,7 @@ use Rattle.session_checker.specs.declared.fault.CheckFault.{CheckFault}
 use Rattle.session_checker.specs.RevisionRules.{IsFirstRevisionFault}
 
 abbrev pub literal : ImageNode
-literal = record { node = recorded (Lit 0) 3 0; function = None }
+literal = record { node = stated_node (Lit 0) 3 0; function = None }
 
 abbrev pub empty_text : Revision
 empty_text = record { edit = New; mark = false; root = None; rows = 0 }

@@ -2,7 +2,7 @@
 
 ghost use Rattle.std.specs.Prelude.{◌≡◌, ℕ, ◌∷◌, [], codes, Some, None};
 ghost use Rattle.function_leaf.specs.declared.coded.Coded.{Coded};
-ghost use Rattle.worked_tests.specs.Tables.{number, literal_of, part_of_a_part, one_literal};
+ghost use Rattle.worked_tests.specs.Tables.{number, literal_of, part_of_a_part, abc_literal};
 ghost use Rattle.command_parts.specs.declared.part.Part.TheVariants.{Old, Pool};
 ghost use Rattle.command_parts.specs.Commands.{IsHistory, full_edit, result_of, New, Insert, Many};
 ghost use Rattle.command_parts.specs.declared.edit.Edit.TheVariants as Recorded;
@@ -56,11 +56,11 @@ fn leaf_row_covers_a_part_of_a_part()
 /// A row of two bytes leaves the third one uncovered; a row behind the end does not fit.
 fn second_row_is_the_first_that_is_bad()
     ensures uncovered { (coded : ℕ → Coded) → (source : ℕ → ℕ → ℕ)
-        → IsFirstBad one_literal coded source
-        (parts_of one_literal (None ∷ []) (Insert 0 0 0 3)) (Some (number 0)) (leaf_row 2 ∷ []) 1 }
+        → IsFirstBad abc_literal coded source
+        (parts_of abc_literal (None ∷ []) (Insert 0 0 0 3)) (Some (number 0)) (leaf_row 2 ∷ []) 1 }
     ensures past_the_end { (coded : ℕ → Coded) → (source : ℕ → ℕ → ℕ)
-        → IsFirstBad one_literal coded source
-        (parts_of one_literal (None ∷ []) (Insert 0 0 0 3)) (Some (number 0))
+        → IsFirstBad abc_literal coded source
+        (parts_of abc_literal (None ∷ []) (Insert 0 0 0 3)) (Some (number 0))
         (leaf_row 3 ∷ leaf_row 1 ∷ []) 1 }
 {}
 
@@ -68,5 +68,5 @@ fn second_row_is_the_first_that_is_bad()
 #[tactic(auto, using(crate::proofs::WorkedRows::row_of_another_place))]
 fn row_of_another_place_does_not_fit()
     ensures { (coded : ℕ → Coded) → (source : ℕ → ℕ → ℕ)
-        → ¬ Fits one_literal coded source (Pool 1 2 ∷ []) (Some (number 0)) 0 (leaf_row 2) }
+        → ¬ Fits abc_literal coded source (Pool 1 2 ∷ []) (Some (number 0)) 0 (leaf_row 2) }
 {}

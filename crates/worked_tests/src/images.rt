@@ -3,7 +3,7 @@
 ghost use Rattle.std.specs.Prelude.{◌≡◌, ◌∷◌, [], ◌++◌, take, slice_range, slice_set, Some, None};
 ghost use Rattle.image_reader.specs.declared.fault.ReadFault.TheVariants.{Truncated, Trailing, Version, Count, NonZeroPad, Kind};
 ghost use Rattle.image_reader.specs.Spelling.{source_spelling, node_spelling, revision_spelling, splice_spelling, row_spelling, spelling};
-ghost use Rattle.image_reader.specs.Reading.{image_of, fault_of};
+ghost use Rattle.image_reader.specs.Reading.{image_in, fault_of};
 ghost use Rattle.worked_tests.specs.Images.{literal, insertion, one_insert};
 ghost use Rattle.worked_tests.specs.Commands.{splice, leaf_row};
 
@@ -40,7 +40,7 @@ fn records_are_spelled_field_by_field()
 #[tactic(auto, unfolding(image_reader::specs::Layout::spelled, image_reader::specs::Layout::number_in, image_reader::specs::Layout::records, image_reader::specs::Spelling::view_spelling, image_reader::specs::Spelling::revision_spelling, image_reader::specs::Spelling::row_spelling, image_reader::specs::Spelling::spelling, image_reader::specs::Reading::view_of, image_reader::specs::Reading::function_of, image_reader::specs::Reading::revision_of, image_reader::specs::Reading::revisions_of, image_reader::specs::Reading::splice_of, image_reader::specs::Reading::row_of, image_reader::specs::Reading::sections_value))]
 fn one_insertion_is_spelled_and_read()
     ensures spelling { spelling one_insert ≡ ONE_INSERT.now }
-    ensures image { image_of ONE_INSERT.now ≡ one_insert }
+    ensures image { image_in ONE_INSERT.now ≡ one_insert }
 {}
 
 /// The first fault of the image cut short, made longer, or with one byte changed.

@@ -5,7 +5,7 @@ ghost use Rattle.worked_tests.specs.Keys.{cut_of_ab, seventeen_cuts, typed};
 ghost use Rattle.text_lines.specs.Lines.{line_end, line_start, place_down, place_up};
 ghost use Rattle.screen_editor.specs.State.{current, last_revision, start_of, text_of};
 ghost use Rattle.screen_editor.specs.Machine.{refused};
-ghost use Rattle.text_lines.specs.Screen.{cursor_of, row_of, status_of};
+ghost use Rattle.text_lines.specs.Screen.{cursor_of, screen_row, status_of};
 ghost use Rattle.screen_editor.specs.Frame.{frame_of};
 
 /// The last frame of `a`, `b`, undo, `c`.
@@ -24,7 +24,7 @@ fn typing_goes_on_from_the_text_that_undo_gave()
 #[tactic(auto, using(crate::proofs::WorkedFrames::end_of_81, crate::proofs::WorkedFrames::column_2))]
 fn long_line_is_shown_from_its_81st_byte()
     ensures place { line_end (replicate 80 0x78 ++ 0 ∷ []) 0 ≡ 81 }
-    ensures row { row_of (replicate 80 0x78 ++ 0 ∷ []) 81 0 ≡ codes "?" ++ 0x0D ∷ 0x0A ∷ [] }
+    ensures row { screen_row (replicate 80 0x78 ++ 0 ∷ []) 81 0 ≡ codes "?" ++ 0x0D ∷ 0x0A ∷ [] }
     ensures status { status_of 0 81 81 None ≡ codes "rev 0 byte 81 of 81" }
     ensures cursor { cursor_of (replicate 80 0x78 ++ 0 ∷ []) 81 ≡ 0x1B ∷ codes "[1;2H" }
 {}

@@ -6,7 +6,7 @@ ghost use Rattle.rope_node.specs.Denotes.{Byte, Place, cells, cell_at, text};
 ghost use Rattle.rope_node.specs.Path.{visits, span_at};
 ghost use Rattle.rope_node.specs.Balance.{IsBalanced};
 ghost use Rattle.rope_node.specs.declared.node.NodeView.TheVariants.{Cat};
-ghost use Rattle.worked_tests.specs.Tables.{recorded, number, chain_of_four, part_of_a_part, part_of_a_part_recorded, part_of_a_source, too_long_together};
+ghost use Rattle.worked_tests.specs.Tables.{stated_node, number, chain_of_four, part_of_a_part, part_of_a_part_recorded, part_of_a_source, too_long_together};
 
 /// The last two of the last three bytes of `abcd` are `cd`.
 fn part_of_a_part_denotes_its_bytes()
@@ -29,7 +29,7 @@ fn part_of_a_part_has_depth_three()
 /// A concatenation is as long as both its children.
 fn chain_of_four_has_length_four()
     ensures four { IsTrueNode chain_of_four (node_at chain_of_four 6) }
-    ensures five { ¬ IsTrueNode chain_of_four (recorded (Cat (number 4) (number 5)) 5 3) }
+    ensures five { ¬ IsTrueNode chain_of_four (stated_node (Cat (number 4) (number 5)) 5 3) }
 {}
 
 /// Two texts of the greatest length give none together, though the record is true.

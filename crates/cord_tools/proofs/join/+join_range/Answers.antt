@@ -7,7 +7,7 @@ use Rattle.rope_node.proofs.Ropes.{extends_through, rope_kept}
 use Rattle.node_table.specs.Held.{table_of}
 use Rattle.rebalance.proofs.AnyLaws.{rope_depth_kept}
 use Rattle.rebalance.proofs.StepLaws.{ok_map}
-use Rattle.cord_tools.specs.Files.{cells_of}
+use Rattle.cord_tools.specs.Files.{cells_of_sources}
 use Rattle.cord_tools.proofs.Halves.{JoinsHalves, half_levels, halves_joined, halves_refused, on_ok}
 use Rattle.cord_tools.proofs.Joined.{length_of_one, length_of_two, two_ranges}
 use Rattle.cord_tools.proofs.join.+join_range.Goals as goal
@@ -15,7 +15,7 @@ use Rattle.cord_tools.proofs.join.+join_range.Goals as goal
 pub returns-then-count-eq1-clause-short : goal.returns-then-count-eq1-clause-short
 returns-then-count-eq1-clause-short t c =
     let sizes = c.args.store.now.sources in
-    omega (arith, ap (λ (k : ℕ). length (cells_of sizes c.args.first k)) c.if-count-eq1.true, length_of_one sizes c.args.first, c.source_len-len.ensures.value, c.source_len-len.ensures.limit)
+    omega (arith, ap (λ (k : ℕ). length (cells_of_sources sizes c.args.first k)) c.if-count-eq1.true, length_of_one sizes c.args.first, c.source_len-len.ensures.value, c.source_len-len.ensures.limit)
 
 pub returns-in_err-left-clause-too_long : goal.returns-in_err-left-clause-too_long
 returns-in_err-left-clause-too_long t c is =
@@ -27,7 +27,7 @@ pub returns-in_err-right-clause-too_long : goal.returns-in_err-right-clause-too_
 returns-in_err-right-clause-too_long t c is =
     let p = err_from_is_err_and c.from_residual-in_err-right.result c.from_residual-in_err-right.ensures.1 in
     let half = c.args.count / 2 in
-    let own = ap (λ (ns : List ℕ). length (cells_of ns (c.args.first + half) (c.args.count - half))) c.in_ok-left.ensures.sources in
+    let own = ap (λ (ns : List ℕ). length (cells_of_sources ns (c.args.first + half) (c.args.count - half))) c.in_ok-left.ensures.sources in
     omega (arith, own, c.in_err-right.ensures.too_long (ap Err (sym p.2) ∙ sym p.1 ∙ is), length_of_two c.args.store.now.sources c.args.first half (c.args.count - half) c.args.count (omega arith))
 
 pub returns-in_err-right-clause-kept : goal.returns-in_err-right-clause-kept
@@ -53,13 +53,13 @@ whole t c = halves_joined c.join_range-2.new.store c.cat_any.new.store c.in_ok-l
     (left_shallow t c) (right_shallow t c) c.cat_any.ensures
 
 both : (t : ℕ) (c : goal.After-cat_any t)
-    → (rope_cells (table_of coded_byte c.join_range-2.new.store) c.in_ok-left.left ++ rope_cells (table_of coded_byte c.join_range-2.new.store) c.in_ok-right.right ≡ cells_of c.args.store.now.sources c.args.first c.args.count)
-    × (rope_len (table_of coded_byte c.join_range-2.new.store) c.in_ok-left.left + rope_len (table_of coded_byte c.join_range-2.new.store) c.in_ok-right.right ≡ length (cells_of c.args.store.now.sources c.args.first c.args.count))
+    → (rope_cells (table_of coded_byte c.join_range-2.new.store) c.in_ok-left.left ++ rope_cells (table_of coded_byte c.join_range-2.new.store) c.in_ok-right.right ≡ cells_of_sources c.args.store.now.sources c.args.first c.args.count)
+    × (rope_len (table_of coded_byte c.join_range-2.new.store) c.in_ok-left.left + rope_len (table_of coded_byte c.join_range-2.new.store) c.in_ok-right.right ≡ length (cells_of_sources c.args.store.now.sources c.args.first c.args.count))
 both t c =
     let half = c.args.count / 2 in
     two_ranges (table_of coded_byte c.join_range.new.store) (table_of coded_byte c.join_range-2.new.store) c.args.store.now.sources c.args.first half (c.args.count - half) c.args.count c.in_ok-left.left c.in_ok-right.right
     c.count-count-2.ensures.sound c.count-count-3.ensures.sound c.count-count-3.ensures.true_records c.in_ok-right.ensures.kept (omega arith) c.in_ok-left.ensures.is_rope c.in_ok-left.ensures.text c.in_ok-right.ensures.is_rope
-    (c.in_ok-right.ensures.text ∙ ap (λ (ns : List ℕ). cells_of ns (c.args.first + half) (c.args.count - half)) c.in_ok-left.ensures.sources)
+    (c.in_ok-right.ensures.text ∙ ap (λ (ns : List ℕ). cells_of_sources ns (c.args.first + half) (c.args.count - half)) c.in_ok-left.ensures.sources)
 
 pub returns-clause-text : goal.returns-clause-text
 returns-clause-text t c = ok_map c.cat_any.result (λ rope is. is ∙ (both t c).0) c.cat_any.ensures.gives.text

@@ -10,7 +10,7 @@ use Rattle.lazy_file.specs.SourceTexts.{Stated}
 use Rattle.image_reader.specs.Value.{image_table}
 use Rattle.cord_tools.specs.Answers.{OfRevision, SpellsFaithful, revision_cells}
 use Rattle.cord_tools.specs.Faults.{check_fault, put_fault}
-use Rattle.cord_tools.specs.Unread.{ReadsCells}
+use Rattle.cord_tools.specs.Unread.{ToolReadsCells}
 use Rattle.cord_tools.proofs.Bytes.{Keeps-same}
 use Rattle.cord_tools.proofs.RevisionCells.{root_cells, root_told}
 use Rattle.cord_tools.proofs.ToolFaults.{check_reads, check_refused, show_stopped, shows_none, text_reads}
@@ -65,7 +65,7 @@ returns-in_err-put-in-Some g c =
     let cells = root_cells v _ c.args.revision c.in-Some.root c.in-Some.ensures.there (omega (arith, there, c.revisions.ensures.count, c.revisions.type_inv)) in
     let P = AppendsPrefix (g.W.Write.contents c.args.writer.now) (g.W.Write.contents c.put.new.writer) in
     let e = c.in_err-put-in-Some.field-0.0 in
-    let whole : ReadsCells {X = Unit {0}} old new (revision_cells v c.args.revision) (Err (put_fault e)) =
+    let whole : ToolReadsCells {X = Unit {0}} old new (revision_cells v c.args.revision) (Err (put_fault e)) =
     put_read {X = Unit {0}} old new t c.in-Some.root (rope_len t c.in-Some.root) e (revision_cells v c.args.revision) cells (reads_then old mid new (InCells (rope_cell t c.in-Some.root) 0 (rope_len t c.in-Some.root)) (put_source_fault e) before c.in_err-put-in-Some.ensures.reads) in
     let spelled : SpellsFaithful c.in_ok-bytes.bytes.items old.stated v = record {
       accepted = rw c.deref.ensures.value at (c.in_ok-image.ensures.accepted refl);

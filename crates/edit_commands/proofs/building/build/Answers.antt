@@ -5,7 +5,7 @@ use Rattle.rope_node.specs.declared.node.NodeId.{NodeId}
 use Rattle.node_table.specs.Held.{table_of}
 use Rattle.edit_commands.specs.Building.{BuildsCommand}
 use Rattle.edit_commands.specs.Session.{roots_of}
-use Rattle.edit_commands.specs.Terms.{Term, AreTerms, Joins}
+use Rattle.edit_commands.specs.Terms.{Term, AreTerms, JoinsTerms}
 use Rattle.edit_commands.proofs.Accepted.{in_range, terms_are}
 use Rattle.edit_commands.proofs.BuiltCommands.{command_built, command_refused, terms_handed}
 use Rattle.rebalance.specs.declared.fault.BalanceFault.{BalanceFault}
@@ -30,7 +30,7 @@ returns-in_err-root c =
     let k = c.count-count.ensures in
     let p = err_from_is_err_and c.from_residual.result c.from_residual.ensures.1 in
     let fault = c.in_err-root.field-0.0 in
-    let joins = subst (λ (terms : List Term). Joins c.args.store.now terms (Err fault) c.join.new.places c.join.new.store) c.terms_of-terms.ensures.exact c.in_err-root.ensures in
+    let joins = subst (λ (terms : List Term). JoinsTerms c.args.store.now terms (Err fault) c.join.new.places c.join.new.store) c.terms_of-terms.ensures.exact c.in_err-root.ensures in
     subst (λ (r : Result (Option NodeId) BalanceFault). BuildsCommand c.args.store.now c.args.revisions.now c.args.command.now r c.join.new.places c.join.new.store) (sym (p.1 ∙ ap Err p.2))
     (command_refused c.args.store.now c.join.new.store c.args.revisions.now c.args.command.now (record { sound = k.sound; true_records = k.true_records }) c.requires.ropes c.requires.accepted c.requires.takes c.join.new.places fault joins)
 
@@ -38,6 +38,6 @@ pub returns : goal.returns
 returns c =
     let k = c.count-count.ensures in
     let k' = c.count-more.ensures in
-    let joins = subst (λ (terms : List Term). Joins c.args.store.now terms (Ok c.in_ok-root.root) c.join.new.places c.join.new.store) c.terms_of-terms.ensures.exact c.in_ok-root.ensures in
+    let joins = subst (λ (terms : List Term). JoinsTerms c.args.store.now terms (Ok c.in_ok-root.root) c.join.new.places c.join.new.store) c.terms_of-terms.ensures.exact c.in_ok-root.ensures in
     command_built c.args.store.now c.join.new.store c.args.revisions.now c.args.command.now (record { sound = k.sound; true_records = k.true_records }) c.requires.ropes c.requires.accepted c.requires.takes c.join.new.places
     c.in_ok-root.root c.terms_of-terms.ensures.bytes (record { sound = k'.sound; true_records = k'.true_records }) joins

@@ -1,7 +1,7 @@
 use Rattle.std.proofs.Common.{◌≡◌, List, ap, sym, subst, ◌∙◌}
 use Rattle.std.specs.Prelude.{IfOk}
 use Rattle.function_leaf.specs.Coded.{coded_byte}
-use Rattle.node_table.specs.Held.{table_of, coded_at}
+use Rattle.node_table.specs.Held.{table_of, held_coded}
 use Rattle.rope_node.specs.Denotes.{rope_cells}
 use Rattle.command_parts.specs.declared.part.Part.{Part}
 use Rattle.span_certificate.specs.declared.row.Row.{Row}
@@ -28,7 +28,7 @@ parts-known-requires-clause-in_range c =
 pub are_longest-requires-clause-covers : goal.are_longest-requires-clause-covers
 are_longest-requires-clause-covers c =
     let t = table_of coded_byte c.args.store.now in
-    let coded = coded_at c.args.store.now in
+    let coded = held_coded c.args.store.now in
     let says = c.over_its_own-own.ensures.says (splices_held c.args.revisions.now) c.args.splices.now c.requires.certified.names in
     let same = c.parts-known.ensures.exact ∙ ap (parts_of t (roots_of c.args.revisions.now)) says in
     subst (λ (ps : List Part). CoversAnyhow t coded ps c.args.root c.deref.result.now) (sym same)
@@ -93,4 +93,4 @@ returns-clause-too_many c = λ is.
     let t = table_of coded_byte c.args.store.now in
     let says = c.over_its_own-own.ensures.says (splices_held c.args.revisions.now) c.args.splices.now c.requires.certified.names in
     let same = c.parts-again.ensures.exact ∙ ap (parts_of t (roots_of c.args.revisions.now)) says in
-    subst (λ (ps : List Part). IsCutShort t (coded_at c.args.store.now) ps c.args.root) same (c.make_by.ensures.too_many is)
+    subst (λ (ps : List Part). IsCutShort t (held_coded c.args.store.now) ps c.args.root) same (c.make_by.ensures.too_many is)

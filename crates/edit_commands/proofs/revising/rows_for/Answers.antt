@@ -1,6 +1,6 @@
 use Rattle.std.proofs.Common.{List, length, ap, subst, ◌∙◌}
 use Rattle.function_leaf.specs.Coded.{coded_byte}
-use Rattle.node_table.specs.Held.{table_of, coded_at}
+use Rattle.node_table.specs.Held.{table_of, held_coded}
 use Rattle.command_parts.specs.declared.edit.Splice.{Splice}
 use Rattle.command_parts.specs.declared.part.Part.{Part}
 use Rattle.command_parts.specs.Commands.{full_edit}
@@ -21,5 +21,5 @@ returns c =
     ∙ ap (λ (ss : List Splice). full_edit ss (edit_with places 0 command)) c.requires.splices
     ∙ own_edit places command (c.requires.many ∙ ap length c.requires.splices) in
     let same = c.parts-parts.ensures.exact ∙ ap (parts_of t (roots_of c.args.revisions.now)) says in
-    subst (λ (ps : List Part). MakesRows (coded_at c.args.store.now) t ps c.args.root c.make_by.result) same
+    subst (λ (ps : List Part). MakesRows (held_coded c.args.store.now) t ps c.args.root c.make_by.result) same
     c.make_by.ensures

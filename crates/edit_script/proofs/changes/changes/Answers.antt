@@ -1,7 +1,7 @@
 use Rattle.std.proofs.Common.{length, sym, ◌∙◌}
 use Rattle.std.proofs.lemmas.Result.{err_from_is_err_and}
 use Rattle.edit_script.specs.Commands.{splice_words, splice_kinds}
-use Rattle.edit_script.specs.Handed.{splices_in}
+use Rattle.edit_script.specs.Handed.{placed_splices}
 use Rattle.edit_script.specs.Reading.{groups_at}
 use Rattle.edit_script.proofs.ChangeWords.{change_shrinks, ends_at, fails_at, next_words, sum_more}
 use Rattle.edit_script.proofs.changes.changes.Goals as goal
@@ -9,7 +9,7 @@ use Rattle.edit_script.proofs.changes.changes.Goals as goal
 pub returns-in_err-change-clause-read : goal.returns-in_err-change-clause-read
 returns-in_err-change-clause-read c =
     let p = err_from_is_err_and c.from_residual.result c.from_residual.ensures.1 in
-    rw (p.1, p.2) (fails_at c.in_err-change.field-0.0 (splice_words c.loop-rest.room.bytes.items (splices_in c.loop-rest.room.changes.items)) c.loop-rest.rest.now (groups_at (length c.args.line.now) splice_kinds c.args.line.now) (sym c.is_end.ensures ∙ c.loop-rest-test.true) c.in_err-change.ensures.read c.loop-rest.invariant.words)
+    rw (p.1, p.2) (fails_at c.in_err-change.field-0.0 (splice_words c.loop-rest.room.bytes.items (placed_splices c.loop-rest.room.changes.items)) c.loop-rest.rest.now (groups_at (length c.args.line.now) splice_kinds c.args.line.now) (sym c.is_end.ensures ∙ c.loop-rest-test.true) c.in_err-change.ensures.read c.loop-rest.invariant.words)
 
 pub loop-rest-smaller : goal.loop-rest-smaller
 loop-rest-smaller c = change_shrinks c.loop-rest.rest.now _ c.in_ok-change.behind.now c.in_ok-change.ensures.read
@@ -23,4 +23,4 @@ loop-rest-preserved c = record {
 
 pub returns-clause-read : goal.returns-clause-read
 returns-clause-read c =
-    ends_at (splice_words c.loop-rest.room.bytes.items (splices_in c.loop-rest.room.changes.items)) c.loop-rest.rest.now (groups_at (length c.args.line.now) splice_kinds c.args.line.now) (sym c.is_end.ensures ∙ c.loop-rest-test.false) c.loop-rest.invariant.words
+    ends_at (splice_words c.loop-rest.room.bytes.items (placed_splices c.loop-rest.room.changes.items)) c.loop-rest.rest.now (groups_at (length c.args.line.now) splice_kinds c.args.line.now) (sym c.is_end.ensures ∙ c.loop-rest-test.false) c.loop-rest.invariant.words

@@ -1,6 +1,6 @@
-use Rattle.image_reader.specs.Reading.{splices_in}
+use Rattle.image_reader.specs.Reading.{splice_count_in}
 use Rattle.image_reader.proofs.Counting.{IsCountedTo}
 use Rattle.image_reader.proofs.decode.counted_splices.Given as goal
 
 abbrev pub invariant-loop : goal.invariant-loop
-invariant-loop l = IsCountedTo splices_in l.count l.counter l.rest l.bytes l.sum
+invariant-loop l = IsCountedTo splice_count_in l.count l.counter l.rest l.bytes l.sum

@@ -2,7 +2,7 @@ use Rattle.std.proofs.Common.{refl, ap, sym, inl, inr, ◌⊎◌, ◌≡◌, ◌
 use Rattle.std.proofs.lemmas.Grind.{common_steps}
 use Rattle.std.specs.Prelude.{Ok}
 use Rattle.std.specs.Map.{keys_of}
-use Rattle.lazy_file.specs.DeviceTexts.{texts_of}
+use Rattle.lazy_file.specs.DeviceTexts.{stated_texts}
 use Rattle.lazy_file.proofs.BlockReads.{both_unread, one_unread, two_parts}
 use Rattle.lazy_file.proofs.UsedBlocks.{uses_last, within_block}
 use Rattle.lazy_file.proofs.device_blocks.read_short.Goals as goal
@@ -12,7 +12,7 @@ returns-clause-bytes g c =
     let front = c.read_in_block.new.part in
     let here : c.args.off / 4096 * 4096 + c.args.off % 4096 ≡ c.args.off = omega arith in
     let there : (c.args.off / 4096 + 1) * 4096 + 0 ≡ c.args.off + length front = grind (arith, common_steps) in
-    two_parts c.read_in_block-2.result (texts_of (map g.D.Device.reading c.args.devices.now)) (texts_of (map g.D.Device.reading c.read_in_block.new.devices)) c.args.s c.args.off (c.args.off / 4096 * 4096 + c.args.off % 4096) ((c.args.off / 4096 + 1) * 4096 + 0) front c.read_in_block-2.new.part c.in_ok-read_in_block.ensures.reads.same here there c.in_ok-read_in_block.ensures.bytes c.read_in_block-2.ensures.bytes
+    two_parts c.read_in_block-2.result (stated_texts (map g.D.Device.reading c.args.devices.now)) (stated_texts (map g.D.Device.reading c.read_in_block.new.devices)) c.args.s c.args.off (c.args.off / 4096 * 4096 + c.args.off % 4096) ((c.args.off / 4096 + 1) * 4096 + 0) front c.read_in_block-2.new.part c.in_ok-read_in_block.ensures.reads.same here there c.in_ok-read_in_block.ensures.bytes c.read_in_block-2.ensures.bytes
 
 pub returns-clause-keeps : goal.returns-clause-keeps
 returns-clause-keeps g c =

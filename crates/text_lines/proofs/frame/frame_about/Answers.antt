@@ -7,7 +7,7 @@ use Rattle.cord_position.specs.Fetched.{rope_cell}
 use Rattle.cord_search.proofs.Fetches.{told_before, text_length}
 use Rattle.text_lines.specs.declared.rows.TheConstants.{SCREEN_COLUMNS}
 use Rattle.text_lines.specs.HeldBytes.{AreHeld}
-use Rattle.text_lines.specs.Rows.{lines_from, rows_in}
+use Rattle.text_lines.specs.Rows.{lines_from, rows_on_screen}
 use Rattle.text_lines.proofs.HeldLaws.{known_held}
 use Rattle.text_lines.proofs.Screens.{screen_is}
 use Rattle.text_lines.proofs.Showing.{failed_part}
@@ -27,7 +27,7 @@ returns-clause-bytes g c source agrees stated =
     let window = c.in_ok-window.window in
     let left = SCREEN_COLUMNS * (window.column / SCREEN_COLUMNS) in
     let long : c.rope_len.result ≡ length u = c.rope_len.ensures.cells ∙ sym (text_length t c.args.rope source) in
-    let rows = told_before t (g.T.Sources.reading c.args.sources.now).stated (g.T.Sources.reading c.window_about.new.sources).stated c.args.rope 0 (rope_len t c.args.rope) (λ v. c.push_rows.new.out.items ≡ c.in_ok-out.out.items ++ rows_in (lines_from v (Some window.top)) left) (same_stated c.in_ok-window.ensures.reads) c.in_ok-push_rows.ensures.rows source agrees stated in
+    let rows = told_before t (g.T.Sources.reading c.args.sources.now).stated (g.T.Sources.reading c.window_about.new.sources).stated c.args.rope 0 (rope_len t c.args.rope) (λ v. c.push_rows.new.out.items ≡ c.in_ok-out.out.items ++ rows_on_screen (lines_from v (Some window.top)) left) (same_stated c.in_ok-window.ensures.reads) c.in_ok-push_rows.ensures.rows source agrees stated in
     screen_is u c.args.place c.args.revision window.top window.row window.column left c.rope_len.result (option_map (λ m. m.now) c.args.message) c.in_ok-out.out.items c.push_rows.new.out.items c.as_bytes.result.now c.extend_from_slice.new.self.items c.as_bytes-2.result.now c.extend_from_slice-2.new.self.items
     (c.in_ok-window.ensures.is source agrees stated) refl long c.in_ok-out.ensures.items rows
     (c.as_bytes.ensures.value ∙ c.in_ok-line.ensures) c.in_ok-extend_from_slice.ensures.items (c.as_bytes-2.ensures.value ∙ c.in_ok-end.ensures) c.in_ok-extend_from_slice-2.ensures.items

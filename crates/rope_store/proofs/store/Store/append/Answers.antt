@@ -4,7 +4,7 @@ use Rattle.rope_node.specs.declared.limits.TheConstants.{TEXT_LIMIT}
 use Rattle.rope_node.specs.Denotes.{rope_len}
 use Rattle.node_table.specs.Held.{table_of}
 use Rattle.node_table.specs.Held.{IsKept}
-use Rattle.rope_store.specs.Appending.{Appends, IsTooLong}
+use Rattle.rope_store.specs.Appending.{Appends, AppendsTooLong}
 use Rattle.rope_store.proofs.AppendedTexts.{appends_nothing, appends_none, appends_first, appends_node}
 use Rattle.rope_store.proofs.store.Store.append.Goals as goal
 
@@ -22,7 +22,7 @@ returns-in-None g c =
     let bytes = c.args.bytes.now in
     let fits : length bytes ≤ BLOCK_SIZE = omega arith in
     let short : length bytes < TEXT_LIMIT = omega (arith, fits) in
-    let fine : ¬ IsTooLong t None bytes = λ long. ⊎_elim (λ (many : BLOCK_SIZE < length bytes). absurd (omega (arith, many, fits))) (λ (far : TEXT_LIMIT ≤ 0 + length bytes). absurd (omega (arith, far, short))) long in
+    let fine : ¬ AppendsTooLong t None bytes = λ long. ⊎_elim (λ (many : BLOCK_SIZE < length bytes). absurd (omega (arith, many, fits))) (λ (far : TEXT_LIMIT ≤ 0 + length bytes). absurd (omega (arith, far, short))) long in
     subst (λ x. Appends g.F.LeafFn.meaning c.args.self.now x bytes c.put_merged.result c.put_merged.new.self) (sym c.in-None.is)
     (appends_first g.F.LeafFn.meaning c.args.self.now bytes c.put_merged.result c.put_merged.new.self (omega arith) fine c.put_merged.ensures.makes c.put_merged.ensures.refuses)
 
@@ -32,9 +32,9 @@ returns-in-Some g c =
     let bytes = c.args.bytes.now in
     let fits : length bytes ≤ BLOCK_SIZE = omega arith in
     let short : rope_len t c.args.x + length bytes < TEXT_LIMIT = omega (arith, c.len-before.ensures.exact) in
-    let fine : ¬ IsTooLong t c.args.x bytes = λ long. ⊎_elim (λ (many : BLOCK_SIZE < length bytes). absurd (omega (arith, many, fits))) (λ (far : TEXT_LIMIT ≤ rope_len t c.args.x + length bytes). absurd (omega (arith, far, short))) long in
+    let fine : ¬ AppendsTooLong t c.args.x bytes = λ long. ⊎_elim (λ (many : BLOCK_SIZE < length bytes). absurd (omega (arith, many, fits))) (λ (far : TEXT_LIMIT ≤ rope_len t c.args.x + length bytes). absurd (omega (arith, far, short))) long in
     subst (λ x. Appends g.F.LeafFn.meaning c.args.self.now x bytes c.append_to.result c.append_to.new.self) (sym c.in-Some.is)
-    (appends_node g.F.LeafFn.meaning c.args.self.now c.in-Some.node bytes c.append_to.result c.append_to.new.self (omega arith) (subst (λ x. ¬ IsTooLong t x bytes) c.in-Some.is fine) c.append_to.ensures)
+    (appends_node g.F.LeafFn.meaning c.args.self.now c.in-Some.node bytes c.append_to.result c.append_to.new.self (omega arith) (subst (λ x. ¬ AppendsTooLong t x bytes) c.in-Some.is fine) c.append_to.ensures)
 
 pub returns-then-before-count-ge-TEXT_LIMIT : goal.returns-then-before-count-ge-TEXT_LIMIT
 returns-then-before-count-ge-TEXT_LIMIT g c =

@@ -5,7 +5,7 @@ use Rattle.node_table.specs.Held.{table_of}
 use Rattle.rope_store.specs.declared.endings.Ending.{Ending}
 use Rattle.node_table.specs.Held.{IsKept}
 use Rattle.rope_store.specs.Additions.{Addition}
-use Rattle.rope_store.specs.Appending.{grown, place_of}
+use Rattle.rope_store.specs.Appending.{grown, literal_place}
 use Rattle.rope_store.proofs.Growth.{holds_of, sound_of, true_of}
 use Rattle.rope_store.proofs.Made.{makes_as}
 use Rattle.rope_store.proofs.LastLiterals.{ending_found, longer_text}
@@ -54,7 +54,7 @@ returns-in-Some g c =
     let sound = sound_of g.F.LeafFn.meaning h holds store.pool in
     let ending = ending_found t sound (true_of g.F.LeafFn.meaning h holds) c.args.x c.requires.there e c.in-Some.ensures.some.ending in
     let bytes = c.args.bytes.now in
-    let longer : Ending → Addition g.row.F.Denot = λ k. grown t k.before (place_of (view_at t k.literal.0)) (len_at t k.literal.0) bytes in
+    let longer : Ending → Addition g.row.F.Denot = λ k. grown t k.before (literal_place (view_at t k.literal.0)) (len_at t k.literal.0) bytes in
     record {
       addition = longer e;
       is = record {

@@ -9,7 +9,7 @@ use Rattle.node_table.specs.Held.{IsKept}
 use Rattle.node_table.specs.Records.{literal_record, concatenation_record}
 use Rattle.rope_store.specs.Additions.{Addition, new_node}
 use Rattle.rope_store.specs.Joining.{piece}
-use Rattle.rope_store.specs.Appending.{grown, place_of}
+use Rattle.rope_store.specs.Appending.{grown, literal_place}
 use Rattle.rope_store.proofs.Made.{grown_makes, makes_as, refuses_as, grown_leaf_refuses, grown_pair_refuses}
 use Rattle.rope_store.proofs.GrownTexts.{grown_good, grown_one, grown_two}
 use Rattle.rope_store.proofs.store.Store.grow.Goals as goal
@@ -48,7 +48,7 @@ returns-in-None g c = record {
       let store = subst (λ k. IsKept g.F.LeafFn.meaning k) c.self.view_is c.self.invariant in
       let x = c.args.ending.literal in
       let short = subst (λ b. rope_len t b + (len_at t x.0 + length c.args.bytes.now) < TEXT_LIMIT) c.in-None.is c.requires.short in
-      let whole : (b : Option NodeId) → Addition g.row.F.Denot = λ b. grown t b (place_of (view_at t x.0)) (len_at t x.0) c.args.bytes.now in
+      let whole : (b : Option NodeId) → Addition g.row.F.Denot = λ b. grown t b (literal_place (view_at t x.0)) (len_at t x.0) c.args.bytes.now in
       let read : (b : Option NodeId) → List Cell = λ b. rope_cells t b ++ map Byte (piece t x ++ c.args.bytes.now) in
       makes_as (ap whole c.in-None.is) (ap read (sym c.in-None.is))
       (grown_makes g.F.LeafFn.meaning h (whole None) (read None) c.args.bytes.now (whole None).records (c.literal-longer.result ∷ []) store refl
@@ -60,9 +60,9 @@ returns-in-None g c = record {
       let t = table_of g.F.LeafFn.meaning h in
       let x = c.args.ending.literal in
       let bytes = c.args.bytes.now in
-      let whole : (b : Option NodeId) → Addition g.row.F.Denot = λ b. grown t b (place_of (view_at t x.0)) (len_at t x.0) bytes in
+      let whole : (b : Option NodeId) → Addition g.row.F.Denot = λ b. grown t b (literal_place (view_at t x.0)) (len_at t x.0) bytes in
       refuses_as (ap whole c.in-None.is)
-      (grown_leaf_refuses h (whole None) bytes (literal_record (place_of (view_at t x.0)) (len_at t x.0 + length bytes)) c.literal-longer.result refl refl c.requires.grows.1.limit
+      (grown_leaf_refuses h (whole None) bytes (literal_record (literal_place (view_at t x.0)) (len_at t x.0 + length bytes)) c.literal-longer.result refl refl c.requires.grows.1.limit
       (grown_one t x bytes c.literal-longer.result c.literal-longer.ensures (ap (λ (p : Piece). p.start) c.requires.piece) (ap (λ (p : Piece). p.len) c.requires.piece)) c.make_grown.result c.make_grown.ensures.table_full c.make_grown.ensures.faults);
 }
 
@@ -81,7 +81,7 @@ returns-in-Some g c = record {
       let len : c.len.result ≡ len_at t l.0 = rw c.self.view_is at c.len.ensures.value in
       let depth : c.depth-depth.result ≡ depth_at t l.0 = rw c.self.view_is at c.depth-depth.ensures.value in
       let same = grown_two t x l c.args.bytes.now c.count.result c.len.result c.depth-depth.result c.literal-longer.result c.concatenation.result c.literal-longer.ensures c.concatenation.ensures (ap (λ (p : Piece). p.start) c.requires.piece) (ap (λ (p : Piece). p.len) c.requires.piece) first len depth in
-      let whole : (b : Option NodeId) → Addition g.row.F.Denot = λ b. grown t b (place_of (view_at t x.0)) (len_at t x.0) c.args.bytes.now in
+      let whole : (b : Option NodeId) → Addition g.row.F.Denot = λ b. grown t b (literal_place (view_at t x.0)) (len_at t x.0) c.args.bytes.now in
       let read : (b : Option NodeId) → List Cell = λ b. rope_cells t b ++ map Byte (piece t x ++ c.args.bytes.now) in
       makes_as (ap whole c.in-Some.is) (ap read (sym c.in-Some.is))
       (grown_makes g.F.LeafFn.meaning h (whole (Some l)) (read (Some l)) c.args.bytes.now (whole (Some l)).records (c.literal-longer.result ∷ c.concatenation.result ∷ []) store refl
@@ -98,8 +98,8 @@ returns-in-Some g c = record {
       let len : c.len.result ≡ len_at t l.0 = rw c.self.view_is at c.len.ensures.value in
       let depth : c.depth-depth.result ≡ depth_at t l.0 = rw c.self.view_is at c.depth-depth.ensures.value in
       let same = grown_two t x l bytes c.count.result c.len.result c.depth-depth.result c.literal-longer.result c.concatenation.result c.literal-longer.ensures c.concatenation.ensures (ap (λ (p : Piece). p.start) c.requires.piece) (ap (λ (p : Piece). p.len) c.requires.piece) first len depth in
-      let whole : (b : Option NodeId) → Addition g.row.F.Denot = λ b. grown t b (place_of (view_at t x.0)) (len_at t x.0) bytes in
+      let whole : (b : Option NodeId) → Addition g.row.F.Denot = λ b. grown t b (literal_place (view_at t x.0)) (len_at t x.0) bytes in
       refuses_as (ap whole c.in-Some.is)
-      (grown_pair_refuses h (whole (Some l)) bytes (literal_record (place_of (view_at t x.0)) (len_at t x.0 + length bytes)) (concatenation_record l (new_node t 0) (len_at t l.0 + (len_at t x.0 + length bytes)) (1 + depth_at t l.0)) c.literal-longer.result c.concatenation.result
+      (grown_pair_refuses h (whole (Some l)) bytes (literal_record (literal_place (view_at t x.0)) (len_at t x.0 + length bytes)) (concatenation_record l (new_node t 0) (len_at t l.0 + (len_at t x.0 + length bytes)) (1 + depth_at t l.0)) c.literal-longer.result c.concatenation.result
       refl refl shallow c.requires.grows.1.limit same c.make_grown-in-Some.result c.make_grown-in-Some.ensures.table_full c.make_grown-in-Some.ensures.faults);
 }
