@@ -1,8 +1,8 @@
 -- Texts with splices: what the test of splices tells, the result's length, and that the pieces joined are the result.
 use Rattle.std.proofs.Common.{◌≡◌, ℕ, ◌+◌, ◌-◌, ◌≤◌, List, [], ◌∷◌, ◌++◌, length, take, drop, Option, refl, sym, ap, ◌∙◌, arith, append_assoc}
-use Rattle.std.specs.Prelude.{Bool, true, false, IsTrue, ◌&&◌, ◌||◌, ◌==◌, nat_le, nat_lt}
+use Rattle.std.specs.Prelude.{true, IsTrue, ◌&&◌, ◌||◌, ◌==◌, nat_le, nat_lt}
 use Rattle.std.specs.List.{flat_map, sum_by, AllByRecursion, list_all}
-use Rattle.std.proofs.lemmas.Bool.{leb-true, le-leb}
+use Rattle.std.proofs.lemmas.Bool.{leb-true, le-leb, and_parts}
 use Rattle.std.proofs.lemmas.List.{length-append, length-take, length-take-le, length-drop, take-append-le, take-append-drop, take-take, take_all, append-nil}
 use Rattle.std.proofs.lemmas.List.Sums.{sum_by-cons}
 use Rattle.std.proofs.Math.Seq.{take-add, drop-append_seam}
@@ -13,12 +13,9 @@ use Rattle.command_parts.specs.declared.edit.Splice.{Splice}
 use Rattle.command_parts.specs.declared.edit.TheConstants.{MOST_SPLICES}
 use Rattle.command_parts.specs.Commands.{Givens, is_splice, stands_before, are_apart, can_splice, replaced, replaced_each}
 use Rattle.command_parts.specs.Parts.{part_things, pieces, Follow, IsInside}
+use Rattle.std.specs.Cmp.Derive.{both_true}
 
 -- ---- what the test tells
-
-both : (a b : Bool) → (a && b) ≡ true → (a ≡ true) × (b ≡ true)
-both true b h = (refl, h)
-both false b h = absurd cc
 
 -- a splice is one of a text and a pool of these lengths
 pub record FitsSplice (pool_len len : ℕ) (s : Splice) : Type 0 where
@@ -27,9 +24,9 @@ pub record FitsSplice (pool_len len : ℕ) (s : Splice) : Type 0 where
 
 fits_splice : (pool_len len : ℕ) (s : Splice) → is_splice pool_len len s ≡ true → FitsSplice pool_len len s
 fits_splice pool_len len s h =
-    let some = both (nat_le (s.p + s.m) len && nat_le (s.a + s.n) pool_len && nat_le 1 (s.m + s.n)) (nat_le 1 s.n || s.a == 0) h in
-    let given = both (nat_le (s.p + s.m) len && nat_le (s.a + s.n) pool_len) (nat_le 1 (s.m + s.n)) some.0 in
-    let inside = both (nat_le (s.p + s.m) len) (nat_le (s.a + s.n) pool_len) given.0 in
+    let some = and_parts (nat_le (s.p + s.m) len && nat_le (s.a + s.n) pool_len && nat_le 1 (s.m + s.n)) (nat_le 1 s.n || s.a == 0) h in
+    let given = and_parts (nat_le (s.p + s.m) len && nat_le (s.a + s.n) pool_len) (nat_le 1 (s.m + s.n)) some.0 in
+    let inside = and_parts (nat_le (s.p + s.m) len) (nat_le (s.a + s.n) pool_len) given.0 in
     record { inside = leb-true _ _ inside.0; pooled = leb-true _ _ inside.1 }
 
 -- the splices' bytes lie in a pool of this length
@@ -47,19 +44,19 @@ BeginsFrom k (s ∷ splices) = k ≤ s.p
 
 begins_behind : (s : Splice) (splices : List Splice) → stands_before s splices ≡ true → BeginsFrom (s.p + s.m) splices
 begins_behind s [] h = tt
-begins_behind s (u ∷ splices) h = leb-true (s.p + s.m) u.p (both (nat_lt s.p u.p) (nat_le (s.p + s.m) u.p) h).1
+begins_behind s (u ∷ splices) h = leb-true (s.p + s.m) u.p (and_parts (nat_lt s.p u.p) (nat_le (s.p + s.m) u.p) h).1
 
 follow_of : (pool_len len k : ℕ) (splices : List Splice) → list_all (is_splice pool_len len) splices ≡ true → are_apart splices ≡ true → BeginsFrom k splices → k ≤ len → Follow len k splices
 follow_of pool_len len k [] fit apart begins le = le
 follow_of pool_len len k (s ∷ splices) fit apart begins le =
-    let each = both (is_splice pool_len len s) (list_all (is_splice pool_len len) splices) fit in
-    let order = both (stands_before s splices) (are_apart splices) apart in
+    let each = and_parts (is_splice pool_len len s) (list_all (is_splice pool_len len) splices) fit in
+    let order = and_parts (stands_before s splices) (are_apart splices) apart in
     (begins, follow_of pool_len len (s.p + s.m) splices each.1 order.1 (begins_behind s splices order.0) (fits_splice pool_len len s each.0).inside)
 
 pooled_of : (pool_len len : ℕ) (splices : List Splice) → list_all (is_splice pool_len len) splices ≡ true → ArePooled pool_len splices
 pooled_of pool_len len [] fit = tt
 pooled_of pool_len len (s ∷ splices) fit =
-    let each = both (is_splice pool_len len s) (list_all (is_splice pool_len len) splices) fit in
+    let each = and_parts (is_splice pool_len len s) (list_all (is_splice pool_len len) splices) fit in
     ((fits_splice pool_len len s each.0).pooled, pooled_of pool_len len splices each.1)
 
 begins_from_start : (splices : List Splice) → BeginsFrom 0 splices
@@ -75,9 +72,9 @@ pub record AreSplices (pool_len len : ℕ) (splices : List Splice) : Type 0 wher
 
 pub are_splices : (pool_len len : ℕ) (splices : List Splice) → IsTrue (can_splice pool_len len splices) → AreSplices pool_len len splices
 are_splices pool_len len splices h =
-    let apart = both (nat_le 1 (length splices) && nat_le (length splices) MOST_SPLICES && list_all (is_splice pool_len len) splices) (are_apart splices) h in
-    let fit = both (nat_le 1 (length splices) && nat_le (length splices) MOST_SPLICES) (list_all (is_splice pool_len len) splices) apart.0 in
-    let few = both (nat_le 1 (length splices)) (nat_le (length splices) MOST_SPLICES) fit.0 in
+    let apart = and_parts (nat_le 1 (length splices) && nat_le (length splices) MOST_SPLICES && list_all (is_splice pool_len len) splices) (are_apart splices) h in
+    let fit = and_parts (nat_le 1 (length splices) && nat_le (length splices) MOST_SPLICES) (list_all (is_splice pool_len len) splices) apart.0 in
+    let few = and_parts (nat_le 1 (length splices)) (nat_le (length splices) MOST_SPLICES) fit.0 in
     record {
       some = leb-true _ _ few.0;
       few = leb-true _ _ few.1;
@@ -87,29 +84,25 @@ are_splices pool_len len splices h =
 
 -- ---- a pool that grows
 
-and_of : (a b : Bool) → a ≡ true → b ≡ true → (a && b) ≡ true
-and_of true b h k = k
-and_of false b h k = absurd cc
-
 splice_kept : (old new len : ℕ) (s : Splice) → old ≤ new → is_splice old len s ≡ true → is_splice new len s ≡ true
 splice_kept old new len s le h =
-    let some = both (nat_le (s.p + s.m) len && nat_le (s.a + s.n) old && nat_le 1 (s.m + s.n)) (nat_le 1 s.n || s.a == 0) h in
-    let given = both (nat_le (s.p + s.m) len && nat_le (s.a + s.n) old) (nat_le 1 (s.m + s.n)) some.0 in
-    let inside = both (nat_le (s.p + s.m) len) (nat_le (s.a + s.n) old) given.0 in
+    let some = and_parts (nat_le (s.p + s.m) len && nat_le (s.a + s.n) old && nat_le 1 (s.m + s.n)) (nat_le 1 s.n || s.a == 0) h in
+    let given = and_parts (nat_le (s.p + s.m) len && nat_le (s.a + s.n) old) (nat_le 1 (s.m + s.n)) some.0 in
+    let inside = and_parts (nat_le (s.p + s.m) len) (nat_le (s.a + s.n) old) given.0 in
     let pooled : s.a + s.n ≤ old = leb-true _ _ inside.1 in
-    and_of _ _ (and_of _ _ (and_of _ _ inside.0 (le-leb (s.a + s.n) new (omega (arith, pooled, le)))) given.1) some.1
+    both_true (both_true (both_true inside.0 (le-leb (s.a + s.n) new (omega (arith, pooled, le)))) given.1) some.1
 
 splices_kept : (old new len : ℕ) (splices : List Splice) → old ≤ new → list_all (is_splice old len) splices ≡ true → list_all (is_splice new len) splices ≡ true
 splices_kept old new len [] le h = refl
 splices_kept old new len (s ∷ splices) le h =
-    let each = both (is_splice old len s) (list_all (is_splice old len) splices) h in
-    and_of _ _ (splice_kept old new len s le each.0) (splices_kept old new len splices le each.1)
+    let each = and_parts (is_splice old len s) (list_all (is_splice old len) splices) h in
+    both_true (splice_kept old new len s le each.0) (splices_kept old new len splices le each.1)
 
 pub can_splice_kept : (old new len : ℕ) (splices : List Splice) → old ≤ new → IsTrue (can_splice old len splices) → IsTrue (can_splice new len splices)
 can_splice_kept old new len splices le h =
-    let apart = both (nat_le 1 (length splices) && nat_le (length splices) MOST_SPLICES && list_all (is_splice old len) splices) (are_apart splices) h in
-    let fit = both (nat_le 1 (length splices) && nat_le (length splices) MOST_SPLICES) (list_all (is_splice old len) splices) apart.0 in
-    and_of _ _ (and_of _ _ fit.0 (splices_kept old new len splices le fit.1)) apart.1
+    let apart = and_parts (nat_le 1 (length splices) && nat_le (length splices) MOST_SPLICES && list_all (is_splice old len) splices) (are_apart splices) h in
+    let fit = and_parts (nat_le 1 (length splices) && nat_le (length splices) MOST_SPLICES) (list_all (is_splice old len) splices) apart.0 in
+    both_true (both_true fit.0 (splices_kept old new len splices le fit.1)) apart.1
 
 -- ---- the result
 
@@ -126,7 +119,7 @@ replaced_as pool t len k behind whole s le fits =
     rw (front, back, split) (simp append_assoc)
 
 -- the lengths that are replaced lie one behind the other
-follow_sum : (len k : ℕ) (splices : List Splice) → Follow len k splices → k + sum_by (λ (s : Splice). s.m) splices ≤ len
+pub follow_sum : (len k : ℕ) (splices : List Splice) → Follow len k splices → k + sum_by (λ (s : Splice). s.m) splices ≤ len
 follow_sum len k [] f = omega (arith, f)
 follow_sum len k (s ∷ splices) f =
     let later = follow_sum len (s.p + s.m) splices f.1 in

@@ -2,7 +2,7 @@
 use Rattle.std.proofs.Common.{◌≡◌, ℕ, ◌+◌, ◌-◌, ◌<◌, ◌≤◌, Bool, true, false, List, [], ◌∷◌, ◌++◌, length, map, take, drop, Option, Some, None, refl, sym, ap, subst, ◌∙◌, arith, append-nil}
 use Rattle.std.specs.Prelude.{IsTrue, get_or, replicate, nat_le, nat_lt, ◌||◌, ◌==◌}
 use Rattle.std.specs.List.{list_any, AllByRecursion, range_with_len}
-use Rattle.std.proofs.lemmas.Bool.{ltb-false, leb-false}
+use Rattle.std.proofs.lemmas.Bool.{ltb-false, leb-false, or_parts}
 use Rattle.std.proofs.lemmas.List.{length-append, length-map, length-take, length-replicate, take_all}
 use Rattle.std.proofs.lemmas.List.FromFn.{length-range_with_len}
 use Rattle.function_leaf.specs.declared.coded.Coded.{Coded}
@@ -38,10 +38,6 @@ use Rattle.edit_commands.proofs.HandedChanges.{are_fine, can_follow, can_splice_
 
 -- ---- the tests, none of which holds
 
-or_false : (a b : Bool) → (a || b) ≡ false → (a ≡ false) × (b ≡ false)
-or_false true b none = absurd cc
-or_false false b none = (refl, none)
-
 none_of : (b : Bool) (f : EditFault) (rest : List (Bool × EditFault)) → first_that_holds ((b, f) ∷ rest) ≡ None → (b ≡ false) × (first_that_holds rest ≡ None)
 none_of true f rest none = absurd cc
 none_of false f rest none = (refl, none)
@@ -76,9 +72,9 @@ passes v command none =
     let sixth = none_of (is_full v) TooManyRevisions many fifth.1 in
     let seventh = none_of (is_full_of_splices v command) TooManySplices long sixth.1 in
     let last = none_of (is_too_long v command) (Node NodeFault.TooLong) [] seventh.1 in
-    let range = or_false (list_any (λ (e : ℕ × ℕ). nat_lt (length_at v e.0) e.1) (ends_of command)) (are_misplaced v command) fourth.0 in
-    let text = or_false (is_empty_text (bytes_of command)) (list_any changes_nothing (changes_of command)) fifth.0 in
-    let short = or_false (nat_le TEXT_LIMIT (result_len v command) || is_long_text (bytes_of command)) (list_any (λ (c : Change). nat_lt BLOCK_SIZE c.n) (changes_of command)) last.0 in
+    let range = or_parts (list_any (λ (e : ℕ × ℕ). nat_lt (length_at v e.0) e.1) (ends_of command)) (are_misplaced v command) fourth.0 in
+    let text = or_parts (is_empty_text (bytes_of command)) (list_any changes_nothing (changes_of command)) fifth.0 in
+    let short = or_parts (nat_le TEXT_LIMIT (result_len v command) || is_long_text (bytes_of command)) (list_any (λ (c : Change). nat_lt BLOCK_SIZE c.n) (changes_of command)) last.0 in
     record {
       named = first.0;
       count = second.0;
@@ -95,10 +91,10 @@ passes v command none =
 
 -- a number that a list of one or two is tested for
 below : (n r : ℕ) (rest : Bool) → (nat_le n r || rest) ≡ false → (r < n) × (rest ≡ false)
-below n r rest none = let both = or_false (nat_le n r) rest none in (leb-false n r both.0, both.1)
+below n r rest none = let both = or_parts (nat_le n r) rest none in (leb-false n r both.0, both.1)
 
 reached : (n end : ℕ) (rest : Bool) → (nat_lt n end || rest) ≡ false → (end ≤ n) × (rest ≡ false)
-reached n end rest none = let both = or_false (nat_lt n end) rest none in (ltb-false n end both.0, both.1)
+reached n end rest none = let both = or_parts (nat_lt n end) rest none in (ltb-false n end both.0, both.1)
 
 some_bytes : (bytes : List ℕ) → (length bytes == 0) ≡ false → 1 ≤ length bytes
 some_bytes [] none = absurd cc
@@ -109,7 +105,7 @@ some_bytes (b ∷ bs) none = omega arith
 each_few : (changes : List Change) → list_any (λ (c : Change). nat_lt BLOCK_SIZE c.n) changes ≡ false → AllByRecursion (λ (c : Change). c.n ≤ BLOCK_SIZE) changes
 each_few [] none = tt
 each_few (c ∷ changes) none =
-    let each = or_false (nat_lt BLOCK_SIZE c.n) (list_any (λ (d : Change). nat_lt BLOCK_SIZE d.n) changes) none in
+    let each = or_parts (nat_lt BLOCK_SIZE c.n) (list_any (λ (d : Change). nat_lt BLOCK_SIZE d.n) changes) none in
     (ltb-false BLOCK_SIZE c.n each.0, each_few changes each.1)
 
 pub in_range : (old : Held Coded) (revisions : List Revision) (command : Command) → refusal_of (record { held = old; revisions = revisions }) command ≡ None → TakesAll command → IsCommandInRange (table_of coded_byte old) (roots_of revisions) command
@@ -122,7 +118,7 @@ in_range old revisions (Insert r p bytes) accepted takes =
     let ok = passes v (Insert r p bytes) accepted in
     let named = (below (length revisions) r false ok.named).0 in
     let inside = (reached (length_at v r) p false ok.inside).0 in
-    let long = or_false _ _ ok.short in
+    let long = or_parts _ _ ok.short in
     let short = leb-false TEXT_LIMIT (result_len v (Insert r p bytes)) long.0 in
     (omega (arith, named, length-map revisions (λ (w : Revision). w.root)), inside, some_bytes bytes.now ok.some, ltb-false BLOCK_SIZE (length bytes.now) long.1, short)
 in_range old revisions (Delete r p n) accepted takes =
@@ -135,7 +131,7 @@ in_range old revisions (Replace r p m bytes) accepted takes =
     let ok = passes v (Replace r p m bytes) accepted in
     let named = (below (length revisions) r false ok.named).0 in
     let inside = (reached (length_at v r) (p + m) false ok.inside).0 in
-    let long = or_false _ _ ok.short in
+    let long = or_parts _ _ ok.short in
     let short = leb-false TEXT_LIMIT (result_len v (Replace r p m bytes)) long.0 in
     (omega (arith, named, length-map revisions (λ (w : Revision). w.root)), inside, some_bytes bytes.now ok.some, ltb-false BLOCK_SIZE (length bytes.now) long.1, omega (arith, short, inside))
 in_range old revisions (Paste r p q i n) accepted takes =
@@ -144,7 +140,7 @@ in_range old revisions (Paste r p q i n) accepted takes =
     let first = below (length revisions) r _ ok.named in
     let other = (below (length revisions) q false first.1).0 in
     let ends = reached (length_at v r) p _ ok.inside in
-    let short = leb-false TEXT_LIMIT (result_len v (Paste r p q i n)) (or_false _ _ ok.short).0 in
+    let short = leb-false TEXT_LIMIT (result_len v (Paste r p q i n)) (or_parts _ _ ok.short).0 in
     let count = length-map revisions (λ (w : Revision). w.root) in
     (omega (arith, first.0, count), ends.0, omega (arith, other, count), (reached (length_at v q) (i + n) false ends.1).0, short)
 in_range old revisions (Join r q) accepted takes =
@@ -153,7 +149,7 @@ in_range old revisions (Join r q) accepted takes =
     let first = below (length revisions) r _ ok.named in
     let other = (below (length revisions) q false first.1).0 in
     let count = length-map revisions (λ (w : Revision). w.root) in
-    (omega (arith, first.0, count), omega (arith, other, count), leb-false TEXT_LIMIT (result_len v (Join r q)) (or_false _ _ ok.short).0)
+    (omega (arith, first.0, count), omega (arith, other, count), leb-false TEXT_LIMIT (result_len v (Join r q)) (or_parts _ _ ok.short).0)
 in_range old revisions (Cut r i n) accepted takes =
     let v : SessionValue = record { held = old; revisions = revisions } in
     let ok = passes v (Cut r i n) accepted in
@@ -164,7 +160,7 @@ in_range old revisions (Fill r p c n) accepted takes =
     let ok = passes v (Fill r p c n) accepted in
     let named = (below (length revisions) r false ok.named).0 in
     let inside = (reached (length_at v r) p false ok.inside).0 in
-    (omega (arith, named, length-map revisions (λ (w : Revision). w.root)), inside, leb-false TEXT_LIMIT (result_len v (Fill r p c n)) (or_false _ _ ok.short).0)
+    (omega (arith, named, length-map revisions (λ (w : Revision). w.root)), inside, leb-false TEXT_LIMIT (result_len v (Fill r p c n)) (or_parts _ _ ok.short).0)
 in_range old revisions (Back r) accepted takes =
     let ok = passes (record { held = old; revisions = revisions }) (Back r) accepted in
     omega (arith, (below (length revisions) r false ok.named).0, length-map revisions (λ (w : Revision). w.root))
@@ -177,7 +173,7 @@ in_range old revisions (Many r changes bytes) accepted takes =
     let named = (below (length revisions) r false ok.named).0 in
     let count = not_wrong (length changes.now) ok.count in
     let fine = are_fine (length_at v r) changes.now ok.placed in
-    let short = leb-false TEXT_LIMIT (result_len v (Many r changes bytes)) (or_false _ _ ok.short).0 in (
+    let short = leb-false TEXT_LIMIT (result_len v (Many r changes bytes)) (or_parts _ _ ok.short).0 in (
       omega (arith, named, length-map revisions (λ (w : Revision). w.root)),
       record {
         some = count.0;

@@ -23,7 +23,7 @@ use Rattle.edit_commands.proofs.Accepted.{in_range, terms_are, terms_give, terms
 use Rattle.edit_commands.proofs.Chains.{ChainBuilds, terms_build}
 
 -- what was made before the first term is what is built
-alone : {old new : Held Coded} (made result : Result (Option NodeId) BalanceFault) → GoesBehind old None made result new → (result ≡ made) × (new ≡ old)
+pub alone : {old new : Held Coded} (made result : Result (Option NodeId) BalanceFault) → GoesBehind old None made result new → (result ≡ made) × (new ≡ old)
 alone (Ok rope) result behind = behind
 alone (Err fault) result behind = behind
 

@@ -2,7 +2,7 @@
 use Rattle.std.proofs.Common.{◌≡◌, ℕ, suc, ◌+◌, ◌-◌, ◌<◌, ◌≤◌, Bool, true, false, List, [], ◌∷◌, ◌++◌, length, map, take, drop, Option, refl, sym, ap, subst, ◌∙◌, arith, inl, inr, Bor}
 use Rattle.std.specs.Prelude.{get_or, nat_le, nat_lt, not, ◌&&◌, ◌||◌, ◌==◌}
 use Rattle.std.specs.List.{list_any, list_all, sum_by, AllByRecursion}
-use Rattle.std.proofs.lemmas.Bool.{ltb-false, lt-ltb, le-leb, leb-true, cases_lt}
+use Rattle.std.proofs.lemmas.Bool.{ltb-false, lt-ltb, le-leb, leb-true, cases_lt, and_parts, or_parts}
 use Rattle.std.proofs.lemmas.List.{length-append, length-take, length-take-le, length-drop, length-map}
 use Rattle.std.proofs.lemmas.List.Sums.{sum_by-cons}
 use Rattle.std.proofs.Math.Seq.{drop-cons}
@@ -22,35 +22,24 @@ use Rattle.edit_commands.specs.declared.command.Command.TheVariants.{Many}
 use Rattle.edit_commands.specs.Session.{SessionValue, length_at}
 use Rattle.edit_commands.specs.Terms.{changed_terms, handed, next_place, terms_cells, AreInOrder, AreTerms, CanChange, EndInside}
 use Rattle.edit_commands.proofs.BuildSteps.{stand_inside}
-
-both : (a b : Bool) → (a && b) ≡ true → (a ≡ true) × (b ≡ true)
-both true b h = (refl, h)
-both false b h = absurd cc
-
-neither : (a b : Bool) → (a || b) ≡ false → (a ≡ false) × (b ≡ false)
-neither true b none = absurd cc
-neither false b none = (refl, none)
-
-and_of : (a b : Bool) → a ≡ true → b ≡ true → (a && b) ≡ true
-and_of true b h k = k
-and_of false b h k = absurd cc
+use Rattle.std.specs.Cmp.Derive.{both_true}
 
 -- ---- what the tests tell
 
 pub end_inside : (len : ℕ) (changes : List Change) → list_any (λ (c : Change). nat_lt len (c.p + c.m)) changes ≡ false → EndInside len changes
 end_inside len [] none = tt
 end_inside len (c ∷ changes) none =
-    let each = neither (nat_lt len (c.p + c.m)) (list_any (λ (d : Change). nat_lt len (d.p + d.m)) changes) none in
+    let each = or_parts (nat_lt len (c.p + c.m)) (list_any (λ (d : Change). nat_lt len (d.p + d.m)) changes) none in
     (ltb-false len (c.p + c.m) each.0, end_inside len changes each.1)
 
 begin_behind : (len : ℕ) (c : Change) (changes : List Change) → c.p + c.m ≤ len → stands_before (unplaced c) (map unplaced changes) ≡ true → c.p + c.m ≤ next_place len changes
 begin_behind len c [] inside h = inside
-begin_behind len c (d ∷ changes) inside h = leb-true (c.p + c.m) d.p (both (nat_lt c.p d.p) (nat_le (c.p + c.m) d.p) h).1
+begin_behind len c (d ∷ changes) inside h = leb-true (c.p + c.m) d.p (and_parts (nat_lt c.p d.p) (nat_le (c.p + c.m) d.p) h).1
 
 pub changes_follow : (len k : ℕ) (changes : List Change) → EndInside len changes → are_apart (map unplaced changes) ≡ true → k ≤ next_place len changes → Follow len k (map unplaced changes)
 changes_follow len k [] inside apart begins = begins
 changes_follow len k (c ∷ changes) inside apart begins =
-    let order = both (stands_before (unplaced c) (map unplaced changes)) (are_apart (map unplaced changes)) apart in
+    let order = and_parts (stands_before (unplaced c) (map unplaced changes)) (are_apart (map unplaced changes)) apart in
     (begins, changes_follow len (c.p + c.m) changes inside.1 order.1 (begin_behind len c changes inside.0 order.0))
 
 -- what they take away lies one behind the other
@@ -129,7 +118,7 @@ module _ (old pool : List ℕ) (rope : Option NodeId) (len : ℕ) where
       let whole : length (take c.n bytes) ≡ c.n = length-take-le c.n bytes enough in
       let pooled = put_inside old pool (take c.n bytes) a put in
       let some : 1 ≤ c.m + c.n = of_some c.m c.n something in
-      and_of _ _ (and_of _ _ (and_of _ _ (le-leb (c.p + c.m) text_len inside) (le-leb (a + c.n) (length pool) (omega (arith, pooled, whole)))) (le-leb 1 (c.m + c.n) some))
+      both_true (both_true (both_true (le-leb (c.p + c.m) text_len inside) (le-leb (a + c.n) (length pool) (omega (arith, pooled, whole)))) (le-leb 1 (c.m + c.n) some))
       (elim (cases_lt 0 c.n) [
         | inl more ↦ rw (le-leb 1 c.n more) refl
         | inr none ↦ let zero_place : a ≡ 0 = put.none (omega (arith, none, whole)) in or_zero (nat_le 1 c.n) a zero_place
@@ -154,16 +143,16 @@ module _ (old pool : List ℕ) (rope : Option NodeId) (len : ℕ) where
   passes_all text_len [] bytes places stand enough inside something = refl
   passes_all text_len (c ∷ changes) bytes [] stand enough inside something = absurd stand
   passes_all text_len (c ∷ changes) bytes (a ∷ places) stand enough inside something =
-      let each = neither (changes_nothing c) (list_any changes_nothing changes) something in
+      let each = or_parts (changes_nothing c) (list_any changes_nothing changes) something in
       let sum = sum_by-cons (λ (d : Change). d.n) c changes in
-      and_of _ _ (passes_one bytes text_len c a stand.0 (omega (arith, enough, sum)) inside.0 each.0)
+      both_true (passes_one bytes text_len c a stand.0 (omega (arith, enough, sum)) inside.0 each.0)
       (passes_all text_len changes (drop c.n bytes) places stand.1 (omega (arith, enough, sum, length-drop c.n bytes)) inside.1 each.1)
 
   -- changes that can be made are splices that can
   pub can_splice_changes : (text_len : ℕ) (changes : List Change) (bytes places : List ℕ) → StandEach old pool (handed (changed_terms rope len changes bytes)) places → CanChange text_len changes bytes → can_splice (length pool) text_len (placed_changes changes places) ≡ true
   can_splice_changes text_len changes bytes places stand can =
       let same = placed_count changes bytes places stand in
-      and_of _ _ (and_of _ _ (and_of _ _ (le-leb 1 (length (placed_changes changes places)) (omega (arith, can.some, same))) (le-leb (length (placed_changes changes places)) MOST_SPLICES (omega (arith, can.few, same))))
+      both_true (both_true (both_true (le-leb 1 (length (placed_changes changes places)) (omega (arith, can.some, same))) (le-leb (length (placed_changes changes places)) MOST_SPLICES (omega (arith, can.few, same))))
       (passes_all text_len changes bytes places stand (omega (arith, can.takes)) can.inside can.something))
       (placed_apart changes bytes places stand ∙ can.apart)
 
@@ -219,7 +208,7 @@ changed_pieces t u old rope len k (c ∷ changes) bytes (a ∷ places) same stan
 
 pub not_wrong : (n : ℕ) → (n == 0 || nat_lt MOST_SPLICES n) ≡ false → (1 ≤ n) × (n ≤ MOST_SPLICES)
 not_wrong n h =
-    let each = neither (n == 0) (nat_lt MOST_SPLICES n) h in
+    let each = or_parts (n == 0) (nat_lt MOST_SPLICES n) h in
     let few = ltb-false MOST_SPLICES n each.1 in
     elim (cases_lt 0 n) [
       | inl more ↦ (more, few)
@@ -239,7 +228,7 @@ not_false false h = absurd cc
 
 pub are_fine : (len : ℕ) (changes : List Change) → (list_any (λ (c : Change). nat_lt len (c.p + c.m)) changes || not (are_apart (map unplaced changes))) ≡ false → AreFine len changes
 are_fine len changes h =
-    let each = neither (list_any (λ (c : Change). nat_lt len (c.p + c.m)) changes) (not (are_apart (map unplaced changes))) h in
+    let each = or_parts (list_any (λ (c : Change). nat_lt len (c.p + c.m)) changes) (not (are_apart (map unplaced changes))) h in
     let inside = end_inside len changes each.0 in
     let apart = not_false (are_apart (map unplaced changes)) each.1 in
     let follow = changes_follow len 0 changes inside apart (omega arith) in
@@ -248,7 +237,7 @@ are_fine len changes h =
 -- a command in range has none misplaced
 pub misplaced_none : (v : SessionValue) (r : ℕ) (changes : Bor (List Change)) (bytes : Bor (List ℕ)) → is_out_of_range v (Many r changes bytes) ≡ false
     → (list_any (λ (c : Change). nat_lt (length_at v r) (c.p + c.m)) changes.now || not (are_apart (map unplaced changes.now))) ≡ false
-misplaced_none v r changes bytes h = (neither (nat_lt (length_at v r) 0 || false) _ h).1
+misplaced_none v r changes bytes h = (or_parts (nat_lt (length_at v r) 0 || false) _ h).1
 
 -- ---- changes tested one behind the other
 

@@ -29,7 +29,7 @@ use Rattle.edit_commands.specs.declared.revision.Revision.{Revision}
 use Rattle.edit_commands.specs.Session.{SessionValue, roots_of, IsCertified, rows_held}
 use Rattle.edit_commands.proofs.Histories.{answered}
 
-kind_anyhow : (t : Table) (coded : ℕ → Coded) (Same : List Cell → List Cell → Type 0) (n : ℕ) (part : Part) (off : ℕ) (root : Option NodeId) (place : ℕ) (kind : RowKind) → KindFitsBy t coded Same n part off root place kind → KindFitsBy t coded (λ cells others. Unit {0}) n part off root place kind
+pub kind_anyhow : (t : Table) (coded : ℕ → Coded) (Same : List Cell → List Cell → Type 0) (n : ℕ) (part : Part) (off : ℕ) (root : Option NodeId) (place : ℕ) (kind : RowKind) → KindFitsBy t coded Same n part off root place kind → KindFitsBy t coded (λ cells others. Unit {0}) n part off root place kind
 kind_anyhow t coded Same n part off root place (Shared k o) fits = fits
 kind_anyhow t coded Same n part off root place Leaf fits = fits
 kind_anyhow t coded Same n part off root place Bytes fits = (fits.0, tt)

@@ -18,7 +18,7 @@ use Rattle.rope_node.proofs.Parts.{slice_get-take}
 -- ---- lists
 
 -- what stands in a list with one more is the one more, or stood there before
-at_more : {X : Type 0} (xs : List X) (x y : X) (k : ℕ) → slice_get (xs ++ x ∷ []) k ≡ Some y → (slice_get xs k ≡ Some y) ⊎ ((k ≡ length xs) × (x ≡ y))
+pub at_more : {X : Type 0} (xs : List X) (x y : X) (k : ℕ) → slice_get (xs ++ x ∷ []) k ≡ Some y → (slice_get xs k ≡ Some y) ⊎ ((k ≡ length xs) × (x ≡ y))
 at_more [] x y zero e = inr (refl, cc)
 at_more [] x y (suc k) e = absurd cc
 at_more (z ∷ zs) x y zero e = inl e

@@ -14,6 +14,7 @@ use Rattle.edit_script.specs.Words.{Word, Name, Number, Quoted}
 use Rattle.edit_script.specs.Commands.{splice_words, words_of, StandsInside}
 use Rattle.edit_script.proofs.Choices.{bind_some, chosen, some_is}
 use Rattle.edit_script.specs.Texts.{SayTheSame}
+use Rattle.edit_commands.proofs.RevisionLists.{there_is}
 
 -- ---- a command from its words
 
@@ -73,7 +74,7 @@ span_is pool a n inside = rw (le-leb (a + n) (length pool) inside) refl
 span_all : (bytes : List ℕ) (n : ℕ) → length bytes ≡ n → span bytes 0 (length bytes) ≡ Some bytes
 span_all bytes n len = rw (le-leb (0 + length bytes) (length bytes) (omega arith)) (ap Some (take_all (length bytes) bytes (omega arith)))
 
-span_len : (pool : List ℕ) (a n : ℕ) → a + n ≤ length pool → length (take n (drop a pool)) ≡ n
+pub span_len : (pool : List ℕ) (a n : ℕ) → a + n ≤ length pool → length (take n (drop a pool)) ≡ n
 span_len pool a n inside = omega (arith, length-take n (drop a pool), length-drop a pool)
 
 replaced_by_words : (pool t : List ℕ) (splices : List Splice) → replaced_each pool t splices ≡ words_replaced t (splice_words pool splices)
@@ -138,11 +139,6 @@ same_result g h texts e f x y sources byte inside others_inside words gives othe
 
 -- ---- histories
 
-there : {X : Type 0} (xs : List X) (k : ℕ) → k < length xs → (x : X) × (slice_get xs k ≡ Some x)
-there [] k lt = absurd (omega arith)
-there (x ∷ xs) zero lt = (x, refl)
-there (x ∷ xs) (suc k) lt = there xs k (omega arith)
-
 same_words_at : (f g : FullEdit → List Word) (es fs : List FullEdit) (k : ℕ) (e d : FullEdit) → map f es ≡ map g fs → slice_get es k ≡ Some e → slice_get fs k ≡ Some d → f e ≡ g d
 same_words_at f g es fs k e d same at other =
     let left : slice_get (map f es) k ≡ Some (f e) = slice_get-map f es k ∙ ap (option_map f) at in
@@ -158,8 +154,8 @@ same_until g h es fs xs ys same left right (suc k) =
     elim (cases_lt k (length es)) [
       | inl lt ↦
           let lt_other : k < length fs = omega arith in
-          let e = there es k lt in
-          let d = there fs k lt_other in
+          let e = there_is es k lt in
+          let d = there_is fs k lt_other in
           let words = same_words_at (words_of g.pool) (words_of h.pool) es fs k e.0 d.0 same.words e.1 d.1 in
           let inside : StandsInside (length g.pool) e.0 = subst (StandsInside (length g.pool)) (get_or_from_slice_get es k e.0 New e.1) (same.inside k New lt) in
           let others_inside : StandsInside (length h.pool) d.0 = subst (StandsInside (length h.pool)) (get_or_from_slice_get fs k d.0 New d.1) (same.others_inside k New lt_other) in

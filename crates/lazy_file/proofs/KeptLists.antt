@@ -1,22 +1,18 @@
 -- What is in a list of kept blocks after a copy, and after one more is kept.
-use Rattle.std.proofs.Common.{◌≡◌, ℕ, ◌+◌, ◌-◌, ◌≤◌, Bool, true, false, ◌&&◌, IsTrue, List, [], ◌∷◌, Contains, Vec, drop, length, nat_eq, take, inl, inr, refl, sym, subst, ap}
+use Rattle.std.proofs.Common.{◌≡◌, ℕ, ◌+◌, ◌-◌, ◌≤◌, Bool, true, false, IsTrue, List, [], ◌∷◌, Contains, Vec, drop, length, nat_eq, take, inl, inr, refl, sym, subst, ap}
 use Rattle.std.specs.Prelude.{Option, Some, None}
 use Rattle.std.specs.Option.{option_map_or}
 use Rattle.std.specs.Map.{keys_of, lookup, lookup_entry, remove_entry}
-use Rattle.std.proofs.lemmas.Bool.{eqb-true, eq-eqb}
+use Rattle.std.proofs.lemmas.Bool.{eqb-true, eq-eqb, and_parts}
 use Rattle.lru.specs.LruCache.{LruCache, promoted, put_entries}
 use Rattle.lru.proofs.CallerLemmas.{Contains-lookup, Contains-lookup_entry, Contains-promoted, Contains-put_entries}
 use Rattle.lru.proofs.Splits.{Contains-cons, Contains-head, Contains-nil, Contains-tail}
 use Rattle.lazy_file.specs.KeptBlocks.{CopiesKept, KeepsBlock, Kept, KeepsOne, is_same_block}
 
-both : (a b : Bool) → (a && b) ≡ true → (a ≡ true) × (b ≡ true)
-both true b h = (refl, h)
-both false b h = absurd cc
-
 -- keys that compare equal are one
 pub same_key : (x y : ℕ × ℕ) → is_same_block x y ≡ true → x ≡ y
 same_key x y h =
-    let parts = both (nat_eq x.0 y.0) (nat_eq x.1 y.1) h in
+    let parts = and_parts (nat_eq x.0 y.0) (nat_eq x.1 y.1) h in
     let first : x.0 ≡ y.0 = eqb-true x.0 y.0 parts.0 in
     let second : x.1 ≡ y.1 = eqb-true x.1 y.1 parts.1 in
     λ i. (first i, second i)

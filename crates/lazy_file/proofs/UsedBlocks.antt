@@ -34,7 +34,7 @@ all_but P key (k ∷ keys) h = (elim (is_same_block key k) as (λ y. is_same_blo
   | false ↦ λ t. rw t (h.0, all_but P key keys h.1)
 ]) refl
 
-all_take : {X : Type 0} (P : X → Type 0) (n : ℕ) (xs : List X) → AllByRecursion P xs → AllByRecursion P (take n xs)
+pub all_take : {X : Type 0} (P : X → Type 0) (n : ℕ) (xs : List X) → AllByRecursion P xs → AllByRecursion P (take n xs)
 all_take P zero xs h = tt
 all_take P (suc n) [] h = tt
 all_take P (suc n) (x ∷ xs) h = (h.0, all_take P n xs h.1)

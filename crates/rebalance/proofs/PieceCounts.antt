@@ -1,6 +1,6 @@
 -- Laws of the count of pieces.
 use Rattle.std.proofs.Common.{◌≡◌, ℕ, zero, suc, ◌+◌, ◌-◌, ◌<◌, ◌≤◌, min, eqb, leb, Bool, true, false, ◌&&◌, if◌then◌else◌, length, Option, Some, None, refl, ap, ◌∙◌, arith}
-use Rattle.std.proofs.lemmas.Bool.{cond_both, eqb-true, leb-true}
+use Rattle.std.proofs.lemmas.Bool.{cond_both, eqb-true, leb-true, and_parts}
 use Rattle.rope_node.specs.declared.node.NodeId.{NodeId}
 use Rattle.rope_node.specs.declared.node.NodeView.{NodeView}
 use Rattle.rope_node.specs.declared.node.NodeView.TheVariants.{Lit, Src, Fun, Cat, Sub}
@@ -91,15 +91,11 @@ few_pieces keep t id i n = few_in keep t (suc id) id i n
 
 -- ---- what is kept
 
-both_are : (a b : Bool) → (a && b) ≡ true → (a ≡ true) × (b ≡ true)
-both_are true b h = (refl, h)
-both_are false b h = absurd cc
-
 pub kept_is : (keep : Bool) (t : Table) (id i n : ℕ) → is_kept keep t id i n ≡ true → (i ≡ 0) × (n ≡ len_at t id) × (fibonacci (depth_at t id + 3) ≤ n)
 kept_is keep t id i n is =
-    let one = both_are keep _ is in
-    let two = both_are (eqb i 0) _ one.1 in
-    let three = both_are (eqb n (len_at t id)) _ two.1 in
+    let one = and_parts keep _ is in
+    let two = and_parts (eqb i 0) _ one.1 in
+    let three = and_parts (eqb n (len_at t id)) _ two.1 in
     (eqb-true i 0 two.0, eqb-true n (len_at t id) three.0, leb-true (fibonacci (depth_at t id + 3)) n three.1)
 
 -- ---- a table that goes on

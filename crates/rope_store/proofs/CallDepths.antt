@@ -1,6 +1,5 @@
 -- How deep and how long the rope of a call is.
-use Rattle.std.proofs.Common.{◌≡◌, ℕ, ◌+◌, ◌<◌, ◌≤◌, inl, inr, max, nat_le, List, ◌++◌, length, map, get_or, Option, Some, None, Ok, refl, ap, subst, ◌∙◌, arith, length-append}
-use Rattle.std.proofs.lemmas.Bool.{cases_lt}
+use Rattle.std.proofs.Common.{◌≡◌, ℕ, ◌+◌, ◌<◌, ◌≤◌, max, nat_le, List, ◌++◌, length, map, get_or, Option, Some, None, Ok, refl, ap, subst, ◌∙◌, arith, length-append}
 use Rattle.std.proofs.lemmas.List.{get_or-append-add}
 use Rattle.std.proofs.lemmas.Option.{cond_some, same_Some}
 use Rattle.rope_node.specs.declared.node.NodeId.{NodeId}
@@ -16,7 +15,7 @@ use Rattle.rope_store.specs.declared.endings.Ending.{Ending}
 use Rattle.rope_store.specs.Additions.{Addition, Makes, concatenated, new_node}
 use Rattle.rope_store.specs.Appending.{IsAppendTo, copied, copied_behind, grown, grown_by, literal_place, merged_after}
 use Rattle.rope_store.specs.Joining.{ending_for, ending_of, ending_with, joined, merged, nodes_joined, piece, right_ending, short_ending, view_ending}
-use Rattle.rope_store.proofs.CallSizes.{ending_short}
+use Rattle.rope_store.proofs.CallSizes.{ending_short, at_most}
 use Rattle.rope_store.proofs.LastLiterals.{ending_found, piece_length}
 
 -- a rope is no deeper than that, and has so many bytes or more
@@ -136,13 +135,6 @@ copied_low meaning old new wanted answer x bytes s h there (Some e) taken made =
     let both = length-append (piece t e.literal) bytes in
     let low = after_low meaning old new wanted answer e.before bytes (piece t e.literal ++ bytes) made in
     record { shallow = omega (arith, low.shallow, below); long = omega (arith, low.long, both, first, p.len) }
-
-at_most : (m n : ℕ) → ¬ (¬ (m ≤ n)) → m ≤ n
-at_most m n h =
-    elim (cases_lt n m) [
-      | inl lt ↦ absurd (h (λ le. omega (arith, lt, le)))
-      | inr le ↦ le
-    ]
 
 low_surely : (t : Table) (rope : Option NodeId) (d n : ℕ) → ¬ (¬ (IsLow t rope d n)) → IsLow t rope d n
 low_surely t rope d n h = record { shallow = at_most _ _ (λ no. h (λ low. no low.shallow)); long = at_most _ _ (λ no. h (λ low. no low.long)) }

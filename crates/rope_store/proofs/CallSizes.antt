@@ -132,7 +132,7 @@ same_list (x ∷ xs) (y ∷ ys) h =
       | inr other ↦ absurd (h (λ e. other (ap (λ (zs : List ℕ). get_or zs 0 0) e)))
     ]
 
-at_most : (m n : ℕ) → ¬ (¬ (m ≤ n)) → m ≤ n
+pub at_most : (m n : ℕ) → ¬ (¬ (m ≤ n)) → m ≤ n
 at_most m n h =
     elim (cases_lt n m) [
       | inl lt ↦ absurd (h (λ le. omega (arith, lt, le)))

@@ -15,6 +15,7 @@ use Rattle.span_certificate.specs.Verdicts.{SameStated}
 use Rattle.span_certificate.proofs.Covering.{holds_place}
 use Rattle.span_certificate.proofs.MadeRows.{agreeing, no_source_stated, none_over}
 use Rattle.span_certificate.proofs.Sameness.{bytes_are_cells, covered_bytes}
+use Rattle.edit_commands.proofs.KnownRows.{kind_anyhow}
 
 kind_always : (t : Table) (coded : ℕ → Coded) (st : Stated) (source : ℕ → ℕ → ℕ) (n : ℕ) (part : Part) (off : ℕ) (root : Option NodeId) (place : ℕ) (kind : RowKind)
     → (kind ≡ Bytes → take n (drop off (part_cells t part)) ≡ take n (drop place (rope_cells t root)))
@@ -22,12 +23,6 @@ kind_always : (t : Table) (coded : ℕ → Coded) (st : Stated) (source : ℕ �
 kind_always t coded st source n part off root place (Shared k o) same fits = fits
 kind_always t coded st source n part off root place Leaf same fits = fits
 kind_always t coded st source n part off root place Bytes same fits = (fits.0, ap (text source) (same refl))
-
-kind_anyhow : (t : Table) (coded : ℕ → Coded) (Same : List Cell → List Cell → Type 0) (n : ℕ) (part : Part) (off : ℕ) (root : Option NodeId) (place : ℕ) (kind : RowKind)
-    → KindFitsBy t coded Same n part off root place kind → KindFitsBy t coded (λ cells others. Unit {0}) n part off root place kind
-kind_anyhow t coded Same n part off root place (Shared k o) fits = fits
-kind_anyhow t coded Same n part off root place Leaf fits = fits
-kind_anyhow t coded Same n part off root place Bytes fits = (fits.0, tt)
 
 -- they are over what their kinds say
 pub covers_anyhow : (t : Table) (coded : ℕ → Coded) (Same : List Cell → List Cell → Type 0) (parts : List Part) (root : Option NodeId) (rows : List Row) → CoversBy t coded Same parts root rows → CoversAnyhow t coded parts root rows

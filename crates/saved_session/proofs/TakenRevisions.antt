@@ -1,5 +1,5 @@
 -- Revisions of an image that are taken up, one behind the other.
-use Rattle.std.proofs.Common.{◌≡◌, ℕ, zero, suc, ◌+◌, ◌<◌, ◌≤◌, Bool, true, false, List, [], ◌∷◌, ◌++◌, length, map, take, drop, get_or, Option, Some, refl, sym, ap, subst, ◌∙◌, arith, inl, inr, ◌⊎◌}
+use Rattle.std.proofs.Common.{◌≡◌, ℕ, suc, ◌+◌, ◌<◌, ◌≤◌, Bool, true, false, List, [], ◌∷◌, ◌++◌, length, map, take, drop, get_or, Option, Some, refl, sym, ap, subst, ◌∙◌, arith, inl, inr}
 use Rattle.std.specs.Prelude.{◌↔◌, IsTrue, slice_get}
 use Rattle.std.specs.List.{flat_map, sum_by}
 use Rattle.std.proofs.lemmas.Bool.{cases_lt}
@@ -38,6 +38,7 @@ use Rattle.session_image.proofs.RowLists.{length-rows}
 use Rattle.session_checker.specs.RevisionRules.{HasRowsOverNoSource}
 use Rattle.session_checker.proofs.EarlierRevisions.{rows_before_more, rows_inside, splices_before_more, splices_inside}
 use Rattle.saved_session.specs.TakenUp.{HoldsImage, TakenRowsPass, StandFor, TakesFirst, TakesUp, each_rows}
+use Rattle.edit_commands.proofs.RevisionLists.{at_more}
 
 -- ---- lists
 
@@ -58,16 +59,6 @@ last_is (y ∷ ys) x = last_is ys x
 before_last : {X : Type 0} (xs : List X) (x : X) → take (length xs) (xs ++ x ∷ []) ≡ xs
 before_last [] x = refl
 before_last (y ∷ ys) x = ap (λ zs. y ∷ zs) (before_last ys x)
-
-at_more : {X : Type 0} (xs : List X) (x y : X) (k : ℕ) → slice_get (xs ++ x ∷ []) k ≡ Some y → (slice_get xs k ≡ Some y) ⊎ ((k ≡ length xs) × (x ≡ y))
-at_more [] x y zero e = inr (refl, cc)
-at_more [] x y (suc k) e = absurd cc
-at_more (z ∷ zs) x y zero e = inl e
-at_more (z ∷ zs) x y (suc k) e =
-    elim (at_more zs x y k e) [
-      | inl before ↦ inl before
-      | inr last ↦ inr (omega (arith, last.0), last.1)
-    ]
 
 rows_summed : (revisions : List Kept.Revision) → sum_by length (each_rows revisions) ≡ rows_held revisions
 rows_summed [] = refl

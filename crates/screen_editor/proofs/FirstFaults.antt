@@ -1,4 +1,5 @@
 -- Why there is no first revision.
+use Rattle.command_parts.specs.declared.part.Part.TheVariants.{Source as Whole}
 use Rattle.std.proofs.Common.{◌≡◌, ℕ, zero, suc, ◌<◌, ◌≤◌, inl, inr, List, [], ◌∷◌, length, get_or, Err, Ok, Result, Option, Some, None, refl, ap, subst, arith, ◌∙◌}
 use Rattle.std.proofs.lemmas.Bool.{lt-leb, lt-ltb}
 use Rattle.function_leaf.specs.declared.coded.Coded.{Coded}
@@ -16,7 +17,6 @@ use Rattle.rebalance.specs.declared.fault.BalanceFault.TheVariants.{TooManyPiece
 use Rattle.rebalance.specs.AnyForms.{lifted}
 use Rattle.lazy_file.specs.declared.sources.TheConstants.{SOURCE_LIMIT}
 use Rattle.span_certificate.specs.declared.row.Row.{Row}
-use Rattle.command_parts.specs.declared.part.Part.TheVariants.{Source as Whole}
 use Rattle.span_certificate.specs.Longest.{AreMade}
 use Rattle.command_parts.specs.Parts.{nonempty}
 use Rattle.span_certificate.proofs.OneRow.{one_source_row}
@@ -28,10 +28,11 @@ use Rattle.edit_commands.specs.Building.{ChainsTerms}
 use Rattle.edit_commands.specs.Codes.{node_fault, told}
 use Rattle.edit_commands.specs.Refusals.{refusal_of}
 use Rattle.edit_commands.specs.Session.{SessionValue}
-use Rattle.edit_commands.specs.Terms.{Taken, GoesBehind, Chain, done, next, refused}
+use Rattle.edit_commands.specs.Terms.{Taken, Chain, done, next, refused}
 use Rattle.screen_editor.specs.declared.workspace.TheConstants.{LONGEST_TEXT}
 use Rattle.screen_editor.specs.Opening.{HoldsOnly}
 use Rattle.screen_editor.specs.Refusals.{first_command}
+use Rattle.edit_commands.proofs.BuiltCommands.{alone}
 
 -- a source that may be added is refused for memory alone
 pub only_memory : (old new : SessionValue) (len : ℕ) (f : EditFault) → length old.held.sources < MOST_SOURCES → len ≤ SOURCE_LIMIT → AddsSourceOrNot old len (Err f) new → f ≡ Edit.Memory
@@ -51,11 +52,6 @@ none_refused v [] is none short = rw none refl
 none_refused v (n ∷ sizes) is none short = rw (is, none, lt-leb (suc (length sizes)) 0 (omega arith), lt-leb TEXT_LIMIT n (omega (arith, short))) refl
 
 -- ---- met on the way
-
--- what was made before the first term is what is built
-alone : {old new : Held Coded} (made result : Result (Option NodeId) BalanceFault) → GoesBehind old None made result new → (result ≡ made) × (new ≡ old)
-alone (Ok rope) result behind = behind
-alone (Err fault) result behind = behind
 
 few_records : (t : Table) (n : ℕ) → length (source_added {F = Coded} t 0 0 n).records ≤ 1
 few_records t zero = omega arith

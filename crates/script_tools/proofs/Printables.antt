@@ -12,16 +12,12 @@ use Rattle.command_parts.specs.Parts.{IsInRange}
 use Rattle.image_reader.specs.Layout.{IsBytes}
 use Rattle.image_reader.specs.Value.{FitsSplice}
 use Rattle.edit_script.specs.Commands.{Revision, Place, Byte, Text, only, splice_kinds, splice_words, words_of, HasKinds, HasBytes, IsPrintable}
+use Rattle.lazy_file.proofs.UsedBlocks.{all_take}
 
 pub all_drop : {X : Type 0} (P : X → Type 0) (n : ℕ) (xs : List X) → AllByRecursion P xs → AllByRecursion P (drop n xs)
 all_drop P zero xs h = h
 all_drop P (suc n) [] h = tt
 all_drop P (suc n) (x ∷ xs) h = all_drop P n xs h.1
-
-pub all_take : {X : Type 0} (P : X → Type 0) (n : ℕ) (xs : List X) → AllByRecursion P xs → AllByRecursion P (take n xs)
-all_take P zero xs h = tt
-all_take P (suc n) [] h = tt
-all_take P (suc n) (x ∷ xs) h = (h.0, all_take P n xs h.1)
 
 bytes_all : (bytes : List ℕ) → IsBytes bytes → AllByRecursion (λ b. b < 256) bytes
 bytes_all [] h = tt

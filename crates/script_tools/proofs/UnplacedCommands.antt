@@ -1,9 +1,8 @@
 -- A command without the places of its bytes: its words tell it.
-use Rattle.std.proofs.Common.{◌≡◌, ℕ, ◌+◌, ◌≤◌, List, [], ◌∷◌, length, map, take, drop, refl, sym, ap, ◌∙◌, arith}
+use Rattle.std.proofs.Common.{◌≡◌, ℕ, ◌+◌, ◌≤◌, List, [], ◌∷◌, length, map, refl, sym, ap, ◌∙◌, arith}
 use Rattle.std.specs.Prelude.{if◌then◌else◌, codes}
 use Rattle.std.specs.List.{AllByRecursion, sum_by}
 use Rattle.std.specs.Str.{bytes_eq}
-use Rattle.std.proofs.lemmas.List.{length-take, length-drop}
 use Rattle.std.proofs.lemmas.List.Sums.{sum_by-cons}
 use Rattle.command_parts.specs.declared.edit.Splice.{Splice}
 use Rattle.command_parts.specs.Commands.{FullEdit, New, Open, Insert, Delete, Replace, Paste, Join, Cut, Fill, Back, Balance, Many}
@@ -15,7 +14,7 @@ use Rattle.edit_commands.specs.Refusals.{TakesAll, unplaced}
 use Rattle.edit_script.specs.Words.{Word, Name, Number, Quoted}
 use Rattle.edit_script.specs.Commands.{StandsInside, splice_words, words_of}
 use Rattle.edit_script.specs.Handed.{bytes_handed, places_from, places_handed, words_handed}
-use Rattle.edit_script.proofs.Histories.{edit_in}
+use Rattle.edit_script.proofs.Histories.{edit_in, span_len}
 
 -- ---- without places
 
@@ -46,9 +45,6 @@ many_said ws = New
 abbrev said_in : List Word → FullEdit
 said_in (Name name ∷ ws) = if bytes_eq name (codes "many") then many_said ws else edit_in (Name name ∷ ws)
 said_in ws = New
-
-span_len : (pool : List ℕ) (a n : ℕ) → a + n ≤ length pool → length (take n (drop a pool)) ≡ n
-span_len pool a n inside = omega (arith, length-take n (drop a pool), length-drop a pool)
 
 splices_told : (pool : List ℕ) (splices : List Splice) → AllByRecursion (λ (s : Splice). s.a + s.n ≤ length pool) splices
     → splices_said (splice_words pool splices) ≡ map with_no_place splices

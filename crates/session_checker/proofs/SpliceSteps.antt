@@ -6,7 +6,6 @@ use Rattle.std.proofs.lemmas.List.Sums.{sum_by-cons}
 use Rattle.rope_node.specs.declared.limits.TheConstants.{TEXT_LIMIT}
 use Rattle.command_parts.specs.declared.edit.Splice.{Splice}
 use Rattle.command_parts.specs.Commands.{are_apart, is_splice}
-use Rattle.command_parts.specs.Parts.{Follow}
 use Rattle.command_parts.proofs.Cutting.{left_of}
 
 -- the next splice, and those behind it
@@ -67,13 +66,6 @@ pub sum_done : (f : Splice → ℕ) (all : List Splice) (first count i so_far : 
 sum_done f all first count i so_far past small =
     let sum : sum_by f (take (count - i) (drop (first + i) all)) ≡ 0 = ap (sum_by f) (none_left all first count i past) in
     omega (arith, sum, small)
-
--- what they take away lies one behind the other
-pub follow_sum : (len k : ℕ) (splices : List Splice) → Follow len k splices → k + sum_by (λ (s : Splice). s.m) splices ≤ len
-follow_sum len k [] f = omega (arith, f)
-follow_sum len k (s ∷ splices) f =
-    let later = follow_sum len (s.p + s.m) splices f.1 in
-    rw (sum_by-cons (λ (u : Splice). u.m) s splices) (omega (arith, later, f.0))
 
 -- and what comes of it is not too long
 pub short_so : (len m n taken put : ℕ) → m ≤ len → len < TEXT_LIMIT → taken ≡ min m (2 ^ 64 - 1) → put ≡ min n (2 ^ 64 - 1) → ((taken ≤ len) × (put < TEXT_LIMIT) × ((len - taken) + put < TEXT_LIMIT)) ↔ (len + n < TEXT_LIMIT + m)

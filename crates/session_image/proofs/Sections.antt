@@ -66,11 +66,6 @@ get_mapped f from zero k lt = absurd (omega arith)
 get_mapped f from (suc n) zero lt = let same : from ≡ from + 0 = omega arith in ap (λ (i : ℕ). Some (f i)) same
 get_mapped f from (suc n) (suc k) lt = let same : (from + 1) + k ≡ from + suc k = omega arith in get_mapped f (from + 1) n k (omega arith) ∙ ap (λ (i : ℕ). Some (f i)) same
 
-pub get_some : {X : Type 0} (xs : List X) (k : ℕ) → k < length xs → (x : X) × (slice_get xs k ≡ Some x)
-get_some [] k lt = absurd (omega arith)
-get_some (x ∷ xs) zero lt = (x, refl)
-get_some (x ∷ xs) (suc k) lt = get_some xs k (omega arith)
-
 pub get_of_map : {X Y : Type 0} (f : X → Y) (xs : List X) (k : ℕ) (x : X) → slice_get xs k ≡ Some x → slice_get (map f xs) k ≡ Some (f x)
 get_of_map f [] k x e = absurd cc
 get_of_map f (y ∷ ys) zero x e = ap (option_map f) e

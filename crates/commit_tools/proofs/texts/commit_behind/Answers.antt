@@ -1,11 +1,9 @@
-use Rattle.std.proofs.Common.{◌≡◌, Bool, true, false, length, sym, ◌∙◌}
+use Rattle.std.proofs.Common.{length}
 use Rattle.std.proofs.lemmas.Result.{err_from_is_err_and}
 use Rattle.commit_tools.specs.Texts.{read_fault_of}
 use Rattle.commit_tools.proofs.CommittedTexts.{goes_there, over_found, reads_last, stays_there}
 use Rattle.commit_tools.proofs.texts.commit_behind.Goals as goal
-
-not_both : (b : Bool) → b ≡ true → b ≡ false → ⊥
-not_both b holds fails = (let off : true ≡ false = sym holds ∙ fails in cc)
+use Rattle.std.proofs.lemmas.Bool.{both_ways}
 
 pub returns-in_err-found-clause-reads : goal.returns-in_err-found-clause-reads
 returns-in_err-found-clause-reads g c =
@@ -27,4 +25,4 @@ returns-clause-text g c =
     let st = (g.T.Sources.reading c.args.sources.now).stated in
     let found = c.in_ok-found.found in
     let over = over_found v c.space.result.now c.last_root-rope.result st found c.args.file.now (length found.changes.items) c.space.ensures.store c.last_root-rope.ensures.root c.in_ok-found.ensures.text in
-    goes_there st v c.put_changes.new.session found c.args.file.now c.in_ok-found.ensures.found over (λ none. not_both c.is_same.result (c.is_same.ensures.1 none) c.if-is_same.false) c.in_ok-put_changes.ensures
+    goes_there st v c.put_changes.new.session found c.args.file.now c.in_ok-found.ensures.found over (λ none. both_ways c.is_same.result c.if-is_same.false (c.is_same.ensures.1 none)) c.in_ok-put_changes.ensures

@@ -4,8 +4,7 @@ use Rattle.rope_node.specs.Denotes.{rope_len}
 use Rattle.command_parts.specs.declared.edit.Splice.{Splice}
 use Rattle.command_parts.specs.Commands.{Many}
 use Rattle.command_parts.specs.Parts.{root_at, len_of, parts_len, nonempty, pieces, IsInRange}
-use Rattle.command_parts.proofs.SplicedTexts.{are_splices}
-use Rattle.session_checker.proofs.SpliceSteps.{follow_sum}
+use Rattle.command_parts.proofs.SplicedTexts.{are_splices, follow_sum}
 use Rattle.session_checker.proofs.ResultLengths.{spliced_len, len_so}
 use Rattle.session_checker.proofs.command_rules.result_len.Goals as goal
 

@@ -5,8 +5,8 @@ use Rattle.rope_node.specs.Denotes.{rope_len}
 use Rattle.command_parts.specs.declared.edit.Splice.{Splice}
 use Rattle.command_parts.specs.Commands.{can_splice}
 use Rattle.command_parts.specs.Parts.{len_of}
-use Rattle.command_parts.proofs.SplicedTexts.{are_splices}
-use Rattle.session_checker.proofs.SpliceSteps.{follow_sum, short_so}
+use Rattle.command_parts.proofs.SplicedTexts.{are_splices, follow_sum}
+use Rattle.session_checker.proofs.SpliceSteps.{short_so}
 use Rattle.session_checker.proofs.command_rules.takes_splices.Goals as goal
 
 pub returns : goal.returns

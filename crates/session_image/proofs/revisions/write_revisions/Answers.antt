@@ -3,11 +3,11 @@ use Rattle.std.proofs.lemmas.List.{length-map}
 use Rattle.image_reader.specs.Spelling.{revision_spelling}
 use Rattle.session_image.specs.Gathering.{output}
 use Rattle.session_image.specs.Written.{recorded_revision}
-use Rattle.session_image.proofs.Sections.{get_some}
 use Rattle.session_image.proofs.Gathering.{put_failed, sends_slice, put_part, put_more}
 use Rattle.session_image.proofs.RowLists.{edits_fit_more}
 use Rattle.session_image.proofs.revisions.write_revisions.Goals.{in-Some+in_ok-put, in_default}
 use Rattle.session_image.proofs.revisions.write_revisions.Goals as goal
+use Rattle.edit_commands.proofs.RevisionLists.{there_is}
 
 pub returns-in_err-put-clause-bytes : goal.returns-in_err-put-clause-bytes
 returns-in_err-put-clause-bytes g c =
@@ -24,6 +24,6 @@ loop-k-preserved g c =
             edits_fit_more revisions c.loop-k.k w.in-Some.revision found c.loop-k.invariant.1 w.revision_record-record.ensures.fits,
           )
       | in_default w ↦
-          let r = get_some (map recorded_revision revisions) c.loop-k.k (rw length-map (rw c.count-k-end.ensures.value at c.loop-k-test.true)) in
+          let r = there_is (map recorded_revision revisions) c.loop-k.k (rw length-map (rw c.count-k-end.ensures.value at c.loop-k-test.true)) in
           absurd (w.in_default.not-Some r.0 (c.recorded.ensures ∙ r.1))
     ]
