@@ -1,16 +1,17 @@
 -- Bytes of a text that are held, and the line breaks among them.
 use Rattle.std.proofs.Common.{◌≡◌, ℕ, zero, suc, ◌+◌, ◌-◌, ◌<◌, ◌≤◌, Bool, true, not, cond, Option, Some, None, List, All, [], ◌∷◌, ◌++◌, length, take, drop, get_or, reverse, inl, inr, ◌⊎◌, IfSome, Result, Ok, Err, IfOk, refl, sym, ap, subst, ◌∙◌, add-one, arith}
+use Rattle.std.specs.Prelude.{◌↔◌, IsSome}
 use Rattle.std.specs.List.{position_or_len, prefix_len, suffix_len}
 use Rattle.std.proofs.lemmas.Bool.{cases_Bool, cases_lt, lt-ltb, le-ltb, ne_eqb, eq-eqb}
 use Rattle.std.proofs.lemmas.List.{take-take, drop_all, take-append-drop, take_all, drop-take, drop-drop, get_or-drop, get_or-take, length-take, length-drop, length-append, length-take-le, length-reverse, reverse-append}
 use Rattle.std.proofs.lemmas.List.Folds.{prefix_len-append}
-use Rattle.std.proofs.lemmas.List.Sums.{prefix_len-le-length, suffix_len-take_yes, suffix_len-take_no}
+use Rattle.std.proofs.lemmas.List.Sums.{prefix_len-le-length, suffix_len-le-length, suffix_len-take_yes, suffix_len-take_no}
 use Rattle.std.proofs.Math.Seq.{drop-append_seam, take-add}
-use Rattle.text_lines.specs.HeldBytes.{HeldPart, held_up_to, held_starting_at, AreHeld}
+use Rattle.text_lines.specs.HeldBytes.{HeldPart, held_up_to, held_starting_at, AreHeld, TellsStart}
 use Rattle.text_lines.specs.declared.known.KnownLine.{KnownLine}
 use Rattle.text_lines.specs.declared.known_lines.KnownLines.{KnownLines}
 use Rattle.text_lines.specs.KnownLines.{IsKnownIn, IsLineOf, known_lines, learnt}
-use Rattle.text_lines.specs.Lines.{is_break, column, line_start, line_end}
+use Rattle.text_lines.specs.Lines.{is_break, column, line_start, line_end, next_line}
 use Rattle.text_lines.specs.Rows.{IsLineStart}
 use Rattle.text_lines.proofs.KnownLaws.{line_found, next_begins}
 use Rattle.text_lines.proofs.LearntLines.{all_learnt}
@@ -162,6 +163,11 @@ start_is t h place width inside held at short =
     let there = before_place t h place held in
     ap (λ (k : ℕ). place - k) (sym (near_column t near place (length near) width inside there.0 there.1 at short))
 
+-- what was not told does not hold
+pub not_told : {P : Type 0} (found : Option ℕ) → (IsSome found ↔ P) → found ≡ None → ¬ P
+not_told None told none holds = absurd (let some = told.1 holds in cc)
+not_told (Some place) told none holds = absurd cc
+
 -- where all elements are at the end of the list that pass, each of them does
 all_more : (p : ℕ → Bool) (xs : List ℕ) (m k : ℕ) → ((k : ℕ) → m ≤ length xs → suffix_len p (take m xs) ≡ m → k < m → p (get_or xs k 0) ≡ true)
     → m + 1 ≤ length xs → suffix_len p (take (m + 1) xs) ≡ m + 1 → k < m + 1 → p (get_or xs k 0) ≡ true
@@ -186,10 +192,10 @@ all_pass : (p : ℕ → Bool) (xs : List ℕ) (n k : ℕ) → n ≤ length xs �
 all_pass p xs zero k inside all lt = absurd (omega (arith, lt))
 all_pass p xs (suc m) k inside all lt = all_more p xs m k (all_pass p xs m) (omega (arith, inside)) (rw (add-one m) all) (omega (arith, lt))
 
--- where the bytes that are held before a place have no break, no break stands from the first of them up to there
-pub none_before : (t : List ℕ) (h : HeldPart) (place from : ℕ) → AreHeld h t → h.from ≤ from → place ≤ h.from + length h.bytes
-    → suffix_len (λ b. not (is_break b)) (held_up_to h place) ≡ length (held_up_to h place) → (k : ℕ) → from ≤ k → k < place → ¬ StandsAt (0x0A ∷ []) t k
-none_before t h place from held first last all k above below stands =
+-- where the bytes that are held before a place do not tell where its line begins, no break stands among them
+pub none_before : (t : List ℕ) (h : HeldPart) (place from : ℕ) → AreHeld h t → h.from ≤ from → place ≤ h.from + length h.bytes → ¬ TellsStart (held_up_to h place) place
+    → (k : ℕ) → from ≤ k → k < place → ¬ StandsAt (0x0A ∷ []) t k
+none_before t h place from held first last untold k above below stands =
     let plain = λ (b : ℕ). not (is_break b) in
     let n = place - h.from in
     let near = take n h.bytes in
@@ -197,6 +203,10 @@ none_before t h place from held first last all k above below stands =
     let here : held_up_to h place ≡ near = rw (le-ltb (h.from + length h.bytes) place last) refl in
     let j = k - h.from in
     let inside : j < n = omega (arith, above, below, first) in
+    let all : suffix_len plain (held_up_to h place) ≡ length (held_up_to h place) = elim (cases_lt (suffix_len plain (held_up_to h place)) (length (held_up_to h place))) [
+      | inl short ↦ absurd (untold (inl short))
+      | inr long ↦ omega (arith, long, suffix_len-le-length plain (held_up_to h place))
+    ] in
     let whole : suffix_len plain (take n near) ≡ n = ap (suffix_len plain) (take_all n near (omega (arith, long)) ∙ sym here) ∙ all ∙ ap length here ∙ long in
     let passes : plain (get_or near j 0) ≡ true = all_pass plain near n j (omega (arith, long)) whole inside in
     let at : h.from + j ≡ k = omega (arith, above, first) in
@@ -211,13 +221,16 @@ none_before t h place from held first last all k above below stands =
 -- the line that was known to begin is known now, or only what was known before; where the text goes on, the next line
 -- begins behind it
 pub line_passed : (t : List ℕ) (h : HeldPart) (start end len : ℕ) (begun : Option ℕ) (known : KnownLines) → AreHeld h t → h.begun ≡ Some start → start ≤ length t → end ≡ line_end t start → len ≡ length t
-    → (known_lines known ≡ learnt (record { start = start; end = end }) (known_lines h.known)) ⊎ (known ≡ h.known) → (begun ≡ None) ⊎ ((begun ≡ Some (end + 1)) × (end < len)) → AreHeld (record h { begun = begun; known = known }) t
+    → (known_lines known ≡ learnt (record { start = start; end = end }) (known_lines h.known)) ⊎ (known ≡ h.known) → begun ≡ next_line end len → AreHeld (record h { begun = begun; known = known }) t
 line_passed t h start end len begun known held is inside ends long knows next =
     let begins : IsLineStart t start = subst (λ (o : Option ℕ). IfSome o (IsLineStart t)) is held.begun in
     record {
       inside = held.inside;
       bytes = held.bytes;
-      begun = elim next [ inl none ↦ subst (λ (o : Option ℕ). IfSome o (IsLineStart t)) (sym none) tt | inr some ↦ subst (λ (o : Option ℕ). IfSome o (IsLineStart t)) (sym some.0) (next_begins t start end ends (omega (arith, some.1, long))) ];
+      begun = subst (λ (o : Option ℕ). IfSome o (IsLineStart t)) (sym next) (elim (cases_lt end len) [
+        | inl before ↦ rw (lt-ltb end len before) (next_begins t start end ends (omega (arith, before, long)))
+        | inr past ↦ rw (le-ltb end len past) tt
+      ]);
       known = elim knows [
         | inl new ↦ record { each = subst (λ (xs : List KnownLine). All (IsLineOf t) xs) (sym new) (all_learnt t (record { start = start; end = end }) (known_lines h.known) (line_found t start end begins inside ends) held.known.each) }
         | inr old ↦ subst (λ (o : KnownLines). IsKnownIn o t) (sym old) held.known

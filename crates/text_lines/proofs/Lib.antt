@@ -4,6 +4,7 @@ pub mod NearLaws
 pub mod KnownLaws
 pub mod LearntLines
 pub mod ToldCells
+pub mod ToldLater
 pub mod HeldLaws
 pub mod RowLaws
 pub mod RowWalk

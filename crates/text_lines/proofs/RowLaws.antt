@@ -1,7 +1,7 @@
 -- What is shown of a text's lines, one behind the other.
-use Rattle.std.proofs.Common.{◌≡◌, ℕ, ◌+◌, ◌-◌, ◌<◌, ◌≤◌, min, List, [], ◌∷◌, ◌++◌, length, map, take, drop, get_or, Some, None, inl, inr, refl, sym, ap, ◌∙◌, append_assoc, arith}
+use Rattle.std.proofs.Common.{◌≡◌, ℕ, ◌+◌, ◌-◌, ◌<◌, ◌≤◌, min, List, [], ◌∷◌, ◌++◌, length, map, take, drop, get_or, Option, Some, inl, inr, refl, sym, ap, ◌∙◌, append_assoc, arith}
 use Rattle.std.specs.List.{slice_split, position_or_len, flat_map, range_with_len}
-use Rattle.std.proofs.lemmas.Bool.{cases_lt}
+use Rattle.std.proofs.lemmas.Bool.{cases_lt, le-ltb, lt-ltb}
 use Rattle.std.proofs.lemmas.List.{get_or-drop, length-drop, length-take, take_all, take-take, drop-drop, drop-take, drop_all, append-nil, map-append, map-id}
 use Rattle.std.proofs.Math.Seq.{take-add}
 use Rattle.std.proofs.lemmas.List.FromFn.{map-range_with_len_more}
@@ -9,7 +9,7 @@ use Rattle.std.proofs.lemmas.List.Splits.{slice_split_none, slice_split_first}
 use Rattle.std.proofs.lemmas.List.Sums.{fails_before_first}
 use Rattle.std.proofs.lemmas.Grind.{flat_map-append}
 use Rattle.text_lines.specs.declared.rows.TheConstants.{SCREEN_COLUMNS}
-use Rattle.text_lines.specs.Lines.{is_break, line_end}
+use Rattle.text_lines.specs.Lines.{is_break, line_end, next_line}
 use Rattle.text_lines.specs.Screen.{glyph}
 use Rattle.text_lines.specs.Rows.{shown_of, lines_from, row_in, PushesLine}
 
@@ -72,30 +72,28 @@ line_shown t old new start left end n from inside is rest pushed =
     ∙ ap (λ (k : ℕ). old ++ map glyph (take SCREEN_COLUMNS (drop left (take k (drop start t))))) len
     ∙ ap (λ (xs : List ℕ). old ++ shown_of left xs) (sym (first_of (drop start t)))
 
--- behind a line with a break the next one begins
-pub line_then : (t old new : List ℕ) (start left end n : ℕ) → start ≤ end → end < length t → end ≡ line_end t start → n ≡ end - start - left
-    → new ≡ old ++ map glyph (take (end - n + min n SCREEN_COLUMNS - (end - n)) (drop (end - n) t))
-    → PushesLine t (Some start) left (Some (end + 1)) old new
-line_then t old new start left end n from inside is rest pushed =
+-- behind a line with a break the next one begins, and behind the last one none
+lines_behind_one : (t : List ℕ) (start end : ℕ) → start ≤ end → end ≤ length t → end ≡ line_end t start → lines_from t (next_line end (length t)) ≡ drop 1 (lines_from t (Some start))
+lines_behind_one t start end from inside is =
     let xs = drop start t in
     let k = position_or_len is_break xs in
-    let broken : k < length xs = omega (arith, is, inside, from, length-drop start t) in
-    let next : start + (k + 1) ≡ end + 1 = omega (arith, is) in
-    record {
-      pushed = line_shown t old new start left end n from (omega (arith, inside)) is rest pushed;
-      rest = rw (slice_split_first is_break xs 0 broken, drop-drop (k + 1) start t, next) refl;
-    }
+    elim (cases_lt end (length t)) [
+      | inl before ↦
+          let broken : k < length xs = omega (arith, is, before, from, length-drop start t) in
+          let next : start + (k + 1) ≡ end + 1 = omega (arith, is) in
+          rw (lt-ltb end (length t) before, slice_split_first is_break xs 0 broken, drop-drop (k + 1) start t, next) refl
+      | inr past ↦
+          let all : length xs ≤ k = omega (arith, is, past, from, length-drop start t) in
+          rw (le-ltb end (length t) past, only_line xs all) refl
+    ]
 
--- behind the last one no line begins
-pub line_last : (t old new : List ℕ) (start left end n : ℕ) → start ≤ end → end ≡ length t → end ≡ line_end t start → n ≡ end - start - left
-    → new ≡ old ++ map glyph (take (end - n + min n SCREEN_COLUMNS - (end - n)) (drop (end - n) t))
-    → PushesLine t (Some start) left None old new
-line_last t old new start left end n from whole is rest pushed =
-    let xs = drop start t in
-    let past : length xs ≤ position_or_len is_break xs = omega (arith, is, whole, from, length-drop start t) in
+pub line_pushed : (t old new : List ℕ) (start left end n : ℕ) (next : Option ℕ) → start ≤ end → end ≤ length t → end ≡ line_end t start → n ≡ end - start - left
+    → new ≡ old ++ map glyph (take (end - n + min n SCREEN_COLUMNS - (end - n)) (drop (end - n) t)) → next ≡ next_line end (length t)
+    → PushesLine t (Some start) left next old new
+line_pushed t old new start left end n next from inside is rest pushed behind =
     record {
-      pushed = line_shown t old new start left end n from (omega (arith, whole)) is rest pushed;
-      rest = rw (only_line xs past) refl;
+      pushed = line_shown t old new start left end n from inside is rest pushed;
+      rest = ap (lines_from t) behind ∙ lines_behind_one t start end from inside is;
     }
 
 -- one row more, of the next line or of none

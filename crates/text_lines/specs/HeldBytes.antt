@@ -1,6 +1,6 @@
 -- Bytes of a text that are held, to look for line breaks among them.
-use Rattle.std.specs.Prelude.{◌≡◌, ℕ, ◌+◌, ◌-◌, ◌<◌, ◌≤◌, not, nat_lt, if◌then◌else◌, List, [], length, take, drop, Option, IfSome}
-use Rattle.std.specs.List.{suffix_len}
+use Rattle.std.specs.Prelude.{◌≡◌, ◌⊎◌, ℕ, ◌+◌, ◌-◌, ◌<◌, ◌≤◌, not, nat_lt, if◌then◌else◌, List, [], length, take, drop, Option, IfSome}
+use Rattle.std.specs.List.{position_or_len, suffix_len}
 use Rattle.text_lines.specs.declared.known_lines.KnownLines.{KnownLines}
 use Rattle.text_lines.specs.KnownLines.{IsKnownIn}
 use Rattle.text_lines.specs.Lines.{is_break}
@@ -28,6 +28,11 @@ pub record AreHeld (held : HeldPart) (t : List ℕ) : Type 0 where
   pub begun : IfSome held.begun (IsLineStart t)
   pub known : IsKnownIn held.known t
 
--- a line break is among these bytes: not all of them stand behind the last one
+-- a line break is among these bytes
 abbrev pub HasBreak : List ℕ → Type 0
-HasBreak bytes = suffix_len (λ b. not (is_break b)) bytes < length bytes
+HasBreak bytes = position_or_len is_break bytes < length bytes
+
+-- these bytes, which stand before a place, tell where its line begins: a line break is among them, not all of them stand
+-- behind the last one, or no more stand there
+abbrev pub TellsStart : List ℕ → ℕ → Type 0
+TellsStart bytes place = (suffix_len (λ b. not (is_break b)) bytes < length bytes) ⊎ (length bytes ≡ place)

@@ -1,5 +1,5 @@
 -- The lines of a text: its parts between line breaks.
-use Rattle.std.specs.Prelude.{ℕ, ◌+◌, ◌-◌, min, Bool, not, ◌==◌, nat_lt, if◌then◌else◌, List, length, take, drop}
+use Rattle.std.specs.Prelude.{ℕ, ◌+◌, ◌-◌, min, Bool, not, ◌==◌, nat_lt, if◌then◌else◌, List, length, take, drop, Option, Some, None}
 use Rattle.std.specs.List.{suffix_len, position_or_len}
 
 abbrev pub is_break : ℕ → Bool
@@ -15,6 +15,10 @@ line_start t p = p - column t p
 -- the first line break at p or behind it, or the text's end
 abbrev pub line_end : List ℕ → ℕ → ℕ
 line_end t p = p + position_or_len is_break (drop p t)
+
+-- where the line begins behind one that ends at e, in a text of n bytes
+abbrev pub next_line : ℕ → ℕ → Option ℕ
+next_line e n = if nat_lt e n then Some (e + 1) else None
 
 -- the place of the same column in the line before and in the line behind, or that line's end where it is shorter
 abbrev pub place_above : List ℕ → ℕ → ℕ

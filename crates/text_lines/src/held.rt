@@ -8,7 +8,7 @@ ghost use Rattle.cord_search.specs.Stated.{OfText};
 ghost use Rattle.text_lines.specs.HeldBytes.{held_up_to, held_starting_at, AreHeld};
 ghost use Rattle.text_lines.specs.declared.known.KnownLine.{KnownLine};
 ghost use Rattle.text_lines.specs.KnownLines.{known_lines, learnt};
-ghost use Rattle.text_lines.specs.Lines.{line_end};
+ghost use Rattle.text_lines.specs.Lines.{line_end, next_line};
 
 use crate::asking::ask_part;
 use crate::known::KnownLine;
@@ -27,6 +27,13 @@ const ROOM: usize = PIECE + 1_024;
 
 /// How many bytes before a place are held first where they lie in several leaves: mostly a line break is among them.
 pub const NEAR: u64 = 1_024;
+
+/// Where the line begins behind one that ends at a place, in a text of `len` bytes.
+fn next_line(end: u64, len: u64) -> Option<u64>
+    ensures { result ≡ next_line end len }
+{
+    if end < len { Some(end + 1) } else { None }
+}
 
 /// Bytes of a text from a place on, and what is known of its lines.
 #[derive(Drop)]
@@ -95,22 +102,25 @@ impl HeldBytes {
     }
 
     /// The line that begins at `start` ends at `end`, in a text of `len` bytes. If that start was known, the line is
-    /// known from now on if it is long, and the next line begins behind it.
-    pub fn pass_line(&mut self, start: u64, end: u64, len: u64)
+    /// known from now on if it is long, and so is the start of the next line, which is answered in any case.
+    pub fn pass_line(&mut self, start: u64, end: u64, len: u64) -> Option<u64>
+        ensures next { result ≡ next_line end len }
         ensures bytes { self.new ≡ record self.old { begun = self.new.begun; known = self.new.known } }
         ensures held { (t : List ℕ) → AreHeld self.old t → start ≤ length t → end ≡ line_end t start → len ≡ length t
             → AreHeld self.new t }
         ensures learnt { self.old.begun ≡ Some start → PIECE < end - start
             → known_lines self.new.known ≡ learnt (record { start = start; end = end }) (known_lines self.old.known) }
     {
+        let next = next_line(end, len);
         let Some(begun) = self.begun else {
-            return;
+            return next;
         };
         if begun != start {
-            return;
+            return next;
         }
         self.known.learn(KnownLine { start, end });
-        self.begun = if end < len { Some(end + 1) } else { None };
+        self.begun = next;
+        next
     }
 
     /// Whether a place is that of a byte that is held, or right behind the last one.
@@ -218,35 +228,10 @@ impl HeldBytes {
         self.kept && self.reaches(end) && self.from.saturating_sub(from) <= self.start as u64
     }
 
-    /// Holds the `NEAR` bytes before a place and nothing else. Before that it asks for the blocks of the rest of the
-    /// `PIECE` bytes before the place, from the first on.
-    fn begin_near<S: NodeSpace, T: Sources>(
-        &mut self,
-        space: &S,
-        sources: &mut T,
-        rope: Rope,
-        end: u64,
-    ) -> Result<(), SourceFault>
-        requires rope { IsRope (S.table space.now) rope }
-        requires end { end ≤ rope_len (S.table space.now) rope }
-        requires held { OfText (S.table space.now) (T.reading sources.old).stated rope (AreHeld self.old) }
-        ensures held { OnOk result (OfText (S.table space.now) (T.reading sources.old).stated rope (AreHeld self.new)) }
-        ensures reads { ReadsSpan (T.reading sources.old) (T.reading sources.new)
-            (rope_cell (S.table space.now) rope) (end - PIECE) end result }
-    {
-        prove!(end <= rope_len(space, rope));
-        let from = end.saturating_sub(PIECE as u64);
-        let near = end.saturating_sub(NEAR);
-        ask_part(space, sources, rope, from, near)?;
-        self.begin_at(end);
-        self.read_before(space, sources, rope, near)?;
-        self.asked = from;
-        Ok(())
-    }
-
     /// Asks for the blocks of the `PIECE` bytes before a place, from the first on, or of all where there are fewer.
     /// Blocks that were asked for on the way to what is held are not asked for again, and none are where the bytes lie
-    /// in one leaf (`straight`). Where nothing is held up to the place, it holds the nearest bytes.
+    /// in one leaf (`straight`). Where nothing is held up to the place, it holds the `NEAR` bytes before it, and nothing
+    /// else.
     ///
     /// # Errors
     ///
@@ -270,12 +255,17 @@ impl HeldBytes {
         if straight {
             return Ok(());
         }
-        if !self.kept || !self.reaches(end) {
-            return self.begin_near(space, sources, rope, end);
-        }
         let from = end.saturating_sub(PIECE as u64);
-        ask_part(space, sources, rope, from, self.asked.min(end))?;
-        self.asked = self.asked.min(from);
+        if self.kept && self.reaches(end) {
+            ask_part(space, sources, rope, from, self.asked.min(end))?;
+            self.asked = self.asked.min(from);
+            return Ok(());
+        }
+        let near = end.saturating_sub(NEAR);
+        ask_part(space, sources, rope, from, near)?;
+        self.begin_at(end);
+        self.read_before(space, sources, rope, near)?;
+        self.asked = from;
         Ok(())
     }
 

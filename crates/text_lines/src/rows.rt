@@ -46,62 +46,9 @@ fn push_glyphs(bytes: &[u8], out: &mut Vec<u8>) -> Result<(), AllocError>
     out.extend_from_slice(&shown[..bytes.len()])
 }
 
-/// Appends the bytes from `start` up to `end`, at most a row of them, as they are shown.
-fn push_part<S: NodeSpace, T: Sources>(
-    space: &S,
-    sources: &mut T,
-    rope: Rope,
-    start: u64,
-    end: u64,
-    out: &mut Vec<u8>,
-) -> Result<(), FrameFault>
-    requires rope { IsRope (S.table space.now) rope }
-    requires start { start ≤ end }
-    requires end { end ≤ rope_len (S.table space.now) rope }
-    requires row { end ≤ start + SCREEN_COLUMNS }
-    ensures bytes { OnOk result (OfText (S.table space.now) (T.reading sources.old).stated rope
-        (λ t. out.new.items ≡ out.old.items ++ map glyph (take (end - start) (drop start t)))) }
-    ensures reads { ReadsToShow (T.reading sources.old) (T.reading sources.new)
-        (rope_cell (S.table space.now) rope) (rope_len (S.table space.now) rope) result }
-{
-    let mut buffer = [0; SCREEN_COLUMNS as usize];
-    let row = &mut buffer[..(end - start) as usize];
-    read_part(space, sources, rope, start, row)?;
-    push_glyphs(row, out)?;
-    Ok(())
-}
-
-/// Appends the bytes from `start` up to `end` part by part, as they are shown. A part ends with the first byte for
-/// which `out` takes memory, so memory is asked for after that byte is read.
-fn push_parts<S: NodeSpace, T: Sources>(
-    space: &S,
-    sources: &mut T,
-    rope: Rope,
-    start: u64,
-    end: u64,
-    out: &mut Vec<u8>,
-) -> Result<(), FrameFault>
-    requires rope { IsRope (S.table space.now) rope }
-    requires start { start ≤ end }
-    requires end { end ≤ rope_len (S.table space.now) rope }
-    requires row { end ≤ start + SCREEN_COLUMNS }
-    ensures bytes { OnOk result (OfText (S.table space.now) (T.reading sources.old).stated rope
-        (λ t. out.new.items ≡ out.old.items ++ map glyph (take (end - start) (drop start t)))) }
-    ensures reads { ReadsToShow (T.reading sources.old) (T.reading sources.new)
-        (rope_cell (S.table space.now) rope) (rope_len (S.table space.now) rope) result }
-{
-    let mut place = start;
-    while place < end {
-        let room = out.capacity().saturating_sub(out.len()).saturating_add(1);
-        let to = place + (end - place).min(room as u64);
-        push_part(space, sources, rope, place, to, out)?;
-        place = to;
-    }
-    Ok(())
-}
-
-/// Appends the bytes from `start` up to `end`, as they are shown: from what is held, where that came by blocks that are
-/// kept; elsewhere part by part.
+/// Appends the bytes from `start` up to `end`, at most a row of them, as they are shown: from what is held, where that
+/// came by blocks that are kept; elsewhere part by part. A part ends with the first byte for which `out` takes memory, so
+/// memory is asked for after that byte is read.
 fn push_row<S: NodeSpace, T: Sources>(
     held: &HeldBytes,
     space: &S,
@@ -121,58 +68,26 @@ fn push_row<S: NodeSpace, T: Sources>(
     ensures reads { ReadsToShow (T.reading sources.old) (T.reading sources.new)
         (rope_cell (S.table space.now) rope) (rope_len (S.table space.now) rope) result }
 {
-    match held.kept_part(start, (end - start) as usize) {
-        Some(row) => {
-            push_glyphs(row, out)?;
-            Ok(())
-        }
-        None => push_parts(space, sources, rope, start, end, out),
+    if let Some(row) = held.kept_part(start, (end - start) as usize) {
+        push_glyphs(row, out)?;
+        return Ok(());
     }
+    let mut buffer = [0; SCREEN_COLUMNS as usize];
+    let mut place = start;
+    while place < end {
+        let room = out.capacity().saturating_sub(out.len()).saturating_add(1);
+        let to = place + (end - place).min(room as u64);
+        let part = &mut buffer[..(to - place) as usize];
+        read_part(space, sources, rope, place, part)?;
+        push_glyphs(part, out)?;
+        place = to;
+    }
+    Ok(())
 }
 
-/// Appends what is shown of the line that begins at `start`, from the column `left` on. It answers where the next
-/// line begins, or that there is none.
+/// Appends what is shown of the line that begins at `start`, from the column `left` on, or nothing behind the last line.
+/// It answers where the next line begins, or that there is none.
 fn push_line<S: NodeSpace, T: Sources>(
-    alloc: Global,
-    held: &mut HeldBytes,
-    space: &S,
-    sources: &mut T,
-    rope: Rope,
-    start: u64,
-    left: u64,
-    out: &mut Vec<u8>,
-) -> Result<Option<u64>, FrameFault>
-    requires rope { IsRope (S.table space.now) rope }
-    requires start { start ≤ rope_len (S.table space.now) rope }
-    requires held { OfText (S.table space.now) (T.reading sources.old).stated rope (AreHeld held.old) }
-    ensures inside { IfOk result (λ next. IfSome next (λ s. s ≤ rope_len (S.table space.now) rope)) }
-    ensures held { IfOk result (λ _.
-        OfText (S.table space.now) (T.reading sources.old).stated rope (AreHeld held.new)) }
-    ensures line { IfOk result (λ next. OfText (S.table space.now) (T.reading sources.old).stated rope
-        (λ t. PushesLine t (Some start) left next out.old.items out.new.items)) }
-    ensures reads { ReadsToShow (T.reading sources.old) (T.reading sources.new)
-        (rope_cell (S.table space.now) rope) (rope_len (S.table space.now) rope) result }
-{
-    let len = rope_len(space, rope);
-    let end = near_end(alloc, held, space, sources, rope, start)?;
-    held.pass_line(start, end, len);
-    let rest = (end - start).saturating_sub(left);
-    let from = end - rest;
-    push_row(
-        held,
-        space,
-        sources,
-        rope,
-        from,
-        from + rest.min(SCREEN_COLUMNS),
-        out,
-    )?;
-    let next = if end < len { Some(end + 1) } else { None };
-    Ok(next)
-}
-
-/// Appends what is shown of the line that begins at `start`, or nothing behind the last line.
-fn push_line_at<S: NodeSpace, T: Sources>(
     alloc: Global,
     held: &mut HeldBytes,
     space: &S,
@@ -193,10 +108,16 @@ fn push_line_at<S: NodeSpace, T: Sources>(
     ensures reads { ReadsToShow (T.reading sources.old) (T.reading sources.new)
         (rope_cell (S.table space.now) rope) (rope_len (S.table space.now) rope) result }
 {
-    match start {
-        Some(start) => push_line(alloc, held, space, sources, rope, start, left, out),
-        None => Ok(None),
-    }
+    let Some(start) = start else {
+        return Ok(None);
+    };
+    let end = near_end(alloc, held, space, sources, rope, start)?;
+    let next = held.pass_line(start, end, rope_len(space, rope));
+    let rest = (end - start).saturating_sub(left);
+    let from = end - rest;
+    let to = from + rest.min(SCREEN_COLUMNS);
+    push_row(held, space, sources, rope, from, to, out)?;
+    Ok(next)
 }
 
 /// Appends the rows of the screen: its first line begins at `top`, and its first column is `left`. Line ends are looked
@@ -226,7 +147,7 @@ pub fn push_rows<S: NodeSpace, T: Sources>(
 {
     let mut next = Some(top);
     for row in 0..SCREEN_ROWS {
-        next = push_line_at(alloc, held, space, sources, rope, next, left, out)?;
+        next = push_line(alloc, held, space, sources, rope, next, left, out)?;
         out.extend_from_slice(b"\r\n")?;
     }
     Ok(())

@@ -1,14 +1,14 @@
-use Rattle.std.proofs.Common.{◌≡◌, ◌+◌, ◌-◌, ◌++◌, ℕ, length, map, take, drop, sym, subst, ◌∙◌, arith}
+use Rattle.std.proofs.Common.{◌≡◌, ◌+◌, ◌-◌, ◌++◌, ℕ, length, map, take, drop, sym, ap, subst, ◌∙◌, arith}
 use Rattle.std.proofs.lemmas.Result.{err_from_is_err_and}
-use Rattle.lazy_file.proofs.LaterReads.{same_stated}
 use Rattle.rope_node.specs.Denotes.{rope_cells, rope_len, text}
 use Rattle.cord_position.specs.Fetched.{rope_cell}
-use Rattle.cord_search.proofs.Fetches.{told_before, text_length}
+use Rattle.cord_search.proofs.Fetches.{text_length}
 use Rattle.text_lines.specs.Screen.{glyph}
 use Rattle.text_lines.specs.HeldBytes.{AreHeld}
-use Rattle.text_lines.specs.Lines.{line_end}
-use Rattle.text_lines.proofs.RowLaws.{line_then, line_last}
+use Rattle.text_lines.specs.Lines.{line_end, next_line}
+use Rattle.text_lines.proofs.RowLaws.{line_pushed}
 use Rattle.text_lines.proofs.Showing.{failed_part}
+use Rattle.text_lines.proofs.ToldLater.{told_then}
 use Rattle.text_lines.proofs.rows.push_line.Goals as goal
 
 pub returns-in_err-push_row-clause-reads : goal.returns-in_err-push_row-clause-reads
@@ -18,50 +18,33 @@ returns-in_err-push_row-clause-reads g c =
     rw (p.1, p.2) (failed_part (g.T.Sources.reading c.args.sources.now) (g.T.Sources.reading c.near_end.new.sources) (g.T.Sources.reading c.push_row.new.sources) (rope_cell t c.args.rope) (rope_len t c.args.rope) _
     c.in_ok-end.ensures.reads c.in_err-push_row.ensures.reads)
 
-pub returns-then-end-len-clause-line : goal.returns-then-end-len-clause-line
-returns-then-end-len-clause-line g c source agrees stated =
+pub returns-clause-line : goal.returns-clause-line
+returns-clause-line g c source agrees stated =
     let t = g.S.NodeSpace.table c.args.space.now in
     let u = text source (rope_cells t c.args.rope) in
     let end = c.in_ok-end.end in
     let n = c.saturating_sub-rest.result in
-    let long : length u ≡ c.rope_len-len.result = text_length t c.args.rope source ∙ sym c.rope_len-len.ensures.cells in
-    let bytes = told_before t (g.T.Sources.reading c.args.sources.now).stated (g.T.Sources.reading c.near_end.new.sources).stated c.args.rope 0 (rope_len t c.args.rope) (λ v. c.push_row.new.out.items ≡ c.args.out.now.items ++ map glyph (take (end - n + c.min.result - (end - n)) (drop (end - n) v))) (same_stated c.in_ok-end.ensures.reads) c.in_ok-push_row.ensures.bytes source agrees stated in
+    let long : length u ≡ c.rope_len.result = text_length t c.args.rope source ∙ sym c.rope_len.ensures.cells in
+    let bytes = told_then t (g.T.Sources.reading c.args.sources.now) (g.T.Sources.reading c.near_end.new.sources) c.args.rope (λ v. c.push_row.new.out.items ≡ c.args.out.now.items ++ map glyph (take (end - n + c.min.result - (end - n)) (drop (end - n) v))) c.in_ok-end.ensures.reads c.in_ok-push_row.ensures.bytes source agrees stated in
     let pushed = subst (λ (m : ℕ). c.push_row.new.out.items ≡ c.args.out.now.items ++ map glyph (take (end - n + m - (end - n)) (drop (end - n) u))) c.min.ensures bytes in
-    line_then u c.args.out.now.items c.push_row.new.out.items c.args.start c.args.left end n c.in_ok-end.ensures.from (omega (arith, long, c.if-end-len.true)) (c.in_ok-end.ensures.is source agrees stated) c.saturating_sub-rest.ensures pushed
-
-pub returns-else-end-len-clause-line : goal.returns-else-end-len-clause-line
-returns-else-end-len-clause-line g c source agrees stated =
-    let t = g.S.NodeSpace.table c.args.space.now in
-    let u = text source (rope_cells t c.args.rope) in
-    let end = c.in_ok-end.end in
-    let n = c.saturating_sub-rest.result in
-    let long : length u ≡ c.rope_len-len.result = text_length t c.args.rope source ∙ sym c.rope_len-len.ensures.cells in
-    let bytes = told_before t (g.T.Sources.reading c.args.sources.now).stated (g.T.Sources.reading c.near_end.new.sources).stated c.args.rope 0 (rope_len t c.args.rope) (λ v. c.push_row.new.out.items ≡ c.args.out.now.items ++ map glyph (take (end - n + c.min.result - (end - n)) (drop (end - n) v))) (same_stated c.in_ok-end.ensures.reads) c.in_ok-push_row.ensures.bytes source agrees stated in
-    let pushed = subst (λ (m : ℕ). c.push_row.new.out.items ≡ c.args.out.now.items ++ map glyph (take (end - n + m - (end - n)) (drop (end - n) u))) c.min.ensures bytes in
-    line_last u c.args.out.now.items c.push_row.new.out.items c.args.start c.args.left end n c.in_ok-end.ensures.from (omega (arith, long, c.if-end-len.false, c.in_ok-end.ensures.inside, c.rope_len-len.ensures.exact)) (c.in_ok-end.ensures.is source agrees stated) c.saturating_sub-rest.ensures pushed
+    rw c.in-Some.is (line_pushed u c.args.out.now.items c.push_row.new.out.items c.in-Some.start c.args.left end n c.pass_line-next.result c.in_ok-end.ensures.from (omega (arith, long, c.in_ok-end.ensures.inside, c.rope_len.ensures.exact)) (c.in_ok-end.ensures.is source agrees stated) c.saturating_sub-rest.ensures pushed
+    (c.pass_line-next.ensures.next ∙ ap (next_line end) (sym long)))
 
 pub push_row-requires-clause-held : goal.push_row-requires-clause-held
 push_row-requires-clause-held g c source agrees stated =
     let t = g.S.NodeSpace.table c.args.space.now in
     let u = text source (rope_cells t c.args.rope) in
-    let long : length u ≡ c.rope_len-len.result = text_length t c.args.rope source ∙ sym c.rope_len-len.ensures.cells in
-    let old = (g.T.Sources.reading c.args.sources.now).stated in
-    let new = (g.T.Sources.reading c.near_end.new.sources).stated in
-    let same = sym (same_stated c.in_ok-end.ensures.reads) in
-    let held = told_before t new old c.args.rope 0 (rope_len t c.args.rope) (AreHeld c.near_end.new.held) same c.in_ok-end.ensures.held source agrees stated in
-    let ends = told_before t new old c.args.rope 0 (rope_len t c.args.rope) (λ v. c.in_ok-end.end ≡ line_end v c.args.start) same c.in_ok-end.ensures.is source agrees stated in
-    c.pass_line.ensures.held u held (omega (arith, long, c.rope_len-len.ensures.exact, c.requires.start)) ends (sym long)
+    let long : length u ≡ c.rope_len.result = text_length t c.args.rope source ∙ sym c.rope_len.ensures.cells in
+    let old = g.T.Sources.reading c.args.sources.now in
+    let new = g.T.Sources.reading c.near_end.new.sources in
+    let same = sym c.in_ok-end.ensures.reads in
+    let held = told_then t new old c.args.rope (AreHeld c.near_end.new.held) same c.in_ok-end.ensures.held source agrees stated in
+    let ends = told_then t new old c.args.rope (λ v. c.in_ok-end.end ≡ line_end v c.in-Some.start) same c.in_ok-end.ensures.is source agrees stated in
+    c.pass_line-next.ensures.held u held (omega (arith, long, c.rope_len.ensures.exact, rw c.in-Some.is at c.requires.start)) ends (sym long)
 
-pub returns-then-end-len-clause-held : goal.returns-then-end-len-clause-held
-returns-then-end-len-clause-held g c source agrees stated =
+pub returns-clause-held : goal.returns-clause-held
+returns-clause-held g c source agrees stated =
     let t = g.S.NodeSpace.table c.args.space.now in
     let u = text source (rope_cells t c.args.rope) in
-    let long : length u ≡ c.rope_len-len.result = text_length t c.args.rope source ∙ sym c.rope_len-len.ensures.cells in
-    c.pass_line.ensures.held u (c.in_ok-end.ensures.held source agrees stated) (omega (arith, long, c.rope_len-len.ensures.exact, c.requires.start)) (c.in_ok-end.ensures.is source agrees stated) (sym long)
-
-pub returns-else-end-len-clause-held : goal.returns-else-end-len-clause-held
-returns-else-end-len-clause-held g c source agrees stated =
-    let t = g.S.NodeSpace.table c.args.space.now in
-    let u = text source (rope_cells t c.args.rope) in
-    let long : length u ≡ c.rope_len-len.result = text_length t c.args.rope source ∙ sym c.rope_len-len.ensures.cells in
-    c.pass_line.ensures.held u (c.in_ok-end.ensures.held source agrees stated) (omega (arith, long, c.rope_len-len.ensures.exact, c.requires.start)) (c.in_ok-end.ensures.is source agrees stated) (sym long)
+    let long : length u ≡ c.rope_len.result = text_length t c.args.rope source ∙ sym c.rope_len.ensures.cells in
+    c.pass_line-next.ensures.held u (c.in_ok-end.ensures.held source agrees stated) (omega (arith, long, c.rope_len.ensures.exact, rw c.in-Some.is at c.requires.start)) (c.in_ok-end.ensures.is source agrees stated) (sym long)

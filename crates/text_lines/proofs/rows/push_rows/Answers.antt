@@ -14,7 +14,7 @@ pub returns-in_err-next-clause-reads : goal.returns-in_err-next-clause-reads
 returns-in_err-next-clause-reads g c =
     let p = err_from_is_err_and c.from_residual.result c.from_residual.ensures.1 in
     let t = g.S.NodeSpace.table c.args.space.now in
-    rw (p.1, p.2) (failed_part (g.T.Sources.reading c.args.sources.now) (g.T.Sources.reading c.loop-row.sources) (g.T.Sources.reading c.push_line_at.new.sources) (rope_cell t c.args.rope) (rope_len t c.args.rope) _
+    rw (p.1, p.2) (failed_part (g.T.Sources.reading c.args.sources.now) (g.T.Sources.reading c.loop-row.sources) (g.T.Sources.reading c.push_line.new.sources) (rope_cell t c.args.rope) (rope_len t c.args.rope) _
     c.loop-row.invariant.reads c.in_err-next.ensures.reads)
 
 pub loop-row-preserved : goal.loop-row-preserved
@@ -23,15 +23,15 @@ loop-row-preserved g c = record {
   inside = c.in_ok-next.ensures.inside;
   held = λ source agrees stated.
       let t = g.S.NodeSpace.table c.args.space.now in
-      told_before t (g.T.Sources.reading c.args.sources.now).stated (g.T.Sources.reading c.loop-row.sources).stated c.args.rope 0 (rope_len t c.args.rope) (AreHeld c.push_line_at.new.held) (same_stated c.loop-row.invariant.reads) c.in_ok-next.ensures.held source agrees stated;
+      told_before t (g.T.Sources.reading c.args.sources.now).stated (g.T.Sources.reading c.loop-row.sources).stated c.args.rope 0 (rope_len t c.args.rope) (AreHeld c.push_line.new.held) (same_stated c.loop-row.invariant.reads) c.in_ok-next.ensures.held source agrees stated;
   told = λ source agrees stated.
       let t = g.S.NodeSpace.table c.args.space.now in
       let u = text source (rope_cells t c.args.rope) in
-      let shown = c.push_line_at.new.out.items in
+      let shown = c.push_line.new.out.items in
       let line = told_before t (g.T.Sources.reading c.args.sources.now).stated (g.T.Sources.reading c.loop-row.sources).stated c.args.rope 0 (rope_len t c.args.rope) (λ v. PushesLine v c.loop-row.next c.args.left c.in_ok-next.next c.loop-row.out.items shown) (same_stated c.loop-row.invariant.reads) c.in_ok-next.ensures.line source agrees stated in
       subst (IsAtRow u c.args.top c.args.left (c.loop-row.row + 1) c.in_ok-next.next c.args.out.now.items) (sym c.in_ok-extend_from_slice.ensures.items)
       (row_more u c.args.top c.args.left c.loop-row.row c.loop-row.next c.in_ok-next.next c.args.out.now.items c.loop-row.out.items shown (c.loop-row.invariant.told source agrees stated) line);
 }
 
-pub push_line_at-requires-clause-held : goal.push_line_at-requires-clause-held
-push_line_at-requires-clause-held g c = rw (same_stated c.loop-row.invariant.reads) c.loop-row.invariant.held
+pub push_line-requires-clause-held : goal.push_line-requires-clause-held
+push_line-requires-clause-held g c = rw (same_stated c.loop-row.invariant.reads) c.loop-row.invariant.held
