@@ -8,3 +8,4 @@ pub mod Joined
 pub mod InRange
 pub mod Cutting
 pub mod PartPlaces
+pub mod RecordedNumbers

@@ -10,33 +10,13 @@ use Rattle.command_parts.specs.Commands.{with_splices, named_splices, full_edit,
 
 module _ (all more : List Splice) where
   pub names_kept : (edit : Edit) → NamesSplices all edit → NamesSplices (all ++ more) edit
-  names_kept Recorded.New is = tt
-  names_kept (Recorded.Open s) is = tt
-  names_kept (Recorded.Insert r p a n) is = tt
-  names_kept (Recorded.Delete r p n) is = tt
-  names_kept (Recorded.Replace r p m a n) is = tt
-  names_kept (Recorded.Paste r p q i n) is = tt
-  names_kept (Recorded.Join r q) is = tt
-  names_kept (Recorded.Cut r i n) is = tt
-  names_kept (Recorded.Fill r p c n) is = tt
-  names_kept (Recorded.Back r) is = tt
-  names_kept (Recorded.Balance r) is = tt
   names_kept (Recorded.Many r first count) is = (omega (arith, is.0, length-append all more), is.1)
+  names_kept other is = tt
 
   pub named_kept : (edit : Edit) → NamesSplices all edit → named_splices (all ++ more) edit ≡ named_splices all edit
-  named_kept Recorded.New is = refl
-  named_kept (Recorded.Open s) is = refl
-  named_kept (Recorded.Insert r p a n) is = refl
-  named_kept (Recorded.Delete r p n) is = refl
-  named_kept (Recorded.Replace r p m a n) is = refl
-  named_kept (Recorded.Paste r p q i n) is = refl
-  named_kept (Recorded.Join r q) is = refl
-  named_kept (Recorded.Cut r i n) is = refl
-  named_kept (Recorded.Fill r p c n) is = refl
-  named_kept (Recorded.Back r) is = refl
-  named_kept (Recorded.Balance r) is = refl
   named_kept (Recorded.Many r first count) is =
       ap (take count) (drop-append-le first all more (omega (arith, is.0))) ∙ take-append-le count (drop first all) more (omega (arith, is.0, length-drop first all))
+  named_kept other is = refl
 
   -- a command says what it said, where the list of all goes on
   pub full_edit_kept : (edit : Edit) → NamesSplices all edit → full_edit (all ++ more) edit ≡ full_edit all edit

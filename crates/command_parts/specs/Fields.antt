@@ -3,6 +3,7 @@ use Rattle.std.specs.Prelude.{◌≡◌, ℕ, ◌^◌, ◌<◌, Bool, false, not
 use Rattle.std.specs.List.{AllByRecursion}
 use Rattle.command_parts.specs.declared.codes.TheConstants.{BACK, BALANCE, CUT, DELETE, FILL, INSERT, JOIN, MANY, NEW, OPEN, PASTE, REPLACE}
 use Rattle.command_parts.specs.declared.edit.Edit.{Edit}
+use Rattle.command_parts.specs.declared.numbers.Numbers.{Numbers}
 use Rattle.command_parts.specs.declared.edit.Edit.TheVariants.{New, Open, Insert, Delete, Replace, Paste, Join, Cut, Fill, Back, Balance, Many}
 
 -- the fields of a revision's record for its command's numbers
@@ -34,6 +35,15 @@ number_limit place = if nat_lt place 2 then 2 ^ 32 else 2 ^ 64
 pub record Recorded : Type 0 where
   pub code : ℕ
   pub uses : List (Field × ℕ)
+
+-- the number of a field
+abbrev pub field_of : Numbers → Field → ℕ
+field_of x R = x.r
+field_of x Q = x.q
+field_of x P = x.p
+field_of x M = x.m
+field_of x A = x.a
+field_of x N = x.n
 
 -- what each command is recorded as
 abbrev pub recorded : Edit → Recorded
@@ -90,6 +100,20 @@ is_in_field f x = place_in_record x.0 == place_in_record f
 abbrev pub number_for : List (Field × ℕ) → Field → ℕ
 number_for [] f = 0
 number_for (x ∷ xs) f = if is_in_field f x then x.1 else number_for xs f
+
+-- the numbers of a command: what it does not use is 0
+abbrev pub number_of : Edit → Field → ℕ
+number_of edit f = number_for (recorded edit).uses f
+
+abbrev pub numbers_of : Edit → Numbers
+numbers_of e = record {
+  r = number_of e R;
+  q = number_of e Q;
+  p = number_of e P;
+  m = number_of e M;
+  a = number_of e A;
+  n = number_of e N;
+}
 
 abbrev pub is_used : List (Field × ℕ) → Field → Bool
 is_used [] f = false

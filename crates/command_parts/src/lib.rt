@@ -3,6 +3,7 @@
 
 pub mod codes;
 mod edit;
+mod numbers;
 mod part;
 mod part_iter;
 mod pieces;
@@ -11,6 +12,7 @@ mod roots;
 mod splices;
 
 pub use edit::{Edit, MOST_REVISIONS, MOST_SPLICES, SPLICES_LIMIT, Splice};
+pub use numbers::Numbers;
 pub use part::Part;
 pub use part_iter::{PartIter, parts};
 pub use place::PartPlace;

@@ -1,5 +1,5 @@
 -- The rows of a revision that is known already.
-use Rattle.std.proofs.Common.{◌≡◌, ◌+◌, ◌<◌, ℕ, List, [], ◌∷◌, ◌++◌, length, Option, Result, Ok, Err, refl, ap, subst, sym, ◌∙◌, arith}
+use Rattle.std.proofs.Common.{◌≡◌, ◌+◌, ◌<◌, ℕ, List, [], ◌∷◌, ◌++◌, length, Option, Result, Ok, Err, refl, ap, subst, arith}
 use Rattle.std.specs.Prelude.{IfOk, OnOk}
 use Rattle.edit_commands.specs.declared.fault.EditFault.{EditFault}
 use Rattle.span_certificate.specs.declared.making.TheConstants.{ROWS_LIMIT}
@@ -14,13 +14,12 @@ use Rattle.rope_node.specs.Table.{Table, IsSound, HasTrueRecords}
 use Rattle.rope_node.specs.Denotes.{Cell, rope_cells}
 use Rattle.node_table.specs.Held.{Held, table_of, held_coded}
 use Rattle.command_parts.specs.declared.edit.Edit.{Edit}
-use Rattle.command_parts.specs.declared.edit.Edit.TheVariants as Recorded
 use Rattle.command_parts.specs.declared.edit.Splice.{Splice}
 use Rattle.command_parts.specs.declared.part.Part.{Part}
 use Rattle.span_certificate.specs.declared.row.Row.{Row}
 use Rattle.span_certificate.specs.declared.row.RowKind.{RowKind}
 use Rattle.span_certificate.specs.declared.row.RowKind.TheVariants.{Shared, Leaf, Bytes}
-use Rattle.command_parts.specs.Commands.{FullEdit, with_splices}
+use Rattle.command_parts.specs.Commands.{with_splices}
 use Rattle.span_certificate.specs.Covers.{CoversAlways, CoversAnyhow, MeetsNoSource, KindFitsBy, SameOver, place_of, row_at}
 use Rattle.command_parts.specs.Parts.{parts_of, parts_cells, AreRopes}
 use Rattle.command_parts.proofs.PartsInRange.{parts_in_range}

@@ -6,7 +6,7 @@ use Rattle.std.proofs.lemmas.List.{length-append}
 use Rattle.std.proofs.lemmas.List.Sums.{sum_by-cons}
 use Rattle.std.proofs.Math.Seq.{take-append_seam, drop-append_seam}
 use Rattle.command_parts.specs.declared.edit.Edit.{Edit}
-use Rattle.command_parts.specs.declared.edit.Edit.TheVariants.{New, Open, Insert, Delete, Replace, Paste, Join, Cut, Fill, Back, Balance, Many}
+use Rattle.command_parts.specs.declared.edit.Edit.TheVariants.{Many}
 use Rattle.command_parts.specs.declared.edit.Splice.{Splice}
 use Rattle.command_parts.specs.Commands.{full_edit, named_splices, with_splices}
 use Rattle.edit_commands.specs.declared.revision.Revision.{Revision}
@@ -30,19 +30,9 @@ all_around (x ∷ revisions) (suc k) r e =
     ∙ sym (append_assoc x.splices.items (all_splices (take k revisions)) (r.splices.items ++ all_splices (drop (suc k) revisions)))
 
 named_among : (before own behind : List Splice) (edit : Edit) → NamesThese (length before) own edit → named_splices (before ++ (own ++ behind)) edit ≡ own
-named_among before own behind New is = sym is
-named_among before own behind (Open s) is = sym is
-named_among before own behind (Insert r p a n) is = sym is
-named_among before own behind (Delete r p n) is = sym is
-named_among before own behind (Replace r p m a n) is = sym is
-named_among before own behind (Paste r p q i n) is = sym is
-named_among before own behind (Join r q) is = sym is
-named_among before own behind (Cut r i n) is = sym is
-named_among before own behind (Fill r p c n) is = sym is
-named_among before own behind (Back r) is = sym is
-named_among before own behind (Balance r) is = sym is
 named_among before own behind (Many r first count) is =
     rw (is.0, is.1) (ap (take (length own)) (drop-append_seam before (own ++ behind)) ∙ take-append_seam own behind)
+named_among before own behind other is = sym is
 
 -- what it says over all
 pub says_over_all : (revisions : List Revision) (k : ℕ) (r : Revision) → slice_get revisions k ≡ Some r → NamesThese (splices_held (take k revisions)) r.splices.items r.edit → full_edit (all_splices revisions) r.edit ≡ command_of r

@@ -1,6 +1,7 @@
 -- Where there is no fault, and what that says of each test.
 use Rattle.std.proofs.Common.{◌≡◌, ℕ, Bool, true, false, not, eqb, List, [], ◌∷◌, Option, Some, None, refl}
 use Rattle.std.proofs.lemmas.Bool.{or_parts, not-false, eqb-true}
+use Rattle.command_parts.proofs.RecordedNumbers.{AreZero}
 use Rattle.image_reader.specs.declared.fault.ReadFault.{ReadFault}
 use Rattle.image_reader.specs.Reading.{◌else◌, fault_if, any_nonzero}
 
@@ -16,10 +17,6 @@ pub zero_first : (n : ℕ) (ns : List ℕ) → any_nonzero (n ∷ ns) ≡ false 
 zero_first n ns e =
     let parts = or_parts (not (eqb n 0)) (any_nonzero ns) e in
     (eqb-true n 0 (not-false (eqb n 0) parts.0), parts.1)
-
-abbrev pub AreZero : List ℕ → Type 0
-AreZero [] = Unit {0}
-AreZero (n ∷ ns) = (n ≡ 0) × AreZero ns
 
 pub are_zero : (ns : List ℕ) → any_nonzero ns ≡ false → AreZero ns
 are_zero [] e = tt

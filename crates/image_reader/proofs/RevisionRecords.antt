@@ -5,8 +5,9 @@ use Rattle.std.proofs.lemmas.Bool.{or_parts, or_from, le-ltb, eqb-true, eqb-fals
 use Rattle.rope_node.specs.declared.node.NodeId.{NodeId}
 use Rattle.command_parts.specs.declared.edit.Edit.{Edit}
 use Rattle.command_parts.specs.declared.codes.TheConstants.{MANY}
-use Rattle.command_parts.specs.Fields.{Field, R, Q, P, M, A, N, place_in_record, number_limit, recorded, edit_by, splices_of, unused, FitsRecord, IsPlacedAt}
-use Rattle.image_reader.specs.declared.command.Numbers.{Numbers}
+use Rattle.command_parts.specs.Fields.{Field, R, Q, P, M, A, N, place_in_record, number_limit, field_of, recorded, edit_by, splices_of, numbers_of, unused, FitsRecord, IsPlacedAt}
+use Rattle.command_parts.proofs.RecordedNumbers.{edit_again, code_small, number_fits, edit_fits, placed_by, splices_by}
+use Rattle.command_parts.specs.declared.numbers.Numbers.{Numbers}
 use Rattle.image_reader.specs.declared.fault.ReadFault.TheVariants.{NonZeroPad}
 use Rattle.image_reader.specs.declared.revision.Revision.{Revision}
 use Rattle.image_reader.specs.declared.decode.TheConstants.{NIL_ROOT}
@@ -15,9 +16,9 @@ use Rattle.image_reader.specs.declared.version.FormatVersion.TheVariants.{One, T
 use Rattle.image_reader.specs.Versions.{last_code}
 use Rattle.image_reader.specs.Layout.{IsBytes, spelled, number_in}
 use Rattle.image_reader.specs.Value.{FitsRoot, FitsRevision}
-use Rattle.image_reader.specs.Spelling.{field_of, numbers_of, mark_number, root_number, revision_layout, revision_numbers, revision_spelling}
+use Rattle.image_reader.specs.Spelling.{mark_number, root_number, revision_layout, revision_numbers, revision_spelling}
 use Rattle.image_reader.specs.Reading.{command_code_in, numbers_in, edit_in_bytes, root_by_number, row_count_in, splice_count_in, revision_of, is_unknown_revision, any_nonzero, unused_in_revision, revision_record_fault}
-use Rattle.image_reader.proofs.Commands.{edit_again, unused_again, code_small, number_fits, is_of_code, edit_fits, placed_by, splices_by}
+use Rattle.image_reader.proofs.Commands.{unused_again, is_of_code}
 use Rattle.image_reader.proofs.Faults.{else_none, fault_if_none, zero_first}
 use Rattle.image_reader.proofs.Fields.{AreWide, FitFields, wide8, wide16, wide32, wide64, number_in_small, numbers_from, spelled_whole, numbers_whole, length-spelled}
 use Rattle.image_reader.proofs.RecordLaws.{IsRecord}

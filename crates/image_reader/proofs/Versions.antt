@@ -12,7 +12,7 @@ use Rattle.image_reader.specs.declared.version.FormatVersion.{FormatVersion}
 use Rattle.image_reader.specs.declared.version.FormatVersion.TheVariants.{One, Two}
 use Rattle.image_reader.specs.Versions.{version_number, version_by, last_code, is_two}
 use Rattle.image_reader.specs.Value.{ImageValue, IsImage, FitsRevision, in_version_two}
-use Rattle.image_reader.proofs.Commands.{splices_none}
+use Rattle.command_parts.proofs.RecordedNumbers.{splices_none}
 
 pub version_again : (v : FormatVersion) → version_by (version_number v) ≡ v
 version_again One = refl

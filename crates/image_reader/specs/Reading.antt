@@ -13,8 +13,8 @@ use Rattle.command_parts.specs.declared.edit.Splice.{Splice}
 use Rattle.span_certificate.specs.declared.row.Row.{Row}
 use Rattle.span_certificate.specs.declared.row.RowKind.{RowKind}
 use Rattle.span_certificate.specs.declared.row.RowKind.TheVariants.{Shared, Leaf, Bytes}
-use Rattle.command_parts.specs.Fields.{edit_by, unused}
-use Rattle.image_reader.specs.declared.command.Numbers.{Numbers}
+use Rattle.command_parts.specs.Fields.{edit_by, field_of, unused}
+use Rattle.command_parts.specs.declared.numbers.Numbers.{Numbers}
 use Rattle.image_reader.specs.declared.fault.ReadFault.{ReadFault}
 use Rattle.image_reader.specs.declared.fault.ReadFault.TheVariants.{Truncated, Trailing, Magic, Version, Count, NonZeroPad, Kind}
 use Rattle.image_reader.specs.declared.header.Header.{Header}
@@ -33,7 +33,6 @@ use Rattle.span_certificate.specs.declared.making.TheConstants.{ROWS_LIMIT}
 use Rattle.image_reader.specs.declared.decode.TheConstants.{NIL_ROOT}
 use Rattle.rope_node.specs.declared.limits.TheConstants.{MOST_NODES, MOST_SOURCES, TEXT_LIMIT}
 use Rattle.image_reader.specs.Value.{ImageNode, ImageValue}
-use Rattle.image_reader.specs.Spelling.{field_of}
 
 -- ---- what each record says
 

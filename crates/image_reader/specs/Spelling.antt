@@ -8,9 +8,8 @@ use Rattle.rope_node.specs.declared.node.NodeView.TheVariants.{Lit, Src, Fun, Ca
 use Rattle.function_leaf.specs.declared.coded.Coded.{Coded}
 use Rattle.function_leaf.specs.declared.coded.Coded.TheVariants.{Fill, Ramp, Cycle}
 use Rattle.function_leaf.specs.Pattern.{padded}
-use Rattle.command_parts.specs.declared.edit.Edit.{Edit}
-use Rattle.command_parts.specs.Fields.{Field, R, Q, P, M, A, N, recorded, number_for}
-use Rattle.image_reader.specs.declared.command.Numbers.{Numbers}
+use Rattle.command_parts.specs.Fields.{recorded, numbers_of}
+use Rattle.command_parts.specs.declared.numbers.Numbers.{Numbers}
 use Rattle.span_certificate.specs.declared.row.Row.{Row}
 use Rattle.span_certificate.specs.declared.row.RowKind.{RowKind}
 use Rattle.span_certificate.specs.declared.row.RowKind.TheVariants.{Shared, Leaf, Bytes}
@@ -94,29 +93,6 @@ view_spelling depth len (Sub b i) function = spelled span_layout (span_numbers S
 
 abbrev pub node_spelling : ImageNode → List ℕ
 node_spelling n = view_spelling n.node.depth n.node.len n.node.view n.function
-
--- the number of a field
-abbrev pub field_of : Numbers → Field → ℕ
-field_of x R = x.r
-field_of x Q = x.q
-field_of x P = x.p
-field_of x M = x.m
-field_of x A = x.a
-field_of x N = x.n
-
--- the numbers of a command: what it does not use is 0
-abbrev pub number_of : Edit → Field → ℕ
-number_of edit f = number_for (recorded edit).uses f
-
-abbrev pub numbers_of : Edit → Numbers
-numbers_of e = record {
-  r = number_of e R;
-  q = number_of e Q;
-  p = number_of e P;
-  m = number_of e M;
-  a = number_of e A;
-  n = number_of e N;
-}
 
 abbrev pub mark_number : Bool → ℕ
 mark_number false = 0

@@ -5,12 +5,12 @@ ghost use Rattle.image_reader.specs.declared.layout.TheConstants.{REVISION_SIZE,
 ghost use Rattle.image_reader.specs.Reading.{source_of, root_by_number, root_in, is_marked, revision_of, splice_of, splice_count_in, row_kind_of, row_of, counted_rows, counted_splices};
 
 use crate::codes::{LEAF_ROW, SHARED_ROW};
-use crate::command::{edit_by, numbers_in};
+use crate::command::numbers_in;
 use crate::layout::REVISION_SIZE;
 use crate::number::{u8_in, u32_in, u64_in};
 use crate::revision::Revision;
-use command_parts::Splice;
 use command_parts::codes::MANY;
+use command_parts::{Edit, Splice};
 use rope_node::{NodeId, Rope};
 use span_certificate::{Row, RowKind};
 
@@ -59,7 +59,7 @@ pub fn revision_in(first: u32, bytes: &[u8]) -> Revision
     ensures { result ≡ revision_of first bytes.now }
 {
     Revision {
-        edit: edit_by(first, u8_in(bytes, 0), numbers_in(bytes)),
+        edit: Edit::of_code(first, u8_in(bytes, 0), numbers_in(bytes)),
         mark: mark_in(bytes),
         root: root_in(bytes),
         rows: u32_in(bytes, 48),

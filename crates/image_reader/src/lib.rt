@@ -20,7 +20,7 @@ mod section;
 mod version;
 
 pub use bound::looks_bound;
-pub use command::Numbers;
+pub use command_parts::Numbers;
 pub use decode::NIL_ROOT;
 pub use fault::ReadFault;
 pub use header::{LONGEST_IMAGE, MAGIC, MOST_POOL, judged_len};

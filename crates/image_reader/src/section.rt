@@ -10,7 +10,7 @@ ghost use Rattle.image_reader.specs.Layout.{records};
 ghost use Rattle.image_reader.specs.Reading.{source_record_fault, node_record_fault, revision_record_fault, row_record_fault, first_fault, any_nonzero, unused_in_revision, unused_in_row, sections_fault, whole_len, AreSections, HasEnoughBytes};
 
 use crate::codes::{BYTES_ROW, SHARED_ROW};
-use crate::command::{edit_by, has_unused_number, numbers_in};
+use crate::command::{has_unused_number, numbers_in};
 use crate::decode::{counted_rows, counted_splices};
 use crate::fault::ReadFault;
 use crate::header::Header;
@@ -211,9 +211,9 @@ fn has_unused_revision_field(bytes: &[u8]) -> bool
     requires { length bytes.now ≡ REVISION_SIZE }
     ensures { result ≡ any_nonzero (unused_in_revision bytes.now) }
 {
-    let numbers = numbers_in(bytes);
-    let edit = edit_by(0, u8_in(bytes, 0), numbers);
-    u16_in(bytes, 2) != 0 || u32_in(bytes, 52) != 0 || has_unused_number(edit, numbers)
+    u16_in(bytes, 2) != 0
+        || u32_in(bytes, 52) != 0
+        || has_unused_number(u8_in(bytes, 0), numbers_in(bytes))
 }
 
 /// The records of certificate rows.

@@ -22,7 +22,7 @@ use Rattle.edit_commands.specs.Session.{SessionValue, IsSession, splices_held}
 use Rattle.edit_commands.proofs.RevisionLists.{there_is}
 use Rattle.image_reader.specs.declared.revision.Revision.{Revision}
 use Rattle.image_reader.specs.declared.version.FormatVersion.TheVariants.{Two}
-use Rattle.image_reader.proofs.Commands.{code_small}
+use Rattle.command_parts.proofs.RecordedNumbers.{code_small}
 use Rattle.image_reader.specs.Value.{ArePlaced, ImageNode, FitsNode, FitsRevision, FitsRoot, FitsSource, FitsView, IsImage}
 use Rattle.session_image.specs.Written.{FitsHeld, SectionsFit, image_of, nodes_of, recorded_edits, recorded_revision}
 use Rattle.session_image.proofs.HeldNodes.{node_found}

@@ -4,17 +4,14 @@ ghost use Rattle.std.specs.Prelude.{◌≡◌, [], ◌∷◌};
 ghost use Rattle.image_reader.specs.Layout.{spelled};
 ghost use Rattle.image_reader.specs.declared.header.TheConstants.{MAGIC};
 ghost use Rattle.image_reader.specs.Versions.{version_number};
-ghost use Rattle.image_reader.specs.Spelling.{header_layout, source_spelling, splice_spelling, row_layout, row_spelling, revision_layout, revision_numbers, revision_spelling, numbers_of, mark_number, root_number};
+ghost use Rattle.image_reader.specs.Spelling.{header_layout, source_spelling, splice_spelling, row_layout, row_spelling, revision_layout, revision_numbers, revision_spelling, mark_number, root_number};
 ghost use Rattle.image_reader.specs.Value.{FitsRow, FitsSplice};
-ghost use Rattle.command_parts.specs.Fields.{recorded, FitsRecord};
+ghost use Rattle.command_parts.specs.Fields.{FitsRecord};
 
 use crate::held::Record;
-use command_parts::codes::{
-    BACK, BALANCE, CUT, DELETE, FILL, INSERT, JOIN, MANY, NEW, OPEN, PASTE, REPLACE,
-};
-use command_parts::{Edit, Splice};
+use command_parts::{Numbers, Splice};
 use image_reader::codes::{BYTES_ROW, LEAF_ROW, SHARED_ROW};
-use image_reader::{FormatVersion, MAGIC, NIL_ROOT, Numbers, Revision};
+use image_reader::{FormatVersion, MAGIC, NIL_ROOT, Revision};
 use rope_node::Rope;
 use span_certificate::{Row, RowKind};
 
@@ -54,78 +51,6 @@ pub fn source_record(size: u64) -> Record
     let mut record = Record::new();
     record.push_u64(size);
     record
-}
-
-/// The code of a command.
-fn code_of(edit: Edit) -> u8
-    ensures { result ≡ (recorded edit).code }
-{
-    match edit {
-        Edit::New => NEW,
-        Edit::Open { .. } => OPEN,
-        Edit::Insert { .. } => INSERT,
-        Edit::Delete { .. } => DELETE,
-        Edit::Replace { .. } => REPLACE,
-        Edit::Paste { .. } => PASTE,
-        Edit::Join { .. } => JOIN,
-        Edit::Cut { .. } => CUT,
-        Edit::Fill { .. } => FILL,
-        Edit::Back { .. } => BACK,
-        Edit::Balance { .. } => BALANCE,
-        Edit::Many { .. } => MANY,
-    }
-}
-
-/// The numbers of a command; what it does not use is 0.
-fn numbers_of(edit: Edit) -> Numbers
-    ensures value { result ≡ numbers_of edit }
-    ensures fits { FitsRecord edit }
-{
-    let none = Numbers {
-        r: 0,
-        q: 0,
-        p: 0,
-        m: 0,
-        a: 0,
-        n: 0,
-    };
-    match edit {
-        Edit::New => none,
-        Edit::Open { s } => Numbers { q: s, ..none },
-        Edit::Insert { r, p, a, n } => Numbers { r, p, a, n, ..none },
-        Edit::Delete { r, p, n } => Numbers { r, p, n, ..none },
-        Edit::Replace { r, p, m, a, n } => Numbers {
-            r,
-            p,
-            m,
-            a,
-            n,
-            ..none
-        },
-        Edit::Paste { r, p, q, i, n } => Numbers {
-            r,
-            q,
-            p,
-            a: i,
-            n,
-            ..none
-        },
-        Edit::Join { r, q } => Numbers { r, q, ..none },
-        Edit::Cut { r, i, n } => Numbers { r, a: i, n, ..none },
-        Edit::Fill { r, p, c, n } => Numbers {
-            r,
-            p,
-            a: c,
-            n,
-            ..none
-        },
-        Edit::Back { r } | Edit::Balance { r } => Numbers { r, ..none },
-        Edit::Many { r, count, .. } => Numbers {
-            r,
-            q: count,
-            ..none
-        },
-    }
 }
 
 /// The number of a root.
@@ -171,10 +96,10 @@ pub fn revision_record(revision: Revision) -> Record
     ensures value { result ≡ revision_spelling revision }
     ensures fits { FitsRecord revision.edit }
 {
-    let numbers = numbers_of(revision.edit);
+    let (code, numbers) = revision.edit.recorded();
     let root = number_of_root(revision.root);
     let mark = number_of_mark(revision.mark);
-    revision_fields(code_of(revision.edit), numbers, mark, root, revision.rows)
+    revision_fields(code, numbers, mark, root, revision.rows)
 }
 
 /// The record of a splice.

@@ -10,6 +10,7 @@ mod lists;
 mod many;
 mod origins;
 mod plain_rows;
+mod recorded;
 mod records;
 mod row_choices;
 mod saved;

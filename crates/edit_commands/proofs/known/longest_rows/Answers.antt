@@ -1,11 +1,10 @@
-use Rattle.std.proofs.Common.{◌≡◌, List, ap, sym, subst, ◌∙◌}
+use Rattle.std.proofs.Common.{List, ap, sym, subst, ◌∙◌}
 use Rattle.std.specs.Prelude.{IfOk}
 use Rattle.function_leaf.specs.Coded.{coded_byte}
 use Rattle.node_table.specs.Held.{table_of, held_coded}
-use Rattle.rope_node.specs.Denotes.{rope_cells}
 use Rattle.command_parts.specs.declared.part.Part.{Part}
 use Rattle.span_certificate.specs.declared.row.Row.{Row}
-use Rattle.command_parts.specs.Commands.{FullEdit, full_edit, with_splices}
+use Rattle.command_parts.specs.Commands.{with_splices}
 use Rattle.span_certificate.specs.Covers.{CoversAnyhow}
 use Rattle.span_certificate.specs.Longest.{AreLongest, IsCutShort}
 use Rattle.command_parts.specs.Parts.{parts_of, parts_cells, IsInRange}

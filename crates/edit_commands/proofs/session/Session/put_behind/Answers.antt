@@ -1,5 +1,4 @@
-use Rattle.std.proofs.Common.{◌≡◌, [], ◌∷◌, ◌++◌, List, length, subst, arith, rules}
-use Rattle.edit_commands.specs.Session.{SessionValue, IsRevision, rows_held, splices_held}
+use Rattle.std.proofs.Common.{◌≡◌, [], ◌∷◌, ◌++◌, length, arith, rules}
 use Rattle.edit_commands.proofs.RevisionLists.{rows_more, splices_more}
 use Rattle.edit_commands.proofs.SessionCalls.{session_more}
 use Rattle.edit_commands.proofs.session.Session.put_behind.Goals as goal

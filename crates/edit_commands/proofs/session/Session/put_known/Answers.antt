@@ -1,8 +1,7 @@
-use Rattle.std.proofs.Common.{◌≡◌, ◌+◌, ◌<◌, length, arith, List, Ok, refl, ap, sym, subst, ◌∙◌, rules}
+use Rattle.std.proofs.Common.{◌+◌, ◌<◌, length, arith, refl, sym, subst, rules}
 use Rattle.function_leaf.specs.Coded.{coded_byte}
 use Rattle.node_table.specs.Held.{table_of}
 use Rattle.span_certificate.specs.declared.making.TheConstants.{ROWS_LIMIT}
-use Rattle.command_parts.specs.declared.edit.Splice.{Splice}
 use Rattle.command_parts.specs.Commands.{with_splices}
 use Rattle.span_certificate.specs.Longest.{AreLongest}
 use Rattle.command_parts.specs.Parts.{parts_of}
