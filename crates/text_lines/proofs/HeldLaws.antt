@@ -1,11 +1,11 @@
 -- Bytes of a text that are held, and the line breaks among them.
-use Rattle.std.proofs.Common.{◌≡◌, ℕ, zero, suc, ◌+◌, ◌-◌, ◌<◌, ◌≤◌, Bool, true, not, cond, Option, Some, None, List, All, [], ◌∷◌, ◌++◌, length, take, drop, get_or, reverse, inl, inr, ◌⊎◌, IfSome, Result, Ok, Err, IfOk, refl, sym, ap, subst, ◌∙◌, add-one, arith}
+use Rattle.std.proofs.Common.{◌≡◌, ℕ, ◌+◌, ◌-◌, ◌<◌, ◌≤◌, Bool, true, not, cond, Option, Some, None, List, All, [], ◌∷◌, ◌++◌, length, take, drop, get_or, reverse, inl, inr, ◌⊎◌, IfSome, Result, Ok, Err, IfOk, refl, sym, ap, subst, ◌∙◌, arith}
 use Rattle.std.specs.Prelude.{◌↔◌, IsSome}
 use Rattle.std.specs.List.{position_or_len, prefix_len, suffix_len}
-use Rattle.std.proofs.lemmas.Bool.{cases_Bool, cases_lt, lt-ltb, le-ltb, ne_eqb, eq-eqb}
-use Rattle.std.proofs.lemmas.List.{take-take, drop_all, take-append-drop, take_all, drop-take, drop-drop, get_or-drop, get_or-take, length-take, length-drop, length-append, length-take-le, length-reverse, reverse-append}
+use Rattle.std.proofs.lemmas.Bool.{cases_lt, lt-ltb, le-ltb, ne_eqb, eq-eqb}
+use Rattle.std.proofs.lemmas.List.{take-take, drop_all, take-append-drop, take_all, drop-take, drop-drop, get_or-drop, get_or-take, length-take, length-drop, length-append, length-take-le, get_or-reverse, length-reverse, reverse-append}
 use Rattle.std.proofs.lemmas.List.Folds.{prefix_len-append}
-use Rattle.std.proofs.lemmas.List.Sums.{prefix_len-le-length, suffix_len-le-length, suffix_len-take_yes, suffix_len-take_no}
+use Rattle.std.proofs.lemmas.List.Sums.{prefix_len-le-length, prefix_len_passes, suffix_len-le-length}
 use Rattle.std.proofs.Math.Seq.{drop-append_seam, take-add}
 use Rattle.text_lines.specs.HeldBytes.{HeldPart, held_up_to, held_starting_at, AreHeld, TellsStart}
 use Rattle.text_lines.specs.declared.known.KnownLine.{KnownLine}
@@ -169,28 +169,11 @@ not_told None told none holds = absurd (let some = told.1 holds in cc)
 not_told (Some place) told none holds = absurd cc
 
 -- where all elements are at the end of the list that pass, each of them does
-all_more : (p : ℕ → Bool) (xs : List ℕ) (m k : ℕ) → ((k : ℕ) → m ≤ length xs → suffix_len p (take m xs) ≡ m → k < m → p (get_or xs k 0) ≡ true)
-    → m + 1 ≤ length xs → suffix_len p (take (m + 1) xs) ≡ m + 1 → k < m + 1 → p (get_or xs k 0) ≡ true
-all_more p xs m k before inside all lt =
-    let at : m + 1 - 1 ≡ m = omega arith in
-    elim (cases_Bool (p (get_or xs (m + 1 - 1) 0))) [
-      | inl passes ↦
-          let more = suffix_len-take_yes p xs (m + 1) 0 (omega arith) inside passes in
-          let same : suffix_len p (take (m + 1 - 1) xs) ≡ suffix_len p (take m xs) = ap (λ (n : ℕ). suffix_len p (take n xs)) at in
-          elim (cases_lt k m) [
-            | inl below ↦ before k (omega (arith, inside)) (omega (arith, more, same, all)) below
-            | inr past ↦
-                let last : k ≡ m + 1 - 1 = omega (arith, past, lt) in
-                rw last passes
-          ]
-      | inr fails ↦
-          let none = suffix_len-take_no p xs (m + 1) 0 (omega arith) inside fails in
-          absurd (omega (arith, none, all))
-    ]
-
-all_pass : (p : ℕ → Bool) (xs : List ℕ) (n k : ℕ) → n ≤ length xs → suffix_len p (take n xs) ≡ n → k < n → p (get_or xs k 0) ≡ true
-all_pass p xs zero k inside all lt = absurd (omega (arith, lt))
-all_pass p xs (suc m) k inside all lt = all_more p xs m k (all_pass p xs m) (omega (arith, inside)) (rw (add-one m) all) (omega (arith, lt))
+all_pass : (p : ℕ → Bool) (xs : List ℕ) (k : ℕ) → suffix_len p xs ≡ length xs → k < length xs → p (get_or xs k 0) ≡ true
+all_pass p xs k all lt =
+    let j = length xs - 1 - k in
+    let back : length xs - 1 - j ≡ k = omega (arith, lt) in
+    ap (λ (i : ℕ). p (get_or xs i 0)) (sym back) ∙ ap p (sym (get_or-reverse xs j 0 (omega (arith, lt)))) ∙ prefix_len_passes p (reverse xs) j 0 (omega (arith, all, lt))
 
 -- where the bytes that are held before a place do not tell where its line begins, no break stands among them
 pub none_before : (t : List ℕ) (h : HeldPart) (place from : ℕ) → AreHeld h t → h.from ≤ from → place ≤ h.from + length h.bytes → ¬ TellsStart (held_up_to h place) place
@@ -207,8 +190,7 @@ none_before t h place from held first last untold k above below stands =
       | inl short ↦ absurd (untold (inl short))
       | inr long ↦ omega (arith, long, suffix_len-le-length plain (held_up_to h place))
     ] in
-    let whole : suffix_len plain (take n near) ≡ n = ap (suffix_len plain) (take_all n near (omega (arith, long)) ∙ sym here) ∙ all ∙ ap length here ∙ long in
-    let passes : plain (get_or near j 0) ≡ true = all_pass plain near n j (omega (arith, long)) whole inside in
+    let passes : plain (get_or near j 0) ≡ true = all_pass plain near j (ap (suffix_len plain) (sym here) ∙ all ∙ ap length here) (omega (arith, inside, long)) in
     let at : h.from + j ≡ k = omega (arith, above, first) in
     let same : get_or near j 0 ≡ get_or t k 0 =
     get_or-take n h.bytes j 0 inside ∙ ap (λ (xs : List ℕ). get_or xs j 0) held.bytes ∙ get_or-take (length h.bytes) (drop h.from t) j 0 (omega (arith, inside, last)) ∙ get_or-drop h.from t j 0 ∙ ap (λ (i : ℕ). get_or t i 0) at in

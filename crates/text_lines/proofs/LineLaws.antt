@@ -3,7 +3,7 @@ use Rattle.std.proofs.Common.{◌≡◌, ℕ, zero, suc, ◌+◌, ◌-◌, ◌<�
 use Rattle.std.proofs.lemmas.List.{get_or-drop, get_or-take, length-take, length-drop, length-reverse, reverse-append}
 use Rattle.std.proofs.lemmas.List.Folds.{prefix_len-append}
 use Rattle.std.proofs.lemmas.List.Sums.{position_or_len_is, suffix_len_is, suffix_len-le-length}
-use Rattle.std.proofs.lemmas.Bool.{ne_eqb, eq-eqb, lt-ltb}
+use Rattle.std.proofs.lemmas.Bool.{ne_eqb, eq-eqb, lt-ltb, not_from_false, not_from_true}
 use Rattle.std.proofs.Math.Seq.{take-add}
 use Rattle.std.specs.Option.{unwrap_or}
 use Rattle.std.specs.List.{prefix_len, suffix_len}
@@ -32,7 +32,7 @@ a_break b e = eq-eqb b 10 e
 add_back : (p k : ℕ) → p ≤ k → p + (k - p) ≡ k
 add_back p k le = omega (arith, le)
 
-less_one : (k : ℕ) → k + 1 - 1 ≡ k
+pub less_one : (k : ℕ) → k + 1 - 1 ≡ k
 less_one k = omega arith
 
 -- the line end is the first break from the place on, or the text's end
@@ -55,17 +55,11 @@ abbrev pub line_start_from : Option ℕ → ℕ
 line_start_from None = 0
 line_start_from (Some k) = k + 1
 
-not_true : (b : Bool) → b ≡ true → not b ≡ false
-not_true b e = rw e refl
-
-not_false : (b : Bool) → b ≡ false → not b ≡ true
-not_false b e = rw e refl
-
 -- the line start is one behind the last break below the place, or the text's start
 pub line_start_is : (t : List ℕ) (p : ℕ) (found : Option ℕ) → 1 ≤ p → p ≤ length t → IsLast (10 ∷ []) t (p - 1) found → line_start t p ≡ line_start_from found
 line_start_is t p None some le h =
     rw (suffix_len_is (λ b. not (is_break b)) (take p t) 0 0 (omega arith)
-    (λ k from lt. let lt : k < min p (length t) = rw (length-take p t) at lt in rw (get_or-take p t k 0 (omega (arith, lt))) (not_false (is_break (get_or t k 0)) (no_break (get_or t k 0) (λ e. h k (omega (arith, lt)) (stands_here t k 10 (omega (arith, lt)) e)))))
+    (λ k from lt. let lt : k < min p (length t) = rw (length-take p t) at lt in rw (get_or-take p t k 0 (omega (arith, lt))) (not_from_false (is_break (get_or t k 0)) (no_break (get_or t k 0) (λ e. h k (omega (arith, lt)) (stands_here t k 10 (omega (arith, lt)) e)))))
     (λ lt. absurd (omega (arith, lt))))
     (rw (length-take p t) (omega (arith, le)))
 line_start_is t p (Some k) some le h =
@@ -73,8 +67,8 @@ line_start_is t p (Some k) some le h =
     let stands = h.stands in
     let inside = stands.inside in
     rw (suffix_len_is (λ b. not (is_break b)) (take p t) (k + 1) 0 (rw (length-take p t) (omega (arith, until, inside, some)))
-    (λ j from lt. let lt : j < min p (length t) = rw (length-take p t) at lt in rw (get_or-take p t j 0 (omega (arith, lt))) (not_false (is_break (get_or t j 0)) (no_break (get_or t j 0) (λ e. h.none_after j (omega (arith, from)) (omega (arith, lt)) (stands_here t j 10 (omega (arith, lt)) e)))))
-    (λ lt. rw (get_or-take p t (k + 1 - 1) 0 (omega (arith, until, some))) (not_true (is_break (get_or t (k + 1 - 1) 0)) (a_break (get_or t (k + 1 - 1) 0) (rw (less_one k) (stands_tells t k 10 stands))))))
+    (λ j from lt. let lt : j < min p (length t) = rw (length-take p t) at lt in rw (get_or-take p t j 0 (omega (arith, lt))) (not_from_false (is_break (get_or t j 0)) (no_break (get_or t j 0) (λ e. h.none_after j (omega (arith, from)) (omega (arith, lt)) (stands_here t j 10 (omega (arith, lt)) e)))))
+    (λ lt. rw (get_or-take p t (k + 1 - 1) 0 (omega (arith, until, some))) (not_from_true (is_break (get_or t (k + 1 - 1) 0)) (a_break (get_or t (k + 1 - 1) 0) (rw (less_one k) (stands_tells t k 10 stands))))))
     (rw (length-take p t) (omega (arith, le, until, some)))
 
 -- the column lies behind the line's start
@@ -100,7 +94,7 @@ same_start t back place before inside none =
     let passes : (j : ℕ) → 0 ≤ j → j < length near → plain (get_or near j 0) ≡ true = λ j _ lt.
     let k = back + j in
     let same : get_or near j 0 ≡ get_or t k 0 = get_or-take n (drop back t) j 0 (omega (arith, lt, long)) ∙ get_or-drop back t j 0 in
-    rw same (not_false (is_break (get_or t k 0)) (no_break (get_or t k 0) (λ e. none k (omega arith) (omega (arith, lt, long, sum)) (stands_here t k 10 (omega (arith, lt, long, sum, inside)) e)))) in
+    rw same (not_from_false (is_break (get_or t k 0)) (no_break (get_or t k 0) (λ e. none k (omega arith) (omega (arith, lt, long, sum)) (stands_here t k 10 (omega (arith, lt, long, sum, inside)) e)))) in
     let all : suffix_len plain near ≡ length near = suffix_len_is plain near 0 0 (omega arith) passes (λ lt. absurd (omega (arith, lt))) ∙ omega arith in
     let both : column t place ≡ length near + column t back =
     ap (suffix_len plain) whole ∙ ap (prefix_len plain) (reverse-append front near) ∙ prefix_len-append plain (reverse near) (reverse front)

@@ -1,7 +1,7 @@
 -- Lines above a line.
-use Rattle.std.proofs.Common.{◌≡◌, ℕ, zero, suc, ◌+◌, ◌-◌, ◌<◌, ◌≤◌, Bool, true, false, not, cond, List, [], ◌∷◌, length, take, drop, get_or, inl, inr, refl, sym, ap, subst, ◌∙◌, add-one, arith}
+use Rattle.std.proofs.Common.{◌≡◌, ℕ, zero, suc, ◌+◌, ◌-◌, ◌<◌, ◌≤◌, true, false, not, cond, List, [], ◌∷◌, length, take, drop, get_or, inl, inr, refl, sym, ap, subst, ◌∙◌, add-one, arith}
 use Rattle.std.specs.List.{count_by, slice_split, onto_first}
-use Rattle.std.proofs.lemmas.Bool.{cases_Bool, cases_lt}
+use Rattle.std.proofs.lemmas.Bool.{cases_Bool, cases_lt, not_from_false, not_from_true}
 use Rattle.std.proofs.lemmas.List.{drop_all}
 use Rattle.std.proofs.lemmas.List.Splits.{slice_split-cons_yes, slice_split-cons_no}
 use Rattle.std.proofs.lemmas.List.Sums.{count_by_more_yes, count_by_more_no, suffix_len-take_yes, suffix_len-take_no, sum_by-cons}
@@ -9,7 +9,7 @@ use Rattle.text_lines.specs.declared.window.TheConstants.{LINES_ABOVE}
 use Rattle.text_lines.specs.Lines.{is_break, column, line_start}
 use Rattle.text_lines.specs.Screen.{first_line, line_number_of}
 use Rattle.text_lines.specs.Rows.{IsAbove, IsLineStart, IsWindow}
-use Rattle.text_lines.proofs.LineLaws.{column_is}
+use Rattle.text_lines.proofs.LineLaws.{column_is, less_one}
 
 one_line_back : (t : List ℕ) (s : ℕ) → IsLineStart t s → 1 ≤ s → s ≤ length t → line_number_of t s ≡ line_number_of t (s - 1) + 1
 one_line_back t s begins some le =
@@ -21,21 +21,12 @@ record Begins (t : List ℕ) (p : ℕ) : Type 0 where
   begins : IsLineStart t (line_start t p)
   lines : line_number_of t (line_start t p) ≡ line_number_of t p
 
-not_true : (b : Bool) → b ≡ true → not b ≡ false
-not_true b e = rw e refl
-
-not_false : (b : Bool) → b ≡ false → not b ≡ true
-not_false b e = rw e refl
-
-less_one : (k : ℕ) → k + 1 - 1 ≡ k
-less_one k = omega arith
-
 begins_more : (t : List ℕ) (p q : ℕ) → q ≡ p + 1 → q ≤ length t → Begins t p → Begins t q
 begins_more t p q is le before =
     let here : get_or t (p + 1 - 1) 0 ≡ get_or t p 0 = ap (λ (n : ℕ). get_or t n 0) (less_one p) in
     elim (cases_Bool (is_break (get_or t p 0))) [
       | inl broken ↦
-          let none : column t q ≡ 0 = rw is (suffix_len-take_no (λ b. not (is_break b)) t (p + 1) 0 (omega arith) (omega (arith, is, le)) (rw here (not_true (is_break (get_or t p 0)) broken))) in
+          let none : column t q ≡ 0 = rw is (suffix_len-take_no (λ b. not (is_break b)) t (p + 1) 0 (omega arith) (omega (arith, is, le)) (rw here (not_from_true (is_break (get_or t p 0)) broken))) in
           let at : line_start t q ≡ q = omega (arith, none) in
           let back : q - 1 ≡ p = omega (arith, is) in
           record {
@@ -43,7 +34,7 @@ begins_more t p q is le before =
             lines = ap (line_number_of t) at;
           }
       | inr plain ↦
-          let more : column t q ≡ 1 + column t (p + 1 - 1) = rw is (suffix_len-take_yes (λ b. not (is_break b)) t (p + 1) 0 (omega arith) (omega (arith, is, le)) (rw here (not_false (is_break (get_or t p 0)) plain))) in
+          let more : column t q ≡ 1 + column t (p + 1 - 1) = rw is (suffix_len-take_yes (λ b. not (is_break b)) t (p + 1) 0 (omega arith) (omega (arith, is, le)) (rw here (not_from_false (is_break (get_or t p 0)) plain))) in
           let same : column t (p + 1 - 1) ≡ column t p = ap (column t) (less_one p) in
           let at : line_start t q ≡ line_start t p = omega (arith, more, same, is) in
           record {

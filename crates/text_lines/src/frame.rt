@@ -53,6 +53,7 @@ fn cursor(alloc: Global, row: u64, column: u64) -> Result<String, AllocError>
 /// # Errors
 ///
 /// `Source`, where a byte or a line break could not be read. `Memory`, where memory was refused.
+#[tactic(auto, using(crate::proofs::Showing::failed_part))]
 pub fn frame_about<S: NodeSpace, T: Sources>(
     alloc: Global,
     space: &S,

@@ -21,6 +21,7 @@ pub const LINE_BREAK: u8 = 0x0A;
 /// # Errors
 ///
 /// A source's fault, where a byte is one of that source and the read of it failed.
+#[tactic(auto, using(crate::proofs::ToldLater::failed_then))]
 pub fn line_start<S: NodeSpace, T: Sources>(
     alloc: Global,
     space: &S,
@@ -86,6 +87,7 @@ pub fn line_end<S: NodeSpace, T: Sources>(
 /// # Errors
 ///
 /// A source's fault, where a byte is one of that source and the read of it failed.
+#[tactic(auto, using(crate::proofs::ToldLater::failed_then))]
 pub fn line_end_with<S: NodeSpace, T: Sources>(
     alloc: Global,
     space: &S,
@@ -112,6 +114,7 @@ pub fn line_end_with<S: NodeSpace, T: Sources>(
 /// # Errors
 ///
 /// A source's fault, where a byte is one of that source and the read of it failed.
+#[tactic(auto, using(crate::proofs::ToldLater::failed_then))]
 pub fn place_up<S: NodeSpace, T: Sources>(
     alloc: Global,
     space: &S,
@@ -142,6 +145,7 @@ pub fn place_up<S: NodeSpace, T: Sources>(
 /// # Errors
 ///
 /// A source's fault, where a byte is one of that source and the read of it failed.
+#[tactic(auto, using(crate::proofs::ToldLater::failed_then))]
 pub fn place_down<S: NodeSpace, T: Sources>(
     alloc: Global,
     space: &S,

@@ -49,6 +49,7 @@ fn push_glyphs(bytes: &[u8], out: &mut Vec<u8>) -> Result<(), AllocError>
 /// Appends the bytes from `start` up to `end`, at most a row of them, as they are shown: from what is held, where that
 /// came by blocks that are kept; elsewhere part by part. A part ends with the first byte for which `out` takes memory, so
 /// memory is asked for after that byte is read.
+#[tactic(auto, using(crate::proofs::Showing::failed_read))]
 fn push_row<S: NodeSpace, T: Sources>(
     held: &HeldBytes,
     space: &S,
@@ -87,6 +88,7 @@ fn push_row<S: NodeSpace, T: Sources>(
 
 /// Appends what is shown of the line that begins at `start`, from the column `left` on, or nothing behind the last line.
 /// It answers where the next line begins, or that there is none.
+#[tactic(auto, using(crate::proofs::Showing::failed_part))]
 fn push_line<S: NodeSpace, T: Sources>(
     alloc: Global,
     held: &mut HeldBytes,

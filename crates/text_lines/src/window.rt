@@ -29,6 +29,7 @@ pub struct Window {
 
 /// Goes back from a line's start by 11 lines, or to the text's start. It answers where the line begins that it came
 /// to, and how many lines it went.
+#[tactic(auto, using(crate::proofs::ToldLater::failed_then))]
 fn go_back<S: NodeSpace, T: Sources>(
     alloc: Global,
     held: &mut HeldBytes,
@@ -65,6 +66,7 @@ fn go_back<S: NodeSpace, T: Sources>(
 /// # Errors
 ///
 /// A source's fault, where a byte is one of that source and the read of it failed.
+#[tactic(auto, using(crate::proofs::ToldLater::failed_then))]
 pub fn window_about<S: NodeSpace, T: Sources>(
     alloc: Global,
     held: &mut HeldBytes,

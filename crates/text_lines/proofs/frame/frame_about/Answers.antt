@@ -1,24 +1,14 @@
 use Rattle.std.proofs.Common.{◌≡◌, ◌++◌, ◌∙◌, Some, ◌*◌, ◌/◌, length, refl, sym}
 use Rattle.std.specs.Option.{option_map}
-use Rattle.std.proofs.lemmas.Result.{err_from_is_err_and}
 use Rattle.lazy_file.proofs.LaterReads.{same_stated}
 use Rattle.rope_node.specs.Denotes.{rope_cells, rope_len, text}
-use Rattle.cord_position.specs.Fetched.{rope_cell}
 use Rattle.cord_search.proofs.Fetches.{told_before, text_length}
 use Rattle.text_lines.specs.declared.rows.TheConstants.{SCREEN_COLUMNS}
 use Rattle.text_lines.specs.HeldBytes.{AreHeld}
 use Rattle.text_lines.specs.Rows.{lines_from, rows_on_screen}
 use Rattle.text_lines.proofs.HeldLaws.{known_held}
 use Rattle.text_lines.proofs.Screens.{screen_is}
-use Rattle.text_lines.proofs.Showing.{failed_part}
 use Rattle.text_lines.proofs.frame.frame_about.Goals as goal
-
-pub returns-in_err-push_rows-clause-reads : goal.returns-in_err-push_rows-clause-reads
-returns-in_err-push_rows-clause-reads g c =
-    let p = err_from_is_err_and c.from_residual-in_err-push_rows.result c.from_residual-in_err-push_rows.ensures.1 in
-    let t = g.S.NodeSpace.table c.args.space.now in
-    rw (p.1, p.2) (failed_part (g.T.Sources.reading c.args.sources.now) (g.T.Sources.reading c.window_about.new.sources) (g.T.Sources.reading c.push_rows.new.sources) (rope_cell t c.args.rope) (rope_len t c.args.rope) _
-    c.in_ok-window.ensures.reads c.in_err-push_rows.ensures.reads)
 
 pub returns-clause-bytes : goal.returns-clause-bytes
 returns-clause-bytes g c source agrees stated =

@@ -1,19 +1,9 @@
-use Rattle.std.proofs.Common.{◌+◌, ◌-◌, refl, sym, ap, ◌∙◌, arith, Err}
-use Rattle.std.proofs.lemmas.Result.{err_from_is_err_and}
-use Rattle.rope_node.specs.Denotes.{rope_cells, rope_len, text}
-use Rattle.cord_position.specs.Fetched.{rope_cell}
-use Rattle.cord_position.proofs.Spans.{failed_in}
+use Rattle.std.proofs.Common.{sym, ap, ◌∙◌, arith}
+use Rattle.rope_node.specs.Denotes.{rope_cells, text}
 use Rattle.text_lines.proofs.KnownLaws.{known_start}
 use Rattle.text_lines.proofs.LineLaws.{line_start_from}
 use Rattle.text_lines.proofs.LineSearches.{start_found}
 use Rattle.text_lines.proofs.lines.line_start.Goals as goal
-
-pub returns-in_err-found-clause-reads : goal.returns-in_err-found-clause-reads
-returns-in_err-found-clause-reads g c =
-    let p = err_from_is_err_and c.from_residual.result c.from_residual.ensures.1 in
-    let t = g.S.NodeSpace.table c.args.space.now in
-    rw (p.1, p.2) (failed_in {X = Unit {0}} (g.T.Sources.reading c.args.sources.now) (g.T.Sources.reading c.args.sources.now) (g.T.Sources.reading c.rchr.new.sources) (rope_cell t c.args.rope) 0 (rope_len t c.args.rope) 0 ((c.args.place - 1) + 1) (Err c.in_err-found.field-0.0)
-    refl c.in_err-found.ensures.reads (omega arith) (omega (arith, c.requires.place, c.if-place-eq0.false)))
 
 pub returns-in-Some-2-clause-is : goal.returns-in-Some-2-clause-is
 returns-in-Some-2-clause-is g c source agrees stated =

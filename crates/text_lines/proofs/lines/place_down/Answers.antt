@@ -1,27 +1,10 @@
-use Rattle.std.proofs.Common.{◌≡◌, ◌+◌, ◌<◌, length, ◌∙◌, arith, Err}
-use Rattle.std.proofs.lemmas.Result.{err_from_is_err_and}
+use Rattle.std.proofs.Common.{◌≡◌, ◌+◌, ◌<◌, length, ◌∙◌, arith}
 use Rattle.lazy_file.proofs.LaterReads.{same_stated}
 use Rattle.rope_node.specs.Denotes.{rope_cells, rope_len, text}
-use Rattle.cord_position.specs.Fetched.{rope_cell}
-use Rattle.cord_position.proofs.Spans.{failed_in}
 use Rattle.cord_search.proofs.Fetches.{text_length, told_before}
 use Rattle.text_lines.specs.Lines.{line_end, line_start}
 use Rattle.text_lines.proofs.LineLaws.{below_is}
 use Rattle.text_lines.proofs.lines.place_down.Goals as goal
-
-pub returns-in_err-start-clause-reads : goal.returns-in_err-start-clause-reads
-returns-in_err-start-clause-reads g c =
-    let p = err_from_is_err_and c.from_residual-in_err-start.result c.from_residual-in_err-start.ensures.1 in
-    let t = g.S.NodeSpace.table c.args.space.now in
-    rw (p.1, p.2) (failed_in {X = Unit {0}} (g.T.Sources.reading c.args.sources.now) (g.T.Sources.reading c.line_end.new.sources) (g.T.Sources.reading c.line_start.new.sources) (rope_cell t c.args.rope) 0 (rope_len t c.args.rope) 0 (rope_len t c.args.rope) (Err c.in_err-start.field-0.0)
-    c.in_ok-end.ensures.reads c.in_err-start.ensures.reads (omega arith) (omega arith))
-
-pub returns-in_err-below-clause-reads : goal.returns-in_err-below-clause-reads
-returns-in_err-below-clause-reads g c =
-    let p = err_from_is_err_and c.from_residual-in_err-below.result c.from_residual-in_err-below.ensures.1 in
-    let t = g.S.NodeSpace.table c.args.space.now in
-    rw (p.1, p.2) (failed_in {X = Unit {0}} (g.T.Sources.reading c.args.sources.now) (g.T.Sources.reading c.line_start.new.sources) (g.T.Sources.reading c.line_end-2.new.sources) (rope_cell t c.args.rope) 0 (rope_len t c.args.rope) 0 (rope_len t c.args.rope) (Err c.in_err-below.field-0.0)
-    (c.in_ok-start.ensures.reads ∙ c.in_ok-end.ensures.reads) c.in_err-below.ensures.reads (omega arith) (omega arith))
 
 pub returns-clause-is : goal.returns-clause-is
 returns-clause-is g c source agrees stated =

@@ -1,22 +1,12 @@
 use Rattle.std.proofs.Common.{◌≡◌, ◌+◌, ◌-◌, ◌++◌, ℕ, length, map, take, drop, sym, ap, subst, ◌∙◌, arith}
-use Rattle.std.proofs.lemmas.Result.{err_from_is_err_and}
-use Rattle.rope_node.specs.Denotes.{rope_cells, rope_len, text}
-use Rattle.cord_position.specs.Fetched.{rope_cell}
+use Rattle.rope_node.specs.Denotes.{rope_cells, text}
 use Rattle.cord_search.proofs.Fetches.{text_length}
 use Rattle.text_lines.specs.Screen.{glyph}
 use Rattle.text_lines.specs.HeldBytes.{AreHeld}
 use Rattle.text_lines.specs.Lines.{line_end, next_line}
 use Rattle.text_lines.proofs.RowLaws.{line_pushed}
-use Rattle.text_lines.proofs.Showing.{failed_part}
 use Rattle.text_lines.proofs.ToldLater.{told_then}
 use Rattle.text_lines.proofs.rows.push_line.Goals as goal
-
-pub returns-in_err-push_row-clause-reads : goal.returns-in_err-push_row-clause-reads
-returns-in_err-push_row-clause-reads g c =
-    let p = err_from_is_err_and c.from_residual-in_err-push_row.result c.from_residual-in_err-push_row.ensures.1 in
-    let t = g.S.NodeSpace.table c.args.space.now in
-    rw (p.1, p.2) (failed_part (g.T.Sources.reading c.args.sources.now) (g.T.Sources.reading c.near_end.new.sources) (g.T.Sources.reading c.push_row.new.sources) (rope_cell t c.args.rope) (rope_len t c.args.rope) _
-    c.in_ok-end.ensures.reads c.in_err-push_row.ensures.reads)
 
 pub returns-clause-line : goal.returns-clause-line
 returns-clause-line g c source agrees stated =

@@ -1,21 +1,10 @@
 use Rattle.std.proofs.Common.{◌≡◌, ◌+◌, ◌-◌, ◌++◌, ℕ, List, length, map, take, drop, ap, subst, ◌∙◌, arith}
 use Rattle.std.proofs.lemmas.List.{length-append, length-drop, length-take}
-use Rattle.std.proofs.lemmas.Result.{err_from_is_err_and}
-use Rattle.rope_node.specs.Denotes.{rope_cells, rope_len, text}
-use Rattle.cord_position.specs.Fetched.{rope_cell}
+use Rattle.rope_node.specs.Denotes.{rope_cells, text}
 use Rattle.text_lines.specs.Screen.{glyph}
 use Rattle.text_lines.proofs.RowLaws.{glyphs_more}
-use Rattle.text_lines.proofs.Showing.{failed_read}
 use Rattle.text_lines.proofs.ToldLater.{told_then}
 use Rattle.text_lines.proofs.rows.push_row.Goals as goal
-
-pub returns-in_err-read_part-clause-reads : goal.returns-in_err-read_part-clause-reads
-returns-in_err-read_part-clause-reads g c =
-    let p = err_from_is_err_and c.from_residual-in_err-read_part.result c.from_residual-in_err-read_part.ensures.1 in
-    let t = g.S.NodeSpace.table c.args.space.now in
-    let n : ℕ = c.loop-place.place + c.min.result - c.loop-place.place in
-    rw (p.1, p.2) (failed_read (g.T.Sources.reading c.args.sources.now) (g.T.Sources.reading c.loop-place.sources) (g.T.Sources.reading c.read_part.new.sources) (rope_cell t c.args.rope) (rope_len t c.args.rope) c.loop-place.place (c.loop-place.place + length (take n c.loop-place.buffer)) c.in_err-read_part.field-0.0
-    c.loop-place.invariant.reads c.in_err-read_part.ensures.reads (omega (arith, length-take n c.loop-place.buffer, c.min.ensures, c.loop-place-test.true, c.requires.end)))
 
 pub loop-place-preserved : goal.loop-place-preserved
 loop-place-preserved g c =

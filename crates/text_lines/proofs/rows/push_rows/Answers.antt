@@ -1,5 +1,4 @@
 use Rattle.std.proofs.Common.{◌∙◌, ◌+◌, sym, subst}
-use Rattle.std.proofs.lemmas.Result.{err_from_is_err_and}
 use Rattle.lazy_file.proofs.LaterReads.{same_stated}
 use Rattle.rope_node.specs.Denotes.{rope_cells, rope_len, text}
 use Rattle.cord_position.specs.Fetched.{rope_cell}
@@ -12,10 +11,8 @@ use Rattle.text_lines.proofs.rows.push_rows.Goals as goal
 
 pub returns-in_err-next-clause-reads : goal.returns-in_err-next-clause-reads
 returns-in_err-next-clause-reads g c =
-    let p = err_from_is_err_and c.from_residual.result c.from_residual.ensures.1 in
     let t = g.S.NodeSpace.table c.args.space.now in
-    rw (p.1, p.2) (failed_part (g.T.Sources.reading c.args.sources.now) (g.T.Sources.reading c.loop-row.sources) (g.T.Sources.reading c.push_line.new.sources) (rope_cell t c.args.rope) (rope_len t c.args.rope) _
-    c.loop-row.invariant.reads c.in_err-next.ensures.reads)
+    failed_part (g.T.Sources.reading c.args.sources.now) (g.T.Sources.reading c.loop-row.sources) (g.T.Sources.reading c.push_line.new.sources) (rope_cell t c.args.rope) (rope_len t c.args.rope) c.in_err-next.field-0.0 c.from_residual.result c.from_residual.ensures.1 c.loop-row.invariant.reads c.in_err-next.ensures.reads
 
 pub loop-row-preserved : goal.loop-row-preserved
 loop-row-preserved g c = record {

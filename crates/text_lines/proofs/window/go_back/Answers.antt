@@ -1,21 +1,11 @@
-use Rattle.std.proofs.Common.{◌≡◌, ◌-◌, ◌≤◌, length, sym, ◌∙◌, arith, Err}
-use Rattle.std.proofs.lemmas.Result.{err_from_is_err_and}
+use Rattle.std.proofs.Common.{◌≡◌, ◌-◌, ◌≤◌, length, sym, ◌∙◌, arith}
 use Rattle.lazy_file.proofs.LaterReads.{same_stated}
 use Rattle.rope_node.specs.Denotes.{rope_cells, rope_len, text}
-use Rattle.cord_position.specs.Fetched.{rope_cell}
-use Rattle.cord_position.proofs.Spans.{failed_in}
 use Rattle.cord_search.proofs.Fetches.{told_before, text_length}
 use Rattle.text_lines.specs.HeldBytes.{AreHeld}
 use Rattle.text_lines.specs.Lines.{line_start}
 use Rattle.text_lines.proofs.WindowLaws.{above_more}
 use Rattle.text_lines.proofs.window.go_back.Goals as goal
-
-pub returns-in_err-top-clause-reads : goal.returns-in_err-top-clause-reads
-returns-in_err-top-clause-reads g c =
-    let p = err_from_is_err_and c.from_residual.result c.from_residual.ensures.1 in
-    let t = g.S.NodeSpace.table c.args.space.now in
-    rw (p.1, p.2) (failed_in {X = Unit {0}} (g.T.Sources.reading c.args.sources.now) (g.T.Sources.reading c.loop-row.sources) (g.T.Sources.reading c.near_start.new.sources) (rope_cell t c.args.rope) 0 (rope_len t c.args.rope) 0 (rope_len t c.args.rope) (Err c.in_err-top.field-0.0)
-    c.loop-row.invariant.reads c.in_err-top.ensures.reads (omega arith) (omega arith))
 
 pub loop-row-preserved : goal.loop-row-preserved
 loop-row-preserved g c = record {

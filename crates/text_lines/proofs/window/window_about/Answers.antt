@@ -1,22 +1,12 @@
-use Rattle.std.proofs.Common.{◌≡◌, ◌≤◌, length, sym, subst, ◌∙◌, arith, Err}
-use Rattle.std.proofs.lemmas.Result.{err_from_is_err_and}
+use Rattle.std.proofs.Common.{◌≡◌, ◌≤◌, length, sym, subst, ◌∙◌, arith}
 use Rattle.lazy_file.proofs.LaterReads.{same_stated}
 use Rattle.rope_node.specs.Denotes.{rope_cells, rope_len, text}
-use Rattle.cord_position.specs.Fetched.{rope_cell}
-use Rattle.cord_position.proofs.Spans.{failed_in}
 use Rattle.cord_search.proofs.Fetches.{told_before, text_length}
 use Rattle.text_lines.specs.HeldBytes.{AreHeld}
 use Rattle.text_lines.specs.Rows.{IsAbove, IsLineStart}
 use Rattle.text_lines.proofs.HeldLaws.{line_begun}
 use Rattle.text_lines.proofs.WindowLaws.{start_begins, window_is}
 use Rattle.text_lines.proofs.window.window_about.Goals as goal
-
-pub returns-in_err-top-clause-reads : goal.returns-in_err-top-clause-reads
-returns-in_err-top-clause-reads g c =
-    let p = err_from_is_err_and c.from_residual-in_err-top.result c.from_residual-in_err-top.ensures.1 in
-    let t = g.S.NodeSpace.table c.args.space.now in
-    rw (p.1, p.2) (failed_in {X = Unit {0}} (g.T.Sources.reading c.args.sources.now) (g.T.Sources.reading c.near_start.new.sources) (g.T.Sources.reading c.go_back.new.sources) (rope_cell t c.args.rope) 0 (rope_len t c.args.rope) 0 (rope_len t c.args.rope) (Err c.in_err-top.field-0.0)
-    c.in_ok-start.ensures.reads c.in_err-top.ensures.reads (omega arith) (omega arith))
 
 pub returns-clause-is : goal.returns-clause-is
 returns-clause-is g c source agrees stated =
