@@ -6,7 +6,7 @@ use Rattle.std.proofs.lemmas.Bool.{cases_Bool, eqb-true}
 use Rattle.std.proofs.Math.Dec.{eqb-suc-zero, eqb-zero-suc, eqb-suc-suc}
 use Rattle.command_parts.specs.declared.codes.TheConstants.{BALANCE, MANY}
 use Rattle.command_parts.specs.declared.edit.Edit.{Edit}
-use Rattle.command_parts.specs.declared.edit.Edit.TheVariants.{New, Many}
+use Rattle.command_parts.specs.declared.edit.Edit.TheVariants.{New, Open, Insert, Delete, Replace, Paste, Join, Cut, Fill, Back, Balance, Many}
 use Rattle.command_parts.specs.declared.numbers.Numbers.{Numbers}
 use Rattle.command_parts.specs.Fields.{Field, R, Q, P, M, A, N, place_in_record, number_limit, field_of, recorded, edits, edit_by, splices_of, is_in_field, number_for, numbers_of, unused, FitsField, FitsRecord, IsPlacedAt}
 
@@ -91,47 +91,20 @@ HasOnly x e = AreZero (unused e (field_of x)) → numbers_of e ≡ x
 
 own : (first code r q p m a n : ℕ) → HasOnly (numbers r q p m a n) (edit_by first code (field_of (numbers r q p m a n)))
 own first code r q p m a n =
-    let none : HasOnly (numbers r q p m a n) New = λ z. rw (z.0, z.1.0, z.1.1.0, z.1.1.1.0, z.1.1.1.1.0, z.1.1.1.1.1.0) refl in
-    each_code (HasOnly (numbers r q p m a n)) first (field_of (numbers r q p m a n)) (
-      none,
-      (
-        none,
-        (
-          λ z. rw (z.0, z.1.0, z.1.1.0, z.1.1.1.0, z.1.1.1.1.0) refl,
-          (
-            λ z. rw (z.0, z.1.0) refl,
-            (
-              λ z. rw (z.0, z.1.0, z.1.1.0) refl,
-              (
-                λ z. rw z.0 refl,
-                (
-                  λ z. rw z.0 refl,
-                  (
-                    λ z. rw (z.0, z.1.0, z.1.1.0, z.1.1.1.0) refl,
-                    (
-                      λ z. rw (z.0, z.1.0, z.1.1.0) refl,
-                      (
-                        λ z. rw (z.0, z.1.0) refl,
-                        (
-                          λ z. rw (z.0, z.1.0, z.1.1.0, z.1.1.1.0, z.1.1.1.1.0) refl,
-                          (
-                            λ z. rw (z.0, z.1.0, z.1.1.0, z.1.1.1.0, z.1.1.1.1.0) refl,
-                            (
-                              λ z. rw (z.0, z.1.0, z.1.1.0, z.1.1.1.0) refl,
-                              tt,
-                            ),
-                          ),
-                        ),
-                      ),
-                    ),
-                  ),
-                ),
-              ),
-            ),
-          ),
-        ),
-      ),
-    ) code
+    let x = numbers r q p m a n in
+    let none : HasOnly x New = λ z. rw (z.0, z.1.0, z.1.1.0, z.1.1.1.0, z.1.1.1.1.0, z.1.1.1.1.1.0) refl in
+    let opened : HasOnly x (Open q) = λ z. rw (z.0, z.1.0, z.1.1.0, z.1.1.1.0, z.1.1.1.1.0) refl in
+    let inserted : HasOnly x (Insert r p a n) = λ z. rw (z.0, z.1.0) refl in
+    let deleted : HasOnly x (Delete r p n) = λ z. rw (z.0, z.1.0, z.1.1.0) refl in
+    let replaced : HasOnly x (Replace r p m a n) = λ z. rw z.0 refl in
+    let pasted : HasOnly x (Paste r p q a n) = λ z. rw z.0 refl in
+    let joined : HasOnly x (Join r q) = λ z. rw (z.0, z.1.0, z.1.1.0, z.1.1.1.0) refl in
+    let cut : HasOnly x (Cut r a n) = λ z. rw (z.0, z.1.0, z.1.1.0) refl in
+    let filled : HasOnly x (Fill r p a n) = λ z. rw (z.0, z.1.0) refl in
+    let back : HasOnly x (Back r) = λ z. rw (z.0, z.1.0, z.1.1.0, z.1.1.1.0, z.1.1.1.1.0) refl in
+    let balanced : HasOnly x (Balance r) = λ z. rw (z.0, z.1.0, z.1.1.0, z.1.1.1.0, z.1.1.1.1.0) refl in
+    let many : HasOnly x (Many r first q) = λ z. rw (z.0, z.1.0, z.1.1.0, z.1.1.1.0) refl in
+    each_code (HasOnly x) first (field_of x) (none, (none, (opened, (inserted, (deleted, (replaced, (pasted, (joined, (cut, (filled, (back, (balanced, (many, tt))))))))))))) code
 
 -- where the commands before it have more splices, it uses the same fields
 unused_first : (first code : ℕ) (f : Field → ℕ) → unused (edit_by first code f) f ≡ unused (edit_by 0 code f) f

@@ -102,22 +102,14 @@ by_splices g texts r splices x given =
 
 by_words : (g : Givens ℕ) (texts : List (List ℕ)) (e : FullEdit) (x : List ℕ) → StandsInside (length g.pool) e → result_of g texts e ≡ Some x
     → outcome g texts (words_of g.pool e) ≡ Some x
-by_words g texts New x inside given = given
-by_words g texts (Open s) x inside given = given
 by_words g texts (Insert r p a n) x inside given =
     let len = span_len g.pool a n inside in
     rw (span_all (take n (drop a g.pool)) n len, len) (rw (span_is g.pool a n inside) at given)
-by_words g texts (Delete r p n) x inside given = given
 by_words g texts (Replace r p m a n) x inside given =
     let len = span_len g.pool a n inside in
     rw (span_all (take n (drop a g.pool)) n len, len) (rw (span_is g.pool a n inside) at given)
-by_words g texts (Paste r p q i n) x inside given = given
-by_words g texts (Join r q) x inside given = given
-by_words g texts (Cut r i n) x inside given = given
-by_words g texts (Fill r p c n) x inside given = given
-by_words g texts (Back r) x inside given = given
-by_words g texts (Balance r) x inside given = given
 by_words g texts (Many r splices) x inside given = by_splices g texts r splices x given
+by_words g texts other x inside given = given
 
 -- words that give a text give it over the same sources, whatever the pool
 same_outcome : (g h : Givens ℕ) (texts : List (List ℕ)) (ws : List Word) → g.sources ≡ h.sources → g.byte ≡ h.byte → outcome g texts ws ≡ outcome h texts ws

@@ -15,7 +15,7 @@ use Rattle.command_parts.specs.declared.edit.Splice.{Splice}
 use Rattle.command_parts.proofs.SplicedTexts.{are_splices}
 use Rattle.edit_commands.specs.declared.command.Change.{Change}
 use Rattle.edit_commands.specs.declared.command.Command.{Command}
-use Rattle.edit_commands.specs.declared.command.Command.TheVariants.{New, Open, Insert, Delete, Replace, Paste, Join, Cut, Fill, Back, Balance, Many}
+use Rattle.edit_commands.specs.declared.command.Command.TheVariants.{New, Insert, Replace, Many}
 use Rattle.edit_commands.specs.Building.{ArePutAt, StandEach, edit_with, splices_with, placed_changes}
 use Rattle.edit_commands.specs.Refusals.{TakesAll}
 use Rattle.edit_commands.specs.Session.{SessionValue, session_table, command_of, commands_of, roots_of, splices_held}
@@ -80,29 +80,11 @@ recorded_says old pool first t roots (Replace r p m bytes) (a ∷ places) takes 
 recorded_says old pool first t roots (Many r changes bytes) places takes stand =
     ap (λ (ws : List Word). Name (codes "many") ∷ Number r ∷ ws)
     (changes_say old pool _ _ bytes.now 0 changes.now places (omega (arith, takes)) stand)
-recorded_says old pool first t roots New places takes stand = refl
-recorded_says old pool first t roots (Open s) places takes stand = refl
-recorded_says old pool first t roots (Delete r p n) places takes stand = refl
-recorded_says old pool first t roots (Paste r p q i n) places takes stand = refl
-recorded_says old pool first t roots (Join r q) places takes stand = refl
-recorded_says old pool first t roots (Cut r i n) places takes stand = refl
-recorded_says old pool first t roots (Fill r p c n) places takes stand = refl
-recorded_says old pool first t roots (Back r) places takes stand = refl
-recorded_says old pool first t roots (Balance r) places takes stand = refl
+recorded_says old pool first t roots other places takes stand = refl
 
 some_words : (command : Command) → 0 < length (words_handed command)
 some_words New = omega arith
-some_words (Open s) = omega arith
-some_words (Insert r p bytes) = omega arith
-some_words (Delete r p n) = omega arith
-some_words (Replace r p m bytes) = omega arith
-some_words (Paste r p q i n) = omega arith
-some_words (Join r q) = omega arith
-some_words (Cut r i n) = omega arith
-some_words (Fill r p c n) = omega arith
-some_words (Back r) = omega arith
-some_words (Balance r) = omega arith
-some_words (Many r changes bytes) = omega arith
+some_words other = omega arith
 
 -- ---- a command that gives a text names bytes that stand in the pool
 
@@ -122,19 +104,11 @@ inside_if_given g texts (E.Replace r p m a n) y e =
     let t = bind_some (slice_get texts r) (λ t. span g.pool a n >>= λ x. cond (leb 1 n) (spliced t p m x) None) y e in
     let x = bind_some (span g.pool a n) (λ x. cond (leb 1 n) (spliced t.0 p m x) None) y t.2 in
     span_inside g.pool a n x.0 x.1
-inside_if_given g texts E.New y e = tt
-inside_if_given g texts (E.Open s) y e = tt
-inside_if_given g texts (E.Delete r p n) y e = tt
-inside_if_given g texts (E.Paste r p q i n) y e = tt
-inside_if_given g texts (E.Join r q) y e = tt
-inside_if_given g texts (E.Cut r i n) y e = tt
-inside_if_given g texts (E.Fill r p c n) y e = tt
-inside_if_given g texts (E.Back r) y e = tt
-inside_if_given g texts (E.Balance r) y e = tt
 inside_if_given g texts (E.Many r splices) y e =
     let t = bind_some (slice_get texts r) (λ t. cond (can_splice (length g.pool) (length t) splices) (bounded (replaced_each g.pool t splices)) None) y e in
     let can = chosen_true (can_splice (length g.pool) (length t.0) splices) (bounded (replaced_each g.pool t.0 splices)) y t.2 in
     (are_splices (length g.pool) (length t.0) splices can).pooled
+inside_if_given g texts other y e = tt
 
 -- ---- a pool that goes on
 
@@ -158,17 +132,9 @@ words_kept old new goes (E.Insert r p a n) inside =
     ap (λ (b : List ℕ). Name (codes "insert") ∷ Number r ∷ Number p ∷ Quoted b ∷ []) (span_kept old new goes a n inside)
 words_kept old new goes (E.Replace r p m a n) inside =
     ap (λ (b : List ℕ). Name (codes "replace") ∷ Number r ∷ Number p ∷ Number m ∷ Quoted b ∷ []) (span_kept old new goes a n inside)
-words_kept old new goes E.New inside = refl
-words_kept old new goes (E.Open s) inside = refl
-words_kept old new goes (E.Delete r p n) inside = refl
-words_kept old new goes (E.Paste r p q i n) inside = refl
-words_kept old new goes (E.Join r q) inside = refl
-words_kept old new goes (E.Cut r i n) inside = refl
-words_kept old new goes (E.Fill r p c n) inside = refl
-words_kept old new goes (E.Back r) inside = refl
-words_kept old new goes (E.Balance r) inside = refl
 words_kept old new goes (E.Many r splices) inside =
     ap (λ (ws : List Word). Name (codes "many") ∷ Number r ∷ ws) (splices_kept old new goes splices inside)
+words_kept old new goes other inside = refl
 
 all_kept : (old new : List ℕ) → GoesOnFrom old new → (es : List FullEdit) → AllByRecursion (StandsInside (length old)) es → map (words_of new) es ≡ map (words_of old) es
 all_kept old new goes [] inside = refl
@@ -183,16 +149,8 @@ splices_more old new le (s ∷ splices) inside = (omega (arith, le, inside.0), s
 inside_more : (old new : ℕ) → old ≤ new → (e : FullEdit) → StandsInside old e → StandsInside new e
 inside_more old new le (E.Insert r p a n) inside = omega arith
 inside_more old new le (E.Replace r p m a n) inside = omega arith
-inside_more old new le E.New inside = tt
-inside_more old new le (E.Open s) inside = tt
-inside_more old new le (E.Delete r p n) inside = tt
-inside_more old new le (E.Paste r p q i n) inside = tt
-inside_more old new le (E.Join r q) inside = tt
-inside_more old new le (E.Cut r i n) inside = tt
-inside_more old new le (E.Fill r p c n) inside = tt
-inside_more old new le (E.Back r) inside = tt
-inside_more old new le (E.Balance r) inside = tt
 inside_more old new le (E.Many r splices) inside = splices_more old new le splices inside
+inside_more old new le other inside = tt
 
 all_inside : (old new : ℕ) → old ≤ new → (es : List FullEdit) (e : FullEdit) → AllByRecursion (StandsInside old) es → StandsInside new e → AllByRecursion (StandsInside new) (es ++ e ∷ [])
 all_inside old new le [] e inside here = (here, tt)

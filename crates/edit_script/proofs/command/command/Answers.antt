@@ -1,89 +1,51 @@
 use Rattle.std.proofs.Common.{◌≡◌, List, ℕ, sym, subst, arith, rules}
-use Rattle.std.specs.Prelude.{codes}
+use Rattle.std.specs.Prelude.{Result, codes}
 use Rattle.std.proofs.lemmas.Slice.Eq.{text_from_reads}
+use Rattle.edit_script.specs.declared.fault.LineFault.{LineFault}
+use Rattle.edit_script.specs.Words.{Word}
 use Rattle.edit_script.specs.Handed.{words_in}
 use Rattle.edit_script.specs.Reading.{IsReadAs, named_at}
 use Rattle.edit_script.proofs.command.command.Goals as goal
 
+-- what is read behind a name is read behind one that is the same
+named : {X : Type 0} (view : X → List Word) (result : Result X LineFault) (name text line : List ℕ) → name ≡ text → IsReadAs view result (named_at text line) → IsReadAs view result (named_at name line)
+named view result name text line is read = subst (λ (n : List ℕ). IsReadAs view result (named_at n line)) (sym is) read
+
 pub returns-in-new-clause-read : goal.returns-in-new-clause-read
-returns-in-new-clause-read c =
-    let is : c.args.name.now ≡ codes "new" = text_from_reads _ (codes "new") (omega arith) (search rules) in
-    let bytes = c.args.room.now.bytes.items in
-    let changes = c.args.room.now.changes.items in
-    subst (λ (name : List ℕ). IsReadAs (words_in bytes changes) c.new_text.result (named_at name c.args.line.now)) (sym is) (c.new_text.ensures.read bytes changes)
+returns-in-new-clause-read c = named (words_in c.args.room.now.bytes.items c.args.room.now.changes.items) c.new_text.result c.args.name.now (codes "new") c.args.line.now (text_from_reads _ (codes "new") (omega arith) (search rules)) (c.new_text.ensures.read c.args.room.now.bytes.items c.args.room.now.changes.items)
 
 pub returns-in-open-clause-read : goal.returns-in-open-clause-read
-returns-in-open-clause-read c =
-    let is : c.args.name.now ≡ codes "open" = text_from_reads _ (codes "open") (omega arith) (search rules) in
-    let bytes = c.args.room.now.bytes.items in
-    let changes = c.args.room.now.changes.items in
-    subst (λ (name : List ℕ). IsReadAs (words_in bytes changes) c.open.result (named_at name c.args.line.now)) (sym is) (c.open.ensures.read bytes changes)
+returns-in-open-clause-read c = named (words_in c.args.room.now.bytes.items c.args.room.now.changes.items) c.open.result c.args.name.now (codes "open") c.args.line.now (text_from_reads _ (codes "open") (omega arith) (search rules)) (c.open.ensures.read c.args.room.now.bytes.items c.args.room.now.changes.items)
 
 pub returns-in-delete-clause-read : goal.returns-in-delete-clause-read
-returns-in-delete-clause-read c =
-    let is : c.args.name.now ≡ codes "delete" = text_from_reads _ (codes "delete") (omega arith) (search rules) in
-    let bytes = c.args.room.now.bytes.items in
-    let changes = c.args.room.now.changes.items in
-    subst (λ (name : List ℕ). IsReadAs (words_in bytes changes) c.delete.result (named_at name c.args.line.now)) (sym is) (c.delete.ensures.read bytes changes)
+returns-in-delete-clause-read c = named (words_in c.args.room.now.bytes.items c.args.room.now.changes.items) c.delete.result c.args.name.now (codes "delete") c.args.line.now (text_from_reads _ (codes "delete") (omega arith) (search rules)) (c.delete.ensures.read c.args.room.now.bytes.items c.args.room.now.changes.items)
 
 pub returns-in-paste-clause-read : goal.returns-in-paste-clause-read
-returns-in-paste-clause-read c =
-    let is : c.args.name.now ≡ codes "paste" = text_from_reads _ (codes "paste") (omega arith) (search rules) in
-    let bytes = c.args.room.now.bytes.items in
-    let changes = c.args.room.now.changes.items in
-    subst (λ (name : List ℕ). IsReadAs (words_in bytes changes) c.paste.result (named_at name c.args.line.now)) (sym is) (c.paste.ensures.read bytes changes)
+returns-in-paste-clause-read c = named (words_in c.args.room.now.bytes.items c.args.room.now.changes.items) c.paste.result c.args.name.now (codes "paste") c.args.line.now (text_from_reads _ (codes "paste") (omega arith) (search rules)) (c.paste.ensures.read c.args.room.now.bytes.items c.args.room.now.changes.items)
 
 pub returns-in-join-clause-read : goal.returns-in-join-clause-read
-returns-in-join-clause-read c =
-    let is : c.args.name.now ≡ codes "join" = text_from_reads _ (codes "join") (omega arith) (search rules) in
-    let bytes = c.args.room.now.bytes.items in
-    let changes = c.args.room.now.changes.items in
-    subst (λ (name : List ℕ). IsReadAs (words_in bytes changes) c.join.result (named_at name c.args.line.now)) (sym is) (c.join.ensures.read bytes changes)
+returns-in-join-clause-read c = named (words_in c.args.room.now.bytes.items c.args.room.now.changes.items) c.join.result c.args.name.now (codes "join") c.args.line.now (text_from_reads _ (codes "join") (omega arith) (search rules)) (c.join.ensures.read c.args.room.now.bytes.items c.args.room.now.changes.items)
 
 pub returns-in-cut-clause-read : goal.returns-in-cut-clause-read
-returns-in-cut-clause-read c =
-    let is : c.args.name.now ≡ codes "cut" = text_from_reads _ (codes "cut") (omega arith) (search rules) in
-    let bytes = c.args.room.now.bytes.items in
-    let changes = c.args.room.now.changes.items in
-    subst (λ (name : List ℕ). IsReadAs (words_in bytes changes) c.cut.result (named_at name c.args.line.now)) (sym is) (c.cut.ensures.read bytes changes)
+returns-in-cut-clause-read c = named (words_in c.args.room.now.bytes.items c.args.room.now.changes.items) c.cut.result c.args.name.now (codes "cut") c.args.line.now (text_from_reads _ (codes "cut") (omega arith) (search rules)) (c.cut.ensures.read c.args.room.now.bytes.items c.args.room.now.changes.items)
 
 pub returns-in-fill-clause-read : goal.returns-in-fill-clause-read
-returns-in-fill-clause-read c =
-    let is : c.args.name.now ≡ codes "fill" = text_from_reads _ (codes "fill") (omega arith) (search rules) in
-    let bytes = c.args.room.now.bytes.items in
-    let changes = c.args.room.now.changes.items in
-    subst (λ (name : List ℕ). IsReadAs (words_in bytes changes) c.fill.result (named_at name c.args.line.now)) (sym is) (c.fill.ensures.read bytes changes)
+returns-in-fill-clause-read c = named (words_in c.args.room.now.bytes.items c.args.room.now.changes.items) c.fill.result c.args.name.now (codes "fill") c.args.line.now (text_from_reads _ (codes "fill") (omega arith) (search rules)) (c.fill.ensures.read c.args.room.now.bytes.items c.args.room.now.changes.items)
 
 pub returns-in-back-clause-read : goal.returns-in-back-clause-read
-returns-in-back-clause-read c =
-    let is : c.args.name.now ≡ codes "back" = text_from_reads _ (codes "back") (omega arith) (search rules) in
-    let bytes = c.args.room.now.bytes.items in
-    let changes = c.args.room.now.changes.items in
-    subst (λ (name : List ℕ). IsReadAs (words_in bytes changes) c.back.result (named_at name c.args.line.now)) (sym is) (c.back.ensures.read bytes changes)
+returns-in-back-clause-read c = named (words_in c.args.room.now.bytes.items c.args.room.now.changes.items) c.back.result c.args.name.now (codes "back") c.args.line.now (text_from_reads _ (codes "back") (omega arith) (search rules)) (c.back.ensures.read c.args.room.now.bytes.items c.args.room.now.changes.items)
 
 pub returns-in-balance-clause-read : goal.returns-in-balance-clause-read
-returns-in-balance-clause-read c =
-    let is : c.args.name.now ≡ codes "balance" = text_from_reads _ (codes "balance") (omega arith) (search rules) in
-    let bytes = c.args.room.now.bytes.items in
-    let changes = c.args.room.now.changes.items in
-    subst (λ (name : List ℕ). IsReadAs (words_in bytes changes) c.balance.result (named_at name c.args.line.now)) (sym is) (c.balance.ensures.read bytes changes)
+returns-in-balance-clause-read c = named (words_in c.args.room.now.bytes.items c.args.room.now.changes.items) c.balance.result c.args.name.now (codes "balance") c.args.line.now (text_from_reads _ (codes "balance") (omega arith) (search rules)) (c.balance.ensures.read c.args.room.now.bytes.items c.args.room.now.changes.items)
 
 pub returns-in-insert-clause-read : goal.returns-in-insert-clause-read
-returns-in-insert-clause-read c =
-    let is : c.args.name.now ≡ codes "insert" = text_from_reads _ (codes "insert") (omega arith) (search rules) in
-    let changes = c.args.room.now.changes.items in
-    subst (λ (name : List ℕ). IsReadAs (words_in c.insert.new.bytes.items changes) c.insert.result (named_at name c.args.line.now)) (sym is) (c.insert.ensures.read changes)
+returns-in-insert-clause-read c = named (words_in c.insert.new.bytes.items c.args.room.now.changes.items) c.insert.result c.args.name.now (codes "insert") c.args.line.now (text_from_reads _ (codes "insert") (omega arith) (search rules)) (c.insert.ensures.read c.args.room.now.changes.items)
 
 pub returns-in-replace-clause-read : goal.returns-in-replace-clause-read
-returns-in-replace-clause-read c =
-    let is : c.args.name.now ≡ codes "replace" = text_from_reads _ (codes "replace") (omega arith) (search rules) in
-    let changes = c.args.room.now.changes.items in
-    subst (λ (name : List ℕ). IsReadAs (words_in c.replace.new.bytes.items changes) c.replace.result (named_at name c.args.line.now)) (sym is) (c.replace.ensures.read changes)
+returns-in-replace-clause-read c = named (words_in c.replace.new.bytes.items c.args.room.now.changes.items) c.replace.result c.args.name.now (codes "replace") c.args.line.now (text_from_reads _ (codes "replace") (omega arith) (search rules)) (c.replace.ensures.read c.args.room.now.changes.items)
 
 pub returns-in-many-clause-read : goal.returns-in-many-clause-read
-returns-in-many-clause-read c =
-    let is : c.args.name.now ≡ codes "many" = text_from_reads _ (codes "many") (omega arith) (search rules) in
-    subst (λ (name : List ℕ). IsReadAs (words_in c.many.new.room.bytes.items c.many.new.room.changes.items) c.many.result (named_at name c.args.line.now)) (sym is) c.many.ensures.read
+returns-in-many-clause-read c = named (words_in c.many.new.room.bytes.items c.many.new.room.changes.items) c.many.result c.args.name.now (codes "many") c.args.line.now (text_from_reads _ (codes "many") (omega arith) (search rules)) c.many.ensures.read
 
 pub returns-in-new-clause-inside : goal.returns-in-new-clause-inside
 returns-in-new-clause-inside c = c.new_text.ensures.inside c.args.room.now
