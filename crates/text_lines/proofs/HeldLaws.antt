@@ -7,7 +7,12 @@ use Rattle.std.proofs.lemmas.List.{take-take, drop_all, take-append-drop, take_a
 use Rattle.std.proofs.lemmas.List.Folds.{prefix_len-append}
 use Rattle.std.proofs.lemmas.List.Sums.{prefix_len-le-length, prefix_len_passes, suffix_len-le-length}
 use Rattle.std.proofs.Math.Seq.{drop-append_seam, take-add}
-use Rattle.text_lines.specs.HeldBytes.{HeldPart, held_up_to, held_starting_at, AreHeld, TellsStart}
+use Rattle.rope_node.specs.declared.node.NodeId.{NodeId}
+use Rattle.rope_node.specs.Table.{Table}
+use Rattle.rope_node.specs.Denotes.{rope_cells}
+use Rattle.lazy_file.specs.Readings.{Reading}
+use Rattle.cord_search.proofs.Fetches.{text_length}
+use Rattle.text_lines.specs.HeldBytes.{HeldPart, held_up_to, held_starting_at, AreHeld, HoldsText, TellsStart}
 use Rattle.text_lines.specs.declared.known.KnownLine.{KnownLine}
 use Rattle.text_lines.specs.declared.known_lines.KnownLines.{KnownLines}
 use Rattle.text_lines.specs.KnownLines.{IsKnownIn, IsLineOf, known_lines, learnt}
@@ -21,8 +26,12 @@ use borrow.Rule.Slice.PartMut.{Post-is, put_mid}
 
 -- ---- more bytes
 
-pub none_held : (t : List ℕ) (h : HeldPart) (place : ℕ) → place ≤ length t → AreHeld h t → AreHeld (record h { from = place; bytes = [] }) t
-none_held t h place inside held = record { inside = omega (arith, inside); bytes = refl; begun = held.begun; known = held.known }
+pub none_held : (t : Table) (sources : Reading) (rope : Option NodeId) (h : HeldPart) (place len : ℕ) → len ≡ length (rope_cells t rope) → place ≤ len → HoldsText t sources rope h → HoldsText t sources rope (record h { from = place; bytes = [] })
+none_held t sources rope h place len cells inside holds = record {
+  told = λ source agrees stated.
+      let held = holds.told source agrees stated in
+      record { inside = omega (arith, text_length t rope source, cells, inside); bytes = refl; begun = held.begun; known = held.known };
+}
 
 -- those that stand one behind the other in the text are held together
 pub held_together : (t : List ℕ) (h : HeldPart) (a b : List ℕ) (from : ℕ) → AreHeld (record h { from = from; bytes = a }) t → AreHeld (record h { from = from + length a; bytes = b }) t → AreHeld (record h { from = from; bytes = a ++ b }) t

@@ -1,5 +1,5 @@
 -- Behind calls that answered no fault: what is told of a rope's text, and a fault that a later call answers.
-use Rattle.std.proofs.Common.{◌≡◌, ◌≤◌, ℕ, List, Option}
+use Rattle.std.proofs.Common.{◌≡◌, ◌≤◌, ℕ, List, Option, subst}
 use Rattle.std.specs.Prelude.{Result, Ok, Err}
 use Rattle.std.specs.Result.{IsErrAnd}
 use Rattle.rope_node.specs.declared.node.NodeId.{NodeId}
@@ -12,9 +12,14 @@ use Rattle.cord_position.specs.Fetched.{ReadsSpan}
 use Rattle.cord_position.proofs.Spans.{failed_in}
 use Rattle.cord_search.specs.Stated.{OfText}
 use Rattle.cord_search.proofs.Fetches.{told_before}
+use Rattle.text_lines.specs.HeldBytes.{HeldPart, HoldsText}
 
 pub told_then : (t : Table) (a b : Reading) (rope : Option NodeId) (P : List ℕ → Type 0) → b ≡ a → OfText t b.stated rope P → OfText t a.stated rope P
 told_then t a b rope P same told = told_before t a.stated b.stated rope 0 (rope_len t rope) P (same_stated same) told
+
+-- bytes of it that are held
+pub held_then : {t : Table} {a b : Reading} {rope : Option NodeId} {held : HeldPart} → b ≡ a → HoldsText t b rope held → HoldsText t a rope held
+held_then {t = t} {rope = rope} {held = held} same holds = subst (λ (r : Reading). HoldsText t r rope held) same holds
 
 -- a fault of a read of these cells, or of some of them
 pub failed_then : {X : Type 0} (a mid b : Reading) (cell : ℕ → Cell) (i j k l : ℕ) (e : SourceFault) (r : Result X SourceFault) → IsErrAnd r (λ f. f ≡ e) → mid ≡ a → ReadsSpan {X = Unit {0}} mid b cell k l (Err e) → i ≤ k → l ≤ j

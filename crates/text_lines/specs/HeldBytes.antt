@@ -1,6 +1,10 @@
 -- Bytes of a text that are held, to look for line breaks among them.
 use Rattle.std.specs.Prelude.{◌≡◌, ◌⊎◌, ℕ, ◌+◌, ◌-◌, ◌<◌, ◌≤◌, not, nat_lt, if◌then◌else◌, List, [], length, take, drop, Option, IfSome}
 use Rattle.std.specs.List.{position_or_len, suffix_len}
+use Rattle.rope_node.specs.declared.node.NodeId.{NodeId}
+use Rattle.rope_node.specs.Table.{Table}
+use Rattle.lazy_file.specs.Readings.{Reading}
+use Rattle.cord_search.specs.Stated.{OfText}
 use Rattle.text_lines.specs.declared.known_lines.KnownLines.{KnownLines}
 use Rattle.text_lines.specs.KnownLines.{IsKnownIn}
 use Rattle.text_lines.specs.Lines.{is_break}
@@ -27,6 +31,10 @@ pub record AreHeld (held : HeldPart) (t : List ℕ) : Type 0 where
   pub bytes : held.bytes ≡ take (length held.bytes) (drop held.from t)
   pub begun : IfSome held.begun (IsLineStart t)
   pub known : IsKnownIn held.known t
+
+-- they are of a rope's text, whatever bytes the sources have that agree with what they state, where each cell is stated
+pub record HoldsText (t : Table) (sources : Reading) (rope : Option NodeId) (held : HeldPart) : Type 0 where
+  pub told : OfText t sources.stated rope (AreHeld held)
 
 -- a line break is among these bytes
 abbrev pub HasBreak : List ℕ → Type 0

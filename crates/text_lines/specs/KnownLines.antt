@@ -1,6 +1,6 @@
 -- Lines of a text whose borders are known.
-use Rattle.std.specs.Prelude.{◌≡◌, ◌⊎◌, ℕ, ◌+◌, ◌-◌, ◌^◌, ◌<◌, ◌≤◌, Bool, true, false, not, ◌&&◌, ◌==◌, nat_le, List, [], ◌∷◌, All, Contains, length, take, get_or}
-use Rattle.std.specs.List.{filter}
+use Rattle.std.specs.Prelude.{◌≡◌, ◌⊎◌, ℕ, ◌+◌, ◌-◌, ◌^◌, ◌<◌, ◌≤◌, Bool, true, false, not, ◌&&◌, ◌==◌, nat_le, List, [], ◌∷◌, All, Contains, length, take, get_or, Option, Some, None}
+use Rattle.std.specs.List.{AllZip, filter}
 use Rattle.cord_search.specs.declared.runs.TheConstants.{PIECE}
 use Rattle.command_parts.specs.Commands.{replaced}
 use Rattle.text_lines.specs.declared.known.KnownLine.{KnownLine}
@@ -74,3 +74,10 @@ abbrev pub IsPasted : ℕ → ℕ → KnownLine → KnownLine → Type 0
 IsPasted place put line later =
     (t bytes : List ℕ) → place ≤ length t → length bytes ≡ put → IsLineOf t line
     → IsLineOf (replaced t place 0 bytes) later
+
+-- Of the lines before it a change made those behind it: these are lines of a text where it makes lines of that one of
+-- those of another, and where it leaves none out, there is one of each, in order.
+pub record ChangesLines (Makes : KnownLine → Option KnownLine → Type 0) (before after : List KnownLine) : Type 0 where
+  pub lines : (t u : List ℕ) → ((line later : KnownLine) → Makes line (Some later) → IsLineOf t line → IsLineOf u later)
+      → All (IsLineOf t) before → All (IsLineOf u) after
+  pub each : All (λ line. ¬ Makes line None) before → AllZip (λ line later. Makes line (Some later)) before after

@@ -5,7 +5,7 @@ ghost use Rattle.rope_node.specs.Denotes.{IsRope, rope_len};
 ghost use Rattle.cord_position.specs.Fetched.{ReadsSpan, rope_cell};
 ghost use Rattle.cord_search.specs.declared.runs.TheConstants.{PIECE};
 ghost use Rattle.cord_search.specs.Stated.{OfText};
-ghost use Rattle.text_lines.specs.HeldBytes.{held_up_to, AreHeld, TellsStart};
+ghost use Rattle.text_lines.specs.HeldBytes.{held_up_to, AreHeld, HoldsText, TellsStart};
 ghost use Rattle.text_lines.specs.Lines.{line_start};
 
 use crate::held::{HeldBytes, NEAR};
@@ -41,6 +41,7 @@ fn start_among(held: &HeldBytes, place: u64) -> Option<u64>
 /// # Errors
 ///
 /// A source's fault, where a byte is one of that source and the read of it failed.
+#[tactic(auto, using(crate::proofs::ToldLater::held_then))]
 pub fn near_start<S: NodeSpace, T: Sources>(
     alloc: Global,
     held: &mut HeldBytes,
@@ -51,12 +52,11 @@ pub fn near_start<S: NodeSpace, T: Sources>(
 ) -> Result<u64, SourceFault>
     requires rope { IsRope (S.table space.now) rope }
     requires place { place ≤ rope_len (S.table space.now) rope }
-    requires held { OfText (S.table space.now) (T.reading sources.old).stated rope (AreHeld held.old) }
+    requires held { HoldsText (S.table space.now) (T.reading sources.old) rope held.old }
     ensures inside { IfOk result (λ p. p ≤ place) }
     ensures is { IfOk result (λ p.
         OfText (S.table space.now) (T.reading sources.old).stated rope (λ t. p ≡ line_start t place)) }
-    ensures held { IfOk result (λ _.
-        OfText (S.table space.now) (T.reading sources.old).stated rope (AreHeld held.new)) }
+    ensures held { IfOk result (λ _. HoldsText (S.table space.now) (T.reading sources.old) rope held.new) }
     ensures reads { ReadsSpan (T.reading sources.old) (T.reading sources.new)
         (rope_cell (S.table space.now) rope) 0 (rope_len (S.table space.now) rope) result }
 {

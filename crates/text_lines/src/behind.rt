@@ -4,7 +4,7 @@ ghost use Rattle.std.specs.Prelude.{◌≡◌, ◌↔◌, ◌≤◌, ℕ, List, 
 ghost use Rattle.rope_node.specs.Denotes.{IsRope, rope_len};
 ghost use Rattle.cord_position.specs.Fetched.{ReadsSpan, rope_cell};
 ghost use Rattle.cord_search.specs.Stated.{OfText};
-ghost use Rattle.text_lines.specs.HeldBytes.{held_starting_at, AreHeld, HasBreak};
+ghost use Rattle.text_lines.specs.HeldBytes.{held_starting_at, AreHeld, HoldsText, HasBreak};
 ghost use Rattle.text_lines.specs.Lines.{line_end};
 
 use crate::held::HeldBytes;
@@ -49,13 +49,12 @@ pub fn near_end<S: NodeSpace, T: Sources>(
 ) -> Result<u64, SourceFault>
     requires rope { IsRope (S.table space.now) rope }
     requires start { start ≤ rope_len (S.table space.now) rope }
-    requires held { OfText (S.table space.now) (T.reading sources.old).stated rope (AreHeld held.old) }
+    requires held { HoldsText (S.table space.now) (T.reading sources.old) rope held.old }
     ensures from { IfOk result (λ p. start ≤ p) }
     ensures inside { IfOk result (λ p. p ≤ rope_len (S.table space.now) rope) }
     ensures is { IfOk result (λ p.
         OfText (S.table space.now) (T.reading sources.old).stated rope (λ t. p ≡ line_end t start)) }
-    ensures held { IfOk result (λ _.
-        OfText (S.table space.now) (T.reading sources.old).stated rope (AreHeld held.new)) }
+    ensures held { IfOk result (λ _. HoldsText (S.table space.now) (T.reading sources.old) rope held.new) }
     ensures reads { ReadsSpan (T.reading sources.old) (T.reading sources.new)
         (rope_cell (S.table space.now) rope) 0 (rope_len (S.table space.now) rope) result }
 {

@@ -5,7 +5,7 @@ ghost use Rattle.rope_node.specs.Denotes.{IsRope, rope_len};
 ghost use Rattle.cord_position.specs.Fetched.{ReadsSpan, rope_cell};
 ghost use Rattle.cord_search.specs.declared.runs.TheConstants.{PIECE};
 ghost use Rattle.cord_search.specs.Stated.{OfText};
-ghost use Rattle.text_lines.specs.HeldBytes.{held_up_to, held_starting_at, AreHeld};
+ghost use Rattle.text_lines.specs.HeldBytes.{held_up_to, held_starting_at, AreHeld, HoldsText};
 ghost use Rattle.text_lines.specs.declared.known.KnownLine.{KnownLine};
 ghost use Rattle.text_lines.specs.KnownLines.{known_lines, learnt};
 ghost use Rattle.text_lines.specs.Lines.{line_end, next_line};
@@ -173,10 +173,10 @@ impl HeldBytes {
         requires rope { IsRope (S.table space.now) rope }
         requires inside { self.old.from ≤ rope_len (S.table space.now) rope }
         requires room { self.old.from - from + length self.old.bytes ≤ ROOM }
-        requires held { OfText (S.table space.now) (T.reading sources.old).stated rope (AreHeld self.old) }
+        requires held { HoldsText (S.table space.now) (T.reading sources.old) rope self.old }
         ensures span { OnOk result ((self.new.from + (self.old.from - from) ≡ self.old.from)
             × (length self.new.bytes ≡ self.old.from - from + length self.old.bytes)) }
-        ensures held { OnOk result (OfText (S.table space.now) (T.reading sources.old).stated rope (AreHeld self.new)) }
+        ensures held { OnOk result (HoldsText (S.table space.now) (T.reading sources.old) rope self.new) }
         ensures reads { ReadsSpan (T.reading sources.old) (T.reading sources.new)
             (rope_cell (S.table space.now) rope) from self.old.from result }
     {
@@ -206,9 +206,9 @@ impl HeldBytes {
         requires rope { IsRope (S.table space.now) rope }
         requires end { end ≤ rope_len (S.table space.now) rope }
         requires window { PIECE ≤ end }
-        requires held { OfText (S.table space.now) (T.reading sources.old).stated rope (AreHeld self.old) }
+        requires held { HoldsText (S.table space.now) (T.reading sources.old) rope self.old }
         ensures span { OnOk result ((self.new.from + PIECE ≡ end) × (length self.new.bytes ≡ PIECE)) }
-        ensures held { OnOk result (OfText (S.table space.now) (T.reading sources.old).stated rope (AreHeld self.new)) }
+        ensures held { OnOk result (HoldsText (S.table space.now) (T.reading sources.old) rope self.new) }
         ensures reads { ReadsSpan (T.reading sources.old) (T.reading sources.new)
             (rope_cell (S.table space.now) rope) (end - PIECE) end result }
     {
@@ -246,8 +246,8 @@ impl HeldBytes {
     ) -> Result<(), SourceFault>
         requires rope { IsRope (S.table space.now) rope }
         requires end { end ≤ rope_len (S.table space.now) rope }
-        requires held { OfText (S.table space.now) (T.reading sources.old).stated rope (AreHeld self.old) }
-        ensures held { OnOk result (OfText (S.table space.now) (T.reading sources.old).stated rope (AreHeld self.new)) }
+        requires held { HoldsText (S.table space.now) (T.reading sources.old) rope self.old }
+        ensures held { OnOk result (HoldsText (S.table space.now) (T.reading sources.old) rope self.new) }
         ensures reads { ReadsSpan (T.reading sources.old) (T.reading sources.new)
             (rope_cell (S.table space.now) rope) (end - PIECE) end result }
     {
@@ -289,9 +289,9 @@ impl HeldBytes {
         requires end { end ≤ rope_len (S.table space.now) rope }
         requires count { count ≤ PIECE }
         requires straight { IsTrue straight → PIECE ≤ end }
-        requires held { OfText (S.table space.now) (T.reading sources.old).stated rope (AreHeld self.old) }
+        requires held { HoldsText (S.table space.now) (T.reading sources.old) rope self.old }
         ensures span { OnOk result (self.new.from ≤ end - count × end ≤ self.new.from + length self.new.bytes) }
-        ensures held { OnOk result (OfText (S.table space.now) (T.reading sources.old).stated rope (AreHeld self.new)) }
+        ensures held { OnOk result (HoldsText (S.table space.now) (T.reading sources.old) rope self.new) }
         ensures reads { ReadsSpan (T.reading sources.old) (T.reading sources.new)
             (rope_cell (S.table space.now) rope) (end - PIECE) end result }
     {

@@ -6,7 +6,7 @@ ghost use Rattle.cord_search.specs.declared.runs.TheConstants.{PIECE};
 ghost use Rattle.command_parts.specs.Commands.{replaced};
 ghost use Rattle.text_lines.specs.declared.known.KnownLine.{KnownLine};
 ghost use Rattle.text_lines.specs.declared.known_lines.TheConstants.{MOST_LINES};
-ghost use Rattle.text_lines.specs.KnownLines.{HoldsLine, HoldsPlace, IsCut, IsKnownIn, IsPasted, IsTyped, StaysBeside, StaysCut, known_lines, learnt};
+ghost use Rattle.text_lines.specs.KnownLines.{ChangesLines, HoldsLine, HoldsPlace, IsCut, IsKnownIn, IsPasted, IsTyped, StaysBeside, StaysCut, known_lines, learnt};
 
 use crate::known::KnownLine;
 
@@ -100,6 +100,20 @@ impl KnownLines {
         *self = later;
     }
 
+    /// The lines behind a change of the text: what the change makes of each, where it stays known.
+    fn changed<F: Fn(KnownLine) -> Option<KnownLine>>(&self, change: F) -> KnownLines
+        requires { F.IsAlwaysCallable change }
+        ensures { ChangesLines (F.post change) (known_lines self.now) (known_lines result) }
+    {
+        let mut later = KnownLines::none();
+        for line in self.lines() {
+            if let Some(line) = change(*line) {
+                later.push(line);
+            }
+        }
+        later
+    }
+
     /// The lines after a byte is put in at a place. A line break parts the line that it is put into: the longer part
     /// stays known.
     pub fn typed(&self, place: u64, byte: u8) -> KnownLines
@@ -108,13 +122,7 @@ impl KnownLines {
         ensures kept { All (λ line. (line.start ≤ line.end) × (line.end + 1 < 2 ^ 64)) (known_lines self.now)
             → AllZip (IsTyped place byte) (known_lines self.now) (known_lines result) }
     {
-        let mut later = KnownLines::none();
-        for line in self.lines() {
-            if let Some(line) = line.typed(place, byte) {
-                later.push(line);
-            }
-        }
-        later
+        self.changed(|line| line.typed(place, byte))
     }
 
     /// The lines after `count` bytes are taken out at a place. A line is forgotten where the break before it or behind
@@ -125,13 +133,7 @@ impl KnownLines {
         ensures kept { All (StaysCut place count) (known_lines self.now)
             → AllZip (IsCut place count) (known_lines self.now) (known_lines result) }
     {
-        let mut later = KnownLines::none();
-        for line in self.lines() {
-            if let Some(line) = line.cut(place, count) {
-                later.push(line);
-            }
-        }
-        later
+        self.changed(|line| line.cut(place, count))
     }
 
     /// The lines after `put` bytes are put in at a place, whatever they are. The line that they are put into is
@@ -142,12 +144,6 @@ impl KnownLines {
         ensures kept { All (StaysBeside place put) (known_lines self.now)
             → AllZip (IsPasted place put) (known_lines self.now) (known_lines result) }
     {
-        let mut later = KnownLines::none();
-        for line in self.lines() {
-            if let Some(line) = line.pasted(place, put) {
-                later.push(line);
-            }
-        }
-        later
+        self.changed(|line| line.pasted(place, put))
     }
 }

@@ -5,7 +5,7 @@ ghost use Rattle.rope_node.specs.Denotes.{IsRope, rope_len};
 ghost use Rattle.cord_position.specs.Fetched.{rope_cell};
 ghost use Rattle.cord_search.specs.Stated.{OfText};
 ghost use Rattle.text_lines.specs.Screen.{glyph};
-ghost use Rattle.text_lines.specs.HeldBytes.{AreHeld};
+ghost use Rattle.text_lines.specs.HeldBytes.{HoldsText};
 ghost use Rattle.text_lines.specs.Showing.{ReadsToShow};
 ghost use Rattle.text_lines.specs.Rows.{lines_from, rows_on_screen, PushesLine};
 
@@ -63,7 +63,7 @@ fn push_row<S: NodeSpace, T: Sources>(
     requires start { start ≤ end }
     requires end { end ≤ rope_len (S.table space.now) rope }
     requires row { end ≤ start + SCREEN_COLUMNS }
-    requires held { OfText (S.table space.now) (T.reading sources.old).stated rope (AreHeld held.now) }
+    requires held { HoldsText (S.table space.now) (T.reading sources.old) rope held.now }
     ensures bytes { OnOk result (OfText (S.table space.now) (T.reading sources.old).stated rope
         (λ t. out.new.items ≡ out.old.items ++ map glyph (take (end - start) (drop start t)))) }
     ensures reads { ReadsToShow (T.reading sources.old) (T.reading sources.new)
@@ -101,10 +101,9 @@ fn push_line<S: NodeSpace, T: Sources>(
 ) -> Result<Option<u64>, FrameFault>
     requires rope { IsRope (S.table space.now) rope }
     requires start { IfSome start (λ s. s ≤ rope_len (S.table space.now) rope) }
-    requires held { OfText (S.table space.now) (T.reading sources.old).stated rope (AreHeld held.old) }
+    requires held { HoldsText (S.table space.now) (T.reading sources.old) rope held.old }
     ensures inside { IfOk result (λ next. IfSome next (λ s. s ≤ rope_len (S.table space.now) rope)) }
-    ensures held { IfOk result (λ _.
-        OfText (S.table space.now) (T.reading sources.old).stated rope (AreHeld held.new)) }
+    ensures held { IfOk result (λ _. HoldsText (S.table space.now) (T.reading sources.old) rope held.new) }
     ensures line { IfOk result (λ next. OfText (S.table space.now) (T.reading sources.old).stated rope
         (λ t. PushesLine t start left next out.old.items out.new.items)) }
     ensures reads { ReadsToShow (T.reading sources.old) (T.reading sources.new)
@@ -140,10 +139,10 @@ pub fn push_rows<S: NodeSpace, T: Sources>(
 ) -> Result<(), FrameFault>
     requires rope { IsRope (S.table space.now) rope }
     requires top { top ≤ rope_len (S.table space.now) rope }
-    requires held { OfText (S.table space.now) (T.reading sources.old).stated rope (AreHeld held.old) }
+    requires held { HoldsText (S.table space.now) (T.reading sources.old) rope held.old }
     ensures rows { OnOk result (OfText (S.table space.now) (T.reading sources.old).stated rope
         (λ t. out.new.items ≡ out.old.items ++ rows_on_screen (lines_from t (Some top)) left)) }
-    ensures held { OnOk result (OfText (S.table space.now) (T.reading sources.old).stated rope (AreHeld held.new)) }
+    ensures held { OnOk result (HoldsText (S.table space.now) (T.reading sources.old) rope held.new) }
     ensures reads { ReadsToShow (T.reading sources.old) (T.reading sources.new)
         (rope_cell (S.table space.now) rope) (rope_len (S.table space.now) rope) result }
 {

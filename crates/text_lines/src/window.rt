@@ -5,7 +5,7 @@ ghost use Rattle.rope_node.specs.Denotes.{IsRope, rope_len};
 ghost use Rattle.cord_position.specs.Fetched.{ReadsSpan, rope_cell};
 ghost use Rattle.cord_search.specs.Stated.{OfText};
 ghost use Rattle.text_lines.specs.declared.window.TheConstants.{LINES_ABOVE};
-ghost use Rattle.text_lines.specs.HeldBytes.{AreHeld};
+ghost use Rattle.text_lines.specs.HeldBytes.{HoldsText};
 ghost use Rattle.text_lines.specs.Rows.{IsAbove, IsWindow};
 
 use crate::before::near_start;
@@ -40,14 +40,13 @@ fn go_back<S: NodeSpace, T: Sources>(
 ) -> Result<(u64, u64), SourceFault>
     requires rope { IsRope (S.table space.now) rope }
     requires start { start ≤ rope_len (S.table space.now) rope }
-    requires held { OfText (S.table space.now) (T.reading sources.old).stated rope (AreHeld held.old) }
+    requires held { HoldsText (S.table space.now) (T.reading sources.old) rope held.old }
     ensures inside { IfOk result (λ x. x.0 ≤ start) }
     ensures few { IfOk result (λ x. x.1 ≤ LINES_ABOVE) }
     ensures all { IfOk result (λ x. x.1 < LINES_ABOVE → x.0 ≡ 0) }
     ensures back { IfOk result (λ x. OfText (S.table space.now) (T.reading sources.old).stated rope
         (λ t. IsAbove t start x.0 x.1)) }
-    ensures held { IfOk result (λ _.
-        OfText (S.table space.now) (T.reading sources.old).stated rope (AreHeld held.new)) }
+    ensures held { IfOk result (λ _. HoldsText (S.table space.now) (T.reading sources.old) rope held.new) }
     ensures reads { ReadsSpan (T.reading sources.old) (T.reading sources.new)
         (rope_cell (S.table space.now) rope) 0 (rope_len (S.table space.now) rope) result }
 {
@@ -77,14 +76,13 @@ pub fn window_about<S: NodeSpace, T: Sources>(
 ) -> Result<Window, SourceFault>
     requires rope { IsRope (S.table space.now) rope }
     requires place { place ≤ rope_len (S.table space.now) rope }
-    requires held { OfText (S.table space.now) (T.reading sources.old).stated rope (AreHeld held.old) }
+    requires held { HoldsText (S.table space.now) (T.reading sources.old) rope held.old }
     ensures top { IfOk result (λ w. w.top ≤ rope_len (S.table space.now) rope) }
     ensures row { IfOk result (λ w. w.row ≤ LINES_ABOVE) }
     ensures column { IfOk result (λ w. w.column ≤ place) }
     ensures is { IfOk result (λ w. OfText (S.table space.now) (T.reading sources.old).stated rope
         (λ t. IsWindow t place w.top w.row w.column)) }
-    ensures held { IfOk result (λ _.
-        OfText (S.table space.now) (T.reading sources.old).stated rope (AreHeld held.new)) }
+    ensures held { IfOk result (λ _. HoldsText (S.table space.now) (T.reading sources.old) rope held.new) }
     ensures reads { ReadsSpan (T.reading sources.old) (T.reading sources.new)
         (rope_cell (S.table space.now) rope) 0 (rope_len (S.table space.now) rope) result }
 {

@@ -3,19 +3,18 @@ use Rattle.rope_node.specs.Denotes.{rope_cells, text}
 use Rattle.cord_search.specs.declared.runs.TheConstants.{PIECE}
 use Rattle.cord_search.proofs.Fetches.{text_length}
 use Rattle.text_lines.specs.declared.known_lines.KnownLines.{KnownLines}
-use Rattle.text_lines.specs.HeldBytes.{AreHeld}
 use Rattle.text_lines.specs.KnownLines.{IsKnownIn}
 use Rattle.text_lines.specs.Lines.{line_start}
 use Rattle.text_lines.proofs.HeldLaws.{none_before, not_told}
 use Rattle.text_lines.proofs.KnownLaws.{known_start}
 use Rattle.text_lines.proofs.LineLaws.{same_start}
-use Rattle.text_lines.proofs.ToldLater.{told_then}
+use Rattle.text_lines.proofs.ToldLater.{held_then, told_then}
 use Rattle.text_lines.proofs.before.near_start.Goals as goal
 
 pub returns-in-Some-clause-is : goal.returns-in-Some-clause-is
 returns-in-Some-clause-is g c source agrees stated =
     let u = text source (rope_cells (g.S.NodeSpace.table c.args.space.now) c.args.rope) in
-    let held = c.requires.held source agrees stated in
+    let held = c.requires.held.told source agrees stated in
     known_start u c.known.result.now c.args.place c.in-Some.line c.in-Some.ensures.holds (subst (λ (o : KnownLines). IsKnownIn o u) (sym c.known.ensures) held.known)
 
 pub returns-in-Some-start_among-clause-is : goal.returns-in-Some-start_among-clause-is
@@ -23,33 +22,21 @@ returns-in-Some-start_among-clause-is g c source agrees stated =
     let t = g.S.NodeSpace.table c.args.space.now in
     let u = text source (rope_cells t c.args.rope) in
     let inside : c.args.place ≤ length u = omega (arith, text_length t c.args.rope source, c.rope_len.ensures.cells, c.rope_len.ensures.exact, c.requires.place) in
-    c.in-Some-start_among.ensures.is u (c.in_ok-ask_before.ensures.held source agrees stated) inside
-
-pub returns-in-Some-start_among-2-clause-held : goal.returns-in-Some-start_among-2-clause-held
-returns-in-Some-start_among-2-clause-held g c =
-    told_then (g.S.NodeSpace.table c.args.space.now) (g.T.Sources.reading c.args.sources.now) (g.T.Sources.reading c.ask_before.new.sources) c.args.rope (AreHeld c.hold_before.new.self) c.in_ok-ask_before.ensures.reads c.in_ok-hold_before.ensures.held
-
-pub hold_before-requires-2-clause-held : goal.hold_before-requires-2-clause-held
-hold_before-requires-2-clause-held g c =
-    told_then (g.S.NodeSpace.table c.args.space.now) (g.T.Sources.reading c.hold_before.new.sources) (g.T.Sources.reading c.ask_before.new.sources) c.args.rope (AreHeld c.hold_before.new.self) (sym c.in_ok-hold_before.ensures.reads) c.in_ok-hold_before.ensures.held
+    c.in-Some-start_among.ensures.is u (c.in_ok-ask_before.ensures.held.told source agrees stated) inside
 
 pub returns-in-Some-start_among-2-clause-is : goal.returns-in-Some-start_among-2-clause-is
 returns-in-Some-start_among-2-clause-is g c source agrees stated =
     let t = g.S.NodeSpace.table c.args.space.now in
     let u = text source (rope_cells t c.args.rope) in
     let inside : c.args.place ≤ length u = omega (arith, text_length t c.args.rope source, c.rope_len.ensures.cells, c.rope_len.ensures.exact, c.requires.place) in
-    c.in-Some-start_among-2.ensures.is u (told_then t (g.T.Sources.reading c.args.sources.now) (g.T.Sources.reading c.ask_before.new.sources) c.args.rope (AreHeld c.hold_before.new.self) c.in_ok-ask_before.ensures.reads c.in_ok-hold_before.ensures.held source agrees stated) inside
-
-pub returns-in-Some-start_among-3-clause-held : goal.returns-in-Some-start_among-3-clause-held
-returns-in-Some-start_among-3-clause-held g c =
-    told_then (g.S.NodeSpace.table c.args.space.now) (g.T.Sources.reading c.args.sources.now) (g.T.Sources.reading c.hold_before.new.sources) c.args.rope (AreHeld c.hold_before-2.new.self) (c.in_ok-hold_before.ensures.reads ∙ c.in_ok-ask_before.ensures.reads) c.in_ok-hold_before-2.ensures.held
+    c.in-Some-start_among-2.ensures.is u ((held_then c.in_ok-ask_before.ensures.reads c.in_ok-hold_before.ensures.held).told source agrees stated) inside
 
 pub returns-in-Some-start_among-3-clause-is : goal.returns-in-Some-start_among-3-clause-is
 returns-in-Some-start_among-3-clause-is g c source agrees stated =
     let t = g.S.NodeSpace.table c.args.space.now in
     let u = text source (rope_cells t c.args.rope) in
     let inside : c.args.place ≤ length u = omega (arith, text_length t c.args.rope source, c.rope_len.ensures.cells, c.rope_len.ensures.exact, c.requires.place) in
-    c.in-Some-start_among-3.ensures.is u (told_then t (g.T.Sources.reading c.args.sources.now) (g.T.Sources.reading c.hold_before.new.sources) c.args.rope (AreHeld c.hold_before-2.new.self) (c.in_ok-hold_before.ensures.reads ∙ c.in_ok-ask_before.ensures.reads) c.in_ok-hold_before-2.ensures.held source agrees stated) inside
+    c.in-Some-start_among-3.ensures.is u ((held_then (c.in_ok-hold_before.ensures.reads ∙ c.in_ok-ask_before.ensures.reads) c.in_ok-hold_before-2.ensures.held).told source agrees stated) inside
 
 pub returns-clause-is : goal.returns-clause-is
 returns-clause-is g c source agrees stated =
@@ -58,7 +45,7 @@ returns-clause-is g c source agrees stated =
     let place = c.args.place in
     let back = c.clear_behind-back.result in
     let read = c.in_ok-hold_before.ensures.reads ∙ c.in_ok-ask_before.ensures.reads in
-    let held = told_then t (g.T.Sources.reading c.args.sources.now) (g.T.Sources.reading c.hold_before.new.sources) c.args.rope (AreHeld c.hold_before-2.new.self) read c.in_ok-hold_before-2.ensures.held source agrees stated in
+    let held = (held_then read c.in_ok-hold_before-2.ensures.held).told source agrees stated in
     let inside : place ≤ length u = omega (arith, text_length t c.args.rope source, c.rope_len.ensures.cells, c.rope_len.ensures.exact, c.requires.place) in
     let from : c.saturating_sub-from.result ≡ place - PIECE = c.saturating_sub-from.ensures in
     let span = c.in_ok-hold_before-2.ensures.span in
@@ -66,7 +53,3 @@ returns-clause-is g c source agrees stated =
     let clear = c.clear_behind-back.ensures.clear source (0x0A ∷ []) refl (λ k above below. none k (omega (arith, above, from)) (omega (arith, below, from))) in
     let start = told_then t (g.T.Sources.reading c.args.sources.now) (g.T.Sources.reading c.hold_before-2.new.sources) c.args.rope (λ v. c.in_ok-start.start ≡ line_start v back) (c.in_ok-hold_before-2.ensures.reads ∙ read) c.in_ok-start.ensures.is source agrees stated in
     start ∙ same_start u back place (omega (arith, c.clear_behind-back.ensures.before, from)) inside (λ k above below. clear k above (omega (arith, below, from)))
-
-pub returns-clause-held : goal.returns-clause-held
-returns-clause-held g c =
-    told_then (g.S.NodeSpace.table c.args.space.now) (g.T.Sources.reading c.args.sources.now) (g.T.Sources.reading c.hold_before.new.sources) c.args.rope (AreHeld c.hold_before-2.new.self) (c.in_ok-hold_before.ensures.reads ∙ c.in_ok-ask_before.ensures.reads) c.in_ok-hold_before-2.ensures.held

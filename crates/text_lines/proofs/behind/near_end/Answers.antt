@@ -5,9 +5,8 @@ use Rattle.std.proofs.lemmas.List.{length-drop}
 use Rattle.rope_node.specs.Denotes.{rope_cells, text}
 use Rattle.cord_search.specs.declared.runs.TheConstants.{PIECE}
 use Rattle.cord_search.proofs.Fetches.{text_length}
-use Rattle.cord_search.specs.Stated.{OfText}
 use Rattle.text_lines.specs.declared.known_lines.KnownLines.{KnownLines}
-use Rattle.text_lines.specs.HeldBytes.{AreHeld, held_starting_at}
+use Rattle.text_lines.specs.HeldBytes.{HoldsText, held_starting_at}
 use Rattle.text_lines.specs.KnownLines.{IsKnownIn}
 use Rattle.text_lines.specs.Lines.{is_break, line_end}
 use Rattle.text_lines.proofs.HeldLaws.{end_behind, held_from, not_told, ok_any}
@@ -21,7 +20,7 @@ returns-in-Some-clause-is g c source agrees stated =
     let t = g.S.NodeSpace.table c.args.space.now in
     let u = text source (rope_cells t c.args.rope) in
     let long : length u ≡ c.rope_len-len.result = text_length t c.args.rope source ∙ sym c.rope_len-len.ensures.cells in
-    let held = c.requires.held source agrees stated in
+    let held = c.requires.held.told source agrees stated in
     let end = known_end u c.known.result.now c.args.start c.in-Some.line c.in-Some.ensures.holds (subst (λ (o : KnownLines). IsKnownIn o u) (sym c.known.ensures) held.known) in
     omega (arith, c.min.ensures, end.0, end.1, long)
 
@@ -30,12 +29,12 @@ returns-then-leaf_left-clause-held g c =
     let same : c.search_end.new.self ≡ c.args.held.now =
     c.search_end.ensures.same ∙ c.leaf_left.ensures.same
     ∙ elim c.match-end_among.branch [ in-Some-end_among+else-tells w ↦ w.held-is ∙ w.tells.ensures | in_default-end_among w ↦ w.held-is ] in
-    ok_any (OfText (g.S.NodeSpace.table c.args.space.now) (g.T.Sources.reading c.args.sources.now).stated c.args.rope (AreHeld c.search_end.new.self)) c.search_end.result (rw same c.requires.held)
+    ok_any (HoldsText (g.S.NodeSpace.table c.args.space.now) (g.T.Sources.reading c.args.sources.now) c.args.rope c.search_end.new.self) c.search_end.result (rw same c.requires.held)
 
 pub returns-in-Some-end_among-2-clause-is : goal.returns-in-Some-end_among-2-clause-is
 returns-in-Some-end_among-2-clause-is g c source agrees stated =
     let t = g.S.NodeSpace.table c.args.space.now in
-    c.in-Some-end_among-2.ensures.is (text source (rope_cells t c.args.rope)) (c.in_ok-read_window.ensures.held source agrees stated) (c.rope_len-len.ensures.cells ∙ sym (text_length t c.args.rope source))
+    c.in-Some-end_among-2.ensures.is (text source (rope_cells t c.args.rope)) (c.in_ok-read_window.ensures.held.told source agrees stated) (c.rope_len-len.ensures.cells ∙ sym (text_length t c.args.rope source))
 
 pub returns-clause-is : goal.returns-clause-is
 returns-clause-is g c source agrees stated =
@@ -45,7 +44,7 @@ returns-clause-is g c source agrees stated =
     let held = c.read_window.new.self in
     let span = c.in_ok-read_window.ensures.span in
     let near = held_starting_at held start in
-    let front = held_from u held start (c.in_ok-read_window.ensures.held source agrees stated) in
+    let front = held_from u held start (c.in_ok-read_window.ensures.held.told source agrees stated) in
     let here : near ≡ drop (start - held.from) held.bytes = rw (le-ltb start held.from (omega (arith, span.0))) refl in
     let long : length near ≡ PIECE = omega (arith, ap length here, length-drop (start - held.from) held.bytes, span) in
     let none : length near ≤ position_or_len is_break near = elim (cases_lt (position_or_len is_break near) (length near)) [

@@ -2,10 +2,9 @@ use Rattle.std.proofs.Common.{◌≡◌, ◌+◌, ◌-◌, ◌++◌, ℕ, length
 use Rattle.rope_node.specs.Denotes.{rope_cells, text}
 use Rattle.cord_search.proofs.Fetches.{text_length}
 use Rattle.text_lines.specs.Screen.{glyph}
-use Rattle.text_lines.specs.HeldBytes.{AreHeld}
 use Rattle.text_lines.specs.Lines.{line_end, next_line}
 use Rattle.text_lines.proofs.RowLaws.{line_pushed}
-use Rattle.text_lines.proofs.ToldLater.{told_then}
+use Rattle.text_lines.proofs.ToldLater.{held_then, told_then}
 use Rattle.text_lines.proofs.rows.push_line.Goals as goal
 
 pub returns-clause-line : goal.returns-clause-line
@@ -21,20 +20,21 @@ returns-clause-line g c source agrees stated =
     (c.pass_line-next.ensures.next ∙ ap (next_line end) (sym long)))
 
 pub push_row-requires-clause-held : goal.push_row-requires-clause-held
-push_row-requires-clause-held g c source agrees stated =
-    let t = g.S.NodeSpace.table c.args.space.now in
-    let u = text source (rope_cells t c.args.rope) in
-    let long : length u ≡ c.rope_len.result = text_length t c.args.rope source ∙ sym c.rope_len.ensures.cells in
-    let old = g.T.Sources.reading c.args.sources.now in
-    let new = g.T.Sources.reading c.near_end.new.sources in
-    let same = sym c.in_ok-end.ensures.reads in
-    let held = told_then t new old c.args.rope (AreHeld c.near_end.new.held) same c.in_ok-end.ensures.held source agrees stated in
-    let ends = told_then t new old c.args.rope (λ v. c.in_ok-end.end ≡ line_end v c.in-Some.start) same c.in_ok-end.ensures.is source agrees stated in
-    c.pass_line-next.ensures.held u held (omega (arith, long, c.rope_len.ensures.exact, rw c.in-Some.is at c.requires.start)) ends (sym long)
+push_row-requires-clause-held g c = record {
+  told = λ source agrees stated.
+      let t = g.S.NodeSpace.table c.args.space.now in
+      let u = text source (rope_cells t c.args.rope) in
+      let long : length u ≡ c.rope_len.result = text_length t c.args.rope source ∙ sym c.rope_len.ensures.cells in
+      let same = sym c.in_ok-end.ensures.reads in
+      let ends = told_then t (g.T.Sources.reading c.near_end.new.sources) (g.T.Sources.reading c.args.sources.now) c.args.rope (λ v. c.in_ok-end.end ≡ line_end v c.in-Some.start) same c.in_ok-end.ensures.is source agrees stated in
+      c.pass_line-next.ensures.held u ((held_then same c.in_ok-end.ensures.held).told source agrees stated) (omega (arith, long, c.rope_len.ensures.exact, rw c.in-Some.is at c.requires.start)) ends (sym long);
+}
 
 pub returns-clause-held : goal.returns-clause-held
-returns-clause-held g c source agrees stated =
-    let t = g.S.NodeSpace.table c.args.space.now in
-    let u = text source (rope_cells t c.args.rope) in
-    let long : length u ≡ c.rope_len.result = text_length t c.args.rope source ∙ sym c.rope_len.ensures.cells in
-    c.pass_line-next.ensures.held u (c.in_ok-end.ensures.held source agrees stated) (omega (arith, long, c.rope_len.ensures.exact, rw c.in-Some.is at c.requires.start)) (c.in_ok-end.ensures.is source agrees stated) (sym long)
+returns-clause-held g c = record {
+  told = λ source agrees stated.
+      let t = g.S.NodeSpace.table c.args.space.now in
+      let u = text source (rope_cells t c.args.rope) in
+      let long : length u ≡ c.rope_len.result = text_length t c.args.rope source ∙ sym c.rope_len.ensures.cells in
+      c.pass_line-next.ensures.held u (c.in_ok-end.ensures.held.told source agrees stated) (omega (arith, long, c.rope_len.ensures.exact, rw c.in-Some.is at c.requires.start)) (c.in_ok-end.ensures.is source agrees stated) (sym long);
+}

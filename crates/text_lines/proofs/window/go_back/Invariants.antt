@@ -1,7 +1,7 @@
 use Rattle.std.proofs.Common.{◌≡◌, ◌-◌, ◌≤◌}
 use Rattle.cord_search.specs.Stated.{OfText}
 use Rattle.text_lines.specs.declared.window.TheConstants.{LINES_ABOVE}
-use Rattle.text_lines.specs.HeldBytes.{AreHeld}
+use Rattle.text_lines.specs.HeldBytes.{HoldsText}
 use Rattle.text_lines.specs.Rows.{IsAbove}
 use Rattle.text_lines.proofs.window.go_back.Given as goal
 
@@ -11,7 +11,7 @@ invariant-loop-row g l = record {
   reads : g.T.Sources.reading l.sources ≡ g.T.Sources.reading l.initial.sources;
   inside : l.top ≤ l.start;
   few : l.row ≤ LINES_ABOVE;
-  held : OfText (g.S.NodeSpace.table l.space) (g.T.Sources.reading l.initial.sources).stated l.rope (AreHeld l.held);
+  held : HoldsText (g.S.NodeSpace.table l.space) (g.T.Sources.reading l.initial.sources) l.rope l.held;
   told : OfText (g.S.NodeSpace.table l.space) (g.T.Sources.reading l.initial.sources).stated l.rope (λ t. IsAbove t l.start l.top l.row);
 }
 

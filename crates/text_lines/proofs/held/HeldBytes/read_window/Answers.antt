@@ -1,12 +1,7 @@
-use Rattle.std.proofs.Common.{◌≤◌, length, arith}
-use Rattle.rope_node.specs.Denotes.{rope_cells, text}
-use Rattle.cord_search.proofs.Fetches.{text_length}
+use Rattle.std.proofs.Common.{arith}
 use Rattle.text_lines.proofs.HeldLaws.{none_held}
 use Rattle.text_lines.proofs.held.HeldBytes.read_window.Goals as goal
 
 pub read_before-requires-clause-held : goal.read_before-requires-clause-held
-read_before-requires-clause-held g c source agrees stated =
-    let t = g.S.NodeSpace.table c.args.space.now in
-    let u = text source (rope_cells t c.args.rope) in
-    let inside : c.args.end ≤ length u = omega (arith, text_length t c.args.rope source, c.rope_len.ensures.cells, c.rope_len.ensures.exact, c.requires.end) in
-    rw c.begin_at.ensures (none_held u c.args.self.now c.args.end inside (c.requires.held source agrees stated))
+read_before-requires-clause-held g c =
+    rw c.begin_at.ensures (none_held (g.S.NodeSpace.table c.args.space.now) (g.T.Sources.reading c.args.sources.now) c.args.rope c.args.self.now c.args.end c.rope_len.result c.rope_len.ensures.cells (omega (arith, c.rope_len.ensures.exact, c.requires.end)) c.requires.held)

@@ -1,21 +1,16 @@
-use Rattle.std.proofs.Common.{◌≡◌, true, false, ap, ◌∙◌, arith}
-use Rattle.std.proofs.lemmas.List.Elements.{All-same}
-use Rattle.text_lines.specs.KnownLines.{IsLineOf, known_lines}
-use Rattle.text_lines.proofs.LearntLines.{each_stayed, one_lost, one_out}
-use Rattle.text_lines.proofs.known_lines.KnownLines.typed.Goals.{in-Some, in_default}
+use Rattle.std.proofs.Common.{◌<◌, ◌≤◌, ◌+◌, ◌^◌, [], ◌∷◌, rules, None}
+use Rattle.std.specs.Prelude.{IsSome}
+use Rattle.command_parts.specs.Commands.{replaced}
+use Rattle.text_lines.specs.declared.known.KnownLine.{KnownLine}
+use Rattle.text_lines.specs.KnownLines.{IsTyped, known_lines}
+use Rattle.text_lines.proofs.LearntLines.{each_stayed}
 use Rattle.text_lines.proofs.known_lines.KnownLines.typed.Goals as goal
-
-pub loop-line-preserved : goal.loop-line-preserved
-loop-line-preserved c =
-    elim c.match-typed.branch [
-      | in-Some w ↦ one_out (ap known_lines w.later-is ∙ w.push.ensures) c.loop-line-test.true w.in-Some.ensures.line w.in-Some.ensures.line c.loop-line.invariant
-      | in_default w ↦ one_lost (ap known_lines w.later-is) c.loop-line-test.true (λ stays. absurd (let told : false ≡ true = w.in_default.ensures.kept stays.0 stays.1 in cc)) c.loop-line.invariant
-    ]
 
 pub returns-clause-lines : goal.returns-clause-lines
 returns-clause-lines c t inside known =
-    record { each = c.loop-line.invariant.lines t inside (All-same (IsLineOf t) c.lines-line-items.result.now (known_lines c.args.self.now) c.lines-line-items.ensures.lines known.each) }
+    record { each = c.changed.ensures.lines t (replaced t c.args.place 0 (c.args.byte ∷ [])) (λ line later made is. let became : IsTyped c.args.place c.args.byte line later = search rules in became t inside is) known.each }
 
 pub returns-clause-kept : goal.returns-clause-kept
 returns-clause-kept c all =
-    each_stayed c.lines-line-items.result.now (known_lines c.args.self.now) c.loop-line.line-index (known_lines c.loop-line.later) c.lines-line-items.ensures.lines (omega (arith, c.loop-line-test.false)) c.loop-line.invariant all
+    each_stayed (known_lines c.args.self.now) (known_lines c.changed.result) c.changed.ensures (λ line later made. search rules)
+    (λ line (stays : (line.start ≤ line.end) × (line.end + 1 < 2 ^ 64)) none. let kept : line.start ≤ line.end → line.end + 1 < 2 ^ 64 → IsSome {T = KnownLine} None = search rules in absurd (let some = kept stays.0 stays.1 in cc)) all
