@@ -107,7 +107,7 @@ idle key e is h same none = stays key e e is h (record {
 -- ---- a revision more
 
 -- the current text is then the one given
-current_revised : (source : ℕ → ℕ → ℕ) (e : Editing) (t : List ℕ) → get_or (texts_of source e.session ++ t ∷ []) (length (texts_of source e.session ++ t ∷ []) - 1) [] ≡ t
+pub current_revised : (source : ℕ → ℕ → ℕ) (e : Editing) (t : List ℕ) → get_or (texts_of source e.session ++ t ∷ []) (length (texts_of source e.session ++ t ∷ []) - 1) [] ≡ t
 current_revised source e t =
     let texts = texts_of source e.session in
     let last : length (texts ++ t ∷ []) - 1 ≡ length texts = omega (arith, length-append texts (t ∷ [])) in

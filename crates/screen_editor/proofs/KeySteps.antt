@@ -119,7 +119,7 @@ balance_plan e is h = record {
   short = is.short (last_of e) (last_there e is);
 }
 
-last_prior : (e : Editing) (source : ℕ → ℕ → ℕ) (o : Option ℕ) → get_or e.priors (last_of e) None ≡ o → prior_of (state_of source e) (last_revision (state_of source e)) ≡ o
+pub last_prior : (e : Editing) (source : ℕ → ℕ → ℕ) (o : Option ℕ) → get_or e.priors (last_of e) None ≡ o → prior_of (state_of source e) (last_revision (state_of source e)) ≡ o
 last_prior e source o is = ap (λ n. get_or e.priors n None) (number e source) ∙ is
 
 pub undo_plan : (e : Editing) (j : ℕ) → IsEditing e → HoldsHistory e.session → get_or e.priors (last_of e) None ≡ Some j → j < last_of e

@@ -36,6 +36,7 @@ use Rattle.text_lines.proofs.KnownLaws.{before_replaced, behind_replaced}
 use Rattle.screen_editor.proofs.LineTurns.{current_text}
 use Rattle.screen_editor.proofs.StatedTexts.{Becomes, stated_before}
 use Rattle.screen_editor.proofs.ToldKeys.{kept_texts}
+use Rattle.screen_editor.proofs.UndoneTexts.{PutsBack, TakesOut}
 
 -- ---- a text that became another
 
@@ -192,6 +193,17 @@ pub stays_cut : (old : Editing) (m a b : ℕ) (known later : KnownLines) → Hol
 stays_cut old m a b known later h mark other low high inside told law =
     stays_told Cut old known later (ToldFrom old a (b - a)) (known_lines later) refl told (λ here. cut_from old m a b known later h mark other low high inside here law)
 
+-- the command that made the text is taken back: what it put in goes out, or as many bytes as it took out come back
+pub stays_taken_out : (old : Editing) (p n : ℕ) (known later : KnownLines) → HoldsHistory old.session → TakesOut old p n → (0 < length (known_lines later) → ToldFrom old p n) → WithoutLines p n known later → StaysKnown Undo old known later
+stays_taken_out old p n known later h out told law =
+    stays_told Undo old known later (ToldFrom old p n) (known_lines later) refl told
+    (λ here before now new takes hn is. known_without before.stated old new p n known later h hn out.inside here (becomes_as before.stated Undo old new (λ source t. replaced t p n []) refl takes.done out.text) law is)
+
+pub stays_put_back : (old : Editing) (p n : ℕ) (known later : KnownLines) → HoldsHistory old.session → PutsBack old p n → PastedLines p n known later → StaysKnown Undo old known later
+stays_put_back old p n known later h back law before now new takes hn is =
+    known_put before.stated old new p n back.bytes known later h hn back.inside back.long (becomes_as before.stated Undo old new (λ source t. replaced t p 0 (back.bytes source)) refl takes.done back.text)
+    (λ source t within lines. law t (back.bytes source) within (back.long source) lines) is
+
 -- a key that leaves the text as it is
 stays_same : (key : Key) (old : Editing) (known : KnownLines) → HoldsHistory old.session → looks_for_lines key ≡ false → ((source : ℕ → ℕ → ℕ) → current (done key (state_of source old)) ≡ current (state_of source old))
     → StaysKnown key old known known
@@ -205,6 +217,9 @@ stays_at_end old known h past = stays_same EraseAt old known h refl (λ source. 
 
 pub stays_none_cut : (old : Editing) (known : KnownLines) → HoldsHistory old.session → old.cuts ≡ [] → StaysKnown Paste old known known
 stays_none_cut old known h none = stays_same Paste old known h refl (λ source. ap (λ (cs : List CutSpan). current (pasted cs (state_of source old))) none)
+
+pub stays_undone : (old : Editing) (known : KnownLines) → HoldsHistory old.session → ((source : ℕ → ℕ → ℕ) → current (done Undo (state_of source old)) ≡ current (state_of source old)) → StaysKnown Undo old known known
+stays_undone old known h same = stays_same Undo old known h refl same
 
 pub stays_unmarked : (old : Editing) (known : KnownLines) → HoldsHistory old.session → ((m : ℕ) → old.mark ≡ Some m → m ≡ old.place) → StaysKnown Cut old known known
 stays_unmarked old known h here = stays_same Cut old known h refl (λ source. cut_none source old.mark here)

@@ -20,4 +20,5 @@ pub mod LaterReadings
 pub mod Playing
 pub mod KeptKeys
 pub mod StatedTexts
+pub mod UndoneTexts
 pub mod KnownKeys

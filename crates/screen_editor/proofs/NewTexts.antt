@@ -28,18 +28,18 @@ use Rattle.screen_editor.specs.Taking.{IsInOrder}
 
 -- ---- a step that may give nothing
 
-bound_gives : {A B : Type 0} (o : Option A) (k : A → Option B) (b : B) → (o >>= k) ≡ Some b → (a : A) × (o ≡ Some a) × (k a ≡ Some b)
+pub bound_gives : {A B : Type 0} (o : Option A) (k : A → Option B) (b : B) → (o >>= k) ≡ Some b → (a : A) × (o ≡ Some a) × (k a ≡ Some b)
 bound_gives None k b e = absurd cc
 bound_gives (Some a) k b e = (a, refl, e)
 
-chosen_gives : {A : Type 0} (test : Bool) (o : Option A) (a : A) → (if test then o else None) ≡ Some a → o ≡ Some a
+pub chosen_gives : {A : Type 0} (test : Bool) (o : Option A) (a : A) → (if test then o else None) ≡ Some a → o ≡ Some a
 chosen_gives true o a e = e
 chosen_gives false o a e = absurd cc
 
-span_gives : {C : Type 0} (t : List C) (i n : ℕ) (x : List C) → span t i n ≡ Some x → take n (drop i t) ≡ x
+pub span_gives : {C : Type 0} (t : List C) (i n : ℕ) (x : List C) → span t i n ≡ Some x → take n (drop i t) ≡ x
 span_gives t i n x e = same_Some (take n (drop i t)) x (chosen_gives (nat_le (i + n) (length t)) (Some (take n (drop i t))) x e)
 
-spliced_gives : {C : Type 0} (t : List C) (p m : ℕ) (x c : List C) → spliced t p m x ≡ Some c → replaced t p m x ≡ c
+pub spliced_gives : {C : Type 0} (t : List C) (p m : ℕ) (x c : List C) → spliced t p m x ≡ Some c → replaced t p m x ≡ c
 spliced_gives t p m x c e =
     same_Some (replaced t p m x) c (chosen_gives (nat_lt (length (replaced t p m x)) (2 ^ 40)) (Some (replaced t p m x)) c (chosen_gives (nat_le (p + m) (length t)) (bounded (replaced t p m x)) c e))
 

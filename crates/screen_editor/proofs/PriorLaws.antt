@@ -2,9 +2,9 @@
 use Rattle.std.proofs.Common.{◌≡◌, ℕ, zero, suc, ◌+◌, ◌-◌, ◌<◌, ◌≤◌, List, [], ◌∷◌, ◌++◌, length, take, get_or, Option, Some, None, IfSome, refl, sym, ap, subst, arith, ◌∙◌, inl, inr}
 use Rattle.std.specs.Prelude.{slice_get}
 use Rattle.std.proofs.lemmas.Bool.{cases_lt}
-use Rattle.std.proofs.lemmas.List.{length-append, length-map, length-take}
+use Rattle.std.proofs.lemmas.List.{get_or-take, length-append, length-map, length-take, take-take, take_all, take_at}
 use Rattle.std.proofs.lemmas.Option.{get_or_from_slice_get, same_Some, slice_get-get_or, slice_get-map, slice_get_within}
-use Rattle.std.proofs.Math.Seq.{take-suc}
+use Rattle.std.proofs.Math.Seq.{get_or-append_seam, take-suc}
 use Rattle.std.specs.Option.{option_map}
 use Rattle.circular_buffer.proofs.Places.{slice_get-append_left, slice_get-append_right}
 use Rattle.command_parts.specs.declared.edit.Edit.{Edit}
@@ -50,6 +50,32 @@ count_priors before (x ∷ edits) =
     let rest = count_priors (before ++ prior_behind before x ∷ []) edits in
     let one = length-append before (prior_behind before x ∷ []) in
     omega (arith, rest, one)
+
+-- those of the revisions before stay
+stay_in_front : (before : List (Option ℕ)) (edits : List Edit) → take (length before) (priors_on before edits) ≡ before
+stay_in_front before [] = take_all (length before) before (omega arith)
+stay_in_front before (x ∷ edits) =
+    let more = before ++ prior_behind before x ∷ [] in
+    sym (take-take (length before) (length more) (priors_on more edits) (omega (arith, length-append before (prior_behind before x ∷ []))))
+    ∙ ap (take (length before)) (stay_in_front more edits)
+    ∙ take_at before (prior_behind before x ∷ []) (length before) refl
+
+-- each is that behind the ones before it
+pub prior_at : (before : List (Option ℕ)) (edits : List Edit) (k : ℕ) (e : Edit) → slice_get edits k ≡ Some e
+    → get_or (priors_on before edits) (length before + k) None ≡ prior_behind (take (length before + k) (priors_on before edits)) e
+prior_at before [] k e at = absurd cc
+prior_at before (x ∷ edits) zero e at =
+    let more = before ++ prior_behind before x ∷ [] in
+    let here : length before + 0 ≡ length before = omega arith in
+    let one : length more ≡ length before + 1 = length-append before (prior_behind before x ∷ []) in
+    let all = priors_on more edits in
+    let is : get_or all (length before) None ≡ prior_behind before x =
+    sym (get_or-take (length more) all (length before) None (omega (arith, one))) ∙ ap (λ (ps : List (Option ℕ)). get_or ps (length before) None) (stay_in_front more edits) ∙ get_or-append_seam before (prior_behind before x) [] None in
+    rw here (is ∙ ap (λ (ps : List (Option ℕ)). prior_behind ps x) (sym (stay_in_front before (x ∷ edits))) ∙ ap (prior_behind (take (length before) all)) (same_Some x e at))
+prior_at before (x ∷ edits) (suc k) e at =
+    let more = before ++ prior_behind before x ∷ [] in
+    let next : length more + k ≡ length before + suc k = omega (arith, length-append before (prior_behind before x ∷ [])) in
+    subst (λ (n : ℕ). get_or (priors_on more edits) n None ≡ prior_behind (take n (priors_on more edits)) e) next (prior_at more edits k e at)
 
 -- wherever a command's bytes stand in the pool, the prior is the same
 pub prior_anywhere : (priors : List (Option ℕ)) (a : ℕ) (command : Command) → prior_behind priors (edit_at a command) ≡ prior_behind priors (edit_at 0 command)
@@ -137,7 +163,7 @@ all_earlier before (x ∷ edits) earlier named =
     behind k None h = tt
     behind k (Some r) h = omega (arith, h, length-append before (prior_behind before x ∷ []))
 
-edit_there : (o : Option Revision) (e : Edit) → option_map (λ (r : Revision). r.edit) o ≡ Some e → (r : Revision) × (o ≡ Some r) × (r.edit ≡ e)
+pub edit_there : (o : Option Revision) (e : Edit) → option_map (λ (r : Revision). r.edit) o ≡ Some e → (r : Revision) × (o ≡ Some r) × (r.edit ≡ e)
 edit_there None e at = absurd cc
 edit_there (Some r) e at = (r, refl, same_Some r.edit e at)
 

@@ -1,15 +1,16 @@
 //! The long lines that are known, behind a key.
 
 ghost use Rattle.screen_editor.specs.declared.key.Key.TheVariants as Keys;
-ghost use Rattle.std.specs.Prelude.{◌<◌, ◌≤◌, ◌+◌, [], ℕ, List, length};
+ghost use Rattle.std.specs.Prelude.{◌<◌, ◌≤◌, ◌+◌, [], ℕ, List, length, IfSome};
 ghost use Rattle.command_parts.specs.Commands.{replaced};
 ghost use Rattle.text_lines.specs.KnownLines.{IsKnownIn, known_lines};
 ghost use Rattle.text_lines.specs.StatedCells.{AreToldByOthers};
 ghost use Rattle.screen_editor.specs.Editing.{current_cell, current_len};
-ghost use Rattle.screen_editor.specs.KnownTexts.{StaysKnown};
+ghost use Rattle.screen_editor.specs.KnownTexts.{IsMaker, StaysKnown};
 
 use crate::key::Key;
 use crate::workspace::Workspace;
+use command_parts::Edit;
 use std::alloc::Global;
 use text_lines::{KnownLines, are_told_by_others};
 
@@ -21,14 +22,13 @@ fn known_without(
     place: u64,
     count: u64,
 ) -> KnownLines
-    requires some { 1 ≤ count }
     requires inside { place + count ≤ current_len workspace.now }
     ensures lines { (t : List ℕ) → place + count ≤ length t → IsKnownIn known.now t
         → IsKnownIn result (replaced t place count []) }
     ensures told { 0 < length (known_lines result)
         → AreToldByOthers (current_cell workspace.now) (current_len workspace.now) place count }
 {
-    if known.is_empty() {
+    if count == 0 || known.is_empty() {
         return KnownLines::none();
     }
     let space = workspace.session().space();
@@ -70,6 +70,45 @@ fn known_pasted(workspace: &Workspace, known: &KnownLines) -> KnownLines
     }
 }
 
+/// The command that made the current text, behind all that only say it again.
+fn maker(workspace: &Workspace) -> Option<Edit>
+    ensures { IfSome result (IsMaker workspace.now) }
+{
+    let session = workspace.session();
+    let mut k = workspace.last();
+    while let Some(Edit::Back { r }) = session.edit(k) {
+        k = r;
+    }
+    session.edit(k)
+}
+
+/// The lines that stay known after the command that made the text is taken back: the bytes that it put in go out, or as
+/// many as it took out come back.
+fn known_undone(alloc: Global, workspace: &Workspace, known: &KnownLines) -> KnownLines
+    ensures { StaysKnown Keys.Undo workspace.now known.now result }
+{
+    // The workspace keeps its rules, as its last revision says.
+    let _last = workspace.last();
+    let Some(edit) = maker(workspace) else {
+        return KnownLines::none();
+    };
+    match edit {
+        Edit::Insert { p, n, .. } | Edit::Paste { p, n, .. } => {
+            known_without(alloc, workspace, known, p, n)
+        }
+        Edit::Delete { p, n, .. } => known.pasted(p, n),
+        Edit::Balance { .. } => *known,
+        Edit::New
+        | Edit::Open { .. }
+        | Edit::Replace { .. }
+        | Edit::Join { .. }
+        | Edit::Cut { .. }
+        | Edit::Fill { .. }
+        | Edit::Back { .. }
+        | Edit::Many { .. } => KnownLines::none(),
+    }
+}
+
 /// The lines that stay known after a key is taken, of those that are known before it.
 pub fn known_after(alloc: Global, workspace: &Workspace, known: &KnownLines, key: Key) -> KnownLines
     ensures { StaysKnown key workspace.now known.now result }
@@ -93,7 +132,7 @@ pub fn known_after(alloc: Global, workspace: &Workspace, known: &KnownLines, key
         }
         Key::Cut => known_cut(alloc, workspace, known),
         Key::Paste => known_pasted(workspace, known),
-        Key::Undo => KnownLines::none(),
+        Key::Undo => known_undone(alloc, workspace, known),
         _ => *known,
     }
 }

@@ -34,3 +34,6 @@ returns-in-Cut c = rw c.in-Cut.is c.known_cut.ensures
 
 pub returns-in-Paste : goal.returns-in-Paste
 returns-in-Paste c = rw c.in-Paste.is c.known_pasted.ensures
+
+pub returns-in-Undo : goal.returns-in-Undo
+returns-in-Undo c = rw c.in-Undo.is c.known_undone.ensures
