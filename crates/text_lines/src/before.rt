@@ -10,10 +10,10 @@ ghost use Rattle.text_lines.specs.Lines.{line_start};
 
 use crate::held::{HeldBytes, NEAR};
 use crate::known_lines::KnownLines;
-use crate::lines::line_start;
-use crate::near::width_behind;
+use crate::lines::{LINE_BREAK, line_start};
 use cord_search::{PIECE, clear_behind};
 use lazy_file::{SourceFault, Sources};
+use memchr::memrchr;
 use rope_node::{NodeSpace, Rope, rope_len};
 use std::alloc::Global;
 
@@ -25,11 +25,10 @@ fn start_among(held: &HeldBytes, place: u64) -> Option<u64>
     ensures told { IsSome result ↔ TellsStart (held_up_to held.now place) place }
 {
     let near = held.up_to(place);
-    let width = width_behind(near);
-    if width < near.len() || width as u64 == place {
-        Some(place.saturating_sub(width as u64))
-    } else {
-        None
+    match memrchr(LINE_BREAK, near) {
+        Some(at) => Some(place.saturating_sub((near.len() - (at + 1)) as u64)),
+        None if near.len() as u64 == place => Some(0),
+        None => None,
     }
 }
 

@@ -8,9 +8,10 @@ ghost use Rattle.text_lines.specs.HeldBytes.{held_starting_at, AreHeld, HoldsTex
 ghost use Rattle.text_lines.specs.Lines.{line_end};
 
 use crate::held::HeldBytes;
-use crate::near::width_ahead;
+use crate::lines::{LINE_BREAK, line_end_with};
 use cord_search::PIECE;
 use lazy_file::{SourceFault, Sources};
+use memchr::memchr;
 use rope_node::{NodeSpace, Rope, rope_len};
 use std::alloc::Global;
 
@@ -23,18 +24,14 @@ fn end_among(held: &HeldBytes, start: u64, len: u64) -> Option<u64>
     ensures told { IsSome result ↔ HasBreak (held_starting_at held.now start) }
 {
     let near = held.starting_at(start);
-    let width = width_ahead(near);
-    if width < near.len() {
-        Some(len.min(start.saturating_add(width as u64)))
-    } else {
-        None
-    }
+    let width = memchr(LINE_BREAK, near)?;
+    Some(len.min(start.saturating_add(width as u64)))
 }
 
 /// The first line break at a place or behind it, or the text's end: from a line that is known, or by a search. It looks
 /// among the bytes that are held first, and takes what they tell where a search through the text would read nothing else.
 /// Where the `PIECE` bytes from there on lie in one leaf, it reads them and holds them; where none of them is a break, it
-/// searches on behind them.
+/// searches on behind them. The buffer is room for a search; what it holds then is not said.
 ///
 /// # Errors
 ///
@@ -42,6 +39,7 @@ fn end_among(held: &HeldBytes, start: u64, len: u64) -> Option<u64>
 pub fn near_end<S: NodeSpace, T: Sources>(
     alloc: Global,
     held: &mut HeldBytes,
+    searched: &mut [u8; PIECE],
     space: &S,
     sources: &mut T,
     rope: Rope,
@@ -68,13 +66,13 @@ pub fn near_end<S: NodeSpace, T: Sources>(
         }
     }
     if held.leaf_left(alloc, space, rope, start) < PIECE as u64 {
-        return held.search_end(alloc, space, sources, rope, start);
+        return line_end_with(alloc, space, sources, rope, start, searched);
     }
     let behind = start + PIECE as u64;
     held.read_window(space, sources, rope, behind)?;
     if let Some(end) = end_among(held, start, len) {
         return Ok(end);
     }
-    let end = held.search_end(alloc, space, sources, rope, behind)?;
+    let end = line_end_with(alloc, space, sources, rope, behind, searched)?;
     Ok(end)
 }

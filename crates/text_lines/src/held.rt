@@ -13,7 +13,6 @@ ghost use Rattle.text_lines.specs.Lines.{line_end, next_line};
 use crate::asking::ask_part;
 use crate::known::KnownLine;
 use crate::known_lines::KnownLines;
-use crate::lines::line_end_with;
 use crate::near::read_part;
 use cord_position::Pos;
 use cord_search::PIECE;
@@ -49,8 +48,6 @@ pub struct HeldBytes {
     /// The leaf that was looked for last: from its first place up to its end.
     leaf_start: u64,
     leaf_end: u64,
-    /// Room for a search through the text.
-    searched: [u8; PIECE],
     /// A place where a line begins.
     begun: Option<u64>,
     known: KnownLines,
@@ -81,7 +78,6 @@ impl HeldBytes {
             bytes: [0; ROOM],
             leaf_start: 0,
             leaf_end: 0,
-            searched: [0; PIECE],
             begun: None,
             known,
         }
@@ -395,31 +391,5 @@ impl HeldBytes {
             }
         }
         self.leaf_left(alloc, space, rope, start) >= PIECE as u64
-    }
-
-    /// The first line break at a place or behind it, or the text's end, by a search through the text.
-    ///
-    /// # Errors
-    ///
-    /// A source's fault, where a byte is one of that source and the read of it failed.
-    pub fn search_end<S: NodeSpace, T: Sources>(
-        &mut self,
-        alloc: Global,
-        space: &S,
-        sources: &mut T,
-        rope: Rope,
-        place: u64,
-    ) -> Result<u64, SourceFault>
-        requires rope { IsRope (S.table space.now) rope }
-        requires place { place ≤ rope_len (S.table space.now) rope }
-        ensures same { self.new ≡ self.old }
-        ensures from { IfOk result (λ p. place ≤ p) }
-        ensures inside { IfOk result (λ p. p ≤ rope_len (S.table space.now) rope) }
-        ensures is { IfOk result (λ p.
-            OfText (S.table space.now) (T.reading sources.old).stated rope (λ t. p ≡ line_end t place)) }
-        ensures reads { ReadsSpan (T.reading sources.old) (T.reading sources.new)
-            (rope_cell (S.table space.now) rope) 0 (rope_len (S.table space.now) rope) result }
-    {
-        line_end_with(alloc, space, sources, rope, place, &mut self.searched)
     }
 }

@@ -1,17 +1,13 @@
-//! The bytes of a text near a place, taken leaf by leaf into an array, and the line break among them.
+//! The bytes of a text near a place, taken leaf by leaf into an array.
 
 ghost use Rattle.std.specs.Prelude.{◌≡◌, ◌≤◌, ◌+◌, not, length, take, drop, IfOk, OnOk};
-ghost use Rattle.std.specs.List.{position_or_len, suffix_len};
 ghost use Rattle.rope_node.specs.Denotes.{IsRope, rope_len};
 ghost use Rattle.cord_position.specs.Fetched.{ReadsSpan, rope_cell};
 ghost use Rattle.cord_search.specs.Reached.{StandsAtPlace};
 ghost use Rattle.cord_search.specs.Stated.{OfText};
-ghost use Rattle.text_lines.specs.Lines.{is_break};
 
-use crate::lines::LINE_BREAK;
 use cord_search::gather;
 use lazy_file::{SourceFault, Sources};
-use memchr::{memchr, memrchr};
 use rope_node::{NodeSpace, Rope, rope_len};
 
 /// Reads the bytes of a text from `start` on into the whole of the buffer, as a search does: by one read for each leaf.
@@ -43,26 +39,4 @@ pub fn read_part<S: NodeSpace, T: Sources>(
         None => unreachable!(),
     }
     Ok(())
-}
-
-/// How many bytes stand before the first line break, or all.
-pub fn width_ahead(bytes: &[u8]) -> usize
-    ensures is { result ≡ position_or_len is_break bytes.now }
-    ensures most { result ≤ length bytes.now }
-{
-    match memchr(LINE_BREAK, bytes) {
-        Some(at) => at,
-        None => bytes.len(),
-    }
-}
-
-/// How many bytes stand behind the last line break, or all.
-pub fn width_behind(bytes: &[u8]) -> usize
-    ensures is { result ≡ suffix_len (λ b. not (is_break b)) bytes.now }
-    ensures most { result ≤ length bytes.now }
-{
-    match memrchr(LINE_BREAK, bytes) {
-        Some(at) => bytes.len() - (at + 1),
-        None => bytes.len(),
-    }
 }

@@ -13,6 +13,7 @@ use crate::behind::near_end;
 use crate::fault::FrameFault;
 use crate::held::HeldBytes;
 use crate::near::read_part;
+use cord_search::PIECE;
 use lazy_file::Sources;
 use rope_node::{NodeSpace, Rope, rope_len};
 use std::alloc::{AllocError, Global};
@@ -92,6 +93,7 @@ fn push_row<S: NodeSpace, T: Sources>(
 fn push_line<S: NodeSpace, T: Sources>(
     alloc: Global,
     held: &mut HeldBytes,
+    searched: &mut [u8; PIECE],
     space: &S,
     sources: &mut T,
     rope: Rope,
@@ -112,7 +114,7 @@ fn push_line<S: NodeSpace, T: Sources>(
     let Some(start) = start else {
         return Ok(None);
     };
-    let end = near_end(alloc, held, space, sources, rope, start)?;
+    let end = near_end(alloc, held, searched, space, sources, rope, start)?;
     let next = held.pass_line(start, end, rope_len(space, rope));
     let rest = (end - start).saturating_sub(left);
     let from = end - rest;
@@ -146,9 +148,20 @@ pub fn push_rows<S: NodeSpace, T: Sources>(
     ensures reads { ReadsToShow (T.reading sources.old) (T.reading sources.new)
         (rope_cell (S.table space.now) rope) (rope_len (S.table space.now) rope) result }
 {
+    let mut searched = [0; PIECE];
     let mut next = Some(top);
     for row in 0..SCREEN_ROWS {
-        next = push_line(alloc, held, space, sources, rope, next, left, out)?;
+        next = push_line(
+            alloc,
+            held,
+            &mut searched,
+            space,
+            sources,
+            rope,
+            next,
+            left,
+            out,
+        )?;
         out.extend_from_slice(b"\r\n")?;
     }
     Ok(())

@@ -26,10 +26,10 @@ returns-in-Some-clause-is g c source agrees stated =
 
 pub returns-then-leaf_left-clause-held : goal.returns-then-leaf_left-clause-held
 returns-then-leaf_left-clause-held g c =
-    let same : c.search_end.new.self ≡ c.args.held.now =
-    c.search_end.ensures.same ∙ c.leaf_left.ensures.same
+    let same : c.leaf_left.new.self ≡ c.args.held.now =
+    c.leaf_left.ensures.same
     ∙ elim c.match-end_among.branch [ in-Some-end_among+else-tells w ↦ w.held-is ∙ w.tells.ensures | in_default-end_among w ↦ w.held-is ] in
-    ok_any (HoldsText (g.S.NodeSpace.table c.args.space.now) (g.T.Sources.reading c.args.sources.now) c.args.rope c.search_end.new.self) c.search_end.result (rw same c.requires.held)
+    ok_any (HoldsText (g.S.NodeSpace.table c.args.space.now) (g.T.Sources.reading c.args.sources.now) c.args.rope c.leaf_left.new.self) c.line_end_with.result (rw same c.requires.held)
 
 pub returns-in-Some-end_among-2-clause-is : goal.returns-in-Some-end_among-2-clause-is
 returns-in-Some-end_among-2-clause-is g c source agrees stated =
@@ -55,4 +55,4 @@ returns-clause-is g c source agrees stated =
     ∙ sym (end_behind u near start PIECE front long none)
 
 pub returns-clause-held : goal.returns-clause-held
-returns-clause-held g c = rw c.search_end-2.ensures.same c.in_ok-read_window.ensures.held
+returns-clause-held g c = c.in_ok-read_window.ensures.held
