@@ -70,13 +70,21 @@ fn known_pasted(workspace: &Workspace, known: &KnownLines) -> KnownLines
     }
 }
 
-/// The command that made the current text, behind all that only say it again.
+/// The most revisions one behind the other, each of which only goes back to the next, that are passed over.
+const MOST_BACKS: u32 = 64;
+
+/// The command that made the current text, where it is not behind too many that only go back to it.
 fn maker(workspace: &Workspace) -> Option<Edit>
     ensures { IfSome result (IsMaker workspace.now) }
 {
     let session = workspace.session();
     let mut k = workspace.last();
+    let mut passed = 0;
     while let Some(Edit::Back { r }) = session.edit(k) {
+        if passed >= MOST_BACKS {
+            return None;
+        }
+        passed += 1;
         k = r;
     }
     session.edit(k)
@@ -89,6 +97,9 @@ fn known_undone(alloc: Global, workspace: &Workspace, known: &KnownLines) -> Kno
 {
     // The workspace keeps its rules, as its last revision says.
     let _last = workspace.last();
+    if known.is_empty() {
+        return KnownLines::none();
+    }
     let Some(edit) = maker(workspace) else {
         return KnownLines::none();
     };

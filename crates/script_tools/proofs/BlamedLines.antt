@@ -22,7 +22,8 @@ use Rattle.byte_origins.proofs.Lengths.{as_long}
 use Rattle.byte_origins.proofs.StoodThere.{stood}
 use Rattle.script_tools.specs.Blamed.{IsNextFound, IsLongestRun, WritesRuns, blame_lines, found_and_left, run_line}
 use Rattle.script_tools.proofs.Pieces.{front_alone, front_and_part, stopped}
-use Rattle.script_tools.proofs.Printables.{all_drop, all_take}
+use Rattle.lazy_file.proofs.UsedBlocks.{all_take}
+use Rattle.script_tools.proofs.Printables.{all_drop}
 use Rattle.script_tools.proofs.LoggedScripts.{named}
 use Rattle.byte_origins.proofs.RunOrigins.{length-run}
 use Rattle.script_tools.proofs.BlamedRuns.{has_runs, no_runs, run_and_more, run_begins}

@@ -14,11 +14,10 @@ use Rattle.command_parts.specs.declared.part.Part.{Part}
 use Rattle.command_parts.specs.declared.part.Part.TheVariants.{Old, Pool, Source}
 use Rattle.command_parts.specs.Commands.{FullEdit, New, Open, Insert, Delete, Replace, Paste, Join, Cut, Fill, Back, Balance, Many}
 use Rattle.command_parts.specs.Parts.{part_len, parts_len, parts_of, nonempty, front, rest, whole, root_at, len_of, IsInRange}
-use Rattle.command_parts.proofs.SplicedTexts.{are_splices}
+use Rattle.command_parts.proofs.SplicedTexts.{are_splices, follow_sum}
 use Rattle.rope_node.proofs.Parts.{slice_get-take}
 use Rattle.edit_commands.proofs.RevisionLists.{there_is}
 use Rattle.session_checker.proofs.ResultLengths.{nonempty_len, spliced_len}
-use Rattle.session_checker.proofs.SpliceSteps.{follow_sum}
 use Rattle.script_tools.proofs.UnplacedCommands.{with_no_place, with_no_places}
 
 -- ---- one command
