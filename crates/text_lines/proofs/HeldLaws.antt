@@ -164,6 +164,16 @@ before_place t h place held =
           )
     ]
 
+-- where there are some, or all of the text's, the place is one of the text
+pub held_inside : (t : List ℕ) (h : HeldPart) (place : ℕ) → AreHeld h t → (1 ≤ length (held_up_to h place)) ⊎ (length (held_up_to h place) ≡ place) → place ≤ length t
+held_inside t h place held some =
+    elim (cases_lt (h.from + length h.bytes) place) [
+      | inl past ↦
+          let none : length (held_up_to h place) ≡ 0 = rw (lt-ltb (h.from + length h.bytes) place past) refl in
+          absurd (elim some [ inl more ↦ omega (arith, more, none) | inr all ↦ omega (arith, all, none, past) ])
+      | inr inside ↦ omega (arith, inside, held.inside)
+    ]
+
 -- where a break stands among them, or the text has no more, they tell where the line begins
 pub start_is : (t : List ℕ) (h : HeldPart) (place width : ℕ) → place ≤ length t → AreHeld h t → width ≡ suffix_len (λ b. not (is_break b)) (held_up_to h place)
     → (length (held_up_to h place) < place → width < length (held_up_to h place)) → place - width ≡ line_start t place

@@ -21,7 +21,7 @@ use std::alloc::Global;
 /// tell it: a break is among them, or the text has no more there.
 fn start_among(held: &HeldBytes, place: u64) -> Option<u64>
     ensures inside { IfSome result (λ p. p ≤ place) }
-    ensures is { IfSome result (λ p. (t : List ℕ) → AreHeld held.now t → place ≤ length t → p ≡ line_start t place) }
+    ensures is { IfSome result (λ p. (t : List ℕ) → AreHeld held.now t → p ≡ line_start t place) }
     ensures told { IsSome result ↔ TellsStart (held_up_to held.now place) place }
 {
     let near = held.up_to(place);

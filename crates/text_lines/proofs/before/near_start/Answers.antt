@@ -19,24 +19,15 @@ returns-in-Some-clause-is g c source agrees stated =
 
 pub returns-in-Some-start_among-clause-is : goal.returns-in-Some-start_among-clause-is
 returns-in-Some-start_among-clause-is g c source agrees stated =
-    let t = g.S.NodeSpace.table c.args.space.now in
-    let u = text source (rope_cells t c.args.rope) in
-    let inside : c.args.place ≤ length u = omega (arith, text_length t c.args.rope source, c.rope_len.ensures.cells, c.rope_len.ensures.exact, c.requires.place) in
-    c.in-Some-start_among.ensures.is u (c.in_ok-ask_before.ensures.held.told source agrees stated) inside
+    c.in-Some-start_among.ensures.is (text source (rope_cells (g.S.NodeSpace.table c.args.space.now) c.args.rope)) (c.in_ok-ask_before.ensures.held.told source agrees stated)
 
 pub returns-in-Some-start_among-2-clause-is : goal.returns-in-Some-start_among-2-clause-is
 returns-in-Some-start_among-2-clause-is g c source agrees stated =
-    let t = g.S.NodeSpace.table c.args.space.now in
-    let u = text source (rope_cells t c.args.rope) in
-    let inside : c.args.place ≤ length u = omega (arith, text_length t c.args.rope source, c.rope_len.ensures.cells, c.rope_len.ensures.exact, c.requires.place) in
-    c.in-Some-start_among-2.ensures.is u ((held_then c.in_ok-ask_before.ensures.reads c.in_ok-hold_before.ensures.held).told source agrees stated) inside
+    c.in-Some-start_among-2.ensures.is (text source (rope_cells (g.S.NodeSpace.table c.args.space.now) c.args.rope)) ((held_then c.in_ok-ask_before.ensures.reads c.in_ok-hold_before.ensures.held).told source agrees stated)
 
 pub returns-in-Some-start_among-3-clause-is : goal.returns-in-Some-start_among-3-clause-is
 returns-in-Some-start_among-3-clause-is g c source agrees stated =
-    let t = g.S.NodeSpace.table c.args.space.now in
-    let u = text source (rope_cells t c.args.rope) in
-    let inside : c.args.place ≤ length u = omega (arith, text_length t c.args.rope source, c.rope_len.ensures.cells, c.rope_len.ensures.exact, c.requires.place) in
-    c.in-Some-start_among-3.ensures.is u ((held_then (c.in_ok-hold_before.ensures.reads ∙ c.in_ok-ask_before.ensures.reads) c.in_ok-hold_before-2.ensures.held).told source agrees stated) inside
+    c.in-Some-start_among-3.ensures.is (text source (rope_cells (g.S.NodeSpace.table c.args.space.now) c.args.rope)) ((held_then (c.in_ok-hold_before.ensures.reads ∙ c.in_ok-ask_before.ensures.reads) c.in_ok-hold_before-2.ensures.held).told source agrees stated)
 
 pub returns-clause-is : goal.returns-clause-is
 returns-clause-is g c source agrees stated =
