@@ -5,7 +5,7 @@ use Rattle.edit_commands.specs.Session.{SessionValue, edit_of}
 use Rattle.screen_editor.proofs.UndoneTexts.{StandsFor, back_stands}
 use Rattle.screen_editor.proofs.known.maker.Goals as goal
 
-stands_for : (c : goal.In-Some-Back) → StandsFor c.args.workspace.now c.loop-r.k c.in-Some-Back.r
+stands_for : (c : goal.Else-passed-ge-MOST_BACKS) → StandsFor c.args.workspace.now c.loop-r.k c.in-Some-Back.r
 stands_for c =
     let w = c.args.workspace.now in
     let k = c.loop-r.k in
