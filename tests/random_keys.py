@@ -22,7 +22,7 @@ from second_checker import PROGRAM, TOP, verify
 
 ROWS, COLUMNS, ABOVE, CUTS = 23, 80, 11, 16
 LONGEST = (1 << 31) - 1
-SAVE, LEAVE = b"\x18", b"\x03"
+SAVE, LEAVE, UNDO = b"\x18", b"\x03", b"\x15"
 MARK, CUT, PASTE, DROP, BALANCE, LINE_START, LINE_END = b"\0", b"\x17", b"\x19", b"\x14", b"\x0c", b"\x01", b"\x05"
 LONG_FROM = 500
 
@@ -218,14 +218,15 @@ def many_lines(chance):
 
 
 def long_lines(chance):
-    """Lines of no byte up to 200,000, ways over them, breaks that are typed and erased at their borders, and spans that are cut there and put in elsewhere."""
+    """Lines of no byte up to 200,000, ways over them, breaks typed and erased at their borders, spans cut there and put in elsewhere, and all these undone."""
     widths = [chance.choice([0, 1, 80, 600, 4_096, 4_097, 65_535, 65_536, 70_000, 200_000]) for _ in range(chance.randrange(2, 30))]
     lines = [bytes([chance.choice(b"abc ")]) * width for width in widths]
-    borders = [b"\x05\n", b"\x01\n", b"\x01\x7f", b"\x05\x04", b"\x05a", b"\x01b", b"\x02\x02\n", b"\x06\x06\n", b"\x06c\x7f", b"\x15", PASTE]
+    borders = [b"\x05\n", b"\x01\n", b"\x01\x7f", b"\x05\x04", b"\x05a", b"\x01b", b"\x02\x02\n", b"\x06\x06\n", b"\x06c\x7f", PASTE]
     cuts = [MARK + move * 3 + CUT for move in (b"\x02", b"\x06")] + [LINE_START + MARK + b"\x0e" + CUT, LINE_END + MARK + b"\x06\x06" + CUT + PASTE]
+    undone = [UNDO, UNDO * 4, *(before + UNDO for before in (b"a", b"\n", b"\x7f", PASTE, *cuts))]
     keys = b""
     for _ in range(chance.randrange(4, 24)):
-        keys += chance.choice([chance.choice(MOVES) * chance.randrange(1, 9), chance.choice(borders), chance.choice(cuts), random_keys(chance, 4)])
+        keys += chance.choice([chance.choice(MOVES) * chance.randrange(1, 9), *map(chance.choice, (borders, cuts, undone)), random_keys(chance, 4)])
     return b"\n".join(lines), keys
 
 
