@@ -29,18 +29,8 @@ use Rattle.saved_session.proofs.CoveredAlways.{covers_always}
 
 -- a command that names splices of all names those that it has, behind those of the commands before it
 names_these : (place : ℕ) (all : List Splice) (edit : Edit) → IsPlacedAt place edit → NamesSplices all edit → NamesThese place (named_splices all edit) edit
-names_these place all New is there = refl
-names_these place all (Open s) is there = refl
-names_these place all (Insert r p a n) is there = refl
-names_these place all (Delete r p n) is there = refl
-names_these place all (Replace r p m a n) is there = refl
-names_these place all (Paste r p q i n) is there = refl
-names_these place all (Join r q) is there = refl
-names_these place all (Cut r i n) is there = refl
-names_these place all (Fill r p c n) is there = refl
-names_these place all (Back r) is there = refl
-names_these place all (Balance r) is there = refl
 names_these place all (Many r first count) is there = (is, omega (arith, there.0, length-take count (drop first all), length-drop first all))
+names_these place all other is there = refl
 
 -- what certifies a revision, over a table, its functions, the roots before it and the number of their splices
 record Certifies (t : Table) (coded : ℕ → Coded) (roots : List (Option NodeId)) (place : ℕ) (splices : List Splice) (edit : Edit) (root : Option NodeId) (rows : List Row) : Type 0 where

@@ -74,18 +74,8 @@ same_answer false true x y = absurd (let no = x.1 (y.0 refl) in cc)
 -- ---- the splices that a command names
 
 pub own_are : (place : ℕ) (all : List Splice) (edit : Edit) → IsPlacedAt place edit → named_splices all edit ≡ take (splices_of edit) (drop place all)
-own_are place all New is = refl
-own_are place all (Open s) is = refl
-own_are place all (Insert r p a n) is = refl
-own_are place all (Delete r p n) is = refl
-own_are place all (Replace r p m a n) is = refl
-own_are place all (Paste r p q i n) is = refl
-own_are place all (Join r q) is = refl
-own_are place all (Cut r i n) is = refl
-own_are place all (Fill r p c n) is = refl
-own_are place all (Back r) is = refl
-own_are place all (Balance r) is = refl
 own_are place all (Many r first count) is = ap (λ (n : ℕ). take count (drop n all)) is
+own_are place all other is = refl
 
 -- ---- the beginning
 
