@@ -49,10 +49,19 @@ fn names_no_source(store: &Store<Coded>, revisions: &[Revision], command: &Comma
     ensures { result ≡ names_no_source
         (record { held = store.now; revisions = revisions.now }) command.now }
 {
-    if let Command::Open { s } = *command {
-        s >= store.source_count()
-    } else {
-        false
+    match *command {
+        Command::Open { s } => s >= store.source_count(),
+        Command::New
+        | Command::Insert { .. }
+        | Command::Delete { .. }
+        | Command::Replace { .. }
+        | Command::Paste { .. }
+        | Command::Join { .. }
+        | Command::Cut { .. }
+        | Command::Fill { .. }
+        | Command::Back { .. }
+        | Command::Balance { .. }
+        | Command::Many { .. } => false,
     }
 }
 
