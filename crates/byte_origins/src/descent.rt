@@ -4,7 +4,7 @@ ghost use Rattle.std.specs.Prelude.{◌≡◌, ◌<◌, length};
 ghost use Rattle.rope_node.specs.Table.{len_at};
 ghost use Rattle.rope_node.specs.Path.{span_at};
 
-use rope_node::{LeafSpan, NodeId, NodeSpace, NodeView};
+use rope_node::{LeafSpan, NodeId, NodeSpace, Span, StepDown, step_down};
 
 /// The leaf span that the bytes of a node from a place on begin with. It costs one descent.
 pub fn leaf_span<S: NodeSpace>(space: &S, node: NodeId, place: u64) -> LeafSpan
@@ -12,29 +12,23 @@ pub fn leaf_span<S: NodeSpace>(space: &S, node: NodeId, place: u64) -> LeafSpan
     requires inside { place < len_at (S.table space.now) node.0 }
     ensures { result ≡ span_at (S.table space.now) node.0 place }
 {
-    let mut leaf = node;
-    let mut start = place;
-    let mut len = space.len(node) - place;
+    let mut here = Span {
+        node,
+        start: place,
+        len: space.len(node) - place,
+    };
     'down: loop {
-        let view = space.node(leaf);
-        match view {
-            NodeView::Cat { l, r } => {
-                let left = space.left_len(leaf, l);
-                if start < left {
-                    leaf = l;
-                    len = len.min(left - start);
-                } else {
-                    leaf = r;
-                    start -= left;
-                }
+        let view = space.node(here.node);
+        match step_down(space, here, view, 1) {
+            StepDown::Below(below) => here = below,
+            StepDown::Leaf => {
+                return LeafSpan {
+                    leaf: here.node,
+                    start: here.start,
+                    len: here.len,
+                };
             }
-            NodeView::Sub { b, i } => {
-                leaf = b;
-                start += i;
-            }
-            NodeView::Lit { .. } | NodeView::Src { .. } | NodeView::Fun => {
-                return LeafSpan { leaf, start, len };
-            }
+            StepDown::Across(..) => unreachable!(),
         }
     }
 }

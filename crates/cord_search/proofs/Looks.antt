@@ -12,7 +12,8 @@ use Rattle.cord_position.specs.Runs.{AreBytesOf}
 use Rattle.cord_position.proofs.LeafCells.{function_cell}
 use Rattle.cord_search.specs.Pieces.{IsPiece}
 use Rattle.cord_search.proofs.NodePieces.{leaf_piece, piece_of_same}
-use Rattle.cord_search.specs.Seeking.{IsLeafPeriod, IsSeeking, RepeatsFrom, SameCells}
+use Rattle.cord_search.specs.Seeking.{IsLeafPeriod, IsSeeking, RepeatsFrom}
+use Rattle.rope_node.specs.Steps.{SameCells}
 use Rattle.cord_search.specs.declared.seeker.Seeker.{Seeker}
 use Rattle.cord_search.proofs.Seeks.{ring_emptied}
 

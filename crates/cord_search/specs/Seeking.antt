@@ -46,12 +46,6 @@ IsSought t st rope start s (Some k) = FindsFirst t st rope s.finder start (Some 
     × IsFromOn s.finder start (length (rope_cells t rope)) (Some k)
 IsSought t st rope start s None = IsSeeking t st rope start s
 
--- n cells of a node from place i on are those of another from place j on
-pub record SameCells (t : Table) (x y : NodeId) (i j n : ℕ) : Type 0 where
-  pub here : i + n ≤ length (cells t x.0)
-  pub there : j + n ≤ length (cells t y.0)
-  pub each : (k : ℕ) → k < n → cell_at t x.0 (i + k) ≡ cell_at t y.0 (j + k)
-
 -- a leaf's cells are the same again after p of them
 pub record IsLeafPeriod (t : Table) (leaf : NodeId) (p : ℕ) : Type 0 where
   pub some : 1 ≤ p

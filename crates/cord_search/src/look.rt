@@ -5,12 +5,13 @@ ghost use Rattle.rope_node.specs.declared.node.NodeId.{NodeId};
 ghost use Rattle.rope_node.specs.Table.{view_at, len_at, IsLeaf};
 ghost use Rattle.rope_node.specs.Denotes.{cell_at};
 ghost use Rattle.cord_position.specs.Fetched.{ReadsSpan};
-ghost use Rattle.cord_search.specs.Seeking.{IsLeafPeriod, IsSeeker, IsSeeking, IsSought, SameCells};
+ghost use Rattle.cord_search.specs.Seeking.{IsLeafPeriod, IsSeeker, IsSeeking, IsSought};
+ghost use Rattle.rope_node.specs.Steps.{IsSpan, SameCells};
 
 use crate::seeker::Seeker;
 use cord_position::fill_part;
 use lazy_file::{SourceFault, Sources};
-use rope_node::{NodeId, NodeSpace, NodeView};
+use rope_node::{NodeId, NodeSpace, NodeView, Span, StepDown, step_down};
 
 /// Hands the search `len` bytes of a leaf, from its byte `start` on, as many at once as the buffer takes. Where the
 /// leaf repeats after `period` bytes, only its first and last ones are handed over.
@@ -57,58 +58,53 @@ fn look_in_leaf<S: NodeSpace, T: Sources>(
     Ok(None)
 }
 
-/// Hands the search `len` bytes of a node, from its byte `start` on, leaf by leaf. It goes down by calls of itself.
+/// Hands the search a span's bytes, leaf by leaf. It goes down by calls of itself.
 pub fn look_in<S: NodeSpace, T: Sources>(
     space: &S,
     sources: &mut T,
-    node: NodeId,
-    start: u64,
-    len: u64,
+    span: Span,
     seeker: &mut Seeker<'_>,
     buffer: &mut [u8],
 ) -> Result<Option<u64>, SourceFault>
-    requires there { node.0 < length (S.table space.now).nodes }
-    requires some { 1 ≤ len }
-    requires inside { start + len ≤ len_at (S.table space.now) node.0 }
+    requires span { IsSpan (S.table space.now) span }
     requires kept { IsSeeker seeker.old }
-    requires limit { seeker.old.place + len < 2 ^ 64 }
+    requires limit { seeker.old.place + span.len < 2 ^ 64 }
     requires room { 1 ≤ length buffer.old }
     ensures kept { IsSeeker seeker.new }
     ensures pattern { seeker.new.finder ≡ seeker.old.finder }
-    ensures place { result ≡ Ok None → seeker.new.place ≡ seeker.old.place + len }
+    ensures place { result ≡ Ok None → seeker.new.place ≡ seeker.old.place + span.len }
     ensures sought { (x : NodeId) (begin : ℕ)
-        → SameCells (S.table space.now) x node seeker.old.place start len
+        → SameCells (S.table space.now) x span.node seeker.old.place span.start span.len
         → IsSeeking (S.table space.now) (T.reading sources.old).stated (Some x) begin seeker.old
         → IfOk result (IsSought (S.table space.now) (T.reading sources.old).stated (Some x) begin seeker.new) }
     ensures reads { ReadsSpan (T.reading sources.old) (T.reading sources.new)
-        (cell_at (S.table space.now) node.0) start (start + len) result }
+        (cell_at (S.table space.now) span.node.0) span.start (span.start + span.len) result }
 {
-    match space.node(node) {
-        NodeView::Cat { l, r } => {
-            let left = space.left_len(node, l);
-            if start >= left {
-                return look_in(space, sources, r, start - left, len, seeker, buffer);
-            }
-            if len <= left - start {
-                return look_in(space, sources, l, start, len, seeker, buffer);
-            }
-            let cut = left - start;
-            if let Some(found) = look_in(space, sources, l, start, cut, seeker, buffer)? {
+    let view = space.node(span.node);
+    match step_down(space, span, view, span.len) {
+        StepDown::Below(below) => look_in(space, sources, below, seeker, buffer),
+        StepDown::Across(first, others) => {
+            if let Some(found) = look_in(space, sources, first, seeker, buffer)? {
                 return Ok(Some(found));
             }
-            look_in(space, sources, r, 0, len - cut, seeker, buffer)
+            look_in(space, sources, others, seeker, buffer)
         }
-        NodeView::Sub { b, i } => look_in(space, sources, b, i + start, len, seeker, buffer),
-        NodeView::Lit { .. } => {
-            let bytes = &space.literal(node, start)[..len as usize];
-            Ok(seeker.take(bytes))
-        }
-        NodeView::Src { .. } => {
-            look_in_leaf(space, sources, node, start, len, None, seeker, buffer)
-        }
-        NodeView::Fun => {
-            let period = space.period(node);
-            look_in_leaf(space, sources, node, start, len, period, seeker, buffer)
+        StepDown::Leaf => {
+            let (leaf, start, len) = (span.node, span.start, span.len);
+            match view {
+                NodeView::Lit { .. } => {
+                    let bytes = &space.literal(leaf, start)[..len as usize];
+                    Ok(seeker.take(bytes))
+                }
+                NodeView::Src { .. } => {
+                    look_in_leaf(space, sources, leaf, start, len, None, seeker, buffer)
+                }
+                NodeView::Fun => {
+                    let period = space.period(leaf);
+                    look_in_leaf(space, sources, leaf, start, len, period, seeker, buffer)
+                }
+                NodeView::Cat { .. } | NodeView::Sub { .. } => unreachable!(),
+            }
         }
     }
 }

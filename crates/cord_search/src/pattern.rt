@@ -15,7 +15,7 @@ use crate::look::look_in;
 use crate::runs::WINDOW;
 use crate::seeker::Seeker;
 use lazy_file::{SourceFault, Sources};
-use rope_node::{NodeSpace, Rope, rope_len};
+use rope_node::{NodeSpace, Rope, Span, rope_len};
 use std::alloc::Global;
 
 /// The most bytes in a pattern.
@@ -58,16 +58,12 @@ fn find_some<S: NodeSpace, T: Sources>(
     let mut buffer = [0; WINDOW];
     match x {
         Some(root) => {
-            let left = len - start;
-            if let Some(found) = look_in(
-                space,
-                sources,
-                root,
+            let rest = Span {
+                node: root,
                 start,
-                left,
-                &mut seeker,
-                &mut buffer,
-            )? {
+                len: len - start,
+            };
+            if let Some(found) = look_in(space, sources, rest, &mut seeker, &mut buffer)? {
                 return Ok(Some(found));
             }
             Ok(seeker.search_ring())

@@ -9,7 +9,7 @@ ghost use Rattle.cord_search.specs.Pieces.{IsPiece, IsPieceHere};
 
 use cord_position::{Pos, fill_part};
 use lazy_file::{SourceFault, Sources};
-use rope_node::{NodeId, NodeSpace, NodeView, Rope, rope_len};
+use rope_node::{NodeId, NodeSpace, Rope, Span, StepDown, rope_len, step_down};
 
 /// How many bytes are looked at at once where the answer is often near.
 pub const PIECE: usize = 4096;
@@ -90,23 +90,22 @@ pub fn gather<S: NodeSpace, T: Sources>(
     ensures reads { ReadsSpan (T.reading sources.old) (T.reading sources.new)
         (cell_at (S.table space.now) node.0) start (start + length buffer.old) result }
 {
-    match space.node(node) {
-        NodeView::Cat { l, r } => {
-            let left = space.left_len(node, l);
-            if start >= left {
-                return gather(space, sources, r, start - left, buffer);
-            }
-            if buffer.len() as u64 <= left - start {
-                return gather(space, sources, l, start, buffer);
-            }
-            let cut = (left - start) as usize;
-            gather(space, sources, l, start, &mut buffer[..cut])?;
-            gather(space, sources, r, 0, &mut buffer[cut..])
+    let len = buffer.len() as u64;
+    let view = space.node(node);
+    match step_down(space, Span { node, start, len }, view, len) {
+        StepDown::Below(below) => gather(space, sources, below.node, below.start, buffer),
+        StepDown::Across(first, others) => {
+            let cut = first.len as usize;
+            gather(space, sources, first.node, first.start, &mut buffer[..cut])?;
+            gather(
+                space,
+                sources,
+                others.node,
+                others.start,
+                &mut buffer[cut..],
+            )
         }
-        NodeView::Sub { b, i } => gather(space, sources, b, i + start, buffer),
-        NodeView::Lit { .. } | NodeView::Src { .. } | NodeView::Fun => {
-            fill_part(space, sources, node, start, buffer)
-        }
+        StepDown::Leaf => fill_part(space, sources, node, start, buffer),
     }
 }
 

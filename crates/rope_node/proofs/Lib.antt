@@ -6,3 +6,5 @@ pub mod HeldCells
 pub mod Ropes
 pub mod Parts
 pub mod LeafSpans
+pub mod Children
+pub mod FirstLeaves

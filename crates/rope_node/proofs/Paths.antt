@@ -1,87 +1,59 @@
 -- Paths: what stays true on the way down from a node to the leaf that holds a place.
-use Rattle.std.proofs.Common.{◌≡◌, ℕ, ◌+◌, ◌-◌, ◌<◌, ◌≤◌, ◌⊎◌, inl, inr, length, drop, get_or, sym, ap, subst, ◌∙◌, arith}
-use Rattle.std.proofs.lemmas.Bool.{lt-ltb, le-ltb}
-use Rattle.std.proofs.lemmas.List.{get_or_append_left, get_or-append_right, get_or-take, get_or-drop}
-use Rattle.rope_node.specs.declared.node.NodeId.{NodeId}
-use Rattle.rope_node.specs.declared.node.LeafSpan.{LeafSpan}
+use Rattle.std.proofs.Common.{◌≡◌, ℕ, ◌+◌, ◌≤◌, ◌<◌, ◌⊎◌, inl, inr, length, Some, sym, ap, subst, ◌∙◌, arith}
+use Rattle.std.proofs.lemmas.Bool.{cases_lt, lt-ltb, le-ltb}
 use Rattle.rope_node.specs.declared.node.NodeView.{NodeView}
 use Rattle.rope_node.specs.declared.node.NodeView.TheVariants.{Lit, Src, Fun, Cat, Sub}
+use Rattle.rope_node.specs.declared.node.Span.{Span}
 use Rattle.rope_node.specs.Table.{Table, view_at, len_at, IsLeaf, IsSound, HasTrueRecords}
-use Rattle.rope_node.specs.Denotes.{Byte, cells, cell_at}
+use Rattle.rope_node.specs.Denotes.{cell_at}
 use Rattle.rope_node.specs.Path.{shortened, span_at, visits, node_visits}
-use Rattle.rope_node.proofs.Cells.{cells_at, cells_length}
-use Rattle.rope_node.proofs.LeafSpans.{span_step}
+use Rattle.rope_node.specs.Steps.{IsSpan, IsSpanBelow, cat_span, child_span, first_of}
+use Rattle.rope_node.proofs.Children.{span_in_left, span_in_right}
+use Rattle.rope_node.proofs.FirstLeaves.{first_of_child}
 use Rattle.rope_node.proofs.Visits.{visits_step, visits-le}
 
--- place p of node x is where the path from place q of node y leads, after `seen` nodes above x
-pub record IsOnPath (t : Table) (y q x p seen : ℕ) : Type 0 where
-  pub there : x < length t.nodes
-  pub inside : p < len_at t x
-  pub cell : cell_at t x p ≡ cell_at t y q
-  pub leaf : (span_at t x p).leaf ≡ (span_at t y q).leaf
-  pub start : (span_at t x p).start ≡ (span_at t y q).start
-  pub count : seen + visits t x p ≡ visits t y q
+-- the byte of span x is where the path from place q of node y leads, after `seen` nodes above x
+pub record IsOnPath (t : Table) (y q : ℕ) (x : Span) (seen : ℕ) : Type 0 where
+  pub is_span : IsSpan t x
+  pub one : x.len ≡ 1
+  pub cell : cell_at t x.node.0 x.start ≡ cell_at t y q
+  pub first : first_of t x ≡ shortened 1 (span_at t y q)
+  pub count : seen + visits t x.node.0 x.start ≡ visits t y q
 
 -- one step of the count, where it is known what the node is
 visits_at : (t : Table) → IsSound t → (x p : ℕ) → x < length t.nodes → (v : NodeView) → view_at t x ≡ v → visits t x p ≡ node_visits t (visits t) p v
 visits_at t s x p inside v is = visits_step t s x p inside ∙ ap (node_visits t (visits t) p) is
 
-pub goes_left : (t : Table) → IsSound t → HasTrueRecords t → (y q x p seen : ℕ) (l r : NodeId) → view_at t x ≡ Cat l r → p < len_at t l.0 → IsOnPath t y q x p seen → IsOnPath t y q l.0 p (seen + 1)
-goes_left t s h y q x p seen l r e fits path =
-    let below = rw e at (s.nodes x path.there).references in
-    let there : l.0 < length t.nodes = omega (arith, below.0, path.there) in
-    let held : p < length (cells t l.0) = rw (cells_length t s h l.0 there) fits in
-    let step : visits t x p ≡ 1 + visits t l.0 p = rw (lt-ltb p (len_at t l.0) fits) at (visits_at t s x p path.there (Cat l r) e) in
-    let span : span_at t x p ≡ span_at t l.0 p = rw (lt-ltb p (len_at t l.0) fits) at (span_step t s x p path.there (Cat l r) e) in
-    record {
-      there = there;
-      inside = fits;
-      cell = sym (get_or_append_left (cells t l.0) (cells t r.0) (Byte 0) p held) ∙ sym (ap (λ cs. get_or cs p (Byte 0)) (cells_at t s x path.there (Cat l r) e)) ∙ path.cell;
-      leaf = ap (λ (z : LeafSpan). z.leaf) (sym span) ∙ path.leaf;
-      start = ap (λ (z : LeafSpan). z.start) (sym span) ∙ path.start;
-      count = omega (arith, step, path.count);
-    }
+visits_below : (t : Table) → IsSound t → (x z : Span) (v : NodeView) → IsSpan t x → view_at t x.node.0 ≡ v → Some z ≡ child_span t x v → visits t x.node.0 x.start ≡ 1 + visits t z.node.0 z.start
+visits_below t s x z (Lit a) is e child = absurd cc
+visits_below t s x z (Src r a) is e child = absurd cc
+visits_below t s x z Fun is e child = absurd cc
+visits_below t s x z (Cat l r) is e child =
+    let found : z ≡ cat_span t x l r = cc in
+    let step = visits_at t s x.node.0 x.start is.there (Cat l r) e in
+    elim (cases_lt x.start (len_at t l.0)) [
+      | inl before ↦ rw (found ∙ span_in_left t x l r before) (rw (lt-ltb x.start (len_at t l.0) before) at step)
+      | inr past ↦ rw (found ∙ span_in_right t x l r past) (rw (le-ltb x.start (len_at t l.0) past) at step)
+    ]
+visits_below t s x z (Sub b i) is e child =
+    let found : z ≡ record { node = b; start = x.start + i; len = x.len } = cc in
+    let swap : i + x.start ≡ x.start + i = omega arith in
+    rw found (rw swap at (visits_at t s x.node.0 x.start is.there (Sub b i) e))
 
-pub goes_right : (t : Table) → IsSound t → HasTrueRecords t → (y q x p seen : ℕ) (l r : NodeId) → view_at t x ≡ Cat l r → len_at t l.0 ≤ p → IsOnPath t y q x p seen → IsOnPath t y q r.0 (p - len_at t l.0) (seen + 1)
-goes_right t s h y q x p seen l r e past path =
-    let below = rw e at (s.nodes x path.there).references in
-    let len = rw e at (h.nodes x path.there).len in
-    let there : l.0 < length t.nodes = omega (arith, below.0, path.there) in
-    let left : length (cells t l.0) ≡ len_at t l.0 = cells_length t s h l.0 there in
-    let step : visits t x p ≡ 1 + visits t r.0 (p - len_at t l.0) = rw (le-ltb p (len_at t l.0) past) at (visits_at t s x p path.there (Cat l r) e) in
-    let span : span_at t x p ≡ span_at t r.0 (p - len_at t l.0) = rw (le-ltb p (len_at t l.0) past) at (span_step t s x p path.there (Cat l r) e) in
+pub goes_below : (t : Table) → IsSound t → HasTrueRecords t → (y q : ℕ) (x z : Span) (v : NodeView) (seen : ℕ) → v ≡ view_at t x.node.0 → IsSpanBelow t x v 1 z → IsOnPath t y q x seen → IsOnPath t y q z (seen + 1)
+goes_below t s h y q x z v seen e below path =
+    let step = visits_below t s x z v path.is_span (sym e) below.child in
     record {
-      there = omega (arith, below.1, path.there);
-      inside = omega (arith, len, path.inside, past);
-      cell = sym (get_or-append_right (cells t l.0) (cells t r.0) (len_at t l.0) p (Byte 0) left past)
-          ∙ sym (ap (λ cs. get_or cs p (Byte 0)) (cells_at t s x path.there (Cat l r) e)) ∙ path.cell;
-      leaf = ap (λ (z : LeafSpan). z.leaf) (sym span) ∙ path.leaf;
-      start = ap (λ (z : LeafSpan). z.start) (sym span) ∙ path.start;
-      count = omega (arith, step, path.count);
-    }
-
-pub goes_down : (t : Table) → IsSound t → (y q x p seen : ℕ) (b : NodeId) (i : ℕ) → view_at t x ≡ Sub b i → IsOnPath t y q x p seen → IsOnPath t y q b.0 (p + i) (seen + 1)
-goes_down t s y q x p seen b i e path =
-    let below = rw e at (s.nodes x path.there).references in
-    let held = rw e at (s.nodes x path.there).span in
-    let swap : i + p ≡ p + i = omega arith in
-    let step : visits t x p ≡ 1 + visits t b.0 (p + i) = rw swap at (visits_at t s x p path.there (Sub b i) e) in
-    let span : span_at t x p ≡ shortened (len_at t x - p) (span_at t b.0 (p + i)) = rw swap at (span_step t s x p path.there (Sub b i) e) in
-    record {
-      there = omega (arith, below, path.there);
-      inside = omega (arith, held, path.inside);
-      cell = ap (λ j. get_or (cells t b.0) j (Byte 0)) (sym swap)
-          ∙ sym (get_or-drop i (cells t b.0) p (Byte 0))
-          ∙ sym (get_or-take (len_at t x) (drop i (cells t b.0)) p (Byte 0) path.inside)
-          ∙ sym (ap (λ cs. get_or cs p (Byte 0)) (cells_at t s x path.there (Sub b i) e)) ∙ path.cell;
-      leaf = ap (λ (z : LeafSpan). z.leaf) (sym span) ∙ path.leaf;
-      start = ap (λ (z : LeafSpan). z.start) (sym span) ∙ path.start;
+      is_span = below.cells.is_span;
+      one = omega (arith, below.many, below.cells.few, path.one);
+      cell = ap (cell_at t z.node.0) (omega arith) ∙ sym (below.cells.same.each 0 (omega (arith, below.many))) ∙ ap (cell_at t x.node.0) (omega arith) ∙ path.cell;
+      first = first_of_child t s h x z v path.is_span (sym e) below.child ∙ path.first;
       count = omega (arith, step, path.count);
     }
 
 -- the path has at most 65 nodes
-pub seen_few : (t : Table) → IsSound t → HasTrueRecords t → (y q x p seen : ℕ) → y < length t.nodes → IsOnPath t y q x p seen → seen ≤ 65
-seen_few t s h y q x p seen inside path = omega (arith, path.count, visits-le t s h y q inside, (s.nodes y inside).not_deep)
+pub seen_few : (t : Table) → IsSound t → HasTrueRecords t → (y q : ℕ) (x : Span) (seen : ℕ) → y < length t.nodes → IsOnPath t y q x seen → seen ≤ 65
+seen_few t s h y q x seen inside path = omega (arith, path.count, visits-le t s h y q inside, (s.nodes y inside).not_deep)
 
 -- the path ends at a leaf
 pub visits_leaf : (t : Table) → IsSound t → (x p : ℕ) → x < length t.nodes → (v : NodeView) → v ≡ view_at t x → IsLeaf v → visits t x p ≡ 1

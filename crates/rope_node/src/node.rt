@@ -22,6 +22,15 @@ pub enum NodeView {
     Sub { b: NodeId, i: u64 },
 }
 
+/// Some bytes of a node.
+#[derive(Clone, Copy, Debug, PartialEq, Eq)]
+pub struct Span {
+    pub node: NodeId,
+    /// The first of them, counted from the node's.
+    pub start: u64,
+    pub len: u64,
+}
+
 /// A span of one leaf.
 #[derive(Clone, Copy, Debug, PartialEq, Eq)]
 pub struct LeafSpan {

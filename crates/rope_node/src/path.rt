@@ -5,8 +5,9 @@ ghost use Rattle.rope_node.specs.Table.{view_at, len_at, depth_at, IsLeaf};
 ghost use Rattle.rope_node.specs.Denotes.{cell_at};
 ghost use Rattle.rope_node.specs.Path.{visits, IsPlaceOf};
 
-use crate::node::{NodeId, NodeView};
+use crate::node::{NodeId, Span};
 use crate::space::NodeSpace;
+use crate::step::{StepDown, step_down};
 
 /// Where a place of a node lies in a leaf.
 #[derive(Clone, Copy, Debug, PartialEq, Eq)]
@@ -30,33 +31,25 @@ pub fn find_leaf<S: NodeSpace>(space: &S, node: NodeId, place: u64) -> LeafPlace
     ensures visits { result.visits ≡ visits (S.table space.now) node.0 place }
     ensures few { result.visits ≤ depth_at (S.table space.now) node.0 + 1 }
 {
-    let mut leaf = node;
-    let mut start = place;
+    let mut here = Span {
+        node,
+        start: place,
+        len: 1,
+    };
     let mut visits = 0;
     'down: loop {
-        let view = space.node(leaf);
+        let view = space.node(here.node);
         visits += 1;
-        match view {
-            NodeView::Cat { l, r } => {
-                let left = space.left_len(leaf, l);
-                if start < left {
-                    leaf = l;
-                } else {
-                    leaf = r;
-                    start -= left;
-                }
-            }
-            NodeView::Sub { b, i } => {
-                leaf = b;
-                start += i;
-            }
-            NodeView::Lit { .. } | NodeView::Src { .. } | NodeView::Fun => {
+        match step_down(space, here, view, 1) {
+            StepDown::Below(below) => here = below,
+            StepDown::Leaf => {
                 return LeafPlace {
-                    leaf,
-                    start,
+                    leaf: here.node,
+                    start: here.start,
                     visits,
                 };
             }
+            StepDown::Across(..) => unreachable!(),
         }
     }
 }

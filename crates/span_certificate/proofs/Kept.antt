@@ -24,7 +24,7 @@ use Rattle.span_descent.specs.Leads.{Leads, here, in_left, in_right, in_base}
 use Rattle.span_certificate.specs.Longest.{PartLiesInLeaf, RopeLiesInLeaf, StayWithin, AreLongest}
 use Rattle.span_certificate.specs.Covers.{row_at, place_of, KindFits, Fits, Covers, MeetsNoSource}
 use Rattle.span_certificate.proofs.Covering.{holds_place}
-use Rattle.span_descent.proofs.Descents.{children_of_cat, base_of_sub}
+use Rattle.rope_node.proofs.Children.{children_of_cat, base_of_sub}
 
 -- the coded functions of the older nodes are as they were
 abbrev pub AgreeBelow : Table → (ℕ → Coded) → (ℕ → Coded) → Type 0

@@ -15,7 +15,7 @@ use Rattle.span_certificate.specs.declared.row.RowKind.TheVariants.{Shared, Leaf
 use Rattle.command_parts.specs.Parts.{part_cells}
 use Rattle.span_certificate.specs.PartLeads.{content_from, PartHasDescription}
 use Rattle.span_certificate.specs.Covers.{KindFits}
-use Rattle.span_descent.specs.Descents.{first_of}
+use Rattle.rope_node.specs.Steps.{first_of}
 use Rattle.span_certificate.specs.Longest.{GoesToLeafEnd, SpansStayWithin, StayWithin}
 use Rattle.span_certificate.specs.SpanRows.{SpansFit, IsRowOf, DescribedFits, IsDescribedRow, IsNext, AreBytes}
 use Rattle.span_certificate.proofs.RowEnds.{beside_end}

@@ -7,12 +7,14 @@ use Rattle.rope_node.specs.Path.{span_at}
 use Rattle.rope_node.proofs.LeafSpans.{span_step, rest_at}
 use Rattle.span_certificate.specs.declared.row.RowKind.{RowKind}
 use Rattle.span_certificate.specs.declared.row.RowKind.TheVariants.{Shared, Leaf, Bytes}
-use Rattle.span_descent.specs.declared.span.Span.{Span}
+use Rattle.rope_node.specs.declared.node.Span.{Span}
 use Rattle.span_descent.specs.Leads.{Leads, here, in_left, in_right, in_base}
 use Rattle.span_descent.specs.Descents.{OnlyAbove, IsStand}
 use Rattle.span_certificate.specs.Longest.{LieInLeaf, SpansStayWithin, GoesToLeafEnd}
-use Rattle.span_descent.specs.Steps.{IsSpan, IsReached}
-use Rattle.span_descent.proofs.Descents.{children_of_cat, base_of_sub, at_leaf}
+use Rattle.span_descent.specs.Steps.{IsReached}
+use Rattle.rope_node.specs.Steps.{IsSpan}
+use Rattle.span_descent.proofs.Descents.{at_leaf}
+use Rattle.rope_node.proofs.Children.{children_of_cat, base_of_sub}
 use Rattle.span_descent.proofs.Steps.{leads_shorter, reached_shorter}
 use Rattle.span_certificate.proofs.Walks.{AreReached}
 use Rattle.span_descent.proofs.Cuts.{leads_on}

@@ -23,11 +23,12 @@ use Rattle.span_descent.specs.declared.description.Description.{Description}
 use Rattle.span_certificate.specs.declared.content.Content.TheVariants.{Within, Described}
 use Rattle.span_descent.specs.declared.description.Description.TheVariants.{Pooled, Computed}
 use Rattle.command_parts.specs.declared.part.Part.{Part}
-use Rattle.span_descent.specs.declared.span.Span.{Span}
+use Rattle.rope_node.specs.declared.node.Span.{Span}
 use Rattle.command_parts.specs.Parts.{part_len, part_cells, IsPart}
 use Rattle.span_certificate.specs.PartLeads.{content_from}
 use Rattle.span_descent.specs.Leads.{described_cells, Describes}
-use Rattle.span_descent.specs.Steps.{IsReached, IsSpan}
+use Rattle.span_descent.specs.Steps.{IsReached}
+use Rattle.rope_node.specs.Steps.{IsSpan}
 use Rattle.span_certificate.specs.Runs.{IsRunOf, ReadsCells, TellsSame}
 use Rattle.span_certificate.proofs.ComparedCells.{AreAmong, among_first, among_second, among_span, among_through, among_both, all_among, cells_among}
 use Rattle.span_descent.proofs.Cells.{leads_cells}

@@ -19,11 +19,12 @@ use Rattle.span_descent.specs.declared.description.Description.TheVariants.{Pool
 use Rattle.span_certificate.specs.declared.row.Row.{Row}
 use Rattle.span_certificate.specs.declared.row.RowKind.{RowKind}
 use Rattle.span_certificate.specs.declared.row.RowKind.TheVariants.{Shared, Leaf, Bytes}
-use Rattle.span_descent.specs.declared.span.Span.{Span}
+use Rattle.rope_node.specs.declared.node.Span.{Span}
 use Rattle.span_descent.specs.Leads.{here, leaf_description, coded_description}
 use Rattle.span_certificate.specs.declared.walk.TheConstants.{BYTES_LIMIT}
 use Rattle.span_certificate.specs.SpanRows.{SpansFit, IsRowOf, CellsAs, DescribedFits, IsDescribedRow, AreBytes}
-use Rattle.span_descent.specs.Steps.{IsSpan, span_cells, IsReached}
+use Rattle.span_descent.specs.Steps.{span_cells, IsReached}
+use Rattle.rope_node.specs.Steps.{IsSpan}
 use Rattle.span_descent.proofs.Steps.{leads_shorter, leads_through}
 use Rattle.span_descent.proofs.Cells.{leads_cells}
 

@@ -8,7 +8,7 @@ use Rattle.command_parts.specs.declared.part.Part.TheVariants.{Old, Pool, Source
 use Rattle.span_certificate.specs.declared.row.Row.{Row}
 use Rattle.span_certificate.specs.declared.row.RowKind.{RowKind}
 use Rattle.span_certificate.specs.declared.row.RowKind.TheVariants.{Shared, Leaf, Bytes}
-use Rattle.span_descent.specs.declared.span.Span.{Span}
+use Rattle.rope_node.specs.declared.node.Span.{Span}
 use Rattle.span_certificate.specs.declared.walk.TheConstants.{BYTES_LIMIT}
 use Rattle.function_leaf.specs.declared.coded.Coded.{Coded}
 use Rattle.rope_node.specs.Denotes.{rope_len, IsRope}

@@ -13,7 +13,8 @@ use command_parts::Part;
 use cord_position::fill_source;
 use function_leaf::fill;
 use lazy_file::{SourceFault, Sources};
-use span_descent::{Count, CountedSpace, Description, Span, Way, Ways, describe, first_leaf};
+use rope_node::Span;
+use span_descent::{Count, CountedSpace, Description, Way, Ways, describe, first_leaf};
 use std::sync::ledger::Ledger;
 
 /// The most bytes that are compared at once.

@@ -6,7 +6,7 @@ ghost use Rattle.command_parts.specs.Parts.{part_len, IsPart};
 ghost use Rattle.span_certificate.specs.PartLeads.{PartLeads, PartHasDescription};
 ghost use Rattle.span_descent.specs.Leads.{HasDescription};
 ghost use Rattle.span_descent.specs.Counts.{BeginsCount};
-ghost use Rattle.span_descent.specs.Steps.{IsSpan};
+ghost use Rattle.rope_node.specs.Steps.{IsSpan};
 ghost use Rattle.span_descent.specs.Trails.{IsWayOf};
 ghost use Rattle.span_descent.specs.declared.description.Description.{Description};
 

@@ -14,8 +14,8 @@ use crate::kept_ways::Trails;
 use crate::row::{Row, RowKind};
 use crate::walk::BYTES_LIMIT;
 use command_parts::{Part, PartIter, Splices};
-use rope_node::{CodedSpace, NodeId, Rope};
-use span_descent::{Count, CountedSpace, Span, Way, Ways, leaf_span};
+use rope_node::{CodedSpace, NodeId, Rope, Span};
+use span_descent::{Count, CountedSpace, Way, Ways, leaf_span};
 use std::sync::ledger::Ledger;
 
 /// Whether the `len` bytes of a part from `off` on lie in one leaf.

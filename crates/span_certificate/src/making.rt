@@ -6,7 +6,8 @@ ghost use Rattle.command_parts.specs.Parts.{part_len, part_cells, parts_cells, I
 ghost use Rattle.span_certificate.specs.Longest.{MakesRows, StayWithin};
 ghost use Rattle.span_descent.specs.Counts.{BeginsCount};
 ghost use Rattle.span_certificate.specs.SpanRows.{IsNext};
-ghost use Rattle.span_descent.specs.Steps.{IsSpan, span_cells};
+ghost use Rattle.span_descent.specs.Steps.{span_cells};
+ghost use Rattle.rope_node.specs.Steps.{IsSpan};
 ghost use Rattle.span_descent.specs.Trails.{AreWays};
 
 use crate::content::{Content, content_of};
@@ -14,8 +15,8 @@ use crate::kept_ways::{Trails, are_short};
 use crate::row::Row;
 use crate::walk::{next_leaf, next_old};
 use command_parts::{Part, PartIter, PartPlace, Splices};
-use rope_node::{CodedSpace, NodeId, NodeSpace, Rope};
-use span_descent::{Count, CountedSpace, Span, Way, Ways};
+use rope_node::{CodedSpace, NodeId, NodeSpace, Rope, Span};
+use span_descent::{Count, CountedSpace, Way, Ways};
 use std::alloc::Global;
 use std::marker::Brand;
 use std::sync::ledger::{Blank, Ledger};

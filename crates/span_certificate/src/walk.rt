@@ -2,17 +2,18 @@
 
 ghost use Rattle.std.specs.Prelude.{◌≡◌, ◌↔◌, ℕ, ◌+◌, ◌<◌, ◌≤◌, min, IsTrue};
 ghost use Rattle.rope_node.specs.Table.{view_at, IsLeaf, IsSound, HasTrueRecords};
-ghost use Rattle.span_descent.specs.Descents.{IsStand, first_of};
+ghost use Rattle.span_descent.specs.Descents.{IsStand};
+ghost use Rattle.rope_node.specs.Steps.{first_of, IsSpan};
 ghost use Rattle.span_certificate.specs.Longest.{GoesToLeafEnd, SpansStayWithin};
 ghost use Rattle.span_certificate.specs.SpanRows.{CellsAs, IsRowOf, IsDescribedRow};
-ghost use Rattle.span_descent.specs.Steps.{IsSpan, span_cells};
+ghost use Rattle.span_descent.specs.Steps.{span_cells};
 ghost use Rattle.span_descent.specs.Trails.{IsOnWay, IsWayOf};
 ghost use Rattle.span_certificate.specs.declared.walk.TheConstants.{BYTES_LIMIT};
 ghost use Rattle.rope_node.specs.declared.node.NodeId.{NodeId};
 
 use crate::row::{Row, RowKind};
-use rope_node::{NodeId, NodeView};
-use span_descent::{Count, CountedSpace, Descent, Description, Span, Way, describe, first_leaf};
+use rope_node::{NodeId, NodeView, Span};
+use span_descent::{Count, CountedSpace, Descent, Description, Way, describe, first_leaf};
 use std::sync::ledger::Ledger;
 
 /// The most bytes of a row that compares bytes.

@@ -6,7 +6,7 @@ use Rattle.rope_node.specs.Denotes.{cells}
 use Rattle.rope_node.proofs.Cells.{cells_at, cells_length}
 use Rattle.rope_node.proofs.Parts.{span_left, span_right, span_within}
 use Rattle.span_descent.specs.Leads.{Leads, here, in_left, in_right, in_base}
-use Rattle.span_descent.proofs.Descents.{children_of_cat, base_of_sub}
+use Rattle.rope_node.proofs.Children.{children_of_cat, base_of_sub}
 
 -- where a span leads to lies in the table and in its node
 pub leads_inside : (t : Table) → IsSound t → HasTrueRecords t → {n k o x p : ℕ} → 1 ≤ n → Leads t n k o x p → x < length t.nodes → p + n ≤ len_at t x → (k < length t.nodes) × (o + n ≤ len_at t k)

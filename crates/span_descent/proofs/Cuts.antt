@@ -4,12 +4,13 @@ use Rattle.std.proofs.lemmas.Bool.{cases_lt}
 use Rattle.rope_node.specs.declared.node.NodeView.{NodeView}
 use Rattle.rope_node.specs.declared.node.NodeView.TheVariants.{Lit, Src, Fun, Cat, Sub}
 use Rattle.rope_node.specs.Table.{Table, view_at, len_at, IsSound, HasTrueRecords}
-use Rattle.span_descent.specs.declared.span.Span.{Span}
+use Rattle.rope_node.specs.declared.node.Span.{Span}
 use Rattle.span_descent.specs.Leads.{Leads, here, in_left, in_right, in_base}
 use Rattle.span_descent.specs.Descents.{OnlyAbove}
-use Rattle.span_descent.specs.Steps.{IsReached, IsBelow, cat_span, child_span}
-use Rattle.span_descent.proofs.Descents.{children_of_cat, base_of_sub}
-use Rattle.span_descent.proofs.FirstLeaves.{span_in_left, span_in_right}
+use Rattle.span_descent.specs.Steps.{IsReached, IsBelow}
+use Rattle.rope_node.specs.Steps.{cat_span, child_span}
+use Rattle.rope_node.proofs.Children.{children_of_cat, base_of_sub}
+use Rattle.rope_node.proofs.Children.{span_in_left, span_in_right}
 use Rattle.span_descent.proofs.Steps.{leads_shorter}
 use Rattle.span_descent.proofs.OnePlace.{after_cat_to, after_sub_to}
 

@@ -50,16 +50,3 @@ at_leaf (here e f) leaf = (e, f)
 at_leaf {t} {n} {k} {o} {x} (in_left l r e fits lead) leaf = absurd (not_leaf_cat (view_at t x) l r e leaf)
 at_leaf {t} {n} {k} {o} {x} (in_right l r e past lead) leaf = absurd (not_leaf_cat (view_at t x) l r e leaf)
 at_leaf {t} {n} {k} {o} {x} (in_base b i e lead) leaf = absurd (not_leaf_sub (view_at t x) b i e leaf)
-
--- what is known of a concatenation, and of a substring, in a sound table with true records
-pub children_of_cat : (t : Table) → IsSound t → HasTrueRecords t → (x : ℕ) → x < length t.nodes → (l r : NodeId) → view_at t x ≡ Cat l r → (l.0 < x) × (r.0 < x) × (len_at t x ≡ len_at t l.0 + len_at t r.0)
-children_of_cat t s h x inside l r e =
-    let children = rw e at (s.nodes x inside).references in
-    let len = rw e at (h.nodes x inside).len in
-    (children.0, children.1, len)
-
-pub base_of_sub : (t : Table) → IsSound t → (x : ℕ) → x < length t.nodes → (b : NodeId) (i : ℕ) → view_at t x ≡ Sub b i → (b.0 < x) × (i + len_at t x ≤ len_at t b.0)
-base_of_sub t s x inside b i e =
-    let base = rw e at (s.nodes x inside).references in
-    let held = rw e at (s.nodes x inside).span in
-    (base, held)

@@ -4,7 +4,6 @@ pub mod Describing
 pub mod Depths
 pub mod OnePlace
 pub mod Steps
-pub mod FirstLeaves
 pub mod Cuts
 pub mod Stands
 pub mod Stops

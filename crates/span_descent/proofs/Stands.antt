@@ -5,37 +5,25 @@ use Rattle.rope_node.specs.declared.node.NodeView.{NodeView}
 use Rattle.rope_node.specs.declared.node.NodeView.TheVariants.{Lit, Src, Fun, Cat, Sub}
 use Rattle.rope_node.specs.Table.{Table, view_at, len_at, IsLeaf, IsSound, HasTrueRecords}
 use Rattle.span_descent.specs.declared.descent.SpanPlace.{SpanPlace}
-use Rattle.span_descent.specs.declared.span.Span.{Span}
-use Rattle.span_descent.specs.Descents.{IsLeafOf, LeadsToSpan, IsStand, IsBorder, OnlyAbove}
+use Rattle.rope_node.specs.declared.node.Span.{Span}
+use Rattle.span_descent.specs.Descents.{IsLeafOf, LeadsToSpan, IsStand, OnlyAbove}
+use Rattle.rope_node.specs.Steps.{IsBorder, IsSpan, cat_span, child_span}
 use Rattle.span_descent.specs.Leads.{Leads, here, LeadsToLeaf}
-use Rattle.span_descent.specs.Steps.{IsSpan, IsBelow, cat_span, child_span}
+use Rattle.span_descent.specs.Steps.{IsBelow}
 use Rattle.span_descent.proofs.Descents.{after_cat, at_leaf}
-use Rattle.span_descent.proofs.FirstLeaves.{first_of_child, first_of_leaf, span_in_left, span_in_right}
+use Rattle.rope_node.proofs.FirstLeaves.{first_of_child, first_of_leaf}
+use Rattle.rope_node.proofs.Children.{span_in_left, span_in_right}
 use Rattle.span_descent.proofs.Cuts.{cut_through, leads_on}
-use Rattle.span_descent.proofs.Steps.{below_base, below_left, below_right, leads_through, reached_itself, reached_through}
+use Rattle.span_descent.proofs.Steps.{child_below, leads_through, reached_itself, reached_through}
 use Rattle.span_descent.proofs.OnePlace.{after_cat_to, after_sub_to, at_leaf_to}
 
 pub stand_begins : (t : Table) (x : Span) → IsSpan t x → IsStand t x x
 stand_begins t x is = record { reached = reached_itself t x is; first = refl; cut = λ short. absurd (omega (arith, short)) }
 
 module _ (t : Table) (s : IsSound t) (h : HasTrueRecords t) where
-  pub child_below : (x z : Span) (v : NodeView) → IsSpan t x → v ≡ view_at t x.node.0 → Some z ≡ child_span t x v → IsBelow t x z
-  child_below x z (Lit a) is e child = absurd cc
-  child_below x z (Src r a) is e child = absurd cc
-  child_below x z Fun is e child = absurd cc
-  child_below x z (Cat l r) is e child =
-      let found : z ≡ cat_span t x l r = cc in
-      elim (cases_lt x.start (len_at t l.0)) [
-        | inl before ↦ subst (IsBelow t x) (sym (found ∙ span_in_left t x l r before)) (below_left t s h x l r is (sym e) before)
-        | inr past ↦ subst (IsBelow t x) (sym (found ∙ span_in_right t x l r past)) (below_right t s h x l r is (sym e) past)
-      ]
-  child_below x z (Sub b i) is e child =
-      let found : z ≡ record { node = b; start = x.start + i; len = x.len } = cc in
-      subst (IsBelow t x) (sym found) (below_base t s h x b i is (sym e))
-
   pub stand_goes : (x y z : Span) (v : NodeView) → IsSpan t x → IsStand t x y → v ≡ view_at t y.node.0 → Some z ≡ child_span t y v → IsStand t x z
   stand_goes x y z v is stands e child =
-      let below = child_below y z v stands.reached.is_span e child in
+      let below = child_below t s h y z v stands.reached.is_span e child in
       record {
         reached = reached_through t x y z stands.reached below.reached;
         first = first_of_child t s h y z v stands.reached.is_span (sym e) child ∙ stands.first;

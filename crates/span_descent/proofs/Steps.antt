@@ -1,13 +1,14 @@
 -- Leads of shorter spans and leads one behind the other, and what a step down keeps.
-use Rattle.std.proofs.Common.{◌≡◌, ℕ, ◌+◌, ◌-◌, ◌<◌, ◌≤◌, min, refl, arith}
-use Rattle.rope_node.specs.declared.node.NodeId.{NodeId}
-use Rattle.rope_node.specs.declared.node.NodeView.TheVariants.{Cat, Sub}
+use Rattle.std.proofs.Common.{◌≡◌, ℕ, ◌+◌, ◌-◌, ◌≤◌, min, Some, inl, inr, refl, sym, ◌∙◌, arith}
+use Rattle.std.proofs.lemmas.Bool.{cases_lt}
+use Rattle.rope_node.specs.declared.node.NodeView.{NodeView}
+use Rattle.rope_node.specs.declared.node.NodeView.TheVariants.{Lit, Src, Fun, Cat, Sub}
+use Rattle.rope_node.specs.declared.node.Span.{Span}
 use Rattle.rope_node.specs.Table.{Table, view_at, len_at, IsSound, HasTrueRecords}
-use Rattle.span_descent.specs.declared.span.Span.{Span}
+use Rattle.rope_node.specs.Steps.{IsSpan, cat_span, child_span}
+use Rattle.rope_node.proofs.Children.{child_cells, span_in_left, span_in_right}
 use Rattle.span_descent.specs.Leads.{Leads, here, in_left, in_right, in_base}
-use Rattle.span_descent.specs.Steps.{IsSpan, IsReached, IsBelow}
-use Rattle.span_descent.proofs.Depths.{depths_of_cat, depth_of_base}
-use Rattle.span_descent.proofs.Descents.{children_of_cat, base_of_sub}
+use Rattle.span_descent.specs.Steps.{IsReached, IsBelow}
 
 -- what a span leads to, its first bytes lead to
 pub leads_shorter : {t : Table} {n m k o x p : ℕ} → m ≤ n → Leads t n k o x p → Leads t m k o x p
@@ -40,44 +41,22 @@ reached_shorter t x y n some le a = record {
   leads = leads_shorter le a.leads;
 }
 
-pub below_left : (t : Table) → IsSound t → HasTrueRecords t → (x : Span) (l r : NodeId) → IsSpan t x → view_at t x.node.0 ≡ Cat l r → x.start < len_at t l.0
-    → IsBelow t x (record { node = l; start = x.start; len = min x.len (len_at t l.0 - x.start) })
-below_left t s h x l r is e before =
-    let c = children_of_cat t s h x.node.0 is.there l r e in
-    record {
-      lower = c.0;
-      shallower = (depths_of_cat t h x.node.0 is.there l r e).0;
-      reached = record {
-        few = omega arith;
-        is_span = record { there = omega (arith, c.0, is.there); some = omega (arith, is.some); inside = omega arith };
-        leads = in_left l r e (omega arith) (here refl refl);
-      };
-    }
+-- a span leads to its child's
+child_leads : (t : Table) (x z : Span) (v : NodeView) → v ≡ view_at t x.node.0 → Some z ≡ child_span t x v → Leads t z.len z.node.0 z.start x.node.0 x.start
+child_leads t x z (Lit a) e child = absurd cc
+child_leads t x z (Src r a) e child = absurd cc
+child_leads t x z Fun e child = absurd cc
+child_leads t x z (Cat l r) e child =
+    let found : z ≡ cat_span t x l r = cc in
+    elim (cases_lt x.start (len_at t l.0)) [
+      | inl before ↦ rw (found ∙ span_in_left t x l r before) (in_left {p = x.start} l r (sym e) (omega arith) (here refl refl))
+      | inr past ↦ rw (found ∙ span_in_right t x l r past) (in_right {p = x.start} l r (sym e) past (here refl refl))
+    ]
+child_leads t x z (Sub b i) e child =
+    let found : z ≡ record { node = b; start = x.start + i; len = x.len } = cc in
+    rw found (in_base {p = x.start} b i (sym e) (here refl refl))
 
-pub below_right : (t : Table) → IsSound t → HasTrueRecords t → (x : Span) (l r : NodeId) → IsSpan t x → view_at t x.node.0 ≡ Cat l r → len_at t l.0 ≤ x.start
-    → IsBelow t x (record { node = r; start = x.start - len_at t l.0; len = x.len })
-below_right t s h x l r is e past =
-    let c = children_of_cat t s h x.node.0 is.there l r e in
-    record {
-      lower = c.1;
-      shallower = (depths_of_cat t h x.node.0 is.there l r e).1;
-      reached = record {
-        few = omega arith;
-        is_span = record { there = omega (arith, c.1, is.there); some = is.some; inside = omega (arith, c.2, is.inside) };
-        leads = in_right l r e past (here refl refl);
-      };
-    }
-
-pub below_base : (t : Table) → IsSound t → HasTrueRecords t → (x : Span) (b : NodeId) (i : ℕ) → IsSpan t x → view_at t x.node.0 ≡ Sub b i
-    → IsBelow t x (record { node = b; start = x.start + i; len = x.len })
-below_base t s h x b i is e =
-    let base = base_of_sub t s x.node.0 is.there b i e in
-    record {
-      lower = base.0;
-      shallower = depth_of_base t h x.node.0 is.there b i e;
-      reached = record {
-        few = omega arith;
-        is_span = record { there = omega (arith, base.0, is.there); some = is.some; inside = omega (arith, base.1, is.inside) };
-        leads = in_base b i e (here refl refl);
-      };
-    }
+pub child_below : (t : Table) → IsSound t → HasTrueRecords t → (x z : Span) (v : NodeView) → IsSpan t x → v ≡ view_at t x.node.0 → Some z ≡ child_span t x v → IsBelow t x z
+child_below t s h x z v is e child =
+    let cells = child_cells t s h x z v is e child in
+    record { lower = cells.lower; shallower = cells.shallower; reached = record { few = cells.few; is_span = cells.is_span; leads = child_leads t x z v e child } }

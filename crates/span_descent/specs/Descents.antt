@@ -1,18 +1,16 @@
 -- Where a way down stands, where a step of it leads, and what descents hand on: a leaf span, with what its leaf is.
 use Rattle.std.specs.Prelude.{◌≡◌, ℕ, ◌+◌, ◌<◌, ◌≤◌, length, Some}
-use Rattle.rope_node.specs.Table.{Table, view_at, len_at, IsLeaf}
-use Rattle.rope_node.specs.Path.{span_at, shortened}
-use Rattle.rope_node.specs.declared.node.LeafSpan.{LeafSpan}
 use Rattle.rope_node.specs.declared.node.NodeId.{NodeId}
 use Rattle.rope_node.specs.declared.node.NodeView.{NodeView}
-use Rattle.rope_node.specs.declared.node.NodeView.TheVariants.{Cat}
+use Rattle.rope_node.specs.declared.node.Span.{Span}
+use Rattle.rope_node.specs.Table.{Table, view_at, len_at, IsLeaf}
+use Rattle.rope_node.specs.Steps.{child_span, first_of, as_leaf_span, IsBorder}
 use Rattle.span_descent.specs.declared.descent.SpanPlace.{SpanPlace}
-use Rattle.span_descent.specs.declared.span.Span.{Span}
-use Rattle.span_descent.specs.declared.span.Reached.{Reached}
+use Rattle.span_descent.specs.declared.descent.Reached.{Reached}
 use Rattle.span_descent.specs.declared.way.Descent.{Descent}
 use Rattle.span_descent.specs.declared.way.Descent.TheVariants.{Below, Leaf, Border}
 use Rattle.span_descent.specs.Leads.{Leads, LeadsToLeaf}
-use Rattle.span_descent.specs.Steps.{IsReached, child_span}
+use Rattle.span_descent.specs.Steps.{IsReached}
 
 -- n bytes from its start on lie in the leaf
 pub record IsSpanPlace (t : Table) (n : ℕ) (s : SpanPlace) : Type 0 where
@@ -23,14 +21,6 @@ pub record IsSpanPlace (t : Table) (n : ℕ) (s : SpanPlace) : Type 0 where
 pub record LeadsToSpan (t : Table) (n x p : ℕ) (s : SpanPlace) : Type 0 where
   pub leads : LeadsToLeaf t n s.leaf.0 s.start x p
   pub view : s.view ≡ view_at t s.leaf.0
-
--- the span of the leaf that span x begins with, as far as the path to it and x go
-abbrev pub first_of : Table → Span → LeafSpan
-first_of t x = shortened x.len (span_at t x.node.0 x.start)
-
--- a span of a leaf, by its leaf
-abbrev pub as_leaf_span : Span → LeafSpan
-as_leaf_span x = record { leaf = x.node; start = x.start; len = x.len }
 
 -- the first bytes of span x lead to this leaf span, as many of them as lie in it
 pub record IsLeafOf (t : Table) (x : Span) (z : Reached) : Type 0 where
@@ -55,14 +45,6 @@ pub record IsStandAt (t : Table) (x y z : Span) : Type 0 where
   pub stands : IsStand t x z
   pub node : z.node ≡ y.node
   pub start : z.start ≡ y.start
-
--- the first n bytes of a span of a concatenation begin in its left child and end in the right one
-pub record IsBorder (t : Table) (x : Span) (view : NodeView) (n : ℕ) : Type 0 where
-  pub l : NodeId
-  pub r : NodeId
-  pub is_cat : view ≡ Cat l r
-  pub before : x.start < len_at t l.0
-  pub past : len_at t l.0 < x.start + n
 
 -- what a step down from a span of a node leads to: the span of the child that holds its first bytes, where those are n
 -- or more; or why there is none

@@ -3,15 +3,21 @@
 ghost use Rattle.std.specs.Prelude.{◌≡◌, ◌↔◌, ◌+◌, ◌≤◌, Some, IfSome, IsTrue};
 ghost use Rattle.span_descent.specs.Descents.{IsLeafOf, IsSpanPlace, LeadsToSpan};
 ghost use Rattle.span_descent.specs.Leads.{Leads};
-ghost use Rattle.span_descent.specs.Steps.{IsSpan};
+ghost use Rattle.rope_node.specs.Steps.{IsSpan};
 ghost use Rattle.span_descent.specs.Trails.{IsWayOf};
 ghost use Rattle.span_descent.specs.declared.descent.SpanPlace.{SpanPlace};
 
 use crate::counted::{Count, CountedSpace};
-use crate::span::{Reached, Span};
 use crate::way::{Descent, Way};
-use rope_node::{NodeId, NodeView};
+use rope_node::{NodeId, NodeView, Span};
 use std::sync::ledger::Ledger;
+
+/// A leaf span that is the first bytes of another span, and what its leaf is.
+#[derive(Clone, Copy, Debug, PartialEq, Eq)]
+pub struct Reached {
+    pub span: Span,
+    pub view: NodeView,
+}
 
 /// Where a span lies in a leaf.
 #[derive(Clone, Copy, Debug, PartialEq, Eq)]

@@ -3,9 +3,8 @@
 ghost use Rattle.std.specs.Prelude.{⊤};
 
 use crate::counted::CountedSpace;
-use crate::span::Span;
 use crate::way::{Descent, Way};
-use rope_node::NodeView;
+use rope_node::{NodeView, Span, StepDown};
 use std::sync::ledger::Ledger;
 
 /// Each way begins at its root, and nothing is kept of it. For shallow ropes that costs less.
@@ -54,31 +53,10 @@ impl Way for FromRoot {
         view: NodeView,
         least: u64,
     ) -> Descent<Span> {
-        match view {
-            NodeView::Cat { l, r } => {
-                let left = space.left_length(here.node, l);
-                if left <= here.start {
-                    Descent::Below(Span {
-                        node: r,
-                        start: here.start - left,
-                        len: here.len,
-                    })
-                } else if least <= left - here.start {
-                    Descent::Below(Span {
-                        node: l,
-                        start: here.start,
-                        len: here.len.min(left - here.start),
-                    })
-                } else {
-                    Descent::Border
-                }
-            }
-            NodeView::Sub { b, i } => Descent::Below(Span {
-                node: b,
-                start: here.start + i,
-                len: here.len,
-            }),
-            NodeView::Lit { .. } | NodeView::Src { .. } | NodeView::Fun => Descent::Leaf,
+        match space.step_down(here, view, least) {
+            StepDown::Below(below) => Descent::Below(below),
+            StepDown::Leaf => Descent::Leaf,
+            StepDown::Across(..) => Descent::Border,
         }
     }
 

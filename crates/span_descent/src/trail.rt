@@ -5,10 +5,9 @@ ghost use Rattle.std.specs.Prelude.{◌≡◌, length};
 ghost use Rattle.span_descent.specs.declared.stop.TheConstants.{MOST_STOPS};
 
 use crate::counted::CountedSpace;
-use crate::span::Span;
 use crate::stop::{MOST_STOPS, NO_STOP, Stop};
 use crate::way::{Descent, Way};
-use rope_node::{NodeId, NodeView};
+use rope_node::{NodeId, NodeView, Span, StepDown};
 use std::sync::ledger::Ledger;
 
 /// How many of the last stops are looked at one by one.
@@ -26,7 +25,7 @@ impl Trail {
     ghost use Rattle.std.specs.Prelude.{◌≡◌, ◌<◌, ◌≤◌, ◌⊎◌, IfSome, length};
     ghost use Rattle.rope_node.specs.Table.{Table, view_at, IsSound, HasTrueRecords};
     ghost use Rattle.span_descent.specs.Descents.{GoesDownTo};
-    ghost use Rattle.span_descent.specs.Steps.{IsSpan};
+    ghost use Rattle.rope_node.specs.Steps.{IsSpan};
     ghost use Rattle.span_descent.specs.Trails.{FollowsLast, IsFound, IsLastStop, IsStopOf, IsTrail, IsTrailOf, StopHolds, first_stop, stop_span};
 
     /// A trail of no rope.
@@ -108,20 +107,10 @@ impl Trail {
         ensures goes { GoesDownTo (stop_span x) (S.table space.now) (stop_span x stop) view least result }
         ensures behind { FollowsLast (S.table space.now) x self.now result }
     {
-        match view {
-            NodeView::Cat { l, r } => {
-                let start = stop.place_in(x.start);
-                let left = space.left_length(stop.node, l);
-                if left <= start {
-                    Descent::Below(stop.in_right(r, left))
-                } else if least <= left - start {
-                    Descent::Below(stop.in_left(l, left))
-                } else {
-                    Descent::Border
-                }
-            }
-            NodeView::Sub { b, i } => Descent::Below(stop.in_base(b, i)),
-            NodeView::Lit { .. } | NodeView::Src { .. } | NodeView::Fun => Descent::Leaf,
+        match space.step_down(stop.rest(x.start), view, least) {
+            StepDown::Below(below) => Descent::Below(stop.child(x.start, below)),
+            StepDown::Leaf => Descent::Leaf,
+            StepDown::Across(..) => Descent::Border,
         }
     }
 

@@ -2,8 +2,7 @@
 
 use crate::counted::CountedSpace;
 use crate::from_root::FromRoot;
-use crate::span::Span;
-use rope_node::NodeView;
+use rope_node::{NodeView, Span};
 use std::sync::ledger::Ledger;
 
 /// Where a step down leads.
@@ -22,9 +21,9 @@ pub trait Way {
     ghost use Rattle.std.specs.Prelude.{◌≡◌, ◌≤◌, ◌⊎◌, IfSome};
     ghost use Rattle.rope_node.specs.Table.{Table, view_at};
     ghost use Rattle.span_descent.specs.Descents.{IsStandAt, GoesDownTo, stop_after};
-    ghost use Rattle.span_descent.specs.Steps.{IsSpan};
+    ghost use Rattle.rope_node.specs.Steps.{IsSpan};
     ghost use Rattle.span_descent.specs.Trails.{IsOnWay, IsWayOf};
-    ghost use Rattle.span_descent.specs.declared.span.Span.{Span};
+    ghost use Rattle.rope_node.specs.declared.node.Span.{Span};
 
     /// A node on the way.
     type Here: Copy;

@@ -5,12 +5,13 @@ ghost use Rattle.std.specs.Prelude.{◌≡◌, ◌<◌, ◌≤◌, ◌+◌, ◌-
 ghost use Rattle.rope_node.specs.declared.node.NodeView.TheVariants.{Src};
 ghost use Rattle.rope_node.specs.Table.{len_at, view_at};
 ghost use Rattle.rope_node.specs.Denotes.{IsRope, cell_at, rope_len};
+ghost use Rattle.rope_node.specs.Steps.{IsSpan};
 ghost use Rattle.cord_position.specs.Fetched.{ReadsSpan, rope_cell};
 ghost use Rattle.text_lines.specs.Blocks.{block_at};
 
 use cord_position::fill_part;
 use lazy_file::{BLOCK_SIZE, SourceFault, Sources};
-use rope_node::{NodeId, NodeSpace, NodeView, Rope, rope_len};
+use rope_node::{NodeId, NodeSpace, NodeView, Rope, Span, StepDown, rope_len, step_down};
 
 /// A block of a source.
 #[derive(Clone, Copy, Debug, PartialEq, Eq)]
@@ -86,37 +87,31 @@ fn ask_leaf<S: NodeSpace, T: Sources>(
     Ok(())
 }
 
-/// Asks for the blocks of the `len` bytes of a node from `start` on, leaf by leaf. It goes down by calls of itself.
-fn ask_node<S: NodeSpace, T: Sources>(
+/// Asks for the blocks of a span's bytes, leaf by leaf. It goes down by calls of itself.
+fn ask_span<S: NodeSpace, T: Sources>(
     space: &S,
     sources: &mut T,
-    node: NodeId,
-    start: u64,
-    len: u64,
+    span: Span,
     last: &mut Option<Block>,
 ) -> Result<(), SourceFault>
-    requires there { node.0 < length (S.table space.now).nodes }
-    requires some { 1 ≤ len }
-    requires inside { start + len ≤ len_at (S.table space.now) node.0 }
+    requires { IsSpan (S.table space.now) span }
     ensures reads { ReadsSpan (T.reading sources.old) (T.reading sources.new)
-        (cell_at (S.table space.now) node.0) start (start + len) result }
+        (cell_at (S.table space.now) span.node.0) span.start (span.start + span.len) result }
 {
-    match space.node(node) {
-        NodeView::Cat { l, r } => {
-            let left = space.left_len(node, l);
-            if start >= left {
-                return ask_node(space, sources, r, start - left, len, last);
-            }
-            if len <= left - start {
-                return ask_node(space, sources, l, start, len, last);
-            }
-            let cut = left - start;
-            ask_node(space, sources, l, start, cut, last)?;
-            ask_node(space, sources, r, 0, len - cut, last)
+    let view = space.node(span.node);
+    match step_down(space, span, view, span.len) {
+        StepDown::Below(below) => ask_span(space, sources, below, last),
+        StepDown::Across(first, others) => {
+            ask_span(space, sources, first, last)?;
+            ask_span(space, sources, others, last)
         }
-        NodeView::Sub { b, i } => ask_node(space, sources, b, i + start, len, last),
-        NodeView::Src { s, a } => ask_leaf(space, sources, node, s, a, start, len, last),
-        NodeView::Lit { .. } | NodeView::Fun => Ok(()),
+        StepDown::Leaf => match view {
+            NodeView::Src { s, a } => {
+                ask_leaf(space, sources, span.node, s, a, span.start, span.len, last)
+            }
+            NodeView::Lit { .. } | NodeView::Fun => Ok(()),
+            NodeView::Cat { .. } | NodeView::Sub { .. } => unreachable!(),
+        },
     }
 }
 
@@ -142,7 +137,8 @@ pub fn ask_part<S: NodeSpace, T: Sources>(
     let _len = rope_len(space, rope);
     match rope {
         Some(node) if start < end => {
-            ask_node(space, sources, node, start, end - start, &mut None)
+            let len = end - start;
+            ask_span(space, sources, Span { node, start, len }, &mut None)
         }
         _ => Ok(()),
     }

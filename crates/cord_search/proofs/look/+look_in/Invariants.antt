@@ -1,4 +1,4 @@
 use Rattle.cord_search.proofs.look.+look_in.Given as goal
 
 abbrev pub decreases-look_in : goal.decreases-look_in
-decreases-look_in g l = l.node.0
+decreases-look_in g l = l.span.node.0

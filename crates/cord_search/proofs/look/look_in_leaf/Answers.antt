@@ -7,7 +7,7 @@ use Rattle.rope_node.specs.Denotes.{cell_at, cells}
 use Rattle.cord_position.specs.Fetched.{leaf_part}
 use Rattle.cord_position.specs.Runs.{AreBytesOf}
 use Rattle.cord_position.proofs.Spans.{failed_in}
-use Rattle.cord_search.specs.Seeking.{SameCells}
+use Rattle.rope_node.specs.Steps.{SameCells}
 use Rattle.cord_search.proofs.Looks.{period_there, piece_in_leaf}
 use Rattle.cord_search.proofs.look.look_in_leaf.Goals as goal
 

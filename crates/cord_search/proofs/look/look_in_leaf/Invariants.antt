@@ -1,6 +1,7 @@
 use Rattle.std.proofs.Common.{◌≡◌, ◌+◌, ◌-◌, ◌≤◌, ℕ, Some}
 use Rattle.rope_node.specs.declared.node.NodeId.{NodeId}
-use Rattle.cord_search.specs.Seeking.{IsSeeker, IsSeeking, SameCells}
+use Rattle.cord_search.specs.Seeking.{IsSeeker, IsSeeking}
+use Rattle.rope_node.specs.Steps.{SameCells}
 use Rattle.cord_search.proofs.look.look_in_leaf.Given as goal
 
 -- the sources are as they were, and no read of them has failed

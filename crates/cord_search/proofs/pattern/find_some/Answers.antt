@@ -5,7 +5,8 @@ use Rattle.rope_node.specs.declared.node.NodeId.{NodeId}
 use Rattle.rope_node.specs.Denotes.{cell_at, cells, rope_cells, rope_len}
 use Rattle.cord_position.specs.Fetched.{ReadsSpan, rope_cell}
 use Rattle.cord_position.proofs.Spans.{failed_in}
-use Rattle.cord_search.specs.Seeking.{IsSought, SameCells}
+use Rattle.cord_search.specs.Seeking.{IsSought}
+use Rattle.rope_node.specs.Steps.{SameCells}
 use Rattle.cord_search.specs.Stated.{FindsFirst}
 use Rattle.cord_search.proofs.Looks.{same_itself, seeking_begun}
 use Rattle.cord_search.proofs.Seeks.{sought_first, sought_inside}

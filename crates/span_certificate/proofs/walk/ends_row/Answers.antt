@@ -1,6 +1,5 @@
-use Rattle.span_descent.specs.declared.span.Span.{Span}
-use Rattle.span_certificate.proofs.RowEnds.{leaves_end}
-use Rattle.span_certificate.proofs.RowEnds.{both_stand}
+use Rattle.rope_node.specs.declared.node.Span.{Span}
+use Rattle.span_certificate.proofs.RowEnds.{leaves_end, both_stand}
 use Rattle.span_certificate.proofs.Walks.{reached_same, row_through}
 use Rattle.span_certificate.proofs.walk.ends_row.Goals as goal
 

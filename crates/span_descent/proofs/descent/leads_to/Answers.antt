@@ -1,6 +1,7 @@
 use Rattle.std.proofs.Common.{◌≡◌, refl, arith, inl, inr}
 use Rattle.rope_node.specs.Table.{view_at}
-use Rattle.span_descent.proofs.Stands.{leads_below, leads_from, leads_here, leads_nowhere, child_below}
+use Rattle.span_descent.proofs.Stands.{leads_below, leads_from, leads_here, leads_nowhere}
+use Rattle.span_descent.proofs.Steps.{child_below}
 use Rattle.span_descent.proofs.OnePlace.{away_of}
 use Rattle.span_descent.proofs.descent.leads_to.Goals as goal
 

@@ -1,23 +1,15 @@
 -- The leaf span that a span begins with is the one that its child span begins with.
-use Rattle.std.proofs.Common.{◌≡◌, ℕ, ◌+◌, ◌-◌, ◌<◌, ◌≤◌, min, Some, refl, sym, ap, ◌∙◌, arith, inl, inr}
+use Rattle.std.proofs.Common.{◌≡◌, ℕ, ◌+◌, ◌-◌, ◌<◌, ◌≤◌, min, Some, sym, ap, ◌∙◌, arith, inl, inr}
 use Rattle.std.proofs.lemmas.Bool.{cases_lt, lt-ltb, le-ltb}
 use Rattle.rope_node.specs.declared.node.NodeId.{NodeId}
 use Rattle.rope_node.specs.declared.node.NodeView.{NodeView}
 use Rattle.rope_node.specs.declared.node.NodeView.TheVariants.{Lit, Src, Fun, Cat, Sub}
+use Rattle.rope_node.specs.declared.node.Span.{Span}
 use Rattle.rope_node.specs.Table.{Table, view_at, len_at, IsLeaf, IsSound, HasTrueRecords}
 use Rattle.rope_node.specs.Path.{span_at, shortened, rest_of}
+use Rattle.rope_node.specs.Steps.{IsSpan, cat_span, child_span, first_of, as_leaf_span}
 use Rattle.rope_node.proofs.LeafSpans.{span_step, begins}
-use Rattle.span_descent.specs.declared.span.Span.{Span}
-use Rattle.span_descent.specs.Steps.{IsSpan, cat_span, child_span}
-use Rattle.span_descent.specs.Descents.{first_of, as_leaf_span}
-use Rattle.span_descent.proofs.Descents.{children_of_cat}
-
--- the child span of a concatenation, on either side of its border
-pub span_in_left : (t : Table) (x : Span) (l r : NodeId) → x.start < len_at t l.0 → cat_span t x l r ≡ record { node = l; start = x.start; len = min x.len (len_at t l.0 - x.start) }
-span_in_left t x l r before = rw (lt-ltb x.start (len_at t l.0) before) refl
-
-pub span_in_right : (t : Table) (x : Span) (l r : NodeId) → len_at t l.0 ≤ x.start → cat_span t x l r ≡ record { node = r; start = x.start - len_at t l.0; len = x.len }
-span_in_right t x l r past = rw (le-ltb x.start (len_at t l.0) past) refl
+use Rattle.rope_node.proofs.Children.{children_of_cat, span_in_left, span_in_right}
 
 first_of_left : (t : Table) → IsSound t → HasTrueRecords t → (x : Span) (l r : NodeId) → IsSpan t x → view_at t x.node.0 ≡ Cat l r → x.start < len_at t l.0 → first_of t (record { node = l; start = x.start; len = min x.len (len_at t l.0 - x.start) }) ≡ first_of t x
 first_of_left t s h x l r is e before =
