@@ -8,7 +8,7 @@ use crate::node::{NodeView, Span};
 use crate::space::NodeSpace;
 
 /// Where the bytes of a node lie.
-#[derive(Clone, Copy, Debug)]
+#[derive(Clone, Copy, Debug, PartialEq, Eq)]
 pub enum StepDown {
     /// In one child: these are they, or as many of the first ones as the left child of a concatenation has.
     Below(Span),

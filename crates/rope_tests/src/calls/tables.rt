@@ -5,7 +5,10 @@ use super::{assert_same, assert_same_at};
 use function_leaf::Coded;
 use leaf_buffer::Piece;
 use node_table::{NodeFault, NodeTable};
-use rope_node::{CodedSpace, MOST_NODES, MOST_SOURCES, NodeId, NodeSpace, NodeView, Rope};
+use rope_node::{
+    CodedSpace, MOST_NODES, MOST_SOURCES, NodeId, NodeSpace, NodeView, Rope, Span, StepDown,
+    step_down,
+};
 use rope_store::Store;
 use std::process::Abort;
 
@@ -63,6 +66,57 @@ fn a_concatenation_tells_the_length_of_its_left_part(rt: HostRuntime) {
         }
     }
     assert!(rt; 300 < met);
+}
+
+// The step down from a span, which has to lie in its node.
+fn step(rt: &impl Abort, store: &Store<Coded>, x: Span, least: u64) -> StepDown {
+    assert!(rt; store.has(Some(x.node)));
+    assert!(rt; 1 <= least && least <= x.len);
+    let len = store.len(Some(x.node));
+    assert!(rt; x.start < len && x.len <= len - x.start);
+    let view = store.node(x.node);
+    step_down(store, x, view, least)
+}
+
+// By hand: 30 bytes and 40 behind them, and a part of a function.
+#[test]
+fn a_step_down_leads_to_a_child_or_across_both(rt: HostRuntime) {
+    let mut store = Store::<Coded>::new(rt.alloc());
+    let s = add_source(&rt, &mut store, 100);
+    let l = source_leaf(&rt, &mut store, s, 1, 30);
+    let r = source_leaf(&rt, &mut store, s, 50, 40);
+    let text = joined(&rt, &mut store, l, r);
+    let f = function(&rt, &mut store, Coded::fill(b'x'), 100);
+    let part = substr(&rt, &mut store, f, 10, 50);
+    let of = |rope: Rope, start: u64, len: u64| Span {
+        node: rope.expect(&rt, "a node"),
+        start,
+        len,
+    };
+    let both = StepDown::Across(of(l, 20, 10), of(r, 0, 15));
+    assert_same(
+        &rt,
+        &step(&rt, &store, of(text, 20, 10), 10),
+        &StepDown::Below(of(l, 20, 10)),
+    );
+    assert_same(&rt, &step(&rt, &store, of(text, 20, 25), 25), &both);
+    assert_same(&rt, &step(&rt, &store, of(text, 20, 25), 11), &both);
+    assert_same(
+        &rt,
+        &step(&rt, &store, of(text, 20, 25), 10),
+        &StepDown::Below(of(l, 20, 10)),
+    );
+    assert_same(
+        &rt,
+        &step(&rt, &store, of(text, 30, 40), 40),
+        &StepDown::Below(of(r, 0, 40)),
+    );
+    assert_same(
+        &rt,
+        &step(&rt, &store, of(part, 7, 3), 3),
+        &StepDown::Below(of(f, 17, 3)),
+    );
+    assert_same(&rt, &step(&rt, &store, of(l, 7, 3), 3), &StepDown::Leaf);
 }
 
 /// `bc----xx`: a part of a literal, a function and a part of a source.
