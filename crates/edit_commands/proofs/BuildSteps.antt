@@ -20,7 +20,7 @@ use Rattle.rope_store.specs.Calls.{Adds, MakesFunction, MakesSource}
 use Rattle.rope_store.specs.Refusals.{IsTooDeep}
 use Rattle.rebalance.specs.declared.fault.BalanceFault.{BalanceFault}
 use Rattle.rebalance.specs.declared.fault.BalanceFault.TheVariants.{TooManyPieces, Node}
-use Rattle.rebalance.specs.AnyForms.{AnyForm, AppendsAny, CatsAny, IsPlaced, PartsAny, StandInPool, lifted, place_in_pool}
+use Rattle.rebalance.specs.AnyForms.{AnyForm, Growth, AppendsAny, CatsAny, IsPlaced, PartsAny, StandInPool, lifted, place_in_pool}
 use Rattle.rebalance.specs.Balancing.{Rebalances}
 use Rattle.rebalance.specs.Steps.{Grows}
 use Rattle.rebalance.proofs.AnyCalls.{IsRight}
@@ -44,7 +44,7 @@ fault_met (Err (Node BadSpan)) long deep bad many = absurd (bad refl)
 fault_met (Err (Node TooManySources)) long deep bad many = absurd (many refl)
 fault_met (Err (Node Memory)) long deep bad many = tt
 
-any_step : {old new : Held Coded} {a : Addition Coded} {wanted : List Cell} {IsLong : Type 0} {p q more bytes : ℕ} (result : Result (Option NodeId) BalanceFault) → ¬ IsLong → AnyForm coded_byte old a wanted IsLong p q more bytes result new
+any_step : {old new : Held Coded} {a : Addition Coded} {wanted : List Cell} {IsLong : Type 0} {most : Growth} (result : Result (Option NodeId) BalanceFault) → ¬ IsLong → AnyForm coded_byte old a wanted IsLong most result new
     → Builds old wanted result new
 any_step result short any = record {
   is_rope = any.gives.is_rope;

@@ -20,7 +20,7 @@ use Rattle.rope_node.proofs.Cells.{cells_length}
 use Rattle.rope_store.proofs.PartTexts.{no_part, take_least}
 use Rattle.rope_store.proofs.CallSizes.{joined_few, joined_shallow, part_few, sized_append}
 use Rattle.leaf_buffer.proofs.Appending.{appended_bytes}
-use Rattle.rebalance.specs.AnyForms.{AnyForm, Anew, AppendsAny, IsLowest, IsPlaced, IsPut, LiesLower, StandInPool, place_in_pool, PartsAny, lifted}
+use Rattle.rebalance.specs.AnyForms.{AnyForm, Anew, AppendsAny, IsLowest, IsPlaced, IsPut, LiesLower, StandInPool, place_in_pool, PartsAny, lifted, append_growth, cat_growth, part_growth}
 use Rattle.rebalance.specs.declared.fault.BalanceFault.{BalanceFault}
 use Rattle.rebalance.specs.declared.pieces.Span.{Span}
 use Rattle.rebalance.specs.Balancing.{Rebuilds}
@@ -51,7 +51,7 @@ all_rebuilt meaning old new keep node n result s h there all built =
 pub cat_called : {F : Type 0} (meaning : F → ℕ → ℕ) (old one two new : Held F) (l r left right : Option NodeId) (plain : Result (Option NodeId) NodeFault) → IsRight F meaning old → IsRight F meaning one → IsRight F meaning two → IsRope (table_of meaning old) l → IsRope (table_of meaning old) r
     → rope_len (table_of meaning old) l + rope_len (table_of meaning old) r < 2 ^ 40 → Rebuilds meaning old (rope_cells (table_of meaning old) l) (kept_pieces (table_of meaning old) l) (Ok left) one → Rebuilds meaning one (rope_cells (table_of meaning one) r) (kept_pieces (table_of meaning one) r) (Ok right) two
     → Makes meaning two (joined (table_of meaning two) left right) (rope_cells (table_of meaning two) left ++ rope_cells (table_of meaning two) right) plain new → Refuses two (joined (table_of meaning two) left right) ⊥ (2 ^ 40 ≤ rope_len (table_of meaning two) left + rope_len (table_of meaning two) right) plain
-    → Anew meaning old (rope_cells (table_of meaning old) l ++ rope_cells (table_of meaning old) r) (kept_pieces (table_of meaning old) l) (kept_pieces (table_of meaning old) r) 2 31 (lifted plain) new
+    → Anew meaning old (rope_cells (table_of meaning old) l ++ rope_cells (table_of meaning old) r) (cat_growth (table_of meaning old) l r) (lifted plain) new
 cat_called {F = F} meaning old one two new l r left right plain k0 k1 k2 left_there right_there short first second made refuses =
     let t0 = table_of meaning old in
     let t1 = table_of meaning one in
@@ -150,20 +150,20 @@ part_none {F = F} meaning old new x i n plain there none made refuses =
     let m = part_count t x i n in
     let nothing_there : (node : NodeId) → x ≡ Some node → min m (len_at t node.0 - i) ≡ 0 = none_there t x i n none in
     let shallow : ¬ IsTooDeep {F = F} (part_added t x i m) = no_bytes_shallow F t x i m nothing_there in
-    let any : AnyForm meaning old (part_added t x i n) (take n (drop i (rope_cells t x))) ⊥ (part_pieces t x i n) 0 1 0 (lifted plain) new =
+    let any : AnyForm meaning old (part_added t x i n) (take n (drop i (rope_cells t x))) ⊥ (part_growth (part_pieces t x i n)) (lifted plain) new =
     any_plain meaning old new (part_added t x i n) (take n (drop i (rope_cells t x))) ⊥ (part_pieces t x i n) 0 1 0 plain (part_few t x i n) made refuses (λ e. no_bytes_shallow F t x i n none (refuses.too_deep.0 e).2) in
     record {
       inner = x;
       start = i;
       is_lowest = none_is_lowest t x i m there nothing_there;
-      any = subst (λ (a : Addition F). AnyForm meaning old a (take n (drop i (rope_cells t x))) ⊥ (part_pieces t x i n) 0 1 0 (lifted plain) new) (sym (added_alike F t x i n)) any;
+      any = subst (λ (a : Addition F). AnyForm meaning old a (take n (drop i (rope_cells t x))) ⊥ (part_growth (part_pieces t x i n)) (lifted plain) new) (sym (added_alike F t x i n)) any;
       rebuilt = λ deep. absurd (shallow deep);
     }
 
 -- what a part is, of so many bytes, cells and pieces
 record PartIs {F : Type 0} (meaning : F → ℕ → ℕ) (old : Held F) (x : Option NodeId) (i m : ℕ) (wanted : List Cell) (p : ℕ) (inner : Option NodeId) (start : ℕ) (result : Result (Option NodeId) BalanceFault) (new : Held F) : Type 0 where
   pub is_lowest : IsLowest (table_of meaning old) x i m inner start
-  pub any : AnyForm meaning old (part_added (table_of meaning old) inner start m) wanted ⊥ p 0 1 0 result new
+  pub any : AnyForm meaning old (part_added (table_of meaning old) inner start m) wanted ⊥ (part_growth p) result new
   pub rebuilt : IsTooDeep (part_added {F = F} (table_of meaning old) inner start m) → Rebuilds meaning old wanted p result new
 
 -- no more bytes than there are
@@ -182,7 +182,7 @@ part_more {F = F} meaning old new node i n m result s h there least part =
 
 -- a part of bytes that are all there
 part_is : {F : Type 0} (meaning : F → ℕ → ℕ) (old new : Held F) (node : NodeId) (i n : ℕ) (inner : Option NodeId) (start : ℕ) (result : Result (Option NodeId) BalanceFault) → i + n ≤ len_at (table_of meaning old) node.0 → IsLowest (table_of meaning old) (Some node) i (part_count (table_of meaning old) (Some node) i n) inner start
-    → AnyForm meaning old (part_added (table_of meaning old) inner start n) (take n (drop i (cells (table_of meaning old) node.0))) ⊥ (part_pieces (table_of meaning old) (Some node) i n) 0 1 0 result new
+    → AnyForm meaning old (part_added (table_of meaning old) inner start n) (take n (drop i (cells (table_of meaning old) node.0))) ⊥ (part_growth (part_pieces (table_of meaning old) (Some node) i n)) result new
     → (IsTooDeep {F = F} (part_added (table_of meaning old) inner start n) → Rebuilds meaning old (take n (drop i (cells (table_of meaning old) node.0))) (part_pieces (table_of meaning old) (Some node) i n) result new)
     → PartsAny meaning old (Some node) i n result new
 part_is {F = F} meaning old new node i n inner start result fits lowest any rebuilt =
@@ -192,7 +192,7 @@ part_is {F = F} meaning old new node i n inner start result fits lowest any rebu
       inner = inner;
       start = start;
       is_lowest = lowest;
-      any = subst (λ (k : ℕ). AnyForm meaning old (part_added t inner start k) (take n (drop i (cells t node.0))) ⊥ (part_pieces t (Some node) i n) 0 1 0 result new) same any;
+      any = subst (λ (k : ℕ). AnyForm meaning old (part_added t inner start k) (take n (drop i (cells t node.0))) ⊥ (part_growth (part_pieces t (Some node) i n)) result new) same any;
       rebuilt = subst (λ (k : ℕ). IsTooDeep {F = F} (part_added t inner start k) → Rebuilds meaning old (take n (drop i (cells t node.0))) (part_pieces t (Some node) i n) result new) same rebuilt;
     }
 
@@ -287,7 +287,7 @@ append_plain meaning old new x bytes plain k there done shallow =
 
 pub append_called : {F : Type 0} (meaning : F → ℕ → ℕ) (old one new : Held F) (x rope : Option NodeId) (bytes : List ℕ) (plain : Result (Option NodeId) NodeFault) → IsRight F meaning old → IsRight F meaning one → IsRope (table_of meaning old) x → ¬ AppendsTooLong (table_of meaning old) x bytes
     → Rebuilds meaning old (rope_cells (table_of meaning old) x) (kept_pieces (table_of meaning old) x) (Ok rope) one → Appends meaning one rope bytes plain new
-    → Anew meaning old (rope_cells (table_of meaning old) x ++ map Byte bytes) (kept_pieces (table_of meaning old) x) 0 3 (length bytes + 31) (lifted plain) new
+    → Anew meaning old (rope_cells (table_of meaning old) x ++ map Byte bytes) (append_growth (table_of meaning old) x (length bytes)) (lifted plain) new
 append_called {F = F} meaning old one new x rope bytes plain k0 k1 there short first done =
     let t0 = table_of meaning old in
     let t1 = table_of meaning one in

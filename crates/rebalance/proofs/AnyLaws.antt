@@ -17,7 +17,7 @@ use Rattle.rope_store.specs.Refusals.{Refuses, IsTooDeep}
 use Rattle.rope_store.proofs.CallSizes.{IsFew}
 use Rattle.rebalance.specs.declared.fault.BalanceFault.{BalanceFault}
 use Rattle.rebalance.specs.declared.fault.BalanceFault.TheVariants.{TooManyPieces, Node}
-use Rattle.rebalance.specs.AnyForms.{AnyForm, Anew, IsAnewFault, lifted}
+use Rattle.rebalance.specs.AnyForms.{AnyForm, Anew, Growth, IsAnewFault, lifted, part_growth}
 use Rattle.rebalance.specs.Balancing.{IsNearlyBalanced, IsRoughlyBalanced, Rebuilds}
 use Rattle.rebalance.specs.Pieces.{kept_pieces}
 use Rattle.rebalance.specs.declared.pieces.TheConstants.{MOST_PIECES}
@@ -53,6 +53,9 @@ lifted_fault : {A : Type 0} (plain : Result A NodeFault) (nodes bytes : ℕ) →
 lifted_fault (Ok a) nodes bytes h = tt
 lifted_fault (Err k) nodes bytes h = h
 
+abbrev pub growth : ℕ → ℕ → ℕ → ℕ → Growth
+growth p q more bytes = record { left_pieces = p; right_pieces = q; nodes = more; bytes = bytes }
+
 -- what the plain call adds at most
 any_grows : {F : Type 0} {meaning : F → ℕ → ℕ} {old new : Held F} {a : Addition F} {wanted : List Cell} {IsLong : Type 0} (p q more bytes : ℕ) (plain : Result (Option NodeId) NodeFault) → (¬ IsLong → IsFew a more bytes) → Makes meaning old a wanted plain new → Refuses old a ⊥ IsLong plain
     → Grows meaning old (length old.nodes + (2 * p + 2 * q + more)) (length old.pool.bytes + (31 * p + 31 * q + bytes)) new
@@ -72,7 +75,7 @@ any_grows {F = F} {old = old} p q more bytes (Err e) few made refuses =
 
 -- the plain call does it
 pub any_plain_if : {F : Type 0} (meaning : F → ℕ → ℕ) (old new : Held F) (a : Addition F) (wanted : List Cell) (IsLong : Type 0) (p q more bytes : ℕ) (plain : Result (Option NodeId) NodeFault) → (¬ IsLong → IsFew a more bytes) → Makes meaning old a wanted plain new → Refuses old a ⊥ IsLong plain → ¬ IsErrOf plain TooDeep
-    → AnyForm meaning old a wanted IsLong p q more bytes (lifted plain) new
+    → AnyForm meaning old a wanted IsLong (growth p q more bytes) (lifted plain) new
 any_plain_if meaning old new a wanted IsLong p q more bytes plain few made refuses shallow = record {
   gives = record {
     is_rope = lifted_ok (λ r. IsRope (table_of meaning new) r) plain made.is_rope;
@@ -97,7 +100,7 @@ any_plain_if meaning old new a wanted IsLong p q more bytes plain few made refus
 }
 
 pub any_plain : {F : Type 0} (meaning : F → ℕ → ℕ) (old new : Held F) (a : Addition F) (wanted : List Cell) (IsLong : Type 0) (p q more bytes : ℕ) (plain : Result (Option NodeId) NodeFault) → IsFew a more bytes → Makes meaning old a wanted plain new → Refuses old a ⊥ IsLong plain → ¬ IsErrOf plain TooDeep
-    → AnyForm meaning old a wanted IsLong p q more bytes (lifted plain) new
+    → AnyForm meaning old a wanted IsLong (growth p q more bytes) (lifted plain) new
 any_plain meaning old new a wanted IsLong p q more bytes plain few made refuses shallow = any_plain_if meaning old new a wanted IsLong p q more bytes plain (λ _. few) made refuses shallow
 
 anew_fault : {A : Type 0} (result : Result A BalanceFault) (nodes bytes : ℕ) (e : BalanceFault) → IfErr result (IsAnewFault nodes bytes) → IsErrOf result e → IsAnewFault nodes bytes e
@@ -112,8 +115,8 @@ nearly_roughly t (Some id) near =
     omega (arith, up, near)
 
 -- the call does it once the ropes are balanced
-pub any_anew : {F : Type 0} (meaning : F → ℕ → ℕ) (old new : Held F) (a : Addition F) (wanted : List Cell) (IsLong : Type 0) (p q more bytes : ℕ) (result : Result (Option NodeId) BalanceFault) → ¬ IsLong → IsTooDeep a → Anew meaning old wanted p q more bytes result new
-    → AnyForm meaning old a wanted IsLong p q more bytes result new
+pub any_anew : {F : Type 0} (meaning : F → ℕ → ℕ) (old new : Held F) (a : Addition F) (wanted : List Cell) (IsLong : Type 0) (p q more bytes : ℕ) (result : Result (Option NodeId) BalanceFault) → ¬ IsLong → IsTooDeep a → Anew meaning old wanted (growth p q more bytes) result new
+    → AnyForm meaning old a wanted IsLong (growth p q more bytes) result new
 any_anew meaning old new a wanted IsLong p q more bytes result short deep anew = record {
   gives = anew.gives;
   as_plain = λ k. absurd (⊎_elim (λ shallow. shallow deep) short k);
@@ -166,7 +169,7 @@ pub few_pieces : {F : Type 0} {meaning : F → ℕ → ℕ} {old new : Held F} {
 few_pieces r many = let is = r.too_many.1 many in absurd cc
 
 -- one of them goes through too many pieces
-pub many_anew : {F : Type 0} (meaning : F → ℕ → ℕ) (old : Held F) (wanted : List Cell) (p q more bytes : ℕ) → ¬ ((p ≤ MOST_PIECES) × (q ≤ MOST_PIECES)) → Anew meaning old wanted p q more bytes (Err TooManyPieces) old
+pub many_anew : {F : Type 0} (meaning : F → ℕ → ℕ) (old : Held F) (wanted : List Cell) (p q more bytes : ℕ) → ¬ ((p ≤ MOST_PIECES) × (q ≤ MOST_PIECES)) → Anew meaning old wanted (growth p q more bytes) (Err TooManyPieces) old
 many_anew meaning old wanted p q more bytes not_few = record {
   gives = record {
     is_rope = tt;
@@ -187,7 +190,7 @@ many_anew meaning old wanted p q more bytes not_few = record {
     cases_le m n = ⊎_elim (λ (over : n < m). inr over) (λ (few : m ≤ n). inl few) (cases_lt n m)
 
 -- the first rope is refused, though neither goes through too many pieces
-pub first_refused : {F : Type 0} (meaning : F → ℕ → ℕ) (old new : Held F) (wanted cs : List Cell) (p q more bytes : ℕ) (e : BalanceFault) → p ≤ MOST_PIECES → q ≤ MOST_PIECES → Rebuilds meaning old cs p (Err e) new → Anew meaning old wanted p q more bytes (Err e) new
+pub first_refused : {F : Type 0} (meaning : F → ℕ → ℕ) (old new : Held F) (wanted cs : List Cell) (p q more bytes : ℕ) (e : BalanceFault) → p ≤ MOST_PIECES → q ≤ MOST_PIECES → Rebuilds meaning old cs p (Err e) new → Anew meaning old wanted (growth p q more bytes) (Err e) new
 first_refused meaning old new wanted cs p q more bytes e few_p few_q r = record {
   gives = record {
     is_rope = tt;
@@ -201,7 +204,7 @@ first_refused meaning old new wanted cs p q more bytes e few_p few_q r = record 
 }
 
 -- the only rope is refused
-pub rebuilt_refused : {F : Type 0} (meaning : F → ℕ → ℕ) (old new : Held F) (wanted cs : List Cell) (p more bytes : ℕ) (e : BalanceFault) → Rebuilds meaning old cs p (Err e) new → Anew meaning old wanted p 0 more bytes (Err e) new
+pub rebuilt_refused : {F : Type 0} (meaning : F → ℕ → ℕ) (old new : Held F) (wanted cs : List Cell) (p more bytes : ℕ) (e : BalanceFault) → Rebuilds meaning old cs p (Err e) new → Anew meaning old wanted (growth p 0 more bytes) (Err e) new
 rebuilt_refused meaning old new wanted cs p more bytes e r = record {
   gives = record {
     is_rope = tt;
@@ -215,7 +218,7 @@ rebuilt_refused meaning old new wanted cs p more bytes e r = record {
 }
 
 -- what is wanted is put together alone
-pub rebuilt_anew : {F : Type 0} (meaning : F → ℕ → ℕ) (old new : Held F) (wanted : List Cell) (p : ℕ) (result : Result (Option NodeId) BalanceFault) → Rebuilds meaning old wanted p result new → Anew meaning old wanted p 0 1 0 result new
+pub rebuilt_anew : {F : Type 0} (meaning : F → ℕ → ℕ) (old new : Held F) (wanted : List Cell) (p : ℕ) (result : Result (Option NodeId) BalanceFault) → Rebuilds meaning old wanted p result new → Anew meaning old wanted (part_growth p) result new
 rebuilt_anew meaning old new wanted p (Err e) r = rebuilt_refused meaning old new wanted wanted p 1 0 e r
 rebuilt_anew meaning old new wanted p (Ok rope) r = record {
   gives = record {
@@ -231,7 +234,7 @@ rebuilt_anew meaning old new wanted p (Ok rope) r = record {
 
 -- the second rope is refused
 pub second_refused : {F : Type 0} (meaning : F → ℕ → ℕ) (old mid new : Held F) (wanted cs ds : List Cell) (p : ℕ) (r left : Option NodeId) (more bytes : ℕ) (e : BalanceFault) → IsSound (table_of meaning old) → IsRope (table_of meaning old) r → kept_pieces (table_of meaning old) r ≤ MOST_PIECES → Rebuilds meaning old cs p (Ok left) mid → Rebuilds meaning mid ds (kept_pieces (table_of meaning mid) r) (Err e) new
-    → Anew meaning old wanted p (kept_pieces (table_of meaning old) r) more bytes (Err e) new
+    → Anew meaning old wanted (growth p (kept_pieces (table_of meaning old) r) more bytes) (Err e) new
 second_refused meaning old mid new wanted cs ds p r left more bytes e s there few first second =
     let t = table_of meaning old in
     let same = all_pieces_kept true t (table_of meaning mid) s first.kept r there in
@@ -252,7 +255,7 @@ second_refused meaning old mid new wanted cs ds p r left more bytes e s there fe
 
 -- the call behind the balancing
 pub called_anew : {F : Type 0} (meaning : F → ℕ → ℕ) (old mid new : Held F) (a : Addition F) (wanted cs : List Cell) (IsLong : Type 0) (p q more bytes : ℕ) (plain : Result (Option NodeId) NodeFault) → Grows meaning old (length old.nodes + (2 * p + 2 * q)) (length old.pool.bytes + (31 * p + 31 * q)) mid → ¬ (MOST_PIECES < p) → ¬ (MOST_PIECES < q)
-    → IsFew a more bytes → ¬ IsTooDeep a → ¬ IsLong → Makes meaning mid a cs plain new → Refuses mid a ⊥ IsLong plain → cs ≡ wanted → IfOk plain (λ r. IsRoughlyBalanced (table_of meaning new) r) → Anew meaning old wanted p q more bytes (lifted plain) new
+    → IsFew a more bytes → ¬ IsTooDeep a → ¬ IsLong → Makes meaning mid a cs plain new → Refuses mid a ⊥ IsLong plain → cs ≡ wanted → IfOk plain (λ r. IsRoughlyBalanced (table_of meaning new) r) → Anew meaning old wanted (growth p q more bytes) (lifted plain) new
 called_anew {F = F} meaning old mid new a wanted cs IsLong p q more bytes plain grows few_p few_q few shallow short made refuses text rough =
     let nodes = length old.nodes + (2 * p + 2 * q + more) in
     let most = length old.pool.bytes + (31 * p + 31 * q + bytes) in

@@ -12,7 +12,7 @@ use Rattle.rope_store.specs.Refusals.{Refuses}
 use Rattle.rope_store.proofs.Made.{after_nothing}
 use Rattle.rope_store.proofs.PartTexts.{whole_part}
 use Rattle.rebalance.specs.declared.fault.BalanceFault.{BalanceFault}
-use Rattle.rebalance.specs.AnyForms.{AnyForm, IsLowest, LiesLower, PartsAny, lifted}
+use Rattle.rebalance.specs.AnyForms.{AnyForm, IsLowest, LiesLower, PartsAny, lifted, part_growth}
 use Rattle.rebalance.specs.Pieces.{part_count, part_pieces}
 use Rattle.rebalance.proofs.AnyCalls.{lies_above}
 use Rattle.rebalance.proofs.PieceWays.{GoesDown, leads_inside, lowest_is_one}
@@ -73,7 +73,7 @@ all_of_a_node {F = F} meaning old new x n result kept some enough part =
     let at = part.is_lowest.here (λ (lies : LiesLower t (Some x) 0 m). omega (arith, lies.1, all)) in
     let same : part_added {F = F} t part.inner part.start m ≡ nothing (Some x) =
     ap (λ (r : Option NodeId). part_added {F = F} t r part.start m) at.0 ∙ ap (λ (k : ℕ). part_added {F = F} t (Some x) k m) at.1 ∙ whole_part {F = F} t x 0 (min m (len_at t x.0 - 0)) (omega (arith, all, some)) all in
-    let any = subst (λ (a : Addition F). AnyForm meaning old a (take n (drop 0 (rope_cells t (Some x)))) ⊥ (part_pieces t (Some x) 0 n) 0 1 0 result new) same part.any in
+    let any = subst (λ (a : Addition F). AnyForm meaning old a (take n (drop 0 (rope_cells t (Some x)))) ⊥ (part_growth (part_pieces t (Some x) 0 n)) result new) same part.any in
     let plain = any.as_plain (inl (λ deep. omega (arith, deep))) in
     let by = nothing_new meaning old new _ (Some x) kept plain.plain plain.makes plain.refuses in
     (plain.same ∙ by.0, by.1)

@@ -34,46 +34,61 @@ pub record IsPlain {F : Type 0} (meaning : F → ℕ → ℕ) (old : Held F) (a 
   pub makes : Makes meaning old a wanted plain new
   pub refuses : Refuses old a ⊥ IsLong plain
 
--- What is answered is a rope of the wanted text. Answered or refused, what was there is kept, and new are at most 2
--- nodes and 31 bytes for each of the p and q pieces, and so many nodes and bytes more, as the plain call adds.
-pub record GivesRope {F : Type 0} (meaning : F → ℕ → ℕ) (old : Held F) (wanted : List Cell) (p q more bytes : ℕ)
+-- What a call may add: two ropes of so many pieces are balanced, and the plain call adds so many nodes and bytes.
+pub record Growth : Type 0 where
+  pub left_pieces : ℕ
+  pub right_pieces : ℕ
+  pub nodes : ℕ
+  pub bytes : ℕ
+
+-- there are at most so many nodes then: two more for each piece, and those of the plain call
+abbrev pub nodes_grown : {F : Type 0} → Held F → Growth → ℕ
+nodes_grown old g = length old.nodes + (2 * g.left_pieces + 2 * g.right_pieces + g.nodes)
+
+-- and at most so many bytes of the pool: 31 more for each piece, and those of the plain call
+abbrev pub bytes_grown : {F : Type 0} → Held F → Growth → ℕ
+bytes_grown old g = length old.pool.bytes + (MOST_MERGED * g.left_pieces + MOST_MERGED * g.right_pieces + g.bytes)
+
+-- What is answered is a rope of the wanted text. Answered or refused, what was there is kept, and no more is new.
+pub record GivesRope {F : Type 0} (meaning : F → ℕ → ℕ) (old : Held F) (wanted : List Cell) (most : Growth)
     (result : Result (Option NodeId) BalanceFault) (new : Held F) : Type 0 where
   pub is_rope : IfOk result (λ r. IsRope (table_of meaning new) r)
   pub text : IfOk result (λ r. rope_cells (table_of meaning new) r ≡ wanted)
-  pub grows : Grows meaning old (length old.nodes + (2 * p + 2 * q + more))
-      (length old.pool.bytes + (MOST_MERGED * p + MOST_MERGED * q + bytes)) new
+  pub grows : Grows meaning old (nodes_grown old most) (bytes_grown old most) new
 
 -- what may refuse such a call after which there are at most so many nodes and bytes
 abbrev pub IsAnewFault : ℕ → ℕ → BalanceFault → Type 0
 IsAnewFault nodes bytes TooManyPieces = Unit {0}
 IsAnewFault nodes bytes (Node e) = IsStepFault nodes bytes e
 
--- the call once the ropes of p and q pieces are balanced
-pub record Anew {F : Type 0} (meaning : F → ℕ → ℕ) (old : Held F) (wanted : List Cell) (p q more bytes : ℕ)
+-- the call once both ropes are balanced
+pub record Anew {F : Type 0} (meaning : F → ℕ → ℕ) (old : Held F) (wanted : List Cell) (most : Growth)
     (result : Result (Option NodeId) BalanceFault) (new : Held F) : Type 0 where
-  pub gives : GivesRope meaning old wanted p q more bytes result new
+  pub gives : GivesRope meaning old wanted most result new
   pub shallow : IfOk result (λ r. IsRoughlyBalanced (table_of meaning new) r)
-  pub too_many : IsErrOf result TooManyPieces ↔ ((MOST_PIECES < p) ⊎ (MOST_PIECES < q))
+  pub too_many : IsErrOf result TooManyPieces ↔ ((MOST_PIECES < most.left_pieces) ⊎ (MOST_PIECES < most.right_pieces))
   pub unchanged : IsErrOf result TooManyPieces → new ≡ old
-  pub fault : IfErr result (IsAnewFault (length old.nodes + (2 * p + 2 * q + more))
-      (length old.pool.bytes + (MOST_MERGED * p + MOST_MERGED * q + bytes)))
+  pub fault : IfErr result (IsAnewFault (nodes_grown old most) (bytes_grown old most))
 
 -- the call where the plain one makes addition a
 pub record AnyForm {F : Type 0} (meaning : F → ℕ → ℕ) (old : Held F) (a : Addition F) (wanted : List Cell)
-    (IsLong : Type 0) (p q more bytes : ℕ) (result : Result (Option NodeId) BalanceFault) (new : Held F) : Type 0 where
-  pub gives : GivesRope meaning old wanted p q more bytes result new
+    (IsLong : Type 0) (most : Growth) (result : Result (Option NodeId) BalanceFault) (new : Held F) : Type 0 where
+  pub gives : GivesRope meaning old wanted most result new
   pub as_plain : (¬ IsTooDeep a) ⊎ IsLong → IsPlain meaning old a wanted IsLong result new
-  pub anew : IsTooDeep a → ¬ IsLong → Anew meaning old wanted p q more bytes result new
+  pub anew : IsTooDeep a → ¬ IsLong → Anew meaning old wanted most result new
   pub too_long : IsErrOf result (Node TooLong) ↔ IsLong
   pub too_many : IsErrOf result TooManyPieces → IsTooDeep a × (¬ IsLong)
-  pub table_full : IsErrOf result (Node TableFull) → MOST_NODES < length old.nodes + (2 * p + 2 * q + more)
-  pub pool_full : IsErrOf result (Node PoolFull)
-      → POOL_LIMIT ≤ length old.pool.bytes + (MOST_MERGED * p + MOST_MERGED * q + bytes)
+  pub table_full : IsErrOf result (Node TableFull) → MOST_NODES < nodes_grown old most
+  pub pool_full : IsErrOf result (Node PoolFull) → POOL_LIMIT ≤ bytes_grown old most
   pub not_deep : ¬ IsErrOf result (Node TooDeep)
   pub no_bad_span : ¬ IsErrOf result (Node BadSpan)
   pub no_source : ¬ IsErrOf result (Node TooManySources)
 
 -- ---- two ropes, one behind the other
+
+-- what it may add
+abbrev pub cat_growth : Table → Option NodeId → Option NodeId → Growth
+cat_growth t l r = record { left_pieces = kept_pieces t l; right_pieces = kept_pieces t r; nodes = 2; bytes = MOST_MERGED }
 
 -- what the call for l followed by r does, also where the node over both would be too deep
 abbrev pub CatsAny : {F : Type 0} → (F → ℕ → ℕ) → Held F → Option NodeId → Option NodeId
@@ -81,14 +96,14 @@ abbrev pub CatsAny : {F : Type 0} → (F → ℕ → ℕ) → Held F → Option 
 CatsAny meaning old l r result new =
     let t = table_of meaning old in
     AnyForm meaning old (joined t l r) (rope_cells t l ++ rope_cells t r) (TEXT_LIMIT ≤ rope_len t l + rope_len t r)
-    (kept_pieces t l) (kept_pieces t r) 2 MOST_MERGED result new
+    (cat_growth t l r) result new
 
 -- the same once both are balanced
 abbrev pub CatsAnew : {F : Type 0} → (F → ℕ → ℕ) → Held F → Option NodeId → Option NodeId
     → Result (Option NodeId) BalanceFault → Held F → Type 0
 CatsAnew meaning old l r result new =
     let t = table_of meaning old in
-    Anew meaning old (rope_cells t l ++ rope_cells t r) (kept_pieces t l) (kept_pieces t r) 2 MOST_MERGED result new
+    Anew meaning old (rope_cells t l ++ rope_cells t r) (cat_growth t l r) result new
 
 -- ---- a part of a rope
 
@@ -109,6 +124,10 @@ pub record IsLowest (t : Table) (x : Option NodeId) (i n : ℕ) (inner : Option 
   pub no_deeper : rope_depth t inner ≤ rope_depth t x
   pub cells : take n (drop start (rope_cells t inner)) ≡ take n (drop i (rope_cells t x))
 
+-- what it may add
+abbrev pub part_growth : ℕ → Growth
+part_growth pieces = record { left_pieces = pieces; right_pieces = 0; nodes = 1; bytes = 0 }
+
 -- The plain call takes the wanted bytes of the lowest node that has all of them. Where that part is too deep they are
 -- put together alone.
 pub record PartsAny {F : Type 0} (meaning : F → ℕ → ℕ) (old : Held F) (x : Option NodeId) (i n : ℕ)
@@ -119,7 +138,7 @@ pub record PartsAny {F : Type 0} (meaning : F → ℕ → ℕ) (old : Held F) (x
   pub any : AnyForm meaning old
       (part_added (table_of meaning old) inner start (part_count (table_of meaning old) x i n))
       (take n (drop i (rope_cells (table_of meaning old) x))) ⊥
-      (part_pieces (table_of meaning old) x i n) 0 1 0 result new
+      (part_growth (part_pieces (table_of meaning old) x i n)) result new
   pub rebuilt : IsTooDeep {F = F} (part_added (table_of meaning old) inner start
       (part_count (table_of meaning old) x i n))
       → Rebuilds meaning old (take n (drop i (rope_cells (table_of meaning old) x)))
@@ -132,12 +151,16 @@ abbrev pub ropes_of : Result (Option NodeId × ℕ) BalanceFault → Result (Opt
 ropes_of (Ok p) = Ok p.0
 ropes_of (Err e) = Err e
 
+-- what it may add to put n bytes behind a rope
+abbrev pub append_growth : Table → Option NodeId → ℕ → Growth
+append_growth t x n = record { left_pieces = kept_pieces t x; right_pieces = 0; nodes = 3; bytes = n + MOST_MERGED }
+
 -- bytes put behind a rope once it is balanced
 abbrev pub AppendsAnew : {F : Type 0} → (F → ℕ → ℕ) → Held F → Option NodeId → List ℕ
     → Result (Option NodeId) BalanceFault → Held F → Type 0
 AppendsAnew meaning old x bytes result new =
     let t = table_of meaning old in
-    Anew meaning old (rope_cells t x ++ map Byte bytes) (kept_pieces t x) 0 3 (length bytes + MOST_MERGED) result new
+    Anew meaning old (rope_cells t x ++ map Byte bytes) (append_growth t x (length bytes)) result new
 
 -- the place that bytes get in a pool: its end, and 0 for none of them
 abbrev pub place_in_pool : List ℕ → List ℕ → ℕ
@@ -171,5 +194,4 @@ pub record AppendsAny {F : Type 0} (meaning : F → ℕ → ℕ) (old : Held F) 
   pub addition : Addition F
   pub is : ¬ AppendsTooLong (table_of meaning old) x bytes → IsAppend old.pool (table_of meaning old) x bytes addition
   pub any : AnyForm meaning old addition (rope_cells (table_of meaning old) x ++ map Byte bytes)
-      (AppendsTooLong (table_of meaning old) x bytes) (kept_pieces (table_of meaning old) x) 0 3
-      (length bytes + MOST_MERGED) result new
+      (AppendsTooLong (table_of meaning old) x bytes) (append_growth (table_of meaning old) x (length bytes)) result new
