@@ -170,7 +170,7 @@ longer keys_before keys_mid keys_left before mid now old cur new n answer h one 
     }
 
 pub ran_more : (keys_before keys_mid keys_left before mid now : Option (List ℕ)) (old cur new : EditorValue Reading) (n : ℕ)
-    → Ran keys_before keys_mid before mid old cur n → IsTurn keys_mid keys_left mid now cur (Ok None) new
+    → Ran keys_before keys_mid before mid old cur n → IsTurn (record { keys = keys_mid; screen = mid }) (record { keys = keys_left; screen = now }) cur (Ok None) new
     → Ran keys_before keys_left before now old new (n + 1)
 ran_more keys_before keys_mid keys_left before mid now old cur new n h one =
     let l = longer keys_before keys_mid keys_left before mid now old cur new n Step.Going h one in
@@ -260,7 +260,7 @@ earlier_shown keys_before keys_mid before mid now old cur n h k =
     subst (Shows st before now) (append-nil (earlier old.editing h.behind) ∙ earlier_named old.sources cur.sources old.editing h.keys h.behind h.follow) (shows_more st before mid now (earlier old.editing h.behind) [] h.shown (subst (λ (s : Stated). Shows s mid now []) same k))
 
 pub ran_to_end : (keys_before keys_mid keys_left before mid now : Option (List ℕ)) (old cur new : EditorValue Reading) (n : ℕ) (end : End) → n < MOST_KEYS
-    → Ran keys_before keys_mid before mid old cur n → IsTurn keys_mid keys_left mid now cur (Ok (Some end)) new
+    → Ran keys_before keys_mid before mid old cur n → IsTurn (record { keys = keys_mid; screen = mid }) (record { keys = keys_left; screen = now }) cur (Ok (Some end)) new
     → IsRun keys_before keys_left before now old (Ok end) new
 ran_to_end keys_before keys_mid keys_left before mid now old cur new n Save few h one =
     ended_by keys_before keys_mid keys_left before mid now old cur new n Step.Save Save few h one (λ keys states by shown. (by, shown))
@@ -271,7 +271,7 @@ ran_to_end keys_before keys_mid keys_left before mid now old cur new n Leave few
     (inr (may_go_on h.keys n h.on h.count few, end, all_shown keys_before keys_mid before mid now old cur n h shown)) unfailed
 
 pub ran_to_fault : (keys_before keys_mid keys_left before mid now : Option (List ℕ)) (old cur new : EditorValue Reading) (n : ℕ) (fault : RunFault) → n < MOST_KEYS
-    → Ran keys_before keys_mid before mid old cur n → IsTurn keys_mid keys_left mid now cur (Err fault) new
+    → Ran keys_before keys_mid before mid old cur n → IsTurn (record { keys = keys_mid; screen = mid }) (record { keys = keys_left; screen = now }) cur (Err fault) new
     → IsRun keys_before keys_left before now old (Err fault) new
 ran_to_fault keys_before keys_mid keys_left before mid now old cur new n Read few h (none, shown, unfailed) =
     ended_without keys_before keys_mid keys_left before mid now old cur new n (Err Read) (omega (arith, few)) h none

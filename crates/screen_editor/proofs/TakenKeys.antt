@@ -47,7 +47,7 @@ takes_one keys left before now answer b old mid new key shown unfailed same h an
 
 pub turned : (keys left before now : Option (List ℕ)) (b : ℕ) (end : Option End) (old mid new : EditorValue Reading)
     → Consumes keys left (b ∷ []) → Shows old.sources.stated before now (old.editing ∷ []) → mid.sources ≡ old.sources → mid.editing ≡ old.editing
-    → Presses mid b end new → IsTurn keys left before now old (Ok end) new
+    → Presses mid b end new → IsTurn (record { keys = keys; screen = before }) (record { keys = left; screen = now }) old (Ok end) new
 turned keys left before now b None old mid new key shown unfailed same h = takes_one keys left before now Step.Going b old mid new key shown unfailed same h.0 h.1
 turned keys left before now b (Some End.Save) old mid new key shown unfailed same h = takes_one keys left before now Step.Save b old mid new key shown unfailed same h.0 h.1
 turned keys left before now b (Some End.Leave) old mid new key shown unfailed same h = inl (takes_one keys left before now Step.Leave b old mid new key shown unfailed same h.0 h.1)

@@ -50,18 +50,23 @@ pub record TakesNone (keys_before keys_left : Option (List ℕ)) (old new : Edit
   pub keys : Consumes keys_before keys_left []
   pub same : new ≡ old
 
-abbrev pub IsTurn : Option (List ℕ) → Option (List ℕ) → Option (List ℕ) → Option (List ℕ)
-    → EditorValue Reading → Result (Option End) RunFault → EditorValue Reading → Type 0
-IsTurn keys left before now old (Ok None) new =
-    TakesOne keys left before now Step.Going old new
-IsTurn keys left before now old (Ok (Some Save)) new =
-    TakesOne keys left before now Step.Save old new
-IsTurn keys left before now old (Ok (Some Leave)) new =
-    TakesOne keys left before now Step.Leave old new
-    ⊎ (TakesNone keys left old.editing new.editing × IsAtEnd left
-    × Shows old.sources.stated before now (old.editing ∷ []) × (new.sources ≡ old.sources))
-IsTurn keys left before now old (Err Read) new =
-    TakesNone keys left old.editing new.editing × Shows old.sources.stated before now (old.editing ∷ [])
-    × (new.sources ≡ old.sources)
-IsTurn keys left before now old (Err fault) new =
-    TakesNone keys left old.editing new.editing × NotShown before now old new fault
+-- what is left of the keys, and what the screen took, as far as these are known
+pub record Streams : Type 0 where
+  pub keys : Option (List ℕ)
+  pub screen : Option (List ℕ)
+
+-- a turn of the editor from old to new
+abbrev pub IsTurn : Streams → Streams → EditorValue Reading → Result (Option End) RunFault → EditorValue Reading → Type 0
+IsTurn before now old (Ok None) new =
+    TakesOne before.keys now.keys before.screen now.screen Step.Going old new
+IsTurn before now old (Ok (Some Save)) new =
+    TakesOne before.keys now.keys before.screen now.screen Step.Save old new
+IsTurn before now old (Ok (Some Leave)) new =
+    TakesOne before.keys now.keys before.screen now.screen Step.Leave old new
+    ⊎ (TakesNone before.keys now.keys old.editing new.editing × IsAtEnd now.keys
+    × Shows old.sources.stated before.screen now.screen (old.editing ∷ []) × (new.sources ≡ old.sources))
+IsTurn before now old (Err Read) new =
+    TakesNone before.keys now.keys old.editing new.editing
+    × Shows old.sources.stated before.screen now.screen (old.editing ∷ []) × (new.sources ≡ old.sources)
+IsTurn before now old (Err fault) new =
+    TakesNone before.keys now.keys old.editing new.editing × NotShown before.screen now.screen old new fault

@@ -21,8 +21,9 @@ impl<R: Sources + Drop> Editor<R> {
         keys: &mut Kept<K, J>,
         screen: &mut W,
     ) -> Result<Option<End>, RunFault>
-        ensures turn { IsTurn (keys_left K.remaining keys.old) (keys_left K.remaining keys.new)
-            (W.contents screen.old) (W.contents screen.new) (seen R.reading self.old) result (seen R.reading self.new) }
+        ensures turn { IsTurn (record { keys = keys_left K.remaining keys.old; screen = W.contents screen.old })
+            (record { keys = keys_left K.remaining keys.new; screen = W.contents screen.new })
+            (seen R.reading self.old) result (seen R.reading self.new) }
         ensures kept { KeepsTaken (keys_left K.remaining keys.old) (keys_left K.remaining keys.new)
             (keys_kept J.contents keys.old) (keys_kept J.contents keys.new) }
         ensures later { IsLater (R.reading self.old.sources) (R.reading self.new.sources) }

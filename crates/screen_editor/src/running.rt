@@ -78,8 +78,9 @@ impl<R: Sources + Drop> Editor<R> {
         keys: &mut K,
         screen: &mut W,
     ) -> Result<Option<End>, RunFault>
-        ensures turn { IsTurn (K.remaining keys.old) (K.remaining keys.new)
-            (W.contents screen.old) (W.contents screen.new) (seen R.reading self.old) result (seen R.reading self.new) }
+        ensures turn { IsTurn (record { keys = K.remaining keys.old; screen = W.contents screen.old })
+            (record { keys = K.remaining keys.new; screen = W.contents screen.new })
+            (seen R.reading self.old) result (seen R.reading self.new) }
         ensures later { IsLater (R.reading self.old.sources) (R.reading self.new.sources) }
     {
         self.show(screen)?;
