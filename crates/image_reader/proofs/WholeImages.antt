@@ -23,7 +23,7 @@ use Rattle.image_reader.specs.Layout.{IsBytes, spelled, number_in, records}
 use Rattle.image_reader.specs.Versions.{version_number, version_by, is_two}
 use Rattle.image_reader.specs.Value.{ImageValue, IsImage, FitsSource, FitsNode, FitsRevision, FitsSplice, FitsRow}
 use Rattle.image_reader.specs.Spelling.{records_spelling, header_layout, header_numbers, source_spelling, node_spelling, revision_spelling, splice_spelling, row_spelling, spelling}
-use Rattle.image_reader.specs.Reading.{AreSections, HasHeader, source_of, image_node, revisions_of, splice_of, row_of, version_in, source_count, node_count, revision_count, splice_count, row_count, pool_len, stated_len, is_over_limit, is_unknown_version, has_header_pad, from_sources, from_nodes, from_revisions, from_splices, from_rows, from_pool, sections_value, image_in, front_fault, header_fault, source_record_fault, node_record_fault, row_record_fault, counted_rows, counted_splices, first_fault, sections_fault, fault_of}
+use Rattle.image_reader.specs.Reading.{HasEnoughBytes, SaysImage, records_value, AreSections, HasHeader, source_of, image_node, revisions_of, splice_of, row_of, version_in, source_count, node_count, revision_count, splice_count, row_count, pool_len, stated_len, is_over_limit, is_unknown_version, has_header_pad, from_sources, from_nodes, from_revisions, from_splices, from_rows, from_pool, sections_value, image_in, front_fault, header_fault, source_record_fault, node_record_fault, row_record_fault, counted_rows, counted_splices, first_fault, sections_fault, fault_of}
 use Rattle.image_reader.proofs.Faults.{else_none, fault_if_none}
 use Rattle.image_reader.proofs.Cutting.{length-map-records}
 use Rattle.image_reader.proofs.Fields.{AreWide, FitFields, wide32, wide64, IsBytes-drop, numbers_from, spelled_back, spelled_again, length-spelled}
@@ -121,7 +121,7 @@ header_spelled bytes h is =
 
 -- bytes without a fault
 pub whole_back : (bytes : List ℕ) → IsBytes bytes → fault_of bytes ≡ None → IsImage (image_in bytes) × (bytes ≡ spelling (image_in bytes))
-unfolding fault_of sections_fault sections_value spelling counted_rows counted_splices
+unfolding fault_of sections_fault records_value spelling counted_rows counted_splices
 whole_back bytes h none =
     let p0 = else_none _ _ none in
     let p1 = else_none _ _ p0.1 in
@@ -229,7 +229,7 @@ says v is = record {
 }
 
 pub whole_again : (v : ImageValue) → IsImage v → (fault_of (spelling v) ≡ None) × (image_in (spelling v) ≡ v)
-unfolding fault_of sections_fault sections_value spelling counted_rows counted_splices numbers_from
+unfolding fault_of sections_fault records_value spelling counted_rows counted_splices numbers_from
 whole_again v is =
     let header : List ℕ = spelled header_layout (header_numbers v) in
     let bytes : List ℕ = header ++ sources_on v in
@@ -302,16 +302,16 @@ records_back bytes v is same =
     rw rest (take_at (records_spelling v) v.pool (length (records_spelling v ++ v.pool) - length v.pool) count)
 
 -- what the sections of bytes without a fault are
-pub sections_image : (bytes : List ℕ) (h : Header) (x : Sections) → IsBytes bytes → HasHeader bytes h → fault_of bytes ≡ None → AreSections h bytes x
-    → IsImage (sections_value h.version h.sources x.sources.now h.nodes x.nodes.now h.revisions x.revisions.now h.splices x.splices.now h.rows x.rows.now x.pool.now)
-    × (first_fault node_record_fault (records 32 h.nodes x.nodes.now) ≡ None)
-    × (take (length x.sources.now - length x.pool.now) x.sources.now ≡ records_spelling (sections_value h.version h.sources x.sources.now h.nodes x.nodes.now h.revisions x.revisions.now h.splices x.splices.now h.rows x.rows.now x.pool.now))
-unfolding fault_of sections_fault sections_value
-sections_image bytes h x is_bytes header none are =
+pub sections_image : (bytes : List ℕ) (h : Header) (x : Sections) → IsBytes bytes → HasHeader bytes h → fault_of bytes ≡ None → AreSections h bytes x → HasEnoughBytes h x
+    → SaysImage h x (take (length x.sources.now - length x.pool.now) x.sources.now)
+unfolding fault_of sections_fault records_value
+sections_image bytes h x is_bytes header none are enough =
     let back = whole_back bytes is_bytes none in
     let in_front = records_back bytes (image_in bytes) back.0 back.1 in
-    let nodes : first_fault node_record_fault (records 32 (node_count bytes) (from_nodes bytes)) ≡ None = (else_none _ _ (else_none _ _ (else_none _ _ none).1).1).0 in (
-      rw (← header.version, ← header.sources, ← header.nodes, ← header.revisions, ← header.splices, ← header.rows, ← are.sources, ← are.nodes, ← are.revisions, ← are.splices, ← are.rows, ← are.pool) at back.0,
-      rw (← header.sources, ← header.nodes, ← are.sources, ← are.nodes) at nodes,
-      rw (← header.sources, ← header.nodes, ← header.revisions, ← header.splices, ← header.rows, ← are.sources, ← are.nodes, ← are.revisions, ← are.splices, ← are.rows, ← are.pool) at in_front,
-    )
+    let nodes : first_fault node_record_fault (records 32 (node_count bytes) (from_nodes bytes)) ≡ None = (else_none _ _ (else_none _ _ (else_none _ _ none).1).1).0 in
+    record {
+      enough = enough;
+      image = rw (← header.version, ← header.sources, ← header.nodes, ← header.revisions, ← header.splices, ← header.rows, ← are.sources, ← are.nodes, ← are.revisions, ← are.splices, ← are.rows, ← are.pool) at back.0;
+      nodes = rw (← header.sources, ← header.nodes, ← are.sources, ← are.nodes) at nodes;
+      recorded = rw (← header.sources, ← header.nodes, ← header.revisions, ← header.splices, ← header.rows, ← are.sources, ← are.nodes, ← are.revisions, ← are.splices, ← are.rows, ← are.pool) at in_front;
+    }

@@ -32,7 +32,8 @@ use Rattle.image_reader.specs.declared.layout.TheConstants.{HEADER_SIZE, NODE_SI
 use Rattle.span_certificate.specs.declared.making.TheConstants.{ROWS_LIMIT}
 use Rattle.image_reader.specs.declared.decode.TheConstants.{NIL_ROOT}
 use Rattle.rope_node.specs.declared.limits.TheConstants.{MOST_NODES, MOST_SOURCES, TEXT_LIMIT}
-use Rattle.image_reader.specs.Value.{ImageNode, ImageValue}
+use Rattle.image_reader.specs.Spelling.{records_spelling}
+use Rattle.image_reader.specs.Value.{ImageNode, ImageValue, IsImage}
 
 -- ---- what each record says
 
@@ -212,13 +213,12 @@ abbrev pub from_pool : List ℕ → List ℕ
 from_pool bytes = drop (ROW_SIZE * row_count bytes) (from_rows bytes)
 
 -- the bytes from each section on are enough for its records
-pub record HasEnoughBytes (s : ℕ) (sources : List ℕ) (n : ℕ) (nodes : List ℕ) (k : ℕ) (revisions : List ℕ) (i : ℕ)
-    (splices : List ℕ) (j : ℕ) (rows : List ℕ) : Type 0 where
-  pub for_sources : SOURCE_SIZE * s ≤ length sources
-  pub for_nodes : NODE_SIZE * n ≤ length nodes
-  pub for_revisions : REVISION_SIZE * k ≤ length revisions
-  pub for_splices : SPLICE_SIZE * i ≤ length splices
-  pub for_rows : ROW_SIZE * j ≤ length rows
+pub record HasEnoughBytes (h : Header) (x : Sections) : Type 0 where
+  pub for_sources : SOURCE_SIZE * h.sources ≤ length x.sources.now
+  pub for_nodes : NODE_SIZE * h.nodes ≤ length x.nodes.now
+  pub for_revisions : REVISION_SIZE * h.revisions ≤ length x.revisions.now
+  pub for_splices : SPLICE_SIZE * h.splices ≤ length x.splices.now
+  pub for_rows : ROW_SIZE * h.rows ≤ length x.rows.now
 
 -- these are the bytes from each section on, by the numbers of a header
 pub record AreSections (h : Header) (bytes : List ℕ) (x : Sections) : Type 0 where
@@ -229,26 +229,34 @@ pub record AreSections (h : Header) (bytes : List ℕ) (x : Sections) : Type 0 w
   pub rows : x.rows.now ≡ drop (SPLICE_SIZE * h.splices) x.splices.now
   pub pool : x.pool.now ≡ drop (ROW_SIZE * h.rows) x.rows.now
 
--- what sections say, each given with its number of records and with the bytes from it on
-unfoldable pub sections_value : FormatVersion → ℕ → List ℕ → ℕ → List ℕ → ℕ → List ℕ → ℕ → List ℕ → ℕ → List ℕ → List ℕ
+-- what an image of this version, with these records in its sections, says
+unfoldable pub records_value : FormatVersion → List (List ℕ) → List (List ℕ) → List (List ℕ) → List (List ℕ) → List (List ℕ) → List ℕ
     → ImageValue
-sections_value version source_count sources node_count nodes revision_count revisions splice_count splices row_count
-    rows pool = record {
-      version = version;
-      sources = map source_of (records SOURCE_SIZE source_count sources);
-      nodes = map image_node (records NODE_SIZE node_count nodes);
-      revisions = revisions_of 0 (records REVISION_SIZE revision_count revisions);
-      splices = map splice_of (records SPLICE_SIZE splice_count splices);
-      rows = map row_of (records ROW_SIZE row_count rows);
-      pool = pool;
-    }
+records_value version sources nodes revisions splices rows pool = record {
+  version = version;
+  sources = map source_of sources;
+  nodes = map image_node nodes;
+  revisions = revisions_of 0 revisions;
+  splices = map splice_of splices;
+  rows = map row_of rows;
+  pool = pool;
+}
+
+-- what sections say
+abbrev pub sections_value : Header → Sections → ImageValue
+sections_value h x =
+    records_value h.version (records SOURCE_SIZE h.sources x.sources.now) (records NODE_SIZE h.nodes x.nodes.now)
+    (records REVISION_SIZE h.revisions x.revisions.now) (records SPLICE_SIZE h.splices x.splices.now)
+    (records ROW_SIZE h.rows x.rows.now) x.pool.now
 
 -- what bytes say
 abbrev pub image_in : List ℕ → ImageValue
 image_in bytes =
-    sections_value (version_in bytes) (source_count bytes) (from_sources bytes) (node_count bytes) (from_nodes bytes)
-    (revision_count bytes) (from_revisions bytes) (splice_count bytes) (from_splices bytes) (row_count bytes)
-    (from_rows bytes) (from_pool bytes)
+    records_value (version_in bytes) (records SOURCE_SIZE (source_count bytes) (from_sources bytes))
+    (records NODE_SIZE (node_count bytes) (from_nodes bytes))
+    (records REVISION_SIZE (revision_count bytes) (from_revisions bytes))
+    (records SPLICE_SIZE (splice_count bytes) (from_splices bytes))
+    (records ROW_SIZE (row_count bytes) (from_rows bytes)) (from_pool bytes)
 
 -- ---- faults
 
@@ -421,3 +429,12 @@ read_fault_code Version = codes "I4"
 read_fault_code Count = codes "I5"
 read_fault_code NonZeroPad = codes "I6"
 read_fault_code Kind = codes "I7"
+
+-- ---- an image over its bytes
+
+-- the sections are whole, say an image, hold no node with a fault, and these bytes are its records as they are spelled
+pub record SaysImage (h : Header) (x : Sections) (bytes : List ℕ) : Type 0 where
+  pub enough : HasEnoughBytes h x
+  pub image : IsImage (sections_value h x)
+  pub nodes : first_fault node_record_fault (records NODE_SIZE h.nodes x.nodes.now) ≡ None
+  pub recorded : bytes ≡ records_spelling (sections_value h x)

@@ -18,7 +18,7 @@ use crate::layout::{NODE_SIZE, REVISION_SIZE, ROW_SIZE, SOURCE_SIZE, SPLICE_SIZE
 use crate::node::{depth_in, function_in, len_in, view_in};
 use crate::number::{bytes_before, cell_at};
 use crate::revision::Revision;
-use crate::section::{check_sections, sections_of};
+use crate::section::{Sections, check_sections, sections_of};
 use crate::version::FormatVersion;
 use command_parts::Splice;
 use function_leaf::Coded;
@@ -29,43 +29,21 @@ use std::marker::Model;
 /// A session image. It borrows the bytes that it was read from, and reads its fields from them as they are asked for.
 #[derive(Drop)]
 pub struct Image<'a> {
-    version: FormatVersion,
-    source_count: u32,
-    node_count: u32,
-    revision_count: u32,
-    splice_count: u32,
-    row_count: u32,
+    header: Header,
     /// The records of all sections.
     recorded: &'a [u8],
-    sources: &'a [u8],
-    nodes: &'a [u8],
-    revisions: &'a [u8],
-    splices: &'a [u8],
-    rows: &'a [u8],
-    pool: &'a [u8],
+    sections: Sections<'a>,
 }
 
 impl<'a> Model for Image<'a> {
-    ghost use Rattle.std.specs.Prelude.{◌≡◌, None};
-    ghost use Rattle.image_reader.specs.Value.{ImageValue, IsImage};
-    ghost use Rattle.image_reader.specs.Layout.{records};
-    ghost use Rattle.image_reader.specs.declared.layout.TheConstants.{NODE_SIZE};
-    ghost use Rattle.image_reader.specs.Spelling.{records_spelling};
-    ghost use Rattle.image_reader.specs.Reading.{sections_value, HasEnoughBytes, first_fault, node_record_fault};
+    ghost use Rattle.image_reader.specs.Value.{ImageValue};
+    ghost use Rattle.image_reader.specs.Reading.{SaysImage, sections_value};
 
     ghost Value = { ImageValue };
 
-    ghost view = { λ a. sections_value a.version a.source_count a.sources.now a.node_count a.nodes.now
-        a.revision_count a.revisions.now a.splice_count a.splices.now a.row_count a.rows.now a.pool.now };
+    ghost view = { λ a. sections_value a.header a.sections };
 
-    ghost invariant = { λ a. HasEnoughBytes a.source_count a.sources.now a.node_count a.nodes.now
-        a.revision_count a.revisions.now a.splice_count a.splices.now a.row_count a.rows.now
-        × IsImage (sections_value a.version a.source_count a.sources.now a.node_count a.nodes.now
-        a.revision_count a.revisions.now a.splice_count a.splices.now a.row_count a.rows.now a.pool.now)
-        × (first_fault node_record_fault (records NODE_SIZE a.node_count a.nodes.now) ≡ None)
-        × (a.recorded.now ≡ records_spelling (sections_value a.version a.source_count a.sources.now
-        a.node_count a.nodes.now a.revision_count a.revisions.now a.splice_count a.splices.now a.row_count a.rows.now
-        a.pool.now)) };
+    ghost invariant = { λ a. SaysImage a.header a.sections a.recorded.now };
 }
 
 /// Whether a node is a function.
@@ -85,19 +63,9 @@ impl<'a> Image<'a> {
     {
         let sections = sections_of(header, bytes);
         Image {
-            version: header.version,
-            source_count: header.sources,
-            node_count: header.nodes,
-            revision_count: header.revisions,
-            splice_count: header.splices,
-            row_count: header.rows,
+            header: *header,
             recorded: bytes_before(sections.sources, sections.pool.len()),
-            sources: sections.sources,
-            nodes: sections.nodes,
-            revisions: sections.revisions,
-            splices: sections.splices,
-            rows: sections.rows,
-            pool: sections.pool,
+            sections,
         }
     }
 
@@ -145,19 +113,9 @@ impl<'a> Image<'a> {
         ensures { result ≡ self.now }
     {
         Image {
-            version: self.version,
-            source_count: self.source_count,
-            node_count: self.node_count,
-            revision_count: self.revision_count,
-            splice_count: self.splice_count,
-            row_count: self.row_count,
+            header: self.header,
             recorded: self.recorded,
-            sources: self.sources,
-            nodes: self.nodes,
-            revisions: self.revisions,
-            splices: self.splices,
-            rows: self.rows,
-            pool: self.pool,
+            sections: self.sections,
         }
     }
 
@@ -165,14 +123,14 @@ impl<'a> Image<'a> {
     pub fn version(&self) -> FormatVersion
         ensures { result ≡ self.now.version }
     {
-        self.version
+        self.header.version
     }
 
     /// How many sources the image has.
     pub fn source_count(&self) -> u32
         ensures { result ≡ length self.now.sources }
     {
-        self.source_count
+        self.header.sources
     }
 
     /// How many nodes it has.
@@ -180,35 +138,35 @@ impl<'a> Image<'a> {
         ensures count { result ≡ length (image_table self.now).nodes }
         ensures image { IsImage self.now }
     {
-        self.node_count
+        self.header.nodes
     }
 
     /// How many revisions it has.
     pub fn revision_count(&self) -> u32
         ensures { result ≡ length self.now.revisions }
     {
-        self.revision_count
+        self.header.revisions
     }
 
     /// How many splices it has.
     pub fn splice_count(&self) -> u32
         ensures { result ≡ length self.now.splices }
     {
-        self.splice_count
+        self.header.splices
     }
 
     /// How many certificate rows it has.
     pub fn row_count(&self) -> u32
         ensures { result ≡ length self.now.rows }
     {
-        self.row_count
+        self.header.rows
     }
 
     /// The pool.
     pub fn pool(&self) -> &'a [u8]
         ensures { result.now ≡ self.now.pool }
     {
-        self.pool
+        self.sections.pool
     }
 
     /// The length of source `s`, in bytes.
@@ -217,7 +175,7 @@ impl<'a> Image<'a> {
         ensures value { slice_get self.now.sources s ≡ Some result }
         ensures limit { result < TEXT_LIMIT }
     {
-        source_in(cell_at(self.sources, SOURCE_SIZE, s as usize))
+        source_in(cell_at(self.sections.sources, SOURCE_SIZE, s as usize))
     }
 
     /// What node `id` is.
@@ -225,7 +183,7 @@ impl<'a> Image<'a> {
         requires { id.0 < length (image_table self.now).nodes }
         ensures { result ≡ view_at (image_table self.now) id.0 }
     {
-        view_in(cell_at(self.nodes, NODE_SIZE, id.0 as usize))
+        view_in(cell_at(self.sections.nodes, NODE_SIZE, id.0 as usize))
     }
 
     /// The length that is recorded with node `id`, in bytes.
@@ -233,7 +191,7 @@ impl<'a> Image<'a> {
         requires { id.0 < length (image_table self.now).nodes }
         ensures { result ≡ len_at (image_table self.now) id.0 }
     {
-        len_in(cell_at(self.nodes, NODE_SIZE, id.0 as usize))
+        len_in(cell_at(self.sections.nodes, NODE_SIZE, id.0 as usize))
     }
 
     /// The depth that is recorded with node `id`.
@@ -241,7 +199,7 @@ impl<'a> Image<'a> {
         requires { id.0 < length (image_table self.now).nodes }
         ensures { result ≡ depth_at (image_table self.now) id.0 }
     {
-        depth_in(cell_at(self.nodes, NODE_SIZE, id.0 as usize))
+        depth_in(cell_at(self.sections.nodes, NODE_SIZE, id.0 as usize))
     }
 
     /// The function that node `id` holds.
@@ -250,7 +208,7 @@ impl<'a> Image<'a> {
         requires function { view_at (image_table self.now) id.0 ≡ Fun }
         ensures { function_at self.now id.0 ≡ Some result }
     {
-        function_in(cell_at(self.nodes, NODE_SIZE, id.0 as usize))
+        function_in(cell_at(self.sections.nodes, NODE_SIZE, id.0 as usize))
     }
 
     /// The function that node `id` holds, where it is one.
@@ -274,7 +232,10 @@ impl<'a> Image<'a> {
         ensures value { slice_get self.now.revisions k ≡ Some result }
         ensures at { result ≡ revision_at self.now k }
     {
-        revision_in(first, cell_at(self.revisions, REVISION_SIZE, k as usize))
+        revision_in(
+            first,
+            cell_at(self.sections.revisions, REVISION_SIZE, k as usize),
+        )
     }
 
     /// The root of revision `k`.
@@ -282,7 +243,7 @@ impl<'a> Image<'a> {
         requires { k < length self.now.revisions }
         ensures { result ≡ (revision_at self.now k).root }
     {
-        root_in(cell_at(self.revisions, REVISION_SIZE, k as usize))
+        root_in(cell_at(self.sections.revisions, REVISION_SIZE, k as usize))
     }
 
     /// Whether revision `k` is marked as balanced.
@@ -290,7 +251,7 @@ impl<'a> Image<'a> {
         requires { k < length self.now.revisions }
         ensures { result ≡ (revision_at self.now k).mark }
     {
-        mark_in(cell_at(self.revisions, REVISION_SIZE, k as usize))
+        mark_in(cell_at(self.sections.revisions, REVISION_SIZE, k as usize))
     }
 
     /// How many splices the command of revision `k` names.
@@ -298,7 +259,7 @@ impl<'a> Image<'a> {
         requires { k < length self.now.revisions }
         ensures { result ≡ splices_of (revision_at self.now k).edit }
     {
-        splices_in(cell_at(self.revisions, REVISION_SIZE, k as usize))
+        splices_in(cell_at(self.sections.revisions, REVISION_SIZE, k as usize))
     }
 
     /// Splice `j` of all splices.
@@ -306,7 +267,7 @@ impl<'a> Image<'a> {
         requires { j < length self.now.splices }
         ensures { slice_get self.now.splices j ≡ Some result }
     {
-        splice_in(cell_at(self.splices, SPLICE_SIZE, j as usize))
+        splice_in(cell_at(self.sections.splices, SPLICE_SIZE, j as usize))
     }
 
     /// Row `j` of all rows.
@@ -314,7 +275,7 @@ impl<'a> Image<'a> {
         requires { j < length self.now.rows }
         ensures { slice_get self.now.rows j ≡ Some result }
     {
-        row_in(cell_at(self.rows, ROW_SIZE, j))
+        row_in(cell_at(self.sections.rows, ROW_SIZE, j))
     }
 
     /// The records of all sections one behind the other, as they are spelled.

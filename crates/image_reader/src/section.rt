@@ -50,7 +50,7 @@ pub fn check_each<R: RecordKind>(count: u32, bytes: &[u8]) -> Result<(), ReadFau
 }
 
 /// The bytes from each section on.
-#[derive(Drop)]
+#[derive(Clone, Copy)]
 pub struct Sections<'a> {
     pub sources: &'a [u8],
     pub nodes: &'a [u8],
@@ -65,9 +65,7 @@ pub fn sections_of<'a>(header: &Header, bytes: &'a [u8]) -> Sections<'a>
     requires { length bytes.now ≡ whole_len header.now }
     ensures sections { AreSections header.now bytes.now result }
     ensures pool { length result.pool.now ≤ length result.sources.now }
-    ensures room { HasEnoughBytes header.now.sources result.sources.now header.now.nodes result.nodes.now
-        header.now.revisions result.revisions.now header.now.splices result.splices.now
-        header.now.rows result.rows.now }
+    ensures room { HasEnoughBytes header.now result }
 {
     let sources = bytes_from(bytes, HEADER_SIZE);
     let nodes = bytes_from(sources, SOURCE_SIZE * header.sources as usize);
@@ -88,9 +86,7 @@ pub fn sections_of<'a>(header: &Header, bytes: &'a [u8]) -> Sections<'a>
 /// Refuses sections with a fault: the first one's, section by section.
 #[tactic(auto, unfolding(crate::specs::Reading::sections_fault))]
 pub fn check_sections(header: &Header, sections: &Sections) -> Result<(), ReadFault>
-    requires { HasEnoughBytes header.now.sources sections.now.sources.now header.now.nodes sections.now.nodes.now
-        header.now.revisions sections.now.revisions.now header.now.splices sections.now.splices.now
-        header.now.rows sections.now.rows.now }
+    requires { HasEnoughBytes header.now sections.now }
     ensures { result_err result ≡ sections_fault header.now.version header.now.sources sections.now.sources.now
         header.now.nodes sections.now.nodes.now header.now.revisions sections.now.revisions.now
         header.now.splices header.now.rows sections.now.rows.now }

@@ -37,7 +37,7 @@ fn records_are_spelled_field_by_field()
 {}
 
 /// The image's one spelling, and what is read of it.
-#[tactic(auto, unfolding(image_reader::specs::Layout::spelled, image_reader::specs::Layout::number_in, image_reader::specs::Layout::records, image_reader::specs::Spelling::view_spelling, image_reader::specs::Spelling::revision_spelling, image_reader::specs::Spelling::row_spelling, image_reader::specs::Spelling::spelling, image_reader::specs::Reading::view_of, image_reader::specs::Reading::function_of, image_reader::specs::Reading::revision_of, image_reader::specs::Reading::revisions_of, image_reader::specs::Reading::splice_of, image_reader::specs::Reading::row_of, image_reader::specs::Reading::sections_value))]
+#[tactic(auto, unfolding(image_reader::specs::Layout::spelled, image_reader::specs::Layout::number_in, image_reader::specs::Layout::records, image_reader::specs::Spelling::view_spelling, image_reader::specs::Spelling::revision_spelling, image_reader::specs::Spelling::row_spelling, image_reader::specs::Spelling::spelling, image_reader::specs::Reading::view_of, image_reader::specs::Reading::function_of, image_reader::specs::Reading::revision_of, image_reader::specs::Reading::revisions_of, image_reader::specs::Reading::splice_of, image_reader::specs::Reading::row_of, image_reader::specs::Reading::records_value))]
 fn one_insertion_is_spelled_and_read()
     ensures spelling { spelling one_insert ≡ ONE_INSERT.now }
     ensures image { image_in ONE_INSERT.now ≡ one_insert }

@@ -1,17 +1,17 @@
 use Rattle.std.proofs.Common.{ap, ◌∙◌}
 use Rattle.image_reader.specs.Value.{ImageValue}
-use Rattle.image_reader.specs.Reading.{sections_value}
+use Rattle.image_reader.specs.Reading.{records_value}
 use Rattle.image_reader.proofs.RevisionCuts.{revisions_cut, mark_read}
 use Rattle.image_reader.proofs.image.Image.mark.Goals as goal
 
 pub cell_at-requires : goal.cell_at-requires
-unfolding sections_value
+unfolding records_value
 cell_at-requires c =
-    let cut_of = revisions_cut c.self.inside.revision_count c.self.inside.revisions.now c.args.self.now (ap (λ (v : ImageValue). v.revisions) c.self.view_is) c.self.invariant.0.for_revisions in
+    let cut_of = revisions_cut c.self.inside.header.revisions c.self.inside.sections.revisions.now c.args.self.now (ap (λ (v : ImageValue). v.revisions) c.self.view_is) c.self.invariant.enough.for_revisions in
     cut_of.inside c.args.k c.requires
 
 pub returns : goal.returns
-unfolding sections_value
+unfolding records_value
 returns c =
-    let cut_of = revisions_cut c.self.inside.revision_count c.self.inside.revisions.now c.args.self.now (ap (λ (v : ImageValue). v.revisions) c.self.view_is) c.self.invariant.0.for_revisions in
-    c.mark_in.ensures ∙ mark_read c.self.inside.revision_count c.self.inside.revisions.now c.args.self.now cut_of c.args.k c.requires c.cell_at.result.now c.cell_at.ensures.cell
+    let cut_of = revisions_cut c.self.inside.header.revisions c.self.inside.sections.revisions.now c.args.self.now (ap (λ (v : ImageValue). v.revisions) c.self.view_is) c.self.invariant.enough.for_revisions in
+    c.mark_in.ensures ∙ mark_read c.self.inside.header.revisions c.self.inside.sections.revisions.now c.args.self.now cut_of c.args.k c.requires c.cell_at.result.now c.cell_at.ensures.cell
