@@ -1,19 +1,19 @@
 #!/bin/sh
 # A slice of what `make long` and `make fuzz` run with python, with fixed seeds, in some seconds: the second checker on the worked images, damaged
-# images, keys, scripts, scripts behind images, commits, where bytes come from, the inputs that the fuzzer kept, sources of any size, and how many
-# blocks of files are kept, over the program that `make run` built or the one that $1 names; the history of README.md as a session, and what
-# docs/START.md and docs/SCRIPTS.md show; what the build before the pass for speed answered, beside the program cord_answers, as the gate built it;
-# images by the C library, through its Python module, where `make library` built it; where there is gcc, each allocation of that program's runs
-# refused, and of those of refusal_tests, as the gate built them; and whether docs/HEADLINE.md and docs/DEFINITIONS.md are what specs/ say, each new
-# name there one thing, and each call and clause there that a crate's README.md or docs/PROVED.md names, whether wrong edits keep the names that
-# proofs cite, whether matches name each kind, whether each tool and its options stand in help, completions and pages, and whether CONTRIBUTING.md
-# names each file that a new one is told in. Where there is no python3 nothing of it is tried, which is told. What a test left out is told too. The
-# last line is 'N passed, M failed'; the status is not 0 where one failed.
+# images, keys, scripts, scripts behind images, commits, crashes of the editor, where bytes come from, the inputs that the fuzzer kept, sources of
+# any size, and how many blocks of files are kept, over the program that `make run` built or the one that $1 names; the history of README.md as a
+# session, and what docs/START.md and docs/SCRIPTS.md show; what the build before the pass for speed answered, beside the program cord_answers, as
+# the gate built it; images by the C library, through its Python module, where `make library` built it; where there is gcc, each allocation of that
+# program's runs refused, and of those of refusal_tests, as the gate built them; and whether docs/HEADLINE.md and docs/DEFINITIONS.md are what specs/
+# say, each new name there one thing, and each call and clause there that a crate's README.md or docs/PROVED.md names, whether wrong edits keep the
+# names that proofs cite, whether matches name each kind, whether each tool and its options stand in help, completions and pages, and whether
+# CONTRIBUTING.md names each file that a new one is told in. Where there is no python3 nothing of it is tried, which is told. What a test left out is
+# told too. The last line is 'N passed, M failed'; the status is not 0 where one failed.
 set -u
 top=$(cd "$(dirname "$0")/.." && pwd)
 program=${1:-$top/crates/cordkit/out/cordkit}
 if ! command -v python3 > /dev/null; then
-    echo "LEFT OUT: the second checker, damaged images, keys, scripts, scripts behind images, commits, where bytes come from, the history of README.md, the inputs of the fuzzer, large sources, blocks that are kept, the answers of the start, refused allocations, docs/HEADLINE.md and docs/DEFINITIONS.md, names, README.md and docs/PROVED.md, wrong edits, whole matches, each tool and its options, CONTRIBUTING.md: there is no python3 here"
+    echo "LEFT OUT: the second checker, damaged images, keys, scripts, scripts behind images, commits, crashes of the editor, where bytes come from, the history of README.md, the inputs of the fuzzer, large sources, blocks that are kept, the answers of the start, refused allocations, docs/HEADLINE.md and docs/DEFINITIONS.md, names, README.md and docs/PROVED.md, wrong edits, whole matches, each tool and its options, CONTRIBUTING.md: there is no python3 here"
     echo "0 passed, 0 failed"
     exit 0
 fi
@@ -43,6 +43,7 @@ try 'keys' "$top/tests/random_keys.py" 25 "$program"
 try 'scripts' "$top/tests/random_scripts.py" 60 "$program"
 try 'scripts behind images' "$top/tests/going_on.py" 60 "$program"
 try 'commits' "$top/tests/commits.py" 40 "$program"
+try 'crashes of the editor' "$top/tests/crashes.py" 3 "$program"
 try 'where bytes come from' "$top/tests/random_blames.py" 60 "$program"
 try 'the history of a file' "$top/tests/git_history.py" "$program"
 try 'what docs/START.md and docs/SCRIPTS.md show' "$top/tests/script_tour.py" "$program"
