@@ -62,6 +62,7 @@ SESSIONS = [
     Session("cordedit", ["image"], by_script=True),
     Session("cordedit with a file, asked for more", ["--copy", "--text", "out", "image", "file"], ("file",), {"image.0": "file", "out": "text"}, True),
     Session("cordedit behind the image", ["--text", "out", "image"], ("image",), {"out": "text"}, True),
+    Session("cordedit begins with another image's text", ["--continue", "other", "image"], ("other",), {"image.0": "copy"}, True),
     Session("cordedit in a terminal", ["--text", "out", "image", "file"], ("file",), {"out": "text"}, True, True),
     Session("cordedit in a terminal, behind the image", ["image", "file"], ("image", "file"), {}, True, True),
 ]
@@ -189,9 +190,11 @@ class Room:
 
     def go_on(self):
         """What the same command gives behind all crashes, with what docs/EDITOR.md and docs/FAQ.md say of each refusal."""
-        is_part = 0 < len(self.read("image.new") or b"") < FRONT
+        if "--continue" in self.words and self.is_saved() and not self.kept():
+            # It has begun and ended; from now on the new image is gone on with.
+            self.words = ["image"]
         answer = self.crashed(NO_CRASH)
-        if is_part and b"C1(I3): image.new is no image" in answer[2]:
+        if b"C1(I3): image.new is no image" in answer[2] and len(self.read("image.new")) < FRONT:
             self.remove("image.new")
             answer = self.crashed(NO_CRASH)
         if self.is_over(answer[2]):
@@ -225,24 +228,25 @@ class Room:
 
 def made_of(program, session):
     """What is there before, and what is there in the end."""
-    over = ["file"] if "file" in session.words else []
+    over = [name for name in ("file", "copy") if name in (*session.words, *session.asked.values())]
     with tempfile.TemporaryDirectory() as folder:
 
-        def run(words, keys=b""):
-            return subprocess.run([program, *words, *over], input=keys, stdout=subprocess.PIPE, cwd=folder, check=True).stdout
+        def run(words, keys=b"", files=over):
+            return subprocess.run([program, *words, *files], input=keys, stdout=subprocess.PIPE, cwd=folder, check=True).stdout
 
         def read(name):
             with open(f"{folder}/{name}", "rb") as file:
                 return file.read()
 
-        with open(f"{folder}/file", "wb") as file:
-            file.write(b"one\ntwo\n")
+        for name, text in ("file", b"one\ntwo\n"), ("copy", b"z"):
+            with open(f"{folder}/{name}", "wb") as file:
+                file.write(text)
         run(["edit", "image"], b"xy" + SAVE)
-        run(["edit", "other"], b"z" + SAVE)
-        onto = [f"--onto={name}" for name in ("image", "other") if f"--onto={name}" in session.words or (session.by_script and name in session.begun)]
+        run(["edit", "other"], b"z" + SAVE, [] if "copy" in over else over)
+        onto = ["--onto=image"] if session.by_script and "image" in session.begun else [word for word in session.words if word.startswith("--onto")]
         run(["edit", *onto, "newer"], KEYS + SAVE)
         last = int(run(["check", "newer"]).split()[1]) - 1
-        return {name: read(name) for name in ("file", "image", "other", "newer")} | {"text": run(["show", "newer", str(last)])}
+        return {name: read(name) for name in ("file", "copy", "image", "other", "newer")} | {"text": run(["show", "newer", str(last)])}
 
 
 def crashes_of(program, session, made):
@@ -282,8 +286,7 @@ def main():
     program = os.path.abspath(sys.argv[2] if len(sys.argv) > 2 else PROGRAM)
     first = int(sys.argv[3]) if len(sys.argv) > 3 else 0
     if not shutil.which("strace"):
-        print("LEFT OUT: crashes of the editor: there is no strace here")
-        print("0 passed, 0 failed")
+        print("LEFT OUT: crashes of the editor: there is no strace here", "0 passed, 0 failed", sep="\n")
         return 0
     with multiprocessing.Pool() as pool:
         results = list(pool.imap_unordered(run_one, tried(program, count, first)))

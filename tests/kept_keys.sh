@@ -90,8 +90,12 @@ C1(I3): image.new is no image, and stays as it is: move it away or remove it, an
 J1: image.keys has the keys of another file or image, or something else'; refused 'no journal' image; is 'as it was' "$(cat image.keys)" mine; clean
     printf 'one\ntwo\n' > file; ready image file; type_text x; await shows 'rev 1'; keys C-c; ended; echo three >> file; wanted='1 refused J1
 J1: image.keys has the keys of another file or image, or something else
-cordedit: not saved; the keys are kept: the same command goes on from there, and cordedit --discard '"'image'"' drops them'; refused 'another text' image file
+cordedit: not saved; the keys are kept: over the file that they belong to the same command goes on from there, and cordedit --discard '"'image'"' drops them'; refused 'another text' image file
     printf 'one\ntwo\n' > file; start image file; await shows 'rev 1'; keys C-x; ended; printf 'xone\ntwo\n' > want; "$CORDKIT" show image 1 file | cmp - want && is 'the same text again' '' ''
+    start image file; await shows 'rev 1'; type_text y; await shows 'rev 2'; keys C-c; ended; wanted='1 refused J1
+J1: image.keys has the keys of another file or image, or something else
+cordedit: not saved; the keys are kept: over the image and the file that they belong to the same command goes on from there, and cordedit --discard '"'image'"' drops them'; refused 'no file' image
+    start image file; await shows 'rev 2'; keys C-x; ended; is 'and its file' "$(cat status) $(text file | head -n 1)" '0 restored yxone'
     clean; ready image; type_text a; await shows 'rev 1'; mkdir -p other; "$CORDKIT" edit --keep=image.keys image < /dev/null > /dev/null 2> err; is 'in use' "$? $(cat err)" '1 refused J2'; keys C-x; ended; is 'not disturbed' "$(text)" a
     clean; mkdir image; wanted='3 write
 write: the image image, the file of keys or standard output could not be written'; refused 'a folder' -f image; clean
@@ -420,6 +424,9 @@ words_of_the_script() {
     printf 'x\030' | "$CORDEDIT" file > /dev/null 2> said; is 'a file that is no image' "$? $(head -n 1 said) $(cat file)" '1 refused C1(I3) one'
     printf 'y\030' | "$CORDEDIT" --continue missing next > /dev/null 2> said; is 'no image to go on from' "$? $(echo next*)" '2 next*'
     printf 'y\030' | "$CORDEDIT" --continue image next file > /dev/null; is 'goes on from the last text' "$? $("$CORDKIT" show next 1 next.0)" '0 yxone'
+    printf '' | "$CORDEDIT" --continue image nexts file > /dev/null; is 'left without a key' "$? $(echo nexts*)" '0 nexts.0'; printf 'z\030' | "$CORDEDIT" --continue image nexts file > /dev/null
+    is 'the same command begins' "$? $("$CORDKIT" show nexts 1 nexts.0)" '0 zxone'; rm nexts; printf more >> nexts.0; "$CORDEDIT" --continue image nexts file < /dev/null 2> said
+    is 'another text is there' "$? $(cat said) $(cat nexts.0)" '2 cordedit: nexts.0 is there already: -f replaces it xonemore'
     begin A --keep=next.keys next next.0; await test -s next.keys; printf two > file; printf '\030' | "$CORDEDIT" -f --continue image next file > /dev/null 2> said
     is 'the file of a session stays' "$? $(cat said) $(cat next.0)" '1 refused J2 xone'; type_keys A '\030'; close A; is 'and it saves' "$got" 0
     "$CORDEDIT" --help > said; is 'help' "$? $(grep -c discard said)" '0 1'
