@@ -419,6 +419,8 @@ words_of_the_script() {
     printf 'abc\030' | "$CORDEDIT" -- -i.cord > /dev/null; is 'a name that begins with -' "$? $(image_of ./-i.cord)" '0 abc'
     printf 'abc' | "$CORDEDIT" "it's" > /dev/null; "$CORDEDIT" --discard "it's"; is 'a name with a quote' "$? $(echo it*)" '0 it*'
     printf 'one' > file; printf 'x\030' | "$CORDEDIT" --copy --text out image file > /dev/null; is 'a text and a copy, without a terminal' "$? $(cat out image.0)" '0 xoneone'
+    echo mine > out.new; before=$(cksum < image); printf 'x\030' | "$CORDEDIT" --text ./image image > /dev/null 2> said; is 'the image as OUT' "$? $(cat said) $(cksum < image)" "2 cordedit: ./image is the image itself $before"
+    printf 'x\030' | "$CORDEDIT" --text out image file > /dev/null; is 'a file beside OUT stays' "$? $(cat out out.new)" '0 xxonemine'; rm -f out.new
     printf 'x\030' | "$CORDEDIT" -f --text missing/out image file > /dev/null 2> said; is 'what was asked for and not written' "$? $(tail -n 1 said)" '3 cordedit: missing/out could not be written'
     printf 'x\030' | "$CORDEDIT" --text out2 image image > /dev/null 2> said; is 'nothing is asked of what was not saved' "$? $(head -n 1 said) $(echo out2*)" '1 refused C3(0) out2*'
     printf 'x\030' | "$CORDEDIT" file > /dev/null 2> said; is 'a file that is no image' "$? $(head -n 1 said) $(cat file)" '1 refused C1(I3) one'
