@@ -100,5 +100,16 @@ status=3
 echo write > "$err"
 is_stopped "they are saved then" write abcdefghabc
 
+# What stands beside the image and cannot take its place: nothing is begun, and the image is not written to.
+cp stdin "$folder/old"
+mkfifo "$folder/old.new"
+for words in "edit $folder/old" "edit --keep $folder/keys $folder/old" "edit --onto stdin $folder/old"; do
+    status=0
+    printf 'a\030' | "$program" $words > "$out" 2> "$err" || status=$?
+    is_stopped "a pipe beside the image: $words" write
+done
+cmp -s stdin "$folder/old" && [ ! -e "$folder/keys" ] && echo write > "$err"
+is_stopped "the image is as it was" write
+
 echo "$passed passed, $failed failed"
 [ "$failed" = 0 ]

@@ -180,6 +180,9 @@ impl<'a> ImageFile<'a> {
         let part = text(rt, &[image.path.as_str(), ".new"])?;
         if is_replaceable(rt, part.as_str())? {
             image.part = Some(part);
+        } else if fs::metadata(rt, part.as_str()).is_ok() {
+            // What is there is no image that can be read: it stays, and in its place there is none to write to.
+            return Err(ToolFault::Write);
         }
         Ok(image)
     }
@@ -345,15 +348,25 @@ impl<'a> ImageFile<'a> {
         Err(ToolFault::Write)
     }
 
+    /// Whether what is there is a regular file. Nothing else need take a sync.
+    fn is_regular(&self) -> bool {
+        match fs::metadata(self.rt, self.path.as_str()) {
+            Ok(metadata) => metadata.is_file(),
+            Err(_) => true,
+        }
+    }
+
     /// The file of an image that is whole, synced, where it does not stand in its place already.
     fn synced(&self) -> Result<Option<&String>, ToolFault> {
-        let (Some(file), Some(part)) = (&self.file, &self.part) else {
+        let Some(file) = &self.file else {
             return Ok(None);
         };
-        if file.sync_all().is_err() || !is_named(self.rt, part.as_str(), file) {
-            return Err(ToolFault::Write);
+        let is_synced = file.sync_all().is_ok();
+        match &self.part {
+            Some(part) if is_synced && is_named(self.rt, part.as_str(), file) => Ok(Some(part)),
+            None if is_synced || !self.is_regular() => Ok(None),
+            _ => Err(ToolFault::Write),
         }
-        Ok(Some(part))
     }
 
     /// Puts an image that is whole in its place, and nowhere else: where something else is there, it is refused.
