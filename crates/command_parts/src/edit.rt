@@ -5,7 +5,7 @@ ghost use Rattle.std.specs.Prelude.{◌≡◌};
 use crate::codes::{
     BACK, BALANCE, CUT, DELETE, FILL, INSERT, JOIN, MANY, NEW, OPEN, PASTE, REPLACE,
 };
-use crate::numbers::Numbers;
+use crate::numbers::{Numbers, UNUSED};
 
 /// The most revisions of a session.
 pub const MOST_REVISIONS: u32 = 1 << 20;
@@ -100,35 +100,36 @@ pub enum Edit {
     },
 }
 
-/// A row of the table of commands: a code, and what the record holds for each of its numbers.
-fn row(code: u8, r: u32, q: u32, p: u64, m: u64, a: u64, n: u64) -> (u8, Numbers)
-    ensures { result ≡ (code, record { r = r; q = q; p = p; m = m; a = a; n = n }) }
-{
-    (code, Numbers { r, q, p, m, a, n })
+/// A command as it is recorded: its code, and its numbers.
+#[derive(Clone, Copy, Debug, PartialEq, Eq)]
+pub struct EditRecord {
+    pub code: u8,
+    pub numbers: Numbers,
 }
 
 impl Edit {
     ghost use Rattle.command_parts.specs.Fields.{edit_by, field_of, numbers_of, recorded, splices_of, FitsRecord};
 
     /// The code of the command, and its numbers: what it does not use is 0.
-    pub fn recorded(self) -> (u8, Numbers)
-        ensures code { result.0 ≡ (recorded self).code }
-        ensures numbers { result.1 ≡ numbers_of self }
+    pub fn recorded(self) -> EditRecord
+        ensures code { result.code ≡ (recorded self).code }
+        ensures numbers { result.numbers ≡ numbers_of self }
         ensures fits { FitsRecord self }
     {
+        #[rattlefmt::skip]
         match self {
-            Edit::New => row(NEW, 0, 0, 0, 0, 0, 0),
-            Edit::Open { s } => row(OPEN, 0, s, 0, 0, 0, 0),
-            Edit::Insert { r, p, a, n } => row(INSERT, r, 0, p, 0, a, n),
-            Edit::Delete { r, p, n } => row(DELETE, r, 0, p, 0, 0, n),
-            Edit::Replace { r, p, m, a, n } => row(REPLACE, r, 0, p, m, a, n),
-            Edit::Paste { r, p, q, i, n } => row(PASTE, r, q, p, 0, i, n),
-            Edit::Join { r, q } => row(JOIN, r, q, 0, 0, 0, 0),
-            Edit::Cut { r, i, n } => row(CUT, r, 0, 0, 0, i, n),
-            Edit::Fill { r, p, c, n } => row(FILL, r, 0, p, 0, c, n),
-            Edit::Back { r } => row(BACK, r, 0, 0, 0, 0, 0),
-            Edit::Balance { r } => row(BALANCE, r, 0, 0, 0, 0, 0),
-            Edit::Many { r, count, .. } => row(MANY, r, count, 0, 0, 0, 0),
+            Edit::New => EditRecord { code: NEW, numbers: UNUSED },
+            Edit::Open { s } => EditRecord { code: OPEN, numbers: Numbers { q: s, ..UNUSED } },
+            Edit::Insert { r, p, a, n } => EditRecord { code: INSERT, numbers: Numbers { r, p, a, n, ..UNUSED } },
+            Edit::Delete { r, p, n } => EditRecord { code: DELETE, numbers: Numbers { r, p, n, ..UNUSED } },
+            Edit::Replace { r, p, m, a, n } => EditRecord { code: REPLACE, numbers: Numbers { r, p, m, a, n, ..UNUSED } },
+            Edit::Paste { r, p, q, i, n } => EditRecord { code: PASTE, numbers: Numbers { r, q, p, a: i, n, ..UNUSED } },
+            Edit::Join { r, q } => EditRecord { code: JOIN, numbers: Numbers { r, q, ..UNUSED } },
+            Edit::Cut { r, i, n } => EditRecord { code: CUT, numbers: Numbers { r, a: i, n, ..UNUSED } },
+            Edit::Fill { r, p, c, n } => EditRecord { code: FILL, numbers: Numbers { r, p, a: c, n, ..UNUSED } },
+            Edit::Back { r } => EditRecord { code: BACK, numbers: Numbers { r, ..UNUSED } },
+            Edit::Balance { r } => EditRecord { code: BALANCE, numbers: Numbers { r, ..UNUSED } },
+            Edit::Many { r, count, .. } => EditRecord { code: MANY, numbers: Numbers { r, q: count, ..UNUSED } },
         }
     }
 

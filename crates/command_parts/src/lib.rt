@@ -11,7 +11,7 @@ mod place;
 mod roots;
 mod splices;
 
-pub use edit::{Edit, MOST_REVISIONS, MOST_SPLICES, SPLICES_LIMIT, Splice};
+pub use edit::{Edit, EditRecord, MOST_REVISIONS, MOST_SPLICES, SPLICES_LIMIT, Splice};
 pub use numbers::Numbers;
 pub use part::Part;
 pub use part_iter::{PartIter, parts};

@@ -10,3 +10,13 @@ pub struct Numbers {
     pub a: u64,
     pub n: u64,
 }
+
+/// The numbers of a command that uses none.
+pub const UNUSED: Numbers = Numbers {
+    r: 0,
+    q: 0,
+    p: 0,
+    m: 0,
+    a: 0,
+    n: 0,
+};

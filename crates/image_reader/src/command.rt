@@ -28,5 +28,5 @@ pub fn numbers_in(bytes: &[u8]) -> Numbers
 pub fn has_unused_number(code: u8, numbers: Numbers) -> bool
     ensures { result ≡ any_nonzero (unused (edit_by 0 code (field_of numbers)) (field_of numbers)) }
 {
-    numbers != Edit::of_code(0, code, numbers).recorded().1
+    numbers != Edit::of_code(0, code, numbers).recorded().numbers
 }

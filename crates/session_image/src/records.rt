@@ -9,7 +9,7 @@ ghost use Rattle.image_reader.specs.Value.{FitsRow, FitsSplice};
 ghost use Rattle.command_parts.specs.Fields.{FitsRecord};
 
 use crate::held::Record;
-use command_parts::{Numbers, Splice};
+use command_parts::{EditRecord, Numbers, Splice};
 use image_reader::codes::{BYTES_ROW, LEAF_ROW, SHARED_ROW};
 use image_reader::{FormatVersion, MAGIC, NIL_ROOT, Revision};
 use rope_node::Rope;
@@ -96,7 +96,7 @@ pub fn revision_record(revision: Revision) -> Record
     ensures value { result ≡ revision_spelling revision }
     ensures fits { FitsRecord revision.edit }
 {
-    let (code, numbers) = revision.edit.recorded();
+    let EditRecord { code, numbers } = revision.edit.recorded();
     let root = number_of_root(revision.root);
     let mark = number_of_mark(revision.mark);
     revision_fields(code, numbers, mark, root, revision.rows)

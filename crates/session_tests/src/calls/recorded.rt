@@ -1,7 +1,7 @@
 //! The code and the numbers of each command, by the table of the format.
 
 use super::assert_same_at;
-use command_parts::{Edit, Numbers};
+use command_parts::{Edit, EditRecord, Numbers};
 
 /// A command of each kind, and the r, q, p, m, a, n of its record, in the order of the codes.
 const ROWS: [(Edit, [u32; 6]); 12] = [
@@ -71,7 +71,7 @@ fn each_command_has_the_code_and_the_numbers_of_its_row(rt: HostRuntime) {
             a: u64::from(a),
             n: u64::from(n),
         };
-        assert_same_at(&rt, &edit.recorded(), &(code, numbers), &code);
+        assert_same_at(&rt, &edit.recorded(), &EditRecord { code, numbers }, &code);
         assert_same_at(&rt, &Edit::of_code(7, code, numbers), &edit, &code);
     }
 }
