@@ -1,7 +1,8 @@
 -- The words of each command.
-use Rattle.std.specs.Prelude.{◌≡◌, ℕ, ◌+◌, ◌^◌, ◌<◌, ◌≤◌, if◌then◌else◌, List, [], ◌∷◌, ◌++◌, take, drop, Option, Some, None, codes}
+use Rattle.std.specs.Prelude.{◌≡◌, ℕ, ◌+◌, ◌-◌, get_or, ◌^◌, ◌<◌, ◌≤◌, if◌then◌else◌, List, [], ◌∷◌, ◌++◌, take, drop, Option, Some, None, codes}
 use Rattle.std.specs.List.{AllByRecursion}
 use Rattle.std.specs.Str.{bytes_eq}
+use Rattle.command_parts.specs.declared.codes.TheConstants.{MANY}
 use Rattle.command_parts.specs.declared.edit.Splice.{Splice}
 use Rattle.command_parts.specs.Commands.{FullEdit, New, Open, Insert, Delete, Replace, Paste, Join, Cut, Fill, Back, Balance, Many}
 use Rattle.edit_script.specs.Words.{Word, Name, Number, Quoted}
@@ -86,6 +87,11 @@ shape_in (x ∷ xs) name = if bytes_eq name x.0 then Some x.1 else shape_in xs n
 
 abbrev pub shape_of : List ℕ → Option Shape
 shape_of name = shape_in shapes name
+
+-- the code of the command of this name, where there is one
+abbrev pub IsNamed : List ℕ → Option ℕ → Type 0
+IsNamed name None = shape_of name ≡ None
+IsNamed name (Some code) = (1 ≤ code) × (code ≤ MANY) × (name ≡ (get_or shapes (code - 1) ([], only [])).0)
 
 abbrev pub Suits : Kind → Word → Type 0
 Suits Revision (Number n) = n < 2 ^ 32

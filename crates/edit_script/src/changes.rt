@@ -15,24 +15,24 @@ use crate::quoted::quoted;
 use crate::room::Room;
 use edit_commands::Change;
 
-/// The change that a line begins with, and what is left. Its bytes are put behind those that are there.
-fn change<'a>(line: &'a [u8], bytes: &mut Vec<u8>) -> Result<(Change, &'a [u8]), LineFault>
+/// The change that a line begins with, which leaves what is behind it. Its bytes are put behind those that are there.
+fn change(line: &mut &[u8], bytes: &mut Vec<u8>) -> Result<Change, LineFault>
     ensures read { IsReadAs (λ x. (
-      Number x.0.p ∷ Number x.0.m
-          ∷ Quoted (drop (length bytes.old.items) bytes.new.items) ∷ [],
-      x.1.now,
-    )) result (change_at line.now) }
-    ensures len { IfOk result (λ x. length bytes.new.items ≡ length bytes.old.items + x.0.n) }
+      Number x.p ∷ Number x.m ∷ Quoted (drop (length bytes.old.items) bytes.new.items) ∷ [],
+      line.new.now,
+    )) result (change_at line.old.now) }
+    ensures len { IfOk result (λ x. length bytes.new.items ≡ length bytes.old.items + x.n) }
     ensures kept { take (length bytes.old.items) bytes.new.items ≡ bytes.old.items }
 {
-    let (p, rest) = number(line)?;
-    let (m, rest) = number(rest)?;
-    let (_, n, rest) = quoted(rest, bytes)?;
-    Ok((Change { p, m, n }, rest))
+    Ok(Change {
+        p: number(line)?,
+        m: number(line)?,
+        n: quoted(line, bytes)?,
+    })
 }
 
 /// How many changes there are, where that fits 32 bits.
-pub fn count_of(changes: &[Change]) -> Result<u32, LineFault>
+fn count_of(changes: &[Change]) -> Result<u32, LineFault>
     ensures { IfErr result (λ e. e ≡ Memory) }
 {
     match u32::try_from(changes.len()) {
@@ -41,8 +41,8 @@ pub fn count_of(changes: &[Change]) -> Result<u32, LineFault>
     }
 }
 
-/// Puts the changes of a line, up to its end, into the room.
-pub fn changes(line: &[u8], room: &mut Room) -> Result<(), LineFault>
+/// Puts the changes of a line, up to its end, into the room, and counts them.
+pub fn changes(line: &[u8], room: &mut Room) -> Result<u32, LineFault>
     requires bytes { room.now.bytes.items ≡ [] }
     requires changes { room.now.changes.items ≡ [] }
     ensures read { IsReadAs (λ _. splice_words room.new.bytes.items (placed_splices room.new.changes.items)) result
@@ -51,9 +51,9 @@ pub fn changes(line: &[u8], room: &mut Room) -> Result<(), LineFault>
 {
     let mut rest = line;
     while !is_end(rest) {
-        let (change, behind) = change(rest, &mut room.bytes)?;
+        let change = change(&mut rest, &mut room.bytes)?;
         room.changes.push(change)?;
-        rest = behind;
     }
-    Ok(())
+    let count = count_of(&room.changes)?;
+    Ok(count)
 }

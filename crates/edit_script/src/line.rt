@@ -21,8 +21,8 @@ fn read_line(line: &[u8], room: &mut Room) -> Result<Option<Edit>, LineFault>
     if is_end(line) {
         return Ok(None);
     }
-    let (name, rest) = split_front(behind_blanks(line));
-    let edit = command(name, rest, room)?;
+    let (name, mut rest) = split_front(behind_blanks(line));
+    let edit = command(name, &mut rest, room)?;
     Ok(Some(edit))
 }
 

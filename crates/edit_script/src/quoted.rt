@@ -99,20 +99,22 @@ fn unquote<'a>(text: &'a [u8], room: &mut Vec<u8>) -> Result<&'a [u8], LineFault
     Err(LineFault::NoCommand)
 }
 
-/// The place and the number in `room` of the bytes that are written in quotes at a line's front, and what is left.
-pub fn quoted<'a>(line: &'a [u8], room: &mut Vec<u8>) -> Result<(u64, u64, &'a [u8]), LineFault>
-    ensures bytes { IsReadAs (λ x. (take x.1 (drop x.0 room.new.items), x.2.now)) result (quoted_at line.now) }
-    ensures behind { IfOk result (λ x. (x.0 ≡ length room.old.items) × (x.0 + x.1 ≡ length room.new.items)) }
+/// Puts the bytes that are written in quotes at a line's front behind those in `room`, and leaves what is behind them.
+/// Answers how many they are.
+pub fn quoted(line: &mut &[u8], room: &mut Vec<u8>) -> Result<u64, LineFault>
+    ensures bytes { IsReadAs (λ n. (take n (drop (length room.old.items) room.new.items), line.new.now)) result
+        (quoted_at line.old.now) }
+    ensures len { IfOk result (λ n. length room.old.items + n ≡ length room.new.items) }
     ensures kept { take (length room.old.items) room.new.items ≡ room.old.items }
 {
     let place = room.len();
     match behind_blanks(line) {
         [b'"', text @ ..] => {
-            let rest = unquote(text, room)?;
-            if !is_behind_word(rest) {
+            *line = unquote(text, room)?;
+            if !is_behind_word(line) {
                 return Err(LineFault::NoCommand);
             }
-            Ok((place as u64, (room.len() - place) as u64, rest))
+            Ok((room.len() - place) as u64)
         }
         _ => Err(LineFault::NoCommand),
     }

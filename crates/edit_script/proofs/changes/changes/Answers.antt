@@ -12,12 +12,12 @@ returns-in_err-change-clause-read c =
     rw (p.1, p.2) (fails_at c.in_err-change.field-0.0 (splice_words c.loop-rest.room.bytes.items (placed_splices c.loop-rest.room.changes.items)) c.loop-rest.rest.now (groups_at (length c.args.line.now) splice_kinds c.args.line.now) (sym c.is_end.ensures ∙ c.loop-rest-test.true) c.in_err-change.ensures.read c.loop-rest.invariant.words)
 
 pub loop-rest-smaller : goal.loop-rest-smaller
-loop-rest-smaller c = change_shrinks c.loop-rest.rest.now _ c.in_ok-change.behind.now c.in_ok-change.ensures.read
+loop-rest-smaller c = change_shrinks c.loop-rest.rest.now _ c.change.new.line.now c.in_ok-change.ensures.read
 
 pub loop-rest-preserved : goal.loop-rest-preserved
 loop-rest-preserved c = record {
   takes = sum_more c.loop-rest.room.changes.items c.in_ok-change.change c.push.new.self.items c.loop-rest.room.bytes.items c.change.new.bytes.items c.in_ok-push.ensures.items c.in_ok-change.ensures.len c.loop-rest.invariant.takes;
-  words = next_words c.loop-rest.room.bytes.items c.change.new.bytes.items c.loop-rest.room.changes.items c.push.new.self.items c.in_ok-change.change c.loop-rest.rest.now c.in_ok-change.behind.now (groups_at (length c.args.line.now) splice_kinds c.args.line.now)
+  words = next_words c.loop-rest.room.bytes.items c.change.new.bytes.items c.loop-rest.room.changes.items c.push.new.self.items c.in_ok-change.change c.loop-rest.rest.now c.change.new.line.now (groups_at (length c.args.line.now) splice_kinds c.args.line.now)
       (sym c.is_end.ensures ∙ c.loop-rest-test.true) c.in_ok-push.ensures.items c.in_ok-change.ensures.len c.in_ok-change.ensures.kept c.loop-rest.invariant.takes c.in_ok-change.ensures.read c.loop-rest.invariant.words;
 }
 
