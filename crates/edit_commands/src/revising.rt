@@ -41,39 +41,20 @@ impl Command<'_> {
         requires { length (changes_of self.now) < 2 ^ 32 }
         ensures { result ≡ edit_with places.now first self.now }
     {
+        #[rattlefmt::skip]
         match *self {
             Command::New => Edit::New,
             Command::Open { s } => Edit::Open { s },
-            Command::Insert { r, p, bytes } => Edit::Insert {
-                r,
-                p,
-                a: first_of(places),
-                n: bytes.len() as u64,
-            },
+            Command::Insert { r, p, bytes } => Edit::Insert { r, p, a: first_of(places), n: bytes.len() as u64 },
             Command::Delete { r, p, n } => Edit::Delete { r, p, n },
-            Command::Replace { r, p, m, bytes } => Edit::Replace {
-                r,
-                p,
-                m,
-                a: first_of(places),
-                n: bytes.len() as u64,
-            },
+            Command::Replace { r, p, m, bytes } => Edit::Replace { r, p, m, a: first_of(places), n: bytes.len() as u64 },
             Command::Paste { r, p, q, i, n } => Edit::Paste { r, p, q, i, n },
             Command::Join { r, q } => Edit::Join { r, q },
             Command::Cut { r, i, n } => Edit::Cut { r, i, n },
-            Command::Fill { r, p, c, n } => Edit::Fill {
-                r,
-                p,
-                c: c as u64,
-                n,
-            },
+            Command::Fill { r, p, c, n } => Edit::Fill { r, p, c: c as u64, n },
             Command::Back { r } => Edit::Back { r },
             Command::Balance { r } => Edit::Balance { r },
-            Command::Many { r, changes, .. } => Edit::Many {
-                r,
-                first,
-                count: changes.len() as u32,
-            },
+            Command::Many { r, changes, .. } => Edit::Many { r, first, count: changes.len() as u32 },
         }
     }
 }

@@ -24,36 +24,19 @@ pub fn handed<'a>(edit: &Edit, room: &'a Room) -> Command<'a>
     ensures words { words_handed result ≡ words_in room.now.bytes.items room.now.changes.items edit.now }
     ensures takes { TakesAll result }
 {
+    #[rattlefmt::skip]
     match *edit {
         Edit::New => Command::New,
         Edit::Open { s } => Command::Open { s },
-        Edit::Insert { r, p, a, n } => Command::Insert {
-            r,
-            p,
-            bytes: span(&room.bytes, a, n),
-        },
+        Edit::Insert { r, p, a, n } => Command::Insert { r, p, bytes: span(&room.bytes, a, n) },
         Edit::Delete { r, p, n } => Command::Delete { r, p, n },
-        Edit::Replace { r, p, m, a, n } => Command::Replace {
-            r,
-            p,
-            m,
-            bytes: span(&room.bytes, a, n),
-        },
+        Edit::Replace { r, p, m, a, n } => Command::Replace { r, p, m, bytes: span(&room.bytes, a, n) },
         Edit::Paste { r, p, q, i, n } => Command::Paste { r, p, q, i, n },
         Edit::Join { r, q } => Command::Join { r, q },
         Edit::Cut { r, i, n } => Command::Cut { r, i, n },
-        Edit::Fill { r, p, c, n } => Command::Fill {
-            r,
-            p,
-            c: c as u8,
-            n,
-        },
+        Edit::Fill { r, p, c, n } => Command::Fill { r, p, c: c as u8, n },
         Edit::Back { r } => Command::Back { r },
         Edit::Balance { r } => Command::Balance { r },
-        Edit::Many { r, .. } => Command::Many {
-            r,
-            changes: &room.changes,
-            bytes: &room.bytes,
-        },
+        Edit::Many { r, .. } => Command::Many { r, changes: &room.changes, bytes: &room.bytes },
     }
 }
