@@ -1,4 +1,3 @@
-pub mod Fields
 pub mod HeldNodes
 pub mod PoolBytes
 pub mod RowLists

@@ -16,6 +16,7 @@ use image_reader::codes::{
 use rope_node::NodeView;
 
 /// The record of a span of the pool, of a source or of another node: `kind` says of which, and `x` is its number.
+#[tactic(auto, unfolding(image_reader::specs::Layout::spelled))]
 fn span_record(kind: u8, depth: u8, x: u32, len: u64, start: u64) -> Record
     ensures { result ≡ spelled span_layout (span_numbers kind depth x len start) }
 {
@@ -32,6 +33,7 @@ fn span_record(kind: u8, depth: u8, x: u32, len: u64, start: u64) -> Record
 }
 
 /// The record of a concatenation of nodes `l` and `r`.
+#[tactic(auto, unfolding(image_reader::specs::Layout::spelled))]
 fn concatenation_record(depth: u8, len: u64, l: u32, r: u32) -> Record
     ensures { result ≡ spelled concatenation_layout (concatenation_numbers depth len l r) }
 {
@@ -49,6 +51,7 @@ fn concatenation_record(depth: u8, len: u64, l: u32, r: u32) -> Record
 }
 
 /// The fields of a function's record in front of its bytes.
+#[tactic(auto, unfolding(image_reader::specs::Layout::spelled))]
 fn function_fields(depth: u8, len: u64, code: u8, size: u8) -> Record
     ensures value { result ≡ spelled function_layout (function_numbers depth len code size) }
     ensures len { length result ≡ 16 }

@@ -4,12 +4,12 @@ ghost use Rattle.std.specs.Prelude.{◌≡◌, [], ◌∷◌};
 ghost use Rattle.image_reader.specs.Layout.{spelled};
 ghost use Rattle.image_reader.specs.declared.header.TheConstants.{MAGIC};
 ghost use Rattle.image_reader.specs.Versions.{version_number};
-ghost use Rattle.image_reader.specs.Spelling.{header_layout, source_spelling, splice_spelling, row_layout, row_spelling, revision_layout, revision_numbers, revision_spelling, mark_number, root_number};
+ghost use Rattle.image_reader.specs.Spelling.{header_layout, source_spelling, splice_spelling, row_layout, row_spelling, revision_spelling, mark_number, root_number};
 ghost use Rattle.image_reader.specs.Value.{FitsRow, FitsSplice};
 ghost use Rattle.command_parts.specs.Fields.{FitsRecord};
 
 use crate::held::Record;
-use command_parts::{EditRecord, Numbers, Splice};
+use command_parts::{EditRecord, Splice};
 use image_reader::codes::{BYTES_ROW, LEAF_ROW, SHARED_ROW};
 use image_reader::{FormatVersion, MAGIC, NIL_ROOT, Revision};
 use rope_node::Rope;
@@ -28,6 +28,7 @@ pub struct Counts {
 }
 
 /// The header.
+#[tactic(auto, unfolding(image_reader::specs::Layout::spelled))]
 pub fn header_record(counts: Counts) -> Record
     ensures { result ≡ spelled header_layout (MAGIC ∷ version_number counts.version ∷ counts.sources
         ∷ counts.nodes ∷ counts.revisions ∷ counts.rows ∷ counts.splices ∷ counts.pool ∷ []) }
@@ -45,6 +46,7 @@ pub fn header_record(counts: Counts) -> Record
 }
 
 /// The record of a source of `size` bytes.
+#[tactic(auto, unfolding(image_reader::specs::Spelling::source_spelling, image_reader::specs::Layout::spelled))]
 pub fn source_record(size: u64) -> Record
     ensures { result ≡ source_spelling size }
 {
@@ -70,13 +72,17 @@ fn number_of_mark(mark: bool) -> u8
     if mark { 1 } else { 0 }
 }
 
-/// A revision's fields, one after the other.
-fn revision_fields(code: u8, numbers: Numbers, mark: u8, root: u32, rows: u32) -> Record
-    ensures { result ≡ spelled revision_layout (revision_numbers code numbers mark root rows) }
+/// The record of a revision.
+#[tactic(auto, unfolding(image_reader::specs::Spelling::revision_spelling, image_reader::specs::Layout::spelled))]
+pub fn revision_record(revision: Revision) -> Record
+    ensures value { result ≡ revision_spelling revision }
+    ensures fits { FitsRecord revision.edit }
 {
+    let EditRecord { code, numbers } = revision.edit.recorded();
+    let root = number_of_root(revision.root);
     let mut record = Record::new();
     record.push_u8(code);
-    record.push_u8(mark);
+    record.push_u8(number_of_mark(revision.mark));
     record.push_u16(0);
     record.push_u32(root);
     record.push_u32(numbers.r);
@@ -85,24 +91,13 @@ fn revision_fields(code: u8, numbers: Numbers, mark: u8, root: u32, rows: u32) -
     record.push_u64(numbers.m);
     record.push_u64(numbers.a);
     record.push_u64(numbers.n);
-    record.push_u32(rows);
+    record.push_u32(revision.rows);
     record.push_u32(0);
     record
 }
 
-/// The record of a revision.
-#[tactic(auto, unfolding(image_reader::specs::Spelling::revision_spelling))]
-pub fn revision_record(revision: Revision) -> Record
-    ensures value { result ≡ revision_spelling revision }
-    ensures fits { FitsRecord revision.edit }
-{
-    let EditRecord { code, numbers } = revision.edit.recorded();
-    let root = number_of_root(revision.root);
-    let mark = number_of_mark(revision.mark);
-    revision_fields(code, numbers, mark, root, revision.rows)
-}
-
 /// The record of a splice.
+#[tactic(auto, unfolding(image_reader::specs::Spelling::splice_spelling, image_reader::specs::Layout::spelled))]
 pub fn splice_record(splice: Splice) -> Record
     ensures value { result ≡ splice_spelling splice }
     ensures fits { FitsSplice splice }
@@ -116,6 +111,7 @@ pub fn splice_record(splice: Splice) -> Record
 }
 
 /// A row's fields, one after the other.
+#[tactic(auto, unfolding(image_reader::specs::Layout::spelled))]
 fn row_fields(tag: u8, node: u32, len: u64, start: u64) -> Record
     ensures { result ≡ spelled row_layout (tag ∷ 0 ∷ 0 ∷ node ∷ len ∷ start ∷ []) }
 {
