@@ -17,6 +17,7 @@ use command_parts::codes::{
 };
 
 /// The code of the command of this name.
+#[tactic(auto, using(std::proofs::lemmas::Slice::Eq::text_from_reads))]
 fn code_of(name: &[u8]) -> Option<u8>
     ensures { IsNamed name.now result }
 {
