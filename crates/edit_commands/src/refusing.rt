@@ -210,17 +210,14 @@ fn kept_and_added(store: &Store<Coded>, revisions: &[Revision], command: &Comman
         (record { held = store.now; revisions = revisions.now }) command.now }
     ensures short { result.0 < TEXT_LIMIT }
 {
+    #[rattlefmt::skip]
     match *command {
         Command::New => (0, 0),
         Command::Open { s } => (store.source_len(s), 0),
         Command::Insert { r, bytes, .. } => (len_at(store, revisions, r), bytes.len() as u64),
         Command::Delete { r, n, .. } => (len_at(store, revisions, r) - n, 0),
-        Command::Replace { r, m, bytes, .. } => {
-            (len_at(store, revisions, r) - m, bytes.len() as u64)
-        }
-        Command::Paste { r, n, .. } | Command::Fill { r, n, .. } => {
-            (len_at(store, revisions, r), n)
-        }
+        Command::Replace { r, m, bytes, .. } => (len_at(store, revisions, r) - m, bytes.len() as u64),
+        Command::Paste { r, n, .. } | Command::Fill { r, n, .. } => (len_at(store, revisions, r), n),
         Command::Join { r, q } => (len_at(store, revisions, r), len_at(store, revisions, q)),
         Command::Cut { r, n, .. } => {
             // What is cut lies in a text that is short enough, as its length says.
@@ -228,12 +225,7 @@ fn kept_and_added(store: &Store<Coded>, revisions: &[Revision], command: &Comman
             (n, 0)
         }
         Command::Back { r } | Command::Balance { r } => (len_at(store, revisions, r), 0),
-        Command::Many { r, changes, bytes } => {
-            (
-                len_at(store, revisions, r) - taken_away(changes),
-                bytes.len() as u64,
-            )
-        }
+        Command::Many { r, changes, bytes } => (len_at(store, revisions, r) - taken_away(changes), bytes.len() as u64),
     }
 }
 
