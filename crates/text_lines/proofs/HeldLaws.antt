@@ -1,26 +1,22 @@
 -- Bytes of a text that are held, and the line breaks among them.
-use Rattle.std.proofs.Common.{◌≡◌, ℕ, ◌+◌, ◌-◌, ◌<◌, ◌≤◌, Bool, true, not, cond, Option, Some, None, List, All, [], ◌∷◌, ◌++◌, length, take, drop, get_or, reverse, inl, inr, ◌⊎◌, IfSome, Result, Ok, Err, IfOk, refl, sym, ap, subst, ◌∙◌, arith}
-use Rattle.std.specs.Prelude.{◌↔◌, IsSome}
-use Rattle.std.specs.List.{position_or_len, prefix_len, suffix_len}
-use Rattle.std.proofs.lemmas.Bool.{cases_lt, lt-ltb, le-ltb, ne_eqb, eq-eqb}
-use Rattle.std.proofs.lemmas.List.{take-take, drop_all, take-append-drop, take_all, drop-take, drop-drop, get_or-drop, get_or-take, length-take, length-drop, length-append, length-take-le, get_or-reverse, length-reverse, reverse-append}
-use Rattle.std.proofs.lemmas.List.Folds.{prefix_len-append}
-use Rattle.std.proofs.lemmas.List.Sums.{prefix_len-le-length, prefix_len_passes, suffix_len-le-length}
+use Rattle.std.proofs.Common.{◌≡◌, ℕ, ◌+◌, ◌-◌, ◌<◌, ◌≤◌, true, false, Option, Some, None, List, All, [], ◌∷◌, ◌++◌, length, take, drop, get_or, inl, inr, ◌⊎◌, IfSome, Result, Ok, Err, IfOk, refl, sym, ap, subst, ◌∙◌, arith, ◌↔◌, IsSome}
+use Rattle.std.proofs.lemmas.Bool.{cases_lt, false_from_ne_true, lt-ltb, le-ltb}
+use Rattle.std.proofs.lemmas.List.{take-take, drop_all, drop-take, drop-drop, get_or-drop, get_or-take, length-take, length-drop, length-append, length-take-le}
 use Rattle.std.proofs.Math.Seq.{drop-append_seam, take-add}
 use Rattle.rope_node.specs.declared.node.NodeId.{NodeId}
 use Rattle.rope_node.specs.Table.{Table}
 use Rattle.rope_node.specs.Denotes.{rope_cells}
 use Rattle.lazy_file.specs.Readings.{Reading}
 use Rattle.cord_search.proofs.Fetches.{text_length}
-use Rattle.text_lines.specs.HeldBytes.{HeldPart, held_up_to, held_starting_at, AreHeld, HoldsText, TellsStart}
+use Rattle.text_lines.specs.HeldBytes.{HeldPart, held_up_to, held_starting_at, AreHeld, HasBreak, HoldsText, TellsStart}
 use Rattle.text_lines.specs.declared.known.KnownLine.{KnownLine}
 use Rattle.text_lines.specs.declared.known_lines.KnownLines.{KnownLines}
 use Rattle.text_lines.specs.KnownLines.{IsKnownIn, IsLineOf, known_lines, learnt}
-use Rattle.text_lines.specs.Lines.{is_break, column, line_start, line_end, next_line}
+use Rattle.text_lines.specs.Lines.{is_break, line_start, line_end, next_line}
 use Rattle.text_lines.specs.Rows.{IsLineStart}
 use Rattle.text_lines.proofs.KnownLaws.{line_found, next_begins}
 use Rattle.text_lines.proofs.LearntLines.{all_learnt}
-use Rattle.text_lines.proofs.LineLaws.{stands_tells}
+use Rattle.text_lines.proofs.LineLaws.{break_at_end, end_inside, ends_at, plain_to_end, stands_tells, starts_at}
 use Rattle.cord_search.specs.Places.{StandsAt}
 use borrow.Rule.Slice.PartMut.{Post-is, put_mid}
 
@@ -64,24 +60,13 @@ more_before t near arr h from first start before inside few long held is =
     let front : AreHeld (record h { from = from - n; bytes = near }) t = record { inside = omega (arith, held.inside, at); bytes = is; begun = held.begun; known = held.known } in
     rw (written_before arr near first start before inside) (held_together t h near old (from - n) front (subst (λ (p : ℕ). AreHeld (record h { from = p; bytes = old }) t) (sym at) held))
 
--- ---- the first break behind a place
+-- ---- bytes that are held are those of the text
 
--- where a break is among the first bytes, or they are all, they tell how many stand before the first one
-pub width_is : (xs near : List ℕ) → near ≡ take (length near) xs → (length near ≤ position_or_len is_break near → length xs ≤ length near) → position_or_len is_break near ≡ position_or_len is_break xs
-width_is xs near front enough =
-    let n = length near in
-    let width = position_or_len is_break near in
-    let rest = drop n xs in
-    let whole : near ++ rest ≡ xs = ap (λ (ys : List ℕ). ys ++ rest) front ∙ take-append-drop n xs in
-    elim (cases_lt width n) [
-      | inl short ↦
-          sym (sym (ap (position_or_len is_break) whole) ∙ prefix_len-append (λ b. not (is_break b)) near rest
-          ∙ ap (λ (b : Bool). cond b (n + position_or_len is_break rest) width) (ne_eqb width n (λ e. absurd (omega (arith, e, short)))))
-      | inr wide ↦ ap (position_or_len is_break) (front ∙ take_all n xs (enough wide))
-    ]
+byte_held : (t : List ℕ) (h : HeldPart) (j : ℕ) → AreHeld h t → j < length h.bytes → get_or h.bytes j 0 ≡ get_or t (h.from + j) 0
+byte_held t h j held lt = ap (λ (xs : List ℕ). get_or xs j 0) held.bytes ∙ get_or-take (length h.bytes) (drop h.from t) j 0 lt ∙ get_or-drop h.from t j 0
 
--- bytes that are held from a place on are those of the text
-pub held_from : (t : List ℕ) (h : HeldPart) (place : ℕ) → AreHeld h t → held_starting_at h place ≡ take (length (held_starting_at h place)) (drop place t)
+-- those from a place on
+held_from : (t : List ℕ) (h : HeldPart) (place : ℕ) → AreHeld h t → held_starting_at h place ≡ take (length (held_starting_at h place)) (drop place t)
 held_from t h place held =
     elim (cases_lt place h.from) [
       | inl before ↦ rw (lt-ltb place h.from before) refl
@@ -106,62 +91,58 @@ held_from t h place held =
 pub first_held : (t : List ℕ) (h : HeldPart) (place n : ℕ) → AreHeld h t → n ≤ length (held_starting_at h place) → take n (held_starting_at h place) ≡ take n (drop place t)
 first_held t h place n held few = ap (take n) (held_from t h place held) ∙ take-take n (length (held_starting_at h place)) (drop place t) few
 
--- where none of the first n bytes from a place on is one, the line ends where it ends from behind them on
-pub end_behind : (t near : List ℕ) (place n : ℕ) → near ≡ take (length near) (drop place t) → length near ≡ n → length near ≤ position_or_len is_break near → line_end t place ≡ line_end t (place + n)
-end_behind t near place n front long none =
-    let width = position_or_len is_break near in
-    let rest = drop (length near) (drop place t) in
-    let whole : near ++ rest ≡ drop place t = ap (λ (ys : List ℕ). ys ++ rest) front ∙ take-append-drop (length near) (drop place t) in
-    let all : width ≡ length near = omega (arith, none, prefix_len-le-length (λ b. not (is_break b)) near) in
-    let far : position_or_len is_break (drop place t) ≡ length near + position_or_len is_break rest =
-    sym (ap (position_or_len is_break) whole) ∙ prefix_len-append (λ b. not (is_break b)) near rest ∙ ap (λ (b : Bool). cond b (length near + position_or_len is_break rest) width) (eq-eqb width (length near) all) in
-    let same : position_or_len is_break rest ≡ position_or_len is_break (drop (place + n) t) = ap (position_or_len is_break) (drop-drop (length near) place t ∙ ap (λ (k : ℕ). drop (place + k) t) long) in
-    omega (arith, far, same, long)
+-- ---- the first break behind a place
+
+-- the first break among them is where the line ends
+pub end_told : (t near : List ℕ) (h : HeldPart) (place w : ℕ) → AreHeld h t → near ≡ held_starting_at h place → w < length near → ((j : ℕ) → j < w → is_break (get_or near j 0) ≡ false) → is_break (get_or near w 0) ≡ true
+    → place + w ≡ line_end t place
+end_told t near h place w held is lt plain broken =
+    let front : near ≡ take (length near) (drop place t) = rw is (held_from t h place held) in
+    let long : length near ≤ length t - place = omega (arith, ap length front, length-take (length near) (drop place t), length-drop place t) in
+    let at : (j : ℕ) → j < length near → get_or near j 0 ≡ get_or t (place + j) 0 = λ j lt. ap (λ (xs : List ℕ). get_or xs j 0) front ∙ get_or-take (length near) (drop place t) j 0 lt ∙ get_or-drop place t j 0 in
+    ends_at t place (place + w) (omega arith) (omega (arith, lt, long))
+    (λ k from below.
+    let back : place + (k - place) ≡ k = omega (arith, from) in
+    ap (λ i. is_break (get_or t i 0)) (sym back) ∙ ap is_break (sym (at (k - place) (omega (arith, below, from, lt)))) ∙ plain (k - place) (omega (arith, below, from)))
+    (λ _. ap is_break (sym (at w lt)) ∙ broken)
+
+-- where none of them is one, the line ends where it ends from behind them on
+pub end_behind : (t : List ℕ) (h : HeldPart) (place n : ℕ) → AreHeld h t → h.from ≤ place → place + n ≤ h.from + length h.bytes → ¬ HasBreak (held_starting_at h place) → line_end t (place + n) ≡ line_end t place
+end_behind t h place n held first last none =
+    let d = place - h.from in
+    let here : held_starting_at h place ≡ drop d h.bytes = rw (le-ltb place h.from first) refl in
+    let inside : place + n ≤ length t = omega (arith, last, held.inside) in
+    let missing : (k : ℕ) → place ≤ k → k < place + n → is_break (get_or t k 0) ≡ false = λ k from below.
+    let at : h.from + (k - h.from) ≡ k = omega (arith, from, first) in
+    let j : d + (k - place) ≡ k - h.from = omega (arith, from, first) in
+    let same : get_or (held_starting_at h place) (k - place) 0 ≡ get_or t k 0 =
+    ap (λ (xs : List ℕ). get_or xs (k - place) 0) here ∙ get_or-drop d h.bytes (k - place) 0 ∙ ap (λ i. get_or h.bytes i 0) j
+    ∙ byte_held t h (k - h.from) held (omega (arith, below, from, first, last)) ∙ ap (λ i. get_or t i 0) at in
+    false_from_ne_true (is_break (get_or t k 0)) (λ yes. none (k - place, omega (arith, ap length here, length-drop d h.bytes, below, from, first, last), ap is_break same ∙ yes)) in
+    ends_at t place (line_end t (place + n)) (omega arith) (end_inside t (place + n) inside)
+    (λ k from below. elim (cases_lt k (place + n)) [ inl near ↦ missing k from near | inr far ↦ plain_to_end t (place + n) k far below ])
+    (break_at_end t (place + n) (line_end t (place + n)) refl)
 
 -- ---- the last break before a place
 
--- where a break stands among the last bytes below a place, or these are all, they tell the place's column
-near_column : (t near : List ℕ) (place n width : ℕ) → place ≤ length t → n ≤ place → near ≡ take n (drop (place - n) t) → width ≡ suffix_len (λ b. not (is_break b)) near → (n < place → width < n)
-    → column t place ≡ width
-near_column t near place n width inside few is at short =
-    let plain = λ (b : ℕ). not (is_break b) in
-    elim (cases_lt n place) [
-      | inl below ↦
-          let front = take (place - n) t in
-          let sum : place ≡ place - n + n = omega (arith, below) in
-          let whole : take place t ≡ front ++ near = ap (λ (k : ℕ). take k t) sum ∙ take-add (place - n) n t ∙ ap (λ (xs : List ℕ). front ++ xs) (sym is) in
-          let long : length near ≡ n = omega (arith, ap length is, length-take n (drop (place - n) t), length-drop (place - n) t, inside, below) in
-          let fewer : prefix_len plain (reverse near) ≡ length (reverse near) → ⊥ = λ e. absurd (omega (arith, e, at, short below, long, length-reverse near)) in
-          ap (suffix_len plain) whole ∙ ap (prefix_len plain) (reverse-append front near) ∙ prefix_len-append plain (reverse near) (reverse front)
-          ∙ ap (λ (b : Bool). cond b (length (reverse near) + prefix_len plain (reverse front)) (prefix_len plain (reverse near))) (ne_eqb (prefix_len plain (reverse near)) (length (reverse near)) fewer) ∙ sym at
-      | inr past ↦
-          let all : n ≡ place = omega (arith, past, few) in
-          let none : place - n ≡ 0 = omega (arith, all) in
-          let same : near ≡ take place t = is ∙ ap (λ (k : ℕ). take n (drop k t)) none ∙ ap (λ (k : ℕ). take k t) all in
-          ap (suffix_len plain) (sym same) ∙ sym at
+-- how many are held before it, and which
+few_before : (h : HeldPart) (place : ℕ) → length (held_up_to h place) ≤ place
+few_before h place =
+    elim (cases_lt (h.from + length h.bytes) place) [
+      | inl past ↦ rw (lt-ltb (h.from + length h.bytes) place past) (omega arith)
+      | inr inside ↦ rw (le-ltb (h.from + length h.bytes) place inside) (omega (arith, length-take (place - h.from) h.bytes))
     ]
 
--- bytes that are held before a place are those of the text
-before_place : (t : List ℕ) (h : HeldPart) (place : ℕ) → AreHeld h t
-    → (length (held_up_to h place) ≤ place) × (held_up_to h place ≡ take (length (held_up_to h place)) (drop (place - length (held_up_to h place)) t))
-before_place t h place held =
+byte_before : (t : List ℕ) (h : HeldPart) (place j k : ℕ) → AreHeld h t → j < length (held_up_to h place) → k + length (held_up_to h place) ≡ place + j → get_or (held_up_to h place) j 0 ≡ get_or t k 0
+byte_before t h place j k held lt at =
     elim (cases_lt (h.from + length h.bytes) place) [
-      | inl past ↦ rw (lt-ltb (h.from + length h.bytes) place past) (omega arith, refl)
+      | inl past ↦ let none : length (held_up_to h place) ≡ 0 = rw (lt-ltb (h.from + length h.bytes) place past) refl in absurd (omega (arith, lt, none))
       | inr inside ↦
           let n = place - h.from in
-          let long : length (take n h.bytes) ≡ n = omega (arith, length-take n h.bytes, inside) in
-          rw (le-ltb (h.from + length h.bytes) place inside, long) (
-            omega arith,
-            elim (cases_lt place h.from) [
-              | inl before ↦
-                  let none : n ≡ 0 = omega (arith, before) in
-                  rw none refl
-              | inr from ↦
-                  let at : place - n ≡ h.from = omega (arith, from) in
-                  let few : n ≤ length h.bytes = omega (arith, inside) in
-                  rw at (ap (take n) held.bytes ∙ take-take n (length h.bytes) (drop h.from t) few)
-            ],
-          )
+          let here : held_up_to h place ≡ take n h.bytes = rw (le-ltb (h.from + length h.bytes) place inside) refl in
+          let long : length (held_up_to h place) ≡ n = ap length here ∙ length-take-le n h.bytes (omega (arith, inside)) in
+          let there : h.from + j ≡ k = omega (arith, at, long, lt) in
+          ap (λ (xs : List ℕ). get_or xs j 0) here ∙ get_or-take n h.bytes j 0 (omega (arith, lt, long)) ∙ byte_held t h j held (omega (arith, lt, long, inside)) ∙ ap (λ i. get_or t i 0) there
     ]
 
 -- where there are some, or all of the text's, the place is one of the text
@@ -174,48 +155,36 @@ held_inside t h place held some =
       | inr inside ↦ omega (arith, inside, held.inside)
     ]
 
--- where a break stands among them, or the text has no more, they tell where the line begins
-pub start_is : (t : List ℕ) (h : HeldPart) (place width : ℕ) → place ≤ length t → AreHeld h t → width ≡ suffix_len (λ b. not (is_break b)) (held_up_to h place)
-    → (length (held_up_to h place) < place → width < length (held_up_to h place)) → place - width ≡ line_start t place
-start_is t h place width inside held at short =
-    let near = held_up_to h place in
-    let there = before_place t h place held in
-    ap (λ (k : ℕ). place - k) (sym (near_column t near place (length near) width inside there.0 there.1 at short))
+-- the line begins behind the last break among them, or with them, where they are all of the text's
+pub start_told : (t near : List ℕ) (h : HeldPart) (place w : ℕ) → AreHeld h t → place ≤ length t → near ≡ held_up_to h place → w ≤ length near → ((j : ℕ) → w ≤ j → j < length near → is_break (get_or near j 0) ≡ false)
+    → (1 ≤ w → is_break (get_or near (w - 1) 0) ≡ true) → (w ≡ 0 → length near ≡ place) → place - (length near - w) ≡ line_start t place
+start_told t near h place w held inside is few plain broken all =
+    let n = length near in
+    let long : n ≡ length (held_up_to h place) = ap length is in
+    let most : n ≤ place = omega (arith, long, few_before h place) in
+    let at : (j k : ℕ) → j < n → k + n ≡ place + j → is_break (get_or t k 0) ≡ is_break (get_or near j 0) = λ j k lt same.
+    ap is_break (sym (ap (λ (xs : List ℕ). get_or xs j 0) is ∙ byte_before t h place j k held (omega (arith, lt, long)) (omega (arith, same, long)))) in
+    starts_at t place (place - (n - w)) (omega arith) inside
+    (λ k from below. at (k + n - place) k (omega (arith, below)) (omega (arith, from, few, most)) ∙ plain (k + n - place) (omega (arith, from, few, most)) (omega (arith, below)))
+    (λ some. elim (cases_lt 0 w) [
+      | inl one ↦ at (w - 1) (place - (n - w) - 1) (omega (arith, one, few)) (omega (arith, one, few, most)) ∙ broken one
+      | inr none ↦ absurd (omega (arith, some, none, all (omega (arith, none))))
+    ])
 
 -- what was not told does not hold
 pub not_told : {P : Type 0} (found : Option ℕ) → (IsSome found ↔ P) → found ≡ None → ¬ P
 not_told None told none holds = absurd (let some = told.1 holds in cc)
 not_told (Some place) told none holds = absurd cc
 
--- where all elements are at the end of the list that pass, each of them does
-all_pass : (p : ℕ → Bool) (xs : List ℕ) (k : ℕ) → suffix_len p xs ≡ length xs → k < length xs → p (get_or xs k 0) ≡ true
-all_pass p xs k all lt =
-    let j = length xs - 1 - k in
-    let back : length xs - 1 - j ≡ k = omega (arith, lt) in
-    ap (λ (i : ℕ). p (get_or xs i 0)) (sym back) ∙ ap p (sym (get_or-reverse xs j 0 (omega (arith, lt)))) ∙ prefix_len_passes p (reverse xs) j 0 (omega (arith, all, lt))
-
--- where the bytes that are held before a place do not tell where its line begins, no break stands among them
-pub none_before : (t : List ℕ) (h : HeldPart) (place from : ℕ) → AreHeld h t → h.from ≤ from → place ≤ h.from + length h.bytes → ¬ TellsStart (held_up_to h place) place
-    → (k : ℕ) → from ≤ k → k < place → ¬ StandsAt (0x0A ∷ []) t k
-none_before t h place from held first last untold k above below stands =
-    let plain = λ (b : ℕ). not (is_break b) in
+-- where they do not tell where the line begins, none of them is a break
+pub none_before : (t : List ℕ) (h : HeldPart) (place from k : ℕ) → AreHeld h t → h.from ≤ from → place ≤ h.from + length h.bytes → ¬ TellsStart (held_up_to h place) place → from ≤ k → k < place → ¬ StandsAt (0x0A ∷ []) t k
+none_before t h place from k held first last untold above below stands =
     let n = place - h.from in
-    let near = take n h.bytes in
-    let long : length near ≡ n = length-take-le n h.bytes (omega (arith, last)) in
-    let here : held_up_to h place ≡ near = rw (le-ltb (h.from + length h.bytes) place last) refl in
     let j = k - h.from in
-    let inside : j < n = omega (arith, above, below, first) in
-    let all : suffix_len plain (held_up_to h place) ≡ length (held_up_to h place) = elim (cases_lt (suffix_len plain (held_up_to h place)) (length (held_up_to h place))) [
-      | inl short ↦ absurd (untold (inl short))
-      | inr long ↦ omega (arith, long, suffix_len-le-length plain (held_up_to h place))
-    ] in
-    let passes : plain (get_or near j 0) ≡ true = all_pass plain near j (ap (suffix_len plain) (sym here) ∙ all ∙ ap length here) (omega (arith, inside, long)) in
-    let at : h.from + j ≡ k = omega (arith, above, first) in
-    let same : get_or near j 0 ≡ get_or t k 0 =
-    get_or-take n h.bytes j 0 inside ∙ ap (λ (xs : List ℕ). get_or xs j 0) held.bytes ∙ get_or-take (length h.bytes) (drop h.from t) j 0 (omega (arith, inside, last)) ∙ get_or-drop h.from t j 0 ∙ ap (λ (i : ℕ). get_or t i 0) at in
-    let byte : get_or t k 0 ≡ 10 = stands_tells t k 10 stands in
-    let passes : plain (get_or t k 0) ≡ true = ap plain (sym same) ∙ passes in
-    absurd (let told : plain 10 ≡ true = ap plain (sym byte) ∙ passes in cc)
+    let here : held_up_to h place ≡ take n h.bytes = rw (le-ltb (h.from + length h.bytes) place last) refl in
+    let long : length (held_up_to h place) ≡ n = ap length here ∙ length-take-le n h.bytes (omega (arith, last)) in
+    let lt : j < length (held_up_to h place) = omega (arith, above, below, first, long) in
+    untold (inl (j, lt, ap is_break (byte_before t h place j k held lt (omega (arith, above, below, first, long)) ∙ stands_tells t k 10 stands)))
 
 -- ---- a line that was passed
 

@@ -1,58 +1,33 @@
 -- A line of a text, and what it is where a byte is put into the text or goes out of it.
-use Rattle.std.proofs.Common.{◌≡◌, ℕ, ◌+◌, ◌-◌, ◌<◌, ◌≤◌, true, not, List, ◌++◌, length, take, drop, get_or, sym, ap, ◌∙◌, arith}
-use Rattle.std.specs.List.{position_or_len}
+use Rattle.std.proofs.Common.{◌≡◌, ℕ, ◌+◌, ◌-◌, ◌<◌, ◌≤◌, List, ◌++◌, length, take, drop, get_or, ap, ◌∙◌, arith}
 use Rattle.std.proofs.lemmas.List.{get_or-append_right, get_or-drop, get_or-take, get_or_append_left, length-append, length-drop, length-take, length-take-le}
 use Rattle.std.proofs.lemmas.List.Elements.{All-contains}
-use Rattle.std.proofs.lemmas.List.Sums.{fails_before_first, passes_at_first, position_or_len_is, prefix_len-le-length, suffix_len_is}
 use Rattle.command_parts.specs.Commands.{replaced}
 use Rattle.text_lines.specs.declared.known.KnownLine.{KnownLine}
 use Rattle.text_lines.specs.declared.known_lines.KnownLines.{KnownLines}
 use Rattle.text_lines.specs.KnownLines.{HoldsPlace, IsKnownIn, IsLineOf, known_lines}
-use Rattle.text_lines.specs.Lines.{is_break, column, line_start, line_end}
+use Rattle.text_lines.specs.Lines.{line_start, line_end}
 use Rattle.text_lines.specs.Rows.{IsLineStart}
+use Rattle.text_lines.proofs.LineLaws.{break_at_end, end_inside, ends_at, plain_to_end, starts_at}
 
 -- ---- a line tells where the line of each of its places begins and ends
 
 pub tells_start : (t : List ℕ) (line : KnownLine) (p : ℕ) → IsLineOf t line → line.start ≤ p → p ≤ line.end → line.start ≡ line_start t p
-tells_start t line p h from to =
-    let long : length (take p t) ≡ p = length-take-le p t (omega (arith, to, h.inside)) in
-    let at : column t p ≡ length (take p t) - line.start =
-    suffix_len_is (λ b. not (is_break b)) (take p t) line.start 0 (omega (arith, long, from))
-    (λ k above below. rw (get_or-take p t k 0 (omega (arith, below, long))) (ap not (h.plain k above (omega (arith, below, long, to)))))
-    (λ some. rw (get_or-take p t (line.start - 1) 0 (omega (arith, some, from))) (ap not (h.begins (omega (arith, some))))) in
-    omega (arith, at, long, from)
+tells_start t line p h from to = starts_at t p line.start from (omega (arith, to, h.inside)) (λ k above below. h.plain k above (omega (arith, below, to))) h.begins
 
 pub tells_end : (t : List ℕ) (line : KnownLine) (p : ℕ) → IsLineOf t line → line.start ≤ p → p ≤ line.end → line.end ≡ line_end t p
-tells_end t line p h from to =
-    let rest = length-drop p t in
-    let back : p + (line.end - p) ≡ line.end = omega (arith, to) in
-    let at : position_or_len is_break (drop p t) ≡ line.end - p =
-    position_or_len_is is_break (drop p t) (line.end - p) 0 (omega (arith, rest, h.inside))
-    (λ k below. rw (get_or-drop p t k 0) (h.plain (p + k) (omega (arith, from)) (omega (arith, below, to))))
-    (λ lt. rw (get_or-drop p t (line.end - p) 0, back) (h.ends (omega (arith, lt, rest, to)))) in
-    omega (arith, at, to)
+tells_end t line p h from to = ends_at t p line.end to h.inside (λ k above below. h.plain k (omega (arith, from, above)) below) h.ends
 
 -- ---- a line that was found
 
--- a break stands where the line of a place ends, or the text ends there
-break_at_end : (t : List ℕ) (s e : ℕ) → e ≡ line_end t s → e < length t → is_break (get_or t e 0) ≡ true
-break_at_end t s e is lt =
-    let width = position_or_len is_break (drop s t) in
-    ap (λ i. is_break (get_or t i 0)) is ∙ ap is_break (sym (get_or-drop s t width 0)) ∙ passes_at_first is_break (drop s t) 0 (omega (arith, is, lt, length-drop s t))
-
 pub line_found : (t : List ℕ) (s e : ℕ) → IsLineStart t s → s ≤ length t → e ≡ line_end t s → IsLineOf t (record { start = s; end = e })
-line_found t s e begins inside is =
-    let rest = length-drop s t in
-    let most = prefix_len-le-length (λ b. not (is_break b)) (drop s t) in
-    record {
-      order = omega (arith, is);
-      inside = omega (arith, is, most, rest, inside);
-      begins = begins;
-      plain = λ k from below.
-          let back : s + (k - s) ≡ k = omega (arith, from) in
-          ap (λ i. is_break (get_or t i 0)) (sym back) ∙ ap is_break (sym (get_or-drop s t (k - s) 0)) ∙ fails_before_first is_break (drop s t) (k - s) 0 (omega (arith, is, from, below));
-      ends = break_at_end t s e is;
-    }
+line_found t s e begins inside is = record {
+  order = omega (arith, is);
+  inside = omega (arith, is, end_inside t s inside);
+  begins = begins;
+  plain = λ k from below. plain_to_end t s k from (omega (arith, is, below));
+  ends = break_at_end t s e is;
+}
 
 -- the next one begins behind it
 pub next_begins : (t : List ℕ) (s e : ℕ) → e ≡ line_end t s → e < length t → IsLineStart t (e + 1)

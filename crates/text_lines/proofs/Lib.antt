@@ -1,6 +1,5 @@
 pub mod LineLaws
 pub mod LineSearches
-pub mod NearLaws
 pub mod KnownLaws
 pub mod LearntLines
 pub mod ToldCells

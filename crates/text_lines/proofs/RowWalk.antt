@@ -1,7 +1,6 @@
 -- The rows of a screen, one behind the other.
-use Rattle.std.proofs.Common.{◌≡◌, ℕ, ◌+◌, List, [], ◌∷◌, ◌++◌, drop, get_or, Option, Some, sym, ap, ◌∙◌}
+use Rattle.std.proofs.Common.{◌≡◌, ℕ, ◌+◌, List, [], ◌∷◌, ◌++◌, drop, get_or, Option, Some, sym, ap, ◌∙◌, drop-drop, get_or-drop}
 use Rattle.std.specs.List.{flat_map, range_with_len, slice_split}
-use Rattle.std.proofs.lemmas.List.{drop-drop, get_or-drop}
 use Rattle.text_lines.specs.declared.rows.TheConstants.{SCREEN_ROWS}
 use Rattle.text_lines.specs.Lines.{is_break}
 use Rattle.text_lines.specs.Screen.{first_column, first_line, rows_of_text}

@@ -1,6 +1,5 @@
 -- A screen, put together from its parts.
-use Rattle.std.proofs.Common.{◌≡◌, ℕ, ◌+◌, ◌-◌, ◌*◌, ◌/◌, List, ◌++◌, length, Option, Some, ap, ◌∙◌}
-use Rattle.std.specs.Prelude.{codes}
+use Rattle.std.proofs.Common.{◌≡◌, ℕ, ◌+◌, ◌-◌, ◌*◌, ◌/◌, List, ◌++◌, length, Option, Some, ap, ◌∙◌, codes}
 use Rattle.text_lines.specs.declared.rows.TheConstants.{SCREEN_COLUMNS}
 use Rattle.text_lines.specs.Lines.{column}
 use Rattle.text_lines.specs.Screen.{control, cursor_of, first_column, first_line, line_number_of, rows_of_text, screen_of, status_of}

@@ -1,7 +1,5 @@
 -- Faults that end the showing of a text.
-use Rattle.std.proofs.Common.{◌≡◌, ℕ, ◌≤◌, arith}
-use Rattle.std.specs.Prelude.{Result, Ok, Err}
-use Rattle.std.specs.Result.{IsErrAnd}
+use Rattle.std.proofs.Common.{◌≡◌, ℕ, ◌≤◌, arith, Result, Ok, Err, IsErrAnd}
 use Rattle.rope_node.specs.Denotes.{Cell}
 use Rattle.lazy_file.specs.Readings.{Reading}
 use Rattle.lazy_file.specs.declared.faults.SourceFault.{SourceFault}

@@ -1,8 +1,5 @@
 -- The last row's words, as they are written.
-use Rattle.std.proofs.Common.{◌≡◌, ℕ, List, ◌++◌, Option, Some, None, append_assoc, ap, ◌∙◌}
-use Rattle.std.specs.Prelude.{codes}
-use Rattle.std.specs.Fmt.{decimal}
-use Rattle.std.proofs.lemmas.List.{append-nil}
+use Rattle.std.proofs.Common.{◌≡◌, ℕ, List, ◌++◌, Option, Some, None, append_assoc, ap, ◌∙◌, codes, decimal, append-nil}
 use Rattle.text_lines.specs.Screen.{message_of, status_of}
 
 -- however they are joined

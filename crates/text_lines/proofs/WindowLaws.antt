@@ -9,16 +9,17 @@ use Rattle.text_lines.specs.declared.window.TheConstants.{LINES_ABOVE}
 use Rattle.text_lines.specs.Lines.{is_break, column, line_start}
 use Rattle.text_lines.specs.Screen.{first_line, line_number_of}
 use Rattle.text_lines.specs.Rows.{IsAbove, IsLineStart, IsWindow}
-use Rattle.text_lines.proofs.LineLaws.{column_is, less_one}
+use Rattle.text_lines.proofs.LineLaws.{column_is, less_one, starts_at}
 
 one_line_back : (t : List ℕ) (s : ℕ) → IsLineStart t s → 1 ≤ s → s ≤ length t → line_number_of t s ≡ line_number_of t (s - 1) + 1
 one_line_back t s begins some le =
     let back : s - 1 + 1 ≡ s = omega (arith, some) in
     ap (λ (n : ℕ). line_number_of t n) (sym back) ∙ count_by_more_yes is_break t (s - 1) 0 (omega (arith, some, le)) (begins some)
 
--- a place's line begins where its start is
+-- a place's line begins where its start is, and no break stands from there on up to the place
 record Begins (t : List ℕ) (p : ℕ) : Type 0 where
   begins : IsLineStart t (line_start t p)
+  plain : (k : ℕ) → line_start t p ≤ k → k < p → is_break (get_or t k 0) ≡ false
   lines : line_number_of t (line_start t p) ≡ line_number_of t p
 
 begins_more : (t : List ℕ) (p q : ℕ) → q ≡ p + 1 → q ≤ length t → Begins t p → Begins t q
@@ -31,6 +32,7 @@ begins_more t p q is le before =
           let back : q - 1 ≡ p = omega (arith, is) in
           record {
             begins = subst (IsLineStart t) (sym at) (λ some. rw back broken);
+            plain = λ k from lt. absurd (omega (arith, from, lt, at));
             lines = ap (line_number_of t) at;
           }
       | inr plain ↦
@@ -39,16 +41,26 @@ begins_more t p q is le before =
           let at : line_start t q ≡ line_start t p = omega (arith, more, same, is) in
           record {
             begins = subst (IsLineStart t) (sym at) before.begins;
+            plain = λ k from lt. elim (cases_lt k p) [
+              | inl below ↦ before.plain k (omega (arith, from, at)) below
+              | inr here ↦ let same : k ≡ p = omega (arith, here, lt, is) in rw same plain
+            ];
             lines = ap (line_number_of t) at ∙ before.lines ∙ sym (rw is (count_by_more_no is_break t p 0 (omega (arith, is, le)) plain));
           }
     ]
 
 begins_at : (t : List ℕ) (p : ℕ) → p ≤ length t → Begins t p
-begins_at t zero le = record { begins = λ some. absurd (omega (arith, some)); lines = refl }
+begins_at t zero le = record { begins = λ some. absurd (omega (arith, some)); plain = λ k from lt. absurd (omega (arith, lt)); lines = refl }
 begins_at t (suc p) le = begins_more t p (suc p) (omega arith) le (begins_at t p (omega (arith, le)))
 
 pub start_begins : (t : List ℕ) (p : ℕ) → p ≤ length t → IsLineStart t (line_start t p)
 start_begins t p le = let at = begins_at t p le in at.begins
+
+-- where no break stands from one place up to another, both are in one line
+pub same_start : (t : List ℕ) (back place : ℕ) → back ≤ place → place ≤ length t → ((k : ℕ) → back ≤ k → k < place → is_break (get_or t k 0) ≡ false) → line_start t back ≡ line_start t place
+same_start t back place before inside none =
+    let at = begins_at t back (omega (arith, before, inside)) in
+    starts_at t place (line_start t back) (omega (arith, before)) inside (λ k from lt. elim (cases_lt k back) [ inl below ↦ at.plain k from below | inr above ↦ none k above lt ]) at.begins
 
 -- one line more above
 pub above_more : (t : List ℕ) (start top next row : ℕ) → IsAbove t start top row → 1 ≤ top → top ≤ length t → next ≡ line_start t (top - 1) → IsAbove t start next (row + 1)

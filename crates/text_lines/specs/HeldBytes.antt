@@ -1,6 +1,5 @@
 -- Bytes of a text that are held, to look for line breaks among them.
-use Rattle.std.specs.Prelude.{◌≡◌, ◌⊎◌, ℕ, ◌+◌, ◌-◌, ◌<◌, ◌≤◌, not, nat_lt, if◌then◌else◌, List, [], length, take, drop, Option, IfSome}
-use Rattle.std.specs.List.{position_or_len, suffix_len}
+use Rattle.std.specs.Prelude.{◌≡◌, ◌⊎◌, ℕ, ◌+◌, ◌-◌, ◌<◌, ◌≤◌, true, nat_lt, if◌then◌else◌, List, [], length, take, drop, get_or, Option, IfSome}
 use Rattle.rope_node.specs.declared.node.NodeId.{NodeId}
 use Rattle.rope_node.specs.Table.{Table}
 use Rattle.lazy_file.specs.Readings.{Reading}
@@ -38,9 +37,8 @@ pub record HoldsText (t : Table) (sources : Reading) (rope : Option NodeId) (hel
 
 -- a line break is among these bytes
 abbrev pub HasBreak : List ℕ → Type 0
-HasBreak bytes = position_or_len is_break bytes < length bytes
+HasBreak bytes = (k : ℕ) × (k < length bytes) × (is_break (get_or bytes k 0) ≡ true)
 
--- these bytes, which stand before a place, tell where its line begins: a line break is among them, not all of them stand
--- behind the last one, or no more stand there
+-- these bytes, which stand before a place, tell where its line begins: a line break is among them, or no more stand there
 abbrev pub TellsStart : List ℕ → ℕ → Type 0
-TellsStart bytes place = (suffix_len (λ b. not (is_break b)) bytes < length bytes) ⊎ (length bytes ≡ place)
+TellsStart bytes place = HasBreak bytes ⊎ (length bytes ≡ place)

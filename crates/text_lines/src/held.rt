@@ -10,12 +10,10 @@ ghost use Rattle.text_lines.specs.declared.known.KnownLine.{KnownLine};
 ghost use Rattle.text_lines.specs.KnownLines.{known_lines, learnt};
 ghost use Rattle.text_lines.specs.Lines.{line_end, next_line};
 
-use crate::asking::ask_part;
 use crate::known::KnownLine;
 use crate::known_lines::KnownLines;
-use crate::near::read_part;
 use cord_position::Pos;
-use cord_search::PIECE;
+use cord_search::{PIECE, gather};
 use lazy_file::{SourceFault, Sources};
 use rope_node::{NodeSpace, Rope, rope_len};
 use std::alloc::Global;
@@ -24,8 +22,32 @@ use std::marker::Model;
 /// The most bytes that are held: those that a search looks at at once, and the lines before them.
 const ROOM: usize = PIECE + 1_024;
 
-/// How many bytes before a place are held first where they lie in several leaves: mostly a line break is among them.
-pub const NEAR: u64 = 1_024;
+/// Reads the bytes of a text from `start` on into the whole of the buffer, as a search does: by one read for each leaf.
+pub fn read_part<S: NodeSpace, T: Sources>(
+    space: &S,
+    sources: &mut T,
+    rope: Rope,
+    start: u64,
+    buffer: &mut [u8],
+) -> Result<(), SourceFault>
+    requires rope { IsRope (S.table space.now) rope }
+    requires inside { start + length buffer.old ≤ rope_len (S.table space.now) rope }
+    ensures length { length buffer.new ≡ length buffer.old }
+    ensures bytes { OnOk result (OfText (S.table space.now) (T.reading sources.old).stated rope
+        (λ t. buffer.new ≡ take (length buffer.old) (drop start t))) }
+    ensures reads { ReadsSpan (T.reading sources.old) (T.reading sources.new)
+        (rope_cell (S.table space.now) rope) start (start + length buffer.old) result }
+{
+    let _len = rope_len(space, rope);
+    if buffer.is_empty() {
+        return Ok(());
+    }
+    match rope {
+        Some(node) => gather(space, sources, node, start, buffer)?,
+        None => unreachable!(),
+    }
+    Ok(())
+}
 
 /// Where the line begins behind one that ends at a place, in a text of `len` bytes.
 fn next_line(end: u64, len: u64) -> Option<u64>
@@ -42,8 +64,6 @@ pub struct HeldBytes {
     start: usize,
     /// They were read leaf by leaf, by short reads, whose blocks are kept.
     kept: bool,
-    /// The blocks from here on up to those of the bytes that are held were asked for.
-    asked: u64,
     bytes: [u8; ROOM],
     /// The leaf that was looked for last: from its first place up to its end.
     leaf_start: u64,
@@ -74,7 +94,6 @@ impl HeldBytes {
             from: 0,
             start: ROOM,
             kept: true,
-            asked: 0,
             bytes: [0; ROOM],
             leaf_start: 0,
             leaf_end: 0,
@@ -155,7 +174,6 @@ impl HeldBytes {
         self.from = place;
         self.start = ROOM;
         self.kept = true;
-        self.asked = place;
     }
 
     /// Reads the bytes from `from` on before those that are held, leaf by leaf, and holds them too.
@@ -186,35 +204,6 @@ impl HeldBytes {
         Ok(())
     }
 
-    /// Reads the `PIECE` bytes before a place, and holds nothing else. They lie in one leaf, so one long read brings
-    /// them, and no block of them is kept.
-    ///
-    /// # Errors
-    ///
-    /// A source's fault, where a byte is one of that source and the read of it failed.
-    pub fn read_window<S: NodeSpace, T: Sources>(
-        &mut self,
-        space: &S,
-        sources: &mut T,
-        rope: Rope,
-        end: u64,
-    ) -> Result<(), SourceFault>
-        requires rope { IsRope (S.table space.now) rope }
-        requires end { end ≤ rope_len (S.table space.now) rope }
-        requires window { PIECE ≤ end }
-        requires held { HoldsText (S.table space.now) (T.reading sources.old) rope self.old }
-        ensures span { OnOk result ((self.new.from + PIECE ≡ end) × (length self.new.bytes ≡ PIECE)) }
-        ensures held { OnOk result (HoldsText (S.table space.now) (T.reading sources.old) rope self.new) }
-        ensures reads { ReadsSpan (T.reading sources.old) (T.reading sources.new)
-            (rope_cell (S.table space.now) rope) (end - PIECE) end result }
-    {
-        prove!(end <= rope_len(space, rope));
-        self.begin_at(end);
-        self.read_before(space, sources, rope, end - PIECE as u64)?;
-        self.kept = false;
-        Ok(())
-    }
-
     /// Whether it is enough to read the bytes from `from` up to the first that is held: what is held reaches up to
     /// `end` and came by blocks that are kept, and there is room.
     fn takes_before(&self, from: u64, end: u64) -> bool
@@ -224,15 +213,10 @@ impl HeldBytes {
         self.kept && self.reaches(end) && self.from.saturating_sub(from) <= self.start as u64
     }
 
-    /// Asks for the blocks of the `PIECE` bytes before a place, from the first on, or of all where there are fewer.
-    /// Blocks that were asked for on the way to what is held are not asked for again, and none are where the bytes lie
-    /// in one leaf (`straight`). Where nothing is held up to the place, it holds the `NEAR` bytes before it, and nothing
-    /// else.
-    ///
-    /// # Errors
-    ///
-    /// A source's fault, where a byte is one of that source and the read of it failed.
-    pub fn ask_before<S: NodeSpace, T: Sources>(
+    /// Holds the `PIECE` bytes before a place, or all where there are fewer. Where they lie in one leaf (`straight`), one
+    /// long read brings them, no block of them is kept, and nothing else is held. Elsewhere it reads leaf by leaf, by
+    /// blocks that are kept, and no byte again that is held and came so: the blocks are those of a search through them.
+    pub(crate) fn hold_before<S: NodeSpace, T: Sources>(
         &mut self,
         space: &S,
         sources: &mut T,
@@ -242,67 +226,21 @@ impl HeldBytes {
     ) -> Result<(), SourceFault>
         requires rope { IsRope (S.table space.now) rope }
         requires end { end ≤ rope_len (S.table space.now) rope }
-        requires held { HoldsText (S.table space.now) (T.reading sources.old) rope self.old }
-        ensures held { OnOk result (HoldsText (S.table space.now) (T.reading sources.old) rope self.new) }
-        ensures reads { ReadsSpan (T.reading sources.old) (T.reading sources.new)
-            (rope_cell (S.table space.now) rope) (end - PIECE) end result }
-    {
-        prove!(end <= rope_len(space, rope));
-        if straight {
-            return Ok(());
-        }
-        let from = end.saturating_sub(PIECE as u64);
-        if self.kept && self.reaches(end) {
-            ask_part(space, sources, rope, from, self.asked.min(end))?;
-            self.asked = self.asked.min(from);
-            return Ok(());
-        }
-        let near = end.saturating_sub(NEAR);
-        ask_part(space, sources, rope, from, near)?;
-        self.begin_at(end);
-        self.read_before(space, sources, rope, near)?;
-        self.asked = from;
-        Ok(())
-    }
-
-    /// Holds the `count` bytes before a place, at most `PIECE`, or all where there are fewer. Where the `PIECE` bytes
-    /// before it lie in one leaf (`straight`), one read brings these; elsewhere it reads leaf by leaf, by blocks that
-    /// are kept, and no byte again that is held and came so.
-    ///
-    /// # Errors
-    ///
-    /// A source's fault, where a byte is one of that source and the read of it failed.
-    pub fn hold_before<S: NodeSpace, T: Sources>(
-        &mut self,
-        space: &S,
-        sources: &mut T,
-        rope: Rope,
-        end: u64,
-        count: u64,
-        straight: bool,
-    ) -> Result<(), SourceFault>
-        requires rope { IsRope (S.table space.now) rope }
-        requires end { end ≤ rope_len (S.table space.now) rope }
-        requires count { count ≤ PIECE }
         requires straight { IsTrue straight → PIECE ≤ end }
         requires held { HoldsText (S.table space.now) (T.reading sources.old) rope self.old }
-        ensures span { OnOk result (self.new.from ≤ end - count × end ≤ self.new.from + length self.new.bytes) }
+        ensures span { OnOk result (self.new.from ≤ end - PIECE × end ≤ self.new.from + length self.new.bytes) }
         ensures held { OnOk result (HoldsText (S.table space.now) (T.reading sources.old) rope self.new) }
         ensures reads { ReadsSpan (T.reading sources.old) (T.reading sources.new)
             (rope_cell (S.table space.now) rope) (end - PIECE) end result }
     {
         prove!(end <= rope_len(space, rope));
-        let from = end.saturating_sub(count);
-        if self.from <= from && self.reaches(end) {
-            return Ok(());
-        }
-        if straight {
-            return self.read_window(space, sources, rope, end);
-        }
-        if !self.takes_before(from, end) {
+        let from = end.saturating_sub(PIECE as u64);
+        if straight || !self.takes_before(from, end) {
             self.begin_at(end);
         }
-        self.read_before(space, sources, rope, from)
+        self.read_before(space, sources, rope, from)?;
+        self.kept = !straight;
+        Ok(())
     }
 
     /// The `count` bytes from a place on, where these are held and came by blocks that are kept.

@@ -50,32 +50,22 @@ impl KnownLine {
         ensures line { IfSome result (IsTyped place byte self) }
         ensures kept { self.start ≤ self.end → self.end + 1 < 2 ^ 64 → IsSome result }
     {
-        let after = KnownLine {
-            start: self.start.checked_add(1)?,
-            end: self.end.checked_add(1)?,
-        };
+        let start = self.start.checked_add(1)?;
+        let end = self.end.checked_add(1)?;
         if place < self.start {
-            return Some(after);
+            return Some(KnownLine { start, end });
         }
         if self.end < place {
             return Some(self);
         }
         if byte != LINE_BREAK {
-            return Some(KnownLine {
-                start: self.start,
-                end: after.end,
-            });
+            return Some(KnownLine { end, ..self });
         }
         if place - self.start > self.end - place {
-            return Some(KnownLine {
-                start: self.start,
-                end: place,
-            });
+            return Some(KnownLine { end: place, ..self });
         }
-        Some(KnownLine {
-            start: place + 1,
-            end: after.end,
-        })
+        let start = place + 1;
+        Some(KnownLine { start, end })
     }
 
     /// The line after `count` bytes are taken out at a place. It is forgotten where the break before it or behind it is
@@ -89,18 +79,13 @@ impl KnownLine {
         }
         let end = self.end.checked_sub(count)?;
         if self.start <= place && place <= end {
-            return Some(KnownLine {
-                start: self.start,
-                end,
-            });
+            return Some(KnownLine { end, ..self });
         }
         if self.start.checked_sub(place)? <= count {
             return None;
         }
-        Some(KnownLine {
-            start: self.start - count,
-            end,
-        })
+        let start = self.start - count;
+        Some(KnownLine { start, end })
     }
 
     /// The line after `put` bytes are put in at a place, whatever they are. It is forgotten where they are put into it,
@@ -115,10 +100,9 @@ impl KnownLine {
         if place >= self.start {
             return None;
         }
-        Some(KnownLine {
-            start: self.start.checked_add(put)?,
-            end: self.end.checked_add(put)?,
-        })
+        let start = self.start.checked_add(put)?;
+        let end = self.end.checked_add(put)?;
+        Some(KnownLine { start, end })
     }
 }
 

@@ -1,16 +1,13 @@
 //! The lines of a rope's text: where they begin and end, and the screen that shows them about a place.
 #![tactic(auto)]
 
-mod asking;
-mod before;
-mod behind;
+mod borders;
 mod fault;
 mod frame;
 mod held;
 mod known;
 mod known_lines;
 mod lines;
-mod near;
 mod rows;
 mod window;
 

@@ -1,11 +1,11 @@
 //! Where the lines of a rope's text begin and end, and where up and down lead.
 
-ghost use Rattle.std.specs.Prelude.{◌≡◌, ◌≤◌, IfOk};
+ghost use Rattle.std.specs.Prelude.{◌≤◌, IfOk};
 ghost use Rattle.rope_node.specs.Denotes.{IsRope, rope_len};
-ghost use Rattle.cord_position.specs.Fetched.{ReadsSpan, rope_cell};
 ghost use Rattle.cord_search.specs.Stated.{OfText};
 ghost use Rattle.text_lines.specs.KnownLines.{IsKnownIn};
 ghost use Rattle.text_lines.specs.Lines.{line_start, line_end, place_up, place_down};
+ghost use Rattle.text_lines.specs.Texts.{IsTextPlace, ReadsText};
 
 use crate::known_lines::KnownLines;
 use cord_search::{PIECE, chr_with, rchr};
@@ -34,10 +34,8 @@ pub fn line_start<S: NodeSpace, T: Sources>(
     requires place { place ≤ rope_len (S.table space.now) rope }
     requires known { OfText (S.table space.now) (T.reading sources.old).stated rope (IsKnownIn known.now) }
     ensures inside { IfOk result (λ p. p ≤ place) }
-    ensures is { IfOk result (λ p.
-        OfText (S.table space.now) (T.reading sources.old).stated rope (λ t. p ≡ line_start t place)) }
-    ensures reads { ReadsSpan (T.reading sources.old) (T.reading sources.new)
-        (rope_cell (S.table space.now) rope) 0 (rope_len (S.table space.now) rope) result }
+    ensures is { IsTextPlace (S.table space.now) rope (T.reading sources.old) (λ t. line_start t place) result }
+    ensures reads { ReadsText (S.table space.now) rope (T.reading sources.old) (T.reading sources.new) result }
 {
     prove!(place <= rope_len(space, rope));
     if place == 0 {
@@ -70,10 +68,8 @@ pub fn line_end<S: NodeSpace, T: Sources>(
     requires known { OfText (S.table space.now) (T.reading sources.old).stated rope (IsKnownIn known.now) }
     ensures from { IfOk result (λ p. place ≤ p) }
     ensures inside { IfOk result (λ p. p ≤ rope_len (S.table space.now) rope) }
-    ensures is { IfOk result (λ p.
-        OfText (S.table space.now) (T.reading sources.old).stated rope (λ t. p ≡ line_end t place)) }
-    ensures reads { ReadsSpan (T.reading sources.old) (T.reading sources.new)
-        (rope_cell (S.table space.now) rope) 0 (rope_len (S.table space.now) rope) result }
+    ensures is { IsTextPlace (S.table space.now) rope (T.reading sources.old) (λ t. line_end t place) result }
+    ensures reads { ReadsText (S.table space.now) rope (T.reading sources.old) (T.reading sources.new) result }
 {
     let len = rope_len(space, rope);
     match known.about(place) {
@@ -83,10 +79,6 @@ pub fn line_end<S: NodeSpace, T: Sources>(
 }
 
 /// The first line break at a place or behind it, or the text's end, by a search, with a buffer that is handed in.
-///
-/// # Errors
-///
-/// A source's fault, where a byte is one of that source and the read of it failed.
 #[tactic(auto, using(crate::proofs::ToldLater::failed_then))]
 pub fn line_end_with<S: NodeSpace, T: Sources>(
     alloc: Global,
@@ -100,10 +92,8 @@ pub fn line_end_with<S: NodeSpace, T: Sources>(
     requires place { place ≤ rope_len (S.table space.now) rope }
     ensures from { IfOk result (λ p. place ≤ p) }
     ensures inside { IfOk result (λ p. p ≤ rope_len (S.table space.now) rope) }
-    ensures is { IfOk result (λ p.
-        OfText (S.table space.now) (T.reading sources.old).stated rope (λ t. p ≡ line_end t place)) }
-    ensures reads { ReadsSpan (T.reading sources.old) (T.reading sources.new)
-        (rope_cell (S.table space.now) rope) 0 (rope_len (S.table space.now) rope) result }
+    ensures is { IsTextPlace (S.table space.now) rope (T.reading sources.old) (λ t. line_end t place) result }
+    ensures reads { ReadsText (S.table space.now) rope (T.reading sources.old) (T.reading sources.new) result }
 {
     let found = chr_with(alloc, space, sources, rope, place, LINE_BREAK, buffer)?;
     Ok(found.unwrap_or(rope_len(space, rope)))
@@ -127,10 +117,8 @@ pub fn place_up<S: NodeSpace, T: Sources>(
     requires place { place ≤ rope_len (S.table space.now) rope }
     requires known { OfText (S.table space.now) (T.reading sources.old).stated rope (IsKnownIn known.now) }
     ensures inside { IfOk result (λ p. p ≤ rope_len (S.table space.now) rope) }
-    ensures is { IfOk result (λ p.
-        OfText (S.table space.now) (T.reading sources.old).stated rope (λ t. p ≡ place_up t place)) }
-    ensures reads { ReadsSpan (T.reading sources.old) (T.reading sources.new)
-        (rope_cell (S.table space.now) rope) 0 (rope_len (S.table space.now) rope) result }
+    ensures is { IsTextPlace (S.table space.now) rope (T.reading sources.old) (λ t. place_up t place) result }
+    ensures reads { ReadsText (S.table space.now) rope (T.reading sources.old) (T.reading sources.new) result }
 {
     let start = line_start(alloc, space, sources, rope, known, place)?;
     if start == 0 {
@@ -158,10 +146,8 @@ pub fn place_down<S: NodeSpace, T: Sources>(
     requires place { place ≤ rope_len (S.table space.now) rope }
     requires known { OfText (S.table space.now) (T.reading sources.old).stated rope (IsKnownIn known.now) }
     ensures inside { IfOk result (λ p. p ≤ rope_len (S.table space.now) rope) }
-    ensures is { IfOk result (λ p.
-        OfText (S.table space.now) (T.reading sources.old).stated rope (λ t. p ≡ place_down t place)) }
-    ensures reads { ReadsSpan (T.reading sources.old) (T.reading sources.new)
-        (rope_cell (S.table space.now) rope) 0 (rope_len (S.table space.now) rope) result }
+    ensures is { IsTextPlace (S.table space.now) rope (T.reading sources.old) (λ t. place_down t place) result }
+    ensures reads { ReadsText (S.table space.now) rope (T.reading sources.old) (T.reading sources.new) result }
 {
     let end = line_end(alloc, space, sources, rope, known, place)?;
     if end == rope_len(space, rope) {

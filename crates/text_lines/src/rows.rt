@@ -9,10 +9,9 @@ ghost use Rattle.text_lines.specs.HeldBytes.{HoldsText};
 ghost use Rattle.text_lines.specs.Showing.{ReadsToShow};
 ghost use Rattle.text_lines.specs.Rows.{lines_from, rows_on_screen, PushesLine};
 
-use crate::behind::near_end;
+use crate::borders::near_end;
 use crate::fault::FrameFault;
-use crate::held::HeldBytes;
-use crate::near::read_part;
+use crate::held::{HeldBytes, read_part};
 use cord_search::PIECE;
 use lazy_file::Sources;
 use rope_node::{NodeSpace, Rope, rope_len};
@@ -125,10 +124,6 @@ fn push_line<S: NodeSpace, T: Sources>(
 
 /// Appends the rows of the screen: its first line begins at `top`, and its first column is `left`. Line ends are looked
 /// for among the bytes that are held first.
-///
-/// # Errors
-///
-/// `Source`, where a byte or a line break could not be read. `Memory`, where memory was refused.
 pub fn push_rows<S: NodeSpace, T: Sources>(
     alloc: Global,
     held: &mut HeldBytes,

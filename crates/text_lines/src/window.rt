@@ -2,13 +2,13 @@
 
 ghost use Rattle.std.specs.Prelude.{◌≡◌, ◌<◌, ◌≤◌, IfOk};
 ghost use Rattle.rope_node.specs.Denotes.{IsRope, rope_len};
-ghost use Rattle.cord_position.specs.Fetched.{ReadsSpan, rope_cell};
 ghost use Rattle.cord_search.specs.Stated.{OfText};
 ghost use Rattle.text_lines.specs.declared.window.TheConstants.{LINES_ABOVE};
 ghost use Rattle.text_lines.specs.HeldBytes.{HoldsText};
 ghost use Rattle.text_lines.specs.Rows.{IsAbove, IsWindow};
+ghost use Rattle.text_lines.specs.Texts.{ReadsText};
 
-use crate::before::near_start;
+use crate::borders::near_start;
 use crate::held::HeldBytes;
 use lazy_file::{SourceFault, Sources};
 use rope_node::{NodeSpace, Rope, rope_len};
@@ -47,8 +47,7 @@ fn go_back<S: NodeSpace, T: Sources>(
     ensures back { IfOk result (λ x. OfText (S.table space.now) (T.reading sources.old).stated rope
         (λ t. IsAbove t start x.0 x.1)) }
     ensures held { IfOk result (λ _. HoldsText (S.table space.now) (T.reading sources.old) rope held.new) }
-    ensures reads { ReadsSpan (T.reading sources.old) (T.reading sources.new)
-        (rope_cell (S.table space.now) rope) 0 (rope_len (S.table space.now) rope) result }
+    ensures reads { ReadsText (S.table space.now) rope (T.reading sources.old) (T.reading sources.new) result }
 {
     prove!(start <= rope_len(space, rope));
     let mut top = start;
@@ -61,10 +60,6 @@ fn go_back<S: NodeSpace, T: Sources>(
 }
 
 /// What the screen shows about a place. It looks among the bytes that are held first.
-///
-/// # Errors
-///
-/// A source's fault, where a byte is one of that source and the read of it failed.
 #[tactic(auto, using(crate::proofs::ToldLater::failed_then))]
 pub fn window_about<S: NodeSpace, T: Sources>(
     alloc: Global,
@@ -83,8 +78,7 @@ pub fn window_about<S: NodeSpace, T: Sources>(
     ensures is { IfOk result (λ w. OfText (S.table space.now) (T.reading sources.old).stated rope
         (λ t. IsWindow t place w.top w.row w.column)) }
     ensures held { IfOk result (λ _. HoldsText (S.table space.now) (T.reading sources.old) rope held.new) }
-    ensures reads { ReadsSpan (T.reading sources.old) (T.reading sources.new)
-        (rope_cell (S.table space.now) rope) 0 (rope_len (S.table space.now) rope) result }
+    ensures reads { ReadsText (S.table space.now) rope (T.reading sources.old) (T.reading sources.new) result }
 {
     prove!(place <= rope_len(space, rope));
     let start = near_start(alloc, held, space, sources, rope, place)?;

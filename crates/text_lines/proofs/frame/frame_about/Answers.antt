@@ -1,5 +1,4 @@
-use Rattle.std.proofs.Common.{◌≡◌, ◌++◌, ◌∙◌, Some, ◌*◌, ◌/◌, length, refl, sym}
-use Rattle.std.specs.Option.{option_map}
+use Rattle.std.proofs.Common.{◌≡◌, ◌++◌, ◌∙◌, Some, ◌*◌, ◌/◌, length, refl, sym, option_map}
 use Rattle.rope_node.specs.Denotes.{rope_cells, text}
 use Rattle.cord_search.proofs.Fetches.{text_length}
 use Rattle.text_lines.specs.declared.rows.TheConstants.{SCREEN_COLUMNS}

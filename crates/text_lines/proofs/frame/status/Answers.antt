@@ -1,6 +1,4 @@
-use Rattle.std.proofs.Common.{◌≡◌, ap, subst}
-use Rattle.std.specs.Prelude.{IfOk, string_bytes}
-use Rattle.std.specs.Option.{option_map}
+use Rattle.std.proofs.Common.{◌≡◌, ap, subst, IfOk, string_bytes, option_map}
 use Rattle.text_lines.proofs.Status.{status_plain, status_coded}
 use Rattle.text_lines.proofs.frame.status.Goals as goal
 

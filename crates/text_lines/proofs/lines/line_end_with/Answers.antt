@@ -1,5 +1,4 @@
-use Rattle.std.proofs.Common.{sym, ap, ◌∙◌}
-use Rattle.std.specs.Option.{unwrap_or}
+use Rattle.std.proofs.Common.{sym, ap, ◌∙◌, unwrap_or}
 use Rattle.text_lines.proofs.LineSearches.{end_found}
 use Rattle.text_lines.proofs.lines.line_end_with.Goals as goal
 

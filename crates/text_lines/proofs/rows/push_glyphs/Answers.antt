@@ -1,6 +1,4 @@
-use Rattle.std.proofs.Common.{◌≡◌, ◌++◌, ◌∷◌, [], ℕ, List, map, take, length, if◌then◌else◌, Result, Ok, Err, get_or, sym, ap, subst, ◌∙◌, arith}
-use Rattle.std.specs.Prelude.{OnOk}
-use Rattle.std.specs.Result.{is_ok}
+use Rattle.std.proofs.Common.{◌≡◌, ◌++◌, ◌∷◌, [], ℕ, List, map, take, length, if◌then◌else◌, Result, Ok, Err, get_or, sym, ap, subst, ◌∙◌, arith, OnOk, is_ok}
 use Rattle.std.proofs.lemmas.List.{length-set, map-append, take_all, take_more, take_more_set}
 use Rattle.text_lines.specs.Screen.{glyph}
 use Rattle.text_lines.proofs.rows.push_glyphs.Goals as goal

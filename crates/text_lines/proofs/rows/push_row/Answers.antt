@@ -1,5 +1,4 @@
-use Rattle.std.proofs.Common.{◌≡◌, ◌+◌, ◌-◌, ◌++◌, ℕ, List, length, map, take, drop, ap, subst, ◌∙◌, arith}
-use Rattle.std.proofs.lemmas.List.{length-append, length-drop, length-take}
+use Rattle.std.proofs.Common.{◌≡◌, ◌+◌, ◌-◌, ◌++◌, ℕ, List, length, map, take, drop, ap, subst, ◌∙◌, arith, length-append, length-drop, length-take}
 use Rattle.rope_node.specs.Denotes.{rope_cells, text}
 use Rattle.text_lines.specs.Screen.{glyph}
 use Rattle.text_lines.proofs.RowLaws.{glyphs_more}

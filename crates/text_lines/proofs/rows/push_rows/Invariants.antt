@@ -1,5 +1,4 @@
-use Rattle.std.proofs.Common.{◌≡◌, ◌≤◌}
-use Rattle.std.specs.Prelude.{IfSome}
+use Rattle.std.proofs.Common.{◌≡◌, ◌≤◌, IfSome}
 use Rattle.rope_node.specs.Denotes.{rope_len}
 use Rattle.cord_search.specs.Stated.{OfText}
 use Rattle.text_lines.specs.HeldBytes.{HoldsText}

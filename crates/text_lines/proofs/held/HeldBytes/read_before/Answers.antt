@@ -1,5 +1,4 @@
-use Rattle.std.proofs.Common.{◌≡◌, ◌-◌, ◌≤◌, ℕ, length, take, drop, sym, ap, subst, ◌∙◌, arith}
-use Rattle.std.proofs.lemmas.List.{length-drop}
+use Rattle.std.proofs.Common.{◌≡◌, ◌-◌, ◌≤◌, ℕ, length, take, drop, sym, ap, subst, ◌∙◌, arith, length-drop}
 use Rattle.rope_node.specs.Denotes.{rope_cells, text}
 use Rattle.text_lines.specs.HeldBytes.{AreHeld, HeldPart}
 use borrow.Rule.Slice.PartMut.{mid_len, put_mid}

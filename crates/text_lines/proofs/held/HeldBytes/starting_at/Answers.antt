@@ -1,6 +1,4 @@
-use Rattle.std.proofs.Common.{◌≡◌, ◌+◌, ◌-◌, ◌≤◌, drop, ap, sym, subst, ◌∙◌, arith}
-use Rattle.std.proofs.lemmas.Bool.{le-ltb}
-use Rattle.std.proofs.lemmas.List.{drop-drop, length-drop, take_all}
+use Rattle.std.proofs.Common.{◌≡◌, ◌+◌, ◌-◌, ◌≤◌, drop, ap, sym, subst, ◌∙◌, arith, le-ltb, drop-drop, length-drop, take_all}
 use Rattle.text_lines.specs.declared.held.TheConstants.{ROOM}
 use Rattle.text_lines.specs.HeldBytes.{HeldPart, held_starting_at}
 use Rattle.text_lines.proofs.held.HeldBytes.starting_at.Goals as goal

@@ -1,5 +1,4 @@
-use Rattle.std.proofs.Common.{◌≡◌, ◌<◌, ◌∙◌, true, false, [], ◌∷◌, ◌++◌, List, length, get_or, sym, ap, subst}
-use Rattle.std.proofs.lemmas.List.{take_all}
+use Rattle.std.proofs.Common.{◌≡◌, ◌<◌, ◌∙◌, true, false, [], ◌∷◌, ◌++◌, List, length, get_or, sym, ap, subst, take_all}
 use Rattle.text_lines.specs.declared.known.KnownLine.{KnownLine}
 use Rattle.text_lines.specs.declared.known_lines.TheConstants.{MOST_LINES}
 use Rattle.text_lines.specs.KnownLines.{known_lines, learnt}
