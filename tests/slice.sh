@@ -6,14 +6,14 @@
 # the gate built it; images by the C library, through its Python module, where `make library` built it; where there is gcc, each allocation of that
 # program's runs refused, and of those of refusal_tests, as the gate built them; and whether docs/HEADLINE.md and docs/DEFINITIONS.md are what specs/
 # say, each new name there one thing, and each call and clause there that a crate's README.md or docs/PROVED.md names, whether wrong edits keep the
-# names that proofs cite, whether matches name each kind, whether each tool and its options stand in help, completions and pages, and whether
-# CONTRIBUTING.md names each file that a new one is told in. Where there is no python3 nothing of it is tried, which is told. What a test left out is
-# told too. The last line is 'N passed, M failed'; the status is not 0 where one failed.
+# names that proofs cite, whether matches name each kind, whether each whole image in tests of crates is a worked one, whether each tool and its options
+# stand in help, completions and pages, and whether CONTRIBUTING.md names each file that a new one is told in. Where there is no python3 nothing of it
+# is tried, which is told. What a test left out is told too. The last line is 'N passed, M failed'; the status is not 0 where one failed.
 set -u
 top=$(cd "$(dirname "$0")/.." && pwd)
 program=${1:-$top/crates/cordkit/out/cordkit}
 if ! command -v python3 > /dev/null; then
-    echo "LEFT OUT: the second checker, damaged images, keys, scripts, scripts behind images, commits, crashes of the editor, where bytes come from, the history of README.md, the inputs of the fuzzer, large sources, blocks that are kept, the answers of the start, refused allocations, docs/HEADLINE.md and docs/DEFINITIONS.md, names, README.md and docs/PROVED.md, wrong edits, whole matches, each tool and its options, CONTRIBUTING.md: there is no python3 here"
+    echo "LEFT OUT: the second checker, damaged images, keys, scripts, scripts behind images, commits, crashes of the editor, where bytes come from, the history of README.md, the inputs of the fuzzer, large sources, blocks that are kept, the answers of the start, refused allocations, docs/HEADLINE.md and docs/DEFINITIONS.md, names, README.md and docs/PROVED.md, wrong edits, whole matches, worked images in tests, each tool and its options, CONTRIBUTING.md: there is no python3 here"
     echo "0 passed, 0 failed"
     exit 0
 fi
@@ -67,6 +67,7 @@ try 'names' "$top/tests/names.py"
 try 'what README.md files and docs/PROVED.md name' "$top/tests/readmes.py"
 try 'wrong edits' "$top/tests/edit_names.py"
 try 'whole matches' "$top/tests/matches.py"
+try 'worked images in tests' "$top/tests/worked_images.py"
 try 'each tool and its options' "$top/tests/tools.py"
 try 'what a new command, key, tool or kind of node is told in' "$top/tests/additions.py"
 echo "$passed passed, $failed failed"
