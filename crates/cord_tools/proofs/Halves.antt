@@ -116,7 +116,7 @@ halves_made old new l r rope wanted s h left right made short =
     }
 
 pub halves_joined : (old new : Held Coded) (l r : Option NodeId) (wanted : List Cell) (p q : ℕ) (result : Result (Option NodeId) BalanceFault) → IsSound (table_of coded_byte old) → HasTrueRecords (table_of coded_byte old) → IsRope (table_of coded_byte old) l → IsRope (table_of coded_byte old) r
-    → rope_depth (table_of coded_byte old) l ≤ 63 → rope_depth (table_of coded_byte old) r ≤ 63 → AnyForm coded_byte old (joined (table_of coded_byte old) l r) wanted (AreLong old l r) p q 2 31 result new → IfOk result (λ rope. JoinsHalves old l r rope new)
+    → rope_depth (table_of coded_byte old) l ≤ 63 → rope_depth (table_of coded_byte old) r ≤ 63 → AnyForm coded_byte old (joined (table_of coded_byte old) l r) wanted (AreLong old l r) (record { left_pieces = p; right_pieces = q; nodes = 2; bytes = 31 }) result new → IfOk result (λ rope. JoinsHalves old l r rope new)
 halves_joined old new l r wanted p q (Err e) s h left right dl dr any = tt
 halves_joined old new l r wanted p q (Ok rope) s h left right dl dr any =
     let t = table_of coded_byte old in
@@ -143,7 +143,7 @@ plain_fault old a IsLong (Err TooManySources) r shallow free room = absurd (r.no
 plain_fault old a IsLong (Err Memory) r shallow free room = tt
 
 pub halves_refused : (old new : Held Coded) (l r : Option NodeId) (wanted : List Cell) (p q : ℕ) (result : Result (Option NodeId) BalanceFault) → IsSound (table_of coded_byte old) → HasTrueRecords (table_of coded_byte old) → IsRope (table_of coded_byte old) l → IsRope (table_of coded_byte old) r
-    → rope_depth (table_of coded_byte old) l ≤ 63 → rope_depth (table_of coded_byte old) r ≤ 63 → length old.nodes + 3 ≤ MOST_NODES → length old.pool.bytes + 31 < 2 ^ 32 → AnyForm coded_byte old (joined (table_of coded_byte old) l r) wanted (AreLong old l r) p q 2 31 result new
+    → rope_depth (table_of coded_byte old) l ≤ 63 → rope_depth (table_of coded_byte old) r ≤ 63 → length old.nodes + 3 ≤ MOST_NODES → length old.pool.bytes + 31 < 2 ^ 32 → AnyForm coded_byte old (joined (table_of coded_byte old) l r) wanted (AreLong old l r) (record { left_pieces = p; right_pieces = q; nodes = 2; bytes = 31 }) result new
     → IfErr result (λ e. IsJoinFault (tool_rope_fault e))
 halves_refused old new l r wanted p q result s h left right dl dr nodes bytes any =
     let t = table_of coded_byte old in
