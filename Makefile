@@ -9,6 +9,7 @@
 # make fuzz MINUTES=60  has the program and the second checker answer images that are made from those that reached something new
 # make audit     the edits that must be refused and that the gate has no time for
 # make bench     times the program beside the usual tools, on data that it makes, and a check over the size of its image
+# make figures   measures anew what docs/PERF.md and docs/SCALE.md tell of the program alone and beside others, and prints their rows: ten minutes
 # make speed OLD=..  times the jobs and the tools over files beside those of another built checkout; an error names what lost a twentieth in two runs
 # make instructions  counts the instructions of each job, where valgrind is installed, and compares them with bench/instructions.txt
 # make refuse    refuses each allocation of the tests' runs and of the program's in turn, and fails its reads and writes by real devices
@@ -22,7 +23,7 @@
 # make deb       makes a package for Debian of what `make run` and `make library` built, or of PROGRAM=.. and LIBRARY=.., in the folder out
 # make installed tries all three in folders of their own, over what is built, or PROGRAM=.. and LIBRARY=..
 
-.PHONY: try run library check long hostile fuzz audit bench speed instructions refuse callers wasm memcheck crate install uninstall deb installed
+.PHONY: try run library check long hostile fuzz audit bench figures speed instructions refuse callers wasm memcheck crate install uninstall deb installed
 
 IMAGE = crates/cordkit/stdin
 MINUTES = 10
@@ -75,6 +76,9 @@ bench:
 	sh bench/commit.sh
 	sh bench/edit.sh
 	python3 bench/plot.py "$(PROGRAM)"
+
+figures:
+	sh bench/figures.sh
 
 speed:
 	@[ -d "$(OLD)" ] || { echo "make speed OLD=CHECKOUT: CONTRIBUTING.md tells how one is built" >&2; exit 2; }

@@ -2,7 +2,7 @@
 thousands of small images checked side by side. It wants 3 GB of disk and of memory, and takes some minutes. Times are of the processor, of a
 run and its parts, so that other work beside it counts little.
 
-scale.py [PROGRAM]"""
+scale.py [PROGRAM [MOST]], where MOST is how many revisions a session has at most, and how many images there are"""
 
 import os
 import random
@@ -92,12 +92,10 @@ def measure_session(program, name, line, count):
         accepted = file.read().split()
     size = os.path.getsize("image")
     shown, _, _ = timed([program, "show", "image", str(int(accepted[1]) - 1), "source"], "text")
-    logged, _, unknown = timed([program, "log", "--brief", "image", "source"], "logged")
-    log = "no log" if "unrecognized" in unknown else f"log --brief {logged:.2f} s"
     code = refused[1] + (f"({refused[2]})" if refused[2] else "") if refused else "none"
     print(
         f"{name}: {accepted[1]} revisions, {accepted[3]} nodes, {accepted[5]} rows, {size} bytes; then {code}; "
-        f"apply {seconds:.2f} s within {memory >> 20} MB, check {checked:.2f} s within {(held - size) / 2**20:.1f} MB more, show {shown:.2f} s, {log}",
+        f"apply {seconds:.2f} s within {memory >> 20} MB, check {checked:.2f} s within {(held - size) / 2**20:.1f} MB more, show {shown:.2f} s",
         flush=True,
     )
 
@@ -105,15 +103,15 @@ def measure_session(program, name, line, count):
 # ---- Many images
 
 
-def measure_many(program):
+def measure_many(program, count):
     """Small images, each of a session of its own."""
     os.mkdir("images")
-    for k in range(IMAGES):
+    for k in range(count):
         script = f'new\ninsert 0 0 "image {k}"\n' + "".join(f'insert {j} {j} "x"\n' for j in range(1, 20))
         with open(f"images/{k}.cord", "wb") as file:
             subprocess.run([program, "apply", "/dev/stdin"], input=script.encode(), stdout=file, check=True)
     size = os.path.getsize("images/0.cord")
-    names = "\0".join(f"images/{k}.cord" for k in range(IMAGES)).encode()
+    names = "\0".join(f"images/{k}.cord" for k in range(count)).encode()
     for processes in sorted({1, os.cpu_count()}):
         words = ["xargs", "-0", "-n", "1", "-P", str(processes), program, "check"]
         with open("names", "wb") as file:
@@ -122,17 +120,18 @@ def measure_many(program):
             seconds, _, _ = timed(words, "lines", stdin=file)
         with open("lines", "rb") as file:
             accepted = file.read().count(b"accepted ")
-        print(f"{accepted} images of {size} bytes by xargs -P {processes}: {seconds / IMAGES * 1e6:.0f} s a million")
+        print(f"{accepted} images of {size} bytes by xargs -P {processes}: {seconds / count * 1e6:.0f} s a million")
     check_many = os.path.join(TOP, "examples/check_many.py")
     for processes in [1, os.cpu_count()]:
         seconds, _, told = timed([sys.executable, check_many, "--processes", str(processes), "images"], "lines")
         with open("lines", encoding="utf-8") as file:
             line = (file.read().splitlines() or [told])[-1]
-        print(f"check_many.py --processes {processes}: {seconds / IMAGES * 1e6:.0f} s a million; {line}")
+        print(f"check_many.py --processes {processes}: {seconds / count * 1e6:.0f} s a million; {line}")
 
 
 def main():
     program = os.path.abspath(sys.argv[1] if len(sys.argv) > 1 else PROGRAM)
+    most = int(sys.argv[2]) if len(sys.argv) > 2 else MOST_REVISIONS
     with open("/proc/cpuinfo", encoding="utf-8") as file:
         name = re.search(r"^model name\s*: (.*)$", file.read(), re.M)
     print(f"{name[1] if name else 'a processor'}, {os.cpu_count()} processors")
@@ -142,9 +141,9 @@ def main():
         with open("source", "wb") as file:
             file.write(b"the quick brown fox jumps over the lazy dog 0123456789\n" * (MEGABYTE // 55 + 1))
             file.truncate(MEGABYTE)
-        for name, session in SESSIONS.items():
-            measure_session(program, name, *session)
-        measure_many(program)
+        for name, (line, count) in SESSIONS.items():
+            measure_session(program, name, line, min(count, most))
+        measure_many(program, min(IMAGES, most))
     finally:
         shutil.rmtree(room)
 

@@ -93,3 +93,5 @@ beside join "$(best "$program" join big)" "$(best cat big)"
 beside cut "$(best "$program" cut 1000000 250000000 big)" "$(best usual_cut)"
 beside find "$(best "$program" find 0 'the needle at the end' big)" "$(best grep -obaF -m1 'the needle at the end' big)"
 beside 'find --all' "$(best "$program" find --all 0 ab big)" "$(best grep -obaF ab big)"
+echo 'open 0' | "$program" apply /dev/stdin big > image
+beside show "$(best "$program" show image 0 big)" "$(best cat big)"
