@@ -250,14 +250,14 @@ def made_of(program, session):
 
 
 def crashes_of(program, session, made):
-    """Each crash of a session: at each call in each way, of which one empties a file of keys that is left, and at each length of a file."""
+    """Each crash of a session: at each call in each way, of which one empties a file of keys that is left; and at each length of a file, by a script each 7th."""
     room = Room(program, session, made)
     room.run(KEYS + SAVE, NO_CRASH.limit, ["strace", "-f", "-qq", "-A", "-o", f"{room.around}/trace", "-e", f"trace={CALLS}"])
     with open(f"{room.around}/trace", encoding="utf-8", errors="replace") as trace:
         counted = collections.Counter((line.split()[0], line.split(None, 1)[1].partition("(")[0]) for line in trace)
     most = {"ftruncate": 1} | {call: max(count for (_, other), count in counted.items() if other == call) for _, call in counted if call in CALLS.split(",")}
     calls = [Crash(way, call, k + 1) for way in WAYS for call in sorted(most) for k in range(most[call] + 1)]
-    return calls + [Crash("cut", number=length) for length in range(len(made["newer"]) + 1)]
+    return calls + [Crash("cut", number=length) for length in range(0, len(made["newer"]) + 1, 7 if session.by_script else 1)]
 
 
 def run_one(given):
