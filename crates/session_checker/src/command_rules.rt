@@ -126,17 +126,14 @@ pub fn is_in_range<S: CodedSpace, R: Roots, P: Splices, L: Ledger>(
     ensures { IsTrue result ↔ IsInRange (S.NodeSpace.table looks.now.space.now) (R.roots roots.now)
         (full_edit (P.splices splices.now) edit) }
 {
+    #[rattlefmt::skip]
     match edit {
         Edit::New => true,
         Edit::Open { s } => s < looks.source_count(),
         Edit::Insert { r, p, a, n } => has_bytes(looks, a, n) && takes(looks, roots, r, p, 0, n),
         Edit::Delete { r, p, n } => has_span(looks, roots, r, p, n),
-        Edit::Replace { r, p, m, a, n } => {
-            has_bytes(looks, a, n) && takes(looks, roots, r, p, m, n)
-        }
-        Edit::Paste { r, p, q, i, n } => {
-            has_span(looks, roots, q, i, n) && takes(looks, roots, r, p, 0, n)
-        }
+        Edit::Replace { r, p, m, a, n } => has_bytes(looks, a, n) && takes(looks, roots, r, p, m, n),
+        Edit::Paste { r, p, q, i, n } => has_span(looks, roots, q, i, n) && takes(looks, roots, r, p, 0, n),
         Edit::Join { r, q } => joins(looks, roots, r, q),
         Edit::Cut { r, i, n } => has_span(looks, roots, r, i, n),
         Edit::Fill { r, p, c, n } => c <= 255 && takes(looks, roots, r, p, 0, n),

@@ -1,6 +1,6 @@
 //! The rules that each node has to keep, tested by its record and those of its children.
 
-ghost use Rattle.std.specs.Prelude.{◌≡◌, ◌+◌, ◌<◌, ◌≤◌, ◌↔◌, length, IsTrue, IsOk, IfErr};
+ghost use Rattle.std.specs.Prelude.{◌≡◌, ◌+◌, ◌<◌, ◌↔◌, nat_le, length, IsTrue, IsOk, IfErr};
 ghost use Rattle.rope_node.specs.Table.{depth_of, HasGoodReferences, HasSpanInside};
 ghost use Rattle.image_reader.specs.Value.{image_table};
 ghost use Rattle.image_reader.specs.Accepted.{IsAcceptedNode};
@@ -81,7 +81,7 @@ fn has_good_depth<L: Ledger>(
 
 /// Whether the `len` places from `start` on end at `end` or before.
 pub fn is_inside(start: u64, len: u64, end: u64) -> bool
-    ensures { IsTrue result ↔ (start + len ≤ end) }
+    ensures { result ≡ nat_le (start + len) end }
 {
     len <= end && start <= end - len
 }

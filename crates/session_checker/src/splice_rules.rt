@@ -4,14 +4,8 @@ ghost use Rattle.std.specs.Prelude.{◌≡◌, ◌+◌, ◌^◌, ◌-◌, ◌<�
 ghost use Rattle.std.specs.List.{list_all, sum_by};
 ghost use Rattle.command_parts.specs.Commands.{are_apart, can_splice, is_splice};
 
+use crate::node_rules::is_inside;
 use command_parts::{MOST_SPLICES, Splice, Splices};
-
-/// Whether `n` places from `p` on end at `end` or before.
-fn ends_inside(p: u64, n: u64, end: u64) -> bool
-    ensures { result ≡ nat_le (p + n) end }
-{
-    n <= end && p <= end - n
-}
 
 /// Whether one of the two numbers is not 0.
 fn changes_something(m: u64, n: u64) -> bool
@@ -24,8 +18,8 @@ fn changes_something(m: u64, n: u64) -> bool
 fn is_splice(pool_len: u64, len: u64, s: Splice) -> bool
     ensures { result ≡ is_splice pool_len len s }
 {
-    ends_inside(s.p, s.m, len)
-        && ends_inside(s.a, s.n, pool_len)
+    is_inside(s.p, s.m, len)
+        && is_inside(s.a, s.n, pool_len)
         && changes_something(s.m, s.n)
         && (s.n >= 1 || s.a == 0)
 }
@@ -57,7 +51,7 @@ fn are_apart<P: Splices>(splices: &P, first: u32, count: u32) -> bool
     let mut before = splices.splice(first);
     for i in 1..count {
         let here = splices.splice(first + i);
-        if before.p >= here.p || !ends_inside(before.p, before.m, here.p) {
+        if before.p >= here.p || !is_inside(before.p, before.m, here.p) {
             return false;
         }
         before = here;
