@@ -12,6 +12,7 @@ ghost use Rattle.edit_script.specs.Scripts.{AreInside, ReadsScript, SaysEach, wo
 
 /// A command stands in the line that it is printed as, whatever comment follows; and no line is two commands. So what
 /// was printed is read again, and as no other command.
+#[tactic(auto, using(crate::proofs::Laws::one_command, crate::proofs::Printed::line_printed))]
 pub fn reads_as_printed()
     ensures printed { (ws : List Word) (tail : List ℕ) → IsPrintable ws → IsTail tail
         → HasWords (line_of ws ++ tail) ws }
@@ -21,6 +22,7 @@ pub fn reads_as_printed()
 
 /// Commands that say the same, over the same sources, have the
 /// same history, wherever the bytes that they hand in stand.
+#[tactic(auto, using(crate::proofs::Histories::same_texts))]
 pub fn says_the_texts()
     ensures { (g h : Givens ℕ) (es fs : List FullEdit) (xs ys : List (List ℕ)) → SayTheSame g h es fs
         → IsHistory g es xs → IsHistory h fs ys → xs ≡ ys }
@@ -34,6 +36,7 @@ pub fn says_the_script()
 {}
 
 /// A script of printed commands, each with nothing or a comment behind it, is read as those commands, a line each.
+#[tactic(auto, using(crate::proofs::Logs::log_says_each, crate::proofs::Logs::reads_each))]
 pub fn reads_a_log()
     ensures each { (xs : List Printed) → AllByRecursion IsPrinted xs
         → SaysEach (lines_of (script_of xs)) (map (λ (x : Printed). x.0) xs) }

@@ -73,6 +73,7 @@ fn push_quoted(out: &mut Vec<u8>, bytes: &[u8]) -> Result<(), AllocError>
 }
 
 /// A name, and the numbers behind it.
+#[tactic(auto, using(crate::proofs::PrintedWords::numbers_more))]
 fn push_words(out: &mut Vec<u8>, name: &[u8], numbers: &[u64]) -> Result<(), AllocError>
     ensures { OnOk result (out.new.items ≡ out.old.items ++ (name.now ++ numbers_on numbers.now)) }
 {
