@@ -85,6 +85,7 @@ impl<'a> Image<'a> {
     /// # Errors
     ///
     /// The first fault in the order of the format, where the bytes are no image: `I1` to `I7`.
+    #[tactic(auto, using(crate::proofs::WholeImages::is_found, crate::proofs::WholeImages::is_only))]
     pub fn read(bytes: &'a [u8]) -> Result<Image<'a>, ReadFault>
         // What is read is spelled so.
         ensures found { IfOk result (λ v. IsImage v × (bytes.now ≡ spelling v)) }
@@ -120,6 +121,7 @@ impl<'a> Image<'a> {
     }
 
     /// The version of the format that it is spelled in.
+    #[tactic(auto, unfolding(crate::specs::Reading::records_value))]
     pub fn version(&self) -> FormatVersion
         ensures { result ≡ self.now.version }
     {
@@ -127,6 +129,7 @@ impl<'a> Image<'a> {
     }
 
     /// How many sources the image has.
+    #[tactic(auto, unfolding(crate::specs::Reading::records_value), using(crate::proofs::Cutting::cut))]
     pub fn source_count(&self) -> u32
         ensures { result ≡ length self.now.sources }
     {
@@ -134,6 +137,7 @@ impl<'a> Image<'a> {
     }
 
     /// How many nodes it has.
+    #[tactic(auto, unfolding(crate::specs::Reading::records_value), using(crate::proofs::Nodes::table_cut))]
     pub fn node_count(&self) -> u32
         ensures count { result ≡ length (image_table self.now).nodes }
         ensures image { IsImage self.now }
@@ -142,6 +146,7 @@ impl<'a> Image<'a> {
     }
 
     /// How many revisions it has.
+    #[tactic(auto, unfolding(crate::specs::Reading::records_value), using(crate::proofs::RevisionCuts::revisions_cut))]
     pub fn revision_count(&self) -> u32
         ensures { result ≡ length self.now.revisions }
     {
@@ -149,6 +154,7 @@ impl<'a> Image<'a> {
     }
 
     /// How many splices it has.
+    #[tactic(auto, unfolding(crate::specs::Reading::records_value), using(crate::proofs::Cutting::cut))]
     pub fn splice_count(&self) -> u32
         ensures { result ≡ length self.now.splices }
     {
@@ -156,6 +162,7 @@ impl<'a> Image<'a> {
     }
 
     /// How many certificate rows it has.
+    #[tactic(auto, unfolding(crate::specs::Reading::records_value), using(crate::proofs::Cutting::cut))]
     pub fn row_count(&self) -> u32
         ensures { result ≡ length self.now.rows }
     {
@@ -163,6 +170,7 @@ impl<'a> Image<'a> {
     }
 
     /// The pool.
+    #[tactic(auto, unfolding(crate::specs::Reading::records_value))]
     pub fn pool(&self) -> &'a [u8]
         ensures { result.now ≡ self.now.pool }
     {
@@ -170,6 +178,7 @@ impl<'a> Image<'a> {
     }
 
     /// The length of source `s`, in bytes.
+    #[tactic(auto, unfolding(crate::specs::Reading::records_value), using(crate::proofs::Cutting::cut, crate::proofs::Cutting::got_at, crate::proofs::Cutting::all_at))]
     pub fn source_len(&self, s: u32) -> u64
         requires { s < length self.now.sources }
         ensures value { slice_get self.now.sources s ≡ Some result }
@@ -179,6 +188,7 @@ impl<'a> Image<'a> {
     }
 
     /// What node `id` is.
+    #[tactic(auto, unfolding(crate::specs::Reading::records_value), using(crate::proofs::Nodes::table_cut, crate::proofs::Nodes::view_read))]
     pub fn node(&self, id: NodeId) -> NodeView
         requires { id.0 < length (image_table self.now).nodes }
         ensures { result ≡ view_at (image_table self.now) id.0 }
@@ -187,6 +197,7 @@ impl<'a> Image<'a> {
     }
 
     /// The length that is recorded with node `id`, in bytes.
+    #[tactic(auto, unfolding(crate::specs::Reading::records_value), using(crate::proofs::Nodes::table_cut, crate::proofs::Nodes::len_read))]
     pub fn len(&self, id: NodeId) -> u64
         requires { id.0 < length (image_table self.now).nodes }
         ensures { result ≡ len_at (image_table self.now) id.0 }
@@ -195,6 +206,7 @@ impl<'a> Image<'a> {
     }
 
     /// The depth that is recorded with node `id`.
+    #[tactic(auto, unfolding(crate::specs::Reading::records_value), using(crate::proofs::Nodes::table_cut, crate::proofs::Nodes::depth_read))]
     pub fn depth(&self, id: NodeId) -> u8
         requires { id.0 < length (image_table self.now).nodes }
         ensures { result ≡ depth_at (image_table self.now) id.0 }
@@ -203,6 +215,7 @@ impl<'a> Image<'a> {
     }
 
     /// The function that node `id` holds.
+    #[tactic(auto, unfolding(crate::specs::Reading::records_value), using(crate::proofs::Nodes::table_cut, crate::proofs::Nodes::node_faultless, crate::proofs::Nodes::function_kind_at, crate::proofs::Nodes::function_read))]
     pub fn coded(&self, id: NodeId) -> Coded
         requires there { id.0 < length (image_table self.now).nodes }
         requires function { view_at (image_table self.now) id.0 ≡ Fun }
@@ -212,6 +225,7 @@ impl<'a> Image<'a> {
     }
 
     /// The function that node `id` holds, where it is one.
+    #[tactic(auto, using(crate::proofs::HeldFunctions::function_none))]
     pub fn function(&self, id: NodeId) -> Option<Coded>
         requires { id.0 < length (image_table self.now).nodes }
         ensures { result ≡ function_at self.now id.0 }
@@ -226,6 +240,7 @@ impl<'a> Image<'a> {
     }
 
     /// Revision `k`, where the revisions before it have `first` splices.
+    #[tactic(auto, unfolding(crate::specs::Reading::records_value), using(crate::proofs::RevisionCuts::revisions_cut, crate::proofs::RevisionCuts::revision_read, crate::proofs::RevisionCuts::revision_read_at))]
     pub fn revision(&self, k: u32, first: u32) -> Revision
         requires there { k < length self.now.revisions }
         requires first { first ≡ splices_before self.now k }
@@ -239,6 +254,7 @@ impl<'a> Image<'a> {
     }
 
     /// The root of revision `k`.
+    #[tactic(auto, unfolding(crate::specs::Reading::records_value), using(crate::proofs::RevisionCuts::revisions_cut, crate::proofs::RevisionCuts::root_read))]
     pub fn root(&self, k: u32) -> Rope
         requires { k < length self.now.revisions }
         ensures { result ≡ (revision_at self.now k).root }
@@ -247,6 +263,7 @@ impl<'a> Image<'a> {
     }
 
     /// Whether revision `k` is marked as balanced.
+    #[tactic(auto, unfolding(crate::specs::Reading::records_value), using(crate::proofs::RevisionCuts::revisions_cut, crate::proofs::RevisionCuts::mark_read))]
     pub fn mark(&self, k: u32) -> bool
         requires { k < length self.now.revisions }
         ensures { result ≡ (revision_at self.now k).mark }
@@ -255,6 +272,7 @@ impl<'a> Image<'a> {
     }
 
     /// How many splices the command of revision `k` names.
+    #[tactic(auto, unfolding(crate::specs::Reading::records_value), using(crate::proofs::RevisionCuts::revisions_cut, crate::proofs::RevisionCuts::splices_counted))]
     pub fn splices_of(&self, k: u32) -> u32
         requires { k < length self.now.revisions }
         ensures { result ≡ splices_of (revision_at self.now k).edit }
@@ -263,6 +281,7 @@ impl<'a> Image<'a> {
     }
 
     /// Splice `j` of all splices.
+    #[tactic(auto, unfolding(crate::specs::Reading::records_value), using(crate::proofs::Cutting::cut, crate::proofs::Cutting::got_at))]
     pub fn splice(&self, j: u32) -> Splice
         requires { j < length self.now.splices }
         ensures { slice_get self.now.splices j ≡ Some result }
@@ -271,6 +290,7 @@ impl<'a> Image<'a> {
     }
 
     /// Row `j` of all rows.
+    #[tactic(auto, unfolding(crate::specs::Reading::records_value), using(crate::proofs::Cutting::cut, crate::proofs::Cutting::got_at))]
     pub fn row(&self, j: usize) -> Row
         requires { j < length self.now.rows }
         ensures { slice_get self.now.rows j ≡ Some result }
@@ -279,6 +299,7 @@ impl<'a> Image<'a> {
     }
 
     /// The records of all sections one behind the other, as they are spelled.
+    #[tactic(auto, unfolding(crate::specs::Reading::records_value))]
     pub fn records(&self) -> &[u8]
         ensures { result.now ≡ records_spelling self.now }
     {
