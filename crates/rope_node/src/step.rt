@@ -7,11 +7,22 @@ ghost use Rattle.rope_node.specs.Steps.{IsSpan, StepsDownTo};
 use crate::node::{NodeView, Span};
 use crate::space::NodeSpace;
 
+/// A child of a node.
+#[derive(Clone, Copy, Debug, PartialEq, Eq)]
+pub enum Child {
+    /// The left one of a concatenation.
+    Left,
+    /// The right one.
+    Right,
+    /// The base of a substring.
+    Base,
+}
+
 /// Where the bytes of a node lie.
 #[derive(Clone, Copy, Debug, PartialEq, Eq)]
 pub enum StepDown {
-    /// In one child: these are they, or as many of the first ones as the left child of a concatenation has.
-    Below(Span),
+    /// In this child: these are they, or as many of the first ones as the left child of a concatenation has.
+    Below(Span, Child),
     /// In no child: the node is a leaf.
     Leaf,
     /// In both children of a concatenation: the first ones are these of the left child, the others these of the right.
@@ -33,11 +44,12 @@ pub fn step_down<S: NodeSpace>(space: &S, x: Span, view: NodeView, least: u64) -
         NodeView::Cat { l, r } => {
             let left = space.left_len(x.node, l);
             if left <= x.start {
-                return StepDown::Below(Span {
+                let others = Span {
                     node: r,
                     start: x.start - left,
                     len: x.len,
-                });
+                };
+                return StepDown::Below(others, Child::Right);
             }
             let first = Span {
                 node: l,
@@ -45,7 +57,7 @@ pub fn step_down<S: NodeSpace>(space: &S, x: Span, view: NodeView, least: u64) -
                 len: x.len.min(left - x.start),
             };
             if least <= first.len {
-                return StepDown::Below(first);
+                return StepDown::Below(first, Child::Left);
             }
             let others = Span {
                 node: r,
@@ -54,11 +66,14 @@ pub fn step_down<S: NodeSpace>(space: &S, x: Span, view: NodeView, least: u64) -
             };
             StepDown::Across(first, others)
         }
-        NodeView::Sub { b, i } => StepDown::Below(Span {
-            node: b,
-            start: x.start + i,
-            len: x.len,
-        }),
+        NodeView::Sub { b, i } => {
+            let all = Span {
+                node: b,
+                start: x.start + i,
+                len: x.len,
+            };
+            StepDown::Below(all, Child::Base)
+        }
         NodeView::Lit { .. } | NodeView::Src { .. } | NodeView::Fun => StepDown::Leaf,
     }
 }

@@ -1,9 +1,10 @@
 //! A node on the way down to a place of a rope.
 
-ghost use Rattle.std.specs.Prelude.{◌≡◌, ◌+◌, ◌-◌, ◌<◌, ◌≤◌, ◌^◌, IfSome};
+ghost use Rattle.std.specs.Prelude.{◌≡◌, ◌+◌, ◌-◌, ◌<◌, ◌≤◌, ◌⊎◌, ◌^◌, IfSome};
+ghost use Rattle.rope_node.specs.declared.step.Child.TheVariants.{Right};
 ghost use Rattle.span_descent.specs.Trails.{IsThisStop, child_stop, place_in, stop_rest, stop_span};
 
-use rope_node::{MOST_DEPTH, NodeId, Span};
+use rope_node::{Child, MOST_DEPTH, NodeId, Span};
 
 /// The most nodes of a way down.
 pub const MOST_STOPS: usize = MOST_DEPTH as usize + 1;
@@ -66,19 +67,25 @@ impl Stop {
         }
     }
 
-    /// What of it lies in a child, which has those bytes of the rest from `place` on that are `below`.
+    /// What of it lies in a child, of which the rest from `place` on begins with `below`.
     #[inline(always)]
-    pub(crate) fn child(self, place: u64, below: Span) -> Stop
+    pub(crate) fn child(self, place: u64, below: Span, child: Child) -> Stop
         requires behind { self.from ≤ place }
         requires fits { place + below.len < 2 ^ 64 }
+        requires ahead { (child ≡ Right) ⊎ (place_in self place ≤ below.start) }
         ensures { result ≡ child_stop self place below }
     {
-        let back = (place - self.from).min(below.start);
+        let before = place - self.from;
+        let before = match child {
+            Child::Right => before.min(below.start),
+            // It has all that the stop has before the place.
+            Child::Left | Child::Base => before,
+        };
         Stop {
             node: below.node,
-            from: place - back,
+            from: place - before,
             end: place + below.len,
-            start: below.start - back,
+            start: below.start - before,
         }
     }
 
