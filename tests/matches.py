@@ -22,7 +22,8 @@ EXCUSED = {
     ("crates/edit_commands/src/known.rt", "over_its_own"): "gives back each command as it is but the one with splices; full_edit says what each means",
     ("crates/rebalance/src/pieces.rt", "leaf_part"): "a test stands beside its one kind: every leaf but a short function is cut, a long function too",
     ("crates/saved_session/src/taking.rt", "splices_named"): "only one kind has splices, and named_splices says what each kind names",
-    ("crates/screen_editor/src/known.rt", "known_after"): "of each key StaysKnown is proved, so one that changes lines cannot pass for one that keeps them",
+    ("crates/screen_editor/src/known.rt", "lines_after"): "of each key LinesBehind is proved, so one that changes lines cannot pass for one that keeps them",
+    ("crates/screen_editor/src/known.rt", "taken_out"): "of each key TakesSpan is proved, so one that deletes bytes cannot pass for one that deletes none",
     ("crates/command_parts/src/edit.rt", "splice_count"): "only one kind has splices, and splices_of says how many each kind has",
 }
 

@@ -22,3 +22,4 @@ pub mod KeptKeys
 pub mod StatedTexts
 pub mod UndoneTexts
 pub mod KnownKeys
+pub mod PlainCuts

@@ -88,10 +88,13 @@ given g v texts a (Many r changes bytes) t h s e = absurd h
 
 -- ---- lengths
 
+pub revision_is : (source : ℕ → ℕ → ℕ) (v : SessionValue) (k : ℕ) → get_or (texts_of source v) k [] ≡ text source (get_or (cells_of v) k [])
+revision_is source v k = get_or-map (text source) (cells_of v) k []
+
 -- a text is as long as its root says
 pub text_len : (v : SessionValue) → HoldsHistory v → (source : ℕ → ℕ → ℕ) (k : ℕ) → length (get_or (texts_of source v) k []) ≡ length_at v k
 text_len v h source k =
-    ap length (get_or-map (text source) (cells_of v) k [])
+    ap length (revision_is source v k)
     ∙ length-map (get_or (cells_of v) k []) (cell_byte source)
     ∙ sym (get_or-map (length {A = Cell}) (cells_of v) k [])
     ∙ ap (λ (ns : List ℕ). get_or ns k 0) h.lengths
@@ -169,17 +172,20 @@ made_text old command new o a source =
     (subst (λ (pool : List ℕ). StandIn pool place command) (sym (pool_mapped source new.held.pool.bytes)) stand)
     mapped
 
--- the texts then
+-- the cells and the texts then
+pub cells_more : (old : SessionValue) (command : Command) (new : SessionValue) (a : Applies old command (length old.revisions) new) → cells_of new ≡ cells_of old ++ rope_cells (session_table new) a.made.root ∷ []
+cells_more old command new a =
+    let cells = rope_cells (session_table new) in
+    let root : Revision → Option NodeId = λ (r : Revision). r.root in
+    ap (λ (rs : List Revision). map cells (map root rs)) a.revisions
+    ∙ ap (map cells) (map-append root old.revisions (a.made ∷ []))
+    ∙ map-append cells (roots_of old.revisions) (a.made.root ∷ [])
+    ∙ ap (λ (cs : List (List Cell)). cs ++ cells a.made.root ∷ []) a.keeps.cells
+
 pub texts_more : (old : SessionValue) (command : Command) (new : SessionValue) → IsInOrder old command → Applies old command (length old.revisions) new → (source : ℕ → ℕ → ℕ)
     → texts_of source new ≡ texts_of source old ++ text_given (texts_of source old) command ∷ []
 texts_more old command new o a source =
-    let cells = rope_cells (session_table new) in
-    let root : Revision → Option NodeId = λ (r : Revision). r.root in
-    ap (λ (rs : List Revision). map (text source) (map cells (map root rs))) a.revisions
-    ∙ ap (λ (rs : List (Option NodeId)). map (text source) (map cells rs)) (map-append root old.revisions (a.made ∷ []))
-    ∙ ap (map (text source)) (map-append cells (roots_of old.revisions) (a.made.root ∷ []))
-    ∙ map-append (text source) (map cells (roots_of old.revisions)) (cells a.made.root ∷ [])
-    ∙ ap (λ (cs : List (List Cell)). map (text source) cs ++ text source (cells a.made.root) ∷ []) a.keeps.cells
+    ap (map (text source)) (cells_more old command new a) ∙ map-append (text source) (cells_of old) (rope_cells (session_table new) a.made.root ∷ [])
     ∙ ap (λ (t : List ℕ). texts_of source old ++ t ∷ []) (made_text old command new o a source)
 
 -- the commands then

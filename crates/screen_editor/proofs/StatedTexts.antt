@@ -1,6 +1,6 @@
 -- Which cells of the current text are stated: those whose bytes are the same over two kinds of sources that agree with
 -- what is stated.
-use Rattle.std.proofs.Common.{◌≡◌, ℕ, suc, ◌<◌, List, length, get_or, Option, Some, None, inl, inr, refl, sym, ap, ◌∙◌, arith}
+use Rattle.std.proofs.Common.{◌≡◌, ℕ, suc, ◌<◌, List, [], length, get_or, Option, Some, None, inl, inr, refl, sym, ap, ◌∙◌, arith}
 use Rattle.std.specs.Prelude.{IsSome}
 use Rattle.std.proofs.lemmas.Bool.{cases_lt}
 use Rattle.std.proofs.lemmas.List.{get_or-map, get_or_past, length-map}
@@ -8,12 +8,13 @@ use Rattle.rope_node.specs.declared.node.NodeId.{NodeId}
 use Rattle.rope_node.specs.Table.{Table}
 use Rattle.rope_node.specs.Denotes.{Cell, Byte, Place, cell_byte, rope_cells}
 use Rattle.lazy_file.specs.SourceTexts.{Agrees, Stated, text_at}
-use Rattle.cord_position.specs.Fetched.{IsStated, rope_cell}
-use Rattle.edit_commands.specs.Session.{HoldsHistory, session_table}
+use Rattle.cord_position.specs.Fetched.{AreStated, IsStated, rope_cell}
+use Rattle.edit_commands.specs.Session.{HoldsHistory, SessionValue, cells_of, session_table, texts_of}
 use Rattle.screen_editor.specs.Editing.{Editing, EachCurrent, current_cell, current_len, current_root, state_of}
 use Rattle.screen_editor.specs.State.{current}
 use Rattle.screen_editor.proofs.KeyPlans.{current_text_len, no_source}
 use Rattle.screen_editor.proofs.LineTurns.{current_text}
+use Rattle.screen_editor.proofs.NewTexts.{revision_is}
 
 -- ---- another byte where none is stated
 
@@ -45,11 +46,11 @@ alike_stated st source (Place s p) e = some_where (text_at st s) (source s p) e
 
 -- ---- the bytes of the current text
 
-cell_in : (t : Table) (root : Option NodeId) (k : ℕ) → k < length (rope_cells t root) → get_or (rope_cells t root) k (Byte 0) ≡ rope_cell t root k
+pub cell_in : (t : Table) (root : Option NodeId) (k : ℕ) → k < length (rope_cells t root) → get_or (rope_cells t root) k (Byte 0) ≡ rope_cell t root k
 cell_in t None k lt = absurd (omega (arith, lt))
 cell_in t (Some id) k lt = refl
 
-cells_long : (e : Editing) → HoldsHistory e.session → length (rope_cells (session_table e.session) (current_root e)) ≡ current_len e
+pub cells_long : (e : Editing) → HoldsHistory e.session → length (rope_cells (session_table e.session) (current_root e)) ≡ current_len e
 cells_long e h =
     let cells = rope_cells (session_table e.session) (current_root e) in
     sym (length-map cells (cell_byte no_source)) ∙ ap length (sym (current_text no_source e)) ∙ current_text_len e h no_source
@@ -87,3 +88,15 @@ stated_before st old new f h hn becomes source agrees each k j lt kept =
     let same : get_or (current (state_of source old)) k 0 ≡ get_or (current (state_of more old)) k 0 =
     sym here ∙ ap (λ (t : List ℕ). get_or t j 0) (sym (becomes source agrees)) ∙ bytes_alike st source new hn each j ∙ ap (λ (t : List ℕ). get_or t j 0) (becomes more (other_agrees st source agrees)) ∙ there in
     alike_stated st source (current_cell old k) (sym (byte_is source old h k lt) ∙ same ∙ byte_is more old h k lt)
+
+-- ---- the text of an earlier revision
+
+-- where the current text is that of an earlier revision over any sources, and all its cells are stated, so are those
+pub stated_revision : (st : Stated) (old new : Editing) (r : ℕ) → HoldsHistory new.session → ((source : ℕ → ℕ → ℕ) → Agrees st source → current (state_of source new) ≡ get_or (texts_of source old.session) r [])
+    → (source : ℕ → ℕ → ℕ) → Agrees st source → EachCurrent new (IsStated st) → AreStated st (get_or (cells_of old.session) r [])
+stated_revision st old new r hn same source agrees each i d lt =
+    let cells = get_or (cells_of old.session) r [] in
+    let byte = λ (from : ℕ → ℕ → ℕ) (from_agrees : Agrees st from).
+    sym (get_or-map (cell_byte from) cells i d 0 lt) ∙ ap (λ (t : List ℕ). get_or t i 0) (sym (revision_is from old.session r) ∙ sym (same from from_agrees)) in
+    let more = other st source in
+    alike_stated st source (get_or cells i d) (byte source agrees ∙ bytes_alike st source new hn each i ∙ sym (byte more (other_agrees st source agrees)))

@@ -140,6 +140,11 @@ delete_made v h source k r p n at =
     let first = bound_gives (slice_get (take k texts) r) _ t (given_at v h source k (Recorded.Delete r p n) at).1 in
     subst (λ (u : List ℕ). IsWith t u p n) (earlier texts k r first.0 first.1).1 (out_made first.0 t p n first.2)
 
+pub delete_earlier : (v : SessionValue) → HoldsHistory v → (k r p n : ℕ) → edit_of v k ≡ Some (Recorded.Delete r p n) → r < k
+delete_earlier v h k r p n at =
+    let first = bound_gives (slice_get (take k (texts_of no_source v)) r) _ (revision_text no_source v k) (given_at v h no_source k (Recorded.Delete r p n) at).1 in
+    (earlier (texts_of no_source v) k r first.0 first.1).0
+
 -- ---- what Undo goes back to
 
 prior_named : (e : Editing) → IsEditing e → (k : ℕ) (edit : Edit) → edit_of e.session k ≡ Some edit → get_or e.priors k None ≡ prior_behind (take k e.priors) edit
@@ -154,57 +159,59 @@ undone e r source prior =
     ap (λ (o : Option ℕ). current (gone_back o (state_of source e))) (last_prior e source (Some r) prior) ∙ current_revised source e (revision_text source e.session r)
 
 -- that is the text of the revision which the command names that made the current one
-undone_of : (e : Editing) (r : ℕ) (edit : Edit) → IsEditing e → (m : IsMaker e edit) → prior_behind (take m.revision e.priors) edit ≡ Some r → (source : ℕ → ℕ → ℕ)
+undone_of : (e : Editing) (k r : ℕ) (edit : Edit) → IsEditing e → IsMaker e k edit → prior_behind (take k e.priors) edit ≡ Some r → (source : ℕ → ℕ → ℕ)
     → current (done Keys.Undo (state_of source e)) ≡ revision_text source e.session r
-undone_of e r edit is m prior source = undone e r source (sym m.prior ∙ prior_named e is m.revision edit m.is ∙ prior)
+undone_of e k r edit is m prior source = undone e r source (sym m.prior ∙ prior_named e is k edit m.is ∙ prior)
 
 -- Undo takes these bytes out
 pub record TakesOut (e : Editing) (p n : ℕ) : Type 0 where
   pub inside : p + n ≤ current_len e
   pub text : (source : ℕ → ℕ → ℕ) → current (done Keys.Undo (state_of source e)) ≡ replaced (current (state_of source e)) p n []
 
-takes_out : (e : Editing) (r p n : ℕ) (edit : Edit) → IsEditing e → HoldsHistory e.session → (m : IsMaker e edit) → prior_behind (take m.revision e.priors) edit ≡ Some r
-    → ((source : ℕ → ℕ → ℕ) → IsWithout (revision_text source e.session m.revision) (revision_text source e.session r) p n) → TakesOut e p n
-takes_out e r p n edit is h m prior made = record {
+takes_out : (e : Editing) (k r p n : ℕ) (edit : Edit) → IsEditing e → HoldsHistory e.session → IsMaker e k edit → prior_behind (take k e.priors) edit ≡ Some r
+    → ((source : ℕ → ℕ → ℕ) → IsWithout (revision_text source e.session k) (revision_text source e.session r) p n) → TakesOut e p n
+takes_out e k r p n edit is h m prior made = record {
   inside = omega (arith, (made no_source).inside, ap length (m.text no_source), current_text_len e h no_source);
-  text = λ source. undone_of e r edit is m prior source ∙ (made source).is ∙ ap (λ (t : List ℕ). replaced t p n []) (m.text source);
+  text = λ source. undone_of e k r edit is m prior source ∙ (made source).is ∙ ap (λ (t : List ℕ). replaced t p n []) (m.text source);
 }
 
-insert_undone : (e : Editing) (r p a n : ℕ) → IsEditing e → HoldsHistory e.session → IsMaker e (Recorded.Insert r p a n) → TakesOut e p n
-insert_undone e r p a n is h m = takes_out e r p n (Recorded.Insert r p a n) is h m refl (λ source. insert_made e.session h source m.revision r p a n m.is)
+insert_undone : (e : Editing) (k r p a n : ℕ) → IsEditing e → HoldsHistory e.session → IsMaker e k (Recorded.Insert r p a n) → TakesOut e p n
+insert_undone e k r p a n is h m = takes_out e k r p n (Recorded.Insert r p a n) is h m refl (λ source. insert_made e.session h source k r p a n m.is)
 
-paste_undone : (e : Editing) (r p q i n : ℕ) → IsEditing e → HoldsHistory e.session → IsMaker e (Recorded.Paste r p q i n) → TakesOut e p n
-paste_undone e r p q i n is h m = takes_out e r p n (Recorded.Paste r p q i n) is h m refl (λ source. paste_made e.session h source m.revision r p q i n m.is)
+paste_undone : (e : Editing) (k r p q i n : ℕ) → IsEditing e → HoldsHistory e.session → IsMaker e k (Recorded.Paste r p q i n) → TakesOut e p n
+paste_undone e k r p q i n is h m = takes_out e k r p n (Recorded.Paste r p q i n) is h m refl (λ source. paste_made e.session h source k r p q i n m.is)
 
-pub put_in_undone : (e : Editing) (edit : Edit) (p n : ℕ) → IsEditing e → HoldsHistory e.session → IsMaker e edit
+pub put_in_undone : (e : Editing) (k : ℕ) (edit : Edit) (p n : ℕ) → IsEditing e → HoldsHistory e.session → IsMaker e k edit
     → ((r : ℕ) × (a : ℕ) × (edit ≡ Recorded.Insert r p a n)) ⊎ ((r : ℕ) × (q : ℕ) × (i : ℕ) × (edit ≡ Recorded.Paste r p q i n)) → TakesOut e p n
-put_in_undone e edit p n is h m (inl made) = insert_undone e made.0 p made.1 n is h (subst (IsMaker e) made.2 m)
-put_in_undone e edit p n is h m (inr made) = paste_undone e made.0 p made.1 made.2 n is h (subst (IsMaker e) made.3 m)
+put_in_undone e k edit p n is h m (inl made) = insert_undone e k made.0 p made.1 n is h (subst (IsMaker e k) made.2 m)
+put_in_undone e k edit p n is h m (inr made) = paste_undone e k made.0 p made.1 made.2 n is h (subst (IsMaker e k) made.3 m)
 
--- Undo puts so many bytes in
-pub record PutsBack (e : Editing) (p n : ℕ) : Type 0 where
+-- the n bytes at p of the text of revision r, which Undo puts in, so that this text is back
+abbrev pub bytes_back : (ℕ → ℕ → ℕ) → Editing → ℕ → ℕ → ℕ → List ℕ
+bytes_back source e r p n = take n (drop p (revision_text source e.session r))
+
+pub record PutsBack (e : Editing) (r p n : ℕ) : Type 0 where
   pub inside : p ≤ current_len e
-  pub bytes : (ℕ → ℕ → ℕ) → List ℕ
-  pub long : (source : ℕ → ℕ → ℕ) → length (bytes source) ≡ n
-  pub text : (source : ℕ → ℕ → ℕ) → current (done Keys.Undo (state_of source e)) ≡ replaced (current (state_of source e)) p 0 (bytes source)
+  pub long : (source : ℕ → ℕ → ℕ) → length (bytes_back source e r p n) ≡ n
+  pub whole : (source : ℕ → ℕ → ℕ) → current (done Keys.Undo (state_of source e)) ≡ revision_text source e.session r
+  pub text : (source : ℕ → ℕ → ℕ) → current (done Keys.Undo (state_of source e)) ≡ replaced (current (state_of source e)) p 0 (bytes_back source e r p n)
 
-pub delete_undone : (e : Editing) (r p n : ℕ) → IsEditing e → HoldsHistory e.session → IsMaker e (Recorded.Delete r p n) → PutsBack e p n
-delete_undone e r p n is h m =
-    let edit = Recorded.Delete r p n in
-    let made = λ (source : ℕ → ℕ → ℕ). delete_made e.session h source m.revision r p n m.is in
-    let bytes = λ (source : ℕ → ℕ → ℕ). take n (drop p (revision_text source e.session r)) in
+pub delete_undone : (e : Editing) (k r p n : ℕ) → IsEditing e → HoldsHistory e.session → IsMaker e k (Recorded.Delete r p n) → PutsBack e r p n
+delete_undone e k r p n is h m =
+    let made = λ (source : ℕ → ℕ → ℕ). delete_made e.session h source k r p n m.is in
+    let whole = undone_of e k r (Recorded.Delete r p n) is m refl in
     record {
       inside = omega (arith, (made no_source).inside, ap length (m.text no_source), current_text_len e h no_source);
-      bytes = bytes;
       long = λ source. (made source).long;
-      text = λ source. undone_of e r edit is m refl source ∙ (made source).is ∙ ap (λ (t : List ℕ). replaced t p 0 (bytes source)) (m.text source);
+      whole = whole;
+      text = λ source. whole source ∙ (made source).is ∙ ap (λ (t : List ℕ). replaced t p 0 (bytes_back source e r p n)) (m.text source);
     }
 
 -- Undo takes a balancing back: the text is as it was
-pub balance_undone : (e : Editing) (r : ℕ) → IsEditing e → HoldsHistory e.session → IsMaker e (Recorded.Balance r) → (source : ℕ → ℕ → ℕ) → current (done Keys.Undo (state_of source e)) ≡ current (state_of source e)
-balance_undone e r is h m source =
-    let stands = (given_at e.session h source m.revision (Recorded.Balance r) m.is).1 in
-    undone_of e r (Recorded.Balance r) is m refl source ∙ sym (earlier (texts_of source e.session) m.revision r (revision_text source e.session m.revision) stands).1 ∙ m.text source
+pub balance_undone : (e : Editing) (k r : ℕ) → IsEditing e → HoldsHistory e.session → IsMaker e k (Recorded.Balance r) → (source : ℕ → ℕ → ℕ) → current (done Keys.Undo (state_of source e)) ≡ current (state_of source e)
+balance_undone e k r is h m source =
+    let stands = (given_at e.session h source k (Recorded.Balance r) m.is).1 in
+    undone_of e k r (Recorded.Balance r) is m refl source ∙ sym (earlier (texts_of source e.session) k r (revision_text source e.session k) stands).1 ∙ m.text source
 
 -- ---- a revision whose text stands again
 

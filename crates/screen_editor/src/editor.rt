@@ -5,7 +5,7 @@ ghost use Rattle.std.specs.Option.{option_map};
 ghost use Rattle.cord_position.specs.Fetched.{ReadsSpan};
 ghost use Rattle.screen_editor.specs.Editing.{IsEditor, current_cell, current_len, key_code, over, seen};
 ghost use Rattle.screen_editor.specs.Keys.{key_of, looks_for_lines};
-ghost use Rattle.screen_editor.specs.KnownTexts.{IsKnownLine};
+ghost use Rattle.screen_editor.specs.KnownTexts.{IsKnownText, IsKnownLine};
 ghost use Rattle.screen_editor.specs.LineKeys.{FindsLinePlace, Takes};
 ghost use Rattle.screen_editor.specs.Opening.{IsOpenFault, IsTooLongToOpen, OpensSession};
 ghost use Rattle.screen_editor.specs.Revising.{IsMade, TakesKey};
@@ -14,7 +14,7 @@ ghost use Rattle.screen_editor.specs.Runs.{MakesFrame};
 
 use crate::fault::{EditorFault, KeyFault};
 use crate::key::{Effect, Key, LinePlace, Step};
-use crate::known::known_after;
+use crate::known::{KnownText, known_after};
 use crate::opening::{first_session, opened_session};
 use crate::workspace::Workspace;
 use edit_commands::Session;
@@ -29,21 +29,20 @@ pub struct Editor<R: Sources + Drop> {
     alloc: Global,
     sources: R,
     workspace: Workspace,
-    /// Long lines of the current text that were shown.
-    known: KnownLines,
+    known: KnownText,
 }
 
 impl<R: Sources + Drop> Model for Editor<R> {
     ghost use Rattle.std.specs.Prelude.{◌≡◌};
     ghost use Rattle.screen_editor.specs.Editing.{EditorValue};
-    ghost use Rattle.screen_editor.specs.KnownTexts.{IsKnownLine};
+    ghost use Rattle.screen_editor.specs.KnownTexts.{IsKnownText};
 
     ghost Value = { EditorValue R };
 
     ghost view = { λ a. record { sources = a.sources; editing = a.workspace } };
 
     ghost invariant = { λ a. (a.workspace.session.held.sources ≡ (R.reading a.sources).stated.sizes)
-        × IsKnownLine (R.reading a.sources).stated a.workspace a.known };
+        × IsKnownText (R.reading a.sources).stated a.workspace a.known };
 }
 
 /// Where a key leads that looks for line breaks.
@@ -107,19 +106,19 @@ fn take_key<R: Sources>(
     alloc: Global,
     sources: &mut R,
     workspace: &mut Workspace,
-    known: &mut KnownLines,
+    known: &mut KnownText,
     key: Key,
 ) -> Result<Step, KeyFault>
-    requires known { IsKnownLine (R.reading sources.old).stated workspace.old known.old }
+    requires known { IsKnownText (R.reading sources.old).stated workspace.old known.old }
     ensures takes { TakesKey key (over (R.reading sources.old) workspace.old) result
         (over (R.reading sources.new) workspace.new) }
     ensures sizes { workspace.new.session.held.sources ≡ workspace.old.session.held.sources }
-    ensures known { IsKnownLine (R.reading sources.old).stated workspace.new known.new }
+    ensures known { IsKnownText (R.reading sources.old).stated workspace.new known.new }
 {
     // The workspace keeps its rules, as its last revision says, before the key and behind it.
     let _before = workspace.last();
     let later = known_after(alloc, workspace, known, key);
-    if let Err(fault) = take(alloc, sources, workspace, known, key) {
+    if let Err(fault) = take(alloc, sources, workspace, &known.lines, key) {
         let _refused = workspace.last();
         workspace.tell(Some(fault));
         return Err(fault);
@@ -187,11 +186,12 @@ impl<R: Sources + Drop> Editor<R> {
     {
         let session = first_session(alloc, &sources)?;
         let workspace = Workspace::over(alloc, session)?;
+        let known = KnownText::none(&workspace);
         Ok(Editor {
             alloc,
             sources,
             workspace,
-            known: KnownLines::none(),
+            known,
         })
     }
 
@@ -211,11 +211,12 @@ impl<R: Sources + Drop> Editor<R> {
     {
         let session = opened_session(session)?;
         let workspace = Workspace::over(alloc, session)?;
+        let known = KnownText::none(&workspace);
         Ok(Editor {
             alloc,
             sources,
             workspace,
-            known: KnownLines::none(),
+            known,
         })
     }
 
@@ -249,7 +250,7 @@ impl<R: Sources + Drop> Editor<R> {
             self.alloc,
             &mut self.sources,
             &self.workspace,
-            &mut self.known,
+            &mut self.known.lines,
         )
     }
 

@@ -8,11 +8,11 @@ use Rattle.rope_node.specs.Table.{Table}
 use Rattle.rope_node.specs.Denotes.{rope_cells}
 use Rattle.lazy_file.specs.Readings.{Reading}
 use Rattle.cord_search.proofs.Fetches.{text_length}
-use Rattle.text_lines.specs.HeldBytes.{HeldPart, held_up_to, held_starting_at, AreHeld, HasBreak, HoldsText, TellsStart}
+use Rattle.text_lines.specs.HeldBytes.{HeldPart, held_up_to, held_starting_at, AreHeld, HoldsText, TellsStart}
 use Rattle.text_lines.specs.declared.known.KnownLine.{KnownLine}
 use Rattle.text_lines.specs.declared.known_lines.KnownLines.{KnownLines}
 use Rattle.text_lines.specs.KnownLines.{IsKnownIn, IsLineOf, known_lines, learnt}
-use Rattle.text_lines.specs.Lines.{is_break, line_start, line_end, next_line}
+use Rattle.text_lines.specs.Lines.{HasBreak, is_break, line_start, line_end, next_line}
 use Rattle.text_lines.specs.Rows.{IsLineStart}
 use Rattle.text_lines.proofs.KnownLaws.{line_found, next_begins}
 use Rattle.text_lines.proofs.LearntLines.{all_learnt}

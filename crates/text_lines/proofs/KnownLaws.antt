@@ -1,12 +1,12 @@
 -- A line of a text, and what it is where a byte is put into the text or goes out of it.
-use Rattle.std.proofs.Common.{◌≡◌, ℕ, ◌+◌, ◌-◌, ◌<◌, ◌≤◌, List, ◌++◌, length, take, drop, get_or, ap, ◌∙◌, arith}
+use Rattle.std.proofs.Common.{◌≡◌, ℕ, ◌+◌, ◌-◌, ◌<◌, ◌≤◌, List, ◌++◌, length, take, drop, get_or, ap, ◌∙◌, arith, true, false, sym}
 use Rattle.std.proofs.lemmas.List.{get_or-append_right, get_or-drop, get_or-take, get_or_append_left, length-append, length-drop, length-take, length-take-le}
 use Rattle.std.proofs.lemmas.List.Elements.{All-contains}
 use Rattle.command_parts.specs.Commands.{replaced}
 use Rattle.text_lines.specs.declared.known.KnownLine.{KnownLine}
 use Rattle.text_lines.specs.declared.known_lines.KnownLines.{KnownLines}
-use Rattle.text_lines.specs.KnownLines.{HoldsPlace, IsKnownIn, IsLineOf, known_lines}
-use Rattle.text_lines.specs.Lines.{line_start, line_end}
+use Rattle.text_lines.specs.KnownLines.{HoldsPart, IsKnownIn, IsLineOf, known_lines}
+use Rattle.text_lines.specs.Lines.{HasBreak, is_break, line_start, line_end}
 use Rattle.text_lines.specs.Rows.{IsLineStart}
 use Rattle.text_lines.proofs.LineLaws.{break_at_end, end_inside, ends_at, plain_to_end, starts_at}
 
@@ -56,12 +56,20 @@ behind_replaced t p m x k j inside from at =
     ∙ get_or-drop (p + m) t (k - n) 0
     ∙ ap (λ i. get_or t i 0) place
 
--- ---- a line that is known and holds the place
+-- ---- a line that is known and holds the place, or more bytes
 
-pub known_start : (t : List ℕ) (known : KnownLines) (place : ℕ) (line : KnownLine) → HoldsPlace known place line → IsKnownIn known t → line.start ≡ line_start t place
-known_start t known place line h is = tells_start t line place (All-contains (IsLineOf t) (known_lines known) line is.each h.0) h.1.from h.1.to
+pub known_start : (t : List ℕ) (known : KnownLines) (place : ℕ) (line : KnownLine) → HoldsPart known place 0 line → IsKnownIn known t → line.start ≡ line_start t place
+known_start t known place line h is = tells_start t line place (All-contains (IsLineOf t) (known_lines known) line is.each h.0) h.1.from (omega (arith, h.1.to))
 
-pub known_end : (t : List ℕ) (known : KnownLines) (place : ℕ) (line : KnownLine) → HoldsPlace known place line → IsKnownIn known t → (line.end ≡ line_end t place) × (line.end ≤ length t)
+pub known_end : (t : List ℕ) (known : KnownLines) (place : ℕ) (line : KnownLine) → HoldsPart known place 0 line → IsKnownIn known t → (line.end ≡ line_end t place) × (line.end ≤ length t)
 known_end t known place line h is =
     let there : IsLineOf t line = All-contains (IsLineOf t) (known_lines known) line is.each h.0 in
-    (tells_end t line place there h.1.from h.1.to, there.inside)
+    (tells_end t line place there h.1.from (omega (arith, h.1.to)), there.inside)
+
+pub plain_part : (t : List ℕ) (known : KnownLines) (place count : ℕ) (line : KnownLine) → HoldsPart known place count line → IsKnownIn known t → ¬ HasBreak (take count (drop place t))
+plain_part t known place count line h is has =
+    let there : IsLineOf t line = All-contains (IsLineOf t) (known_lines known) line is.each h.0 in
+    let few : has.0 < count = omega (arith, has.1, length-take count (drop place t)) in
+    let broken : is_break (get_or t (place + has.0) 0) ≡ true = ap is_break (sym (get_or-take count (drop place t) has.0 0 few ∙ get_or-drop place t has.0 0)) ∙ has.2 in
+    let plain = there.plain (place + has.0) (omega (arith, h.1.from)) (omega (arith, few, h.1.to)) in
+    absurd (let same : true ≡ false = sym broken ∙ plain in cc)

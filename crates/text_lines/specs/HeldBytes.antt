@@ -1,12 +1,12 @@
 -- Bytes of a text that are held, to look for line breaks among them.
-use Rattle.std.specs.Prelude.{◌≡◌, ◌⊎◌, ℕ, ◌+◌, ◌-◌, ◌<◌, ◌≤◌, true, nat_lt, if◌then◌else◌, List, [], length, take, drop, get_or, Option, IfSome}
+use Rattle.std.specs.Prelude.{◌≡◌, ◌⊎◌, ℕ, ◌+◌, ◌-◌, ◌≤◌, nat_lt, if◌then◌else◌, List, [], length, take, drop, Option, IfSome}
 use Rattle.rope_node.specs.declared.node.NodeId.{NodeId}
 use Rattle.rope_node.specs.Table.{Table}
 use Rattle.lazy_file.specs.Readings.{Reading}
 use Rattle.cord_search.specs.Stated.{OfText}
 use Rattle.text_lines.specs.declared.known_lines.KnownLines.{KnownLines}
 use Rattle.text_lines.specs.KnownLines.{IsKnownIn}
-use Rattle.text_lines.specs.Lines.{is_break}
+use Rattle.text_lines.specs.Lines.{HasBreak}
 use Rattle.text_lines.specs.Rows.{IsLineStart}
 
 -- bytes from a place on; a place where a line begins; and lines that are known
@@ -34,10 +34,6 @@ pub record AreHeld (held : HeldPart) (t : List ℕ) : Type 0 where
 -- they are of a rope's text, whatever bytes the sources have that agree with what they state, where each cell is stated
 pub record HoldsText (t : Table) (sources : Reading) (rope : Option NodeId) (held : HeldPart) : Type 0 where
   pub told : OfText t sources.stated rope (AreHeld held)
-
--- a line break is among these bytes
-abbrev pub HasBreak : List ℕ → Type 0
-HasBreak bytes = (k : ℕ) × (k < length bytes) × (is_break (get_or bytes k 0) ≡ true)
 
 -- these bytes, which stand before a place, tell where its line begins: a line break is among them, or no more stand there
 abbrev pub TellsStart : List ℕ → ℕ → Type 0

@@ -7,7 +7,7 @@ use Rattle.text_lines.specs.declared.known.KnownLine.{KnownLine}
 use Rattle.text_lines.specs.declared.known.TheConstants.{VERY_LONG}
 use Rattle.text_lines.specs.declared.known_lines.KnownLines.{KnownLines}
 use Rattle.text_lines.specs.declared.known_lines.TheConstants.{MOST_LINES}
-use Rattle.text_lines.specs.Lines.{is_break}
+use Rattle.text_lines.specs.Lines.{HasBreak, is_break}
 use Rattle.text_lines.specs.Rows.{IsLineStart}
 
 -- It begins at the text's start or behind a break, and no break stands in it; at its end stands one, or the text ends.
@@ -26,18 +26,18 @@ known_lines known = take known.count known.lines
 pub record IsKnownIn (known : KnownLines) (t : List ℕ) : Type 0 where
   pub each : All (IsLineOf t) (known_lines known)
 
--- the line is longer than what is searched through at once, and it holds the place, its end too
-pub record IsAbout (place : ℕ) (line : KnownLine) : Type 0 where
+-- the line is longer than what is searched through at once, and it holds count bytes from the place on, or up to its end
+pub record IsAbout (place count : ℕ) (line : KnownLine) : Type 0 where
   pub long : PIECE < line.end - line.start
   pub from : line.start ≤ place
-  pub to : place ≤ line.end
+  pub to : place + count ≤ line.end
 
 -- this line is such a line, and one of these, or of those that are known
-abbrev pub HoldsLine : List KnownLine → ℕ → KnownLine → Type 0
-HoldsLine lines place line = Contains lines line × IsAbout place line
+abbrev pub HoldsLine : List KnownLine → ℕ → ℕ → KnownLine → Type 0
+HoldsLine lines place count line = Contains lines line × IsAbout place count line
 
-abbrev pub HoldsPlace : KnownLines → ℕ → KnownLine → Type 0
-HoldsPlace known place line = HoldsLine (known_lines known) place line
+abbrev pub HoldsPart : KnownLines → ℕ → ℕ → KnownLine → Type 0
+HoldsPart known place count line = HoldsLine (known_lines known) place count line
 
 -- whether a line stays known behind this one: a very long one, and another
 abbrev pub stays_beside : KnownLine → KnownLine → Bool
@@ -73,6 +73,12 @@ IsCut place count line later =
 abbrev pub IsPasted : ℕ → ℕ → KnownLine → KnownLine → Type 0
 IsPasted place put line later =
     (t bytes : List ℕ) → place ≤ length t → length bytes ≡ put → IsLineOf t line
+    → IsLineOf (replaced t place 0 bytes) later
+
+-- what it becomes where such bytes are put in, if none of them is a line break
+abbrev pub IsWidened : ℕ → ℕ → KnownLine → KnownLine → Type 0
+IsWidened place put line later =
+    (t bytes : List ℕ) → place ≤ length t → length bytes ≡ put → ¬ HasBreak bytes → IsLineOf t line
     → IsLineOf (replaced t place 0 bytes) later
 
 -- Of the lines before it a change made those behind it: these are lines of a text where it makes lines of that one of

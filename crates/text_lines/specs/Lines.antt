@@ -1,9 +1,13 @@
 -- The lines of a text: its parts between line breaks.
-use Rattle.std.specs.Prelude.{ℕ, ◌+◌, ◌-◌, min, Bool, not, ◌==◌, nat_lt, if◌then◌else◌, List, length, take, drop, Option, Some, None}
+use Rattle.std.specs.Prelude.{◌≡◌, ℕ, ◌+◌, ◌-◌, ◌<◌, min, Bool, true, not, ◌==◌, nat_lt, if◌then◌else◌, List, length, take, drop, get_or, Option, Some, None}
 use Rattle.std.specs.List.{suffix_len, position_or_len}
 
 abbrev pub is_break : ℕ → Bool
 is_break b = b == 0x0A
+
+-- a line break is among these bytes
+abbrev pub HasBreak : List ℕ → Type 0
+HasBreak bytes = (k : ℕ) × (k < length bytes) × (is_break (get_or bytes k 0) ≡ true)
 
 -- how many bytes stand between place p and the last line break below it, or the text's start
 abbrev pub column : List ℕ → ℕ → ℕ

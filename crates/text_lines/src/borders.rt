@@ -3,8 +3,8 @@
 ghost use Rattle.std.specs.Prelude.{◌≡◌, ◌↔◌, ◌≤◌, ◌+◌, ◌-◌, ℕ, List, length, IfOk, IfSome, IsSome};
 ghost use Rattle.rope_node.specs.Denotes.{IsRope, rope_len};
 ghost use Rattle.cord_search.specs.declared.runs.TheConstants.{PIECE};
-ghost use Rattle.text_lines.specs.HeldBytes.{held_starting_at, held_up_to, AreHeld, HasBreak, HoldsText, TellsStart};
-ghost use Rattle.text_lines.specs.Lines.{line_end, line_start};
+ghost use Rattle.text_lines.specs.HeldBytes.{held_starting_at, held_up_to, AreHeld, HoldsText, TellsStart};
+ghost use Rattle.text_lines.specs.Lines.{HasBreak, line_end, line_start};
 ghost use Rattle.text_lines.specs.Texts.{IsTextPlace, ReadsText};
 
 use crate::held::HeldBytes;
@@ -52,7 +52,7 @@ pub fn near_start<S: NodeSpace, T: Sources>(
     ensures reads { ReadsText (S.table space.now) rope (T.reading sources.old) (T.reading sources.new) result }
 {
     prove!(place <= rope_len(space, rope));
-    if let Some(line) = held.known().about(place) {
+    if let Some(line) = held.known().about(place, 0) {
         return Ok(line.start);
     }
     let straight = held.is_straight(alloc, space, rope, place);
@@ -107,7 +107,7 @@ pub fn near_end<S: NodeSpace, T: Sources>(
     ensures reads { ReadsText (S.table space.now) rope (T.reading sources.old) (T.reading sources.new) result }
 {
     let len = rope_len(space, rope);
-    if let Some(line) = held.known().about(start) {
+    if let Some(line) = held.known().about(start, 0) {
         return Ok(len.min(line.end));
     }
     if let Some(end) = end_among(held, start, len) {

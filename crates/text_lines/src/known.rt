@@ -4,7 +4,7 @@ ghost use Rattle.std.specs.Prelude.{◌≡◌, ◌↔◌, ◌<◌, ◌≤◌, �
 ghost use Rattle.rope_node.specs.Denotes.{IsRope, rope_len};
 ghost use Rattle.cord_position.specs.Fetched.{rope_cell};
 ghost use Rattle.cord_search.specs.declared.runs.TheConstants.{PIECE};
-ghost use Rattle.text_lines.specs.KnownLines.{IsAbout, IsCut, IsPasted, IsTyped, StaysBeside, StaysCut, stays_beside};
+ghost use Rattle.text_lines.specs.KnownLines.{IsAbout, IsCut, IsPasted, IsTyped, IsWidened, StaysBeside, StaysCut, stays_beside};
 ghost use Rattle.text_lines.specs.StatedCells.{AreToldByOthers, HaveOneSource, cell_source};
 
 use crate::lines::LINE_BREAK;
@@ -31,11 +31,11 @@ impl KnownLine {
         self.end.saturating_sub(self.start) > PIECE as u64
     }
 
-    /// Whether it is long, and a place lies in it or is its end.
-    pub(crate) fn is_about(self, place: u64) -> bool
-        ensures { IsTrue result ↔ IsAbout place self }
+    /// Whether it is long, and `count` bytes from a place on lie in it, or none and the place lies in it or is its end.
+    pub(crate) fn is_about(self, place: u64, count: u64) -> bool
+        ensures { IsTrue result ↔ IsAbout place count self }
     {
-        self.is_long() && self.start <= place && place <= self.end
+        self.is_long() && self.start <= place && place <= self.end && count <= self.end - place
     }
 
     /// Whether it stays known when another line is shown: that is a different one, and this one is very long.
@@ -102,6 +102,22 @@ impl KnownLine {
         }
         let start = self.start.checked_add(put)?;
         let end = self.end.checked_add(put)?;
+        Some(KnownLine { start, end })
+    }
+
+    /// The line after `put` bytes are put in at a place, of which none is a line break.
+    pub fn widened(self, place: u64, put: u64) -> Option<KnownLine>
+        ensures line { IfSome result (IsWidened place put self) }
+        ensures kept { self.start ≤ self.end → self.end + put < 2 ^ 64 → IsSome result }
+    {
+        if self.end < place {
+            return Some(self);
+        }
+        let end = self.end.checked_add(put)?;
+        if self.start <= place {
+            return Some(KnownLine { end, ..self });
+        }
+        let start = self.start.checked_add(put)?;
         Some(KnownLine { start, end })
     }
 }

@@ -6,7 +6,8 @@ ghost use Rattle.cord_search.specs.declared.runs.TheConstants.{PIECE};
 ghost use Rattle.command_parts.specs.Commands.{replaced};
 ghost use Rattle.text_lines.specs.declared.known.KnownLine.{KnownLine};
 ghost use Rattle.text_lines.specs.declared.known_lines.TheConstants.{MOST_LINES};
-ghost use Rattle.text_lines.specs.KnownLines.{ChangesLines, HoldsLine, HoldsPlace, IsCut, IsKnownIn, IsPasted, IsTyped, StaysBeside, StaysCut, known_lines, learnt};
+ghost use Rattle.text_lines.specs.KnownLines.{ChangesLines, HoldsLine, HoldsPart, IsCut, IsKnownIn, IsPasted, IsTyped, IsWidened, StaysBeside, StaysCut, known_lines, learnt};
+ghost use Rattle.text_lines.specs.Lines.{HasBreak};
 
 use crate::known::KnownLine;
 
@@ -20,13 +21,14 @@ pub struct KnownLines {
     count: usize,
 }
 
-/// The first of these lines that is longer than what is searched through at once, and in which a place lies or ends.
-fn line_about(lines: &[KnownLine], place: u64) -> Option<KnownLine>
-    ensures holds { IfSome result (HoldsLine lines.now place) }
-    ensures all { (line : KnownLine) → HoldsLine lines.now place line → IsSome result }
+/// The first of these lines that is longer than what is searched through at once, and has `count` bytes from a place on,
+/// or none and the place lies in it or is its end.
+fn line_about(lines: &[KnownLine], place: u64, count: u64) -> Option<KnownLine>
+    ensures holds { IfSome result (HoldsLine lines.now place count) }
+    ensures all { (line : KnownLine) → HoldsLine lines.now place count line → IsSome result }
 {
     for line in lines {
-        if line.is_about(place) {
+        if line.is_about(place, count) {
             return Some(*line);
         }
     }
@@ -72,12 +74,13 @@ impl KnownLines {
         self.count += 1;
     }
 
-    /// A line that is known, is longer than what is searched through at once, and has a place in it or as its end.
-    pub(crate) fn about(&self, place: u64) -> Option<KnownLine>
-        ensures holds { IfSome result (HoldsPlace self.now place) }
-        ensures all { (line : KnownLine) → HoldsPlace self.now place line → IsSome result }
+    /// A line that is known, is longer than what is searched through at once, and has `count` bytes from a place on, or
+    /// none and the place in it or as its end.
+    pub fn about(&self, place: u64, count: u64) -> Option<KnownLine>
+        ensures holds { IfSome result (HoldsPart self.now place count) }
+        ensures all { (line : KnownLine) → HoldsPart self.now place count line → IsSome result }
     {
-        line_about(self.lines(), place)
+        line_about(self.lines(), place, count)
     }
 
     /// A line was shown: it is known from now on if it is longer than what is searched through at once. Of the others
@@ -145,5 +148,15 @@ impl KnownLines {
             → AllZip (IsPasted place put) (known_lines self.now) (known_lines result) }
     {
         self.changed(|line| line.pasted(place, put))
+    }
+
+    /// The lines after `put` bytes are put in at a place, of which none is a line break.
+    pub fn widened(&self, place: u64, put: u64) -> KnownLines
+        ensures lines { (t bytes : List ℕ) → place ≤ length t → length bytes ≡ put → ¬ HasBreak bytes
+            → IsKnownIn self.now t → IsKnownIn result (replaced t place 0 bytes) }
+        ensures kept { All (λ line. (line.start ≤ line.end) × (line.end + put < 2 ^ 64)) (known_lines self.now)
+            → AllZip (IsWidened place put) (known_lines self.now) (known_lines result) }
+    {
+        self.changed(|line| line.widened(place, put))
     }
 }

@@ -41,7 +41,7 @@ pub fn line_start<S: NodeSpace, T: Sources>(
     if place == 0 {
         return Ok(0);
     }
-    if let Some(line) = known.about(place) {
+    if let Some(line) = known.about(place, 0) {
         return Ok(line.start);
     }
     match rchr(alloc, space, sources, rope, place - 1, LINE_BREAK)? {
@@ -72,7 +72,7 @@ pub fn line_end<S: NodeSpace, T: Sources>(
     ensures reads { ReadsText (S.table space.now) rope (T.reading sources.old) (T.reading sources.new) result }
 {
     let len = rope_len(space, rope);
-    match known.about(place) {
+    match known.about(place, 0) {
         Some(line) => Ok(len.min(line.end)),
         None => line_end_with(alloc, space, sources, rope, place, &mut [0; PIECE]),
     }

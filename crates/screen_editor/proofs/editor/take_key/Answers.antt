@@ -1,6 +1,7 @@
 use Rattle.std.proofs.Common.{Some, inl, inr, sym}
 use Rattle.screen_editor.specs.declared.key.Step.TheVariants as Step
 use Rattle.screen_editor.proofs.KnownKeys.{refused_known}
+use Rattle.screen_editor.proofs.PlainCuts.{plain_refused}
 use Rattle.screen_editor.proofs.ToldKeys.{ending_told, going_told, leaves, refused_told, saves}
 use Rattle.screen_editor.proofs.editor.take_key.Goals as goal
 
@@ -27,7 +28,13 @@ returns-in-Going g c = record {
 
 pub returns-in-Err-clause-known : goal.returns-in-Err-clause-known
 returns-in-Err-clause-known g c =
-    rw c.tell.ensures (refused_known (g.R.Sources.reading c.args.sources.now).stated c.args.workspace.now c.take.new.workspace c.args.known.now (Some c.in-Err.fault) c.last-before.ensures.history c.last-refused.ensures.history c.in-Err.ensures.kept c.requires.known)
+    let st = (g.R.Sources.reading c.args.sources.now).stated in
+    let known = c.args.known.now in
+    let kept = c.in-Err.ensures.kept in
+    rw c.tell.ensures (
+      refused_known st c.args.workspace.now c.take.new.workspace known.lines (Some c.in-Err.fault) c.last-before.ensures.history c.last-refused.ensures.history kept c.requires.known.0,
+      plain_refused st c.args.workspace.now c.take.new.workspace known.plain_from kept c.requires.known.1,
+    )
 
 pub returns-in-Save-clause-known : goal.returns-in-Save-clause-known
 returns-in-Save-clause-known g c = c.known_after-later.ensures (g.R.Sources.reading c.args.sources.now) (g.R.Sources.reading c.take.new.sources) c.take.new.workspace c.in_default.ensures c.last-taken.ensures.history c.requires.known

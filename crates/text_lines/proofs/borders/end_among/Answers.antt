@@ -1,6 +1,6 @@
 use Rattle.std.proofs.Common.{◌≡◌, ◌+◌, refl, sym, subst, is_some, ap, arith}
 use Rattle.std.proofs.lemmas.Bool.{false_from_ne_true}
-use Rattle.text_lines.specs.HeldBytes.{HasBreak}
+use Rattle.text_lines.specs.Lines.{HasBreak}
 use Rattle.text_lines.specs.Lines.{line_end}
 use Rattle.text_lines.proofs.HeldLaws.{end_told}
 use Rattle.text_lines.proofs.LineLaws.{end_inside}

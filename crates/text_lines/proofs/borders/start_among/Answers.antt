@@ -1,6 +1,6 @@
 use Rattle.std.proofs.Common.{◌≡◌, ◌+◌, ◌-◌, length, inl, inr, refl, ap, sym, subst, ◌∙◌, arith}
 use Rattle.std.proofs.lemmas.Bool.{false_from_ne_true}
-use Rattle.text_lines.specs.HeldBytes.{HasBreak}
+use Rattle.text_lines.specs.Lines.{HasBreak}
 use Rattle.text_lines.proofs.HeldLaws.{held_inside, start_told}
 use Rattle.text_lines.proofs.LineLaws.{less_one}
 use Rattle.text_lines.proofs.borders.start_among.Goals as goal

@@ -4,7 +4,7 @@ use Rattle.lazy_file.specs.Readings.{fault_by}
 use Rattle.cord_position.specs.Fetched.{InCells}
 use Rattle.text_lines.specs.Showing.{frame_source_fault}
 use Rattle.screen_editor.specs.Editing.{current_cell, current_len}
-use Rattle.screen_editor.specs.KnownTexts.{IsKnownLine}
+use Rattle.screen_editor.specs.KnownTexts.{IsKnownLine, TakeNoBreak}
 use Rattle.screen_editor.proofs.LaterReadings.{reads_later}
 use Rattle.screen_editor.proofs.editor.Editor.frame.Goals as goal
 
@@ -19,5 +19,8 @@ invariant_of-self g c =
     let later = reads_later old new (InCells (current_cell e) 0 (current_len e)) (fault_by frame_source_fault c.frame_of.result) c.frame_of.ensures.makes.reads in
     let same : new.stated ≡ old.stated = later.same in (
       c.self.invariant.0 ∙ ap (λ (st : Stated). st.sizes) (sym same),
-      subst (λ (st : Stated). IsKnownLine st e c.frame_of.new.known) (sym same) c.frame_of.ensures.known,
+      (
+        subst (λ (st : Stated). IsKnownLine st e c.frame_of.new.known) (sym same) c.frame_of.ensures.known,
+        subst (λ (st : Stated). TakeNoBreak st e.session c.self.inside.known.plain_from) (sym same) c.self.invariant.1.1,
+      ),
     )
