@@ -429,6 +429,8 @@ words_of_the_script() {
     printf '' | "$CORDEDIT" --continue image nexts file > /dev/null; is 'left without a key' "$? $(echo nexts*)" '0 nexts.0'; printf 'z\030' | "$CORDEDIT" --continue image nexts file > /dev/null
     is 'the same command begins' "$? $("$CORDKIT" show nexts 1 nexts.0)" '0 zxone'; rm nexts; printf more >> nexts.0; "$CORDEDIT" --continue image nexts file < /dev/null 2> said
     is 'another text is there' "$? $(cat said) $(cat nexts.0)" '2 cordedit: nexts.0 is there already: -f replaces it xonemore'
+    printf 'q' | "$CORDEDIT" --continue image nextk file > /dev/null; mkdir next_wc && printf '#!/bin/sh\nexit 1\n' > next_wc/wc && chmod +x next_wc/wc
+    PATH=$room/next_wc:$PATH "$CORDEDIT" --continue image nextk file < /dev/null > out; is 'keys that cannot be counted stay' "$? $(tail -c 1 nextk.keys)" '0 q'; rm -r next_wc
     begin A --keep=next.keys next next.0; await test -s next.keys; printf two > file; printf '\030' | "$CORDEDIT" -f --continue image next file > /dev/null 2> said
     is 'the file of a session stays' "$? $(cat said) $(cat next.0)" '1 refused J2 xone'; type_keys A '\030'; close A; is 'and it saves' "$got" 0
     "$CORDEDIT" --help > said; is 'help' "$? $(grep -c discard said)" '0 1'
