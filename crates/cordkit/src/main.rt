@@ -235,6 +235,158 @@ fn apply<L: Ledger, W>(
     }
 }
 
+/// Tells where bytes of a text come from, where the words ask for it; else checks the image of standard input.
+fn run_blame_or_stdin<L: Ledger, W: io::Write>(
+    rt: &HostRuntime,
+    action: &Action<'_>,
+    answer: &mut Answer<W>,
+    meter: &mut Meter<'_>,
+    blank: Blank,
+) -> Result<Status, ToolFault>
+    requires name { blank.name ≡ L.name }
+    requires parts { blank.parts ≡ L.parts }
+    requires many { blank.parts ≡ 2 ^ 64 - 1 }
+{
+    match action {
+        Action::Blame {
+            at_most,
+            start,
+            count,
+            image,
+            revision,
+            sources,
+        } => blame(
+            rt,
+            opened_image::<L>(rt, *at_most, image, sources, blank),
+            BytesOfText {
+                revision: *revision,
+                start: start.unwrap_or(0),
+                count: count.unwrap_or(u64::MAX),
+            },
+            meter,
+        ),
+        _ => run_stdin(rt.alloc(), rt.reader(), answer),
+    }
+}
+
+/// Does what the words ask for over an image: that of standard input, where they name none.
+fn run_over_image<L: Ledger, W: io::Write>(
+    rt: &HostRuntime,
+    action: &Action<'_>,
+    answer: &mut Answer<W>,
+    meter: &mut Meter<'_>,
+    blank: Blank,
+) -> Result<Status, ToolFault>
+    requires name { blank.name ≡ L.name }
+    requires parts { blank.parts ≡ L.parts }
+    requires many { blank.parts ≡ 2 ^ 64 - 1 }
+{
+    match action {
+        Action::Check {
+            at_most,
+            image,
+            sources,
+        } => check(
+            rt,
+            opened_image::<L>(rt, *at_most, image, sources, blank),
+            answer,
+            meter,
+        ),
+        Action::Show {
+            at_most,
+            image,
+            revision,
+            sources,
+        } => show(
+            rt,
+            opened_image::<L>(rt, *at_most, image, sources, blank),
+            *revision,
+        ),
+        Action::Migrate {
+            at_most,
+            image,
+            sources,
+        } => migrate(
+            rt,
+            opened_image::<L>(rt, *at_most, image, sources, blank),
+            meter,
+        ),
+        Action::Log {
+            at_most,
+            brief,
+            image,
+            sources,
+        } => log(
+            rt,
+            opened_image::<L>(rt, *at_most, image, sources, blank),
+            *brief,
+            meter,
+        ),
+        _ => run_blame_or_stdin::<L, W>(rt, action, answer, meter, blank),
+    }
+}
+
+/// Makes a session or goes on with one, as the words ask.
+fn run_session<L: Ledger, W: io::Write>(
+    rt: &HostRuntime,
+    action: &Action<'_>,
+    answer: &mut Answer<W>,
+    meter: &mut Meter<'_>,
+    blank: Blank,
+) -> Result<Status, ToolFault>
+    requires name { blank.name ≡ L.name }
+    requires parts { blank.parts ≡ L.parts }
+    requires many { blank.parts ≡ 2 ^ 64 - 1 }
+{
+    match action {
+        Action::Edit {
+            onto,
+            keys,
+            session,
+            no_clobber,
+            image,
+            file,
+        } => {
+            let words = Editing {
+                onto: *onto,
+                keys: *keys,
+                session: *session,
+                no_clobber: *no_clobber,
+                image,
+                file: *file,
+            };
+            edit::<L, W>(rt, words, answer, blank)
+        }
+        Action::Discard { keys } => discard(rt, keys),
+        Action::Commit {
+            at_most,
+            image,
+            file,
+            sources,
+        } => {
+            let words = Committing {
+                at_most: *at_most,
+                image,
+                file,
+                sources,
+            };
+            commit::<L>(rt, words, meter, blank)
+        }
+        Action::Apply {
+            onto: Some(image),
+            at_most,
+            script,
+            sources,
+        } => apply_onto::<L, W>(rt, image, *at_most, script, sources, answer, meter, blank),
+        Action::Apply {
+            script,
+            sources,
+            ..
+        } => apply::<L, W>(rt, script, sources, answer, meter, blank),
+        _ => run_over_image::<L, W>(rt, action, answer, meter, blank),
+    }
+}
+
 /// Does what the words ask for. Files are opened in the order of the words
 /// before anything is written, the image of `edit` when it is saved.
 fn run<L: Ledger, W: io::Write>(
@@ -248,46 +400,26 @@ fn run<L: Ledger, W: io::Write>(
     requires parts { blank.parts ≡ L.parts }
     requires many { blank.parts ≡ 2 ^ 64 - 1 }
 {
-    #[rattlefmt::skip]
     match action {
-        Action::CheckInput => run_stdin(rt.alloc(), rt.reader(), answer),
-        Action::Check { at_most, image, sources } => {
-            check(rt, opened_image::<L>(rt, *at_most, image, sources, blank), answer, meter)
-        }
-        Action::Show { at_most, image, revision, sources } => {
-            show(rt, opened_image::<L>(rt, *at_most, image, sources, blank), *revision)
-        }
-        Action::Migrate { at_most, image, sources } => {
-            migrate(rt, opened_image::<L>(rt, *at_most, image, sources, blank), meter)
-        }
-        Action::Log { at_most, brief, image, sources } => {
-            log(rt, opened_image::<L>(rt, *at_most, image, sources, blank), *brief, meter)
-        }
-        Action::Blame { at_most, start, count, image, revision, sources } => {
-            let (start, count) = (start.unwrap_or(0), count.unwrap_or(u64::MAX));
-            let wanted = BytesOfText { revision: *revision, start, count };
-            blame(rt, opened_image::<L>(rt, *at_most, image, sources, blank), wanted, meter)
-        }
+        Action::CheckInput
+        | Action::Check { .. }
+        | Action::Show { .. }
+        | Action::Migrate { .. }
+        | Action::Log { .. }
+        | Action::Blame { .. } => run_over_image::<L, W>(rt, action, answer, meter, blank),
         Action::Cut { start, count, file } => cut::<L>(rt, *start, *count, file, blank),
         Action::Join { files } => join::<L>(rt, files.as_slice(), blank),
-        Action::Find { all, start, pattern, file } => {
-            find::<L>(rt, *all, *start, pattern.as_bytes(), file, meter, blank)
-        }
+        Action::Find {
+            all,
+            start,
+            pattern,
+            file,
+        } => find::<L>(rt, *all, *start, pattern.as_bytes(), file, meter, blank),
         Action::Cmp { first, second } => compare::<L>(rt, first, second, blank),
-        Action::Edit { onto, keys, session, no_clobber, image, file } => {
-            let (onto, keys, session, no_clobber, file) = (*onto, *keys, *session, *no_clobber, *file);
-            edit::<L, W>(rt, Editing { onto, keys, session, no_clobber, image, file }, answer, blank)
-        }
-        Action::Discard { keys } => discard(rt, keys),
-        Action::Commit { at_most, image, file, sources } => {
-            commit::<L>(rt, Committing { at_most: *at_most, image, file, sources }, meter, blank)
-        }
-        Action::Apply { onto: Some(image), at_most, script, sources } => {
-            apply_onto::<L, W>(rt, image, *at_most, script, sources, answer, meter, blank)
-        }
-        Action::Apply { onto: None, script, sources, .. } => {
-            apply::<L, W>(rt, script, sources, answer, meter, blank)
-        }
+        Action::Edit { .. }
+        | Action::Discard { .. }
+        | Action::Commit { .. }
+        | Action::Apply { .. } => { run_session::<L, W>(rt, action, answer, meter, blank) }
     }
 }
 
