@@ -2,7 +2,7 @@
 
 ghost use Rattle.std.specs.Prelude.{◌≡◌, ◌+◌, ◌-◌, ◌<◌, ◌≤◌, ◌⊎◌, ◌^◌, IfSome};
 ghost use Rattle.rope_node.specs.declared.step.Child.TheVariants.{Right};
-ghost use Rattle.span_descent.specs.Trails.{IsThisStop, child_stop, place_in, stop_rest, stop_span};
+ghost use Rattle.span_descent.specs.Trails.{IsThisStop, child_stop, place_in, stop_about, stop_rest, stop_span};
 
 use rope_node::{Child, MOST_DEPTH, NodeId, Span};
 
@@ -67,6 +67,22 @@ impl Stop {
         }
     }
 
+    /// The stop of the root's bytes from `place` on that are `below`, and of so many before them.
+    #[inline(always)]
+    fn about(place: u64, below: Span, before: u64) -> Stop
+        requires root { before ≤ place }
+        requires node { before ≤ below.start }
+        requires fits { place + below.len < 2 ^ 64 }
+        ensures { result ≡ stop_about place below before }
+    {
+        Stop {
+            node: below.node,
+            from: place - before,
+            end: place + below.len,
+            start: below.start - before,
+        }
+    }
+
     /// What of it lies in a child, of which the rest from `place` on begins with `below`.
     #[inline(always)]
     pub(crate) fn child(self, place: u64, below: Span, child: Child) -> Stop
@@ -75,17 +91,12 @@ impl Stop {
         requires ahead { (child ≡ Right) ⊎ (place_in self place ≤ below.start) }
         ensures { result ≡ child_stop self place below }
     {
+        // The arms are apart, so that nothing is computed of what stays in a left child or a base.
         let before = place - self.from;
-        let before = match child {
-            Child::Right => before.min(below.start),
+        match child {
+            Child::Right => Stop::about(place, below, before.min(below.start)),
             // It has all that the stop has before the place.
-            Child::Left | Child::Base => before,
-        };
-        Stop {
-            node: below.node,
-            from: place - before,
-            end: place + below.len,
-            start: below.start - before,
+            Child::Left | Child::Base => Stop::about(place, below, before),
         }
     }
 
