@@ -112,6 +112,7 @@ fn room_for(alloc: Global, command: &Command<'_>) -> Result<Vec<u64>, EditFault>
 }
 
 /// The rows of the root that was built for a command.
+#[tactic(auto, using(crate::proofs::MadeRevisions::own_edit))]
 fn rows_for(
     alloc: Global,
     store: &Store<Coded>,

@@ -1,4 +1,3 @@
-use Rattle.std.proofs.Common.{◌≡◌, ◌+◌, arith}
 use Rattle.function_leaf.specs.Coded.{coded_byte}
 use Rattle.node_table.specs.Held.{table_of}
 use Rattle.edit_commands.specs.declared.command.Command.TheVariants.{Many}
@@ -11,11 +10,3 @@ pub changed-requires-clause-order : goal.changed-requires-clause-order
 changed-requires-clause-order c =
     let is : IsCommandInRange (table_of coded_byte c.args.store.now) (roots_of c.args.revisions.now) (Many c.in-Many.r c.in-Many.changes c.in-Many.bytes) = rw c.in-Many.is at c.requires.in_range in
     rw (c.len-len.ensures.exact, c.root_at-rope-in-Many.ensures) (in_order _ 0 c.in-Many.changes.now (can_follow _ c.in-Many.changes.now c.in-Many.bytes.now is.1))
-
-pub returns-in-Paste-clause-exact : goal.returns-in-Paste-clause-exact
-returns-in-Paste-clause-exact c =
-    let behind : c.in-Paste.p + 0 ≡ c.in-Paste.p = omega arith in
-    rw (c.in-Paste.is, ← c.root_at-in-Paste-2.ensures, ← c.root_at-in-Paste.ensures, ← c.span-pasted.ensures) (rw behind at c.around-in-Paste.ensures)
-
-pub returns-in-Back-clause-exact : goal.returns-in-Back-clause-exact
-returns-in-Back-clause-exact c = rw (c.in-Back.is, ← c.root_at-rope-in-Back.ensures) c.alone-in-Back.ensures
