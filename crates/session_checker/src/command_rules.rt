@@ -89,6 +89,7 @@ fn stays_short(len: u64, taken: u64, put: u64) -> bool
 }
 
 /// Whether text `r` is there, may have these `count` splices from place `first` on, and is not too long with them.
+#[tactic(auto, using(command_parts::proofs::SplicedTexts::are_splices, command_parts::proofs::SplicedTexts::follow_sum, crate::proofs::SpliceSteps::short_so))]
 fn takes_splices<S: CodedSpace, R: Roots, P: Splices, L: Ledger>(
     looks: &Looks<'_, '_, S, L>,
     roots: &R,

@@ -48,6 +48,7 @@ fn has_good_mark<L: Ledger>(looks: &Looks<'_, '_, Tables<'_>, L>, revision: Revi
 }
 
 /// The parts of the command of revision `k`, which is this one.
+#[tactic(auto, using(crate::proofs::EarlierRevisions::names_there))]
 fn command_parts<'p, 'i, 'a, L: Ledger>(
     looks: &Looks<'_, '_, Tables<'_>, L>,
     revisions: &'p Revisions<'i, 'a>,
@@ -70,6 +71,7 @@ fn command_parts<'p, 'i, 'a, L: Ledger>(
 }
 
 /// Tests the rules of revision `k`, which is this one, in their order, but for its rows.
+#[tactic(auto, using(crate::proofs::EarlierRevisions::names_there))]
 fn check_rules<L: Ledger>(
     looks: &Looks<'_, '_, Tables<'_>, L>,
     revisions: &Revisions,
@@ -101,6 +103,7 @@ fn check_rules<L: Ledger>(
 
 /// Tests whether the rows of revision `k`, which is this one and whose
 /// rows begin at row `from`, cover its command's parts and its root.
+#[tactic(auto, using(crate::proofs::EarlierRevisions::rows_inside, crate::proofs::RevisionFaults::handed_tells, crate::proofs::RevisionFaults::handed_reads))]
 fn check_rows<S: Sources, P: Splices, L: Ledger, G: Progress>(
     looks: &mut Looks<'_, '_, Tables<'_>, L>,
     trails: &mut Trails,

@@ -25,6 +25,7 @@ fn is_splice(pool_len: u64, len: u64, s: Splice) -> bool
 }
 
 /// Whether each of `count` splices from place `first` on does so.
+#[tactic(auto, using(crate::proofs::SpliceSteps::next_is, crate::proofs::SpliceSteps::next_is_not))]
 fn are_splices<P: Splices>(splices: &P, first: u32, count: u32, pool_len: u64, len: u64) -> bool
     requires there { first + count ≤ length (P.splices splices.now) }
     requires fit { first + count < 2 ^ 32 }
@@ -61,6 +62,7 @@ fn are_apart<P: Splices>(splices: &P, first: u32, count: u32) -> bool
 
 /// How many bytes of a text `count` splices from place `first` on take
 /// away, and how many they put in, each counted up to what a number holds.
+#[tactic(auto, using(crate::proofs::SpliceSteps::sum_done))]
 pub fn bytes_spliced<P: Splices>(splices: &P, first: u32, count: u32) -> (u64, u64)
     requires there { first + count ≤ length (P.splices splices.now) }
     requires fit { first + count < 2 ^ 32 }

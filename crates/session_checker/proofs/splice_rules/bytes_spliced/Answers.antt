@@ -1,5 +1,5 @@
-use Rattle.std.proofs.Common.{sym, ◌∙◌, arith}
-use Rattle.session_checker.proofs.SpliceSteps.{sum_next, sum_done}
+use Rattle.std.proofs.Common.{◌∙◌, arith}
+use Rattle.session_checker.proofs.SpliceSteps.{sum_next}
 use Rattle.session_checker.proofs.splice_rules.bytes_spliced.Goals as goal
 
 pub loop-i-preserved : goal.loop-i-preserved
@@ -8,9 +8,3 @@ loop-i-preserved g c = record {
   taken = c.loop-i.invariant.taken ∙ sum_next (λ s. s.m) (g.P.Splices.splices c.args.splices.now) c.args.first c.args.count c.loop-i.i c.loop-i.taken c.saturating_add-taken.result c.splice-s.result c.loop-i-test.true c.splice-s.ensures c.saturating_add-taken.ensures;
   put = c.loop-i.invariant.put ∙ sum_next (λ s. s.n) (g.P.Splices.splices c.args.splices.now) c.args.first c.args.count c.loop-i.i c.loop-i.put c.saturating_add-put.result c.splice-s.result c.loop-i-test.true c.splice-s.ensures c.saturating_add-put.ensures;
 }
-
-pub returns-clause-taken : goal.returns-clause-taken
-returns-clause-taken g c = sym (c.loop-i.invariant.taken ∙ sum_done (λ s. s.m) (g.P.Splices.splices c.args.splices.now) c.args.first c.args.count c.loop-i.i c.loop-i.taken (omega (arith, c.loop-i-test.false)) c.loop-i.invariant.small.0)
-
-pub returns-clause-put : goal.returns-clause-put
-returns-clause-put g c = sym (c.loop-i.invariant.put ∙ sum_done (λ s. s.n) (g.P.Splices.splices c.args.splices.now) c.args.first c.args.count c.loop-i.i c.loop-i.put (omega (arith, c.loop-i-test.false)) c.loop-i.invariant.small.1)
