@@ -13,8 +13,20 @@ const BLOCKS: usize = 256;
 /// The key Down.
 const DOWN: u8 = 0x0E;
 
+/// The key Right.
+const RIGHT: u8 = 0x06;
+
 /// The key to the line's end.
 const LINE_END: u8 = 0x05;
+
+/// The key that erases the byte at the place.
+const ERASE_AT: u8 = 0x04;
+
+/// The key that takes the last change back.
+const UNDO: u8 = 0x15;
+
+/// A byte that is no key, to show what there is.
+const NO_KEY: u8 = 0x07;
 
 /// A read of a file: where it begins, and how many bytes it asks for.
 #[derive(Clone, Copy, Debug, PartialEq)]
@@ -70,8 +82,8 @@ fn lines<R: AllocGlobal>(rt: &R) -> Result<Vec<u8>, AllocError> {
     Ok(text)
 }
 
-/// The reads of a file that keys make, and behind them so many frames.
-fn reads_of<R: AllocGlobal + Abort>(rt: &R, bytes: &[u8], keys: &[u8], frames: u32) -> Vec<Span> {
+/// The reads of a file that keys make, and behind them others with a frame behind each.
+fn reads_of<R: AllocGlobal + Abort>(rt: &R, bytes: &[u8], keys: &[u8], shown: &[u8]) -> Vec<Span> {
     let alloc = rt.alloc();
     let mut reads = Vec::new(alloc);
     let blocks = NonZeroUsize::new(BLOCKS).unwrap_or(NonZeroUsize::MIN);
@@ -85,7 +97,8 @@ fn reads_of<R: AllocGlobal + Abort>(rt: &R, bytes: &[u8], keys: &[u8], frames: u
     for byte in keys {
         assert_same(rt, &editor.key(*byte), &Ok(Step::Going), byte);
     }
-    for _ in 0..frames {
+    for byte in shown {
+        assert_same(rt, &editor.key(*byte), &Ok(Step::Going), byte);
         assert!(rt; editor.frame().is_ok());
     }
     drop(editor);
@@ -97,8 +110,8 @@ fn assert_reads<R: AllocGlobal + Abort>(rt: &R, keys: &[u8], expected: &[u64]) {
     let bytes = lines(rt).expect(rt, "lines");
     let mut all = Vec::from_slice(rt.alloc(), &[DOWN; 20]).expect(rt, "keys");
     all.extend_from_slice(keys).expect(rt, "keys");
-    let before = reads_of(rt, &bytes, &all, 0);
-    let both = reads_of(rt, &bytes, &all, 1);
+    let before = reads_of(rt, &bytes, &all, &[]);
+    let both = reads_of(rt, &bytes, &all, &[NO_KEY]);
     let frame = &both[before.len().min(both.len())..];
     assert_same(rt, &frame.len(), &expected.len(), &"reads");
     for (read, off) in frame.iter().zip(expected) {
@@ -122,16 +135,16 @@ fn a_frame_reads_windows_once_and_rows_by_blocks(rt: HostRuntime) {
     );
 }
 
-/// A byte was typed at place 10,000. The 4,096 bytes before the cursor lie in two leaves: their blocks are asked for,
-/// from 4,096 and 8,192 on, and the line break at 8,999 is the first of the nearest 1,024 bytes. Windows before it end
-/// at 8,999 and at 4,999, and the first row begins at 4,500. The cursor's line is looked through behind that byte, from
-/// the file's place 10,000 on. Each is a read that a frame with a window for each line makes too, in its order.
+/// A byte was typed at place 10,000. The 4,096 bytes before the cursor lie in two leaves: they are read by their blocks,
+/// from 4,096 and 8,192 on. The line breaks down to the one at 5,999 are among them; a window ends there, and the first
+/// row begins at 4,500. A window begins at 5,500. The cursor's line is looked through behind that byte, from the file's
+/// place 10,000 on. Each is a read that a frame with a window for each line makes too, in its order.
 #[test]
 fn a_frame_reads_the_rest_of_a_leaf_by_blocks(rt: HostRuntime) {
     assert_reads(
         &rt,
         b"a",
-        &[4096, 8192, 4903, 903, 4500, 10_000, 10_500, 12_288, 14_500],
+        &[4096, 8192, 1903, 5500, 10_000, 10_500, 12_288, 14_500],
     );
 }
 
@@ -143,8 +156,36 @@ fn a_second_frame_of_a_long_line_reads_nothing(rt: HostRuntime) {
     for _ in 0..20 {
         text.extend_from_slice(&[b'x'; 1000]).expect(&rt, "a text");
     }
-    let once = reads_of(&rt, &text, &[LINE_END], 1);
-    let twice = reads_of(&rt, &text, &[LINE_END], 2);
+    let once = reads_of(&rt, &text, &[LINE_END], &[NO_KEY]);
+    let twice = reads_of(&rt, &text, &[LINE_END], &[NO_KEY; 2]);
     assert!(&rt; once.len() > 4);
     assert_same(&rt, &twice.len(), &once.len(), &"reads");
+}
+
+/// Lines of one byte about one of 1,000,000.
+fn long_among_short<R: AllocGlobal>(rt: &R) -> Result<Vec<u8>, AllocError> {
+    let mut text = Vec::from_slice(rt.alloc(), b"a\nb\n")?;
+    for _ in 0..1000 {
+        text.extend_from_slice(&[b'x'; 1000])?;
+    }
+    text.extend_from_slice(b"\nc\nd\n")?;
+    Ok(text)
+}
+
+/// How many reads of it keys make, with a frame behind each.
+fn count_shown<R: AllocGlobal + Abort>(rt: &R, keys: &[u8]) -> usize {
+    let text = long_among_short(rt).expect(rt, "a text");
+    reads_of(rt, &text, &[], keys).len()
+}
+
+/// A byte is typed in the long line, or erased there, and that is taken back: the frame behind it passes over no line.
+#[test]
+fn a_frame_behind_undo_passes_over_no_long_line(rt: HostRuntime) {
+    let first = count_shown(&rt, &[DOWN, DOWN]);
+    assert!(&rt; first > 200, "{first}");
+    for change in [b'y', ERASE_AT] {
+        let changed = count_shown(&rt, &[DOWN, DOWN, RIGHT, change]);
+        let undone = count_shown(&rt, &[DOWN, DOWN, RIGHT, change, UNDO]);
+        assert!(&rt; undone.saturating_sub(changed) < first / 2, "{change}");
+    }
 }
