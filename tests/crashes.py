@@ -180,12 +180,11 @@ class Room:
         return {name for name in os.listdir(self.folder) if name.startswith("image.saved-") and self.read(name) == self.made["newer"]}
 
     def is_over(self, said):
-        """Whether a session of its own cannot go on: its file was cut before it took a key; it took none; or it was saved, and not told so."""
+        """Whether a session of its own cannot go on: it took no key; or it was saved, and not told so."""
         refusal = said.partition(b"\n")[0].strip()
         return OWN in self.words and (
-            (refusal == b"read" and not self.kept())
-            or (refusal in (b"refused J3", b"refused J5") and (self.is_saved() or not self.told))
-            or (refusal == b"refused J4" and bool(self.beside()))
+            (refusal in (b"refused J3", b"refused J5") and (self.is_saved() or not self.told))
+            or (refusal == b"refused J4" and self.is_saved() and bool(self.beside()))
         )
 
     def go_on(self):

@@ -65,8 +65,8 @@ fn parsed(numbers: &[u64]) -> Option<Beginning> {
     Some(Beginning { keys, image })
 }
 
-/// What a session began with that goes on, as its file tells.
-/// Where the file is not there, or is empty, the session begins.
+/// What a session began with that goes on, as its file tells. Where the file is not there, or was
+/// cut before the end of its line, the session begins: a key is taken once the line is whole.
 ///
 /// # Errors
 ///
@@ -77,10 +77,10 @@ pub fn read_beginning(rt: &HostRuntime, path: &str) -> Result<Option<Beginning>,
         Err(error) if error.kind() == ErrorKind::NotFound => return Ok(None),
         Err(error) => return Err(told(error)),
     };
-    if text.is_empty() {
+    let numbers = numbers(rt.alloc(), &text)?;
+    if !text.ends_with('\n') {
         return Ok(None);
     }
-    let numbers = numbers(rt.alloc(), &text)?;
     match parsed(&numbers) {
         Some(beginning) => Ok(Some(beginning)),
         None => Err(ToolFault::Read),
@@ -94,9 +94,9 @@ fn told_numbers(alloc: Global, beginning: &Beginning) -> Result<String, AllocErr
         inode,
         born,
     } = beginning.keys;
-    let keys = format!(in alloc; "{device} {inode} {born}\n")?;
+    let keys = format!(in alloc; "{device} {inode} {born}")?;
     let Some(image) = beginning.image else {
-        return Ok(keys);
+        return format!(in alloc; "{keys}\n");
     };
     let FileState {
         device,
@@ -107,7 +107,7 @@ fn told_numbers(alloc: Global, beginning: &Beginning) -> Result<String, AllocErr
     } = image;
     let (at, of_it) = (modified.seconds, modified.nanoseconds);
     let (then, of_that) = (changed.seconds, changed.nanoseconds);
-    format!(in alloc; "{keys}{device} {inode} {size} {at} {of_it} {then} {of_that}\n")
+    format!(in alloc; "{keys} {device} {inode} {size} {at} {of_it} {then} {of_that}\n")
 }
 
 /// Writes the file of a session that begins.
