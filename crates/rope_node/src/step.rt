@@ -10,12 +10,12 @@ use crate::space::NodeSpace;
 /// A child of a node.
 #[derive(Clone, Copy, Debug, PartialEq, Eq)]
 pub enum Child {
-    /// The left one of a concatenation.
-    Left,
-    /// The right one.
-    Right,
-    /// The base of a substring.
-    Base,
+    /// The left one of a concatenation, which has `left` bytes.
+    Left { left: u64 },
+    /// The right one, behind the `left` bytes of the other.
+    Right { left: u64 },
+    /// The base of a substring, which is the base's bytes from `i` on.
+    Base { i: u64 },
 }
 
 /// Where the bytes of a node lie.
@@ -49,7 +49,7 @@ pub fn step_down<S: NodeSpace>(space: &S, x: Span, view: NodeView, least: u64) -
                     start: x.start - left,
                     len: x.len,
                 };
-                return StepDown::Below(others, Child::Right);
+                return StepDown::Below(others, Child::Right { left });
             }
             let first = Span {
                 node: l,
@@ -57,7 +57,7 @@ pub fn step_down<S: NodeSpace>(space: &S, x: Span, view: NodeView, least: u64) -
                 len: x.len.min(left - x.start),
             };
             if least <= first.len {
-                return StepDown::Below(first, Child::Left);
+                return StepDown::Below(first, Child::Left { left });
             }
             let others = Span {
                 node: r,
@@ -72,7 +72,7 @@ pub fn step_down<S: NodeSpace>(space: &S, x: Span, view: NodeView, least: u64) -
                 start: x.start + i,
                 len: x.len,
             };
-            StepDown::Below(all, Child::Base)
+            StepDown::Below(all, Child::Base { i })
         }
         NodeView::Lit { .. } | NodeView::Src { .. } | NodeView::Fun => StepDown::Leaf,
     }

@@ -1,8 +1,9 @@
 //! A node on the way down to a place of a rope.
 
-ghost use Rattle.std.specs.Prelude.{◌≡◌, ◌+◌, ◌-◌, ◌<◌, ◌≤◌, ◌⊎◌, ◌^◌, IfSome};
-ghost use Rattle.rope_node.specs.declared.step.Child.TheVariants.{Right};
-ghost use Rattle.span_descent.specs.Trails.{IsThisStop, child_stop, place_in, stop_about, stop_rest, stop_span};
+ghost use Rattle.std.specs.Prelude.{◌≡◌, ◌+◌, ◌-◌, ◌<◌, ◌≤◌, ◌^◌, IfSome};
+ghost use Rattle.rope_node.specs.declared.limits.TheConstants.{TEXT_LIMIT};
+ghost use Rattle.rope_node.specs.Steps.{LiesIn};
+ghost use Rattle.span_descent.specs.Trails.{IsThisStop, child_stop, place_in, stop_rest, stop_span};
 
 use rope_node::{Child, MOST_DEPTH, NodeId, Span};
 
@@ -67,36 +68,35 @@ impl Stop {
         }
     }
 
-    /// The stop of the root's bytes from `place` on that are `below`, and of so many before them.
-    #[inline(always)]
-    fn about(place: u64, below: Span, before: u64) -> Stop
-        requires root { before ≤ place }
-        requires node { before ≤ below.start }
-        requires fits { place + below.len < 2 ^ 64 }
-        ensures { result ≡ stop_about place below before }
-    {
-        Stop {
-            node: below.node,
-            from: place - before,
-            end: place + below.len,
-            start: below.start - before,
-        }
-    }
-
     /// What of it lies in a child, of which the rest from `place` on begins with `below`.
     #[inline(always)]
     pub(crate) fn child(self, place: u64, below: Span, child: Child) -> Stop
         requires behind { self.from ≤ place }
-        requires fits { place + below.len < 2 ^ 64 }
-        requires ahead { (child ≡ Right) ⊎ (place_in self place ≤ below.start) }
+        requires ahead { place ≤ self.end }
+        requires lies { LiesIn (stop_rest self place) below child }
+        requires short { self.end < TEXT_LIMIT }
         ensures { result ≡ child_stop self place below }
     {
-        // The arms are apart, so that nothing is computed of what stays in a left child or a base.
-        let before = place - self.from;
+        // Told by the child and not by `below`: so less is computed at each step of a way.
         match child {
-            Child::Right => Stop::about(place, below, before.min(below.start)),
-            // It has all that the stop has before the place.
-            Child::Left | Child::Base => Stop::about(place, below, before),
+            Child::Left { left } => Stop {
+                node: below.node,
+                from: self.from,
+                end: self.end.min(self.from + (left - self.start)),
+                start: self.start,
+            },
+            Child::Right { left } => Stop {
+                node: below.node,
+                from: self.from + left.saturating_sub(self.start),
+                end: self.end,
+                start: self.start.saturating_sub(left),
+            },
+            Child::Base { i } => Stop {
+                node: below.node,
+                from: self.from,
+                end: self.end,
+                start: self.start + i,
+            },
         }
     }
 

@@ -1,4 +1,4 @@
-use Rattle.std.proofs.Common.{◌≡◌, ◌+◌, ◌-◌, ◌<◌, ◌≤◌, Some, inl, inr, refl, sym, ap, ◌∙◌, arith}
+use Rattle.std.proofs.Common.{◌≡◌, ◌+◌, ◌-◌, ◌<◌, ◌≤◌, Some, refl, sym, ap, ◌∙◌, arith}
 use Rattle.std.proofs.lemmas.Bool.{lt-ltb, le-ltb}
 use Rattle.rope_node.specs.declared.node.Span.{Span}
 use Rattle.rope_node.specs.Table.{len_at}
@@ -13,7 +13,7 @@ returns-then-left-x g c =
     let z : Span = record { node = c.in-Cat.r; start = x.start - c.left_len-left.result; len = x.len } in
     let past : len_at t c.in-Cat.l.0 ≤ x.start = rw c.left_len-left.ensures.value at c.if-left-x.true in
     let child : Some z ≡ child_span t x c.args.view = rw (c.in-Cat.is, c.left_len-left.ensures.value) (ap Some (sym (span_in_right t x c.in-Cat.l c.in-Cat.r past))) in
-    record { child = child; which = rw (c.in-Cat.is, le-ltb x.start (len_at t c.in-Cat.l.0) past) refl; ahead = inl refl; many = c.requires.few; cells = child_cells t c.requires.sound c.requires.true_records x z c.args.view c.requires.span c.requires.view child }
+    record { child = child; which = rw (c.in-Cat.is, c.left_len-left.ensures.value, le-ltb x.start (len_at t c.in-Cat.l.0) past) refl; lies = (omega (arith, c.if-left-x.true), refl, c.left_len-left.ensures.limit); many = c.requires.few; cells = child_cells t c.requires.sound c.requires.true_records x z c.args.view c.requires.span c.requires.view child }
 
 pub returns-then-least-first : goal.returns-then-least-first
 returns-then-least-first g c =
@@ -22,7 +22,7 @@ returns-then-least-first g c =
     let z : Span = record { node = c.in-Cat.l; start = x.start; len = c.min.result } in
     let before : x.start < len_at t c.in-Cat.l.0 = rw c.left_len-left.ensures.value at c.if-left-x.false in
     let child : Some z ≡ child_span t x c.args.view = rw (c.in-Cat.is, c.min.ensures, c.left_len-left.ensures.value) (ap Some (sym (span_in_left t x c.in-Cat.l c.in-Cat.r before))) in
-    record { child = child; which = rw (c.in-Cat.is, lt-ltb x.start (len_at t c.in-Cat.l.0) before) refl; ahead = inr (omega arith); many = c.if-least-first.true; cells = child_cells t c.requires.sound c.requires.true_records x z c.args.view c.requires.span c.requires.view child }
+    record { child = child; which = rw (c.in-Cat.is, c.left_len-left.ensures.value, lt-ltb x.start (len_at t c.in-Cat.l.0) before) refl; lies = (refl, c.min.ensures, omega (arith, c.if-left-x.false), c.left_len-left.ensures.limit); many = c.if-least-first.true; cells = child_cells t c.requires.sound c.requires.true_records x z c.args.view c.requires.span c.requires.view child }
 
 pub returns-else-least-first : goal.returns-else-least-first
 returns-else-least-first g c =
@@ -57,4 +57,4 @@ returns-in-Sub g c =
     let x = c.args.x in
     let z : Span = record { node = c.in-Sub.b; start = x.start + c.in-Sub.i; len = x.len } in
     let child : Some z ≡ child_span t x c.args.view = rw c.in-Sub.is refl in
-    record { child = child; which = rw c.in-Sub.is refl; ahead = inr (omega arith); many = c.requires.few; cells = child_cells t c.requires.sound c.requires.true_records x z c.args.view c.requires.span c.requires.view child }
+    record { child = child; which = rw c.in-Sub.is refl; lies = (refl, refl); many = c.requires.few; cells = child_cells t c.requires.sound c.requires.true_records x z c.args.view c.requires.span c.requires.view child }
