@@ -1,9 +1,10 @@
 #!/bin/sh
 # Measures anew what two sections tell, docs/PERF.md "Beside other programs" and docs/SCALE.md "Measured", by the scripts beside this one, one after the
-# other, and prints their rows as they stand there, to be laid beside them. What the scripts print goes to standard error. Nothing else should run meanwhile;
-# it takes ten minutes, 3 GB of memory and 4 GB of disk. Parts that are named are run alone. With SMALL=1 the parts that can are run on little data, to try
-# this script and not the program. Left out: rows beside the start (bench/run, bench/files), which want a built checkout of it; the picture (bench/plot.py
-# --write); the sizes of the C library, which crates/cord_c/wasm.sh and `make library` tell; and images that no session writes (make hostile).
+# other, and prints their rows as they stand there, to be laid beside them. What the scripts print goes to standard error. Nothing else should run
+# meanwhile; it takes ten minutes, 3 GB of memory and 4 GB of disk. Parts that are named are run alone; `scale` tells of many images by the C library
+# too, where `make library` built it. With SMALL=1 the parts that can are run on little data, to try this script and not the program. Left out: rows
+# beside the start (bench/run, bench/files), which want a built checkout of it; the picture (bench/plot.py --write); the sizes of the C library, which
+# crates/cord_c/wasm.sh and `make library` tell; and images that no session writes (make hostile).
 # figures.sh [check|write|rope|edit|tools|scale|onto|first|blame|commit]...
 set -eu
 cd "$(dirname "$0")/.."
@@ -135,7 +136,7 @@ scale() {
             printf "| %s | %s | %s | %s | ", next_name(), grouped(behind(":")), grouped(behind("revisions,")), grouped(behind("nodes,"))
             printf "%d MB | `%s` | %s | %s MB | ", behind("rows,") / 1e6 + 0.5, code, seconds(behind("; apply")), grouped(behind("s within"))
             printf "%s | %s |\n", seconds(behind("check")), seconds(behind("show")) }
-        / a million/ { print "| " $0 " |" }' python3 bench/scale.py "$program" $revisions
+        / a million/ && !/Traceback/ { print "| " $0 " |" }' python3 bench/scale.py "$program" $revisions
 }
 
 # Going on from an image, and the first frame over one.
