@@ -20,7 +20,7 @@ pub fn leaf_span<S: NodeSpace>(space: &S, node: NodeId, place: u64) -> LeafSpan
     'down: loop {
         let view = space.node(here.node);
         match step_down(space, here, view, 1) {
-            StepDown::Below(below, _) => here = below,
+            StepDown::Below(below) => here = below,
             StepDown::Leaf => {
                 return LeafSpan {
                     leaf: here.node,

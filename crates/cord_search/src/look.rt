@@ -82,7 +82,7 @@ pub fn look_in<S: NodeSpace, T: Sources>(
 {
     let view = space.node(span.node);
     match step_down(space, span, view, span.len) {
-        StepDown::Below(below, _) => look_in(space, sources, below, seeker, buffer),
+        StepDown::Below(below) => look_in(space, sources, below, seeker, buffer),
         StepDown::Across(first, others) => {
             if let Some(found) = look_in(space, sources, first, seeker, buffer)? {
                 return Ok(Some(found));

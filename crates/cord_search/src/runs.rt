@@ -93,7 +93,7 @@ pub fn gather<S: NodeSpace, T: Sources>(
     let len = buffer.len() as u64;
     let view = space.node(node);
     match step_down(space, Span { node, start, len }, view, len) {
-        StepDown::Below(below, _) => gather(space, sources, below.node, below.start, buffer),
+        StepDown::Below(below) => gather(space, sources, below.node, below.start, buffer),
         StepDown::Across(first, others) => {
             let cut = first.len as usize;
             gather(space, sources, first.node, first.start, &mut buffer[..cut])?;

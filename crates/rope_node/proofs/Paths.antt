@@ -4,7 +4,6 @@ use Rattle.std.proofs.lemmas.Bool.{cases_lt, lt-ltb, le-ltb}
 use Rattle.rope_node.specs.declared.node.NodeView.{NodeView}
 use Rattle.rope_node.specs.declared.node.NodeView.TheVariants.{Lit, Src, Fun, Cat, Sub}
 use Rattle.rope_node.specs.declared.node.Span.{Span}
-use Rattle.rope_node.specs.declared.step.Child.{Child}
 use Rattle.rope_node.specs.Table.{Table, view_at, len_at, IsLeaf, IsSound, HasTrueRecords}
 use Rattle.rope_node.specs.Denotes.{cell_at}
 use Rattle.rope_node.specs.Path.{shortened, span_at, visits, node_visits}
@@ -41,8 +40,8 @@ visits_below t s x z (Sub b i) is e child =
     let swap : i + x.start ≡ x.start + i = omega arith in
     rw found (rw swap at (visits_at t s x.node.0 x.start is.there (Sub b i) e))
 
-pub goes_below : (t : Table) → IsSound t → HasTrueRecords t → (y q : ℕ) (x z : Span) (v : NodeView) (seen : ℕ) (which : Child) → v ≡ view_at t x.node.0 → IsSpanBelow t x v 1 z which → IsOnPath t y q x seen → IsOnPath t y q z (seen + 1)
-goes_below t s h y q x z v seen which e below path =
+pub goes_below : (t : Table) → IsSound t → HasTrueRecords t → (y q : ℕ) (x z : Span) (v : NodeView) (seen : ℕ) → v ≡ view_at t x.node.0 → IsSpanBelow t x v 1 z → IsOnPath t y q x seen → IsOnPath t y q z (seen + 1)
+goes_below t s h y q x z v seen e below path =
     let step = visits_below t s x z v path.is_span (sym e) below.child in
     record {
       is_span = below.cells.is_span;

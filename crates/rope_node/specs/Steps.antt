@@ -1,13 +1,10 @@
 -- Spans of nodes, and what a step down from one leads to.
 use Rattle.std.specs.Prelude.{◌≡◌, ℕ, ◌+◌, ◌-◌, ◌<◌, ◌≤◌, min, nat_lt, if◌then◌else◌, length, Option, Some, None}
-use Rattle.rope_node.specs.declared.limits.TheConstants.{TEXT_LIMIT}
 use Rattle.rope_node.specs.declared.node.LeafSpan.{LeafSpan}
 use Rattle.rope_node.specs.declared.node.NodeId.{NodeId}
 use Rattle.rope_node.specs.declared.node.NodeView.{NodeView}
 use Rattle.rope_node.specs.declared.node.NodeView.TheVariants.{Lit, Src, Fun, Cat, Sub}
 use Rattle.rope_node.specs.declared.node.Span.{Span}
-use Rattle.rope_node.specs.declared.step.Child.{Child}
-use Rattle.rope_node.specs.declared.step.Child.TheVariants.{Left, Right, Base}
 use Rattle.rope_node.specs.declared.step.StepDown.{StepDown}
 use Rattle.rope_node.specs.declared.step.StepDown.TheVariants.{Below, Leaf, Across}
 use Rattle.rope_node.specs.Table.{Table, len_at, depth_at, IsLeaf}
@@ -35,14 +32,6 @@ child_span t x Fun = None
 child_span t x (Cat l r) = Some (cat_span t x l r)
 child_span t x (Sub b i) = Some (record { node = b; start = x.start + i; len = x.len })
 
--- which child that is, where there is one
-abbrev pub child_of : Table → Span → NodeView → Option Child
-child_of t x (Lit a) = None
-child_of t x (Src s a) = None
-child_of t x Fun = None
-child_of t x (Cat l r) = Some (if nat_lt x.start (len_at t l.0) then Left (len_at t l.0) else Right (len_at t l.0))
-child_of t x (Sub b i) = Some (Base i)
-
 -- n cells of a node from place i on are those of another from place j on
 pub record SameCells (t : Table) (x y : NodeId) (i j n : ℕ) : Type 0 where
   pub here : i + n ≤ length (cells t x.0)
@@ -57,17 +46,9 @@ pub record HasFirstCells (t : Table) (x z : Span) : Type 0 where
   pub shallower : depth_at t z.node.0 < depth_at t x.node.0
   pub same : SameCells t x.node z.node x.start z.start z.len
 
--- where in this child a span x of its node lies, as span z
-abbrev pub LiesIn : Span → Span → Child → Type 0
-LiesIn x z (Left left) = (z.start ≡ x.start) × (z.len ≡ min x.len (left - x.start)) × (x.start < left) × (left < TEXT_LIMIT)
-LiesIn x z (Right left) = (z.start + left ≡ x.start) × (z.len ≡ x.len) × (left < TEXT_LIMIT)
-LiesIn x z (Base i) = (z.start ≡ x.start + i) × (z.len ≡ x.len)
-
--- span z of this child has the first bytes of span x, n of them or more
-pub record IsSpanBelow (t : Table) (x : Span) (view : NodeView) (n : ℕ) (z : Span) (c : Child) : Type 0 where
+-- span z of a child has the first bytes of span x, n of them or more
+pub record IsSpanBelow (t : Table) (x : Span) (view : NodeView) (n : ℕ) (z : Span) : Type 0 where
   pub child : Some z ≡ child_span t x view
-  pub which : Some c ≡ child_of t x view
-  pub lies : LiesIn x z c
   pub many : n ≤ z.len
   pub cells : HasFirstCells t x z
 
@@ -94,7 +75,7 @@ pub record IsAcross (t : Table) (x : Span) (view : NodeView) (n : ℕ) (a b : Sp
 
 -- what a step down from a span leads to, where the first n of its bytes lie in one child; or why they do not
 abbrev pub StepsDownTo : Table → Span → NodeView → ℕ → StepDown → Type 0
-StepsDownTo t x view n (Below z c) = IsSpanBelow t x view n z c
+StepsDownTo t x view n (Below z) = IsSpanBelow t x view n z
 StepsDownTo t x view n Leaf = IsLeaf view
 StepsDownTo t x view n (Across a b) = IsAcross t x view n a b
 

@@ -11,4 +11,4 @@ pub use limits::{MOST_DEPTH, MOST_NODES, MOST_SOURCES, TEXT_LIMIT};
 pub use node::{LeafSpan, NodeId, NodeView, Rope, Span};
 pub use path::{LeafPlace, find_leaf};
 pub use space::{CodedSpace, NodeSpace, rope_len};
-pub use step::{Child, StepDown, step_down};
+pub use step::{StepDown, step_down};

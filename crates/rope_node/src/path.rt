@@ -41,7 +41,7 @@ pub fn find_leaf<S: NodeSpace>(space: &S, node: NodeId, place: u64) -> LeafPlace
         let view = space.node(here.node);
         visits += 1;
         match step_down(space, here, view, 1) {
-            StepDown::Below(below, _) => here = below,
+            StepDown::Below(below) => here = below,
             StepDown::Leaf => {
                 return LeafPlace {
                     leaf: here.node,

@@ -7,22 +7,11 @@ ghost use Rattle.rope_node.specs.Steps.{IsSpan, StepsDownTo};
 use crate::node::{NodeView, Span};
 use crate::space::NodeSpace;
 
-/// A child of a node.
-#[derive(Clone, Copy, Debug, PartialEq, Eq)]
-pub enum Child {
-    /// The left one of a concatenation, which has `left` bytes.
-    Left { left: u64 },
-    /// The right one, behind the `left` bytes of the other.
-    Right { left: u64 },
-    /// The base of a substring, which is the base's bytes from `i` on.
-    Base { i: u64 },
-}
-
 /// Where the bytes of a node lie.
 #[derive(Clone, Copy, Debug, PartialEq, Eq)]
 pub enum StepDown {
-    /// In this child: these are they, or as many of the first ones as the left child of a concatenation has.
-    Below(Span, Child),
+    /// In one child: these are they, or as many of the first ones as the left child of a concatenation has.
+    Below(Span),
     /// In no child: the node is a leaf.
     Leaf,
     /// In both children of a concatenation: the first ones are these of the left child, the others these of the right.
@@ -44,12 +33,11 @@ pub fn step_down<S: NodeSpace>(space: &S, x: Span, view: NodeView, least: u64) -
         NodeView::Cat { l, r } => {
             let left = space.left_len(x.node, l);
             if left <= x.start {
-                let others = Span {
+                return StepDown::Below(Span {
                     node: r,
                     start: x.start - left,
                     len: x.len,
-                };
-                return StepDown::Below(others, Child::Right { left });
+                });
             }
             let first = Span {
                 node: l,
@@ -57,7 +45,7 @@ pub fn step_down<S: NodeSpace>(space: &S, x: Span, view: NodeView, least: u64) -
                 len: x.len.min(left - x.start),
             };
             if least <= first.len {
-                return StepDown::Below(first, Child::Left { left });
+                return StepDown::Below(first);
             }
             let others = Span {
                 node: r,
@@ -66,14 +54,11 @@ pub fn step_down<S: NodeSpace>(space: &S, x: Span, view: NodeView, least: u64) -
             };
             StepDown::Across(first, others)
         }
-        NodeView::Sub { b, i } => {
-            let all = Span {
-                node: b,
-                start: x.start + i,
-                len: x.len,
-            };
-            StepDown::Below(all, Child::Base { i })
-        }
+        NodeView::Sub { b, i } => StepDown::Below(Span {
+            node: b,
+            start: x.start + i,
+            len: x.len,
+        }),
         NodeView::Lit { .. } | NodeView::Src { .. } | NodeView::Fun => StepDown::Leaf,
     }
 }

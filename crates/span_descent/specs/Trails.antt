@@ -68,13 +68,18 @@ IsTrailOf t root trail = AreStopsOf t root trail.stops trail.count
 abbrev pub stop_rest : Stop → ℕ → Span
 stop_rest stop p = record { node = stop.node; start = place_in stop p; len = stop.end - p }
 
--- the stop of the root's bytes from p on that are span z, and of so many before them
-abbrev pub stop_about : ℕ → Span → ℕ → Stop
-stop_about p z before = record { node = z.node; from = p - before; end = p + z.len; start = z.start - before }
+-- how many of the stop's bytes before that place lie in the child, where the rest begins at place o of it
+abbrev pub before_rest : Stop → ℕ → ℕ → ℕ
+before_rest stop p o = min (p - stop.from) o
 
 -- what of a stop lies in the child of which span z is the first bytes of that rest
 abbrev pub child_stop : Stop → ℕ → Span → Stop
-child_stop stop p z = stop_about p z (min (p - stop.from) z.start)
+child_stop stop p z = record {
+  node = z.node;
+  from = p - before_rest stop p z.start;
+  end = p + z.len;
+  start = z.start - before_rest stop p z.start;
+}
 
 -- a way of ropes of this table, which is sound and has true records, or one that keeps nothing
 pub record IsWayOf {W : Type 0} (is_way : Table → W → Type 0) (t : Table) (way : W) : Type 0 where

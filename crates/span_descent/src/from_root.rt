@@ -54,7 +54,7 @@ impl Way for FromRoot {
         least: u64,
     ) -> Descent<Span> {
         match space.step_down(here, view, least) {
-            StepDown::Below(below, _) => Descent::Below(below),
+            StepDown::Below(below) => Descent::Below(below),
             StepDown::Leaf => Descent::Leaf,
             StepDown::Across(..) => Descent::Border,
         }

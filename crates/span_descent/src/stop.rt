@@ -1,11 +1,9 @@
 //! A node on the way down to a place of a rope.
 
 ghost use Rattle.std.specs.Prelude.{◌≡◌, ◌+◌, ◌-◌, ◌<◌, ◌≤◌, ◌^◌, IfSome};
-ghost use Rattle.rope_node.specs.declared.limits.TheConstants.{TEXT_LIMIT};
-ghost use Rattle.rope_node.specs.Steps.{LiesIn};
 ghost use Rattle.span_descent.specs.Trails.{IsThisStop, child_stop, place_in, stop_rest, stop_span};
 
-use rope_node::{Child, MOST_DEPTH, NodeId, Span};
+use rope_node::{MOST_DEPTH, NodeId, Span};
 
 /// The most nodes of a way down.
 pub const MOST_STOPS: usize = MOST_DEPTH as usize + 1;
@@ -68,35 +66,19 @@ impl Stop {
         }
     }
 
-    /// What of it lies in a child, of which the rest from `place` on begins with `below`.
+    /// What of it lies in a child, which has those bytes of the rest from `place` on that are `below`.
     #[inline(always)]
-    pub(crate) fn child(self, place: u64, below: Span, child: Child) -> Stop
+    pub(crate) fn child(self, place: u64, below: Span) -> Stop
         requires behind { self.from ≤ place }
-        requires ahead { place ≤ self.end }
-        requires lies { LiesIn (stop_rest self place) below child }
-        requires short { self.end < TEXT_LIMIT }
+        requires fits { place + below.len < 2 ^ 64 }
         ensures { result ≡ child_stop self place below }
     {
-        // Told by the child and not by `below`: so less is computed at each step of a way.
-        match child {
-            Child::Left { left } => Stop {
-                node: below.node,
-                from: self.from,
-                end: self.end.min(self.from + (left - self.start)),
-                start: self.start,
-            },
-            Child::Right { left } => Stop {
-                node: below.node,
-                from: self.from + left.saturating_sub(self.start),
-                end: self.end,
-                start: self.start.saturating_sub(left),
-            },
-            Child::Base { i } => Stop {
-                node: below.node,
-                from: self.from,
-                end: self.end,
-                start: self.start + i,
-            },
+        let back = (place - self.from).min(below.start);
+        Stop {
+            node: below.node,
+            from: place - back,
+            end: place + below.len,
+            start: below.start - back,
         }
     }
 

@@ -108,7 +108,7 @@ impl Trail {
         ensures behind { FollowsLast (S.table space.now) x self.now result }
     {
         match space.step_down(stop.rest(x.start), view, least) {
-            StepDown::Below(below, child) => Descent::Below(stop.child(x.start, below, child)),
+            StepDown::Below(below) => Descent::Below(stop.child(x.start, below)),
             StepDown::Leaf => Descent::Leaf,
             StepDown::Across(..) => Descent::Border,
         }

@@ -6,7 +6,7 @@ use function_leaf::Coded;
 use leaf_buffer::Piece;
 use node_table::{NodeFault, NodeTable};
 use rope_node::{
-    Child, CodedSpace, MOST_NODES, MOST_SOURCES, NodeId, NodeSpace, NodeView, Rope, Span, StepDown,
+    CodedSpace, MOST_NODES, MOST_SOURCES, NodeId, NodeSpace, NodeView, Rope, Span, StepDown,
     step_down,
 };
 use rope_store::Store;
@@ -97,24 +97,24 @@ fn a_step_down_leads_to_a_child_or_across_both(rt: HostRuntime) {
     assert_same(
         &rt,
         &step(&rt, &store, of(text, 20, 10), 10),
-        &StepDown::Below(of(l, 20, 10), Child::Left { left: 30 }),
+        &StepDown::Below(of(l, 20, 10)),
     );
     assert_same(&rt, &step(&rt, &store, of(text, 20, 25), 25), &both);
     assert_same(&rt, &step(&rt, &store, of(text, 20, 25), 11), &both);
     assert_same(
         &rt,
         &step(&rt, &store, of(text, 20, 25), 10),
-        &StepDown::Below(of(l, 20, 10), Child::Left { left: 30 }),
+        &StepDown::Below(of(l, 20, 10)),
     );
     assert_same(
         &rt,
         &step(&rt, &store, of(text, 30, 40), 40),
-        &StepDown::Below(of(r, 0, 40), Child::Right { left: 30 }),
+        &StepDown::Below(of(r, 0, 40)),
     );
     assert_same(
         &rt,
         &step(&rt, &store, of(part, 7, 3), 3),
-        &StepDown::Below(of(f, 17, 3), Child::Base { i: 10 }),
+        &StepDown::Below(of(f, 17, 3)),
     );
     assert_same(&rt, &step(&rt, &store, of(l, 7, 3), 3), &StepDown::Leaf);
 }

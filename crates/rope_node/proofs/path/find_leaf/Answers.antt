@@ -14,7 +14,7 @@ overflow_add-visits g c =
 
 pub down-preserved : goal.down-preserved
 down-preserved g c =
-    goes_below (g.S.NodeSpace.table c.args.space.now) c.node-view.ensures.sound c.node-view.ensures.true_records c.args.node.0 c.args.place c.down.here c.in-Below.below c.node-view.result c.down.visits c.in-Below.field-1
+    goes_below (g.S.NodeSpace.table c.args.space.now) c.node-view.ensures.sound c.node-view.ensures.true_records c.args.node.0 c.args.place c.down.here c.in-Below.below c.node-view.result c.down.visits
     c.node-view.ensures.view c.in-Below.ensures c.down.invariant
 
 pub returns-in-Leaf : goal.returns-in-Leaf

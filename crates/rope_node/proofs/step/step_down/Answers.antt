@@ -1,5 +1,4 @@
-use Rattle.std.proofs.Common.{◌≡◌, ◌+◌, ◌-◌, ◌<◌, ◌≤◌, Some, refl, sym, ap, ◌∙◌, arith}
-use Rattle.std.proofs.lemmas.Bool.{lt-ltb, le-ltb}
+use Rattle.std.proofs.Common.{◌≡◌, ◌+◌, ◌-◌, ◌<◌, Some, refl, sym, ap, ◌∙◌, arith}
 use Rattle.rope_node.specs.declared.node.Span.{Span}
 use Rattle.rope_node.specs.Table.{len_at}
 use Rattle.rope_node.specs.Steps.{child_span}
@@ -11,18 +10,18 @@ returns-then-left-x g c =
     let t = g.S.NodeSpace.table c.args.space.now in
     let x = c.args.x in
     let z : Span = record { node = c.in-Cat.r; start = x.start - c.left_len-left.result; len = x.len } in
-    let past : len_at t c.in-Cat.l.0 ≤ x.start = rw c.left_len-left.ensures.value at c.if-left-x.true in
-    let child : Some z ≡ child_span t x c.args.view = rw (c.in-Cat.is, c.left_len-left.ensures.value) (ap Some (sym (span_in_right t x c.in-Cat.l c.in-Cat.r past))) in
-    record { child = child; which = rw (c.in-Cat.is, c.left_len-left.ensures.value, le-ltb x.start (len_at t c.in-Cat.l.0) past) refl; lies = (omega (arith, c.if-left-x.true), refl, c.left_len-left.ensures.limit); many = c.requires.few; cells = child_cells t c.requires.sound c.requires.true_records x z c.args.view c.requires.span c.requires.view child }
+    let child : Some z ≡ child_span t x c.args.view =
+    rw (c.in-Cat.is, c.left_len-left.ensures.value) (ap Some (sym (span_in_right t x c.in-Cat.l c.in-Cat.r (rw c.left_len-left.ensures.value at c.if-left-x.true)))) in
+    record { child = child; many = c.requires.few; cells = child_cells t c.requires.sound c.requires.true_records x z c.args.view c.requires.span c.requires.view child }
 
 pub returns-then-least-first : goal.returns-then-least-first
 returns-then-least-first g c =
     let t = g.S.NodeSpace.table c.args.space.now in
     let x = c.args.x in
     let z : Span = record { node = c.in-Cat.l; start = x.start; len = c.min.result } in
-    let before : x.start < len_at t c.in-Cat.l.0 = rw c.left_len-left.ensures.value at c.if-left-x.false in
-    let child : Some z ≡ child_span t x c.args.view = rw (c.in-Cat.is, c.min.ensures, c.left_len-left.ensures.value) (ap Some (sym (span_in_left t x c.in-Cat.l c.in-Cat.r before))) in
-    record { child = child; which = rw (c.in-Cat.is, c.left_len-left.ensures.value, lt-ltb x.start (len_at t c.in-Cat.l.0) before) refl; lies = (refl, c.min.ensures, omega (arith, c.if-left-x.false), c.left_len-left.ensures.limit); many = c.if-least-first.true; cells = child_cells t c.requires.sound c.requires.true_records x z c.args.view c.requires.span c.requires.view child }
+    let child : Some z ≡ child_span t x c.args.view =
+    rw (c.in-Cat.is, c.min.ensures, c.left_len-left.ensures.value) (ap Some (sym (span_in_left t x c.in-Cat.l c.in-Cat.r (rw c.left_len-left.ensures.value at c.if-left-x.false)))) in
+    record { child = child; many = c.if-least-first.true; cells = child_cells t c.requires.sound c.requires.true_records x z c.args.view c.requires.span c.requires.view child }
 
 pub returns-else-least-first : goal.returns-else-least-first
 returns-else-least-first g c =
@@ -43,8 +42,8 @@ returns-else-least-first g c =
           (omega (arith, value, c.min.ensures, c.if-least-first.false, c.requires.few)) (omega (arith, value, c.min.ensures, c.if-least-first.false, c.requires.few, before));
     }
 
-pub overflow_add-all : goal.overflow_add-all
-overflow_add-all g c =
+pub overflow_add-result : goal.overflow_add-result
+overflow_add-result g c =
     let t = g.S.NodeSpace.table c.args.space.now in
     let x = c.args.x in
     let base = base_of_sub t c.requires.sound x.node.0 c.requires.span.there c.in-Sub.b c.in-Sub.i (sym c.requires.view ∙ c.in-Sub.is) in
@@ -57,4 +56,4 @@ returns-in-Sub g c =
     let x = c.args.x in
     let z : Span = record { node = c.in-Sub.b; start = x.start + c.in-Sub.i; len = x.len } in
     let child : Some z ≡ child_span t x c.args.view = rw c.in-Sub.is refl in
-    record { child = child; which = rw c.in-Sub.is refl; lies = (refl, refl); many = c.requires.few; cells = child_cells t c.requires.sound c.requires.true_records x z c.args.view c.requires.span c.requires.view child }
+    record { child = child; many = c.requires.few; cells = child_cells t c.requires.sound c.requires.true_records x z c.args.view c.requires.span c.requires.view child }
