@@ -3,17 +3,16 @@ use Rattle.std.proofs.Common.{Option, None, Some, ◌≡◌, ◌≢◌, ℕ, ◌
 use Rattle.std.specs.Prelude.{IfSome}
 use Rattle.std.proofs.lemmas.Bool.{cases_lt}
 use Rattle.rope_node.specs.declared.node.NodeId.{NodeId}
-use Rattle.rope_node.specs.declared.node.NodeView.{NodeView}
-use Rattle.rope_node.specs.declared.node.NodeView.TheVariants.{Lit, Src, Fun, Cat, Sub}
+use Rattle.rope_node.specs.declared.node.NodeView.TheVariants.{Cat, Sub}
 use Rattle.rope_node.specs.declared.node.Span.{Span}
 use Rattle.rope_node.specs.Table.{Table, view_at, len_at, IsSound, HasTrueRecords}
-use Rattle.rope_node.specs.Steps.{HasFirstCells, IsSpan, cat_span, child_span}
-use Rattle.rope_node.proofs.Children.{child_cells, span_in_left, span_in_right}
+use Rattle.rope_node.specs.Steps.{IsSpan, child_span}
+use Rattle.rope_node.proofs.Children.{base_of_sub, children_of_cat, depth_of_base, depths_of_cat, span_in_left, span_in_right}
 use Rattle.span_descent.specs.declared.stop.Stop.{Stop}
 use Rattle.span_descent.specs.declared.stop.TheConstants.{MOST_STOPS}
 use Rattle.span_descent.specs.declared.trail.Trail.{Trail}
 use Rattle.span_descent.specs.Descents.{IsStand, IsStandAt}
-use Rattle.span_descent.specs.Trails.{AreStopsOf, StopHolds, IsFound, IsLastStop, IsStopOf, IsTrailStop, IsThisStop, child_stop, first_stop, no_stop, place_in, stop_at, stop_rest, stop_span}
+use Rattle.span_descent.specs.Trails.{AreStopsOf, StopHolds, IsFound, IsLastStop, IsStopOf, IsTrailStop, IsThisStop, base_stop, first_stop, left_stop, no_stop, place_in, right_stop, stop_at, stop_span}
 use Rattle.span_descent.proofs.Stands.{stand_begins, stand_goes}
 
 -- the first stop is all of the root
@@ -74,66 +73,114 @@ trail_goes_on t root stops count stop is new =
     }
 
 -- what of a stop lies in a child of its node is a stop, to which the ways down go on
-module _ (t : Table) (s : IsSound t) (h : HasTrueRecords t) (stop : Stop) (p : ℕ) (behind : stop.from ≤ p) (ahead : p < stop.end) where
-  -- as the child's span of the rest from p on tells of the rest from another place on
-  same_child : (z x : Span) (v : NodeView) → Some z ≡ child_span t (stop_rest stop p) v → StopHolds (child_stop stop p z) x.start 1 → Some (stop_span x (child_stop stop p z)) ≡ child_span t (stop_span x stop) v
-  same_child z x (Lit a) child holds = absurd cc
-  same_child z x (Src r a) child holds = absurd cc
-  same_child z x Fun child holds = absurd cc
-  same_child z x (Cat l r) child holds =
-      let found : z ≡ cat_span t (stop_rest stop p) l r = cc in
-      elim (cases_lt (place_in stop p) (len_at t l.0)) [
-        | inl before ↦
-            let is = found ∙ span_in_left t (stop_rest stop p) l r before in
-            let there : StopHolds (child_stop stop p (record { node = l; start = place_in stop p; len = min (stop.end - p) (len_at t l.0 - place_in stop p) })) x.start 1 = rw is at holds in
-            rw is (ap Some (
-            ap (λ (k : ℕ). record { node = l; start = k; len = min x.len (p + min (stop.end - p) (len_at t l.0 - place_in stop p) - x.start) }) (omega (arith, behind, there.behind))
-            ∙ ap (λ (n : ℕ). record { node = l; start = place_in stop x.start; len = n }) (omega (arith, behind, ahead, there.behind, there.before))
-            ∙ sym (span_in_left t (stop_span x stop) l r (omega (arith, behind, there.behind, there.before)))))
-        | inr past ↦
-            let is = found ∙ span_in_right t (stop_rest stop p) l r past in
-            let there : StopHolds (child_stop stop p (record { node = r; start = place_in stop p - len_at t l.0; len = stop.end - p })) x.start 1 = rw is at holds in
-            rw is (ap Some (
-            ap (λ (k : ℕ). record { node = r; start = k; len = min x.len (p + (stop.end - p) - x.start) }) (omega (arith, behind, past, there.behind))
-            ∙ ap (λ (n : ℕ). record { node = r; start = place_in stop x.start - len_at t l.0; len = n }) (omega (arith, ahead))
-            ∙ sym (span_in_right t (stop_span x stop) l r (omega (arith, behind, past, there.behind)))))
-      ]
-  same_child z x (Sub b i) child holds =
-      let is : z ≡ record { node = b; start = place_in stop p + i; len = stop.end - p } = cc in
-      let there : StopHolds (child_stop stop p (record { node = b; start = place_in stop p + i; len = stop.end - p })) x.start 1 = rw is at holds in
-      rw is (ap Some (
-      ap (λ (k : ℕ). record { node = b; start = k; len = min x.len (p + (stop.end - p) - x.start) }) (omega (arith, behind, there.behind))
-      ∙ ap (λ (n : ℕ). record { node = b; start = place_in stop x.start + i; len = n }) (omega (arith, ahead))))
+module _ (t : Table) (s : IsSound t) (h : HasTrueRecords t) (stop : Stop) where
+  left_len : (n p left : ℕ) → stop.from ≤ p → stop.start < left → min (min n (stop.end - p)) (left - place_in stop p) ≡ min n (min stop.end (stop.from + (left - stop.start)) - p)
+  left_len n p left behind before = omega arith
 
-  cells_of_child : (root c : ℕ) (z : Span) → IsTrailStop t root c stop → Some z ≡ child_span t (stop_rest stop p) (view_at t stop.node.0) → HasFirstCells t (stop_rest stop p) z
-  cells_of_child root c z is child =
-      child_cells t s h (stop_rest stop p) z (view_at t stop.node.0) (record { there = is.there; some = omega (arith, ahead); inside = omega (arith, behind, ahead, is.inside) }) refl child
+  in_left_child : (p left : ℕ) → stop.from ≤ p → stop.start < left → p < min stop.end (stop.from + (left - stop.start)) → place_in stop p < left
+  in_left_child p left behind before ahead = omega arith
 
-  child_is_stop : (root c : ℕ) (z : Span) → 1 ≤ c → IsTrailStop t root (c - 1) stop → Some z ≡ child_span t (stop_rest stop p) (view_at t stop.node.0) → IsTrailStop t root c (child_stop stop p z)
-  child_is_stop root c z some is child =
-      let cells = cells_of_child root (c - 1) z is child in
+  pub child_left : (x : Span) (l r : NodeId) → stop.from ≤ x.start → stop.start < len_at t l.0 → x.start < (left_stop stop l (len_at t l.0)).end → view_at t stop.node.0 ≡ Cat l r
+      → Some (stop_span x (left_stop stop l (len_at t l.0))) ≡ child_span t (stop_span x stop) (view_at t stop.node.0)
+  child_left x l r behind before ahead e =
+      rw e (ap Some (ap (λ (n : ℕ). record { node = l; start = place_in stop x.start; len = n }) (sym (left_len x.len x.start (len_at t l.0) behind before))
+      ∙ sym (span_in_left t (stop_span x stop) l r (in_left_child x.start (len_at t l.0) behind before ahead))))
+
+  right_start : (p left : ℕ) → stop.from + (left - stop.start) ≤ p → place_in stop p - left ≡ (stop.start - left) + (p - (stop.from + (left - stop.start)))
+  right_start p left behind = omega arith
+
+  pub child_right : (x : Span) (l r : NodeId) → stop.from + (len_at t l.0 - stop.start) ≤ x.start → view_at t stop.node.0 ≡ Cat l r
+      → Some (stop_span x (right_stop stop r (len_at t l.0))) ≡ child_span t (stop_span x stop) (view_at t stop.node.0)
+  child_right x l r behind e =
+      rw e (ap Some (ap (λ (p : ℕ). record { node = r; start = p; len = min x.len (stop.end - x.start) }) (sym (right_start x.start (len_at t l.0) behind))
+      ∙ sym (span_in_right t (stop_span x stop) l r (omega arith))))
+
+  base_start : (p j : ℕ) → place_in stop p + j ≡ (stop.start + j) + (p - stop.from)
+  base_start p j = omega arith
+
+  pub child_base : (x : Span) (b : NodeId) (j : ℕ) → view_at t stop.node.0 ≡ Sub b j → Some (stop_span x (base_stop stop b j)) ≡ child_span t (stop_span x stop) (view_at t stop.node.0)
+  child_base x b j e = rw e (ap Some (ap (λ (p : ℕ). record { node = b; start = p; len = min x.len (stop.end - x.start) }) (sym (base_start x.start j))))
+
+  -- a stop to which they go on from another
+  goes_on : (root c : ℕ) (z : Stop) (x : Span) → IsTrailStop t root c stop → x.node.0 ≡ root → IsSpan t x → StopHolds stop x.start 1 → Some (stop_span x z) ≡ child_span t (stop_span x stop) (view_at t stop.node.0) → IsStand t x (stop_span x z)
+  goes_on root c z x is of span holds child = stand_goes t s h x (stop_span x stop) (stop_span x z) (view_at t stop.node.0) span (is.stands x of span holds) refl child
+
+  left_is_stop : (root c : ℕ) (l r : NodeId) → 1 ≤ c → IsTrailStop t root (c - 1) stop → view_at t stop.node.0 ≡ Cat l r → stop.start < len_at t l.0 → IsTrailStop t root c (left_stop stop l (len_at t l.0))
+  left_is_stop root c l r some is e before =
+      let d = children_of_cat t s h stop.node.0 is.there l r e in
       record {
-        there = cells.is_span.there;
-        some = omega (arith, cells.is_span.some);
-        inside = omega (arith, cells.is_span.inside);
-        within = omega (arith, is.within, cells.few, ahead);
-        shallow = omega (arith, some, is.shallow, cells.shallower);
-        stands = λ x of span holds.
-            let above : StopHolds stop x.start 1 = record { behind = omega (arith, holds.behind, behind); before = omega (arith, holds.before, cells.few, ahead) } in
-            stand_goes t s h x (stop_span x stop) (stop_span x (child_stop stop p z)) (view_at t stop.node.0) span (is.stands x of span above) refl (same_child z x (view_at t stop.node.0) child holds);
+        there = omega (arith, d.0, is.there);
+        some = omega (arith, is.some, before);
+        inside = omega (arith, before);
+        within = omega (arith, is.within);
+        shallow = omega (arith, some, is.shallow, (depths_of_cat t h stop.node.0 is.there l r e).0);
+        stands = λ x of span holds. goes_on root (c - 1) (left_stop stop l (len_at t l.0)) x is of span (record { behind = holds.behind; before = omega (arith, holds.before) }) (child_left x l r holds.behind before (omega (arith, holds.before)) e);
       }
 
--- the stop behind the last one
-pub child_behind : (t : Table) → IsSound t → HasTrueRecords t → (x z : Span) (trail : Trail) (stop : Stop) (v : NodeView) → IsLastStop t x trail stop → v ≡ view_at t stop.node.0 → Some z ≡ child_span t (stop_rest stop x.start) v
-    → IsStopOf t x trail trail.count (child_stop stop x.start z) × (Some (stop_span x (child_stop stop x.start z)) ≡ child_span t (stop_span x stop) v)
-child_behind t s h x z trail stop v last e child =
-    let behind = last.holds.behind in
-    let ahead : x.start < stop.end = omega (arith, last.holds.before) in
-    let here = rw e at child in
-    let cells = cells_of_child t s h stop x.start behind ahead x.node.0 (trail.count - 1) z last.stop here in
-    let is = child_is_stop t s h stop x.start behind ahead x.node.0 trail.count z last.trail.some last.stop here in
-    let holds : StopHolds (child_stop stop x.start z) x.start 1 = record { behind = omega arith; before = omega (arith, cells.is_span.some) } in
-    (record { trail = last.trail; stop = is; holds = holds }, same_child t s h stop x.start behind ahead z x v child holds)
+  right_is_stop : (root c : ℕ) (l r : NodeId) → 1 ≤ c → IsTrailStop t root (c - 1) stop → view_at t stop.node.0 ≡ Cat l r → stop.from + (len_at t l.0 - stop.start) < stop.end → IsTrailStop t root c (right_stop stop r (len_at t l.0))
+  right_is_stop root c l r some is e fits =
+      let d = children_of_cat t s h stop.node.0 is.there l r e in
+      record {
+        there = omega (arith, d.1, is.there);
+        some = fits;
+        inside = omega (arith, fits, is.inside, d.2);
+        within = is.within;
+        shallow = omega (arith, some, is.shallow, (depths_of_cat t h stop.node.0 is.there l r e).1);
+        stands = λ x of span holds. goes_on root (c - 1) (right_stop stop r (len_at t l.0)) x is of span (record { behind = omega (arith, holds.behind); before = holds.before }) (child_right x l r holds.behind e);
+      }
+
+  base_is_stop : (root c : ℕ) (b : NodeId) (j : ℕ) → 1 ≤ c → IsTrailStop t root (c - 1) stop → view_at t stop.node.0 ≡ Sub b j → IsTrailStop t root c (base_stop stop b j)
+  base_is_stop root c b j some is e =
+      let base = base_of_sub t s stop.node.0 is.there b j e in
+      record {
+        there = omega (arith, base.0, is.there);
+        some = is.some;
+        inside = omega (arith, base.1, is.inside);
+        within = is.within;
+        shallow = omega (arith, some, is.shallow, depth_of_base t h stop.node.0 is.there b j e);
+        stands = λ x of span holds. goes_on root (c - 1) (base_stop stop b j) x is of span (record { behind = holds.behind; before = holds.before }) (child_base x b j e);
+      }
+
+  -- the stop behind the last one
+  module _ (x : Span) (trail : Trail) (z : Stop) (last : IsLastStop t x trail stop) where
+    pub right_behind : (l r : NodeId) (left : ℕ) → z ≡ right_stop stop r left → left ≡ len_at t l.0 → view_at t stop.node.0 ≡ Cat l r → left ≤ place_in stop x.start
+        → IsStopOf t x trail trail.count z × (Some (stop_span x z) ≡ child_span t (stop_span x stop) (view_at t stop.node.0))
+    right_behind l r left found len e past =
+        let behind : stop.from + (len_at t l.0 - stop.start) ≤ x.start = omega (arith, last.holds.behind, past, len) in
+        rw (found, len) (
+          record {
+            trail = last.trail;
+            stop = right_is_stop x.node.0 trail.count l r last.trail.some last.stop e (omega (arith, behind, last.holds.before));
+            holds = record { behind = behind; before = last.holds.before };
+          },
+          child_right x l r behind e,
+        )
+
+    pub left_behind : (l r : NodeId) (left : ℕ) → z ≡ left_stop stop l left → left ≡ len_at t l.0 → view_at t stop.node.0 ≡ Cat l r → place_in stop x.start + 1 ≤ left
+        → IsStopOf t x trail trail.count z × (Some (stop_span x z) ≡ child_span t (stop_span x stop) (view_at t stop.node.0))
+    left_behind l r left found len e fits =
+        let before : stop.start < len_at t l.0 = omega (arith, fits, len) in
+        let ahead : x.start + 1 ≤ (left_stop stop l (len_at t l.0)).end = omega (arith, last.holds.behind, last.holds.before, fits, len) in
+        rw (found, len) (
+          record {
+            trail = last.trail;
+            stop = left_is_stop x.node.0 trail.count l r last.trail.some last.stop e before;
+            holds = record { behind = last.holds.behind; before = ahead };
+          },
+          child_left x l r last.holds.behind before (omega (arith, ahead)) e,
+        )
+
+    pub base_behind : (b : NodeId) (j : ℕ) → z ≡ base_stop stop b j → view_at t stop.node.0 ≡ Sub b j
+        → IsStopOf t x trail trail.count z × (Some (stop_span x z) ≡ child_span t (stop_span x stop) (view_at t stop.node.0))
+    base_behind b j found e =
+        rw found (
+          record {
+            trail = last.trail;
+            stop = base_is_stop x.node.0 trail.count b j last.trail.some last.stop e;
+            holds = record { behind = last.holds.behind; before = last.holds.before };
+          },
+          child_base x b j e,
+        )
 
 pub begins_with_root : (t : Table) (root : NodeId) (stops : List Stop) (count : ℕ) → AreStopsOf t root stops count → stop_at stops 0 ≡ first_stop t root
 begins_with_root t root stops count is = is.is_trail.first is.some ∙ ap (first_stop t) is.of_root

@@ -64,22 +64,15 @@ IsTrail t trail = AreStops t trail.stops trail.count
 abbrev pub IsTrailOf : Table → NodeId → Trail → Type 0
 IsTrailOf t root trail = AreStopsOf t root trail.stops trail.count
 
--- the bytes of a stop's node to which those of the root from p on lead
-abbrev pub stop_rest : Stop → ℕ → Span
-stop_rest stop p = record { node = stop.node; start = place_in stop p; len = stop.end - p }
+-- What of a stop lies in the left child of its node, which has `left` bytes, in the right one, and in its base.
+abbrev pub left_stop : Stop → NodeId → ℕ → Stop
+left_stop stop l left = record { node = l; from = stop.from; end = min stop.end (stop.from + (left - stop.start)); start = stop.start }
 
--- how many of the stop's bytes before that place lie in the child, where the rest begins at place o of it
-abbrev pub before_rest : Stop → ℕ → ℕ → ℕ
-before_rest stop p o = min (p - stop.from) o
+abbrev pub right_stop : Stop → NodeId → ℕ → Stop
+right_stop stop r left = record { node = r; from = stop.from + (left - stop.start); end = stop.end; start = stop.start - left }
 
--- what of a stop lies in the child of which span z is the first bytes of that rest
-abbrev pub child_stop : Stop → ℕ → Span → Stop
-child_stop stop p z = record {
-  node = z.node;
-  from = p - before_rest stop p z.start;
-  end = p + z.len;
-  start = z.start - before_rest stop p z.start;
-}
+abbrev pub base_stop : Stop → NodeId → ℕ → Stop
+base_stop stop b i = record { node = b; from = stop.from; end = stop.end; start = stop.start + i }
 
 -- a way of ropes of this table, which is sound and has true records, or one that keeps nothing
 pub record IsWayOf {W : Type 0} (is_way : Table → W → Type 0) (t : Table) (way : W) : Type 0 where

@@ -5,7 +5,7 @@ ghost use Rattle.rope_node.specs.declared.limits.TheConstants.{TEXT_LIMIT};
 ghost use Rattle.span_descent.specs.Counts.{BeginsCount};
 ghost use Rattle.span_descent.specs.declared.counted.TheConstants.{SHALLOW_DEPTH};
 ghost use Rattle.rope_node.specs.Denotes.{rope_len, IsRope};
-ghost use Rattle.rope_node.specs.Table.{view_at, len_at, depth_at, IsSound, HasTrueRecords, IsFunction};
+ghost use Rattle.rope_node.specs.Table.{view_at, len_at, depth_at, IsSound, HasTrueRecords, IsLeftPart, IsFunction};
 ghost use Rattle.rope_node.specs.Steps.{IsSpan, StepsDownTo};
 
 use function_leaf::Coded;
@@ -102,6 +102,20 @@ pub trait CountedSpace<L: Ledger> {
         ensures sound { IsSound (table self.now) }
         ensures true_records { HasTrueRecords (table self.now) };
 
+    /// The recorded length of the left part `l` of the concatenation `id`, in bytes.
+    fn left_length(&self, id: NodeId, l: NodeId) -> u64
+        requires there { id.0 < length (table self.now).nodes }
+        requires left { IsLeftPart (view_at (table self.now) id.0) l }
+        ensures value { result ≡ len_at (table self.now) l.0 }
+        ensures limit { result < TEXT_LIMIT }
+        ensures sound { IsSound (table self.now) }
+        ensures true_records { HasTrueRecords (table self.now) }
+    {
+        let _ = id;
+        let _count = self.node_count();
+        self.node_len(l)
+    }
+
     /// A step down from a span, whose node is `view`, where its first `least` bytes lie in one child.
     fn step_down(&self, x: Span, view: NodeView, least: u64) -> StepDown
         requires sound { IsSound (table self.now) }
@@ -159,6 +173,10 @@ impl<S: CodedSpace, L: Ledger> CountedSpace<L> for S {
 
     fn node_len(&self, id: NodeId) -> u64 {
         self.len(id)
+    }
+
+    fn left_length(&self, id: NodeId, l: NodeId) -> u64 {
+        self.left_len(id, l)
     }
 
     #[inline(always)]

@@ -1,7 +1,7 @@
 //! A node on the way down to a place of a rope.
 
 ghost use Rattle.std.specs.Prelude.{◌≡◌, ◌+◌, ◌-◌, ◌<◌, ◌≤◌, ◌^◌, IfSome};
-ghost use Rattle.span_descent.specs.Trails.{IsThisStop, child_stop, place_in, stop_rest, stop_span};
+ghost use Rattle.span_descent.specs.Trails.{IsThisStop, base_stop, left_stop, place_in, right_stop, stop_span};
 
 use rope_node::{MOST_DEPTH, NodeId, Span};
 
@@ -51,34 +51,32 @@ impl Stop {
         }
     }
 
-    /// The bytes of its node to which those of the root from `place` on lead.
+    /// What of it lies in the left child `l`, which has `left` bytes.
     #[inline(always)]
-    pub(crate) fn rest(self, place: u64) -> Span
-        requires behind { self.from ≤ place }
-        requires ahead { place ≤ self.end }
-        requires fits { place_in self place < 2 ^ 64 }
-        ensures { result ≡ stop_rest self place }
+    pub(crate) fn in_left(self, l: NodeId, left: u64) -> Stop
+        requires some { self.start < left }
+        requires fits { self.from + left < 2 ^ 64 }
+        ensures { result ≡ left_stop self l left }
     {
-        Span {
-            node: self.node,
-            start: self.place_in(place),
-            len: self.end - place,
+        Stop {
+            node: l,
+            from: self.from,
+            end: self.end.min(self.from + (left - self.start)),
+            start: self.start,
         }
     }
 
-    /// What of it lies in a child, which has those bytes of the rest from `place` on that are `below`.
+    /// What of it lies in the right child `r`, beside a left one of `left` bytes.
     #[inline(always)]
-    pub(crate) fn child(self, place: u64, below: Span) -> Stop
-        requires behind { self.from ≤ place }
-        requires fits { place + below.len < 2 ^ 64 }
-        ensures { result ≡ child_stop self place below }
+    pub(crate) fn in_right(self, r: NodeId, left: u64) -> Stop
+        requires fits { self.from + left < 2 ^ 64 }
+        ensures { result ≡ right_stop self r left }
     {
-        let back = (place - self.from).min(below.start);
         Stop {
-            node: below.node,
-            from: place - back,
-            end: place + below.len,
-            start: below.start - back,
+            node: r,
+            from: self.from + left.saturating_sub(self.start),
+            end: self.end,
+            start: self.start.saturating_sub(left),
         }
     }
 
@@ -96,6 +94,20 @@ impl Stop {
             Some(self)
         } else {
             None
+        }
+    }
+
+    /// All of it, in the base `b` of which it is the bytes from `i` on.
+    #[inline(always)]
+    pub(crate) fn in_base(self, b: NodeId, i: u64) -> Stop
+        requires { self.start + i < 2 ^ 64 }
+        ensures { result ≡ base_stop self b i }
+    {
+        Stop {
+            node: b,
+            from: self.from,
+            end: self.end,
+            start: self.start + i,
         }
     }
 }

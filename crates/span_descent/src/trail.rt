@@ -7,7 +7,7 @@ ghost use Rattle.span_descent.specs.declared.stop.TheConstants.{MOST_STOPS};
 use crate::counted::CountedSpace;
 use crate::stop::{MOST_STOPS, NO_STOP, Stop};
 use crate::way::{Descent, Way};
-use rope_node::{NodeId, NodeView, Span, StepDown};
+use rope_node::{NodeId, NodeView, Span};
 use std::sync::ledger::Ledger;
 
 /// How many of the last stops are looked at one by one.
@@ -107,10 +107,21 @@ impl Trail {
         ensures goes { GoesDownTo (stop_span x) (S.table space.now) (stop_span x stop) view least result }
         ensures behind { FollowsLast (S.table space.now) x self.now result }
     {
-        match space.step_down(stop.rest(x.start), view, least) {
-            StepDown::Below(below) => Descent::Below(stop.child(x.start, below)),
-            StepDown::Leaf => Descent::Leaf,
-            StepDown::Across(..) => Descent::Border,
+        // Not by `step_down`: a stop has more than the span, and this is the step that checks take most of.
+        match view {
+            NodeView::Cat { l, r } => {
+                let start = stop.place_in(x.start);
+                let left = space.left_length(stop.node, l);
+                if left <= start {
+                    Descent::Below(stop.in_right(r, left))
+                } else if least <= left - start {
+                    Descent::Below(stop.in_left(l, left))
+                } else {
+                    Descent::Border
+                }
+            }
+            NodeView::Sub { b, i } => Descent::Below(stop.in_base(b, i)),
+            NodeView::Lit { .. } | NodeView::Src { .. } | NodeView::Fun => Descent::Leaf,
         }
     }
 
