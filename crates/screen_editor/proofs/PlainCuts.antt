@@ -1,13 +1,12 @@
 -- Deletions that took out no line break, so that none comes back with what they took out.
-use Rattle.std.proofs.Common.{◌≡◌, ◌⊎◌, ℕ, ◌+◌, ◌-◌, ◌<◌, ◌≤◌, true, false, List, [], ◌∷◌, ◌++◌, length, take, drop, get_or, Option, Some, None, inl, inr, refl, sym, ap, subst, ◌∙◌, arith, slice_get, option_map, is_some, IfSome, min, max}
-use Rattle.std.proofs.lemmas.Bool.{cases_lt, eq-eqb, ne_eqb}
+use Rattle.std.proofs.Common.{◌≡◌, ◌⊎◌, ℕ, ◌-◌, ◌<◌, ◌≤◌, true, List, [], ◌∷◌, ◌++◌, length, take, drop, get_or, Option, Some, None, inl, inr, refl, sym, ap, subst, ◌∙◌, arith, slice_get, option_map, is_some, IfSome}
+use Rattle.std.proofs.lemmas.Bool.{cases_lt}
 use Rattle.std.proofs.lemmas.List.{get_or_append_left, length-map}
 use Rattle.std.proofs.lemmas.List.Elements.{All-nil, All-same}
 use Rattle.std.proofs.Math.ListN.{get_or-map}
 use Rattle.std.proofs.lemmas.Option.{slice_get-map, slice_get_within}
 use Rattle.circular_buffer.proofs.Places.{slice_get-append_left, slice_get-append_right}
 use Rattle.rope_node.specs.Denotes.{Byte, Cell, rope_cells, text}
-use Rattle.rope_node.specs.declared.node.NodeId.{NodeId}
 use Rattle.lazy_file.specs.SourceTexts.{Agrees, Stated}
 use Rattle.cord_position.specs.Fetched.{AreStated, IsStated}
 use Rattle.command_parts.specs.declared.edit.Edit.{Edit}
@@ -18,17 +17,14 @@ use Rattle.edit_commands.specs.Applying.{Applies}
 use Rattle.edit_commands.specs.Session.{HoldsHistory, SessionValue, cells_of, edit_of, roots_of, session_table}
 use Rattle.screen_editor.specs.declared.cut_span.CutSpan.{CutSpan}
 use Rattle.screen_editor.specs.declared.key.Key.{Key}
-use Rattle.screen_editor.specs.declared.key.Key.TheVariants as Keys
 use Rattle.screen_editor.specs.declared.known.KnownText.{KnownText}
-use Rattle.screen_editor.specs.Editing.{Editing, current_len, current_root, last_of, state_of}
+use Rattle.screen_editor.specs.Editing.{Editing, current_root, last_of, state_of}
 use Rattle.screen_editor.specs.KnownTexts.{IsKnownText, IsKnownLine, PlainBehind, TakeNoBreak, TakesSpan}
-use Rattle.screen_editor.specs.Machine.{cutting, edit_by_key, pasting}
+use Rattle.screen_editor.specs.Machine.{edit_by_key}
 use Rattle.screen_editor.specs.Recorded.{HandsNoChanges, edit_at, edits_of}
 use Rattle.screen_editor.specs.Revising.{AppliesCommand, KeepsAll, none, one}
-use Rattle.screen_editor.specs.State.{current, last_revision, prior_of}
-use Rattle.screen_editor.proofs.KeyPlans.{current_text_len, no_source}
-use Rattle.screen_editor.proofs.KnownKeys.{chosen, not_chosen}
-use Rattle.screen_editor.proofs.NewTexts.{cells_more, count_texts, edits_more}
+use Rattle.screen_editor.proofs.KeyPlans.{no_source}
+use Rattle.screen_editor.proofs.NewTexts.{cells_more, edits_more}
 use Rattle.screen_editor.proofs.StatedTexts.{cell_in, cells_long}
 use Rattle.screen_editor.proofs.UndoneTexts.{delete_earlier}
 use Rattle.text_lines.specs.declared.known.KnownLine.{KnownLine}

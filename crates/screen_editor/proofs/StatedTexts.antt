@@ -9,7 +9,7 @@ use Rattle.rope_node.specs.Table.{Table}
 use Rattle.rope_node.specs.Denotes.{Cell, Byte, Place, cell_byte, rope_cells}
 use Rattle.lazy_file.specs.SourceTexts.{Agrees, Stated, text_at}
 use Rattle.cord_position.specs.Fetched.{AreStated, IsStated, rope_cell}
-use Rattle.edit_commands.specs.Session.{HoldsHistory, SessionValue, cells_of, session_table, texts_of}
+use Rattle.edit_commands.specs.Session.{HoldsHistory, cells_of, session_table, texts_of}
 use Rattle.screen_editor.specs.Editing.{Editing, EachCurrent, current_cell, current_len, current_root, state_of}
 use Rattle.screen_editor.specs.State.{current}
 use Rattle.screen_editor.proofs.KeyPlans.{current_text_len, no_source}
