@@ -13,7 +13,9 @@ ghost use Rattle.span_descent.specs.declared.description.Description.{Descriptio
 use crate::content::{Content, content_of};
 use command_parts::Part;
 use rope_node::{CodedSpace, NodeId, Span};
-use span_descent::{Count, CountedSpace, Description, FromRoot, Way, describe, leads_to, leaf_span};
+use span_descent::{
+    Count, CountedSpace, Description, FromRoot, Way, describe, leads_to, leaf_span,
+};
 use std::marker::Brand;
 use std::sync::ledger::{Blank, Ledger};
 
