@@ -181,7 +181,7 @@ impl<'a> ImageFile<'a> {
         if is_replaceable(rt, part.as_str())? {
             image.part = Some(part);
         } else if fs::metadata(rt, part.as_str()).is_ok() {
-            // What is there is no image that can be read: it stays, and in its place there is none to write to.
+            // What stands there is no image that can be read. It stays, so no image can be written beside the old one.
             return Err(ToolFault::Write);
         }
         Ok(image)

@@ -1,6 +1,6 @@
 //! The changes of a `many`.
 
-ghost use Rattle.std.specs.Prelude.{◌≡◌, ◌+◌, [], ◌∷◌, length, take, drop, IfOk, IfErr, OnOk};
+ghost use Rattle.std.specs.Prelude.{◌≡◌, ◌+◌, ◌^◌, ◌≤◌, [], ◌∷◌, length, take, drop, IfOk, IfErr, OnOk};
 ghost use Rattle.std.specs.List.{sum_by};
 ghost use Rattle.edit_script.specs.declared.fault.LineFault.TheVariants.{Memory};
 ghost use Rattle.edit_script.specs.Words.{Number, Quoted};
@@ -33,7 +33,8 @@ fn change(line: &mut &[u8], bytes: &mut Vec<u8>) -> Result<Change, LineFault>
 
 /// How many changes there are, where that fits 32 bits.
 fn count_of(changes: &[Change]) -> Result<u32, LineFault>
-    ensures { IfErr result (λ e. e ≡ Memory) }
+    ensures count { IfOk result (λ n. n ≡ length changes.now) }
+    ensures memory { IfErr result (λ e. (e ≡ Memory) × (2 ^ 32 ≤ length changes.now)) }
 {
     match u32::try_from(changes.len()) {
         Ok(count) => Ok(count),
@@ -47,6 +48,7 @@ pub fn changes(line: &[u8], room: &mut Room) -> Result<u32, LineFault>
     requires changes { room.now.changes.items ≡ [] }
     ensures read { IsReadAs (λ _. splice_words room.new.bytes.items (placed_splices room.new.changes.items)) result
         (groups_at (length line.now) splice_kinds line.now) }
+    ensures count { IfOk result (λ n. n ≡ length room.new.changes.items) }
     ensures takes { OnOk result (sum_by (λ c. c.n) room.new.changes.items ≡ length room.new.bytes.items) }
 {
     let mut rest = line;
