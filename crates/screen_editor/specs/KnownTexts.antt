@@ -40,18 +40,19 @@ LinesStay key old known later =
     (before now : Reading) (new : Editing) → Takes key before old (Ok tt) now new → HoldsHistory new.session
     → IsKnownLine before.stated old known → IsKnownLine before.stated new later
 
--- the same where all of that was known, of the lines alone and of all
+-- where lines and a revision were known before a key, those lines are known behind it, if the key is taken
 abbrev pub LinesBehind : Key → Editing → KnownText → KnownLines → Type 0
 LinesBehind key old known later =
     (before now : Reading) (new : Editing) → Takes key before old (Ok tt) now new → HoldsHistory new.session
     → IsKnownText before.stated old known → IsKnownLine before.stated new later
 
+-- both are known behind it
 abbrev pub StaysKnown : Key → Editing → KnownText → KnownText → Type 0
 StaysKnown key old known later =
     (before now : Reading) (new : Editing) → Takes key before old (Ok tt) now new → HoldsHistory new.session
     → IsKnownText before.stated old known → IsKnownText before.stated new later
 
--- and of that revision
+-- that revision is known behind it
 abbrev pub PlainBehind : Key → Editing → KnownText → ℕ → Type 0
 PlainBehind key old known later =
     (before now : Reading) (new : Editing) → Takes key before old (Ok tt) now new → HoldsHistory new.session

@@ -26,7 +26,8 @@ known_lines known = take known.count known.lines
 pub record IsKnownIn (known : KnownLines) (t : List ℕ) : Type 0 where
   pub each : All (IsLineOf t) (known_lines known)
 
--- the line is longer than what is searched through at once, and it holds count bytes from the place on, or up to its end
+-- the line is longer than what is searched through at once, and count bytes from the place on lie in it; of none, the
+-- place may be its end too
 pub record IsAbout (place count : ℕ) (line : KnownLine) : Type 0 where
   pub long : PIECE < line.end - line.start
   pub from : line.start ≤ place
