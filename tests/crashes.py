@@ -175,17 +175,9 @@ class Room:
         self.told = len(kept)
         return None
 
-    def beside(self):
-        """The names of images beside, which are the newer one once more."""
-        return {name for name in os.listdir(self.folder) if name.startswith("image.saved-") and self.read(name) == self.made["newer"]}
-
     def is_over(self, said):
-        """Whether a session of its own cannot go on: it took no key; or it was saved, and not told so."""
-        refusal = said.partition(b"\n")[0].strip()
-        return OWN in self.words and (
-            (refusal in (b"refused J3", b"refused J5") and (self.is_saved() or not self.told))
-            or (refusal == b"refused J4" and self.is_saved() and bool(self.beside()))
-        )
+        """Whether a session of its own cannot go on, since it was saved, and not told so."""
+        return OWN in self.words and said.partition(b"\n")[0].strip() in (b"refused J3", b"refused J5") and self.is_saved()
 
     def go_on(self):
         """What the same command gives behind all crashes, with what docs/EDITOR.md and docs/FAQ.md say of each refusal."""
@@ -198,13 +190,13 @@ class Room:
             answer = self.crashed(NO_CRASH)
         if self.is_over(answer[2]):
             self.words = [word for word in self.words if word not in (OWN, "--no-clobber")]
-            self.remove("session", *(["image.keys"] if self.is_saved() else []))
+            self.remove("session")
             answer = self.crashed(NO_CRASH)
         return answer
 
     def fault_at_end(self, answer):
         """What is wrong where a session went on and ended, or nothing."""
-        there = set(os.listdir(self.folder)) - (self.beside() if OWN in self.session.words else set())
+        there = set(os.listdir(self.folder))
         if self.typed == LEAVE:
             # The next Save takes these away.
             there -= {"session", "image.new"}

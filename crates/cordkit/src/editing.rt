@@ -11,6 +11,7 @@ use crate::opening::{OpenedSources, opened_sources};
 use crate::session_file::{Beginning, read_beginning, write_beginning};
 use cord_tools::{Status, ToolFault, run_edit};
 use lazy_file::Sources;
+use std::fs::File;
 use std::io::ErrorKind;
 use std::sync::ledger::{Blank, Ledger};
 use std::{fs, io};
@@ -107,6 +108,15 @@ pub(crate) fn close(rt: &HostRuntime, words: Editing<'_>) -> Result<(), ToolFaul
     }
 }
 
+/// Has a session that took no key begin again, where it goes on: its keys are about to be taken away.
+pub(crate) fn begin_again(rt: &HostRuntime, words: Editing<'_>) {
+    if let Some(session) = words.session {
+        let mut options = File::options();
+        // One that stays finds that its keys are gone.
+        let _ = options.write(true).truncate(true).open(rt, session);
+    }
+}
+
 /// What becomes of a session whose image may not be replaced: where it is that of its keys, it was saved before.
 fn saved_before<S: Sources + Drop>(
     rt: &HostRuntime,
@@ -142,10 +152,13 @@ fn edit_kept<S: Sources + Drop>(
     };
     match &put {
         Ok(Put::InPlace | Put::Before) => {
-            journal.remove()?;
             close(rt, words)?;
+            journal.remove()?;
         }
-        _ if journal.only_looks() => journal.remove()?,
+        _ if journal.only_looks() => {
+            begin_again(rt, words);
+            journal.remove()?;
+        }
         _ => journal.sync(),
     }
     put

@@ -2,7 +2,9 @@
 
 ghost use Rattle.std.specs.Prelude.{◌≡◌, ◌<◌};
 
-use crate::editing::{Editing, beginning_of, begun_image, close, finish, refuse_image, sources_of};
+use crate::editing::{
+    Editing, begin_again, beginning_of, begun_image, close, finish, refuse_image, sources_of,
+};
 use crate::file_state::{FileState, state_of};
 use crate::image_file::{ImageFile, Put};
 use crate::journal::{Journal, LockedKeys};
@@ -155,14 +157,17 @@ fn edit_kept<L: Ledger>(
     match &put {
         // Whoever finds no keys finds an image that no session holds any more.
         Ok(Put::InPlace) => {
-            journal.remove_saved()?;
             close(rt, words)?;
+            journal.remove_saved()?;
         }
         Ok(Put::Before) => {
-            journal.remove()?;
             close(rt, words)?;
+            journal.remove()?;
         }
-        _ if journal.only_looks() => journal.remove()?,
+        _ if journal.only_looks() => {
+            begin_again(rt, words);
+            journal.remove()?;
+        }
         _ => journal.sync(),
     }
     put

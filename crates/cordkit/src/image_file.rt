@@ -2,6 +2,7 @@
 
 use crate::file_state::{FileState, is_named, state_at};
 use crate::opening::{open, sync_folder, told};
+use crate::twin::have_same_bytes;
 use cord_tools::{ToolFault, may_replace};
 use std::fs::{File, Permissions, TryLockError};
 use std::io::{ErrorKind, Read};
@@ -336,6 +337,22 @@ impl<'a> ImageFile<'a> {
         }
     }
 
+    /// Puts an image that is whole over one with the same bytes: an earlier run saved it, and
+    /// ended before its keys were taken away. Answers whether that was there.
+    fn put_over_twin(&self, part: &str) -> Result<bool, ToolFault> {
+        let path = self.path.as_str();
+        let is_file = match fs::symlink_metadata(self.rt, path) {
+            Ok(metadata) => metadata.is_file(),
+            Err(_) => false,
+        };
+        match state_at(self.rt, path) {
+            Some(state) if is_file && have_same_bytes(self.rt, part, path) => {
+                put_over(self.rt, part, path, state)
+            }
+            _ => Ok(false),
+        }
+    }
+
     /// Puts an image that is whole under a name that is free.
     fn put_beside(&self, part: &str) -> Result<String, ToolFault> {
         let path = self.path.as_str();
@@ -388,7 +405,7 @@ impl<'a> ImageFile<'a> {
         let Some(part) = self.synced()? else {
             return Ok(Put::InPlace);
         };
-        let put = if self.put_part(part.as_str())? {
+        let put = if self.put_part(part.as_str())? || self.put_over_twin(part.as_str())? {
             Put::InPlace
         } else {
             Put::Beside(self.put_beside(part.as_str())?)

@@ -15,6 +15,7 @@ mod opening;
 mod saved_before;
 mod scripts;
 mod session_file;
+mod twin;
 
 ghost use Rattle.std.specs.Prelude.{◌≡◌, ◌*◌, ◌-◌, ◌^◌, ◌<◌, length};
 

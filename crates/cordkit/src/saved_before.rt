@@ -1,16 +1,13 @@
 //! A session that was saved, and ended before its keys were taken away.
 
+use crate::twin::Twin;
 use cord_tools::{Status, ToolFault, run_kept, run_kept_onto};
 use key_journal::Kept;
 use lazy_file::Sources;
-use std::fs::{self, File};
-use std::io::{self, ErrorKind, Read};
+use std::{fs, io};
 
 /// The key that saves.
 const SAVE: u8 = 0x18;
-
-/// So many bytes are compared at once.
-const PART: usize = 4096;
 
 /// The key that saves, as often as it is read.
 #[derive(Drop)]
@@ -42,33 +39,10 @@ impl io::Write for Nowhere {
     }
 }
 
-/// A file that takes the bytes that it has, and no others.
-#[derive(Drop)]
-struct Twin {
-    file: File,
-}
-
-impl io::Write for Twin {
-    fn write(&mut self, bytes: &[u8]) -> io::Result<usize> {
-        let mut there = [0; PART];
-        let n = bytes.len().min(PART);
-        self.file.read_exact(&mut there[..n])?;
-        if there[..n] == bytes[..n] {
-            Ok(n)
-        } else {
-            Err(io::Error::from(ErrorKind::InvalidData))
-        }
-    }
-
-    fn flush(&mut self) -> io::Result<()> {
-        Ok(())
-    }
-}
-
 /// What follows from a run whose image went to a twin: whether the twin has it, and no byte more.
 fn is_twin(run: Result<Status, ToolFault>, twin: &mut Twin) -> Result<bool, ToolFault> {
     match run {
-        Ok(_) => Ok(matches!(twin.file.read(&mut [0]), Ok(0))),
+        Ok(_) => Ok(twin.is_whole()),
         Err(ToolFault::Memory) => Err(ToolFault::Memory),
         Err(_) => Ok(false),
     }
@@ -88,7 +62,7 @@ pub fn is_image_of<S: Sources + Drop>(
     let Ok(file) = fs::open(rt, path) else {
         return Ok(false);
     };
-    let mut twin = Twin { file };
+    let mut twin = Twin::of(file);
     let mut saving = Kept::new(Saving, Nowhere);
     let run = run_kept(
         rt.alloc(),
@@ -116,7 +90,7 @@ pub fn is_image_onto<S: Sources + Drop>(
     let Ok(file) = fs::open(rt, path) else {
         return Ok(false);
     };
-    let mut twin = Twin { file };
+    let mut twin = Twin::of(file);
     let mut saving = Kept::new(Saving, Nowhere);
     let run = run_kept_onto(
         rt.alloc(),
