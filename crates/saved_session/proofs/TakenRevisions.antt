@@ -37,7 +37,7 @@ use Rattle.session_image.specs.Written.{AreAsMade, IsAsMade, recorded_edits, rec
 use Rattle.session_image.proofs.RowLists.{length-rows}
 use Rattle.session_checker.specs.RevisionRules.{HasRowsOverNoSource}
 use Rattle.session_checker.proofs.EarlierRevisions.{rows_before_more, rows_inside, splices_before_more, splices_inside}
-use Rattle.saved_session.specs.TakenUp.{HoldsImage, TakenRowsPass, StandFor, TakesFirst, TakesUp, each_rows}
+use Rattle.saved_session.specs.TakenUp.{AreFirstRows, HoldsImage, TakenRowsPass, StandFor, TakesFirst, TakesUp, each_rows}
 use Rattle.edit_commands.proofs.RevisionLists.{at_more}
 
 -- ---- lists
@@ -128,9 +128,18 @@ module _ (v : ImageValue) (is : IsImage v) (k : ℕ) (lt : k < length v.revision
     pub so_many : length old.revisions ≡ k
     so_many = sym (length-map old.revisions (λ (r : Kept.Revision). r.edit)) ∙ ap length takes.edits ∙ length-map (take k v.revisions) (λ (r : Revision). r.edit) ∙ omega (arith, length-take k v.revisions, lt)
 
+    -- the rows of a session are the first ones
+    pub first_rows : IsSession old → AreFirstRows v k (each_rows old.revisions)
+    first_rows session = record {
+      number = length-map old.revisions (λ (r : Kept.Revision). r.rows.items) ∙ so_many;
+      stand = takes.stand;
+      no_source = takes.no_source;
+      few = omega (arith, rows_summed old.revisions, session.few_rows);
+    }
+
     -- rows that pass over the session's table pass over the image's
-    pub pass_of : KnownRowsPass old (revision_at v k).edit (named_splices v.splices (revision_at v k).edit) (revision_at v k).root → TakenRowsPass v
-    pass_of pass =
+    pub pass_of : IsSession old → KnownRowsPass old (revision_at v k).edit (named_splices v.splices (revision_at v k).edit) (revision_at v k).root → TakenRowsPass v
+    pass_of session pass =
         let command = with_splices (named_splices v.splices (revision_at v k).edit) (revision_at v k).edit in
         let root = (revision_at v k).root in
         let c = held_coded old.held in
@@ -143,8 +152,7 @@ module _ (v : ImageValue) (is : IsImage v) (k : ℕ) (lt : k < length v.revision
           k = k;
           there = lt;
           before = each_rows old.revisions;
-          number = length-map old.revisions (λ (r : Kept.Revision). r.rows.items) ∙ so_many;
-          stand = takes.stand;
+          first = first_rows session;
           rows = pass.rows;
           made = third;
           full = omega (arith, sum, pass.full);

@@ -48,14 +48,20 @@ pub record StandFor (v : ImageValue) (k : ℕ) (rows : List Row) : Type 0 where
   pub whole : rows_len rows ≡ rope_len (image_table v) (revision_at v k).root
   pub own : IsAsMade v k → rows ≡ rows_at v k
 
--- the rows that stand for the first k revisions, and longest rows for the first bytes of revision k, are too many, or as many as there may
--- be, and text is left
+-- rows that stand for each of the first k revisions, none of which has a row of bytes over a source: not too many
+pub record AreFirstRows (v : ImageValue) (k : ℕ) (before : List (List Row)) : Type 0 where
+  pub number : length before ≡ k
+  pub stand : (j : ℕ) (rows : List Row) → slice_get before j ≡ Some rows → StandFor v j rows
+  pub no_source : (j : ℕ) → j < k → HasRowsOverNoSource v j
+  pub few : sum_by length before ≤ ROWS_LIMIT
+
+-- the rows that stand for the first k revisions and longest rows for the first bytes of revision k are more than there
+-- may be; or as many, while some of revision k is left
 pub record TakenRowsPass (v : ImageValue) : Type 0 where
   pub k : ℕ
   pub there : k < length v.revisions
   pub before : List (List Row)
-  pub number : length before ≡ k
-  pub stand : (j : ℕ) (rows : List Row) → slice_get before j ≡ Some rows → StandFor v j rows
+  pub first : AreFirstRows v k before
   pub rows : List Row
   pub made : AreMade (image_table v) (coded_at v) (parts_at v k) (revision_at v k).root rows
   pub full : ROWS_LIMIT ≤ sum_by length before + length rows

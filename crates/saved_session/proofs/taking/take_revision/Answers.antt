@@ -12,7 +12,8 @@ use Rattle.session_checker.proofs.EarlierRevisions.{names_there}
 use Rattle.session_checker.proofs.FaithfulImages.{ready_of}
 use Rattle.saved_session.proofs.Certified.{certified, place_is}
 use Rattle.saved_session.proofs.CoveredAlways.{covers_anyhow}
-use Rattle.saved_session.proofs.TakenRevisions.{not_as_made, pass_of, splices_so_far, takes_more}
+use Rattle.saved_session.proofs.TakenRevisions.{first_rows, not_as_made, pass_of, splices_so_far, takes_more}
+use Rattle.saved_session.specs.TakenUp.{each_rows}
 use Rattle.saved_session.proofs.Turns.{parts_are, revision_is, rows_are, splices_are, splices_few}
 use Rattle.saved_session.proofs.taking.take_revision.Goals as goal
 
@@ -78,7 +79,7 @@ returns-then-not-meets_no_source-clause-fault c =
     let no : ¬ HasRowsOverNoSource v k = λ over.
     let met : MeetsNoSource (image_table v) c.parts-known.result c.revision-revision.result.root c.deref.result.now = rw (parts, root, slice) over in
     absurd (let yes = c.meets_no_source.ensures.1 met in search rules) in
-    (lt, no, c.requires.takes.no_source)
+    (lt, no, (each_rows c.args.session.now.revisions, first_rows v is k lt place c.args.session.now c.requires.takes c.count-held.ensures.session))
 
 pub splices_named-requires : goal.splices_named-requires
 splices_named-requires c =
@@ -173,4 +174,4 @@ returns-in-Err-TooManyRows-clause-fault c =
     let takes = c.requires.takes in
     let pass = rw (edit, root, splices, rows) at (c.in-Err-TooManyRows.ensures.too_many (ap (λ (e : EditFault). Err e) c.in-Err-TooManyRows.field-0-is)) in
     let passed = rw (edit, root, splices) at (c.in-Err-TooManyRows.ensures.pass (ap (λ (e : EditFault). Err e) c.in-Err-TooManyRows.field-0-is)) in
-    (pass_of v is k lt place old takes passed, not_as_made v is k lt place old takes pass)
+    (pass_of v is k lt place old takes c.count-held.ensures.session passed, not_as_made v is k lt place old takes pass)
