@@ -26,6 +26,7 @@ use Rattle.edit_commands.specs.Session.{SessionValue, command_of, roots_of}
 use Rattle.edit_commands.specs.Terms.{Chain, changed_terms, done, handed}
 use Rattle.edit_commands.proofs.HandedChanges.{put_bytes}
 use Rattle.commit_tools.specs.Handed.{with_handed}
+use Rattle.commit_tools.specs.Stops.{IsManyAt, IsNew}
 use Rattle.commit_tools.specs.Texts.{last_root, last_text}
 
 -- ---- what a command with splices gives
@@ -104,11 +105,6 @@ last_cells v t x some e =
     some_is x (rope_cells t (last_root v))
     (sym e ∙ slice_get-map (rope_cells t) (roots_of v.revisions) k ∙ ap (option_map (rope_cells t)) (slice_get-get_or (roots_of v.revisions) k None there))
 
--- a command is this one
-abbrev pub IsManyAt : ℕ → List Change → List ℕ → Command → Type 0
-IsManyAt r cs bs (Command.Many q changes bytes) = (q ≡ r) × (changes.now ≡ cs) × (bytes.now ≡ bs)
-IsManyAt r cs bs other = ⊥
-
 pub applied_text : (source : ℕ → ℕ → ℕ) (old new : SessionValue) (k : ℕ) (command : Command) (cs : List Change) (bs : List ℕ) → 1 ≤ length old.revisions → Applies old command k new
     → IsManyAt (length old.revisions - 1) cs bs command → sum_by (λ (c : Change). c.n) cs ≤ length bs → last_text source new ≡ with_handed (last_text source old) cs bs
 applied_text source old new k (Command.Many r changes bytes) cs bs some applies (at, of_changes, of_bytes) fits =
@@ -134,10 +130,6 @@ applied_text source old new k (Command.Many r changes bytes) cs bs some applies 
 applied_text source old new k command cs bs some applies many fits = absurd many
 
 -- ---- an empty text
-
-abbrev pub IsNew : Command → Type 0
-IsNew Command.New = Unit {0}
-IsNew other = ⊥
 
 pub empty_root : (old new : SessionValue) (k : ℕ) (command : Command) → IsNew command → Applies old command k new → last_root new ≡ None
 empty_root old new k Command.New is applies = last_is_made old new applies.made applies.revisions ∙ no_terms applies.is.terms.chain

@@ -23,6 +23,7 @@ use Rattle.commit_tools.specs.declared.answer.Commit.TheVariants.{Same, Added}
 use Rattle.commit_tools.specs.declared.fault.CommitFault.{CommitFault}
 use Rattle.commit_tools.specs.declared.fault.CommitFault.TheVariants.{Check, TakeUp, Read, Edit, Memory, Write}
 use Rattle.commit_tools.specs.Commits.{BeginsCommit, BeginsBehind, CommitsAnew, CommitsOnto, CommitsText, IsCommitted, IsCommittedAnew, IsEmptySession}
+use Rattle.commit_tools.specs.Stops.{StopsCommit}
 use Rattle.commit_tools.specs.Texts.{ReadsLast}
 use Rattle.commit_tools.proofs.CommittedTexts.{no_cells}
 use Rattle.commit_tools.proofs.LastRoots.{last_none}
@@ -73,7 +74,7 @@ module _ {at_most : Option ℕ} {old mid : Reading} {bytes file : List ℕ} {beg
   pub failed_onto : (new : Reading) (fault : CommitFault) (made : SessionValue) (before : Option (List ℕ)) → CommitsText mid.stated begun file (Err fault) made
       → ReadsLast {X = Commit} begun mid new (Err fault) → Keeps before before → CommitsOnto at_most old new bytes file before before (Err fault)
   failed_onto new (Edit fault) made before commits reads keeps =
-      record { checked = Ok w.v; between = mid; check = w.check; reads = (begun, w.from_image, reads); written = (keeps, record { begun = begun; from_image = w.from_image; stops = commits }) }
+      record { checked = Ok w.v; between = mid; check = w.check; reads = (begun, w.from_image, reads); written = (keeps, record { begun = begun; from_image = w.from_image; stops = subst (λ (st : Stated). StopsCommit st begun file fault) w.stated commits }) }
   failed_onto new (Read fault) made before commits reads keeps = record { checked = Ok w.v; between = mid; check = w.check; reads = (begun, w.from_image, reads); written = keeps }
   failed_onto new Memory made before commits reads keeps = record { checked = Ok w.v; between = mid; check = w.check; reads = (begun, w.from_image, reads); written = keeps }
   failed_onto new (Check fault) made before commits reads keeps = absurd commits

@@ -1,5 +1,5 @@
 -- A session that goes on to a file's text.
-use Rattle.std.proofs.Common.{◌≡◌, ℕ, ◌+◌, Bool, true, false, List, [], length, Option, None, Ok, Err, refl, sym, ap, subst, ◌∙◌, arith}
+use Rattle.std.proofs.Common.{◌≡◌, ℕ, ◌+◌, ◌≤◌, Bool, true, false, List, [], length, Option, None, Ok, Err, refl, sym, ap, subst, ◌∙◌, arith}
 use Rattle.std.specs.Prelude.{◌≢◌}
 use Rattle.function_leaf.specs.declared.coded.Coded.{Coded}
 use Rattle.function_leaf.specs.Coded.{coded_byte}
@@ -18,12 +18,12 @@ use Rattle.commit_tools.specs.declared.answer.Commit.TheVariants.{Same, Added}
 use Rattle.commit_tools.specs.declared.fault.CommitFault.{CommitFault}
 use Rattle.commit_tools.specs.declared.fault.CommitFault.TheVariants.{Check, TakeUp, Read, Edit, Memory, Write}
 use Rattle.commit_tools.specs.declared.found.Found.{Found}
-use Rattle.commit_tools.specs.Found.{IsBeside, text_from}
-use Rattle.commit_tools.specs.Put.{GoesOnTo, GoesOnToText}
+use Rattle.commit_tools.specs.Found.{IsBeside, text_before, text_from}
+use Rattle.commit_tools.specs.Put.{BeginsEmpty, GoesOnTo, GoesOnToText, PutsAll}
+use Rattle.commit_tools.specs.Stops.{BeginsWithNew, at_new, behind, behind_new}
 use Rattle.commit_tools.specs.Commits.{CommitsText}
 use Rattle.commit_tools.specs.Texts.{OverLast, last_root, last_text}
 use Rattle.commit_tools.proofs.FoundTexts.{all_made, only_same, same_text}
-use Rattle.commit_tools.proofs.PutBatches.{stops_later}
 
 -- ---- the last text
 
@@ -93,10 +93,38 @@ pub kept_text : (st : Stated) (begun made : SessionValue) (file : List ℕ) (rev
 kept_text st begun made file revision goes last =
     (goes.0, record { further = further_itself begun; last = subst (λ (v : SessionValue). length v.revisions ≡ revision + 1) goes.0 last; text = goes.1 })
 
-pub failed_text : (st : Stated) (begun middle made : SessionValue) (file : List ℕ) (fault : CommitFault) → GoesFurther begun middle → GoesOnToText st middle file (Err fault) made → CommitsText st begun file (Err fault) made
-failed_text st begun middle made file (Edit fault) further goes = stops_later further goes
-failed_text st begun middle made file (Read fault) further goes = tt
-failed_text st begun middle made file Memory further goes = tt
-failed_text st begun middle made file (Check fault) further goes = absurd goes
-failed_text st begun middle made file (TakeUp fault) further goes = absurd goes
-failed_text st begun middle made file Write further goes = absurd goes
+pub failed_text : (st : Stated) (begun middle made : SessionValue) (file : List ℕ) (fault : CommitFault) → BeginsWithNew begun middle → GoesOnToText st middle file (Err fault) made → CommitsText st begun file (Err fault) made
+failed_text st begun middle made file (Edit fault) begins goes = behind_new middle begins goes
+failed_text st begun middle made file (Read fault) begins goes = tt
+failed_text st begun middle made file Memory begins goes = tt
+failed_text st begun middle made file (Check fault) begins goes = absurd goes
+failed_text st begun middle made file (TakeUp fault) begins goes = absurd goes
+failed_text st begun middle made file Write begins goes = absurd goes
+
+pub failed_later : (st : Stated) (begun made : SessionValue) (file : List ℕ) (fault : CommitFault) → 1 ≤ length begun.revisions → GoesOnToText st begun file (Err fault) made → CommitsText st begun file (Err fault) made
+failed_later st begun made file (Edit fault) some goes = behind some goes
+failed_later st begun made file (Read fault) some goes = tt
+failed_later st begun made file Memory some goes = tt
+failed_later st begun made file (Check fault) some goes = absurd goes
+failed_later st begun made file (TakeUp fault) some goes = absurd goes
+failed_later st begun made file Write some goes = absurd goes
+
+pub failed_new : (st : Stated) (begun made : SessionValue) (file : List ℕ) (fault : CommitFault) → begun.revisions ≡ [] → BeginsEmpty begun (Err fault) made → CommitsText st begun file (Err fault) made
+failed_new st begun made file (Edit fault) none stops = at_new none stops
+failed_new st begun made file (Read fault) none stops = absurd stops
+failed_new st begun made file Memory none stops = tt
+failed_new st begun made file (Check fault) none stops = absurd stops
+failed_new st begun made file (TakeUp fault) none stops = absurd stops
+failed_new st begun made file Write none stops = absurd stops
+
+-- what is found, and a batch of it that is not taken
+pub stops_behind : (st : Stated) (old new : SessionValue) (h : Held Coded) (rope : Option NodeId) (found : Found) (file : List ℕ) (fault : CommitFault) → 1 ≤ length old.revisions → h ≡ old.held → rope ≡ last_root old
+    → IsBeside found file → OverLast st old (λ source. last_text source old ≡ text_before found file)
+    → rope_len (table_of coded_byte h) rope ≡ length (text_before found file) → PutsAll found file old (Err fault) new → GoesOnToText st old file (Err fault) new
+stops_behind st old new h rope found file (Edit fault) some held root is over len stops =
+    record { found = found; beside = is; len = subst (λ (r : Option NodeId). rope_len (table_of coded_byte old.held) r ≡ length (text_before found file)) root (subst (λ (k : Held Coded). rope_len (table_of coded_byte k) rope ≡ length (text_before found file)) held len); text = over; stops = stops }
+stops_behind st old new h rope found file Memory some held root is over len stops = tt
+stops_behind st old new h rope found file (Read fault) some held root is over len stops = absurd stops
+stops_behind st old new h rope found file (Check fault) some held root is over len stops = absurd stops
+stops_behind st old new h rope found file (TakeUp fault) some held root is over len stops = absurd stops
+stops_behind st old new h rope found file Write some held root is over len stops = absurd stops

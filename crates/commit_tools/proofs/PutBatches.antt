@@ -1,26 +1,26 @@
 -- A batch that is handed in, and batches one behind the other.
-use Rattle.std.proofs.Common.{◌≡◌, ℕ, ◌-◌, ◌≤◌, List, [], ◌++◌, length, map, take, drop, Result, Ok, Err, sym, ap, subst, ◌∙◌, arith}
+use Rattle.std.proofs.Common.{◌≡◌, ℕ, suc, ◌+◌, ◌-◌, ◌<◌, ◌≤◌, List, [], ◌∷◌, ◌++◌, length, map, take, drop, get_or, Result, Ok, Err, sym, ap, subst, ◌∙◌, arith}
 use Rattle.std.specs.Prelude.{slice_range}
 use Rattle.std.specs.List.{sum_by}
 use Rattle.std.proofs.lemmas.List.{length-take-le, length_push}
+use Rattle.std.proofs.Math.Seq.{drop-cons}
+use Rattle.command_parts.specs.declared.edit.TheConstants.{MOST_SPLICES}
 use Rattle.edit_commands.specs.declared.command.Change as Session
 use Rattle.edit_commands.specs.declared.command.Command.{Command}
-use Rattle.edit_commands.specs.declared.fault.EditFault.{EditFault}
-use Rattle.edit_commands.specs.Applying.{Applies, AppliesOrNot}
+use Rattle.edit_commands.specs.Applying.{Applies}
 use Rattle.edit_commands.specs.Session.{SessionValue}
 use Rattle.line_changes.specs.declared.change.Change.{Change}
 use Rattle.line_changes.specs.Turns.{Turns, with_changes}
-use Rattle.saved_session.specs.GoneFurther.{GoesFurther}
-use Rattle.saved_session.proofs.FurtherSessions.{further_applied, further_itself, further_through}
+use Rattle.saved_session.proofs.FurtherSessions.{further_applied, further_through}
 use Rattle.commit_tools.specs.declared.batches.Batch.{Batch}
 use Rattle.commit_tools.specs.declared.fault.CommitFault.{CommitFault}
 use Rattle.commit_tools.specs.declared.fault.CommitFault.TheVariants.{Check, TakeUp, Read, Edit, Memory, Write}
 use Rattle.commit_tools.specs.declared.found.Found.{Found}
 use Rattle.commit_tools.specs.Found.{IsBeside, file_middle, text_from}
 use Rattle.commit_tools.specs.Handed.{IsHandedBatch, shifted, with_handed}
-use Rattle.commit_tools.specs.Put.{BeginsEmpty, GoesOnTo, TakesCommand, PutsBatch}
-use Rattle.commit_tools.specs.Stops.{IsOfCommit, StopsAtCommand}
-use Rattle.commit_tools.proofs.AppliedTexts.{IsManyAt, IsNew, applied_text, empty_root}
+use Rattle.commit_tools.specs.Put.{BeginsEmpty, GoesOnTo, PutsAll, PutsBatch, TakesBatch, TakesCommand}
+use Rattle.commit_tools.specs.Stops.{EndApart, EndsBefore, HandsBatch, IsManyAt, IsNew, LeadsTo}
+use Rattle.commit_tools.proofs.AppliedTexts.{applied_text, empty_root}
 use Rattle.commit_tools.proofs.HandedBatches.{batch_made, batch_takes, batch_then, turns_from}
 
 -- the changes of a batch and those behind it turn one middle into the other from some places on
@@ -72,56 +72,100 @@ goes_through x y = record {
   text = λ source e. y.text source (x.text source e);
 }
 
-pub stops_later : {a b : SessionValue} {fault : EditFault} → GoesFurther a b → StopsAtCommand b fault → StopsAtCommand a fault
-stops_later further stops = record {
-  last = stops.last;
-  further = further_through further stops.further;
+-- batches that lead on to one more
+abbrev pub Leads : Found → List ℕ → SessionValue → ℕ → SessionValue → Type 0
+Leads found file begun left last = (lefts : List ℕ) × LeadsTo found file begun lefts left last
+
+pub leads_on : (found : Found) (file : List ℕ) (first left : ℕ) (begun before last : SessionValue) → Leads found file begun left before → TakesBatch found file first left before last → Leads found file begun first last
+leads_on found file first left begun before last leads takes = (left ∷ leads.0, (before, takes.command, takes.k, leads.1, takes.hands, takes.applies))
+
+pub fails_later : (found : Found) (file : List ℕ) (first left : ℕ) (begun last new : SessionValue) (fault : CommitFault) → Leads found file begun left last → PutsBatch found file first left last (Err fault) new → PutsAll found file begun (Err fault) new
+fails_later found file first left begun last new (Edit fault) leads stops = record {
+  lefts = leads.0;
+  left = left;
+  last = last;
+  leads = leads.1;
+  first = first;
   command = stops.command;
-  commits = stops.commits;
-  after = stops.after;
+  hands = stops.hands;
+  after = new;
   stops = stops.stops;
 }
-
-pub fails_later : (found : Found) (file : List ℕ) (first left first' end : ℕ) (a b c : SessionValue) (fault : CommitFault) → GoesFurther a b → PutsBatch found file first left b (Err fault) c → PutsBatch found file first' end a (Err fault) c
-fails_later found file first left first' end a b c (Edit fault) further stops = stops_later further stops
-fails_later found file first left first' end a b c Memory further stops = tt
-fails_later found file first left first' end a b c (Check fault) further stops = absurd stops
-fails_later found file first left first' end a b c (TakeUp fault) further stops = absurd stops
-fails_later found file first left first' end a b c (Read fault) further stops = absurd stops
-fails_later found file first left first' end a b c Write further stops = absurd stops
+fails_later found file first left begun last new Memory leads stops = tt
+fails_later found file first left begun last new (Check fault) leads stops = absurd stops
+fails_later found file first left begun last new (TakeUp fault) leads stops = absurd stops
+fails_later found file first left begun last new (Read fault) leads stops = absurd stops
+fails_later found file first left begun last new Write leads stops = absurd stops
 
 -- ---- what was made of a command
 
-pub stops_here : (old new : SessionValue) (command : Command) (fault : EditFault) → IsOfCommit old command → AppliesOrNot old command (Err fault) new → StopsAtCommand old fault
-stops_here old new command fault commits stops = record { last = old; further = further_itself old; command = command; commits = commits; after = new; stops = stops }
+-- a batch that was handed in is one of what was found
+batch_hands : (found : Found) (file : List ℕ) (first left : ℕ) (batch : Batch) (old : SessionValue) (command : Command) → first < left → left ≤ first + MOST_SPLICES → EndApart (slice_range found.changes.items first left)
+    → IsHandedBatch found file (slice_range found.changes.items first left) batch → IsManyAt (length old.revisions - 1) batch.changes.items batch.bytes.items command → HandsBatch found file first left old command
+batch_hands found file first left batch old command order few apart handed many = record {
+  some = order;
+  few = few;
+  apart = apart;
+  is = subst (λ (bs : List ℕ). IsManyAt (length old.revisions - 1) (map (shifted found.front) (slice_range found.changes.items first left)) bs command) handed.bytes_are
+      (subst (λ (cs : List Session.Change). IsManyAt (length old.revisions - 1) cs batch.bytes.items command) handed.changes_are many);
+}
 
-many_commits : (old : SessionValue) (command : Command) (changes : List Session.Change) (bytes : List ℕ) → 1 ≤ length old.revisions
-    → IsManyAt (length old.revisions - 1) changes bytes command → IsOfCommit old command
-many_commits old (Command.Many r changes bytes) cs bs some (at, of_changes, of_bytes) = omega (arith, at, some)
-many_commits old command cs bs some is = absurd is
-
-new_commits : (old : SessionValue) (command : Command) → old.revisions ≡ [] → IsNew command → IsOfCommit old command
-new_commits old Command.New none is = none
-new_commits old command none is = absurd is
-
-pub put_made : (found : Found) (file : List ℕ) (first left : ℕ) (batch : Batch) (old new : SessionValue) (command : Command) (result : Result (Unit {0}) CommitFault) → IsBeside found file → first ≤ left
+pub put_made : (found : Found) (file : List ℕ) (first left : ℕ) (batch : Batch) (old new : SessionValue) (command : Command) (result : Result (Unit {0}) CommitFault) → IsBeside found file → first < left
+    → left ≤ first + MOST_SPLICES → EndApart (slice_range found.changes.items first left)
     → IsHandedBatch found file (slice_range found.changes.items first left) batch → 1 ≤ length old.revisions
     → IsManyAt (length old.revisions - 1) batch.changes.items batch.bytes.items command → TakesCommand old command result new → PutsBatch found file first left old result new
-put_made found file first left batch old new command (Ok u) is order handed some many makes = put_applied found file first left batch old new makes.0 command is order handed some many makes.1
-put_made found file first left batch old new command (Err (Edit fault)) is order handed some many makes = stops_here old new command fault (many_commits old command batch.changes.items batch.bytes.items some many) makes
-put_made found file first left batch old new command (Err Memory) is order handed some many makes = tt
-put_made found file first left batch old new command (Err (Check fault)) is order handed some many makes = absurd makes
-put_made found file first left batch old new command (Err (TakeUp fault)) is order handed some many makes = absurd makes
-put_made found file first left batch old new command (Err (Read fault)) is order handed some many makes = absurd makes
-put_made found file first left batch old new command (Err Write) is order handed some many makes = absurd makes
+put_made found file first left batch old new command (Ok u) is order few apart handed some many makes = record {
+  command = command;
+  hands = batch_hands found file first left batch old command order few apart handed many;
+  k = makes.0;
+  applies = makes.1;
+  goes = put_applied found file first left batch old new makes.0 command is (omega (arith, order)) handed some many makes.1;
+}
+put_made found file first left batch old new command (Err (Edit fault)) is order few apart handed some many makes = record {
+  command = command;
+  hands = batch_hands found file first left batch old command order few apart handed many;
+  stops = makes;
+}
+put_made found file first left batch old new command (Err Memory) is order few apart handed some many makes = tt
+put_made found file first left batch old new command (Err (Check fault)) is order few apart handed some many makes = absurd makes
+put_made found file first left batch old new command (Err (TakeUp fault)) is order few apart handed some many makes = absurd makes
+put_made found file first left batch old new command (Err (Read fault)) is order few apart handed some many makes = absurd makes
+put_made found file first left batch old new command (Err Write) is order few apart handed some many makes = absurd makes
 
 pub begun_empty : (old new : SessionValue) (command : Command) (result : Result (Unit {0}) CommitFault) → old.revisions ≡ [] → IsNew command → TakesCommand old command result new → BeginsEmpty old result new
 begun_empty old new command (Ok u) none is makes =
-    let applies = makes.1 in
-    (further_applied applies, omega (arith, ap length applies.revisions, length_push old.revisions applies.made, ap length none), empty_root old new makes.0 command is applies)
-begun_empty old new command (Err (Edit fault)) none is makes = stops_here old new command fault (new_commits old command none is) makes
+    let applies = makes.1 in (
+      record { none = none; command = command; is = is; k = makes.0; applies = applies },
+      further_applied applies,
+      omega (arith, ap length applies.revisions, length_push old.revisions applies.made, ap length none),
+      empty_root old new makes.0 command is applies,
+    )
+begun_empty old new command (Err (Edit fault)) none is makes = record { command = command; is = is; after = new; stops = makes }
 begun_empty old new command (Err Memory) none is makes = tt
 begun_empty old new command (Err (Check fault)) none is makes = absurd makes
 begun_empty old new command (Err (TakeUp fault)) none is makes = absurd makes
 begun_empty old new command (Err (Read fault)) none is makes = absurd makes
 begun_empty old new command (Err Write) none is makes = absurd makes
+
+-- ---- a batch's changes end apart
+
+range_more : (xs : List Change) (first left : ℕ) (d : Change) → first < left → left ≤ length xs → slice_range xs first left ≡ get_or xs first d ∷ slice_range xs (suc first) left
+range_more xs first left d order inside =
+    let more : left - first ≡ suc (left - suc first) = omega (arith, order) in
+    ap (λ (n : ℕ). take n (drop first xs)) more ∙ ap (take (suc (left - suc first))) (drop-cons xs first d (omega (arith, order, inside)))
+
+pub apart_one : (xs : List Change) (left : ℕ) (d : Change) → 1 ≤ left → left ≤ length xs → EndApart (slice_range xs (left - 1) left)
+apart_one xs left d some inside =
+    let none : left - suc (left - 1) ≡ 0 = omega (arith, some) in
+    let one : slice_range xs (left - 1) left ≡ get_or xs (left - 1) d ∷ [] =
+    range_more xs (left - 1) left d (omega (arith, some)) inside ∙ ap (λ (n : ℕ). get_or xs (left - 1) d ∷ take n (drop (suc (left - 1)) xs)) none in
+    subst EndApart (sym one) (tt, tt)
+
+pub apart_more : (xs : List Change) (first left : ℕ) (d : Change) → 1 ≤ first → first < left → left ≤ length xs → (get_or xs (first - 1) d).to < (get_or xs first d).from → EndApart (slice_range xs first left)
+    → EndApart (slice_range xs (first - 1) left)
+apart_more xs first left d some order inside before apart =
+    let at : suc (first - 1) ≡ first = omega (arith, some) in
+    let here : slice_range xs (first - 1) left ≡ get_or xs (first - 1) d ∷ slice_range xs first left =
+    range_more xs (first - 1) left d (omega (arith, order)) inside ∙ ap (λ (n : ℕ). get_or xs (first - 1) d ∷ slice_range xs n left) at in
+    let next = range_more xs first left d order inside in
+    subst EndApart (sym here) (subst (EndsBefore (get_or xs (first - 1) d)) (sym next) before, apart)

@@ -2,7 +2,7 @@
 use Rattle.std.specs.Prelude.{◌≡◌, ◌≢◌, ℕ, ◌+◌, ◌≤◌, List, [], length, take, Option, Result, Ok, Err}
 use Rattle.std.specs.Io.KnownBytes.{Appends, Keeps}
 use Rattle.byte_output.specs.Prefix.{AppendsPrefix}
-use Rattle.lazy_file.specs.SourceTexts.{Stated}
+use Rattle.lazy_file.specs.SourceTexts.{Stated, stated_in_memory}
 use Rattle.lazy_file.specs.Readings.{Reading}
 use Rattle.edit_commands.specs.Session.{SessionValue, HoldsHistory, texts_of}
 use Rattle.edit_commands.specs.declared.fault.EditFault.{EditFault}
@@ -14,7 +14,7 @@ use Rattle.session_checker.specs.Faithful.{texts}
 use Rattle.session_checker.specs.Limits.{ChecksWithin}
 use Rattle.saved_session.specs.TakeFaults.{IsTakeFault}
 use Rattle.saved_session.specs.GoneFurther.{GoesFurther, IsTakenUp}
-use Rattle.commit_tools.specs.Stops.{StopsAtCommand}
+use Rattle.commit_tools.specs.Stops.{StopsCommit}
 use Rattle.commit_tools.specs.Texts.{OverLast, ReadsLast, last_text}
 use Rattle.commit_tools.specs.declared.answer.Commit.{Commit}
 use Rattle.commit_tools.specs.declared.answer.Commit.TheVariants.{Same, Added}
@@ -37,7 +37,7 @@ CommitsText st begun file (Ok (Same revision)) made = (made ≡ begun) × Reache
 CommitsText st begun file (Ok (Added revision)) made =
     ReachesText st begun file revision made
     × (1 ≤ length begun.revisions → OverLast st begun (λ source. last_text source begun ≢ file))
-CommitsText st begun file (Err (Edit fault)) made = StopsAtCommand begun fault
+CommitsText st begun file (Err (Edit fault)) made = StopsCommit st begun file fault
 CommitsText st begun file (Err (Read fault)) made = Unit {0}
 CommitsText st begun file (Err Memory) made = Unit {0}
 CommitsText st begun file (Err other) made = ⊥
@@ -75,10 +75,10 @@ pub record IsSameText (st : Stated) (v : ImageValue) (file : List ℕ) (revision
   pub reaches : ReachesText st begun file revision begun
 
 -- the session of the image does not take a command on the way
-pub record IsStoppedCommit (v : ImageValue) (fault : EditFault) : Type 0 where
+pub record IsStoppedCommit (st : Stated) (v : ImageValue) (file : List ℕ) (fault : EditFault) : Type 0 where
   pub begun : SessionValue
   pub from_image : IsTakenUp v begun
-  pub stops : StopsAtCommand begun fault
+  pub stops : StopsCommit st begun file fault
 
 -- Of an accepted image that is taken up, and whose last text is not the file's, the image of a session that goes on to
 -- it was written, or a prefix of that; and else nothing.
@@ -91,7 +91,7 @@ WritesCommit st (Ok v) file before after (Ok (Added revision)) =
 WritesCommit st (Ok v) file before after (Err Write) =
     (made : SessionValue) × (revision : ℕ) × IsCommitted st v file revision made
     × AppendsPrefix before after (spelling (image_of made))
-WritesCommit st (Ok v) file before after (Err (Edit fault)) = Keeps before after × IsStoppedCommit v fault
+WritesCommit st (Ok v) file before after (Err (Edit fault)) = Keeps before after × IsStoppedCommit st v file fault
 WritesCommit st (Ok v) file before after (Err (TakeUp fault)) = Keeps before after × IsTakeFault v fault
 WritesCommit st (Ok v) file before after (Err (Read fault)) = Keeps before after
 WritesCommit st (Ok v) file before after (Err Memory) = Keeps before after
@@ -139,6 +139,7 @@ CommitsAnew file before after (Err Write) =
     (made : SessionValue) × (revision : ℕ) × IsCommittedAnew file revision made
     × AppendsPrefix before after (spelling (image_of made))
 CommitsAnew file before after (Err (Edit fault)) =
-    Keeps before after × ((begun : SessionValue) × IsEmptySession begun × StopsAtCommand begun fault)
+    Keeps before after
+    × ((begun : SessionValue) × IsEmptySession begun × StopsCommit (stated_in_memory []) begun file fault)
 CommitsAnew file before after (Err Memory) = Keeps before after
 CommitsAnew file before after other = ⊥

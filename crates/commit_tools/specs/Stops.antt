@@ -1,23 +1,101 @@
--- A session that stops on its way.
-use Rattle.std.specs.Prelude.{◌≡◌, ◌+◌, [], length, Err}
-use Rattle.edit_commands.specs.Session.{SessionValue}
-use Rattle.edit_commands.specs.Applying.{AppliesOrNot}
+-- A session that stops on its way to a file's text.
+use Rattle.std.specs.Prelude.{◌≡◌, ℕ, ◌+◌, ◌-◌, ◌<◌, ◌≤◌, List, [], ◌∷◌, length, map, slice_range, Err}
+use Rattle.lazy_file.specs.SourceTexts.{Stated}
+use Rattle.rope_node.specs.Denotes.{rope_len}
+use Rattle.command_parts.specs.declared.edit.TheConstants.{MOST_SPLICES}
+use Rattle.edit_commands.specs.Session.{SessionValue, session_table}
+use Rattle.edit_commands.specs.Applying.{Applies, AppliesOrNot}
+use Rattle.edit_commands.specs.declared.command.Change as Session
 use Rattle.edit_commands.specs.declared.command.Command.{Command}
 use Rattle.edit_commands.specs.declared.command.Command.TheVariants.{New, Many}
 use Rattle.edit_commands.specs.declared.fault.EditFault.{EditFault}
-use Rattle.saved_session.specs.GoneFurther.{GoesFurther}
+use Rattle.line_changes.specs.declared.change.Change.{Change}
+use Rattle.commit_tools.specs.Texts.{OverLast, last_root, last_text}
+use Rattle.commit_tools.specs.Found.{IsBeside, file_middle, text_before}
+use Rattle.commit_tools.specs.Handed.{bytes_put, shifted}
+use Rattle.commit_tools.specs.declared.found.Found.{Found}
 
--- a commit's command: the empty text of a session without revisions, or changes of the last text
-abbrev pub IsOfCommit : SessionValue → Command → Type 0
-IsOfCommit last New = last.revisions ≡ []
-IsOfCommit last (Many r changes bytes) = r + 1 ≡ length last.revisions
-IsOfCommit last command = ⊥
+-- ---- a commit's commands
 
--- a session that goes further does not take a command of a commit
-pub record StopsAtCommand (begun : SessionValue) (fault : EditFault) : Type 0 where
+-- it is the empty text
+abbrev pub IsNew : Command → Type 0
+IsNew New = Unit {0}
+IsNew other = ⊥
+
+-- it is these changes of revision r, with these bytes
+abbrev pub IsManyAt : ℕ → List Session.Change → List ℕ → Command → Type 0
+IsManyAt r cs bs (Many q changes bytes) = (q ≡ r) × (changes.now ≡ cs) × (bytes.now ≡ bs)
+IsManyAt r cs bs other = ⊥
+
+-- a change ends before the next one begins
+abbrev pub EndsBefore : Change → List Change → Type 0
+EndsBefore c [] = Unit {0}
+EndsBefore c (d ∷ changes) = c.to < d.from
+
+-- and so does each
+abbrev pub EndApart : List Change → Type 0
+EndApart [] = Unit {0}
+EndApart (c ∷ changes) = EndsBefore c changes × EndApart changes
+
+-- a command makes a batch of what was found, of the last text: the changes from number `first` up to `left`, at least
+-- one and not too many, none of which touches the next
+pub record HandsBatch (found : Found) (file : List ℕ) (first left : ℕ) (last : SessionValue) (command : Command)
+    : Type 0 where
+  pub some : first < left
+  pub few : left ≤ first + MOST_SPLICES
+  pub apart : EndApart (slice_range found.changes.items first left)
+  pub is : IsManyAt (length last.revisions - 1)
+      (map (shifted found.front) (slice_range found.changes.items first left))
+      (bytes_put (file_middle found file) (slice_range found.changes.items first left)) command
+
+-- batches lead from a session to one behind which the changes up to number `first` are left; each of them but the last
+-- begins where the one behind it ends, which these numbers tell, the last batch's first
+abbrev pub LeadsTo : Found → List ℕ → SessionValue → List ℕ → ℕ → SessionValue → Type 0
+LeadsTo found file begun [] first last = (first ≡ length found.changes.items) × (last ≡ begun)
+LeadsTo found file begun (left ∷ lefts) first last =
+    (before : SessionValue) × (command : Command) × (k : ℕ) × LeadsTo found file begun lefts left before
+    × HandsBatch found file first left before command × Applies before command k last
+
+-- ---- where it stops
+
+-- a batch is not taken, behind those before it
+pub record StopsAtBatch (found : Found) (file : List ℕ) (begun : SessionValue) (fault : EditFault) : Type 0 where
+  pub lefts : List ℕ
+  pub left : ℕ
   pub last : SessionValue
-  pub further : GoesFurther begun last
+  pub leads : LeadsTo found file begun lefts left last
+  pub first : ℕ
   pub command : Command
-  pub commits : IsOfCommit last command
+  pub hands : HandsBatch found file first left last command
   pub after : SessionValue
   pub stops : AppliesOrNot last command (Err fault) after
+
+-- a session with a last text does not take a batch of the changes that turn this text into the file's
+pub record StopsBehind (st : Stated) (begun : SessionValue) (file : List ℕ) (fault : EditFault) : Type 0 where
+  pub found : Found
+  pub beside : IsBeside found file
+  pub len : rope_len (session_table begun) (last_root begun) ≡ length (text_before found file)
+  pub text : OverLast st begun (λ source. last_text source begun ≡ text_before found file)
+  pub stops : StopsAtBatch found file begun fault
+
+-- a session without revisions does not take the empty text with which it begins
+pub record StopsAtNew (begun : SessionValue) (fault : EditFault) : Type 0 where
+  pub command : Command
+  pub is : IsNew command
+  pub after : SessionValue
+  pub stops : AppliesOrNot begun command (Err fault) after
+
+-- a session without revisions begins with an empty text
+pub record BeginsWithNew (begun new : SessionValue) : Type 0 where
+  pub none : begun.revisions ≡ []
+  pub command : Command
+  pub is : IsNew command
+  pub k : ℕ
+  pub applies : Applies begun command k new
+
+-- a session does not take a command of a commit: the first one of all; or a batch, behind that or behind a last text
+pub data StopsCommit (st : Stated) (begun : SessionValue) (file : List ℕ) (fault : EditFault) : Type 0 where
+  at_new : begun.revisions ≡ [] → StopsAtNew begun fault → StopsCommit st begun file fault
+  behind_new : (empty : SessionValue) → BeginsWithNew begun empty → StopsBehind st empty file fault
+      → StopsCommit st begun file fault
+  behind : 1 ≤ length begun.revisions → StopsBehind st begun file fault → StopsCommit st begun file fault

@@ -1,10 +1,12 @@
 //! Changes handed to a session, as many at once as a command takes.
 
-ghost use Rattle.std.specs.Prelude.{◌≡◌, ◌<◌, ◌≤◌, length, slice_range, IfOk};
+ghost use Rattle.std.specs.Prelude.{◌≡◌, ◌+◌, ◌<◌, ◌≤◌, length, slice_range, IfOk};
+ghost use Rattle.command_parts.specs.declared.edit.TheConstants.{MOST_SPLICES};
 ghost use Rattle.edit_commands.specs.Refusals.{TakesAll};
 ghost use Rattle.commit_tools.specs.Found.{IsBeside};
 ghost use Rattle.commit_tools.specs.Handed.{IsHandedBatch};
-ghost use Rattle.commit_tools.specs.Put.{TakesCommand, PutsBatch, PutsFrom};
+ghost use Rattle.commit_tools.specs.Put.{TakesCommand, PutsAll, PutsBatch};
+ghost use Rattle.commit_tools.specs.Stops.{EndApart};
 
 use crate::fault::CommitFault;
 use crate::found::Found;
@@ -25,11 +27,14 @@ pub struct Batch {
 fn batch_start(found: &Found, left: usize) -> usize
     requires some { 1 ≤ left }
     requires inside { left ≤ length found.now.changes.items }
-    ensures { result < left }
+    ensures some { result < left }
+    ensures few { left ≤ result + MOST_SPLICES }
+    ensures apart { EndApart (slice_range found.now.changes.items result left) }
 {
+    let changes: &[LineChange] = &found.changes;
     let mut first = left - 1;
     while first > 0 && left - first < MOST_SPLICES as usize {
-        if found.changes[first - 1].to >= found.changes[first].from {
+        if changes[first - 1].to >= changes[first].from {
             return first;
         }
         first -= 1;
@@ -95,6 +100,8 @@ fn put_batch(
 ) -> Result<(), CommitFault>
     requires found { IsBeside found.now file.now }
     requires inside { (first ≤ left) × (left ≤ length found.now.changes.items) }
+    requires few { (first < left) × (left ≤ first + MOST_SPLICES) }
+    requires apart { EndApart (slice_range found.now.changes.items first left) }
     requires some { 1 ≤ length session.old.revisions }
     ensures { PutsBatch found.now file.now first left session.old result session.new }
 {
@@ -122,7 +129,7 @@ pub fn put_changes(
 ) -> Result<(), CommitFault>
     requires found { IsBeside found.now file.now }
     requires some { 1 ≤ length session.old.revisions }
-    ensures { PutsFrom found.now file.now 0 session.old result session.new }
+    ensures { PutsAll found.now file.now session.old result session.new }
 {
     let mut left = found.changes.len();
     while left > 0 {

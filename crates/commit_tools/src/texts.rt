@@ -5,7 +5,7 @@ ghost use Rattle.rope_node.specs.Denotes.{IsRope, rope_len};
 ghost use Rattle.cord_search.specs.Stated.{OfText};
 ghost use Rattle.edit_commands.specs.Session.{session_table};
 ghost use Rattle.commit_tools.specs.Commits.{CommitsText};
-ghost use Rattle.commit_tools.specs.Found.{IsBeside, text_from};
+ghost use Rattle.commit_tools.specs.Found.{IsBeside, text_before, text_from};
 ghost use Rattle.commit_tools.specs.Put.{BeginsEmpty, GoesOnToText};
 ghost use Rattle.commit_tools.specs.Texts.{IsReadingFault, ReadsLast, ReadsRope, ReadsRopeOr, last_root};
 
@@ -101,6 +101,7 @@ fn found_beside<S: NodeSpace, T: Sources>(
     ensures found { IfOk result (λ found. IsBeside found file.now) }
     ensures text { IfOk result (λ found. OfText (S.table space.now) (T.reading sources.old).stated rope
         (λ u. u ≡ text_from found file.now (length found.changes.items))) }
+    ensures len { IfOk result (λ found. rope_len (S.table space.now) rope ≡ length (text_before found file.now)) }
     ensures fault { IfErr result IsReadingFault }
     ensures reads { ReadsRopeOr (S.table space.now) rope (T.reading sources.old) (T.reading sources.new) result }
 {

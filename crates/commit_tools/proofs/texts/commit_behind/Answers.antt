@@ -1,7 +1,7 @@
 use Rattle.std.proofs.Common.{length}
 use Rattle.std.proofs.lemmas.Result.{err_from_is_err_and}
 use Rattle.commit_tools.specs.Texts.{read_fault_of}
-use Rattle.commit_tools.proofs.CommittedTexts.{goes_there, over_found, reads_last, stays_there}
+use Rattle.commit_tools.proofs.CommittedTexts.{goes_there, over_found, reads_last, stays_there, stops_behind}
 use Rattle.commit_tools.proofs.texts.commit_behind.Goals as goal
 use Rattle.std.proofs.lemmas.Bool.{both_ways}
 
@@ -26,3 +26,13 @@ returns-clause-text g c =
     let found = c.in_ok-found.found in
     let over = over_found v c.space.result.now c.last_root-rope.result st found c.args.file.now (length found.changes.items) c.space.ensures.store c.last_root-rope.ensures.root c.in_ok-found.ensures.text in
     goes_there st v c.put_changes.new.session found c.args.file.now c.in_ok-found.ensures.found over (λ none. both_ways c.is_same.result c.if-is_same.false (c.is_same.ensures.1 none)) c.in_ok-put_changes.ensures
+
+pub returns-in_err-put_changes-clause-text : goal.returns-in_err-put_changes-clause-text
+returns-in_err-put_changes-clause-text g c =
+    let v = c.args.session.now in
+    let st = (g.T.Sources.reading c.args.sources.now).stated in
+    let found = c.in_ok-found.found in
+    let over = over_found v c.space.result.now c.last_root-rope.result st found c.args.file.now (length found.changes.items) c.space.ensures.store c.last_root-rope.ensures.root c.in_ok-found.ensures.text in
+    let p = err_from_is_err_and c.from_residual-in_err-put_changes.result c.from_residual-in_err-put_changes.ensures.1 in
+    rw (p.1, p.2) (stops_behind st v c.put_changes.new.session c.space.result.now c.last_root-rope.result found c.args.file.now c.in_err-put_changes.field-0.0 c.requires
+    c.space.ensures.store c.last_root-rope.ensures.root c.in_ok-found.ensures.found over c.in_ok-found.ensures.len c.in_err-put_changes.ensures)
