@@ -128,9 +128,11 @@ def page(crates):
         definition that it rests on, and nothing else: {counted(crates, keys)}."""
     how = """How to read it. From the top, each definition comes after those that it uses. From the claim down, begin at `IsFaithful`, the last
         definition before "The other clauses", and search the page for each name that you meet. The line above a definition says it in words;
-        `a ≡ b` is equality, `→` "implies", `×` "and", `∀` "for each", `λ x. ..` a function of x. Names that are defined nowhere here, such as
-        `length`, `take`, `map`, `get_or` or `Option`, are those of Rattle's standard library. [START](START.md) explains rope, session and image,
-        [FORMAT](FORMAT.md) the bytes."""
+        `a ≡ b` is equality, `→` "implies", `×` "and", `∀` "for each", `λ x. ..` a function of x; `⊥` never holds, and `Unit {0}` always
+        does. Numbers have no upper bound, and `-` stops at 0. `x ∷ xs` is a list that begins with x, and `++` joins two; `id.0` is the number in
+        an id, `r.root` a field. `Recorded.Insert` is the case of `Edit`, `Command.Insert` that of `FullEdit`. Names that are defined nowhere
+        here, such as `length`, `take`, `map`, `get_or` or `Option`, are those of Rattle's standard library. [START](START.md) explains rope,
+        session and image, [FORMAT](FORMAT.md) the bytes."""
     closing = """The lines of definitions, with their comments, and of types and limits of the code, that the contract of each call rests on. How a
         type of the code is seen as a value (`ghost view`) is not counted. `python3 tests/headline.py CRATE CALL` prints them, as `python3
         tests/headline.py rope_store Store::append`."""

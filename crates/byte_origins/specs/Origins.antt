@@ -70,7 +70,7 @@ pub record IsOriginRun (origins : List Origin) (place : ℕ) (run : OriginRun) :
   pub some : 1 ≤ run.len
   pub stands : take run.len (drop place origins) ≡ run_origins run
 
--- the runs of some origins: joined they are these, each has one, and no two neighbours would make one run
+-- the runs of some origins: joined they are these, each has at least one, and no two neighbours would make one run
 pub record AreRuns (origins : List Origin) (runs : List OriginRun) : Type 0 where
   pub whole : flat_map run_origins runs ≡ origins
   pub some : AllByRecursion (λ (x : OriginRun). 1 ≤ x.len) runs

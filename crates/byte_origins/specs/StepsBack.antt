@@ -18,7 +18,7 @@ pub record IsFromText (v : ImageValue) (k place j p n : ℕ) : Type 0 where
   pub fits : place + n ≤ len_of_text v k
   pub same : take n (drop place (origins_at v k)) ≡ take n (drop p (origins_at v j))
 
--- they are a run that text k's command brought
+-- the bytes at a place of text k have the origins of this run
 pub record IsBrought (v : ImageValue) (k place : ℕ) (run : OriginRun) : Type 0 where
   pub fits : place + run.len ≤ len_of_text v k
   pub is_run : IsOriginRun (origins_at v k) place run

@@ -84,7 +84,8 @@ replaced t p m x = take p t ++ x ++ drop (p + m) t
 abbrev pub spliced : {C : Type 0} → List C → ℕ → ℕ → List C → Option (List C)
 spliced t p m x = if nat_le (p + m) (length t) then bounded (replaced t p m x) else None
 
--- a splice names things of a text and of a pool of these lengths, and changes something; one of no things has place 0
+-- a splice names things of a text and of a pool of these lengths, and takes away or puts in at least one; where it puts
+-- in none, its place in the pool is 0
 abbrev pub is_splice : ℕ → ℕ → Splice → Bool
 is_splice pool_len len s =
     nat_le (s.p + s.m) len && nat_le (s.a + s.n) pool_len && nat_le 1 (s.m + s.n) && (nat_le 1 s.n || s.a == 0)

@@ -45,7 +45,7 @@ field_of x M = x.m
 field_of x A = x.a
 field_of x N = x.n
 
--- what each command is recorded as
+-- what each command is recorded as; of its splices only their number
 abbrev pub recorded : Edit → Recorded
 recorded New = record { code = NEW; uses = [] }
 recorded (Open s) = record { code = OPEN; uses = (Q, s) ∷ [] }
@@ -58,7 +58,6 @@ recorded (Cut r i n) = record { code = CUT; uses = (R, r) ∷ (A, i) ∷ (N, n) 
 recorded (Fill r p c n) = record { code = FILL; uses = (R, r) ∷ (P, p) ∷ (A, c) ∷ (N, n) ∷ [] }
 recorded (Back r) = record { code = BACK; uses = (R, r) ∷ [] }
 recorded (Balance r) = record { code = BALANCE; uses = (R, r) ∷ [] }
--- of its splices only their number
 recorded (Many r first count) = record { code = MANY; uses = (R, r) ∷ (Q, count) ∷ [] }
 
 -- the command of each code, over what the fields hold, where the commands before it have `first` splices in all; none

@@ -81,8 +81,8 @@ rest t rope p = Old rope p (rope_len t rope - p)
 abbrev pub whole : Table → Option NodeId → Part
 whole t rope = Old rope 0 (rope_len t rope)
 
--- a rope of length len from place k on, with what each splice names replaced: up to that, its bytes of the pool, and so
--- on, and the rest
+-- the parts of a rope of length len from place k on: what stands before each splice, the bytes that it puts in, and at
+-- the end the rest
 abbrev pub pieces : Option NodeId → ℕ → ℕ → List Splice → List Part
 pieces rope len k [] = Old rope k (len - k) ∷ []
 pieces rope len k (s ∷ splices) = Old rope k (s.p - k) ∷ Pool s.a s.n ∷ pieces rope len (s.p + s.m) splices

@@ -47,7 +47,7 @@ AreRead remaining bytes = IfSome remaining (λ xs. bytes ≡ take (judged_len xs
 abbrev pub refused_source_line : AddFault → List ℕ
 refused_source_line fault = codes "refused " ++ add_fault_code fault ++ codes "\n"
 
--- the bytes are accepted with what the sources state; they spell this image, which is faithful
+-- the bytes are accepted with what the sources state; they spell this image, which is of just such sources and faithful
 pub record SpellsFaithful (bytes : List ℕ) (st : Stated) (v : ImageValue) : Type 0 where
   pub accepted : IsAccepted bytes st
   pub image : IsImage v

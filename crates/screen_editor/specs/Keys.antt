@@ -41,7 +41,7 @@ key_in (row ∷ rows) b = if b == row.0 then row.1 else key_in rows b
 abbrev pub key_of : ℕ → Key
 key_of b = if nat_le 0x20 b && nat_le b 0x7E then Typed b else key_in key_table b
 
--- what each key does
+-- whether a key looks for line breaks, edits, ends the run, or leaves the text as it is
 abbrev pub effect_of : Key → Effect
 effect_of (Typed b) = Edits
 effect_of EraseBefore = Edits

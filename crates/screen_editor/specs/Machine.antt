@@ -78,8 +78,7 @@ step key s = record (done key s) { message = message_after key s.message }
 abbrev pub refused : List ℕ → EditorState → EditorState
 refused code s = record s { message = Some code }
 
--- the command by which a key makes a revision, where it makes one; bytes typed stand in the pool from a on
-
+-- what takes away the bytes between mark and place, and what puts in the bytes that were cut last
 abbrev pub cutting : Option ℕ → EditorState → Option Edit
 cutting None s = None
 cutting (Some m) s =
@@ -90,6 +89,7 @@ abbrev pub pasting : List CutSpan → EditorState → Option Edit
 pasting [] s = None
 pasting (c ∷ cs) s = Some (Recorded.Paste (last_revision s) s.place c.revision c.start c.len)
 
+-- the command by which a key makes a revision, where it makes one; bytes typed stand in the pool from a on
 abbrev pub edit_by_key : ℕ → Key → EditorState → Option Edit
 edit_by_key a (Typed b) s = Some (Recorded.Insert (last_revision s) s.place a 1)
 edit_by_key a EraseBefore s =

@@ -43,7 +43,7 @@ IsEditFault key old Edit.TooManyRevisions new = MOST_REVISIONS ≤ length old.se
 IsEditFault key old Edit.Memory new = Unit {0}
 IsEditFault key old fault new = WasRefused key old fault new
 
--- of a key that looks for no line break; where a text is too long, the call says itself
+-- why a key that makes a revision is refused, but for faults of sources; when a text is too long is told beside this
 abbrev pub IsPlainFault : Key → Editing → KeyFault → Editing → Type 0
 IsPlainFault key old Fault.TooLong new = MakesRevision key old
 IsPlainFault key old (Fault.Edit fault) new = MakesRevision key old × IsEditFault key old fault new

@@ -60,7 +60,7 @@ abbrev pub found_and_left : Option OriginRun → List Origin → List Origin
 found_and_left (Some x) left = run_origins x ++ left
 found_and_left None left = left
 
--- where no run is found, none is left
+-- a run that is found has a byte; where none is found, none is left
 abbrev pub IsNextFound : Option OriginRun → List Origin → Type 0
 IsNextFound found left = MatchOption found (left ≡ []) (λ (x : OriginRun). 1 ≤ x.len)
 

@@ -72,6 +72,7 @@ pub record HasTrueRecordsOf (v : ImageValue) : Type 0 where
   pub sound : IsSound (image_table v)
   -- each recorded length and depth is its node's
   pub true_records : HasTrueRecords (image_table v)
+  -- each node has as many cells as its recorded length
   pub lengths : (id : ℕ) → id < length (image_table v).nodes
       → length (cells (image_table v) id) ≡ len_at (image_table v) id
   -- each root is nil or a node
@@ -99,8 +100,10 @@ pub record IsFaithful (v : ImageValue) (st : Stated) : Type 0 where
   pub each_text : (source : ℕ → ℕ → ℕ)
       → EachRevision v (λ k. HasSameBytes v (SameOver source) k
       → GivesText (givens v source) (commands v) (texts v source) k)
-  -- Each row of bytes has, over every reading of what the sources state, where they state all that it is over.
+  -- Each row of bytes has the same bytes on both sides, over every reading of what the sources state, where they state
+  -- all that it is over.
   pub same_bytes : EachRevision v (HasSameBytes v (SameStated st))
-  -- the same cell for cell, and so whatever bytes the sources hold, where none of its rows of bytes is over a source
+  -- Each revision's cells are what its command gives of the cells before it, and so its text whatever bytes the sources
+  -- hold, where none of its rows of bytes is over a source.
   pub each_cells : EachRevision v (λ k. HasRowsOverNoSource v k
       → GivesText (givens_of (image_table v)) (commands v) (texts_cells v) k)

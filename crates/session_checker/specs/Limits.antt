@@ -63,7 +63,8 @@ pub record ChecksWithin (at_most : Option ℕ) (old new : Reading) (bytes : List
   pub exact : IsNotDear at_most old.stated.sizes bytes → IsExact old.stated bytes r
   pub always : IsNotDear at_most old.stated.sizes bytes → (n : NeedsNoRead bytes old.stated.sizes) → Accepts r n.v
 
--- the looks that such a check takes: no more than the image's bound or the limit, and none at what is dear or no image
+-- the looks that such a check takes: no more than the image's bound, no more than the limit, and none at what is dear
+-- or no image
 pub record TakesLooks (at_most : Option ℕ) (sizes bytes : List ℕ) (before after : ℕ) : Type 0 where
   pub bound : (v : ImageValue) → IsImage v → bytes ≡ spelling v → after ≤ before + looks_bound v
   pub limit : IfSome at_most (λ most. after ≤ before + most)

@@ -19,7 +19,7 @@ use Rattle.session_checker.specs.declared.fault.CheckFault.TheVariants.{Command,
 abbrev pub HasRowsOverNoSource : ImageValue → ℕ → Type 0
 HasRowsOverNoSource v k = MeetsNoSource (image_table v) (parts_at v k) (revision_at v k).root (rows_at v k)
 
--- each row of bytes has cells in the command's parts and in the root that are the same as Same says
+-- the cells of each row of bytes in the command's parts and those in the root are the same as Same says
 abbrev pub HasSameBytes : ImageValue → (List Cell → List Cell → Type 0) → ℕ → Type 0
 HasSameBytes v Same k = HaveSameBytes Same (image_table v) (parts_at v k) (revision_at v k).root (rows_at v k)
 

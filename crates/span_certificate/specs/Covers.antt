@@ -61,6 +61,7 @@ pub record FitsBy (t : Table) (coded : ℕ → Coded) (Same : List Cell → List
   pub inside_root : place + row.len ≤ rope_len t root
   pub kind : KindFitsBy t coded Same row.len part off root place row.kind
 
+-- each row fits where it stands, and together they are as long as the root and as the parts
 pub record CoversBy (t : Table) (coded : ℕ → Coded) (Same : List Cell → List Cell → Type 0) (parts : List Part)
     (root : Option NodeId) (rows : List Row) : Type 0 where
   pub fit : (j : ℕ) → j < length rows → FitsBy t coded Same parts root (place_of rows j) (row_at rows j)
@@ -103,7 +104,7 @@ compared (Shared k o) cells others = []
 compared Leaf cells others = []
 compared Bytes cells others = cells ++ others
 
--- for a row of the part from off on, and for one that stands at place of the parts joined
+-- the cells that a row compares which stands off things inside a part, and at place of the root
 abbrev pub kind_compares : Table → Part → ℕ → Option NodeId → ℕ → Row → List Cell
 kind_compares t part off root place row =
     compared row.kind (take row.len (drop off (part_cells t part))) (take row.len (drop place (rope_cells t root)))
@@ -113,7 +114,7 @@ abbrev pub row_compares : Table → List Part → Option NodeId → ℕ → Row 
 row_compares t parts root place row =
     compared row.kind (take row.len (drop place (parts_cells t parts))) (take row.len (drop place (rope_cells t root)))
 
--- each row of bytes has cells in the parts and in the root that are the same as Same says
+-- the cells of each row of bytes in the parts and those in the root are the same as Same says
 abbrev pub HaveSameBytes : (List Cell → List Cell → Type 0) → Table → List Part → Option NodeId → List Row → Type 0
 HaveSameBytes Same t parts root rows =
     (j : ℕ) → j < length rows → (row_at rows j).kind ≡ Bytes

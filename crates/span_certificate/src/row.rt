@@ -17,7 +17,7 @@ pub struct Row {
 pub enum RowKind {
     /// Both lead to this node, to its bytes from this place on.
     Shared(NodeId, u64),
-    /// Both lie in one leaf, and the two leaf spans have one description.
+    /// On each side they lie in one leaf, and the two leaf spans have one description.
     Leaf,
     /// They are at most 4,096, and equal.
     Bytes,

@@ -33,7 +33,8 @@ next_stage Control b = if is_parameter b then Some Control else None
 next_stage Single b = None
 next_stage ControlString b = if is_in_string b then Some ControlString else None
 
--- whether a sequence ends with this byte: a control string with BEL; ST is an escape, which breaks it off, and its own \
+-- whether a sequence ends with this byte: a control string with BEL alone; the escape of ST breaks it off, and is a
+-- sequence of its own, which ends with \
 abbrev pub ends_with : Stage → ℕ → Bool
 ends_with Text b = false
 ends_with Escape b = nat_le 0x30 b && nat_le b 0x7E

@@ -48,13 +48,14 @@ stays_beside line other = not (other.start == line.start) && nat_le VERY_LONG (o
 abbrev pub learnt : KnownLine → List KnownLine → List KnownLine
 learnt line lines = take MOST_LINES (line ∷ filter (stays_beside line) lines)
 
--- a line that stays known when `put` bytes are put in at this place: it ends before the place, or it begins behind it,
--- and its end still has a number
-abbrev pub StaysBeside : ℕ → ℕ → KnownLine → Type 0
-StaysBeside place put line =
+-- a line that stays known when `put` bytes are put in at this place: it ends before the place, or begins behind it and
+-- its end stays below 2^64
+abbrev pub StaysPasted : ℕ → ℕ → KnownLine → Type 0
+StaysPasted place put line =
     (line.end < place) ⊎ ((place < line.start) × (line.start ≤ line.end) × (line.end + put < 2 ^ 64))
 
--- a line that stays known when `count` bytes are taken out at this place: none of them is a break of it
+-- a line that stays known when `count` bytes are taken out at this place: it ends before them, holds them all, or
+-- begins behind them
 abbrev pub StaysCut : ℕ → ℕ → KnownLine → Type 0
 StaysCut place count line =
     (line.end < place) ⊎ ((line.start ≤ place) × (place + count ≤ line.end))
@@ -82,8 +83,8 @@ IsWidened place put line later =
     (t bytes : List ℕ) → place ≤ length t → length bytes ≡ put → ¬ HasBreak bytes → IsLineOf t line
     → IsLineOf (replaced t place 0 bytes) later
 
--- Of the lines before it a change made those behind it: these are lines of a text where it makes lines of that one of
--- those of another, and where it leaves none out, there is one of each, in order.
+-- `after` is what a change makes of `before`, one by one: if `Makes` turns lines of t into lines of u and `before` are
+-- lines of t, `after` are lines of u; and where it drops none of them, there is one for each, in order.
 pub record ChangesLines (Makes : KnownLine → Option KnownLine → Type 0) (before after : List KnownLine) : Type 0 where
   pub lines : (t u : List ℕ) → ((line later : KnownLine) → Makes line (Some later) → IsLineOf t line → IsLineOf u later)
       → All (IsLineOf t) before → All (IsLineOf u) after

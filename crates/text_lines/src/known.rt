@@ -4,7 +4,7 @@ ghost use Rattle.std.specs.Prelude.{◌≡◌, ◌↔◌, ◌<◌, ◌≤◌, �
 ghost use Rattle.rope_node.specs.Denotes.{IsRope, rope_len};
 ghost use Rattle.cord_position.specs.Fetched.{rope_cell};
 ghost use Rattle.cord_search.specs.declared.runs.TheConstants.{PIECE};
-ghost use Rattle.text_lines.specs.KnownLines.{IsAbout, IsCut, IsPasted, IsTyped, IsWidened, StaysBeside, StaysCut, stays_beside};
+ghost use Rattle.text_lines.specs.KnownLines.{IsAbout, IsCut, IsPasted, IsTyped, IsWidened, StaysPasted, StaysCut, stays_beside};
 ghost use Rattle.text_lines.specs.StatedCells.{AreToldByOthers, HaveOneSource, cell_source};
 
 use crate::lines::LINE_BREAK;
@@ -92,7 +92,7 @@ impl KnownLine {
     /// or at one of its ends.
     pub fn pasted(self, place: u64, put: u64) -> Option<KnownLine>
         ensures line { IfSome result (IsPasted place put self) }
-        ensures kept { StaysBeside place put self → IsSome result }
+        ensures kept { StaysPasted place put self → IsSome result }
     {
         if self.end < place {
             return Some(self);

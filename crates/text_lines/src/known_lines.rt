@@ -6,7 +6,7 @@ ghost use Rattle.cord_search.specs.declared.runs.TheConstants.{PIECE};
 ghost use Rattle.command_parts.specs.Commands.{replaced};
 ghost use Rattle.text_lines.specs.declared.known.KnownLine.{KnownLine};
 ghost use Rattle.text_lines.specs.declared.known_lines.TheConstants.{MOST_LINES};
-ghost use Rattle.text_lines.specs.KnownLines.{ChangesLines, HoldsLine, HoldsPart, IsCut, IsKnownIn, IsPasted, IsTyped, IsWidened, StaysBeside, StaysCut, known_lines, learnt};
+ghost use Rattle.text_lines.specs.KnownLines.{ChangesLines, HoldsLine, HoldsPart, IsCut, IsKnownIn, IsPasted, IsTyped, IsWidened, StaysPasted, StaysCut, known_lines, learnt};
 ghost use Rattle.text_lines.specs.Lines.{HasBreak};
 
 use crate::known::KnownLine;
@@ -144,7 +144,7 @@ impl KnownLines {
     pub fn pasted(&self, place: u64, put: u64) -> KnownLines
         ensures lines { (t bytes : List ℕ) → place ≤ length t → length bytes ≡ put → IsKnownIn self.now t
             → IsKnownIn result (replaced t place 0 bytes) }
-        ensures kept { All (StaysBeside place put) (known_lines self.now)
+        ensures kept { All (StaysPasted place put) (known_lines self.now)
             → AllZip (IsPasted place put) (known_lines self.now) (known_lines result) }
     {
         self.changed(|line| line.pasted(place, put))
