@@ -58,10 +58,21 @@ fn place_begins_a_span_of_its_leaf()
     ensures cut_behind { span_at part_of_a_source 3 2 ≡ record { leaf = number 1; start = 1; len = 3 } }
 {}
 
-/// Depth 3 asks for 5 bytes, depth 4 for 8.
+/// Depths 0 to 4 ask for 1, 2, 3, 5 and 8 bytes.
 #[tactic(auto, unfolding(rope_node::specs::Balance::fibonacci))]
 fn balance_begins_at_fibonacci_numbers()
-    ensures three { ¬ IsBalanced 4 3 }
+    ensures zero { IsBalanced 1 0 }
+    ensures one { IsBalanced 2 1 }
+    ensures two { IsBalanced 3 2 }
+    ensures three { IsBalanced 5 3 }
     ensures four { IsBalanced 8 4 }
-    ensures less_than_four { ¬ IsBalanced 5 4 }
+{}
+
+/// A byte less is not enough.
+#[tactic(auto, unfolding(rope_node::specs::Balance::fibonacci))]
+fn a_byte_less_is_not_balanced()
+    ensures one { ¬ IsBalanced 1 1 }
+    ensures two { ¬ IsBalanced 2 2 }
+    ensures three { ¬ IsBalanced 4 3 }
+    ensures four { ¬ IsBalanced 7 4 }
 {}
