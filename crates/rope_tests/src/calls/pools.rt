@@ -65,6 +65,23 @@ fn piece_past_the_room_opens_a_block(rt: HostRuntime) {
     assert_same(&rt, &pool.rest_of_block(65_542), &b"c".as_slice());
 }
 
+#[test]
+fn piece_as_long_as_a_block_leaves_no_room(rt: HostRuntime) {
+    let full = [b'a'; 65_536];
+    let mut pool = Pool::new(rt.alloc());
+    for (bytes, place, room) in [
+        (full.as_slice(), piece(0, 65_536), 0),
+        (b"b", piece(65_536, 1), 65_535),
+    ] {
+        let found = append(&mut pool, bytes);
+        assert_same(&rt, &(found, pool.room()), &(Ok(place), room));
+    }
+    let longer = extend(&mut pool, piece(65_536, 1), b"c");
+    assert_same(&rt, &longer, &Some(piece(65_536, 2)));
+    assert_same(&rt, &get(&pool, piece(65_535, 2)), &None);
+    assert_same(&rt, &extend(&mut pool, piece(0, 65_536), b"x"), &None);
+}
+
 fn holding(rt: &(impl AllocGlobal + Abort), bytes: &[u8]) -> Pool {
     let mut handed = Vec::new(rt.alloc());
     handed.extend_from_slice(bytes).expect(rt, "memory");
