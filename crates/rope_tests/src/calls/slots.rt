@@ -98,6 +98,17 @@ impl Slots {
         rope
     }
 
+    /// The full slots, each with the length of its rope.
+    fn full<A: AllocGlobal + Abort>(&self, rt: &A) -> Vec<(usize, u64)> {
+        let mut full = Vec::new(rt.alloc());
+        for (slot, rope) in self.ropes.iter().enumerate() {
+            if let Some(piece) = rope {
+                full.push((slot, piece.len)).expect(rt, "memory");
+            }
+        }
+        full
+    }
+
     /// Puts a piece behind the text of the slots.
     fn insert<A: Abort>(&mut self, rt: &A, piece: Piece) {
         let first = self.slot_for(rt, piece.len);
@@ -153,7 +164,7 @@ fn assert_balanced_so<A: AllocGlobal + Abort>(
     rope: Rope,
     pieces: &[Piece],
     seed: u64,
-) {
+) -> Rope {
     let mut slots = no_slots(rt, store.count());
     for piece in pieces {
         slots.insert(rt, *piece);
@@ -171,6 +182,38 @@ fn assert_balanced_so<A: AllocGlobal + Abort>(
         let (l, r) = (NodeId(*l), NodeId(*r));
         assert_same_at(rt, &store.node(NodeId(id)), &NodeView::Cat { l, r }, &seed);
         id = id.checked_add(1).expect(rt, "a number");
+    }
+    root
+}
+
+// Worked by hand: the full slots after each leaf of one byte, and how deep the rope is that is made of them.
+#[test]
+fn eight_leaves_go_from_slot_to_slot(rt: HostRuntime) {
+    let mut store: Store<Coded> = Store::new(rt.alloc());
+    let s = add_source(&rt, &mut store, 1);
+    let mut slots = no_slots(&rt, 0);
+    let mut pieces = Vec::new(rt.alloc());
+    let mut rope = None;
+    for (full, depth) in [
+        ([(2, 1)].as_slice(), 0),
+        (&[(3, 2)], 1),
+        (&[(2, 1), (3, 2)], 2),
+        (&[(4, 4)], 2),
+        (&[(2, 1), (4, 4)], 3),
+        (&[(3, 2), (4, 4)], 3),
+        (&[(2, 1), (3, 2), (4, 4)], 3),
+        (&[(6, 8)], 3),
+    ] {
+        let leaf = source_leaf(&rt, &mut store, s, 0, 1);
+        let node = node_of(&rt, leaf).0;
+        pieces.push(Piece { node, len: 1 }).expect(&rt, "memory");
+        rope = joined(&rt, &mut store, rope, leaf);
+        slots.insert(&rt, Piece { node, len: 1 });
+        let count = pieces.len() as u64;
+        assert_same_at(&rt, &slots.full(&rt).as_slice(), &full, &count);
+        let shallow = assert_balanced_so(&rt, &mut store, rope, &pieces, count);
+        let size = size_of(&rt, &store, shallow);
+        assert_same_at(&rt, &size, &(count, depth), &count);
     }
 }
 
