@@ -1,9 +1,10 @@
 use super::assert_same;
-use super::stores::{add_source, cat, joined, literal, size_of, source_leaf};
+use super::ropes::assert_shape;
+use super::stores::{add_source, cat, function, joined, literal, size_of, source_leaf, substr};
 use function_leaf::Coded;
 use node_table::NodeFault;
 use rebalance::{BalanceFault, append_any, balance, cat_any, is_balanced, substr_any};
-use rope_node::{NodeSpace, Rope};
+use rope_node::{NodeId, NodeSpace, NodeView, Rope};
 use rope_store::Store;
 use std::process::Abort;
 
@@ -116,6 +117,49 @@ fn what_is_there_takes_no_node(rt: HostRuntime) {
         assert_same(&rt, &balanced(&rt, &mut store, rope), &rope);
     }
     assert_same(&rt, &store.count(), &count);
+}
+
+#[test]
+fn a_part_of_a_function_is_a_literal_below_32_bytes(rt: HostRuntime) {
+    let mut store: Store<Coded> = Store::new(rt.alloc());
+    let fill = function(&rt, &mut store, Coded::fill(b'x'), 100);
+    let b = NodeId(0);
+    for (n, view, depth) in [
+        (31, NodeView::Lit { a: 0 }, 0),
+        (32, NodeView::Sub { b, i: 10 }, 1),
+    ] {
+        let part = substr(&rt, &mut store, fill, 10, n);
+        let shallow = balanced(&rt, &mut store, part);
+        assert_shape(&rt, &store, shallow, view, n, depth);
+    }
+    assert!(rt; store.pool_len() == 31);
+    assert_same(&rt, &store.pool(0), &[b'x'; 31].as_slice());
+}
+
+// Node 0 is a literal and node 1 a part of a source. Both joined is a node, and six bytes over the joint another; of
+// these balancing makes three more: the left leaf's part, the right one's, and both joined.
+#[test]
+fn parts_of_literals_and_sources_are_such_leaves(rt: HostRuntime) {
+    let mut store: Store<Coded> = Store::new(rt.alloc());
+    let s = add_source(&rt, &mut store, 20);
+    let text = literal(&rt, &mut store, b"abcde");
+    let source = source_leaf(&rt, &mut store, s, 7, 5);
+    for (l, r, root) in [(text, source, 6), (source, text, 11)] {
+        let both = joined(&rt, &mut store, l, r);
+        let part = substr(&rt, &mut store, both, 2, 6);
+        let shallow = balanced(&rt, &mut store, part);
+        assert_same(&rt, &shallow, &Some(NodeId(root)));
+        assert_same(&rt, &size_of(&rt, &store, shallow), &(6, 1));
+    }
+    for (node, view) in [
+        (4, NodeView::Lit { a: 2 }),
+        (5, NodeView::Src { s, a: 7 }),
+        (9, NodeView::Src { s, a: 9 }),
+        (10, NodeView::Lit { a: 0 }),
+    ] {
+        assert_shape(&rt, &store, Some(NodeId(node)), view, 3, 0);
+    }
+    assert_same(&rt, &store.pool_len(), &5);
 }
 
 /// A byte put in at this place.

@@ -22,7 +22,7 @@ fn cat_plain(rt: &impl Abort, store: &mut Store<Coded>, l: NodeId, r: NodeId) ->
 }
 
 /// The rope is this node, of this length and depth.
-fn assert_shape(
+pub(super) fn assert_shape(
     rt: &impl Abort,
     store: &Store<Coded>,
     rope: Rope,
