@@ -56,6 +56,7 @@ printf 'new\n\ninsert 0 1 "x"\n' > script_past_the_end
 printf 'new\n\nback 7\n' > script_of_no_revision
 printf 'new\ncut 0 1 2\n' > script_of_long_cuts
 printf '# one more byte\ninsert 1 3 "d"\n' > script_of_d
+printf 'new\ninsert 0 0 "a"\ninsert 1 1 "b"\n' > script_of_a_and_b
 sixty=$(yes a | head -n 60 | tr -d '\n')
 printf 'new\ninsert 0 0 "%sb"\n' "$sixty" > script_of_61
 printf 'new # 0: 0 bytes, depth 0, 0 rows\ninsert 0 0 "%s"... # 1: 61 bytes, depth 0, balanced, 1 rows\n' "$sixty" > brief_log
@@ -532,6 +533,7 @@ an image to write that is not there;migrate missing;;3;;read\n
 an image in version 2 on a full device;migrate one_insert;;3;/dev/full;write\n
 a script makes the image of its session;apply script_of_abc;;0;@one_insert_in_two;
 a script by a pipe does;apply /dev/stdin;script_of_abc;0;@one_insert_in_two;
+a letter behind another is in its literal;apply script_of_a_and_b;;0;@literal_grown_in_place;
 a text of a script is shown;show $("$program" apply script > applied && echo applied) 3;;0;A\nthe_dog;
 the last text of a script is shown;show $("$program" apply script > applied && echo applied) 4;;0;the;
 a text of a script over a source is shown;show $("$program" apply script_over_a_source abc > applied && echo applied) 6 abc;;0;--aabbcabc;

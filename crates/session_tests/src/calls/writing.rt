@@ -11,7 +11,9 @@ use byte_output::WriteFault;
 use command_parts::{Edit, Splice};
 use edit_commands::{Command, Session};
 use image_reader::{FormatVersion, Image, Revision};
-use rope_node::{NodeId, NodeView};
+use lazy_file::MemSources;
+use rope_node::{NodeId, NodeSpace, NodeView};
+use session_checker::check;
 use session_image::{
     Counts, Record, header_record, node_record, restate, revision_record, row_record,
     source_record, splice_record, write,
@@ -45,6 +47,10 @@ fn two_insertions_take_346_bytes(rt: HostRuntime) {
     let image = written(&rt, &session);
     assert_same(&rt, &image, &image_of(&rt, &wanted));
     assert_same(&rt, &image.len(), &346);
+    let mut none = MemSources::new(rt.alloc());
+    let checked = check(&image, &mut none).expect(&rt, "the image is accepted");
+    let counts = (checked.revisions(), checked.count(), checked.rows());
+    assert_same(&rt, &counts, &(3, 2, 3));
 }
 
 #[test]
