@@ -75,4 +75,5 @@ fn a_byte_less_is_not_balanced()
     ensures two { ¬ IsBalanced 2 2 }
     ensures three { ¬ IsBalanced 4 3 }
     ensures four { ¬ IsBalanced 7 4 }
+    ensures less_than_four { ¬ IsBalanced 5 4 }
 {}
