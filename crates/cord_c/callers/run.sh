@@ -2,7 +2,8 @@
 # run.sh [IMAGES [PROGRAM]]: builds the callers in C, Rust and Python over out/libcord_c.a, which `make library` makes, and compares what they answer:
 # each on every worked image with the tables of tests/vectors; and each, with the second checker and with the built cordkit, or PROGRAM, on so many
 # images that chance makes, whole and damaged (2,100 if left out). Then the header in C++, and examples/check_many.py over a folder of images. What is
-# not installed is left out, and said so. The last line is 'N passed, M failed'; the status is not 0 where one failed.
+# not installed is left out, and said so. With CFLAGS the callers in C and C++ are built so, as CFLAGS=-fsanitize=address. The last line is 'N passed,
+# M failed'; the status is not 0 where one failed.
 set -u
 here=$(cd "$(dirname "$0")" && pwd)
 top=$(cd "$here/../../.." && pwd)
@@ -42,7 +43,8 @@ callers=
 pairs=
 if has gcc; then
     for caller in check show; do
-        try gcc -std=c11 -O2 -Wall -Wextra -pedantic -Werror -o "${caller}_c" "$here/$caller.c" "$library"
+        # shellcheck disable=SC2086 # each flag is a word
+        try gcc -std=c11 -O2 ${CFLAGS:-} -Wall -Wextra -pedantic -Werror -o "${caller}_c" "$here/$caller.c" "$library"
     done
     callers="$callers c"
     pairs="$pairs ./check_c ./show_c"
@@ -50,7 +52,8 @@ else
     echo "LEFT OUT: the callers in C, and in Python: there is no gcc here"
 fi
 if has g++; then
-    try g++ -Wall -Wextra -pedantic -Werror -o check_cpp "$here/check.cpp" "$library"
+    # shellcheck disable=SC2086 # each flag is a word
+    try g++ ${CFLAGS:-} -Wall -Wextra -pedantic -Werror -o check_cpp "$here/check.cpp" "$library"
     callers="$callers cpp"
 else
     echo "LEFT OUT: the header in C++: there is no g++ here"
