@@ -327,7 +327,11 @@ gone_on() {
     clean; rm -f state; cp other.cord image; begin A --keep=image.keys --session=state image; type_keys A abc; await has_keys image.keys abc; kill -9 "$a"; close A
     write_other more; cp other.cord image; begin A --keep=image.keys --session=state image; type_keys A '\030'; close A
     is 'what was there at its beginning' "$(refusal A) $(image_of image) $(image_of image.saved-1) $(body)" '1 refused J4 more abc abc'; rm -f state
-    clean; rm -f state; begin A --keep=image.keys --session=state image; await test -s state; type_keys A '\003'; close A; is 'left' "$got $(files) $(echo state)" '0  state'; rm -f state
+    clean; rm -f state; begin A --keep=image.keys --session=state image; await test -s state; type_keys A '\003'; close A; is 'left' "$got $(files) $(echo state)" '0  state'
+    begin A --keep=image.keys --session=state image; type_keys A 'a\030'; close A; is 'and begins again' "$got $(text) $(files) $(echo state*)" '0 a image state*'
+    clean; rm -f state; begin A --keep=image.keys --session=state image; type_keys A abc; await has_keys image.keys abc; kill -9 "$a"; close A
+    printf 'abc\030' | "$CORDKIT" edit image > /dev/null; begin A --keep=image.keys --session=state image; type_keys A '\030'; close A
+    is 'its own image is there already' "$got $(text) $(files) $(echo state*)" '0 abc image state*'
 }
 
 two_files_of_keys() {
