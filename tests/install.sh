@@ -320,19 +320,21 @@ try_pages() {
 
 # ---- Completions
 
-# What a shell makes of the keys of a table, in which a tab stands as a star: the words that the command then gets, each behind a bar.
+# What a shell makes of the keys of a table, in which a tab stands as a star: the words that the command then gets, each behind a bar. A third field
+# has those that zsh makes where they are others.
 try_typed() {
     name=$1
     shift
     : > got
-    while IFS=';' read -r typed wanted; do
+    while IFS=';' read -r typed _; do
         printf '%s\n' "$typed"
     done < table | tr '*' '\t' > keys
     echo exit >> keys
     ZDOTDIR=$room/zsh timeout 60 script -qec "$*" /dev/null < keys > ../screen 2>&1
     n=0
-    while IFS=';' read -r typed wanted; do
+    while IFS=';' read -r typed wanted in_zsh; do
         n=$((n + 1))
+        [ "$name" != zsh ] || wanted=${in_zsh:-$wanted}
         is_same "$name completes '$typed'" "$(sed -n "${n}p" got)" "$wanted"
     done < table
 }
@@ -368,7 +370,7 @@ cordkit f*1* te* te*;|find|1|te|text
 cordkit find --al*1* te* te*;|find|--all|1|te|text
 cordkit cm*te*a*te*;|cmp|text|a file|te
 cordkit ed*ses*te*;|edit|session.cord|text
-cordkit edit --k*te* ses*te*;|edit|--keep|text|session.cord|text
+cordkit edit --k*te* ses*te*;|edit|--keep|text|session.cord|text;|edit|--keep=text|session.cord|text
 cordkit edit --keep=te* ses*te*;|edit|--keep=text|session.cord|text
 cordkit help mi*mi*;|help|migrate|mi
 cordkit --h*;|--help
