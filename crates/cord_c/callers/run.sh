@@ -2,8 +2,8 @@
 # run.sh [IMAGES [PROGRAM]]: builds the callers in C, Rust and Python over out/libcord_c.a, which `make library` makes, and compares what they answer:
 # each on every worked image with the tables of tests/vectors; and each, with the second checker and with the built cordkit, or PROGRAM, on so many
 # images that chance makes, whole and damaged (2,100 if left out). Then the header in C++, and examples/check_many.py over a folder of images. What is
-# not installed is left out, and said so. With CFLAGS the callers in C and C++ are built so, as CFLAGS=-fsanitize=address. The last line is 'N passed,
-# M failed'; the status is not 0 where one failed.
+# not installed is left out, and said so. With CFLAGS the callers in C and C++ are built so, as CFLAGS=-fsanitize=address (and ASAN_OPTIONS=detect_leaks=0,
+# for they hold their files to the end). The last line is 'N passed, M failed'; the status is not 0 where one failed.
 set -u
 here=$(cd "$(dirname "$0")" && pwd)
 top=$(cd "$here/../../.." && pwd)
