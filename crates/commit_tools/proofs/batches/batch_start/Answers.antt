@@ -20,5 +20,5 @@ loop-first-preserved c =
       some = omega (arith, c.loop-first.invariant.some);
       few = omega (arith, c.if-left-first.true, c.loop-first-test.true);
       apart = apart_more c.args.found.now.changes.items first c.args.left zero (omega (arith, c.loop-first-test.true)) c.loop-first.invariant.some c.requires.inside
-      (subst (λ (xs : List Change). (get_or xs (first - 1) zero).to < (get_or xs first zero).from) c.deref-changes.ensures.value c.if-changes-first.false) c.loop-first.invariant.apart;
+          (subst (λ (xs : List Change). (get_or xs (first - 1) zero).to < (get_or xs first zero).from) c.deref-changes.ensures.value c.if-changes-first.false) c.loop-first.invariant.apart;
     }
