@@ -48,8 +48,8 @@ pub record HandsBatch (found : Found) (file : List ℕ) (first left : ℕ) (last
       (map (shifted found.front) (slice_range found.changes.items first left))
       (bytes_put (file_middle found file) (slice_range found.changes.items first left)) command
 
--- batches lead from a session to one behind which the changes up to number `first` are left; each of them but the last
--- begins where the one behind it ends, which these numbers tell, the last batch's first
+-- Batches were taken one by one, the last changes first, and lead from `begun` to `last`: the changes before number
+-- `first` are left. The list has the number at which each batch ends, that of the last one taken first.
 abbrev pub LeadsTo : Found → List ℕ → SessionValue → List ℕ → ℕ → SessionValue → Type 0
 LeadsTo found file begun [] first last = (first ≡ length found.changes.items) × (last ≡ begun)
 LeadsTo found file begun (left ∷ lefts) first last =
