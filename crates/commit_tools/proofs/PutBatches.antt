@@ -88,6 +88,7 @@ fails_later found file first left begun last new (Edit fault) leads stops = reco
   first = first;
   command = stops.command;
   hands = stops.hands;
+  no_memory = stops.no_memory;
   after = new;
   stops = stops.stops;
 }
@@ -124,7 +125,8 @@ put_made found file first left batch old new command (Ok u) is order few apart h
 put_made found file first left batch old new command (Err (Edit fault)) is order few apart handed some many makes = record {
   command = command;
   hands = batch_hands found file first left batch old command order few apart handed many;
-  stops = makes;
+  no_memory = makes.0;
+  stops = makes.1;
 }
 put_made found file first left batch old new command (Err Memory) is order few apart handed some many makes = tt
 put_made found file first left batch old new command (Err (Check fault)) is order few apart handed some many makes = absurd makes
@@ -140,7 +142,7 @@ begun_empty old new command (Ok u) none is makes =
       omega (arith, ap length applies.revisions, length_push old.revisions applies.made, ap length none),
       empty_root old new makes.0 command is applies,
     )
-begun_empty old new command (Err (Edit fault)) none is makes = record { command = command; is = is; after = new; stops = makes }
+begun_empty old new command (Err (Edit fault)) none is makes = record { command = command; is = is; no_memory = makes.0; after = new; stops = makes.1 }
 begun_empty old new command (Err Memory) none is makes = tt
 begun_empty old new command (Err (Check fault)) none is makes = absurd makes
 begun_empty old new command (Err (TakeUp fault)) none is makes = absurd makes

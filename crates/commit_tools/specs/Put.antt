@@ -5,6 +5,7 @@ use Rattle.edit_commands.specs.Session.{SessionValue}
 use Rattle.edit_commands.specs.Applying.{Applies, AppliesOrNot}
 use Rattle.edit_commands.specs.declared.command.Command.{Command}
 use Rattle.edit_commands.specs.declared.fault.EditFault.{EditFault}
+use Rattle.edit_commands.specs.declared.fault.EditFault.TheVariants as EditFault
 use Rattle.saved_session.specs.GoneFurther.{GoesFurther}
 use Rattle.commit_tools.specs.Texts.{OverLast, last_root, last_text}
 use Rattle.commit_tools.specs.Found.{text_from}
@@ -16,7 +17,8 @@ use Rattle.commit_tools.specs.declared.found.Found.{Found}
 -- a command makes its revision, or the session does not take it, or memory is refused
 abbrev pub TakesCommand : SessionValue → Command → Result (Unit {0}) CommitFault → SessionValue → Type 0
 TakesCommand old command (Ok u) new = (k : ℕ) × Applies old command k new
-TakesCommand old command (Err (Edit fault)) new = AppliesOrNot old command (Err fault) new
+TakesCommand old command (Err (Edit fault)) new =
+    (fault ≢ EditFault.Memory) × AppliesOrNot old command (Err fault) new
 TakesCommand old command (Err Memory) new = Unit {0}
 TakesCommand old command (Err other) new = ⊥
 
@@ -40,6 +42,7 @@ pub record RefusesBatch (found : Found) (file : List ℕ) (first left : ℕ) (ol
     (new : SessionValue) : Type 0 where
   pub command : Command
   pub hands : HandsBatch found file first left old command
+  pub no_memory : fault ≢ EditFault.Memory
   pub stops : AppliesOrNot old command (Err fault) new
 
 -- a batch is taken or not, or memory is refused

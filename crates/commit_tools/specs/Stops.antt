@@ -1,5 +1,5 @@
 -- A session that stops on its way to a file's text.
-use Rattle.std.specs.Prelude.{◌≡◌, ℕ, ◌+◌, ◌-◌, ◌<◌, ◌≤◌, List, [], ◌∷◌, length, map, slice_range, Err}
+use Rattle.std.specs.Prelude.{◌≡◌, ◌≢◌, ℕ, ◌+◌, ◌-◌, ◌<◌, ◌≤◌, List, [], ◌∷◌, length, map, slice_range, Err}
 use Rattle.lazy_file.specs.SourceTexts.{Stated}
 use Rattle.rope_node.specs.Denotes.{rope_len}
 use Rattle.command_parts.specs.declared.edit.TheConstants.{MOST_SPLICES}
@@ -9,6 +9,7 @@ use Rattle.edit_commands.specs.declared.command.Change as Session
 use Rattle.edit_commands.specs.declared.command.Command.{Command}
 use Rattle.edit_commands.specs.declared.command.Command.TheVariants.{New, Many}
 use Rattle.edit_commands.specs.declared.fault.EditFault.{EditFault}
+use Rattle.edit_commands.specs.declared.fault.EditFault.TheVariants as EditFault
 use Rattle.line_changes.specs.declared.change.Change.{Change}
 use Rattle.commit_tools.specs.Texts.{OverLast, last_root, last_text}
 use Rattle.commit_tools.specs.Found.{IsBeside, file_middle, text_before}
@@ -67,6 +68,7 @@ pub record StopsAtBatch (found : Found) (file : List ℕ) (begun : SessionValue)
   pub first : ℕ
   pub command : Command
   pub hands : HandsBatch found file first left last command
+  pub no_memory : fault ≢ EditFault.Memory
   pub after : SessionValue
   pub stops : AppliesOrNot last command (Err fault) after
 
@@ -82,6 +84,7 @@ pub record StopsBehind (st : Stated) (begun : SessionValue) (file : List ℕ) (f
 pub record StopsAtNew (begun : SessionValue) (fault : EditFault) : Type 0 where
   pub command : Command
   pub is : IsNew command
+  pub no_memory : fault ≢ EditFault.Memory
   pub after : SessionValue
   pub stops : AppliesOrNot begun command (Err fault) after
 
