@@ -74,14 +74,14 @@ goes_through x y = record {
 
 -- batches that lead on to one more
 abbrev pub Leads : Found → List ℕ → SessionValue → ℕ → SessionValue → Type 0
-Leads found file begun left last = (lefts : List ℕ) × LeadsTo found file begun lefts left last
+Leads found file begun left last = (ends : List ℕ) × LeadsTo found file begun ends left last
 
 pub leads_on : (found : Found) (file : List ℕ) (first left : ℕ) (begun before last : SessionValue) → Leads found file begun left before → TakesBatch found file first left before last → Leads found file begun first last
 leads_on found file first left begun before last leads takes = (left ∷ leads.0, (before, takes.command, takes.k, leads.1, takes.hands, takes.applies))
 
 pub fails_later : (found : Found) (file : List ℕ) (first left : ℕ) (begun last new : SessionValue) (fault : CommitFault) → Leads found file begun left last → PutsBatch found file first left last (Err fault) new → PutsAll found file begun (Err fault) new
 fails_later found file first left begun last new (Edit fault) leads stops = record {
-  lefts = leads.0;
+  ends = leads.0;
   left = left;
   last = last;
   leads = leads.1;

@@ -53,18 +53,18 @@ pub record HandsBatch (found : Found) (file : List ℕ) (first left : ℕ) (last
 -- `first` are left. The list has the number at which each batch ends, that of the last one taken first.
 abbrev pub LeadsTo : Found → List ℕ → SessionValue → List ℕ → ℕ → SessionValue → Type 0
 LeadsTo found file begun [] first last = (first ≡ length found.changes.items) × (last ≡ begun)
-LeadsTo found file begun (left ∷ lefts) first last =
-    (before : SessionValue) × (command : Command) × (k : ℕ) × LeadsTo found file begun lefts left before
+LeadsTo found file begun (left ∷ ends) first last =
+    (before : SessionValue) × (command : Command) × (k : ℕ) × LeadsTo found file begun ends left before
     × HandsBatch found file first left before command × Applies before command k last
 
 -- ---- where it stops
 
 -- a batch is not taken, behind those before it
 pub record StopsAtBatch (found : Found) (file : List ℕ) (begun : SessionValue) (fault : EditFault) : Type 0 where
-  pub lefts : List ℕ
+  pub ends : List ℕ
   pub left : ℕ
   pub last : SessionValue
-  pub leads : LeadsTo found file begun lefts left last
+  pub leads : LeadsTo found file begun ends left last
   pub first : ℕ
   pub command : Command
   pub hands : HandsBatch found file first left last command
