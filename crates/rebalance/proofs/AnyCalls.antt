@@ -1,6 +1,7 @@
 -- The calls behind the balancing.
 use Rattle.std.proofs.Common.{◌≡◌, ℕ, ◌+◌, ◌*◌, ◌^◌, ◌<◌, ◌≤◌, ◌-◌, ◌++◌, ⊎_elim, inl, inr, Bool, true, false, List, [], ◌∷◌, map, take, drop, length, min, Option, Some, None, Result, Ok, Err, sym, ap, subst, ◌∙◌, refl, arith}
 use Rattle.leaf_buffer.specs.declared.block.TheConstants.{BLOCK_SIZE}
+use Rattle.leaf_buffer.specs.declared.pool.TheConstants.{POOL_LIMIT}
 use Rattle.std.specs.Prelude.{IsErrOf}
 use Rattle.std.proofs.Math.Seq.{drop-append_seam}
 use Rattle.leaf_buffer.specs.Contents.{Contents}
@@ -15,7 +16,7 @@ use Rattle.node_table.specs.Held.{Held, table_of}
 use Rattle.rope_store.specs.Additions.{Addition, Makes, node_part, part_added, pool_with}
 use Rattle.rope_store.specs.Appending.{Appends, AppendsTooLong}
 use Rattle.rope_store.specs.Joining.{joined}
-use Rattle.rope_store.specs.Refusals.{Refuses, IsTooDeep, deepest}
+use Rattle.rope_store.specs.Refusals.{Refuses, IsTooDeep, PassesPoolLimit, deepest}
 use Rattle.rope_node.proofs.Cells.{cells_length}
 use Rattle.rope_store.proofs.PartTexts.{no_part, take_least}
 use Rattle.rope_store.proofs.CallSizes.{joined_few, joined_shallow, part_few, sized_append}
@@ -29,6 +30,7 @@ use Rattle.rebalance.specs.Steps.{Grows}
 use Rattle.rebalance.proofs.AnyLaws.{any_anew, any_plain, any_plain_if, rebuilt_anew, rebuilt_grows, called_anew, few_pieces, stands_earlier, stands_for, stands_later, unchanged_at}
 use Rattle.rebalance.proofs.AnyDepths.{append_roughly, joined_roughly, nearly_kept}
 use Rattle.rebalance.proofs.Filling.{whole_text}
+use Rattle.rebalance.proofs.FullStores.{append_some, joined_some, nodes_wanted}
 use Rattle.rebalance.proofs.PieceCounts.{all_pieces_kept}
 use Rattle.rebalance.proofs.PieceWays.{GoesDown, stays_here}
 use Rattle.rebalance.proofs.StepLaws.{grows_through, grows_within}
@@ -48,11 +50,17 @@ all_rebuilt meaning old new keep node n result s h there all built =
     let built' = subst (λ (k : ℕ). Rebuilds meaning old (take n (drop 0 (cells t node.0))) (piece_count keep t node.0 0 k) result new) all built in
     subst (λ cs. Rebuilds meaning old cs (piece_count keep t node.0 0 (len_at t node.0)) result new) text built'
 
-pub cat_called : {F : Type 0} (meaning : F → ℕ → ℕ) (old one two new : Held F) (l r left right : Option NodeId) (plain : Result (Option NodeId) NodeFault) → IsRight F meaning old → IsRight F meaning one → IsRight F meaning two → IsRope (table_of meaning old) l → IsRope (table_of meaning old) r
+-- a part adds no byte
+part_wanted : {F : Type 0} (old : Held F) (t : Table) (x : Option NodeId) (i n : ℕ) → length old.pool.bytes < POOL_LIMIT → PassesPoolLimit old (part_added {F = F} t x i n) → 1 ≤ length (part_added {F = F} t x i n).records
+part_wanted {F = F} old t x i n below =
+    let few = part_few {F = F} t x i n in
+    nodes_wanted old (part_added t x i n) below (λ some. absurd (omega (arith, some, few.bytes_added)))
+
+pub cat_called : {F : Type 0} (meaning : F → ℕ → ℕ) (old one two new : Held F) (l r left right : Option NodeId) (plain : Result (Option NodeId) NodeFault) → IsRight F meaning old → IsRight F meaning one → IsRight F meaning two → length two.pool.bytes < POOL_LIMIT → IsRope (table_of meaning old) l → IsRope (table_of meaning old) r
     → rope_len (table_of meaning old) l + rope_len (table_of meaning old) r < 2 ^ 40 → Rebuilds meaning old (rope_cells (table_of meaning old) l) (kept_pieces (table_of meaning old) l) (Ok left) one → Rebuilds meaning one (rope_cells (table_of meaning one) r) (kept_pieces (table_of meaning one) r) (Ok right) two
     → Makes meaning two (joined (table_of meaning two) left right) (rope_cells (table_of meaning two) left ++ rope_cells (table_of meaning two) right) plain new → Refuses two (joined (table_of meaning two) left right) ⊥ (2 ^ 40 ≤ rope_len (table_of meaning two) left + rope_len (table_of meaning two) right) plain
     → Anew meaning old (rope_cells (table_of meaning old) l ++ rope_cells (table_of meaning old) r) (cat_growth (table_of meaning old) l r) (lifted plain) new
-cat_called {F = F} meaning old one two new l r left right plain k0 k1 k2 left_there right_there short first second made refuses =
+cat_called {F = F} meaning old one two new l r left right plain k0 k1 k2 below left_there right_there short first second made refuses =
     let t0 = table_of meaning old in
     let t1 = table_of meaning one in
     let t2 = table_of meaning two in
@@ -65,7 +73,7 @@ cat_called {F = F} meaning old one two new l r left right plain k0 k1 k2 left_th
     let grows : Grows meaning old (length old.nodes + (2 * p + 2 * q)) (length old.pool.bytes + (31 * p + 31 * q)) two =
     grows_through (rebuilt_grows first) (rebuilt_grows second) (omega (arith, second.few_nodes, first.few_nodes, same)) (omega (arith, second.few_bytes, first.few_bytes, same)) in
     called_anew meaning old two new (joined t2 left right) (rope_cells t0 l ++ rope_cells t0 r) (rope_cells t2 left ++ rope_cells t2 right) (2 ^ 40 ≤ rope_len t2 left + rope_len t2 right) p q 2 31 plain grows (few_pieces first) (λ many. few_pieces second (omega (arith, many, same)))
-    (joined_few t2 k2.sound k2.true_records left right a.is_rope b.is_rope) (joined_shallow F t2 k2.sound k2.true_records left right a.is_rope b.is_rope a.shallow b.shallow)
+    (joined_few t2 k2.sound k2.true_records left right a.is_rope b.is_rope) (nodes_wanted two (joined t2 left right) below (joined_some F t2 left right)) (joined_shallow F t2 k2.sound k2.true_records left right a.is_rope b.is_rope a.shallow b.shallow)
     (λ long. absurd (omega (arith, long, a.len, b.len, short))) made refuses (rw (a.text, b.text) refl)
     (joined_roughly meaning two new (rope_cells t2 left ++ rope_cells t2 right) left right k2.sound k2.true_records a.is_rope b.is_rope (nearly_kept t1 t2 second.kept left first.is_rope first.shallow) second.shallow plain made)
 
@@ -143,15 +151,15 @@ none_there t (Some y) i n none node is =
     let few : min n (len_at t y.0 - i) ≡ 0 = none y refl in
     omega (arith, few)
 
-pub part_none : {F : Type 0} (meaning : F → ℕ → ℕ) (old new : Held F) (x : Option NodeId) (i n : ℕ) (plain : Result (Option NodeId) NodeFault) → IsRope (table_of meaning old) x → ((node : NodeId) → x ≡ Some node → min n (len_at (table_of meaning old) node.0 - i) ≡ 0)
+pub part_none : {F : Type 0} (meaning : F → ℕ → ℕ) (old new : Held F) (x : Option NodeId) (i n : ℕ) (plain : Result (Option NodeId) NodeFault) → length old.pool.bytes < POOL_LIMIT → IsRope (table_of meaning old) x → ((node : NodeId) → x ≡ Some node → min n (len_at (table_of meaning old) node.0 - i) ≡ 0)
     → Makes meaning old (part_added (table_of meaning old) x i n) (take n (drop i (rope_cells (table_of meaning old) x))) plain new → Refuses old (part_added (table_of meaning old) x i n) ⊥ ⊥ plain → PartsAny meaning old x i n (lifted plain) new
-part_none {F = F} meaning old new x i n plain there none made refuses =
+part_none {F = F} meaning old new x i n plain below there none made refuses =
     let t = table_of meaning old in
     let m = part_count t x i n in
     let nothing_there : (node : NodeId) → x ≡ Some node → min m (len_at t node.0 - i) ≡ 0 = none_there t x i n none in
     let shallow : ¬ IsTooDeep {F = F} (part_added t x i m) = no_bytes_shallow F t x i m nothing_there in
     let any : AnyForm meaning old (part_added t x i n) (take n (drop i (rope_cells t x))) ⊥ (part_growth (part_pieces t x i n)) (lifted plain) new =
-    any_plain meaning old new (part_added t x i n) (take n (drop i (rope_cells t x))) ⊥ (part_pieces t x i n) 0 1 0 plain (part_few t x i n) made refuses (λ e. no_bytes_shallow F t x i n none (refuses.too_deep.0 e).2) in
+    any_plain meaning old new (part_added t x i n) (take n (drop i (rope_cells t x))) ⊥ (part_pieces t x i n) 0 1 0 plain (part_few t x i n) (part_wanted old t x i n below) made refuses (λ e. no_bytes_shallow F t x i n none (refuses.too_deep.0 e).2) in
     record {
       inner = x;
       start = i;
@@ -197,14 +205,14 @@ part_is {F = F} meaning old new node i n inner start result fits lowest any rebu
     }
 
 -- the plain call takes the part of a lower node
-pub part_plain : {F : Type 0} (meaning : F → ℕ → ℕ) (old new : Held F) (node : NodeId) (i n : ℕ) (p : Span) (plain : Result (Option NodeId) NodeFault) → LeadsWithin (table_of meaning old) node.0 i n p → 1 ≤ n → i + n ≤ len_at (table_of meaning old) node.0
+pub part_plain : {F : Type 0} (meaning : F → ℕ → ℕ) (old new : Held F) (node : NodeId) (i n : ℕ) (p : Span) (plain : Result (Option NodeId) NodeFault) → length old.pool.bytes < POOL_LIMIT → LeadsWithin (table_of meaning old) node.0 i n p → 1 ≤ n → i + n ≤ len_at (table_of meaning old) node.0
     → Makes meaning old (part_added (table_of meaning old) (Some p.node) p.start n) (take n (drop p.start (cells (table_of meaning old) p.node.0))) plain new → Refuses old (part_added (table_of meaning old) (Some p.node) p.start n) ⊥ ⊥ plain → ¬ IsErrOf plain TooDeep
     → PartsAny meaning old (Some node) i n (lifted plain) new
-part_plain {F = F} meaning old new node i n p plain within some fits made refuses shallow =
+part_plain {F = F} meaning old new node i n p plain below within some fits made refuses shallow =
     let t = table_of meaning old in
     let a : Addition F = part_added t (Some p.node) p.start n in
     let made' : Makes meaning old a (take n (drop i (cells t node.0))) plain new = rw within.cells made in
-    let any = any_plain meaning old new a (take n (drop i (cells t node.0))) ⊥ (part_pieces t (Some node) i n) 0 1 0 plain (part_few t (Some p.node) p.start n) made' refuses shallow in
+    let any = any_plain meaning old new a (take n (drop i (cells t node.0))) ⊥ (part_pieces t (Some node) i n) 0 1 0 plain (part_few t (Some p.node) p.start n) (part_wanted old t (Some p.node) p.start n below) made' refuses shallow in
     part_is meaning old new node i n (Some p.node) p.start (lifted plain) fits (within_is_lowest t node i n p some fits within) any (λ deep. absurd (shallow (refuses.too_deep.1 ((λ bad. bad), (λ long. long), deep))))
 
 -- the part is put together alone
@@ -274,21 +282,22 @@ placed_at_once meaning old new x rope bytes place k there done none some = recor
   at_once = λ _. (refl, refl);
 }
 
-pub append_plain : {F : Type 0} (meaning : F → ℕ → ℕ) (old new : Held F) (x : Option NodeId) (bytes : List ℕ) (plain : Result (Option NodeId) NodeFault) → IsRight F meaning old → IsRope (table_of meaning old) x → Appends meaning old x bytes plain new → ¬ IsErrOf plain TooDeep
+pub append_plain : {F : Type 0} (meaning : F → ℕ → ℕ) (old new : Held F) (x : Option NodeId) (bytes : List ℕ) (plain : Result (Option NodeId) NodeFault) → IsRight F meaning old → length old.pool.bytes < POOL_LIMIT → IsRope (table_of meaning old) x → Appends meaning old x bytes plain new → ¬ IsErrOf plain TooDeep
     → AppendsAny meaning old x bytes (lifted plain) new
-append_plain meaning old new x bytes plain k there done shallow =
+append_plain meaning old new x bytes plain k below there done shallow =
     let t = table_of meaning old in
     record {
       addition = done.addition;
       is = done.is;
       any = any_plain_if meaning old new done.addition (rope_cells t x ++ map Byte bytes) (AppendsTooLong t x bytes) (kept_pieces t x) 0 3 (length bytes + 31) plain
-          (λ short. (sized_append old.pool t k.sound k.true_records x there bytes done.addition (done.is short)).few) done.makes done.refuses shallow;
+          (λ short. (sized_append old.pool t k.sound k.true_records x there bytes done.addition (done.is short)).few)
+          (λ short. nodes_wanted old done.addition below (append_some old.pool t x bytes done.addition (done.is short))) done.makes done.refuses shallow;
     }
 
-pub append_called : {F : Type 0} (meaning : F → ℕ → ℕ) (old one new : Held F) (x rope : Option NodeId) (bytes : List ℕ) (plain : Result (Option NodeId) NodeFault) → IsRight F meaning old → IsRight F meaning one → IsRope (table_of meaning old) x → ¬ AppendsTooLong (table_of meaning old) x bytes
+pub append_called : {F : Type 0} (meaning : F → ℕ → ℕ) (old one new : Held F) (x rope : Option NodeId) (bytes : List ℕ) (plain : Result (Option NodeId) NodeFault) → IsRight F meaning old → IsRight F meaning one → length one.pool.bytes < POOL_LIMIT → IsRope (table_of meaning old) x → ¬ AppendsTooLong (table_of meaning old) x bytes
     → Rebuilds meaning old (rope_cells (table_of meaning old) x) (kept_pieces (table_of meaning old) x) (Ok rope) one → Appends meaning one rope bytes plain new
     → Anew meaning old (rope_cells (table_of meaning old) x ++ map Byte bytes) (append_growth (table_of meaning old) x (length bytes)) (lifted plain) new
-append_called {F = F} meaning old one new x rope bytes plain k0 k1 there short first done =
+append_called {F = F} meaning old one new x rope bytes plain k0 k1 below there short first done =
     let t0 = table_of meaning old in
     let t1 = table_of meaning one in
     let a = stands_for meaning old one x rope _ k0.sound k0.true_records k1.sound k1.true_records there first in
@@ -298,5 +307,5 @@ append_called {F = F} meaning old one new x rope bytes plain k0 k1 there short f
     let p = kept_pieces t0 x in
     let grows : Grows meaning old (length old.nodes + (2 * p + 2 * 0)) (length old.pool.bytes + (31 * p + 31 * 0)) one = grows_within (rebuilt_grows first) (omega arith) (omega arith) in
     called_anew meaning old one new done.addition (rope_cells t0 x ++ map Byte bytes) (rope_cells t1 rope ++ map Byte bytes) (AppendsTooLong t1 rope bytes) p 0 3 (length bytes + 31) plain grows (few_pieces first) (λ many. omega (arith, many))
-    sized.few (λ deep. omega (arith, deep, low)) still done.makes done.refuses (rw a.text refl)
+    sized.few (nodes_wanted one done.addition below (append_some one.pool t1 rope bytes done.addition (done.is still))) (λ deep. omega (arith, deep, low)) still done.makes done.refuses (rw a.text refl)
     (append_roughly meaning one new (rope_cells t1 rope ++ map Byte bytes) rope bytes done.addition k1.sound k1.true_records a.is_rope first.shallow (done.is still) plain done.makes)

@@ -1,5 +1,5 @@
 -- From the store's calls and from balancing to the calls for any ropes.
-use Rattle.std.proofs.Common.{◌≡◌, false, ℕ, ◌+◌, ◌*◌, ◌<◌, ◌≤◌, true, ◌⊎◌, inl, inr, ⊎_elim, List, length, Option, Some, None, Result, Ok, Err, refl, sym, ap, subst, ◌∙◌, arith}
+use Rattle.std.proofs.Common.{◌≡◌, false, ℕ, ◌+◌, ◌*◌, ◌<◌, ◌≤◌, true, ◌⊎◌, inl, inr, ⊎_elim, max, List, length, Option, Some, None, Result, Ok, Err, refl, sym, ap, subst, ◌∙◌, arith}
 use Rattle.std.specs.Prelude.{IfOk, IfErr, OnErr, IsErrOf, IsTrue}
 use Rattle.std.proofs.lemmas.Bool.{cases_lt}
 use Rattle.rope_node.specs.declared.node.NodeId.{NodeId}
@@ -13,15 +13,16 @@ use Rattle.node_table.specs.declared.fault.NodeFault.{NodeFault}
 use Rattle.node_table.specs.declared.fault.NodeFault.TheVariants.{TooLong, TooDeep, TableFull, PoolFull, BadSpan, TooManySources, Memory}
 use Rattle.node_table.specs.Held.{Held, table_of, KeepsFunctions}
 use Rattle.rope_store.specs.Additions.{Addition, Makes}
-use Rattle.rope_store.specs.Refusals.{Refuses, IsTooDeep}
+use Rattle.rope_store.specs.Refusals.{Refuses, IsTooDeep, PassesPoolLimit}
 use Rattle.rope_store.proofs.CallSizes.{IsFew}
 use Rattle.rebalance.specs.declared.fault.BalanceFault.{BalanceFault}
 use Rattle.rebalance.specs.declared.fault.BalanceFault.TheVariants.{TooManyPieces, Node}
-use Rattle.rebalance.specs.AnyForms.{AnyForm, Anew, Growth, IsAnewFault, lifted, part_growth}
-use Rattle.rebalance.specs.Balancing.{IsNearlyBalanced, IsRoughlyBalanced, Rebuilds}
+use Rattle.rebalance.specs.AnyForms.{AnyForm, Anew, Growth, IsAnewFault, IsFullFor, lifted, part_growth}
+use Rattle.rebalance.specs.Balancing.{IsLeftFull, IsNearlyBalanced, IsRoughlyBalanced, Rebuilds}
 use Rattle.rebalance.specs.Pieces.{kept_pieces}
 use Rattle.rebalance.specs.declared.pieces.TheConstants.{MOST_PIECES}
-use Rattle.rebalance.specs.Steps.{IsStepFault, Grows}
+use Rattle.rebalance.specs.Steps.{IsFullAt, IsStepFault, Grows}
+use Rattle.rebalance.proofs.FullStores.{left_within, refused_full}
 use Rattle.rebalance.proofs.Fibonacci.{fibonacci_below, fibonacci_up, sixtieth}
 use Rattle.rebalance.proofs.PieceCounts.{all_pieces_kept}
 use Rattle.rebalance.proofs.StepLaws.{functions_itself, grows_through, grows_within}
@@ -56,6 +57,17 @@ lifted_fault (Err k) nodes bytes h = h
 abbrev pub growth : ℕ → ℕ → ℕ → ℕ → Growth
 growth p q more bytes = record { left_pieces = p; right_pieces = q; nodes = more; bytes = bytes }
 
+lifted_full : {F : Type 0} {A : Type 0} (h : Held F) (plain : Result A NodeFault) (nodes bytes : ℕ) → IfErr plain (IsFullAt h nodes bytes) → IfErr (lifted plain) (IsLeftFull h nodes bytes)
+lifted_full h (Ok a) nodes bytes full = tt
+lifted_full h (Err k) nodes bytes full = full
+
+-- the plain call is one step
+plain_full : {F : Type 0} {meaning : F → ℕ → ℕ} {old new : Held F} {a : Addition F} {wanted : List Cell} {IsLong : Type 0} (p q more bytes : ℕ) (plain : Result (Option NodeId) NodeFault) → (¬ IsLong → IsFew a more bytes) → (¬ IsLong → PassesPoolLimit old a → 1 ≤ length a.records)
+    → Makes meaning old a wanted plain new → Refuses old a ⊥ IsLong plain → IfErr (lifted plain) (IsFullFor (growth p q more bytes) new)
+plain_full {new = new} p q more bytes plain few some made refuses =
+    lifted_full new plain more (max 31 bytes)
+    (refused_full plain more (max 31 bytes) made refuses (λ short. let size = few short in record { records = size.records; bytes_added = omega (arith, size.bytes_added) }) some)
+
 -- what the plain call adds at most
 any_grows : {F : Type 0} {meaning : F → ℕ → ℕ} {old new : Held F} {a : Addition F} {wanted : List Cell} {IsLong : Type 0} (p q more bytes : ℕ) (plain : Result (Option NodeId) NodeFault) → (¬ IsLong → IsFew a more bytes) → Makes meaning old a wanted plain new → Refuses old a ⊥ IsLong plain
     → Grows meaning old (length old.nodes + (2 * p + 2 * q + more)) (length old.pool.bytes + (31 * p + 31 * q + bytes)) new
@@ -74,9 +86,9 @@ any_grows {F = F} {old = old} p q more bytes (Err e) few made refuses =
     }
 
 -- the plain call does it
-pub any_plain_if : {F : Type 0} (meaning : F → ℕ → ℕ) (old new : Held F) (a : Addition F) (wanted : List Cell) (IsLong : Type 0) (p q more bytes : ℕ) (plain : Result (Option NodeId) NodeFault) → (¬ IsLong → IsFew a more bytes) → Makes meaning old a wanted plain new → Refuses old a ⊥ IsLong plain → ¬ IsErrOf plain TooDeep
+pub any_plain_if : {F : Type 0} (meaning : F → ℕ → ℕ) (old new : Held F) (a : Addition F) (wanted : List Cell) (IsLong : Type 0) (p q more bytes : ℕ) (plain : Result (Option NodeId) NodeFault) → (¬ IsLong → IsFew a more bytes) → (¬ IsLong → PassesPoolLimit old a → 1 ≤ length a.records) → Makes meaning old a wanted plain new → Refuses old a ⊥ IsLong plain → ¬ IsErrOf plain TooDeep
     → AnyForm meaning old a wanted IsLong (growth p q more bytes) (lifted plain) new
-any_plain_if meaning old new a wanted IsLong p q more bytes plain few made refuses shallow = record {
+any_plain_if meaning old new a wanted IsLong p q more bytes plain few some made refuses shallow = record {
   gives = record {
     is_rope = lifted_ok (λ r. IsRope (table_of meaning new) r) plain made.is_rope;
     text = lifted_ok (λ r. rope_cells (table_of meaning new) r ≡ wanted) plain made.text;
@@ -94,14 +106,15 @@ any_plain_if meaning old new a wanted IsLong p q more bytes plain few made refus
       let full = refuses.pool_full.0 (lifted_err plain PoolFull e) in
       let size = few full.1 in
       omega (arith, full.4, size.bytes_added);
+  full = plain_full p q more bytes plain few some made refuses;
   not_deep = λ e. shallow (lifted_err plain TooDeep e);
   no_bad_span = λ e. refuses.bad_span.0 (lifted_err plain BadSpan e);
   no_source = λ e. refuses.no_other (lifted_err plain TooManySources e);
 }
 
-pub any_plain : {F : Type 0} (meaning : F → ℕ → ℕ) (old new : Held F) (a : Addition F) (wanted : List Cell) (IsLong : Type 0) (p q more bytes : ℕ) (plain : Result (Option NodeId) NodeFault) → IsFew a more bytes → Makes meaning old a wanted plain new → Refuses old a ⊥ IsLong plain → ¬ IsErrOf plain TooDeep
+pub any_plain : {F : Type 0} (meaning : F → ℕ → ℕ) (old new : Held F) (a : Addition F) (wanted : List Cell) (IsLong : Type 0) (p q more bytes : ℕ) (plain : Result (Option NodeId) NodeFault) → IsFew a more bytes → (PassesPoolLimit old a → 1 ≤ length a.records) → Makes meaning old a wanted plain new → Refuses old a ⊥ IsLong plain → ¬ IsErrOf plain TooDeep
     → AnyForm meaning old a wanted IsLong (growth p q more bytes) (lifted plain) new
-any_plain meaning old new a wanted IsLong p q more bytes plain few made refuses shallow = any_plain_if meaning old new a wanted IsLong p q more bytes plain (λ _. few) made refuses shallow
+any_plain meaning old new a wanted IsLong p q more bytes plain few some made refuses shallow = any_plain_if meaning old new a wanted IsLong p q more bytes plain (λ _. few) (λ _. some) made refuses shallow
 
 anew_fault : {A : Type 0} (result : Result A BalanceFault) (nodes bytes : ℕ) (e : BalanceFault) → IfErr result (IsAnewFault nodes bytes) → IsErrOf result e → IsAnewFault nodes bytes e
 anew_fault {A = A} result nodes bytes e h is = subst (λ (r : Result A BalanceFault). IfErr r (IsAnewFault nodes bytes)) is h
@@ -125,6 +138,7 @@ any_anew meaning old new a wanted IsLong p q more bytes result short deep anew =
   too_many = λ e. (deep, short);
   table_full = anew_fault result _ _ (Node TableFull) anew.fault;
   pool_full = anew_fault result _ _ (Node PoolFull) anew.fault;
+  full = anew.full;
   not_deep = anew_fault result _ _ (Node TooDeep) anew.fault;
   no_bad_span = anew_fault result _ _ (Node BadSpan) anew.fault;
   no_source = anew_fault result _ _ (Node TooManySources) anew.fault;
@@ -164,6 +178,10 @@ rebuilt_fault (Node BadSpan) nodes bytes r n b = absurd (r.no_bad_span refl)
 rebuilt_fault (Node TooManySources) nodes bytes r n b = absurd (r.no_source refl)
 rebuilt_fault (Node Memory) nodes bytes r n b = tt
 
+-- a step of balancing wants a node and the bytes of a short literal
+rebuilt_full : {F : Type 0} {meaning : F → ℕ → ℕ} {old new : Held F} {cs : List Cell} {p : ℕ} (l q more bytes : ℕ) (e : BalanceFault) → 1 ≤ more → Rebuilds meaning old cs p (Err e) new → IsFullFor (growth l q more bytes) new e
+rebuilt_full {new = new} l q more bytes e some r = left_within new 1 31 more (max 31 bytes) e some (omega arith) r.full
+
 -- what was put together has few pieces
 pub few_pieces : {F : Type 0} {meaning : F → ℕ → ℕ} {old new : Held F} {wanted : List Cell} {p : ℕ} {balanced : Option NodeId} → Rebuilds meaning old wanted p (Ok balanced) new → ¬ (MOST_PIECES < p)
 few_pieces r many = let is = r.too_many.1 many in absurd cc
@@ -184,14 +202,15 @@ many_anew meaning old wanted p q more bytes not_few = record {
   );
   unchanged = λ _. refl;
   fault = tt;
+  full = tt;
 }
   where
     cases_le : (m n : ℕ) → (m ≤ n) ⊎ (n < m)
     cases_le m n = ⊎_elim (λ (over : n < m). inr over) (λ (few : m ≤ n). inl few) (cases_lt n m)
 
 -- the first rope is refused, though neither goes through too many pieces
-pub first_refused : {F : Type 0} (meaning : F → ℕ → ℕ) (old new : Held F) (wanted cs : List Cell) (p q more bytes : ℕ) (e : BalanceFault) → p ≤ MOST_PIECES → q ≤ MOST_PIECES → Rebuilds meaning old cs p (Err e) new → Anew meaning old wanted (growth p q more bytes) (Err e) new
-first_refused meaning old new wanted cs p q more bytes e few_p few_q r = record {
+pub first_refused : {F : Type 0} (meaning : F → ℕ → ℕ) (old new : Held F) (wanted cs : List Cell) (p q more bytes : ℕ) (e : BalanceFault) → 1 ≤ more → p ≤ MOST_PIECES → q ≤ MOST_PIECES → Rebuilds meaning old cs p (Err e) new → Anew meaning old wanted (growth p q more bytes) (Err e) new
+first_refused meaning old new wanted cs p q more bytes e some few_p few_q r = record {
   gives = record {
     is_rope = tt;
     text = tt;
@@ -201,11 +220,12 @@ first_refused meaning old new wanted cs p q more bytes e few_p few_q r = record 
   too_many = (λ many. absurd (omega (arith, few_p, r.too_many.0 many)), ⊎_elim (λ (many : MOST_PIECES < p). absurd (omega (arith, many, few_p))) (λ (many : MOST_PIECES < q). absurd (omega (arith, many, few_q))));
   unchanged = r.unchanged;
   fault = rebuilt_fault e _ _ r (omega arith) (omega arith);
+  full = rebuilt_full p q more bytes e some r;
 }
 
 -- the only rope is refused
-pub rebuilt_refused : {F : Type 0} (meaning : F → ℕ → ℕ) (old new : Held F) (wanted cs : List Cell) (p more bytes : ℕ) (e : BalanceFault) → Rebuilds meaning old cs p (Err e) new → Anew meaning old wanted (growth p 0 more bytes) (Err e) new
-rebuilt_refused meaning old new wanted cs p more bytes e r = record {
+pub rebuilt_refused : {F : Type 0} (meaning : F → ℕ → ℕ) (old new : Held F) (wanted cs : List Cell) (p more bytes : ℕ) (e : BalanceFault) → 1 ≤ more → Rebuilds meaning old cs p (Err e) new → Anew meaning old wanted (growth p 0 more bytes) (Err e) new
+rebuilt_refused meaning old new wanted cs p more bytes e some r = record {
   gives = record {
     is_rope = tt;
     text = tt;
@@ -215,11 +235,12 @@ rebuilt_refused meaning old new wanted cs p more bytes e r = record {
   too_many = (λ many. inl (r.too_many.0 many), ⊎_elim (λ (many : MOST_PIECES < p). r.too_many.1 many) (λ (many : MOST_PIECES < 0). absurd (omega (arith, many))));
   unchanged = r.unchanged;
   fault = rebuilt_fault e _ _ r (omega arith) (omega arith);
+  full = rebuilt_full p 0 more bytes e some r;
 }
 
 -- what is wanted is put together alone
 pub rebuilt_anew : {F : Type 0} (meaning : F → ℕ → ℕ) (old new : Held F) (wanted : List Cell) (p : ℕ) (result : Result (Option NodeId) BalanceFault) → Rebuilds meaning old wanted p result new → Anew meaning old wanted (part_growth p) result new
-rebuilt_anew meaning old new wanted p (Err e) r = rebuilt_refused meaning old new wanted wanted p 1 0 e r
+rebuilt_anew meaning old new wanted p (Err e) r = rebuilt_refused meaning old new wanted wanted p 1 0 e (omega arith) r
 rebuilt_anew meaning old new wanted p (Ok rope) r = record {
   gives = record {
     is_rope = r.is_rope;
@@ -230,12 +251,13 @@ rebuilt_anew meaning old new wanted p (Ok rope) r = record {
   too_many = (λ many. absurd cc, ⊎_elim (λ (many : MOST_PIECES < p). absurd (few_pieces r many)) (λ (many : MOST_PIECES < 0). absurd (omega (arith, many))));
   unchanged = λ many. absurd cc;
   fault = tt;
+  full = tt;
 }
 
 -- the second rope is refused
-pub second_refused : {F : Type 0} (meaning : F → ℕ → ℕ) (old mid new : Held F) (wanted cs ds : List Cell) (p : ℕ) (r left : Option NodeId) (more bytes : ℕ) (e : BalanceFault) → IsSound (table_of meaning old) → IsRope (table_of meaning old) r → kept_pieces (table_of meaning old) r ≤ MOST_PIECES → Rebuilds meaning old cs p (Ok left) mid → Rebuilds meaning mid ds (kept_pieces (table_of meaning mid) r) (Err e) new
+pub second_refused : {F : Type 0} (meaning : F → ℕ → ℕ) (old mid new : Held F) (wanted cs ds : List Cell) (p : ℕ) (r left : Option NodeId) (more bytes : ℕ) (e : BalanceFault) → 1 ≤ more → IsSound (table_of meaning old) → IsRope (table_of meaning old) r → kept_pieces (table_of meaning old) r ≤ MOST_PIECES → Rebuilds meaning old cs p (Ok left) mid → Rebuilds meaning mid ds (kept_pieces (table_of meaning mid) r) (Err e) new
     → Anew meaning old wanted (growth p (kept_pieces (table_of meaning old) r) more bytes) (Err e) new
-second_refused meaning old mid new wanted cs ds p r left more bytes e s there few first second =
+second_refused meaning old mid new wanted cs ds p r left more bytes e some s there few first second =
     let t = table_of meaning old in
     let same = all_pieces_kept true t (table_of meaning mid) s first.kept r there in
     record {
@@ -251,12 +273,13 @@ second_refused meaning old mid new wanted cs ds p r left more bytes e s there fe
       );
       unchanged = λ many. absurd (omega (arith, few, same, second.too_many.0 many));
       fault = rebuilt_fault e _ _ second (omega (arith, first.few_nodes, same)) (omega (arith, first.few_bytes, same));
+      full = rebuilt_full p (kept_pieces t r) more bytes e some second;
     }
 
 -- the call behind the balancing
 pub called_anew : {F : Type 0} (meaning : F → ℕ → ℕ) (old mid new : Held F) (a : Addition F) (wanted cs : List Cell) (IsLong : Type 0) (p q more bytes : ℕ) (plain : Result (Option NodeId) NodeFault) → Grows meaning old (length old.nodes + (2 * p + 2 * q)) (length old.pool.bytes + (31 * p + 31 * q)) mid → ¬ (MOST_PIECES < p) → ¬ (MOST_PIECES < q)
-    → IsFew a more bytes → ¬ IsTooDeep a → ¬ IsLong → Makes meaning mid a cs plain new → Refuses mid a ⊥ IsLong plain → cs ≡ wanted → IfOk plain (λ r. IsRoughlyBalanced (table_of meaning new) r) → Anew meaning old wanted (growth p q more bytes) (lifted plain) new
-called_anew {F = F} meaning old mid new a wanted cs IsLong p q more bytes plain grows few_p few_q few shallow short made refuses text rough =
+    → IsFew a more bytes → (PassesPoolLimit mid a → 1 ≤ length a.records) → ¬ IsTooDeep a → ¬ IsLong → Makes meaning mid a cs plain new → Refuses mid a ⊥ IsLong plain → cs ≡ wanted → IfOk plain (λ r. IsRoughlyBalanced (table_of meaning new) r) → Anew meaning old wanted (growth p q more bytes) (lifted plain) new
+called_anew {F = F} meaning old mid new a wanted cs IsLong p q more bytes plain grows few_p few_q few some shallow short made refuses text rough =
     let nodes = length old.nodes + (2 * p + 2 * q + more) in
     let most = length old.pool.bytes + (31 * p + 31 * q + bytes) in
     let n : length mid.nodes + length a.records ≤ nodes = omega (arith, grows.few_nodes, few.records) in
@@ -273,6 +296,7 @@ called_anew {F = F} meaning old mid new a wanted cs IsLong p q more bytes plain 
       too_many = (λ e. absurd (lifted_many plain e), ⊎_elim (λ (many : MOST_PIECES < p). absurd (few_p many)) (λ (many : MOST_PIECES < q). absurd (few_q many)));
       unchanged = λ e. absurd (lifted_many plain e);
       fault = lifted_fault plain nodes most (refused_fault plain nodes most refuses (λ bad. bad) short shallow n b);
+      full = plain_full p q more bytes plain (λ _. few) (λ _. some) made refuses;
     }
 
 -- a balanced rope stands for the one handed in

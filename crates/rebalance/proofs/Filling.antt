@@ -38,7 +38,7 @@ fills_nothing meaning h keep slots p a none are =
     let t = table_of meaning h in
     let text : cells_in_span t p ≡ [] = rw none refl in
     record {
-      steps = record { grows = grows_itself meaning h _ _ (omega arith) (omega arith); fault = tt };
+      steps = record { grows = grows_itself meaning h _ _ (omega arith) (omega arith); fault = tt; full = tt };
       spread = record {
         are = are;
         empty = λ i lt. absurd (omega (arith, lt));

@@ -7,6 +7,7 @@ pub mod PieceCounts
 pub mod PieceWays
 pub mod Splits
 pub mod StepLaws
+pub mod FullStores
 pub mod Filling
 pub mod StoreCalls
 pub mod Gathered

@@ -47,6 +47,7 @@ pub refused_through : {F : Type 0} {A B : Type 0} {meaning : F → ℕ → ℕ} 
 refused_through {meaning = meaning} {a = a} {b = b} {c = c} {n2 = n2} {b2 = b2} {nodes = nodes} {bytes = bytes} e x y n m = record {
   grows = grows_through x y.grows (omega (arith, n, y.grows.few_nodes)) (omega (arith, m, y.grows.few_bytes));
   fault = fault_within n2 b2 nodes bytes e n m y.fault;
+  full = y.full;
 }
 
 -- a step behind what was done before it
@@ -54,6 +55,7 @@ pub steps_after : {F : Type 0} {A : Type 0} {meaning : F → ℕ → ℕ} {a b c
 steps_after {n2 = n2} {b2 = b2} {nodes = nodes} {bytes = bytes} (Ok x) g y n m = record {
   grows = grows_through g y.grows (omega (arith, n, y.grows.few_nodes)) (omega (arith, m, y.grows.few_bytes));
   fault = tt;
+  full = tt;
 }
 steps_after {n2 = n2} {b2 = b2} {nodes = nodes} {bytes = bytes} (Err e) g y n m = refused_through e g y n m
 

@@ -21,6 +21,7 @@ use Rattle.rebalance.specs.declared.pieces.Span.{Span}
 use Rattle.rebalance.specs.Pieces.{IsWhole}
 use Rattle.rebalance.specs.Slots.{IsShallowPiece}
 use Rattle.rebalance.proofs.Fibonacci.{first_ones}
+use Rattle.rebalance.proofs.FullStores.{refused_full}
 use Rattle.rebalance.proofs.StepLaws.{functions_after, functions_itself}
 use Rattle.rebalance.specs.Steps.{IsStepFault, Grows, Steps}
 
@@ -145,6 +146,7 @@ part_steps {F = F} meaning old new n a wanted result part made refuses =
     record {
       grows = made_grows result (length old.nodes + 1) (length old.pool.bytes + 31) made (omega (arith, one)) (omega (arith, none));
       fault = refused_fault result (length old.nodes + 1) (length old.pool.bytes + 31) refuses (λ bad. bad) (λ long. long) shallow (omega (arith, one)) (omega (arith, none));
+      full = refused_full result 1 31 made refuses (λ _. record { records = omega (arith, one); bytes_added = omega (arith, none) }) (λ _ _. omega (arith, one));
     }
 
 pub part_piece : {F : Type 0} (meaning : F → ℕ → ℕ) (old new : Held F) (n : ℕ) (a : Addition F) (wanted : List Cell) (result : Result (Option NodeId) NodeFault) → IsLeafPart (table_of meaning old) n a → 1 ≤ n → Makes meaning old a wanted result new

@@ -1,5 +1,5 @@
 -- What a call does that balances the ropes handed in where they would make one that is too deep.
-use Rattle.std.specs.Prelude.{◌≡◌, ◌↔◌, ◌⊎◌, ℕ, ◌+◌, ◌-◌, ◌*◌, ◌<◌, ◌≤◌, min, List, [], ◌∷◌, ◌++◌, map, length, slice_range, take, drop, Option, None, Some, Result, Ok, Err, IfOk, IfErr, IsErrOf}
+use Rattle.std.specs.Prelude.{◌≡◌, ◌↔◌, ◌⊎◌, ℕ, ◌+◌, ◌-◌, ◌*◌, ◌<◌, ◌≤◌, max, min, List, [], ◌∷◌, ◌++◌, map, length, slice_range, take, drop, Option, None, Some, Result, Ok, Err, IfOk, IfErr, IsErrOf}
 use Rattle.leaf_buffer.specs.declared.pool.TheConstants.{POOL_LIMIT}
 use Rattle.rope_node.specs.declared.limits.TheConstants.{MOST_NODES, TEXT_LIMIT}
 use Rattle.rope_node.specs.declared.node.NodeId.{NodeId}
@@ -16,7 +16,7 @@ use Rattle.rope_store.specs.Appending.{Appends, AppendsTooLong, IsAppend}
 use Rattle.rope_store.specs.Refusals.{Refuses, IsTooDeep}
 use Rattle.rebalance.specs.declared.fault.BalanceFault.{BalanceFault}
 use Rattle.rebalance.specs.declared.fault.BalanceFault.TheVariants.{TooManyPieces, Node}
-use Rattle.rebalance.specs.Balancing.{IsRoughlyBalanced, Rebuilds}
+use Rattle.rebalance.specs.Balancing.{IsLeftFull, IsRoughlyBalanced, Rebuilds}
 use Rattle.rebalance.specs.Pieces.{kept_pieces, part_count, part_pieces, LiesInChild, RopeLeadsDown}
 use Rattle.rebalance.specs.declared.pieces.TheConstants.{MOST_PIECES}
 use Rattle.rebalance.specs.Steps.{Grows, IsStepFault}
@@ -61,6 +61,11 @@ abbrev pub IsAnewFault : ℕ → ℕ → BalanceFault → Type 0
 IsAnewFault nodes bytes TooManyPieces = Unit {0}
 IsAnewFault nodes bytes (Node e) = IsStepFault nodes bytes e
 
+-- what a refusal says of the store that is left, where one step wants at most the nodes and bytes of the plain call, or
+-- a node and the bytes of a short literal
+abbrev pub IsFullFor : {F : Type 0} → Growth → Held F → BalanceFault → Type 0
+IsFullFor most new e = IsLeftFull new most.nodes (max MOST_MERGED most.bytes) e
+
 -- the call once both ropes are balanced
 pub record Anew {F : Type 0} (meaning : F → ℕ → ℕ) (old : Held F) (wanted : List Cell) (most : Growth)
     (result : Result (Option NodeId) BalanceFault) (new : Held F) : Type 0 where
@@ -69,6 +74,7 @@ pub record Anew {F : Type 0} (meaning : F → ℕ → ℕ) (old : Held F) (wante
   pub too_many : IsErrOf result TooManyPieces ↔ ((MOST_PIECES < most.left_pieces) ⊎ (MOST_PIECES < most.right_pieces))
   pub unchanged : IsErrOf result TooManyPieces → new ≡ old
   pub fault : IfErr result (IsAnewFault (nodes_grown old most) (bytes_grown old most))
+  pub full : IfErr result (IsFullFor most new)
 
 -- the call where the plain one makes addition a
 pub record AnyForm {F : Type 0} (meaning : F → ℕ → ℕ) (old : Held F) (a : Addition F) (wanted : List Cell)
@@ -80,6 +86,7 @@ pub record AnyForm {F : Type 0} (meaning : F → ℕ → ℕ) (old : Held F) (a 
   pub too_many : IsErrOf result TooManyPieces → IsTooDeep a × (¬ IsLong)
   pub table_full : IsErrOf result (Node TableFull) → MOST_NODES < nodes_grown old most
   pub pool_full : IsErrOf result (Node PoolFull) → POOL_LIMIT ≤ bytes_grown old most
+  pub full : IfErr result (IsFullFor most new)
   pub not_deep : ¬ IsErrOf result (Node TooDeep)
   pub no_bad_span : ¬ IsErrOf result (Node BadSpan)
   pub no_source : ¬ IsErrOf result (Node TooManySources)

@@ -1,5 +1,5 @@
 -- What putting a rope together anew does.
-use Rattle.std.specs.Prelude.{◌≡◌, ◌↔◌, ℕ, ◌+◌, ◌*◌, ◌<◌, ◌≤◌, Bool, List, ◌++◌, length, take, drop, Option, Some, None, Result, IfOk, IsErrOf}
+use Rattle.std.specs.Prelude.{◌≡◌, ◌↔◌, ℕ, ◌+◌, ◌*◌, ◌<◌, ◌≤◌, Bool, List, ◌++◌, length, take, drop, Option, Some, None, Result, IfOk, IfErr, IsErrOf}
 use Rattle.rope_store.specs.declared.endings.TheConstants.{MOST_MERGED}
 use Rattle.leaf_buffer.specs.declared.pool.TheConstants.{POOL_LIMIT}
 use Rattle.rope_node.specs.declared.limits.TheConstants.{MOST_NODES}
@@ -13,7 +13,7 @@ use Rattle.node_table.specs.Held.{Held, table_of, KeepsFunctions}
 use Rattle.rebalance.specs.declared.fault.BalanceFault.{BalanceFault}
 use Rattle.rebalance.specs.declared.fault.BalanceFault.TheVariants.{TooManyPieces, Node}
 use Rattle.rebalance.specs.declared.pieces.Span.{Span}
-use Rattle.rebalance.specs.Steps.{AddsPieces, Steps}
+use Rattle.rebalance.specs.Steps.{AddsPieces, IsFullAt, Steps}
 use Rattle.rebalance.specs.Slots.{full_slots, slots_cells, Spreads}
 use Rattle.node_table.specs.declared.fault.NodeFault.{NodeFault}
 use Rattle.rebalance.specs.Pieces.{all_pieces, cells_in_span, piece_count, rope_pieces, span_pieces}
@@ -27,6 +27,11 @@ IsNearlyBalanced t (Some id) = fibonacci (depth_at t id.0 + 1) ≤ len_at t id.0
 -- a rope as long as the Fibonacci number of its depth: that of a balanced rope is the next but one
 abbrev pub IsRoughlyBalanced : Table → Option NodeId → Type 0
 IsRoughlyBalanced t rope = fibonacci (rope_depth t rope) ≤ rope_len t rope
+
+-- the same of a refusal to balance; that there are too many pieces says nothing of the store
+abbrev pub IsLeftFull : {F : Type 0} → Held F → ℕ → ℕ → BalanceFault → Type 0
+IsLeftFull h nodes bytes TooManyPieces = Unit {0}
+IsLeftFull h nodes bytes (Node e) = IsFullAt h nodes bytes e
 
 -- a shallow rope of this text is answered, put together from p pieces, or why there is none; what was there is kept
 pub record Rebuilds {F : Type 0} (meaning : F → ℕ → ℕ) (old : Held F) (wanted : List Cell) (p : ℕ)
@@ -43,6 +48,7 @@ pub record Rebuilds {F : Type 0} (meaning : F → ℕ → ℕ) (old : Held F) (w
   pub unchanged : IsErrOf result TooManyPieces → new ≡ old
   pub table_full : IsErrOf result (Node TableFull) → MOST_NODES < length old.nodes + 2 * p
   pub pool_full : IsErrOf result (Node PoolFull) → POOL_LIMIT ≤ length old.pool.bytes + MOST_MERGED * p
+  pub full : IfErr result (IsLeftFull new 1 MOST_MERGED)
   pub not_long : ¬ IsErrOf result (Node TooLong)
   pub not_deep : ¬ IsErrOf result (Node TooDeep)
   pub no_bad_span : ¬ IsErrOf result (Node BadSpan)

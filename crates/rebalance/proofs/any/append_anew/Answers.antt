@@ -9,14 +9,14 @@ returns-in_err-longer-clause-anew g c =
     let first = c.count-count.ensures in
     let second = c.count-count-2.ensures in
     rw (p.1, p.2) (append_called g.F.LeafFn.meaning c.args.store.now c.balance_by.new.store c.append.new.self c.args.x c.in_ok-rope.rope c.args.bytes.now (Err c.in_err-longer.field-0.0) (record { sound = first.sound; true_records = first.true_records })
-    (record { sound = second.sound; true_records = second.true_records }) c.requires.there c.requires.short c.in_ok-rope.ensures c.in_err-longer.ensures)
+    (record { sound = second.sound; true_records = second.true_records }) second.kept.pool c.requires.there c.requires.short c.in_ok-rope.ensures c.in_err-longer.ensures)
 
 pub returns-clause-anew : goal.returns-clause-anew
 returns-clause-anew g c =
     let first = c.count-count.ensures in
     let second = c.count-count-2.ensures in
     append_called g.F.LeafFn.meaning c.args.store.now c.balance_by.new.store c.append.new.self c.args.x c.in_ok-rope.rope c.args.bytes.now (Ok c.in_ok-longer.longer) (record { sound = first.sound; true_records = first.true_records })
-    (record { sound = second.sound; true_records = second.true_records }) c.requires.there c.requires.short c.in_ok-rope.ensures c.in_ok-longer.ensures
+    (record { sound = second.sound; true_records = second.true_records }) second.kept.pool c.requires.there c.requires.short c.in_ok-rope.ensures c.in_ok-longer.ensures
 
 pub returns-clause-place : goal.returns-clause-place
 returns-clause-place g c =

@@ -12,7 +12,7 @@ returns-in_err-rope-clause-any g c =
     let k = c.count-count.ensures in
     let p = err_from_is_err_and c.from_residual.result c.from_residual.ensures.1 in
     let is : lifted c.append-plain.result ≡ Err c.in_err-rope.field-0.0 = sym c.lift.ensures ∙ c.in_err-rope.was in
-    let all = append_plain meaning c.args.store.now c.append-plain.new.self c.args.x c.args.bytes.now c.append-plain.result (record { sound = k.sound; true_records = k.true_records }) c.requires c.append-plain.ensures (λ e. not_true (c.if-is_too_deep.ensures.1 e)) in
+    let all = append_plain meaning c.args.store.now c.append-plain.new.self c.args.x c.args.bytes.now c.append-plain.result (record { sound = k.sound; true_records = k.true_records }) k.kept.pool c.requires c.append-plain.ensures (λ e. not_true (c.if-is_too_deep.ensures.1 e)) in
     rw (p.1, p.2) (subst (λ r. AppendsAny meaning c.args.store.now c.args.x c.args.bytes.now r c.append-plain.new.self) is all)
 
 pub returns-clause-any : goal.returns-clause-any
@@ -20,7 +20,7 @@ returns-clause-any g c =
     let meaning = g.F.LeafFn.meaning in
     let k = c.count-count.ensures in
     let is : lifted c.append-plain.result ≡ Ok c.in_ok-rope.rope = sym c.lift.ensures ∙ c.in_ok-rope.was in
-    let all = append_plain meaning c.args.store.now c.append-plain.new.self c.args.x c.args.bytes.now c.append-plain.result (record { sound = k.sound; true_records = k.true_records }) c.requires c.append-plain.ensures (λ e. not_true (c.if-is_too_deep.ensures.1 e)) in
+    let all = append_plain meaning c.args.store.now c.append-plain.new.self c.args.x c.args.bytes.now c.append-plain.result (record { sound = k.sound; true_records = k.true_records }) k.kept.pool c.requires c.append-plain.ensures (λ e. not_true (c.if-is_too_deep.ensures.1 e)) in
     subst (λ r. AppendsAny meaning c.args.store.now c.args.x c.args.bytes.now r c.append-plain.new.self) is all
 
 pub returns-clause-place : goal.returns-clause-place

@@ -36,5 +36,5 @@ returns g c =
       | in_default w ↦ absurd (w.in_default.not-Some node (sym w.x-is ∙ is))
     ] in
     let there = subst (IsRope t) (sym same) c.requires in
-    let all = part_none meaning old c.substr.new.self x i n c.substr.result there none c.substr.ensures.makes c.substr.ensures.refuses in
+    let all = part_none meaning old c.substr.new.self x i n c.substr.result c.count-count.ensures.kept.pool there none c.substr.ensures.makes c.substr.ensures.refuses in
     rw c.lift.ensures (subst (λ (y : Option NodeId). PartsAny meaning old y i n (lifted c.substr.result) c.substr.new.self) same all)

@@ -64,7 +64,7 @@ loop-m-preserved g c =
     }
 
 pub returns-clause-steps : goal.returns-clause-steps
-returns-clause-steps g c = record { grows = c.loop-m.invariant.grows; fault = tt }
+returns-clause-steps g c = record { grows = c.loop-m.invariant.grows; fault = tt; full = tt }
 
 pub returns-clause-gathered : goal.returns-clause-gathered
 returns-clause-gathered g c =

@@ -46,7 +46,7 @@ bounds-slots-from-then-len-fibonacci g c =
     omega (arith, c.from-then-len-fibonacci.ensures, inside, inv.spread.are.size)
 
 pub returns-then-len-fibonacci-clause-steps : goal.returns-then-len-fibonacci-clause-steps
-returns-then-len-fibonacci-clause-steps g c = record { grows = c.loop-store.invariant.grows; fault = tt }
+returns-then-len-fibonacci-clause-steps g c = record { grows = c.loop-store.invariant.grows; fault = tt; full = tt }
 
 pub returns-then-len-fibonacci-clause-spread : goal.returns-then-len-fibonacci-clause-spread
 returns-then-len-fibonacci-clause-spread g c =
