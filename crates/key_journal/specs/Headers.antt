@@ -1,5 +1,5 @@
 -- The header of a journal.
-use Rattle.std.specs.Prelude.{◌≡◌, ℕ, ◌-◌, List, [], ◌∷◌, ◌++◌, length, take, drop, nat_le, if◌then◌else◌, Option, IfSome}
+use Rattle.std.specs.Prelude.{◌≡◌, ◌<◌, ℕ, ◌-◌, List, [], ◌∷◌, ◌++◌, length, take, drop, get_or, nat_le, if◌then◌else◌, Option, IfSome}
 use Rattle.std.specs.Int.{w64, to_be_bytes}
 use Rattle.sha2.specs.declared.Sha256.{Sha256}
 use Rattle.sha2.specs.Hashers.{Holds256}
@@ -45,9 +45,9 @@ IsHeader st header = heads st.sizes (text_at st 0) header
 abbrev pub IsHeaderOnto : List ℕ → Stated → List ℕ → Type 0
 IsHeaderOnto image st header = heads_onto image st.sizes (text_at st 0) header
 
--- a place of the first source
-abbrev pub IsOfFirst : ℕ → ℕ → Type 0
-IsOfFirst s p = s ≡ 0
+-- a place inside the first of sources of these sizes
+abbrev pub IsOfFirst : List ℕ → ℕ → ℕ → Type 0
+IsOfFirst sizes s p = (s ≡ 0) × (p < get_or sizes 0 0)
 
 -- a digest that n bytes of a text are taken into, from this place on
 abbrev pub TakesIn : List ℕ → ℕ → ℕ → Sha256 → Sha256 → Type 0

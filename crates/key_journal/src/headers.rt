@@ -146,7 +146,8 @@ pub fn header_over<S: Sources>(sources: &mut S) -> Result<[u8; HEADER_SIZE], Sou
     ensures header { IfOk result (IsHeader (S.reading sources.old).stated) }
     ensures front { IfOk result
         (λ header. take FRONT_SIZE header ≡ front_over FROM_SOURCES (S.reading sources.old).stated.sizes) }
-    ensures reads { Reads (S.reading sources.old) (S.reading sources.new) IsOfFirst (fault_in result) }
+    ensures reads { Reads (S.reading sources.old) (S.reading sources.new)
+        (IsOfFirst (S.reading sources.old).stated.sizes) (fault_in result) }
 {
     let mut hasher = Sha256::new();
     let count = sources.count();
@@ -172,7 +173,8 @@ pub fn header_onto<S: Sources>(
     ensures header { IfOk result (IsHeaderOnto image.now (S.reading sources.old).stated) }
     ensures front { IfOk result
         (λ header. take FRONT_SIZE header ≡ front_over ONTO_IMAGE (S.reading sources.old).stated.sizes) }
-    ensures reads { Reads (S.reading sources.old) (S.reading sources.new) IsOfFirst (fault_in result) }
+    ensures reads { Reads (S.reading sources.old) (S.reading sources.new)
+        (IsOfFirst (S.reading sources.old).stated.sizes) (fault_in result) }
 {
     let mut hasher = Sha256::new();
     digest_image(image, &mut hasher);

@@ -1,9 +1,9 @@
 //! A reader whose bytes are kept before they are given.
 
-ghost use Rattle.std.specs.Prelude.{Ok, None, ◌≡◌, [], ◌∷◌, IfOk, IfErr, OnOk, OnErr, option_to_list};
+ghost use Rattle.std.specs.Prelude.{Ok, None, ◌≡◌, [], ◌∷◌, IfOk, IfErr, IsTrue, OnOk, OnErr, option_to_list};
 ghost use Rattle.std.specs.Io.KnownBytes.{Appends, Consumes, IsAtEnd, Keeps};
 ghost use Rattle.key_journal.specs.Keys.{goes_on, kept_of};
-ghost use Rattle.key_journal.specs.Left.{IsNextByte, keys_kept, keys_left};
+ghost use Rattle.key_journal.specs.Left.{IsKeepFault, IsNextByte, keys_kept, keys_left};
 ghost use Rattle.key_journal.specs.declared.kept.KeepFault.TheVariants as KeepFault;
 
 use std::io::{ErrorKind, Read, Write};
@@ -99,7 +99,7 @@ impl<R: Read + Drop, W: Write + Drop> Kept<R, W> {
         ensures left { Consumes (keys_left R.remaining self.old) (keys_left R.remaining self.new) [] }
         ensures end { result ≡ Ok None → IsAtEnd (keys_left R.remaining self.new) }
         ensures journal { self.new.journal ≡ self.old.journal }
-        ensures fault { IfErr result (λ f. f ≡ KeepFault.Read) }
+        ensures fault { IfErr result (IsKeepFault self.new) }
     {
         if self.held.is_none() {
             self.held = read_one(&mut self.inner)?;
@@ -114,7 +114,7 @@ impl<R: Read + Drop, W: Write + Drop> Kept<R, W> {
         ensures err { OnErr result (Keeps (W.contents self.old.journal) (W.contents self.new.journal)) }
         ensures inner { self.new.inner ≡ self.old.inner }
         ensures held { self.new.held ≡ self.old.held }
-        ensures fault { IfErr result (λ f. f ≡ KeepFault.Write) }
+        ensures fault { IfErr result (λ f. (f ≡ KeepFault.Write) × IsTrue (goes_on key)) }
     {
         if goes_on(key) {
             write_one(&mut self.journal, key)?;
@@ -134,6 +134,7 @@ impl<R: Read + Drop, W: Write + Drop> Kept<R, W> {
         ensures none_given { OnErr result
             (Consumes (keys_left R.remaining self.old) (keys_left R.remaining self.new) []) }
         ensures none_kept { OnErr result (Appends (keys_kept W.contents self.old) (keys_kept W.contents self.new) []) }
+        ensures fault { IfErr result (IsKeepFault self.new) }
     {
         let Some(key) = self.hold()? else {
             return Ok(None);
