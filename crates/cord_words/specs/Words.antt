@@ -317,16 +317,21 @@ DiscardsAlone given = WhereGiven given (codes "edit") (λ rows.
 abbrev pub LimitsACheck : Option (Text × List Row) → Type 0
 LimitsACheck given = WhereGiven given (codes "apply") (λ rows. limits_a_check rows ≡ true)
 
--- the kinds of a refusal of words of a subcommand that clap takes: words of `edit` or of `apply` that do not go together,
--- or a number that does not read
-abbrev pub kinds_of : Text → Kinds
-kinds_of name =
+-- the kind of a refusal of words of `apply` that clap takes: the limit stands beside no image, or it does not read
+abbrev pub apply_kinds : List Row → Kinds
+apply_kinds rows = if limits_a_check rows then ValueValidation ∷ [] else MissingRequiredArgument ∷ []
+
+-- the kind of a refusal of words of a subcommand that clap takes: words of `edit` or of `apply` that do not go together,
+-- or a number that does not read; `join` and `cmp` have neither
+abbrev pub kinds_of : Text → List Row → Kinds
+kinds_of name rows =
     if bytes_eq name (codes "edit") then ArgumentConflict ∷ []
-    else (if bytes_eq name (codes "apply") then ValueValidation ∷ MissingRequiredArgument ∷ [] else ValueValidation ∷ [])
+    else (if bytes_eq name (codes "apply") then apply_kinds rows
+    else (if bytes_eq name (codes "join") || bytes_eq name (codes "cmp") then [] else ValueValidation ∷ []))
 
 abbrev pub own_kinds : Option (Text × List Row) → Kinds
 own_kinds None = []
-own_kinds (Some p) = kinds_of p.0
+own_kinds (Some p) = kinds_of p.0 p.1
 
 -- the kinds of a refusal: that of clap's first fault, or that of words that it takes
 abbrev pub refusal_kinds : List Text → Kinds

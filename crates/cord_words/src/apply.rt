@@ -1,11 +1,10 @@
 //! `apply [--onto IMAGE] [--at-most LOOKS] SCRIPT [SOURCE]...`
 
-ghost use Rattle.std.specs.Prelude.{◌≡◌, ◌∷◌, [], IfErr, IfOk, Some, codes, false};
+ghost use Rattle.std.specs.Prelude.{◌≡◌, IfErr, IfOk, Some, codes, false};
 ghost use Rattle.clap.specs.Words.{app_of, found_of, rows_of};
 ghost use Rattle.clap.specs.declared.builder.command.Command.TheViews.{out-Command as fields_of};
-ghost use Rattle.clap.specs.declared.error.kind.ErrorKind.TheVariants.{MissingRequiredArgument, ValueValidation};
 ghost use Rattle.cord_words.specs.Refusals.{FailsAs};
-ghost use Rattle.cord_words.specs.Words.{Holds, LimitsACheck, NumbersRead, apply_app, limits_a_check};
+ghost use Rattle.cord_words.specs.Words.{Holds, LimitsACheck, NumbersRead, apply_app, apply_kinds, limits_a_check};
 
 use crate::action::Action;
 use crate::fault::WordsFault;
@@ -44,7 +43,7 @@ pub fn action<'a>(
     ensures only_memory { IfErr result (λ f.
         NumbersRead (Some (codes "apply", rows_of (found_of given.now)))
         → LimitsACheck (Some (codes "apply", rows_of (found_of given.now))) → f ≡ WordsFault.Memory) }
-    ensures kind { IfErr result (FailsAs (ValueValidation ∷ MissingRequiredArgument ∷ [])) }
+    ensures kind { IfErr result (FailsAs (apply_kinds (rows_of (found_of given.now)))) }
 {
     if !limits_a_check(given) {
         let message = "the argument '--at-most <LOOKS>' cannot be used without '--onto <IMAGE>'";
