@@ -1,14 +1,8 @@
 -- A store of sources alone, and the rope of a part of one.
 use Rattle.std.specs.Prelude.{◌≡◌, ℕ, ◌-◌, ◌<◌, min, List, [], length, get_or, Option, Some, None}
-use Rattle.function_leaf.specs.declared.coded.Coded.{Coded}
-use Rattle.node_table.specs.Held.{Held, held_of}
 use Rattle.rope_node.specs.declared.node.NodeId.{NodeId}
 use Rattle.rope_node.specs.declared.node.NodeView.TheVariants.{Src}
 use Rattle.rope_node.specs.Table.{Node, Table, node_at}
-
--- a store with these sources, and nothing else
-abbrev pub store_with : List ℕ → Held Coded
-store_with sizes = held_of [] (record { bytes = []; borders = []; room = 0 }) sizes
 
 -- the leaf of n bytes of source s from a on
 abbrev pub source_leaf : ℕ → ℕ → ℕ → Node

@@ -6,7 +6,8 @@ ghost use Rattle.function_leaf.specs.Coded.{coded_byte};
 ghost use Rattle.rope_node.specs.Extends.{Extends};
 ghost use Rattle.node_table.specs.Held.{table_of};
 ghost use Rattle.lazy_file.specs.SourceTexts.{AreSizes};
-ghost use Rattle.cord_tools.specs.Spans.{IsSourcePart, store_with};
+ghost use Rattle.edit_commands.specs.Session.{store_with};
+ghost use Rattle.cord_tools.specs.Spans.{IsSourcePart};
 
 use function_leaf::Coded;
 use lazy_file::Sources;

@@ -9,10 +9,15 @@ use Rattle.node_table.specs.Held.{Held, table_of}
 use Rattle.rebalance.specs.declared.fault.BalanceFault.{BalanceFault}
 use Rattle.rebalance.proofs.AnyCalls.{IsRight}
 use Rattle.rebalance.proofs.StepLaws.{functions_itself, functions_through}
+use Rattle.edit_commands.specs.Applying.{Keeps}
 use Rattle.edit_commands.specs.Building.{GoesOn, Builds}
+use Rattle.edit_commands.specs.Session.{SessionValue}
 
 pub goes_on_itself : (h : Held Coded) → GoesOn h h
 goes_on_itself h = record { kept = extends_itself (table_of coded_byte h); functions = functions_itself h; sources = refl }
+
+pub keeps_itself : (v : SessionValue) → Keeps v v
+keeps_itself v = record { goes_on = goes_on_itself v.held; cells = refl }
 
 pub goes_on_through : {a b c : Held Coded} → GoesOn a b → GoesOn b c → GoesOn a c
 goes_on_through {a} {b} {c} x y = record {

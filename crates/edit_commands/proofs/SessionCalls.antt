@@ -14,7 +14,7 @@ use Rattle.edit_commands.specs.declared.fault.EditFault.{EditFault}
 use Rattle.edit_commands.specs.declared.revision.Revision.{Revision}
 use Rattle.command_parts.specs.declared.edit.TheConstants.{SPLICES_LIMIT}
 use Rattle.command_parts.specs.declared.edit.TheConstants.{MOST_REVISIONS}
-use Rattle.edit_commands.specs.Applying.{Keeps, IsMadeBy, AppliesOrNot, AddsSourceOrNot, behind}
+use Rattle.edit_commands.specs.Applying.{Keeps, IsMadeBy, AppliesOrNot, AddsSourceOrNot, Revises, behind}
 use Rattle.edit_commands.specs.Codes.{told}
 use Rattle.edit_commands.specs.Refusals.{refusal_of}
 use Rattle.edit_commands.specs.Session.{SessionValue, rows_held, splices_held, IsRevision, AreRevisions, IsSession}
@@ -42,10 +42,17 @@ session_more h revisions made are is few rows splices = record {
 
 -- a command that made its revision
 pub applies_so : (held : Held Coded) (revisions : List Revision) (command : Command) (made : Revision) (new : Held Coded) → refusal_of (record { held = held; revisions = revisions }) command ≡ None
-    → Keeps (record { held = held; revisions = revisions }) (record { held = new; revisions = revisions }) → IsMadeBy held revisions command made new
+    → Revises held revisions command (Ok made) new
     → AppliesOrNot (record { held = held; revisions = revisions }) command (Ok (length revisions)) (record { held = new; revisions = revisions ++ made ∷ [] })
-applies_so held revisions command made new none keeps by = record {
-  made = record { number = refl; keeps = record { goes_on = keeps.goes_on; cells = keeps.cells }; made = made; revisions = refl; is = by };
+applies_so held revisions command made new none h = record {
+  made = record {
+    number = refl;
+    keeps = record { goes_on = h.keeps.goes_on; cells = h.keeps.cells };
+    made = made;
+    revisions = refl;
+    is = h.is.1;
+    session = session_more new revisions made h.earlier h.is.0 (not_full (record { held = held; revisions = revisions }) command none) h.few h.few_splices;
+  };
   refused = λ g is. let bad : None ≡ Some g = sym none ∙ is in absurd cc;
   later = λ same. tt;
   kept = tt;

@@ -24,7 +24,7 @@ use Rattle.command_parts.specs.declared.edit.TheConstants.{SPLICES_LIMIT}
 use Rattle.edit_commands.specs.Building.{ChainsTerms, GoesOn, IsRootFor, command_with, edit_with, splices_with}
 use Rattle.edit_commands.specs.Codes.{told}
 use Rattle.edit_commands.specs.Refusals.{refusal_of}
-use Rattle.edit_commands.specs.Session.{SessionValue, IsRevision, AreRevisions, command_of, roots_of, rows_held, splices_held, cells_of}
+use Rattle.edit_commands.specs.Session.{SessionValue, IsRevision, IsSession, AreRevisions, command_of, roots_of, rows_held, splices_held, cells_of}
 
 -- the store goes on where it ended, and the earlier revisions have the cells that they had
 pub record Keeps (old new : SessionValue) : Type 0 where
@@ -100,13 +100,15 @@ pub record Revises (old : Held Coded) (revisions : List Revision) (command : Com
   pub few_splices : IfOk result (λ made. splices_held revisions + length made.splices.items ≤ SPLICES_LIMIT)
   pub fault : IfErr result (λ fault. IsLaterFault old revisions command fault new)
 
--- one revision more; the earlier ones have the cells that they had, and its own are what its command gives of those
+-- One revision more; the earlier ones have the cells that they had, and its own are what its command gives of those.
+-- With it, it is a session.
 pub record Applies (old : SessionValue) (command : Command) (k : ℕ) (new : SessionValue) : Type 0 where
   pub number : k ≡ length old.revisions
   pub keeps : Keeps old new
   pub made : Revision
   pub revisions : new.revisions ≡ old.revisions ++ made ∷ []
   pub is : IsMadeBy old.held old.revisions command made new.held
+  pub session : IsSession new
 
 -- ---- a revision that is known
 

@@ -8,7 +8,7 @@ use Rattle.rope_node.specs.declared.node.NodeId.{NodeId}
 use Rattle.rope_node.specs.Table.{Table}
 use Rattle.rope_node.specs.Balance.{IsBalancedRope}
 use Rattle.rope_node.specs.Denotes.{Cell, rope_cells, rope_len, IsRope, text}
-use Rattle.node_table.specs.Held.{Held, table_of, held_coded}
+use Rattle.node_table.specs.Held.{Held, table_of, held_coded, held_of}
 use Rattle.command_parts.specs.declared.edit.Edit.{Edit}
 use Rattle.command_parts.specs.declared.edit.Edit.TheVariants.{Many}
 use Rattle.command_parts.specs.declared.edit.Splice.{Splice}
@@ -27,6 +27,13 @@ use Rattle.command_parts.specs.declared.edit.TheConstants.{MOST_REVISIONS}
 pub record SessionValue : Type 0 where
   pub held : Held Coded
   pub revisions : List Revision
+
+-- a store that holds nothing but sources of these lengths, and a session without revisions over it
+abbrev pub store_with : List ℕ → Held Coded
+store_with sizes = held_of [] (record { bytes = []; borders = []; room = 0 }) sizes
+
+abbrev pub new_session : List ℕ → SessionValue
+new_session sizes = record { held = store_with sizes; revisions = [] }
 
 abbrev pub session_table : SessionValue → Table
 session_table v = table_of coded_byte v.held

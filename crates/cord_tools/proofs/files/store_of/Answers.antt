@@ -2,7 +2,7 @@ use Rattle.std.proofs.Common.{◌≡◌, ℕ, ◌<◌, [], ◌∷◌, ◌++◌, 
 use Rattle.std.proofs.lemmas.List.{length-take-le, take_all, take_more}
 use Rattle.function_leaf.specs.declared.coded.Coded.{Coded}
 use Rattle.node_table.specs.Held.{Held}
-use Rattle.cord_tools.specs.Spans.{store_with}
+use Rattle.edit_commands.specs.Session.{store_with}
 use Rattle.cord_tools.proofs.Spans.{add_only_memory}
 use Rattle.cord_tools.proofs.files.store_of.Goals as goal
 

@@ -1,5 +1,5 @@
 use Rattle.std.proofs.Common.{◌≡◌, take}
-use Rattle.cord_tools.specs.Spans.{store_with}
+use Rattle.edit_commands.specs.Session.{store_with}
 use Rattle.cord_tools.proofs.files.store_of.Given as goal
 
 abbrev pub invariant-loop-s : goal.invariant-loop-s

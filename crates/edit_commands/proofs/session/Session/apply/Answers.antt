@@ -78,4 +78,4 @@ returns c =
     subst (λ (rs : List Revision). refusal_of (record { held = c.self.inside.store; revisions = rs }) c.args.command ≡ None) c.deref.ensures.value (sym c.refusal.ensures ∙ c.in_default.is) in
     let number : c.len-number.result ≡ length c.self.inside.revisions.items = search rules in
     subst (λ (v : SessionValue). AppliesOrNot v c.args.command (Ok c.len-number.result) (record { held = new; revisions = c.push.new.self.items })) c.self.view_is
-    (rw (pushed, number) (applies_so held items c.args.command made new none is.keeps is.is.1))
+    (rw (pushed, number) (applies_so held items c.args.command made new none is))
