@@ -1,11 +1,11 @@
 -- What a script does to a session, line by line.
-use Rattle.std.specs.Prelude.{◌≡◌, ◌⊎◌, ◌==◌, ℕ, ◌+◌, List, [], ◌∷◌, Option, Some, None, Result, Ok, Err}
+use Rattle.std.specs.Prelude.{◌≡◌, ◌≢◌, ◌⊎◌, ◌==◌, ℕ, ◌+◌, List, [], ◌∷◌, Option, Some, None, Result, Ok, Err}
 use Rattle.std.specs.List.{slice_split}
 use Rattle.edit_commands.specs.declared.command.Command.{Command}
 use Rattle.edit_commands.specs.declared.fault.EditFault.{EditFault}
 use Rattle.edit_commands.specs.Session.{SessionValue}
 use Rattle.edit_commands.specs.Refusals.{TakesAll}
-use Rattle.edit_commands.specs.Applying.{Applies, AppliesOrNot}
+use Rattle.edit_commands.specs.Applying.{Applies, AppliesOrNot, Keeps}
 use Rattle.edit_script.specs.declared.fault.Stop.{Stop}
 use Rattle.edit_script.specs.declared.fault.Stop.TheVariants.{NoCommand, Refused, Memory}
 use Rattle.edit_script.specs.declared.fault.Stopped.{Stopped}
@@ -37,11 +37,13 @@ abbrev pub TakesLine : SessionValue → List ℕ → SessionValue → Type 0
 TakesLine old line new =
     (HasWords line [] × (new ≡ old)) ⊎ ((ws : List Word) × IsLine ws × HasWords line ws × TakesWords old ws new)
 
--- why a line is not taken: it has words and they are no command, or its command is refused
+-- Why a line is not taken: it has words and they are no command, or its command is refused. Where memory is, to its words
+-- or to its command, there is no further revision, and the earlier ones are kept.
 abbrev pub StopsLine : SessionValue → List ℕ → Stop → SessionValue → Type 0
 StopsLine old line NoCommand new = (new ≡ old) × ((ws : List Word) → IsLine ws → HasWords line ws → ⊥)
-StopsLine old line (Refused fault) new = (ws : List Word) × IsLine ws × HasWords line ws × RefusesWords old ws fault new
-StopsLine old line Memory new = Unit {0}
+StopsLine old line (Refused fault) new =
+    (fault ≢ EditFault.Memory) × ((ws : List Word) × IsLine ws × HasWords line ws × RefusesWords old ws fault new)
+StopsLine old line Memory new = Keeps old new × (new.revisions ≡ old.revisions)
 
 -- the lines behind the first k are taken one after the other, or the first that is not stops them
 abbrev pub TakesLines : SessionValue → ℕ → List (List ℕ) → Result (Unit {0}) Stopped → SessionValue → Type 0

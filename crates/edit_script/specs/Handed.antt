@@ -5,6 +5,7 @@ use Rattle.command_parts.specs.declared.edit.Edit.{Edit}
 use Rattle.command_parts.specs.declared.edit.Edit.TheVariants as E
 use Rattle.command_parts.specs.declared.edit.Splice.{Splice}
 use Rattle.command_parts.specs.Commands.{with_splices}
+use Rattle.command_parts.specs.Fields.{splices_of, IsPlacedAt}
 use Rattle.edit_commands.specs.declared.command.Change.{Change}
 use Rattle.edit_commands.specs.declared.command.Command.{Command}
 use Rattle.edit_commands.specs.declared.command.Command.TheVariants.{Insert, Replace, Many}
@@ -57,3 +58,7 @@ IsInRoom room (E.Replace r p m a n) = a + n ≤ length room.bytes.items
 IsInRoom room (E.Fill r p c n) = c < 256
 IsInRoom room (E.Many r first count) = sum_by (λ c. c.n) room.changes.items ≡ length room.bytes.items
 IsInRoom room edit = Unit {0}
+
+-- a command's splices are the room's changes, the first one first
+abbrev pub NamesChanges : Room → Edit → Type 0
+NamesChanges room edit = (splices_of edit ≡ length room.changes.items) × IsPlacedAt 0 edit

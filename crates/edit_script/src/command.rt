@@ -1,8 +1,7 @@
 //! Commands from the words behind their names.
 
-ghost use Rattle.std.specs.Prelude.{◌≡◌, [], length, IfOk};
-ghost use Rattle.command_parts.specs.Fields.{splices_of};
-ghost use Rattle.edit_script.specs.Handed.{IsInRoom, words_in};
+ghost use Rattle.std.specs.Prelude.{◌≡◌, [], IfOk};
+ghost use Rattle.edit_script.specs.Handed.{IsInRoom, NamesChanges, words_in};
 ghost use Rattle.edit_script.specs.Commands.{IsNamed};
 ghost use Rattle.edit_script.specs.Reading.{IsReadAs, end_at, named_at};
 
@@ -58,7 +57,7 @@ pub fn command(name: &[u8], line: &mut &[u8], room: &mut Room) -> Result<Edit, L
     ensures read { IsReadAs (words_in room.new.bytes.items room.new.changes.items) result
         (named_at name.now line.old.now) }
     ensures inside { IfOk result (IsInRoom room.new) }
-    ensures splices { IfOk result (λ e. splices_of e ≡ length room.new.changes.items) }
+    ensures changes { IfOk result (NamesChanges room.new) }
 {
     let code = code_of(name).ok_or(LineFault::NoCommand)?;
     let bytes = &mut room.bytes;

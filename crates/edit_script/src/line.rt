@@ -3,7 +3,7 @@
 ghost use Rattle.std.specs.Prelude.{◌≡◌, [], List, Some, IfOk, IfSome};
 ghost use Rattle.edit_script.specs.Words.{Word, HasWords};
 ghost use Rattle.edit_script.specs.Commands.{IsLine};
-ghost use Rattle.edit_script.specs.Handed.{IsInRoom, said};
+ghost use Rattle.edit_script.specs.Handed.{IsInRoom, NamesChanges, said};
 ghost use Rattle.edit_script.specs.Reading.{IsReadAs, line_at};
 
 use crate::blanks::{behind_blanks, is_end, split_front};
@@ -17,6 +17,7 @@ fn read_line(line: &[u8], room: &mut Room) -> Result<Option<Edit>, LineFault>
     requires changes { room.now.changes.items ≡ [] }
     ensures read { IsReadAs (said room.new) result (line_at line.now) }
     ensures inside { IfOk result (λ x. IfSome x (IsInRoom room.new)) }
+    ensures changes { IfOk result (λ x. IfSome x (NamesChanges room.new)) }
 {
     if is_end(line) {
         return Ok(None);
@@ -39,6 +40,7 @@ pub fn parse_line(line: &[u8], room: &mut Room) -> Result<Option<Edit>, LineFaul
     // What stands in the line is read, unless memory runs out.
     ensures only { (ws : List Word) → IsLine ws → HasWords line.now ws → IsReadAs (said room.new) result (Some ws) }
     ensures inside { IfOk result (λ x. IfSome x (IsInRoom room.new)) }
+    ensures changes { IfOk result (λ x. IfSome x (NamesChanges room.new)) }
 {
     room.clear();
     read_line(line, room)
