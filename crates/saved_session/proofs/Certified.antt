@@ -9,7 +9,7 @@ use Rattle.rope_node.specs.Denotes.{IsRope}
 use Rattle.lazy_file.specs.SourceTexts.{Stated}
 use Rattle.node_table.specs.Held.{Held, table_of, held_coded}
 use Rattle.command_parts.specs.declared.edit.Edit.{Edit}
-use Rattle.command_parts.specs.declared.edit.Edit.TheVariants.{New, Open, Insert, Delete, Replace, Paste, Join, Cut, Fill, Back, Balance, Many}
+use Rattle.command_parts.specs.declared.edit.Edit.TheVariants.{Many}
 use Rattle.command_parts.specs.declared.edit.Splice.{Splice}
 use Rattle.span_certificate.specs.declared.row.Row.{Row}
 use Rattle.command_parts.specs.Commands.{named_splices, with_splices, NamesSplices}

@@ -81,4 +81,4 @@ module _ (v : ImageValue) (is : IsImage v) (h : Held Coded) (copy : IsCopyOf (im
       default_any (x ∷ xs) (suc k) c d lt = default_any xs k c d (omega (arith, lt))
 
   pub holds_image : HoldsImage v h
-  holds_image = record { sources = copy.sources; nodes = same_nodes; pool = pool_is; table = same_table; coded = same_coded }
+  holds_image = record { sources = copy.sources; nodes = same_nodes; pool = pool_is; block = copy.pool; table = same_table; coded = same_coded }

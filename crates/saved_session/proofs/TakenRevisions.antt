@@ -13,7 +13,7 @@ use Rattle.rope_node.specs.declared.node.NodeId.{NodeId}
 use Rattle.rope_node.specs.Table.{Table}
 use Rattle.node_table.specs.Held.{Held, table_of, held_coded}
 use Rattle.command_parts.specs.declared.edit.Edit.{Edit}
-use Rattle.command_parts.specs.declared.edit.Edit.TheVariants.{New, Open, Insert, Delete, Replace, Paste, Join, Cut, Fill, Back, Balance, Many}
+use Rattle.command_parts.specs.declared.edit.Edit.TheVariants.{Many}
 use Rattle.command_parts.specs.declared.edit.Splice.{Splice}
 use Rattle.span_certificate.specs.declared.row.Row.{Row}
 use Rattle.command_parts.specs.Commands.{named_splices, with_splices}
@@ -111,17 +111,17 @@ module _ (v : ImageValue) (is : IsImage v) (k : ℕ) (lt : k < length v.revision
     pub rows_so_far : ((j : ℕ) → j < k → IsAsMade v j) → rows_held old.revisions ≡ rows_before v k
     rows_so_far each = sym (length-rows old.revisions) ∙ ap length (takes.rows_as_made each) ∙ omega (arith, length-take (rows_before v k) v.rows, rows_inside v is k lt)
 
-    -- the rows of a revision that is as it is made are the longest over the session's table too
-    longest_here : IsAsMade v k → AreLongest (table_of coded_byte old.held) (parts_of (table_of coded_byte old.held) (roots_of old.revisions) (with_splices (named_splices v.splices (revision_at v k).edit) (revision_at v k).edit)) (revision_at v k).root (rows_at v k)
-    longest_here made =
+    -- rows that are the longest are so over the session's table too
+    longest_here : AreLongest (image_table v) (parts_at v k) (revision_at v k).root (rows_at v k) → AreLongest (table_of coded_byte old.held) (parts_of (table_of coded_byte old.held) (roots_of old.revisions) (with_splices (named_splices v.splices (revision_at v k).edit) (revision_at v k).edit)) (revision_at v k).root (rows_at v k)
+    longest_here longest =
         let command = with_splices (named_splices v.splices (revision_at v k).edit) (revision_at v k).edit in
-        let first = subst (λ (t : Table). AreLongest t (parts_of t (roots_before v k) command) (revision_at v k).root (rows_at v k)) (sym takes.holds.table) made.longest in
+        let first = subst (λ (t : Table). AreLongest t (parts_of t (roots_before v k) command) (revision_at v k).root (rows_at v k)) (sym takes.holds.table) longest in
         subst (λ (rs : List (Option NodeId)). AreLongest (table_of coded_byte old.held) (parts_of (table_of coded_byte old.held) rs command) (revision_at v k).root (rows_at v k)) (sym takes.roots) first
 
     -- so too many rows are not all as they are made
     pub not_as_made : PassRows old (revision_at v k).edit (named_splices v.splices (revision_at v k).edit) (revision_at v k).root (rows_at v k) → ¬ AreAsMade v
     not_as_made pass each =
-        let many = pass (longest_here (each k lt)) in
+        let many = pass (longest_here (each k lt).longest) in
         let before = rows_so_far (λ j below. each j (omega arith)) in
         omega (arith, many, before, length_rows_at, rows_inside v is k lt, is.few_rows)
 
@@ -138,8 +138,8 @@ module _ (v : ImageValue) (is : IsImage v) (k : ℕ) (lt : k < length v.revision
     }
 
     -- rows that pass over the session's table pass over the image's
-    pub pass_of : IsSession old → KnownRowsPass old (revision_at v k).edit (named_splices v.splices (revision_at v k).edit) (revision_at v k).root → TakenRowsPass v
-    pass_of session pass =
+    pub pass_of : IsSession old → HasRowsOverNoSource v k → KnownRowsPass old (revision_at v k).edit (named_splices v.splices (revision_at v k).edit) (revision_at v k).root → TakenRowsPass v
+    pass_of session over pass =
         let command = with_splices (named_splices v.splices (revision_at v k).edit) (revision_at v k).edit in
         let root = (revision_at v k).root in
         let c = held_coded old.held in
@@ -153,6 +153,7 @@ module _ (v : ImageValue) (is : IsImage v) (k : ℕ) (lt : k < length v.revision
           there = lt;
           before = each_rows old.revisions;
           first = first_rows session;
+          own = over;
           rows = pass.rows;
           made = third;
           full = omega (arith, sum, pass.full);
@@ -174,7 +175,7 @@ module _ (v : ImageValue) (is : IsImage v) (k : ℕ) (lt : k < length v.revision
           subst (λ (t : Table). IsTrue puts.made.mark ↔ IsBalancedRope t (revision_at v k).root) (ap (λ (h : Held Coded). table_of coded_byte h) puts.held ∙ takes.holds.table)
           (subst (λ (root : Option NodeId). IsTrue puts.made.mark ↔ IsBalancedRope (table_of coded_byte new.held) root) puts.its_root made_is.mark) in
           let mark : puts.made.mark ≡ (revision_at v k).mark = same_answer _ _ marked as_made.mark in
-          let rows : length puts.made.rows.items ≡ (revision_at v k).rows = ap length (puts.its_rows (longest_here as_made)) ∙ length_rows_at in
+          let rows : length puts.made.rows.items ≡ (revision_at v k).rows = ap length (puts.its_rows (longest_here as_made.longest)) ∙ length_rows_at in
           λ i. record { edit = puts.its_edit i; mark = mark i; root = puts.its_root i; rows = rows i }
 
       -- the rows that were put stand for it
@@ -194,7 +195,7 @@ module _ (v : ImageValue) (is : IsImage v) (k : ℕ) (lt : k < length v.revision
           let edit = subst (λ (e : Edit). MadeWhole (image_table v) (coded_at v) (parts_of (image_table v) (roots_before v k) (with_splices puts.made.splices.items e)) root rows) puts.its_edit roots in
           let splices = subst (λ (ss : List Splice). MadeWhole (image_table v) (coded_at v) (parts_of (image_table v) (roots_before v k) (with_splices ss (revision_at v k).edit)) root rows) puts.its_splices edit in
           let all = subst (λ (x : Option NodeId). MadeWhole (image_table v) (coded_at v) (parts_at v k) x rows) puts.its_root splices in
-          record { made = all.made; whole = all.whole; own = λ as_made. puts.its_rows (longest_here as_made) }
+          record { made = all.made; whole = all.whole; own = λ longest. puts.its_rows (longest_here longest) }
 
       pub takes_more : TakesFirst v (k + 1) new
       takes_more =
@@ -236,7 +237,7 @@ module _ (v : ImageValue) (is : IsImage v) (k : ℕ) (lt : k < length v.revision
                 ∙ sym (next v.revisions k no_revision lt);
             rows_as_made = λ each.
                 ap rows_in puts.revisions ∙ flat_push (λ (r : Kept.Revision). r.rows.items) before made
-                ∙ ap (λ (xs : List Row). rows_in before ++ xs) (puts.its_rows (longest_here (each k (omega arith))))
+                ∙ ap (λ (xs : List Row). rows_in before ++ xs) (puts.its_rows (longest_here (each k (omega arith)).longest))
                 ∙ ap (λ (xs : List Row). xs ++ rows_at v k) (takes.rows_as_made (λ j below. each j (omega arith)))
                 ∙ sym (take-add (rows_before v k) (revision_at v k).rows v.rows)
                 ∙ sym (ap (λ (m : ℕ). take m v.rows) (rows_before_more v k lt));
@@ -255,10 +256,12 @@ takes_all v is k past s takes =
       sources = takes.holds.sources;
       nodes = takes.holds.nodes;
       pool = takes.holds.pool;
+      block = takes.holds.block;
       table = takes.holds.table;
       edits = takes.edits ∙ ap (map (λ (r : Revision). r.edit)) whole;
       roots = takes.roots ∙ ap (map (λ (r : Revision). r.root)) whole;
       splices = takes.splices ∙ splices;
+      stand = takes.stand;
       as_made = λ each.
           let each_here : (j : ℕ) → j < k → IsAsMade v j = λ j below. each j (omega (arith, below, takes.inside)) in
           let recorded : map recorded_revision s.revisions ≡ v.revisions = takes.revisions_as_made each_here ∙ whole in

@@ -6,6 +6,7 @@
 ghost use Rattle.std.specs.Prelude.{◌≡◌, ◌+◌, ◌<◌, ◌≤◌, length, take, drop, IfOk, IfErr, OnOk, OnErr};
 ghost use Rattle.command_parts.specs.Commands.{named_splices, NamesSplices};
 ghost use Rattle.image_reader.specs.Accepted.{rows_before, splices_before};
+ghost use Rattle.edit_commands.specs.Session.{IsSession};
 ghost use Rattle.session_checker.specs.Faithful.{EachRevision, HasTrueRecordsOf};
 ghost use Rattle.session_checker.specs.RevisionRules.{HasRowsOverNoSource};
 ghost use Rattle.image_reader.specs.Value.{IsImage};
@@ -137,6 +138,7 @@ fn take_nodes(alloc: Global, checked: &Checked<'_>) -> Result<Session, TakeFault
 pub fn take_up(alloc: Global, checked: &Checked<'_>) -> Result<Session, TakeFault>
     requires { WasChecked checked.now }
     ensures taken { IfOk result (TakesUp checked.now) }
+    ensures session { IfOk result IsSession }
     ensures no_source { IfOk result (λ s. EachRevision checked.now (HasRowsOverNoSource checked.now)) }
     ensures fault { IfErr result (IsTakeFault checked.now) }
 {
@@ -163,5 +165,6 @@ pub fn take_up(alloc: Global, checked: &Checked<'_>) -> Result<Session, TakeFaul
         first += revision.edit.splice_count();
         from += revision.rows;
     }
+    let _made = session.count();
     Ok(session)
 }

@@ -169,9 +169,13 @@ returns-in-Err-TooManyRows-clause-fault c =
     let edit : c.revision-revision.result.edit ≡ (revision_at v k).edit = ap (λ (r : Revision). r.edit) rev in
     let root : c.revision-revision.result.root ≡ (revision_at v k).root = ap (λ (r : Revision). r.root) rev in
     let rows : c.in-Ok.rows.items ≡ rows_at v k = rows_are v k c.args.revisions.now c.requires.same c.revision-revision.result c.revision-revision.ensures.at c.in-Ok.rows.items c.rows.result.image.now c.rows.result.from c.rows.result.count c.in-Ok.ensures c.rows.ensures.image (c.rows.ensures.from ∙ c.requires.from) c.rows.ensures.count in
+    let parts : c.parts-known.result ≡ parts_at v k = parts_are v k c.args.revisions.now c.requires.same c.revision-revision.result c.revision-revision.ensures.at c.parts-known.result c.earlier-roots.result.image.now c.earlier-roots.result.k c.parts-known.ensures.exact c.earlier-roots.ensures.image c.earlier-roots.ensures.k in
+    let slice : c.deref.result.now ≡ rows_at v k = c.deref.ensures.value ∙ rows in
+    let met : MeetsNoSource (image_table v) c.parts-known.result c.revision-revision.result.root c.deref.result.now = c.meets_no_source.ensures.0 (search rules) in
+    let over : HasRowsOverNoSource v k = rw (parts, root, slice) at met in
     let splices : c.in-Ok-splices_named.splices.items ≡ named_splices v.splices (revision_at v k).edit = splices_are v k c.args.revisions.now c.requires.same c.revision-revision.result c.revision-revision.ensures.at c.in-Ok-splices_named.splices.items c.in-Ok-splices_named.ensures in
     let old = c.args.session.now in
     let takes = c.requires.takes in
     let pass = rw (edit, root, splices, rows) at (c.in-Err-TooManyRows.ensures.too_many (ap (λ (e : EditFault). Err e) c.in-Err-TooManyRows.field-0-is)) in
     let passed = rw (edit, root, splices) at (c.in-Err-TooManyRows.ensures.pass (ap (λ (e : EditFault). Err e) c.in-Err-TooManyRows.field-0-is)) in
-    (pass_of v is k lt place old takes c.count-held.ensures.session passed, not_as_made v is k lt place old takes pass)
+    (pass_of v is k lt place old takes c.count-held.ensures.session over passed, not_as_made v is k lt place old takes pass)
