@@ -83,7 +83,7 @@ module _ {at_most : Option ℕ} {old new : Reading} {bytes : List ℕ} (script :
   stopped_onto (Stop at) last before after goes keeps = record {
     checked = Ok w.v;
     check = w.check;
-    written = (keeps, record { begun = begun; from_image = w.from_image; last = last; stops = goes });
+    written = (keeps, record { begun = begun; from_image = w.from_image; last = last; stops = goes.0; session = goes.1 });
   }
   stopped_onto Write last before after goes keeps = absurd goes
 

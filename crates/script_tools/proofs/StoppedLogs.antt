@@ -5,7 +5,7 @@ use Rattle.std.proofs.lemmas.List.{length-append, length-map, take_at, get_or_at
 use Rattle.command_parts.specs.Commands.{FullEdit, New, full_edit}
 use Rattle.edit_commands.specs.declared.fault.EditFault.{EditFault}
 use Rattle.edit_commands.specs.Applying.{AppliesOrNot}
-use Rattle.edit_commands.specs.Session.{SessionValue, IsSession, command_of, commands_of}
+use Rattle.edit_commands.specs.Session.{SessionValue, IsSession, command_of, commands_of, new_session}
 use Rattle.edit_commands.specs.Building.{command_with}
 use Rattle.edit_commands.specs.declared.command.Command.{Command}
 use Rattle.edit_script.specs.declared.fault.Stop.{Stop}
@@ -24,8 +24,7 @@ use Rattle.image_reader.specs.Accepted.{command_at, no_revision}
 use Rattle.session_checker.specs.Faithful.{commands}
 use Rattle.script_tools.specs.Refused.{IsNextOf, MeetsLimit, StopsAtLimit}
 use Rattle.script_tools.proofs.LoggedScripts.{some_words}
-use Rattle.script_tools.specs.Applied.{IsBegun}
-use Rattle.script_tools.proofs.Made.{no_words, none_inside, sources_kept}
+use Rattle.script_tools.proofs.FurtherLines.{lines_go_further}
 use Rattle.script_tools.proofs.NextCommands.{unchanged_or_met}
 
 -- what a session says that took the first k lines of an image's log, and what is left of that
@@ -44,7 +43,7 @@ line_taken w old k line mid ws left takes says before =
     let grows = says_script old k (line ∷ []) (Ok tt) mid (says.first ∷ []) before.inside refl lines (inr ([], one, refl)) in
     record {
       inside = grows.1;
-      sources = sources_kept old k (line ∷ []) (Ok tt) mid refl lines ∙ before.sources;
+      sources = (lines_go_further old k (line ∷ []) (Ok tt) mid refl lines).keeps.goes_on.sources ∙ before.sources;
       many = ap length grows.0 ∙ length-append (words_held old) (says.first ∷ []) ∙ omega (arith, before.many);
       words = ap (λ (vs : List (List Word)). vs ++ left) grows.0 ∙ append_assoc (words_held old) (says.first ∷ []) left
           ∙ ap (λ (vs : List (List Word)). words_held old ++ vs) (sym says.all) ∙ before.words;
@@ -95,11 +94,11 @@ line_stops : (w : ImageValue) → NextMeets w → (old new : SessionValue) (k : 
 line_stops w meets old new k line lines left Memory session before says stops = tt
 line_stops w meets old new k line lines [] NoCommand session before says stops = absurd (stops.1 [] refl says.0)
 line_stops w meets old new k line lines (ws ∷ left) NoCommand session before says stops = absurd (stops.1 says.0.first says.0.known says.0.words)
-line_stops w meets old new k line lines [] (Refused fault) session before says (vs, known, has, refuses) =
+line_stops w meets old new k line lines [] (Refused fault) session before says (no_memory, (vs, known, has, refuses)) =
     let none : vs ≡ [] = one_command line vs [] known refl has says.0 in
     let command = refuses.command in
     absurd (omega (arith, some_words (bytes_handed command) (command_with (places_handed command) command), ap length refuses.words, ap length none))
-line_stops w meets old new k line lines (ws ∷ left) (Refused fault) session before says (vs, known, has, refuses) =
+line_stops w meets old new k line lines (ws ∷ left) (Refused fault) session before says (no_memory, (vs, known, has, refuses)) =
     let first = says.0 in
     let same : vs ≡ first.first = one_command line vs first.first known first.known has first.words in
     let next : ws ∷ left ≡ vs ∷ left = first.all ∙ ap (λ (us : List Word). us ∷ left) (sym same) in
@@ -120,10 +119,5 @@ log_stops w meets old k (line ∷ lines) (ws ∷ left) at result new is session 
     log_stops w meets mid (k + 1) lines left at result new is session (line_taken w old k line mid ws left takes says.0 before) says.1 later
 
 -- a session without revisions has said nothing of it
-pub first_line : (w : ImageValue) (v : SessionValue) → IsBegun w.sources v → IsBefore w v 0 (map (words_of w.pool) (commands w))
-first_line w v begun = record {
-  inside = none_inside v begun.revisions;
-  sources = begun.sources;
-  many = ap length (no_words v begun.revisions);
-  words = ap (λ (ws : List (List Word)). ws ++ map (words_of w.pool) (commands w)) (no_words v begun.revisions);
-}
+pub first_line : (w : ImageValue) → IsBefore w (new_session w.sources) 0 (map (words_of w.pool) (commands w))
+first_line w = record { inside = tt; sources = refl; many = refl; words = refl }

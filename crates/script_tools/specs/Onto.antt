@@ -42,6 +42,7 @@ pub record IsStoppedOnto (v : ImageValue) (script : List ℕ) (at : Stopped) : T
   pub from_image : IsTakenUp v begun
   pub last : SessionValue
   pub stops : TakesLines begun 0 (lines_of script) (Err at) last
+  pub session : IsSession last
 
 -- ---- the two halves of the call
 
@@ -68,7 +69,7 @@ pub record TakesScript (begun : SessionValue) (script : List ℕ) (made : Sessio
 -- it takes them, or stops at one
 abbrev pub GoesOnBy : SessionValue → List ℕ → Result (Unit {0}) OntoFault → SessionValue → Type 0
 GoesOnBy begun script (Ok u) last = TakesScript begun script last
-GoesOnBy begun script (Err (Stop at)) last = TakesLines begun 0 (lines_of script) (Err at) last
+GoesOnBy begun script (Err (Stop at)) last = TakesLines begun 0 (lines_of script) (Err at) last × IsSession last
 GoesOnBy begun script _ last = ⊥
 
 -- ---- what is written

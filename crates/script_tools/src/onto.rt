@@ -58,7 +58,10 @@ fn go_on<P: Progress>(
             let _made = session.count();
             Ok(())
         }
-        Err(at) => Err(OntoFault::Stop(at)),
+        Err(at) => {
+            let _left = session.count();
+            Err(OntoFault::Stop(at))
+        }
     }
 }
 
