@@ -1,12 +1,13 @@
 -- What is written of a commit.
-use Rattle.std.proofs.Common.{◌≡◌, ℕ, List, [], length, Option, None, Result, Ok, Err, sym, ap, subst, ◌∙◌, arith}
+use Rattle.std.proofs.Common.{◌≡◌, ℕ, ◌+◌, List, [], length, Option, None, Result, Ok, Err, refl, sym, ap, subst, ◌∙◌, arith}
 use Rattle.std.specs.Io.KnownBytes.{Appends, Keeps}
 use Rattle.std.proofs.lemmas.List.{length-map}
 use Rattle.byte_output.specs.Prefix.{AppendsPrefix}
 use Rattle.lazy_file.specs.SourceTexts.{Agrees, Stated, stated_in_memory}
 use Rattle.lazy_file.specs.Readings.{Reading}
 use Rattle.lazy_file.proofs.LaterReads.{reads_same}
-use Rattle.edit_commands.specs.Session.{SessionValue, HoldsHistory}
+use Rattle.rope_node.specs.Denotes.{rope_len}
+use Rattle.edit_commands.specs.Session.{SessionValue, HoldsHistory, new_session, session_table, store_with}
 use Rattle.edit_commands.specs.declared.revision.Revision as Kept
 use Rattle.image_reader.specs.declared.revision.Revision.{Revision}
 use Rattle.image_reader.specs.Spelling.{spelling}
@@ -22,9 +23,9 @@ use Rattle.commit_tools.specs.declared.answer.Commit.{Commit}
 use Rattle.commit_tools.specs.declared.answer.Commit.TheVariants.{Same, Added}
 use Rattle.commit_tools.specs.declared.fault.CommitFault.{CommitFault}
 use Rattle.commit_tools.specs.declared.fault.CommitFault.TheVariants.{Check, TakeUp, Read, Edit, Memory, Write}
-use Rattle.commit_tools.specs.Commits.{BeginsCommit, BeginsBehind, CommitsAnew, CommitsOnto, CommitsText, IsCommitted, IsCommittedAnew, IsEmptySession}
+use Rattle.commit_tools.specs.Commits.{BeginsCommit, BeginsBehind, CommitsAnew, CommitsOnto, CommitsText, IsCommitted, IsCommittedAnew}
 use Rattle.commit_tools.specs.Stops.{StopsCommit}
-use Rattle.commit_tools.specs.Texts.{ReadsLast}
+use Rattle.commit_tools.specs.Texts.{ReadsLast, last_root}
 use Rattle.commit_tools.proofs.CommittedTexts.{no_cells}
 use Rattle.commit_tools.proofs.LastRoots.{last_none}
 
@@ -87,24 +88,40 @@ module _ {at_most : Option ℕ} {old mid : Reading} {bytes file : List ℕ} {beg
 pub nothing_stated : (source : ℕ → ℕ → ℕ) → Agrees (stated_in_memory []) source
 nothing_stated source s p t stated lt = absurd cc
 
-committed_anew : (st : Stated) (begun made : SessionValue) (file : List ℕ) (revision : ℕ) → st ≡ stated_in_memory [] → IsEmptySession begun → HoldsHistory made
-    → CommitsText st begun file (Ok (Added revision)) made → IsCommittedAnew file revision made
-committed_anew st begun made file revision none empty history commits = record {
-  begun = begun;
-  empty = empty;
-  further = commits.0.further;
-  last = commits.0.last;
-  text = λ source. commits.0.text source (subst (λ (s : Stated). Agrees s source) (sym none) (nothing_stated source)) (no_cells st begun source (last_none begun (ap length empty.revisions)));
+-- what a commit makes of a session that is new, over no sources
+pub commits_anew : (st : Stated) (begun made : SessionValue) (file : List ℕ) (result : Result Commit CommitFault) → st ≡ stated_in_memory [] → begun.held ≡ store_with [] → begun.revisions ≡ []
+    → CommitsText st begun file result made → CommitsText (stated_in_memory []) (new_session []) file result made
+commits_anew st begun made file result none store revisions commits =
+    let is : begun ≡ new_session [] = λ i. record { held = store i; revisions = revisions i } in
+    subst (λ (v : SessionValue). CommitsText (stated_in_memory []) v file result made) is (subst (λ (s : Stated). CommitsText s begun file result made) none commits)
+
+-- over no text no read fails
+pub fails_anew : (mid new : Reading) (begun made : SessionValue) (file : List ℕ) (fault : CommitFault) (before : Option (List ℕ)) → begun.revisions ≡ []
+    → CommitsText (stated_in_memory []) (new_session []) file (Err fault) made → ReadsLast {X = Commit} begun mid new (Err fault) → Keeps before before → CommitsAnew file before before (Err fault)
+fails_anew mid new begun made file (Edit fault) before none commits reads keeps = (keeps, commits)
+fails_anew mid new begun made file Memory before none commits reads keeps = keeps
+fails_anew mid new begun made file (Read fault) before none commits reads keeps =
+    let no_root : last_root begun ≡ None = last_none begun (ap length none) in
+    let no_len : rope_len (session_table begun) (last_root begun) ≡ 0 = ap (rope_len (session_table begun)) no_root in
+    absurd (omega (arith, reads.asked.2, no_len))
+fails_anew mid new begun made file (Check fault) before none commits reads keeps = absurd commits
+fails_anew mid new begun made file (TakeUp fault) before none commits reads keeps = absurd commits
+fails_anew mid new begun made file Write before none commits reads keeps = absurd commits
+
+committed_anew : (made : SessionValue) (file : List ℕ) (revision : ℕ) → HoldsHistory made → CommitsText (stated_in_memory []) (new_session []) file (Ok (Added revision)) made → IsCommittedAnew file revision made
+committed_anew made file revision history commits = record {
+  reaches = commits.0;
+  text = λ source. commits.0.text source (nothing_stated source) (no_cells (stated_in_memory []) (new_session []) source refl);
   history = history;
 }
 
-pub written_anew : (st : Stated) (begun made : SessionValue) (file : List ℕ) (commit : Commit) (before after : Option (List ℕ)) → st ≡ stated_in_memory [] → IsEmptySession begun → HoldsHistory made
-    → CommitsText st begun file (Ok commit) made → IsImage (image_of made) → IsTrusted made → AreAsMade (image_of made) → Appends before after (spelling (image_of made)) → CommitsAnew file before after (Ok commit)
-written_anew st begun made file (Added revision) before after none empty history commits image trusted as_made appends =
-    (made, committed_anew st begun made file revision none empty history commits, image, trusted, as_made, appends)
-written_anew st begun made file (Same revision) before after none empty history commits image trusted as_made appends = absurd (omega (arith, commits.1.last, ap length empty.revisions))
+pub written_anew : (made : SessionValue) (file : List ℕ) (commit : Commit) (before after : Option (List ℕ)) → HoldsHistory made
+    → CommitsText (stated_in_memory []) (new_session []) file (Ok commit) made → IsImage (image_of made) → IsTrusted made → AreAsMade (image_of made) → Appends before after (spelling (image_of made)) → CommitsAnew file before after (Ok commit)
+written_anew made file (Added revision) before after history commits image trusted as_made appends =
+    (made, committed_anew made file revision history commits, image, trusted, as_made, appends)
+written_anew made file (Same revision) before after history commits image trusted as_made appends = let none : 0 ≡ revision + 1 = commits.1.last in absurd (omega (arith, none))
 
-pub cut_anew : (st : Stated) (begun made : SessionValue) (file : List ℕ) (commit : Commit) (before after : Option (List ℕ)) → st ≡ stated_in_memory [] → IsEmptySession begun → HoldsHistory made
-    → CommitsText st begun file (Ok commit) made → AppendsPrefix before after (spelling (image_of made)) → CommitsAnew file before after (Err Write)
-cut_anew st begun made file (Added revision) before after none empty history commits prefix = (made, revision, committed_anew st begun made file revision none empty history commits, prefix)
-cut_anew st begun made file (Same revision) before after none empty history commits prefix = absurd (omega (arith, commits.1.last, ap length empty.revisions))
+pub cut_anew : (made : SessionValue) (file : List ℕ) (commit : Commit) (before after : Option (List ℕ)) → HoldsHistory made
+    → CommitsText (stated_in_memory []) (new_session []) file (Ok commit) made → AppendsPrefix before after (spelling (image_of made)) → CommitsAnew file before after (Err Write)
+cut_anew made file (Added revision) before after history commits prefix = (made, revision, committed_anew made file revision history commits, prefix)
+cut_anew made file (Same revision) before after history commits prefix = let none : 0 ≡ revision + 1 = commits.1.last in absurd (omega (arith, none))

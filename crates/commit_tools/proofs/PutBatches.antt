@@ -102,37 +102,40 @@ fails_later found file first left begun last new Write leads stops = absurd stop
 
 -- a batch that was handed in is one of what was found
 batch_hands : (found : Found) (file : List ℕ) (first left : ℕ) (batch : Batch) (old : SessionValue) (command : Command) → first < left → left ≤ first + MOST_SPLICES → EndApart (slice_range found.changes.items first left)
+    → (1 ≤ first → left < first + MOST_SPLICES → ¬ EndApart (slice_range found.changes.items (first - 1) left))
     → IsHandedBatch found file (slice_range found.changes.items first left) batch → IsManyAt (length old.revisions - 1) batch.changes.items batch.bytes.items command → HandsBatch found file first left old command
-batch_hands found file first left batch old command order few apart handed many = record {
+batch_hands found file first left batch old command order few apart longest handed many = record {
   some = order;
   few = few;
   apart = apart;
+  longest = longest;
   is = subst (λ (bs : List ℕ). IsManyAt (length old.revisions - 1) (map (shifted found.front) (slice_range found.changes.items first left)) bs command) handed.bytes_are
       (subst (λ (cs : List Session.Change). IsManyAt (length old.revisions - 1) cs batch.bytes.items command) handed.changes_are many);
 }
 
 pub put_made : (found : Found) (file : List ℕ) (first left : ℕ) (batch : Batch) (old new : SessionValue) (command : Command) (result : Result (Unit {0}) CommitFault) → IsBeside found file → first < left
     → left ≤ first + MOST_SPLICES → EndApart (slice_range found.changes.items first left)
+    → (1 ≤ first → left < first + MOST_SPLICES → ¬ EndApart (slice_range found.changes.items (first - 1) left))
     → IsHandedBatch found file (slice_range found.changes.items first left) batch → 1 ≤ length old.revisions
     → IsManyAt (length old.revisions - 1) batch.changes.items batch.bytes.items command → TakesCommand old command result new → PutsBatch found file first left old result new
-put_made found file first left batch old new command (Ok u) is order few apart handed some many makes = record {
+put_made found file first left batch old new command (Ok u) is order few apart longest handed some many makes = record {
   command = command;
-  hands = batch_hands found file first left batch old command order few apart handed many;
+  hands = batch_hands found file first left batch old command order few apart longest handed many;
   k = makes.0;
   applies = makes.1;
   goes = put_applied found file first left batch old new makes.0 command is (omega (arith, order)) handed some many makes.1;
 }
-put_made found file first left batch old new command (Err (Edit fault)) is order few apart handed some many makes = record {
+put_made found file first left batch old new command (Err (Edit fault)) is order few apart longest handed some many makes = record {
   command = command;
-  hands = batch_hands found file first left batch old command order few apart handed many;
+  hands = batch_hands found file first left batch old command order few apart longest handed many;
   no_memory = makes.0;
   stops = makes.1;
 }
-put_made found file first left batch old new command (Err Memory) is order few apart handed some many makes = tt
-put_made found file first left batch old new command (Err (Check fault)) is order few apart handed some many makes = absurd makes
-put_made found file first left batch old new command (Err (TakeUp fault)) is order few apart handed some many makes = absurd makes
-put_made found file first left batch old new command (Err (Read fault)) is order few apart handed some many makes = absurd makes
-put_made found file first left batch old new command (Err Write) is order few apart handed some many makes = absurd makes
+put_made found file first left batch old new command (Err Memory) is order few apart longest handed some many makes = tt
+put_made found file first left batch old new command (Err (Check fault)) is order few apart longest handed some many makes = absurd makes
+put_made found file first left batch old new command (Err (TakeUp fault)) is order few apart longest handed some many makes = absurd makes
+put_made found file first left batch old new command (Err (Read fault)) is order few apart longest handed some many makes = absurd makes
+put_made found file first left batch old new command (Err Write) is order few apart longest handed some many makes = absurd makes
 
 pub begun_empty : (old new : SessionValue) (command : Command) (result : Result (Unit {0}) CommitFault) → old.revisions ≡ [] → IsNew command → TakesCommand old command result new → BeginsEmpty old result new
 begun_empty old new command (Ok u) none is makes =

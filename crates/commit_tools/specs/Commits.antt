@@ -4,7 +4,7 @@ use Rattle.std.specs.Io.KnownBytes.{Appends, Keeps}
 use Rattle.byte_output.specs.Prefix.{AppendsPrefix}
 use Rattle.lazy_file.specs.SourceTexts.{Stated, stated_in_memory}
 use Rattle.lazy_file.specs.Readings.{Reading}
-use Rattle.edit_commands.specs.Session.{SessionValue, HoldsHistory, texts_of}
+use Rattle.edit_commands.specs.Session.{SessionValue, HoldsHistory, new_session, texts_of}
 use Rattle.edit_commands.specs.declared.fault.EditFault.{EditFault}
 use Rattle.image_reader.specs.Spelling.{spelling}
 use Rattle.image_reader.specs.Value.{ImageValue, IsImage}
@@ -14,7 +14,7 @@ use Rattle.session_checker.specs.Faithful.{texts}
 use Rattle.session_checker.specs.Limits.{ChecksWithin}
 use Rattle.saved_session.specs.TakeFaults.{IsTakeFault}
 use Rattle.saved_session.specs.GoneFurther.{GoesFurther, IsTakenUp}
-use Rattle.commit_tools.specs.Stops.{StopsCommit}
+use Rattle.commit_tools.specs.Stops.{TakesCommit, StopsCommit}
 use Rattle.commit_tools.specs.Texts.{OverLast, ReadsLast, last_text}
 use Rattle.commit_tools.specs.declared.answer.Commit.{Commit}
 use Rattle.commit_tools.specs.declared.answer.Commit.TheVariants.{Same, Added}
@@ -23,12 +23,13 @@ use Rattle.commit_tools.specs.declared.fault.CommitFault.TheVariants.{Check, Tak
 
 -- ---- a session
 
--- a session goes further, up to a revision whose text is the file's
+-- a session goes further by the commands of a commit, up to a revision whose text is the file's
 pub record ReachesText (st : Stated) (begun : SessionValue) (file : List ℕ) (revision : ℕ) (made : SessionValue)
     : Type 0 where
   pub further : GoesFurther begun made
   pub last : length made.revisions ≡ revision + 1
   pub text : OverLast st begun (λ source. last_text source made ≡ file)
+  pub by : TakesCommit st begun file made
 
 -- Where the last text is the file's already, nothing changes. Else the session reaches it, and had another before, or
 -- none.
@@ -116,17 +117,9 @@ pub record CommitsOnto (at_most : Option ℕ) (old new : Reading) (bytes file : 
 
 -- ---- anew
 
--- a session without revisions and sources
-pub record IsEmptySession (v : SessionValue) : Type 0 where
-  pub revisions : v.revisions ≡ []
-  pub sources : v.held.sources ≡ []
-
 -- a new session whose last text is the file's
 pub record IsCommittedAnew (file : List ℕ) (revision : ℕ) (made : SessionValue) : Type 0 where
-  pub begun : SessionValue
-  pub empty : IsEmptySession begun
-  pub further : GoesFurther begun made
-  pub last : length made.revisions ≡ revision + 1
+  pub reaches : ReachesText (stated_in_memory []) (new_session []) file revision made
   pub text : (source : ℕ → ℕ → ℕ) → last_text source made ≡ file
   pub history : HoldsHistory made
 
@@ -139,7 +132,6 @@ CommitsAnew file before after (Err Write) =
     (made : SessionValue) × (revision : ℕ) × IsCommittedAnew file revision made
     × AppendsPrefix before after (spelling (image_of made))
 CommitsAnew file before after (Err (Edit fault)) =
-    Keeps before after
-    × ((begun : SessionValue) × IsEmptySession begun × StopsCommit (stated_in_memory []) begun file fault)
+    Keeps before after × StopsCommit (stated_in_memory []) (new_session []) file fault
 CommitsAnew file before after (Err Memory) = Keeps before after
 CommitsAnew file before after other = ⊥

@@ -5,11 +5,10 @@ use Rattle.edit_commands.specs.Session.{SessionValue}
 use Rattle.edit_commands.specs.Applying.{Applies, AppliesOrNot}
 use Rattle.edit_commands.specs.declared.command.Command.{Command}
 use Rattle.edit_commands.specs.declared.fault.EditFault.{EditFault}
-use Rattle.edit_commands.specs.declared.fault.EditFault.TheVariants as EditFault
 use Rattle.saved_session.specs.GoneFurther.{GoesFurther}
 use Rattle.commit_tools.specs.Texts.{OverLast, last_root, last_text}
 use Rattle.commit_tools.specs.Found.{text_from}
-use Rattle.commit_tools.specs.Stops.{BeginsWithNew, HandsBatch, StopsAtBatch, StopsAtNew, StopsBehind}
+use Rattle.commit_tools.specs.Stops.{BeginsWithNew, TakesBatches, HandsBatch, LeadsTo, StopsAtBatch, StopsAtNew, StopsBehind}
 use Rattle.commit_tools.specs.declared.fault.CommitFault.{CommitFault}
 use Rattle.commit_tools.specs.declared.fault.CommitFault.TheVariants.{Edit, Memory, Read}
 use Rattle.commit_tools.specs.declared.found.Found.{Found}
@@ -54,7 +53,8 @@ PutsBatch found file first left old (Err other) new = ⊥
 
 -- all changes are made, or the session stops at a batch, or memory is refused
 abbrev pub PutsAll : Found → List ℕ → SessionValue → Result (Unit {0}) CommitFault → SessionValue → Type 0
-PutsAll found file old (Ok u) new = GoesOnTo found file 0 (length found.changes.items) old new
+PutsAll found file old (Ok u) new =
+    GoesOnTo found file 0 (length found.changes.items) old new × ((ends : List ℕ) × LeadsTo found file old ends 0 new)
 PutsAll found file old (Err (Edit fault)) new = StopsAtBatch found file old fault
 PutsAll found file old (Err Memory) new = Unit {0}
 PutsAll found file old (Err other) new = ⊥
@@ -71,8 +71,9 @@ BeginsEmpty old (Err other) new = ⊥
 abbrev pub GoesOnToText : Stated → SessionValue → List ℕ → Result Bool CommitFault → SessionValue → Type 0
 GoesOnToText st old file (Ok true) new =
     GoesFurther old new × (1 ≤ length new.revisions) × OverLast st old (λ source. last_text source new ≡ file)
-    × OverLast st old (λ source. last_text source old ≢ file)
-GoesOnToText st old file (Ok false) new = (new ≡ old) × OverLast st old (λ source. last_text source old ≡ file)
+    × OverLast st old (λ source. last_text source old ≢ file) × TakesBatches st old file new
+GoesOnToText st old file (Ok false) new =
+    (new ≡ old) × OverLast st old (λ source. last_text source old ≡ file) × TakesBatches st old file new
 GoesOnToText st old file (Err (Edit fault)) new = StopsBehind st old file fault
 GoesOnToText st old file (Err (Read fault)) new = Unit {0}
 GoesOnToText st old file (Err Memory) new = Unit {0}

@@ -1,4 +1,4 @@
--- A session that stops on its way to a file's text.
+-- The way of a session to a file's text, and where it stops.
 use Rattle.std.specs.Prelude.{◌≡◌, ◌≢◌, ℕ, ◌+◌, ◌-◌, ◌<◌, ◌≤◌, List, [], ◌∷◌, length, map, slice_range, Err}
 use Rattle.lazy_file.specs.SourceTexts.{Stated}
 use Rattle.rope_node.specs.Denotes.{rope_len}
@@ -9,7 +9,6 @@ use Rattle.edit_commands.specs.declared.command.Change as Session
 use Rattle.edit_commands.specs.declared.command.Command.{Command}
 use Rattle.edit_commands.specs.declared.command.Command.TheVariants.{New, Many}
 use Rattle.edit_commands.specs.declared.fault.EditFault.{EditFault}
-use Rattle.edit_commands.specs.declared.fault.EditFault.TheVariants as EditFault
 use Rattle.line_changes.specs.declared.change.Change.{Change}
 use Rattle.commit_tools.specs.Texts.{OverLast, last_root, last_text}
 use Rattle.commit_tools.specs.Found.{IsBeside, file_middle, text_before}
@@ -39,12 +38,13 @@ EndApart [] = Unit {0}
 EndApart (c ∷ changes) = EndsBefore c changes × EndApart changes
 
 -- a command makes a batch of what was found, of the last text: the changes from number `first` up to `left`, at least
--- one and not too many, none of which touches the next
+-- one and not too many, none of which touches the next, and as many as there may be
 pub record HandsBatch (found : Found) (file : List ℕ) (first left : ℕ) (last : SessionValue) (command : Command)
     : Type 0 where
   pub some : first < left
   pub few : left ≤ first + MOST_SPLICES
   pub apart : EndApart (slice_range found.changes.items first left)
+  pub longest : 1 ≤ first → left < first + MOST_SPLICES → ¬ EndApart (slice_range found.changes.items (first - 1) left)
   pub is : IsManyAt (length last.revisions - 1)
       (map (shifted found.front) (slice_range found.changes.items first left))
       (bytes_put (file_middle found file) (slice_range found.changes.items first left)) command
@@ -56,6 +56,33 @@ LeadsTo found file begun [] first last = (first ≡ length found.changes.items) 
 LeadsTo found file begun (left ∷ ends) first last =
     (before : SessionValue) × (command : Command) × (k : ℕ) × LeadsTo found file begun ends left before
     × HandsBatch found file first left before command × Applies before command k last
+
+-- what turns a session's last text into the file's
+pub record FindsChanges (st : Stated) (begun : SessionValue) (file : List ℕ) (found : Found) : Type 0 where
+  pub beside : IsBeside found file
+  pub len : rope_len (session_table begun) (last_root begun) ≡ length (text_before found file)
+  pub text : OverLast st begun (λ source. last_text source begun ≡ text_before found file)
+
+-- a session with a last text takes the batches of all changes that turn it into the file's, and nothing else
+pub record TakesBatches (st : Stated) (begun : SessionValue) (file : List ℕ) (made : SessionValue) : Type 0 where
+  pub found : Found
+  pub finds : FindsChanges st begun file found
+  pub ends : List ℕ
+  pub leads : LeadsTo found file begun ends 0 made
+
+-- a session without revisions begins with an empty text
+pub record BeginsWithNew (begun new : SessionValue) : Type 0 where
+  pub none : begun.revisions ≡ []
+  pub command : Command
+  pub is : IsNew command
+  pub k : ℕ
+  pub applies : Applies begun command k new
+
+-- a session takes the commands of a commit: batches behind its last text, or behind the empty text with which it begins
+pub data TakesCommit (st : Stated) (begun : SessionValue) (file : List ℕ) (made : SessionValue) : Type 0 where
+  takes_behind_new : (empty : SessionValue) → BeginsWithNew begun empty → TakesBatches st empty file made
+      → TakesCommit st begun file made
+  takes_behind : 1 ≤ length begun.revisions → TakesBatches st begun file made → TakesCommit st begun file made
 
 -- ---- where it stops
 
@@ -75,9 +102,7 @@ pub record StopsAtBatch (found : Found) (file : List ℕ) (begun : SessionValue)
 -- a session with a last text does not take a batch of the changes that turn this text into the file's
 pub record StopsBehind (st : Stated) (begun : SessionValue) (file : List ℕ) (fault : EditFault) : Type 0 where
   pub found : Found
-  pub beside : IsBeside found file
-  pub len : rope_len (session_table begun) (last_root begun) ≡ length (text_before found file)
-  pub text : OverLast st begun (λ source. last_text source begun ≡ text_before found file)
+  pub finds : FindsChanges st begun file found
   pub stops : StopsAtBatch found file begun fault
 
 -- a session without revisions does not take the empty text with which it begins
@@ -87,14 +112,6 @@ pub record StopsAtNew (begun : SessionValue) (fault : EditFault) : Type 0 where
   pub no_memory : fault ≢ EditFault.Memory
   pub after : SessionValue
   pub stops : AppliesOrNot begun command (Err fault) after
-
--- a session without revisions begins with an empty text
-pub record BeginsWithNew (begun new : SessionValue) : Type 0 where
-  pub none : begun.revisions ≡ []
-  pub command : Command
-  pub is : IsNew command
-  pub k : ℕ
-  pub applies : Applies begun command k new
 
 -- a session does not take a command of a commit: the first one of all; or a batch, behind that or behind a last text
 pub data StopsCommit (st : Stated) (begun : SessionValue) (file : List ℕ) (fault : EditFault) : Type 0 where

@@ -1,6 +1,6 @@
 //! Changes handed to a session, as many at once as a command takes.
 
-ghost use Rattle.std.specs.Prelude.{◌≡◌, ◌+◌, ◌<◌, ◌≤◌, length, slice_range, IfOk};
+ghost use Rattle.std.specs.Prelude.{◌≡◌, ◌+◌, ◌-◌, ◌<◌, ◌≤◌, length, slice_range, IfOk};
 ghost use Rattle.command_parts.specs.declared.edit.TheConstants.{MOST_SPLICES};
 ghost use Rattle.edit_commands.specs.Refusals.{TakesAll};
 ghost use Rattle.commit_tools.specs.Found.{IsBeside};
@@ -22,14 +22,16 @@ pub struct Batch {
     pub bytes: Vec<u8>,
 }
 
-/// The first of the changes before number `left` that one command
-/// takes: each stands behind the one before it, with something between.
+/// The first of the changes before number `left` that one command takes: each stands behind
+/// the one before it, with something between, and they are as many as there may be.
 fn batch_start(found: &Found, left: usize) -> usize
     requires some { 1 ≤ left }
     requires inside { left ≤ length found.now.changes.items }
     ensures some { result < left }
     ensures few { left ≤ result + MOST_SPLICES }
     ensures apart { EndApart (slice_range found.now.changes.items result left) }
+    ensures longest { 1 ≤ result → left < result + MOST_SPLICES
+        → ¬ EndApart (slice_range found.now.changes.items (result - 1) left) }
 {
     let changes: &[LineChange] = &found.changes;
     let mut first = left - 1;
@@ -102,6 +104,8 @@ fn put_batch(
     requires inside { (first ≤ left) × (left ≤ length found.now.changes.items) }
     requires few { (first < left) × (left ≤ first + MOST_SPLICES) }
     requires apart { EndApart (slice_range found.now.changes.items first left) }
+    requires longest { 1 ≤ first → left < first + MOST_SPLICES
+        → ¬ EndApart (slice_range found.now.changes.items (first - 1) left) }
     requires some { 1 ≤ length session.old.revisions }
     ensures { PutsBatch found.now file.now first left session.old result session.new }
 {

@@ -14,4 +14,4 @@ make-requires c =
 pub returns : goal.returns
 returns c =
     put_made c.args.found.now c.args.file.now c.args.first c.args.left c.in-Ok.batch c.args.session.now c.make.new.session (Command.Many (c.count-r.result - 1) c.deref.result c.deref-2.result) c.make.result
-    c.requires.found c.requires.few.0 c.requires.few.1 c.requires.apart c.in-Ok.ensures c.requires.some (ap (λ (n : ℕ). n - 1) c.count-r.ensures.value, c.deref.ensures.value, c.deref-2.ensures.value) c.make.ensures
+    c.requires.found c.requires.few.0 c.requires.few.1 c.requires.apart c.requires.longest c.in-Ok.ensures c.requires.some (ap (λ (n : ℕ). n - 1) c.count-r.ensures.value, c.deref.ensures.value, c.deref-2.ensures.value) c.make.ensures

@@ -3,7 +3,7 @@ use Rattle.commit_tools.specs.Found.{text_from}
 use Rattle.saved_session.proofs.FurtherSessions.{further_itself}
 use Rattle.std.proofs.lemmas.Result.{err_from_is_err_and}
 use Rattle.commit_tools.specs.Put.{GoesOnTo}
-use Rattle.commit_tools.proofs.PutBatches.{fails_later, goes_through, leads_on}
+use Rattle.commit_tools.proofs.PutBatches.{Leads, fails_later, goes_through, leads_on}
 use Rattle.commit_tools.proofs.batches.put_changes.Goals as goal
 
 pub returns-in_err-put_batch : goal.returns-in_err-put_batch
@@ -30,5 +30,7 @@ loop-left-preserved c = record {
 
 pub returns : goal.returns
 returns c =
-    let none : c.loop-left.left ≡ 0 = omega (arith, c.loop-left-test.false) in
-    subst (λ (n : ℕ). GoesOnTo c.args.found.now c.args.file.now n (length c.args.found.now.changes.items) c.args.session.now c.loop-left.session) none c.loop-left.invariant.goes
+    let none : c.loop-left.left ≡ 0 = omega (arith, c.loop-left-test.false) in (
+      subst (λ (n : ℕ). GoesOnTo c.args.found.now c.args.file.now n (length c.args.found.now.changes.items) c.args.session.now c.loop-left.session) none c.loop-left.invariant.goes,
+      subst (λ (n : ℕ). Leads c.args.found.now c.args.file.now c.args.session.now n c.loop-left.session) none c.loop-left.invariant.leads,
+    )

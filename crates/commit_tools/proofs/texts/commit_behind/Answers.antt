@@ -1,7 +1,6 @@
-use Rattle.std.proofs.Common.{length}
 use Rattle.std.proofs.lemmas.Result.{err_from_is_err_and}
 use Rattle.commit_tools.specs.Texts.{read_fault_of}
-use Rattle.commit_tools.proofs.CommittedTexts.{goes_there, over_found, reads_last, stays_there, stops_behind}
+use Rattle.commit_tools.proofs.CommittedTexts.{finds_changes, goes_there, reads_last, stays_there, stops_behind}
 use Rattle.commit_tools.proofs.texts.commit_behind.Goals as goal
 use Rattle.std.proofs.lemmas.Bool.{both_ways}
 
@@ -16,23 +15,22 @@ returns-then-is_same-clause-text g c =
     let v = c.args.session.now in
     let st = (g.T.Sources.reading c.args.sources.now).stated in
     let found = c.in_ok-found.found in
-    let over = over_found v c.space.result.now c.last_root-rope.result st found c.args.file.now (length found.changes.items) c.space.ensures.store c.last_root-rope.ensures.root c.in_ok-found.ensures.text in
-    stays_there st v found c.args.file.now c.in_ok-found.ensures.found over (c.is_same.ensures.0 c.if-is_same.true)
+    let finds = finds_changes st v c.space.result.now c.last_root-rope.result found c.args.file.now c.space.ensures.store c.last_root-rope.ensures.root c.in_ok-found.ensures.found c.in_ok-found.ensures.text c.in_ok-found.ensures.len in
+    stays_there st v found c.args.file.now finds (c.is_same.ensures.0 c.if-is_same.true)
 
 pub returns-clause-text : goal.returns-clause-text
 returns-clause-text g c =
     let v = c.args.session.now in
     let st = (g.T.Sources.reading c.args.sources.now).stated in
     let found = c.in_ok-found.found in
-    let over = over_found v c.space.result.now c.last_root-rope.result st found c.args.file.now (length found.changes.items) c.space.ensures.store c.last_root-rope.ensures.root c.in_ok-found.ensures.text in
-    goes_there st v c.put_changes.new.session found c.args.file.now c.in_ok-found.ensures.found over (λ none. both_ways c.is_same.result c.if-is_same.false (c.is_same.ensures.1 none)) c.in_ok-put_changes.ensures
+    let finds = finds_changes st v c.space.result.now c.last_root-rope.result found c.args.file.now c.space.ensures.store c.last_root-rope.ensures.root c.in_ok-found.ensures.found c.in_ok-found.ensures.text c.in_ok-found.ensures.len in
+    goes_there st v c.put_changes.new.session found c.args.file.now finds (λ none. both_ways c.is_same.result c.if-is_same.false (c.is_same.ensures.1 none)) c.in_ok-put_changes.ensures
 
 pub returns-in_err-put_changes-clause-text : goal.returns-in_err-put_changes-clause-text
 returns-in_err-put_changes-clause-text g c =
     let v = c.args.session.now in
     let st = (g.T.Sources.reading c.args.sources.now).stated in
     let found = c.in_ok-found.found in
-    let over = over_found v c.space.result.now c.last_root-rope.result st found c.args.file.now (length found.changes.items) c.space.ensures.store c.last_root-rope.ensures.root c.in_ok-found.ensures.text in
+    let finds = finds_changes st v c.space.result.now c.last_root-rope.result found c.args.file.now c.space.ensures.store c.last_root-rope.ensures.root c.in_ok-found.ensures.found c.in_ok-found.ensures.text c.in_ok-found.ensures.len in
     let p = err_from_is_err_and c.from_residual-in_err-put_changes.result c.from_residual-in_err-put_changes.ensures.1 in
-    rw (p.1, p.2) (stops_behind st v c.put_changes.new.session c.space.result.now c.last_root-rope.result found c.args.file.now c.in_err-put_changes.field-0.0 c.requires
-    c.space.ensures.store c.last_root-rope.ensures.root c.in_ok-found.ensures.found over c.in_ok-found.ensures.len c.in_err-put_changes.ensures)
+    rw (p.1, p.2) (stops_behind st v c.put_changes.new.session found c.args.file.now c.in_err-put_changes.field-0.0 finds c.in_err-put_changes.ensures)
