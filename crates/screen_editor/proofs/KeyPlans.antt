@@ -11,7 +11,7 @@ use Rattle.edit_commands.specs.declared.command.Command.{Command}
 use Rattle.edit_commands.specs.declared.fault.EditFault.{EditFault}
 use Rattle.edit_commands.specs.declared.fault.EditFault.TheVariants as Edit
 use Rattle.edit_commands.specs.Applying.{Applies}
-use Rattle.edit_commands.specs.Refusals.{result_len}
+use Rattle.edit_commands.specs.Refusals.{bytes_of, result_len}
 use Rattle.edit_commands.specs.Session.{SessionValue, HoldsHistory, texts_of}
 use Rattle.screen_editor.specs.declared.cut_span.CutSpan.{CutSpan}
 use Rattle.screen_editor.specs.declared.fault.KeyFault.{KeyFault}
@@ -21,7 +21,7 @@ use Rattle.screen_editor.specs.declared.workspace.TheConstants.{LONGEST_TEXT}
 use Rattle.screen_editor.specs.Editing.{Editing, IsEditing, current_len, key_code, last_of, state_of}
 use Rattle.screen_editor.specs.Machine.{done, edit_by_key, revised}
 use Rattle.screen_editor.specs.Recorded.{edit_at}
-use Rattle.screen_editor.specs.Refusals.{GrowsTooLong, IsPlainFault, MakesRevision}
+use Rattle.screen_editor.specs.Refusals.{GrowsTooLong, IsPlainFault, MakesRevision, typed_bytes}
 use Rattle.screen_editor.specs.Revising.{AppliesCommand, Does, KeepsAll}
 use Rattle.screen_editor.specs.State.{EditorState, current}
 use Rattle.screen_editor.specs.Taking.{IsInOrder, IsReviseFault, RevisesOrNot, CarriesOut}
@@ -59,6 +59,7 @@ too_long_kept key e one long = record {
   too_long = (λ _. long, λ _. refl);
   too_many = λ m no full. absurd (no refl);
   fault = one;
+  unchanged = λ _. refl;
   sources = refl;
 }
 
@@ -92,6 +93,7 @@ stays key old new e h s = record {
   too_long = (λ x. absurd cc, λ long. absurd (stays_short key old e h (s.texts no_source) long));
   too_many = λ one no full. absurd (makes_none key old (s.texts no_source) one);
   fault = tt;
+  unchanged = tt;
   sources = ap (λ (v : SessionValue). v.held.sources) s.session;
 }
 
@@ -127,6 +129,7 @@ long_kept key e prior q t does long = too_long_kept key e
 -- after it
 pub record IsPlan (key : Key) (e : Editing) (command : Command) (prior : Option ℕ) (q : ℕ) (cuts : List CutSpan) : Type 0 where
   pub edit : (a : ℕ) (source : ℕ → ℕ → ℕ) → edit_by_key a key (state_of source e) ≡ Some (edit_at a command)
+  pub bytes : bytes_of command ≡ typed_bytes key
   pub does : (source : ℕ → ℕ → ℕ) → done key (state_of source e) ≡ record (revised (state_of source e) (text_given (texts_of source e.session) command) prior q) { cuts = cuts }
   pub order : IsInOrder e.session command
   pub short : result_len e.session command ≤ LONGEST_TEXT
@@ -155,6 +158,7 @@ plan_taken key old command prior q cuts mid new h p r is = record {
   too_long = (λ x. absurd cc, λ long. absurd (not_long key old command prior q cuts h p long));
   too_many = λ one no full. r.too_many full;
   fault = tt;
+  unchanged = tt;
   sources = ap (λ (n : Editing). n.session.held.sources) is ∙ r.revises.applies.keeps.goes_on.sources;
 }
   where
@@ -164,21 +168,21 @@ plan_taken key old command prior q cuts mid new h p r is = record {
         ∙ ap (λ (ts : List (List ℕ)). record { texts = ts; priors = old.priors ++ prior ∷ []; place = q; mark = None; cuts = cuts; message = option_map key_code old.message }) (texts_more old.session command mid.session p.order r.revises.applies source)
         ∙ sym (p.does source)
 
-plan_fault : (key : Key) (old : Editing) (command : Command) (f : KeyFault) (new : Editing) → ((a : ℕ) (source : ℕ → ℕ → ℕ) → edit_by_key a key (state_of source old) ≡ Some (edit_at a command)) → MakesRevision key old
+plan_fault : (key : Key) (old : Editing) (command : Command) (f : KeyFault) (new : Editing) → ((a : ℕ) (source : ℕ → ℕ → ℕ) → edit_by_key a key (state_of source old) ≡ Some (edit_at a command)) → bytes_of command ≡ typed_bytes key → MakesRevision key old
     → IsReviseFault command old f new → IsPlainFault key old f new
-plan_fault key old command Fault.TooLong new edit one h = absurd h
-plan_fault key old command (Fault.Source f) new edit one h = absurd h
-plan_fault key old command (Fault.Edit Edit.NoRevision) new edit one h = absurd h
-plan_fault key old command (Fault.Edit Edit.NoSource) new edit one h = absurd h
-plan_fault key old command (Fault.Edit Edit.Range) new edit one h = absurd h
-plan_fault key old command (Fault.Edit Edit.EmptyText) new edit one h = absurd h
-plan_fault key old command (Fault.Edit Edit.SpliceCount) new edit one h = absurd h
-plan_fault key old command (Fault.Edit Edit.TooManySplices) new edit one h = absurd h
-plan_fault key old command (Fault.Edit Edit.TooManyRevisions) new edit one h = (one, h)
-plan_fault key old command (Fault.Edit Edit.TooManyRows) new edit one h = (one, record { command = command; place = 0; edit = edit 0; met = h })
-plan_fault key old command (Fault.Edit (Edit.Node n)) new edit one h = (one, record { command = command; place = 0; edit = edit 0; met = h })
-plan_fault key old command (Fault.Edit Edit.TooManyPieces) new edit one h = (one, record { command = command; place = 0; edit = edit 0; met = h })
-plan_fault key old command (Fault.Edit Edit.Memory) new edit one h = (one, tt)
+plan_fault key old command Fault.TooLong new edit bytes one h = absurd h
+plan_fault key old command (Fault.Source f) new edit bytes one h = absurd h
+plan_fault key old command (Fault.Edit Edit.NoRevision) new edit bytes one h = absurd h
+plan_fault key old command (Fault.Edit Edit.NoSource) new edit bytes one h = absurd h
+plan_fault key old command (Fault.Edit Edit.Range) new edit bytes one h = absurd h
+plan_fault key old command (Fault.Edit Edit.EmptyText) new edit bytes one h = absurd h
+plan_fault key old command (Fault.Edit Edit.SpliceCount) new edit bytes one h = absurd h
+plan_fault key old command (Fault.Edit Edit.TooManySplices) new edit bytes one h = absurd h
+plan_fault key old command (Fault.Edit Edit.TooManyRevisions) new edit bytes one h = (one, h)
+plan_fault key old command (Fault.Edit Edit.TooManyRows) new edit bytes one h = (one, record { command = command; place = 0; edit = edit 0; bytes = bytes; met = h })
+plan_fault key old command (Fault.Edit (Edit.Node n)) new edit bytes one h = (one, record { command = command; place = 0; edit = edit 0; bytes = bytes; met = h })
+plan_fault key old command (Fault.Edit Edit.TooManyPieces) new edit bytes one h = (one, record { command = command; place = 0; edit = edit 0; bytes = bytes; met = h })
+plan_fault key old command (Fault.Edit Edit.Memory) new edit bytes one h = (one, record { command = command; place = 0; edit = edit 0; bytes = bytes; met = h })
 
 pub plan_refused : (key : Key) (old : Editing) (command : Command) (prior : Option ℕ) (q : ℕ) (cuts : List CutSpan) (f : KeyFault) (new : Editing) → HoldsHistory old.session → IsPlan key old command prior q cuts
     → RevisesOrNot command prior q old (Err f) new → CarriesOut key old (Err f) new
@@ -188,7 +192,8 @@ plan_refused key old command prior q cuts f new h p r = record {
   kept = r.kept;
   too_long = (λ x. absurd (not_this f (same f x) r.fault), λ long. absurd (not_long key old command prior q cuts h p long));
   too_many = λ one no full. r.too_many full;
-  fault = plan_fault key old command f new p.edit (makes_one key old command prior q cuts p) r.fault;
+  fault = plan_fault key old command f new p.edit p.bytes (makes_one key old command prior q cuts p) r.fault;
+  unchanged = r.unchanged;
   sources = r.kept.keeps.goes_on.sources;
 }
   where

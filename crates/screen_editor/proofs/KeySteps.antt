@@ -52,6 +52,7 @@ typed_plan e b bytes is h short byte =
     let one : length bytes.now ≡ 1 = ap length byte in
     record {
       edit = λ a source. ap (λ n. Some (Recorded.Insert n e.place a 1)) (number e source) ∙ ap (λ n. Some (Recorded.Insert (last_of e) e.place a n)) (sym one);
+      bytes = ap (λ (x : List ℕ). Some x) byte;
       does = λ source. edited_at source e e.place 0 (b ∷ []) (e.place + 1)
           ∙ ap (λ (x : List ℕ). revised (state_of source e) (replaced (last_text source e) e.place 0 x) (Some (last_of e)) (e.place + 1)) (sym byte);
       order = (last_there e is, is.place, one);
@@ -78,6 +79,7 @@ erase_before_plan e is h some =
     let short = is.short (last_of e) (last_there e is) in
     record {
       edit = λ a source. taken_so (nat_lt 0 e.place) (Some (Recorded.Delete (last_revision (state_of source e)) (e.place - 1) 1)) None test ∙ ap (λ n. Some (Recorded.Delete n (e.place - 1) 1)) (number e source);
+      bytes = refl;
       does = λ source. taken_so (nat_lt 0 e.place) (edited (state_of source e) (e.place - 1) 1 [] (e.place - 1)) (state_of source e) test ∙ edited_at source e (e.place - 1) 1 [] (e.place - 1);
       order = (last_there e is, omega (arith, some, inside));
       short = omega (arith, short);
@@ -98,6 +100,7 @@ erase_at_plan e is h some =
     let short = is.short (last_of e) (last_there e is) in
     record {
       edit = λ a source. taken_so (nat_lt e.place (length (current (state_of source e)))) (Some (Recorded.Delete (last_revision (state_of source e)) e.place 1)) None (test source) ∙ ap (λ n. Some (Recorded.Delete n e.place 1)) (number e source);
+      bytes = refl;
       does = λ source. taken_so (nat_lt e.place (length (current (state_of source e)))) (edited (state_of source e) e.place 1 [] e.place) (state_of source e) (test source) ∙ edited_at source e e.place 1 [] e.place;
       order = (last_there e is, omega (arith, some));
       short = omega (arith, short);
@@ -114,6 +117,7 @@ erase_at_idle e is h none =
 pub balance_plan : (e : Editing) → IsEditing e → HoldsHistory e.session → IsPlan Keys.Balance e (Balance (last_of e)) (Some (last_of e)) e.place e.cuts
 balance_plan e is h = record {
   edit = λ a source. ap (λ n. Some (Recorded.Balance n)) (number e source);
+  bytes = refl;
   does = λ source. ap (λ n. revised (state_of source e) (get_or (texts_of source e.session) n []) (Some n) e.place) (number e source);
   order = last_there e is;
   short = is.short (last_of e) (last_there e is);
@@ -128,6 +132,7 @@ undo_plan e j is h prior before =
     let there : j < length e.session.revisions = omega (arith, before) in
     record {
       edit = λ a source. ap (option_map Recorded.Back) (last_prior e source (Some j) prior);
+      bytes = refl;
       does = λ source. ap (λ (o : Option ℕ). gone_back o (state_of source e)) (last_prior e source (Some j) prior)
           ∙ ap (λ n. revised (state_of source e) (get_or (texts_of source e.session) j []) (get_or e.priors j None) (min e.place n)) (text_len e.session h source j);
       order = there;
@@ -165,6 +170,7 @@ pub paste_plan : (e : Editing) (c : CutSpan) → IsEditing e → HoldsHistory e.
     → IsPlan Keys.Paste e (Paste (last_of e) e.place c.revision c.start c.len) (Some (last_of e)) (e.place + c.len) e.cuts
 paste_plan e c is h first span short = record {
   edit = λ a source. ap (λ (cs : List CutSpan). pasting cs (state_of source e)) (first_is e.cuts c first) ∙ ap (λ n. Some (Recorded.Paste n e.place c.revision c.start c.len)) (number e source);
+  bytes = refl;
   does = paste_does e c first;
   order = (last_there e is, is.place, span.revision, span.inside);
   short = short;
@@ -199,6 +205,7 @@ cut_plan e m is h mark inside other =
       edit = λ a source. ap (λ (o : Option ℕ). cutting o (state_of source e)) mark
           ∙ left_so (m == e.place) None (Some (Recorded.Delete (last_revision (state_of source e)) (min m e.place) (max m e.place - min m e.place))) test
           ∙ ap (λ n. Some (Recorded.Delete n (min m e.place) (max m e.place - min m e.place))) (number e source);
+      bytes = refl;
       does = λ source. ap (λ (o : Option ℕ). cut_to o (state_of source e)) mark
           ∙ left_so (m == e.place) (state_of source e) (cut_out (state_of source e) (min m e.place) (max m e.place)) test
           ∙ ap (λ n. record (revised (state_of source e) (replaced (get_or (texts_of source e.session) n []) (min m e.place) (max m e.place - min m e.place) []) (Some n) (min m e.place)) { cuts = take MOST_CUTS (record { revision = n; start = min m e.place; len = max m e.place - min m e.place } ∷ e.cuts) }) (number e source);

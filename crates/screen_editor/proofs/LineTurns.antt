@@ -13,9 +13,8 @@ use Rattle.lazy_file.specs.Readings.{Reading, Reads, fault_by}
 use Rattle.lazy_file.proofs.LaterReads.{reads_weaker}
 use Rattle.lazy_file.specs.declared.faults.SourceFault.{SourceFault}
 use Rattle.cord_position.specs.Fetched.{InCells, IsStated, ReadsSpan, rope_cell}
-use Rattle.edit_commands.specs.Applying.{Keeps}
 use Rattle.edit_commands.specs.Session.{HoldsHistory, SessionValue, cells_of, roots_of, session_table, texts_of}
-use Rattle.edit_commands.proofs.GoingOn.{goes_on_itself}
+use Rattle.edit_commands.proofs.GoingOn.{keeps_itself}
 use Rattle.screen_editor.specs.declared.fault.KeyFault.{KeyFault}
 use Rattle.screen_editor.specs.declared.fault.KeyFault.TheVariants as Fault
 use Rattle.screen_editor.specs.declared.key.Key.{Key}
@@ -79,9 +78,6 @@ taken_is_taken f e = absurd cc
 other_fault : (f : SourceFault) → IsErrOf {T = Unit {0}} (Err (Fault.Source f)) Fault.TooLong → ⊥
 other_fault f e = absurd cc
 
-keeps_itself : (v : SessionValue) → Keeps v v
-keeps_itself v = record { goes_on = goes_on_itself v.held; cells = refl }
-
 moved_state : (source : ℕ → ℕ → ℕ) (st : Stated) (key : Key) (old : Editing) (p : ℕ) → IsLinePlace st key old p → Agrees st source → EachCurrent old (IsStated st) → state_of source (record old { place = p }) ≡ done key (state_of source old)
 moved_state source st key old p h agrees stated =
     sym (moves_there key (state_of source old) p (subst (λ (t : List ℕ). line_place key t old.place ≡ Some p) (sym (current_text source old)) (h.is source agrees stated)))
@@ -97,6 +93,7 @@ moved_takes key before now old new p is history h e same =
       too_long = ((λ told. absurd (taken_is_taken Fault.TooLong told)), (λ grows. absurd (stays_short key old is history (same_texts key (state_of no_source old) h.looks) grows)));
       too_many = λ makes _ _. absurd (makes_none key old (same_texts key (state_of no_source old) h.looks) makes);
       fault = tt;
+      unchanged = tt;
       reads = same;
       sources = refl;
     })
@@ -114,6 +111,7 @@ failed_takes key before now old f is history looks h = record {
   too_long = ((λ told. absurd (other_fault f told)), (λ grows. absurd (stays_short key old is history (same_texts key (state_of no_source old) looks) grows)));
   too_many = λ makes _ _. absurd (makes_none key old (same_texts key (state_of no_source old) looks) makes);
   fault = λ none. absurd (some_fault f none);
+  unchanged = λ _. refl;
   reads = reads_weaker before now (InCells (current_cell old) 0 (current_len old)) (KeyAsks key old) (Some f) (λ s p asked. (looks, asked)) h;
   sources = refl;
 }
@@ -154,6 +152,7 @@ plain_takes key before now old new result looks h same = record {
   too_long = h.too_long;
   too_many = h.too_many;
   fault = any_fault key old new result h.fault;
+  unchanged = h.unchanged;
   reads = plain_reads before now key old new result h.fault same;
   sources = h.sources;
 }

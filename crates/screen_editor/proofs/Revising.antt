@@ -20,6 +20,7 @@ use Rattle.screen_editor.specs.declared.cut_span.CutSpan.{CutSpan}
 use Rattle.screen_editor.specs.declared.fault.KeyFault.TheVariants as Fault
 use Rattle.screen_editor.specs.declared.workspace.TheConstants.{LONGEST_TEXT}
 use Rattle.screen_editor.specs.Editing.{Editing, IsCutSpan, IsEditing}
+use Rattle.screen_editor.specs.Refusals.{LeavesSession}
 use Rattle.screen_editor.specs.Taking.{IsInOrder, IsReviseFault, RevisesOrNot}
 use Rattle.command_parts.specs.declared.edit.Edit.{Edit}
 use Rattle.screen_editor.specs.Priors.{prior_behind, priors_of}
@@ -198,7 +199,7 @@ is_later old command Edit.TooManyRevisions new h = absurd h
 is_later old command Edit.TooManyRows new h = h
 is_later old command (Edit.Node n) new h = h
 is_later old command Edit.TooManyPieces new h = h
-is_later old command Edit.Memory new h = tt
+is_later old command Edit.Memory new h = h
 
 -- a command in order is refused at once only where there are too many revisions
 pub fault_in_order : (old : Editing) (command : Command) (f : EditFault) (new : Editing) → IsSession old.session → IsInOrder old.session command → result_len old.session command ≤ LONGEST_TEXT
@@ -226,6 +227,20 @@ full_in_order old command result session is o short a full =
     let refusal : refusal_of old.session command ≡ Some Edit.TooManyRevisions = refused ∙ ap (λ (b : Bool). if b then Some Edit.TooManyRevisions else None) (le-leb MOST_REVISIONS (length old.session.revisions) full) in
     (a.refused Edit.TooManyRevisions refusal).0
 
+-- nothing that is met on the way is such a fault
+not_on_the_way : (old : SessionValue) (command : Command) (f : EditFault) (new : SessionValue) → IsLaterFault old.held old.revisions command f new.held → LeavesSession (Fault.Edit f) → ⊥
+not_on_the_way old command Edit.TooManyRevisions new met leaves = met
+not_on_the_way old command _ new met leaves = leaves
+
+unchanged_in_order : (old : Editing) (command : Command) (f : EditFault) (session : SessionValue) → IsSession old.session → IsInOrder old.session command → result_len old.session command ≤ LONGEST_TEXT
+    → AppliesOrNot old.session command (Err f) session → LeavesSession (Fault.Edit f) → session ≡ old.session
+unchanged_in_order old command f session is o short a leaves =
+    let refused = refusal_without old.session command (no_reason old.session command is.few_splices o short) in
+    elim (cases_Bool (is_full old.session)) [
+      | inl full ↦ (a.refused Edit.TooManyRevisions (refused ∙ ap (λ (b : Bool). if b then Some Edit.TooManyRevisions else None) full)).1
+      | inr free ↦ absurd (not_on_the_way old.session command f session (a.later (refused ∙ ap (λ (b : Bool). if b then Some Edit.TooManyRevisions else None) free)) leaves)
+    ]
+
 pub refused_in_order : (old : Editing) (command : Command) (prior : Option ℕ) (q : ℕ) (f : EditFault) (session : SessionValue) → IsSession old.session → IsInOrder old.session command → result_len old.session command ≤ LONGEST_TEXT
     → AppliesOrNot old.session command (Err f) session → RevisesOrNot command prior q old (Err (Fault.Edit f)) (record old { session = session })
 refused_in_order old command prior q f session is o short a = record {
@@ -233,6 +248,7 @@ refused_in_order old command prior q f session is o short a = record {
   kept = record { keeps = a.kept.0; revisions = a.kept.1; rest = refl };
   too_many = λ full. inl (told f (full_in_order old command (Err f) session is o short a full));
   fault = fault_in_order old command f (record old { session = session }) is o short a;
+  unchanged = unchanged_in_order old command f session is o short a;
 }
   where
     told : (g : EditFault) → Path (Result ℕ EditFault) (Err g) (Err Edit.TooManyRevisions) → IsErrOf {T = Unit {0}} (Err (Fault.Edit g)) (Fault.Edit Edit.TooManyRevisions)

@@ -16,7 +16,7 @@ use Rattle.screen_editor.specs.Editing.{Editing, key_code, state_of}
 use Rattle.screen_editor.specs.Keys.{answer_to, looks_for_lines}
 use Rattle.screen_editor.specs.LineKeys.{Takes}
 use Rattle.screen_editor.specs.Machine.{done, message_after, step}
-use Rattle.screen_editor.specs.Refusals.{IsEditFault, IsPlainFault, WasRefused}
+use Rattle.screen_editor.specs.Refusals.{IsEditFault, IsPlainFault, LeavesSession, WasRefused}
 use Rattle.screen_editor.specs.Revising.{IsRefusedBy, IsStep, KeepsAll, TakesKey}
 use Rattle.screen_editor.specs.State.{EditorState}
 
@@ -57,11 +57,11 @@ no_fault x g e = absurd cc
 -- ---- the message alone is new
 
 met_alike : (key : Key) (old : Editing) (f : EditFault) (new : Editing) (m : Option KeyFault) → WasRefused key old f new → WasRefused key old f (record new { message = m })
-met_alike key old f new m h = record { command = h.command; place = h.place; edit = h.edit; met = h.met }
+met_alike key old f new m h = record { command = h.command; place = h.place; edit = h.edit; bytes = h.bytes; met = h.met }
 
 edit_fault_alike : (key : Key) (old : Editing) (f : EditFault) (new : Editing) (m : Option KeyFault) → IsEditFault key old f new → IsEditFault key old f (record new { message = m })
 edit_fault_alike key old Edit.TooManyRevisions new m h = h
-edit_fault_alike key old Edit.Memory new m h = h
+edit_fault_alike key old Edit.Memory new m h = met_alike key old Edit.Memory new m h
 edit_fault_alike key old Edit.NoRevision new m h = met_alike key old Edit.NoRevision new m h
 edit_fault_alike key old Edit.NoSource new m h = met_alike key old Edit.NoSource new m h
 edit_fault_alike key old Edit.Range new m h = met_alike key old Edit.Range new m h
@@ -83,13 +83,14 @@ kept_texts old new h source = ap (map (text source)) (ap (λ (rs : List Revision
 with_texts : Editing → KeyFault → List (List ℕ) → EditorState
 with_texts old f ts = record { texts = ts; priors = old.priors; place = old.place; mark = old.mark; cuts = old.cuts; message = Some (key_code f) }
 
-is_refused : (f : KeyFault) (old new : Editing) → KeepsAll old new → IsRefusedBy f old (record new { message = Some f })
+is_refused : (f : KeyFault) (old new : Editing) → KeepsAll old new → (LeavesSession f → new.session ≡ old.session) → IsRefusedBy f old (record new { message = Some f })
 unfolding with_texts
-is_refused f old new h = record {
+is_refused f old new h same = record {
   state = λ source. ap (λ (e : Editing). state_of source (record e { message = Some f })) h.rest ∙ ap (with_texts old f) (kept_texts old new h source);
   keeps = h.keeps;
   revisions = h.revisions;
   rest = ap (λ (e : Editing). record e { message = Some f }) h.rest;
+  unchanged = same;
 }
 
 pub refused_told : (key : Key) (before now : Reading) (old new told : Editing) (f : KeyFault) → Takes key before old (Err f) now new → told ≡ record new { message = Some f }
@@ -98,7 +99,7 @@ refused_told key before now old new told f h e =
     subst (λ (x : Editing). TakesKey key (record { sources = before; editing = old }) (Err f) (record { sources = now; editing = x })) (sym e) (record {
       step = tt;
       answer = tt;
-      refused = is_refused f old new h.kept;
+      refused = is_refused f old new h.kept h.unchanged;
       too_long = ((λ is. h.too_long.0 (same_fault f Fault.TooLong is)), (λ grows. same_fault f Fault.TooLong (h.too_long.1 grows)));
       too_many = λ makes short many. elim (h.too_many makes (λ is. short (same_fault f Fault.TooLong is)) many) [
         | inl is ↦ inl (same_fault f (Fault.Edit Edit.TooManyRevisions) is)

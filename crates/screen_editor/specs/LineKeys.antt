@@ -17,7 +17,7 @@ use Rattle.screen_editor.specs.Editing.{Editing, EachCurrent, current_len, curre
 use Rattle.screen_editor.specs.Keys.{effect_of, looks_for_lines}
 use Rattle.text_lines.specs.Lines.{line_start, line_end, place_up, place_down}
 use Rattle.screen_editor.specs.Machine.{done}
-use Rattle.screen_editor.specs.Refusals.{GrowsTooLong, IsPlainFault, KeyAsks, MakesRevision, key_source_fault}
+use Rattle.screen_editor.specs.Refusals.{GrowsTooLong, IsPlainFault, KeyAsks, LeavesSession, MakesRevision, key_source_fault}
 use Rattle.screen_editor.specs.Revising.{AppliesCommand, KeepsAll}
 
 -- where it leads from a place, if it looks for line breaks
@@ -59,5 +59,6 @@ pub record Takes (key : Key) (before : Reading) (old : Editing) (result : Result
   pub too_many : MakesRevision key old → ¬ IsErrOf result Fault.TooLong → MOST_REVISIONS ≤ length old.session.revisions
       → IsErrOf result (Fault.Edit Edit.TooManyRevisions) ⊎ IsErrOf result (Fault.Edit Edit.Memory)
   pub fault : IfErr result (λ f. key_source_fault f ≡ None → IsPlainFault key old f new)
+  pub unchanged : IfErr result (λ f. LeavesSession f → new.session ≡ old.session)
   pub reads : Reads before now (KeyAsks key old) (fault_by key_source_fault result)
   pub sources : new.session.held.sources ≡ old.session.held.sources

@@ -8,11 +8,13 @@ use Rattle.edit_commands.specs.declared.fault.EditFault.{EditFault}
 use Rattle.edit_commands.specs.declared.fault.EditFault.TheVariants as Edit
 use Rattle.command_parts.specs.declared.edit.TheConstants.{MOST_REVISIONS}
 use Rattle.edit_commands.specs.Applying.{IsLaterFault}
+use Rattle.edit_commands.specs.Refusals.{bytes_of}
 use Rattle.screen_editor.specs.declared.fault.EditorFault.{EditorFault}
 use Rattle.screen_editor.specs.declared.fault.EditorFault.TheVariants as New
 use Rattle.screen_editor.specs.declared.fault.KeyFault.{KeyFault}
 use Rattle.screen_editor.specs.declared.fault.KeyFault.TheVariants as Fault
 use Rattle.screen_editor.specs.declared.key.Key.{Key}
+use Rattle.screen_editor.specs.declared.key.Key.TheVariants.{Typed}
 use Rattle.screen_editor.specs.declared.workspace.TheConstants.{LONGEST_TEXT}
 use Rattle.screen_editor.specs.Editing.{Editing, current_cell, current_len, state_of}
 use Rattle.screen_editor.specs.Keys.{looks_for_lines}
@@ -29,18 +31,24 @@ MakesRevision key e =
 abbrev pub GrowsTooLong : Key → Editing → Type 0
 GrowsTooLong key e = (source : ℕ → ℕ → ℕ) → LONGEST_TEXT < length (current (step key (state_of source e)))
 
--- the session's call for the key's command, whose bytes stand at this place of the pool, met this on the way
+-- the bytes that a key types
+abbrev pub typed_bytes : Key → Option (List ℕ)
+typed_bytes (Typed b) = Some (b ∷ [])
+typed_bytes _ = None
+
+-- The session's call for the key's command, whose bytes stand at this place of the pool, met this on the way. Where that
+-- is want of memory, it may have come before the call, to the new revision's prior.
 pub record WasRefused (key : Key) (old : Editing) (fault : EditFault) (new : Editing) : Type 0 where
   pub command : Command
   pub place : ℕ
   pub edit : (source : ℕ → ℕ → ℕ) → edit_by_key place key (state_of source old) ≡ Some (edit_at place command)
+  pub bytes : bytes_of command ≡ typed_bytes key
   pub met : IsLaterFault old.session.held old.session.revisions command fault new.session.held
 
 -- there are too many revisions, the session's call met a limit, or memory was refused, to it or to the new revision's
 -- prior
 abbrev pub IsEditFault : Key → Editing → EditFault → Editing → Type 0
 IsEditFault key old Edit.TooManyRevisions new = MOST_REVISIONS ≤ length old.session.revisions
-IsEditFault key old Edit.Memory new = Unit {0}
 IsEditFault key old fault new = WasRefused key old fault new
 
 -- why a key that makes a revision is refused, but for faults of sources; when a text is too long is told beside this
@@ -48,6 +56,14 @@ abbrev pub IsPlainFault : Key → Editing → KeyFault → Editing → Type 0
 IsPlainFault key old Fault.TooLong new = MakesRevision key old
 IsPlainFault key old (Fault.Edit fault) new = MakesRevision key old × IsEditFault key old fault new
 IsPlainFault key old (Fault.Source fault) new = ⊥
+
+-- a fault at which the session stays as it was: the text would be too long, there are too many revisions, or a read
+-- failed
+abbrev pub LeavesSession : KeyFault → Type 0
+LeavesSession Fault.TooLong = Unit {0}
+LeavesSession (Fault.Source fault) = Unit {0}
+LeavesSession (Fault.Edit Edit.TooManyRevisions) = Unit {0}
+LeavesSession (Fault.Edit fault) = ⊥
 
 -- the source's fault that a fault is, if it is one
 abbrev pub key_source_fault : KeyFault → Option SourceFault

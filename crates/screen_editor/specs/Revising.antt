@@ -17,7 +17,7 @@ use Rattle.screen_editor.specs.Editing.{Editing, EditorValue, EachCurrent, key_c
 use Rattle.screen_editor.specs.Keys.{answer_to, looks_for_lines}
 use Rattle.screen_editor.specs.Machine.{done, edit_by_key, refused, step}
 use Rattle.screen_editor.specs.Recorded.{HandsNoChanges, edit_at, edits_of}
-use Rattle.screen_editor.specs.Refusals.{GrowsTooLong, IsPlainFault, KeyAsks, MakesRevision, first_command, key_source_fault}
+use Rattle.screen_editor.specs.Refusals.{GrowsTooLong, IsPlainFault, KeyAsks, LeavesSession, MakesRevision, first_command, key_source_fault}
 use Rattle.screen_editor.specs.State.{start_of}
 
 -- what a key does but for the message, whatever bytes the sources have
@@ -43,12 +43,13 @@ pub record IsStep (st : Stated) (key : Key) (old new : Editing) : Type 0 where
   pub moves : IsTrue (looks_for_lines key) → new ≡ record old { place = new.place; message = None }
 
 -- The message alone is new, whatever bytes the sources have. The session may have nodes and bytes more, to which
--- nothing refers.
+-- nothing refers; but none where the text would be too long, there are too many revisions, or a read failed.
 pub record IsRefusedBy (fault : KeyFault) (old new : Editing) : Type 0 where
   pub state : (source : ℕ → ℕ → ℕ) → state_of source new ≡ refused (key_code fault) (state_of source old)
   pub keeps : Keeps old.session new.session
   pub revisions : new.session.revisions ≡ old.session.revisions
   pub rest : new ≡ record old { session = new.session; message = Some fault }
+  pub unchanged : LeavesSession fault → new.session ≡ old.session
 
 -- A key is taken, as the machine says, or refused. It is too long exactly where its text would be; else, where there
 -- are too many revisions, that or want of memory is told; a source's fault is that of the one read that failed, of a

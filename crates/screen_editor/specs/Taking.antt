@@ -10,7 +10,7 @@ use Rattle.screen_editor.specs.declared.fault.KeyFault.{KeyFault}
 use Rattle.screen_editor.specs.declared.fault.KeyFault.TheVariants as Fault
 use Rattle.screen_editor.specs.declared.key.Key.{Key}
 use Rattle.screen_editor.specs.Editing.{Editing}
-use Rattle.screen_editor.specs.Refusals.{GrowsTooLong, IsPlainFault, MakesRevision}
+use Rattle.screen_editor.specs.Refusals.{GrowsTooLong, IsPlainFault, LeavesSession, MakesRevision}
 use Rattle.screen_editor.specs.Revising.{AddsRevision, AppliesCommand, Does, KeepsAll}
 
 -- ---- a command
@@ -25,10 +25,10 @@ IsInOrder v (Back r) = r < length v.revisions
 IsInOrder v (Balance r) = r < length v.revisions
 IsInOrder v _ = ⊥
 
--- there are too many revisions, memory was refused, or the session's call met a limit
+-- there are too many revisions, or the session's call met a limit; or memory was refused, before that call, to it, or
+-- behind the root that it gives
 abbrev pub IsReviseFault : Command → Editing → KeyFault → Editing → Type 0
 IsReviseFault command old (Fault.Edit Edit.TooManyRevisions) new = MOST_REVISIONS ≤ length old.session.revisions
-IsReviseFault command old (Fault.Edit Edit.Memory) new = Unit {0}
 IsReviseFault command old (Fault.Edit fault) new =
     IsLaterFault old.session.held old.session.revisions command fault new.session.held
 IsReviseFault command old _ new = ⊥
@@ -41,6 +41,7 @@ pub record RevisesOrNot (command : Command) (prior : Option ℕ) (q : ℕ) (old 
   pub too_many : MOST_REVISIONS ≤ length old.session.revisions
       → IsErrOf result (Fault.Edit Edit.TooManyRevisions) ⊎ IsErrOf result (Fault.Edit Edit.Memory)
   pub fault : IfErr result (λ f. IsReviseFault command old f new)
+  pub unchanged : IfErr result (λ f. LeavesSession f → new.session ≡ old.session)
 
 -- ---- a key
 
@@ -53,4 +54,5 @@ pub record CarriesOut (key : Key) (old : Editing) (result : Result (Unit {0}) Ke
   pub too_many : MakesRevision key old → ¬ IsErrOf result Fault.TooLong → MOST_REVISIONS ≤ length old.session.revisions
       → IsErrOf result (Fault.Edit Edit.TooManyRevisions) ⊎ IsErrOf result (Fault.Edit Edit.Memory)
   pub fault : IfErr result (λ f. IsPlainFault key old f new)
+  pub unchanged : IfErr result (λ f. LeavesSession f → new.session ≡ old.session)
   pub sources : new.session.held.sources ≡ old.session.held.sources
