@@ -45,7 +45,7 @@ static const struct cord_source cord_no_sources[1] = {{cord_nothing, 0, 0}};
 /* ---- Checking an image */
 
 /* What a check answers: an image is accepted, by code 0, and counted; or it has a first fault, in this order of codes.
- *   13  the sources cannot be a session's: kind 4, there are more than 255; 5, one has more than 2^40 - 1 bytes
+ *   13  the sources cannot be a session's, whatever the image is: kind 4, there are more than 255; 5, one has more than 2^40 - 1 bytes
  *   1   the bytes are no image: kind 1, too few; 2, too many; 3, the first eight; 4, the version; 5, a count or a length; 6, an unused
  *       field that is not 0; 7, an unknown code
  *   2   the image has more or fewer sources
@@ -71,7 +71,8 @@ struct cord_verdict {
  *          recorded length, depth, reference and mark is right. So it is however the sources go on behind the bytes that are held.
  *   false: *verdict names the first fault.
  * What keeps the rules is accepted where all bytes of the sources are held, and where no row compares bytes of a source also where none
- * are. So with all held, false says that the image breaks a rule with these sources. Proved: all of this. */
+ * are. So with all held, false says that the image breaks a rule with these sources. Proved: all of this, and each code with its kind; but
+ * of code 12 no more than that a row compares bytes of sources which are not all held. */
 bool cord_check(const uint8_t *image, size_t image_len, const struct cord_source *sources, size_t source_count,
                 struct cord_verdict *verdict);
 
@@ -114,14 +115,15 @@ bool cord_text_len(const struct cord_image *image, uint32_t revision, uint64_t *
 /* What cord_fetch and cord_read answer. */
 #define CORD_READ 0u     /* the bytes are there */
 #define CORD_NO_PLACE 1u /* there is no such place, or no such revision */
-#define CORD_NOT_HELD 2u /* they are of a source that does not hold them; or the sources cannot be a session's (code 13 of a verdict) */
+#define CORD_NOT_HELD 2u /* they are of a source that does not hold them; or, whatever is asked, the sources cannot be a session's (code 13) */
 
 /* The byte at a place of the text of a revision; places are counted from 0. The sources may be others than those of the check: the text is
  * what the commands give of the ones that are handed in here.
- *   CORD_READ:     it is *byte.
+ *   CORD_READ:     it is *byte. If it is of a source, that one is among these, and it is held there, before that one's end.
  *   CORD_NO_PLACE: place is the text's length or more, or there is no such revision; *byte stays.
- *   CORD_NOT_HELD: *byte stays. It is never answered of a byte that no source has, nor where all bytes of the sources are held, and they are
- *                  as many and as long as those of the check.
+ *   CORD_NOT_HELD: *byte stays. It is always answered where the sources cannot be a session's. Over others it is never answered past the
+ *                  text's end, nor of a byte that no source has, nor where all bytes of the sources are held, and they are as many and as
+ *                  long as those of the check.
  * Proved: all of this. */
 uint32_t cord_fetch(const struct cord_image *image, const struct cord_source *sources, size_t source_count, uint32_t revision,
                     uint64_t place, uint8_t *byte);
@@ -174,10 +176,11 @@ bool cord_origin(const struct cord_image *image, uint32_t revision, uint64_t pla
 
 /* Writes bytes of that text from a place on into out, as read(2) does: as many as cord_locate tells there, or len where that is less; none
  * at the text's end and past it, and of no revision. A loop that adds up *count until it is 0 reads to the end. Sources are as in cord_fetch.
- *   CORD_READ:     *count bytes were written, and nothing behind them.
- *   CORD_NOT_HELD: one of these bytes is of a source that does not hold it: *count is 0, and any bytes may stand in out.
- * CORD_NOT_HELD is never answered where no source has one of these bytes, nor where all bytes of the sources are held, and they are as many
- * and as long as those of the check. CORD_NO_PLACE is never answered. Proved: all of this. */
+ *   CORD_READ:     *count bytes were written, and nothing behind them. Each that is of a source is held there, as in cord_fetch.
+ *   CORD_NOT_HELD: *count is 0, and any bytes may stand in out. It is always answered where the sources cannot be a session's. Over others
+ *                  it is never answered where no source has one of these bytes, nor where all bytes of the sources are held, and they are
+ *                  as many and as long as those of the check.
+ * CORD_NO_PLACE is never answered. Proved: all of this. */
 uint32_t cord_read(const struct cord_image *image, const struct cord_source *sources, size_t source_count, uint32_t revision,
                    uint64_t place, uint8_t *out, size_t len, size_t *count);
 

@@ -1,3 +1,4 @@
 mod HeldLemmas
 mod CheckedImages
+mod ToldBytes
 mod RunLaws

@@ -36,12 +36,14 @@ pub record IsNoSources (sizes : List ℕ) (x : CordVerdict) : Type 0 where
   pub named : x ≡ limit_verdict (limit_fault sizes)
 
 -- What a check answers: whether the bytes are accepted, and a verdict, which counts the image or names what is wrong.
--- What keeps the rules and needs no byte of the sources is accepted, even where none is held; and where all are held,
--- all that keeps the rules is, and all else is refused by its first fault.
+-- Why the sources are none is told first, whatever the bytes are. What keeps the rules and needs no byte of the sources
+-- is accepted, even where none is held; and where all are held, all that keeps the rules is, and all else is refused by
+-- its first fault.
 pub record JudgesImage (bytes : List ℕ) (st : Stated) (accepted : Bool) (x : CordVerdict) : Type 0 where
   pub faithful : IsTrue accepted → SpellsFaithful bytes st (image_in bytes)
   pub counts : IsTrue accepted → x ≡ accepted_verdict (image_in bytes)
   pub refused : accepted ≡ false → IsNoSources st.sizes x ⊎ IsRefusedAs bytes st x
+  pub no_sources : ¬ AreSizes st.sizes → x ≡ limit_verdict (limit_fault st.sizes)
   pub always : AreSizes st.sizes → NeedsNoRead bytes st.sizes → IsTrue accepted
   pub accepts : AreSizes st.sizes → StatesAll st → IsAccepted bytes st → IsTrue accepted
   pub refuses : AreSizes st.sizes → StatesAll st → (f : CheckFault) → IsFirstFault st bytes f → x ≡ refused_verdict f

@@ -1,5 +1,5 @@
 -- What sources state that a caller hands in: the length of each, and the bytes that are held of it.
-use Rattle.std.specs.Prelude.{ℕ, Bool, if◌then◌else◌, nat_le, nat_lt, List, [], Some, length, map, unwrap_or}
+use Rattle.std.specs.Prelude.{ℕ, Bool, if◌then◌else◌, nat_le, nat_lt, List, [], ◌++◌, Some, length, map, replicate, take, unwrap_or}
 use Rattle.std.specs.List.{list_all}
 use Rattle.lazy_file.specs.SourceTexts.{Stated, text_at}
 use Rattle.lazy_file.specs.Readings.{Reading}
@@ -20,11 +20,16 @@ is_short s = nat_le s.size SOURCE_LIMIT
 abbrev pub is_held : CordSource → Bool
 is_held s = nat_le s.size (length s.bytes.now)
 
--- Each states its length, and of its text the bytes that are held. No read of them fails where all are held.
+-- the bytes that are held of a source, up to its length
+abbrev pub held_text : CordSource → List ℕ
+held_text s = take s.size s.bytes.now
+
+-- Each states its length, and of its text the bytes that are held. One that is not among them states an empty text, so
+-- that no byte of it can be told. No read of them fails where all are held.
 abbrev pub stated_as_held : List CordSource → Stated
 stated_as_held sources = record {
   sizes = held_sizes sources;
-  texts = map (λ (s : CordSource). Some s.bytes.now) sources;
+  texts = map (λ (s : CordSource). Some (held_text s)) sources ++ replicate COUNT_LIMIT (Some []);
   never_fails = list_all is_held sources;
 }
 
@@ -32,7 +37,7 @@ stated_as_held sources = record {
 abbrev pub reading_of : Stated → Reading
 reading_of st = record { stated = st; failures = λ s. 0 }
 
--- the bytes that are held of source s
+-- the bytes that are held of source s; of none, no bytes
 abbrev pub held_bytes : Stated → ℕ → List ℕ
 held_bytes st s = unwrap_or (text_at st s) []
 

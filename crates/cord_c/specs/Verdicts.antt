@@ -2,15 +2,13 @@
 use Rattle.std.specs.Prelude.{ℕ, length}
 use Rattle.lazy_file.specs.declared.faults.AddFault.{AddFault}
 use Rattle.lazy_file.specs.declared.faults.AddFault.TheVariants as add
-use Rattle.lazy_file.specs.declared.faults.SourceFault.{SourceFault}
-use Rattle.lazy_file.specs.declared.faults.SourceFault.TheVariants as read
 use Rattle.image_reader.specs.Value.{ImageValue, image_table}
 use Rattle.image_reader.specs.declared.fault.ReadFault.{ReadFault}
 use Rattle.image_reader.specs.declared.fault.ReadFault.TheVariants.{Truncated, Trailing, Magic, Version, Count, NonZeroPad, Kind}
 use Rattle.session_checker.specs.declared.fault.CheckFault.{CheckFault}
 use Rattle.session_checker.specs.declared.fault.CheckFault.TheVariants.{Read, SourceCount, SourceLength, Reference, Length, Depth, Span, Command, Root, Mark, Rows, Source, Looks}
 use Rattle.cord_c.specs.declared.verdict.CordVerdict.{CordVerdict}
-use Rattle.cord_c.specs.declared.verdict.TheConstants.{DEAR, NO_SOURCES}
+use Rattle.cord_c.specs.declared.verdict.TheConstants.{DEAR, NO_SOURCES, UNHELD}
 
 -- I1 to I7
 abbrev pub read_number : ReadFault → ℕ
@@ -21,13 +19,6 @@ read_number Version = 4
 read_number Count = 5
 read_number NonZeroPad = 6
 read_number Kind = 7
-
--- S1 to S3
-abbrev pub source_number : SourceFault → ℕ
-source_number read.Device = 1
-source_number read.Short = 2
-source_number read.BadSource = 3
-source_number read.Memory = 0
 
 -- S4 and S5
 abbrev pub add_number : AddFault → ℕ
@@ -47,7 +38,7 @@ refused_with code kind number row = record {
   row = row;
 }
 
--- a fault of an image
+-- a fault of an image; where a source failed a read, S2, since it fails none of bytes that are held
 abbrev pub refused_verdict : CheckFault → CordVerdict
 refused_verdict (Read fault) = refused_with 1 (read_number fault) 0 0
 refused_verdict SourceCount = refused_with 2 0 0 0
@@ -60,7 +51,7 @@ refused_verdict (Command revision) = refused_with 8 0 revision 0
 refused_verdict (Root revision) = refused_with 9 0 revision 0
 refused_verdict (Mark revision) = refused_with 10 0 revision 0
 refused_verdict (Rows revision row) = refused_with 11 0 revision row
-refused_verdict (Source fault) = refused_with 12 (source_number fault) 0 0
+refused_verdict (Source fault) = refused_with 12 UNHELD 0 0
 refused_verdict (Looks bound) = refused_with DEAR 0 0 bound
 
 -- sources that are none

@@ -1,10 +1,10 @@
 //! Sources that a caller hands in: how long each is, and those of its bytes that the caller holds.
 
-ghost use Rattle.std.specs.Prelude.{◌≡◌, ◌↔◌, ◌+◌, ◌<◌, ◌≤◌, IsOk, IfErr, IfOk, IfSome, is_some, nat_le, true, length, slice_index, take, drop};
+ghost use Rattle.std.specs.Prelude.{◌≡◌, ◌≢◌, ◌↔◌, ◌+◌, ◌<◌, ◌≤◌, IsErrOf, IsOk, IfErr, IfOk, IfSome, OnOk, is_some, nat_le, false, true, length, max, slice_index, take, drop};
 ghost use Rattle.std.specs.List.{list_all};
-ghost use Rattle.cord_c.specs.HeldTexts.{held_bytes, held_sizes, is_short, limit_fault, stated_as_held};
-ghost use Rattle.lazy_file.specs.SourceTexts.{AreSizes};
-ghost use Rattle.lazy_file.specs.declared.sources.TheConstants.{SOURCE_LIMIT};
+ghost use Rattle.cord_c.specs.HeldTexts.{held_bytes, held_sizes, is_short, limit_fault, reading_of, stated_as_held};
+ghost use Rattle.lazy_file.specs.SourceTexts.{AreSizes, holds_span, text_at};
+ghost use Rattle.lazy_file.specs.Readings.{fault_in, InSpan, Reads};
 
 use lazy_file::{AddFault, COUNT_LIMIT, SOURCE_LIMIT, SourceFault, Sources};
 use std::marker::Model;
@@ -72,14 +72,13 @@ impl<'a> HeldSources<'a> {
         Ok(HeldSources { sources })
     }
 
-    /// The bytes of source `s` from place `off` on, `n` of them, where they are held.
+    /// The bytes of source `s` from place `off` on, `n` of them, which lie inside it, where they are held.
     fn span(&self, s: u8, off: u64, n: usize) -> Option<&'a [u8]>
         requires there { s < length self.now.sizes }
-        requires inside { off + n ≤ SOURCE_LIMIT }
+        requires inside { off + n ≤ slice_index self.now.sizes s }
         ensures variant { is_some result ≡ nat_le (off + n) (length (held_bytes self.now s)) }
         ensures value { IfSome result (λ part. part.now ≡ take n (drop off (held_bytes self.now s))) }
-        ensures always { self.now.never_fails ≡ true → off + n ≤ slice_index self.now.sizes s
-            → off + n ≤ length (held_bytes self.now s) }
+        ensures always { self.now.never_fails ≡ true → off + n ≤ length (held_bytes self.now s) }
     {
         let start = off as usize;
         self.sources[s as usize].bytes.get(start..start + n)
@@ -99,7 +98,17 @@ impl<'a> Sources for HeldSources<'a> {
         self.sources[s as usize].size
     }
 
-    fn read(&mut self, s: u8, off: u64, buffer: &mut [u8]) -> Result<(), SourceFault> {
+    /// Its faults are `BadSource`, and `Short` where the bytes are not all held.
+    fn read(&mut self, s: u8, off: u64, buffer: &mut [u8]) -> Result<(), SourceFault>
+        ensures reads { Reads (reading_of self.old) (reading_of self.new)
+            (InSpan s off (max 1 (length buffer.old))) (fault_in result) }
+        ensures bytes { OnOk result (IfSome (text_at self.old s)
+            (λ t. buffer.new ≡ take (length buffer.old) (drop off t))) }
+        ensures bad_source { IsErrOf result SourceFault.BadSource
+            ↔ (holds_span self.old s off (length buffer.old) ≡ false) }
+        ensures short { IfErr result (λ f. f ≢ SourceFault.BadSource
+            → (f ≡ SourceFault.Short) × (length (held_bytes self.old s) < off + length buffer.old)) }
+    {
         if s >= self.count() || !is_inside(off, buffer.len(), self.len(s)) {
             return Err(SourceFault::BadSource);
         }

@@ -3,7 +3,7 @@
 ghost use Rattle.std.specs.Prelude.{◌≡◌, false, is_some, IfSome, IsTrue};
 ghost use Rattle.cord_c.specs.HeldTexts.{stated_as_held};
 ghost use Rattle.cord_c.specs.Answers.{JudgesImage};
-ghost use Rattle.cord_c.specs.Opened.{opened_image};
+ghost use Rattle.cord_c.specs.Opened.{WasAccepted, opened_image};
 
 use crate::check::cord_check;
 use crate::held_sources::CordSource;
@@ -51,7 +51,8 @@ impl<'a> CordImage<'a> {
 
     /// The image as one that was checked, which answers questions.
     pub fn checked(&self) -> Checked<'a>
-        ensures { result ≡ opened_image self.now }
+        ensures value { result ≡ opened_image self.now }
+        ensures accepted { WasAccepted self.now.now }
     {
         Checked::again(self.bytes)
     }

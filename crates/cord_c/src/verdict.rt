@@ -1,15 +1,18 @@
 //! What a check answers, as numbers.
 
 ghost use Rattle.std.specs.Prelude.{◌≡◌};
-ghost use Rattle.cord_c.specs.Verdicts.{accepted_verdict, add_number, limit_verdict, read_number, refused_verdict, refused_with, source_number};
+ghost use Rattle.cord_c.specs.Verdicts.{accepted_verdict, add_number, limit_verdict, read_number, refused_verdict, refused_with};
 
 use image_reader::ReadFault;
-use lazy_file::{AddFault, SourceFault};
+use lazy_file::AddFault;
 use rope_node::NodeSpace;
 use session_checker::{CheckFault, Checked};
 
 /// The code of sources that are too many or too long.
 pub const NO_SOURCES: u32 = 13;
+
+/// The kind of `C12`: bytes of a source that are not held.
+pub const UNHELD: u32 = 2;
 
 /// The code of an image whose check may take more looks than a limit. No check has one here.
 pub const DEAR: u32 = 14;
@@ -20,7 +23,7 @@ pub const DEAR: u32 = 14;
 pub struct CordVerdict {
     /// 0: the image is accepted. 1 to 12: its first fault is `C1` to `C12`. 13: the sources are no sources.
     pub code: u32,
-    /// Of `C1` which of `I1` to `I7` it is, of `C12` which of `S1` to `S3`, of 13 which of `S4` and `S5`; else 0.
+    /// Of `C1` which of `I1` to `I7` it is, of `C12` 2 for `S2`, of 13 which of `S4` and `S5`; else 0.
     pub kind: u32,
     /// The source of `C3`, the node of `C4` to `C7`, the revision of `C8` to `C11`; else 0.
     pub number: u32,
@@ -43,17 +46,6 @@ fn read_number(fault: ReadFault) -> u32
         ReadFault::Count => 5,
         ReadFault::NonZeroPad => 6,
         ReadFault::Kind => 7,
-    }
-}
-
-fn source_number(fault: SourceFault) -> u32
-    ensures { result ≡ source_number fault }
-{
-    match fault {
-        SourceFault::Device => 1,
-        SourceFault::Short => 2,
-        SourceFault::BadSource => 3,
-        SourceFault::Memory => 0,
     }
 }
 
@@ -113,7 +105,7 @@ impl CordVerdict {
             CheckFault::Root(revision) => CordVerdict::refused(9, 0, revision, 0),
             CheckFault::Mark(revision) => CordVerdict::refused(10, 0, revision, 0),
             CheckFault::Rows(revision, row) => CordVerdict::refused(11, 0, revision, row as u64),
-            CheckFault::Source(fault) => CordVerdict::refused(12, source_number(fault), 0, 0),
+            CheckFault::Source(_) => CordVerdict::refused(12, UNHELD, 0, 0),
             CheckFault::Looks(bound) => CordVerdict::refused(DEAR, 0, 0, bound),
         }
     }

@@ -1,3 +1,5 @@
+use Rattle.std.proofs.Common.{refl, subst, sym}
+use Rattle.lazy_file.specs.SourceTexts.{AreSizes, Stated}
 use Rattle.cord_c.specs.HeldTexts.{stated_as_held}
 use Rattle.cord_c.proofs.CheckedImages.{accepted_checks, none_checks, refused_checks}
 use Rattle.cord_c.proofs.check.cord_check.Goals as goal
@@ -9,10 +11,12 @@ returns-in-Err c =
 
 pub returns-in-Ok-check : goal.returns-in-Ok-check
 returns-in-Ok-check c =
-    accepted_checks c.args.image.now c.in-Ok.held (stated_as_held c.args.sources.now) c.in-Ok-check.checked c.of_image.result c.in-Ok.ensures.value
+    let sizes : AreSizes c.in-Ok.held.sizes = subst (λ (y : Stated). AreSizes y.sizes) (sym c.in-Ok.ensures.value) (c.in-Ok.ensures.ok.0 refl) in
+    accepted_checks c.args.image.now c.in-Ok.held (stated_as_held c.args.sources.now) c.in-Ok-check.checked c.of_image.result c.in-Ok.ensures.value sizes
     c.in-Ok-check.ensures.faithful c.in-Ok-check.ensures.image c.in-Ok-check.ensures.sources c.in-Ok-check.ensures.accepted c.in-Ok-check.ensures.exact c.of_image.ensures
 
 pub returns-in-Err-check : goal.returns-in-Err-check
 returns-in-Err-check c =
-    refused_checks c.args.image.now c.in-Ok.held c.check.new.sources (stated_as_held c.args.sources.now) c.in-Err-check.fault c.of_fault.result c.in-Ok.ensures.value
+    let sizes : AreSizes c.in-Ok.held.sizes = subst (λ (y : Stated). AreSizes y.sizes) (sym c.in-Ok.ensures.value) (c.in-Ok.ensures.ok.0 refl) in
+    refused_checks c.args.image.now c.in-Ok.held c.check.new.sources (stated_as_held c.args.sources.now) c.in-Err-check.fault c.of_fault.result c.in-Ok.ensures.value sizes
     c.in-Err-check.ensures.refused c.in-Err-check.ensures.reads c.in-Err-check.ensures.exact c.in-Err-check.ensures.always c.of_fault.ensures

@@ -11,4 +11,4 @@ returns-in-None-clause-reads c =
     let n = length c.args.buffer.now in
     let inside : c.args.off + n ≤ slice_index st.sizes c.args.s = grind (arith, common_steps) in
     let fewer : length (held_bytes st c.args.s) < c.args.off + n = grind (arith, common_steps) in
-    short_read st c.args.s c.args.off n fewer inside (λ never. omega (arith, fewer, c.span.ensures.always never inside))
+    short_read st c.args.s c.args.off n fewer inside (λ never. omega (arith, fewer, c.span.ensures.always never))
