@@ -19,7 +19,7 @@ use Rattle.commit_tools.specs.declared.found.Found.{Found}
 use Rattle.commit_tools.specs.Found.{IsBeside, file_middle, text_from}
 use Rattle.commit_tools.specs.Handed.{IsHandedBatch, shifted, with_handed}
 use Rattle.commit_tools.specs.Put.{BeginsEmpty, GoesOnTo, PutsAll, PutsBatch, TakesBatch, TakesCommand}
-use Rattle.commit_tools.specs.Stops.{EndApart, EndsBefore, HandsBatch, IsManyAt, IsNew, LeadsTo}
+use Rattle.commit_tools.specs.Stops.{EndApart, EndsBefore, HandsBatch, IsLongestBatch, IsManyAt, IsNew, LeadsTo}
 use Rattle.commit_tools.proofs.AppliedTexts.{applied_text, empty_root}
 use Rattle.commit_tools.proofs.HandedBatches.{batch_made, batch_takes, batch_then, turns_from}
 
@@ -102,7 +102,7 @@ fails_later found file first left begun last new Write leads stops = absurd stop
 
 -- a batch that was handed in is one of what was found
 batch_hands : (found : Found) (file : List ℕ) (first left : ℕ) (batch : Batch) (old : SessionValue) (command : Command) → first < left → left ≤ first + MOST_SPLICES → EndApart (slice_range found.changes.items first left)
-    → (1 ≤ first → left < first + MOST_SPLICES → ¬ EndApart (slice_range found.changes.items (first - 1) left))
+    → IsLongestBatch found.changes.items first left
     → IsHandedBatch found file (slice_range found.changes.items first left) batch → IsManyAt (length old.revisions - 1) batch.changes.items batch.bytes.items command → HandsBatch found file first left old command
 batch_hands found file first left batch old command order few apart longest handed many = record {
   some = order;
@@ -115,7 +115,7 @@ batch_hands found file first left batch old command order few apart longest hand
 
 pub put_made : (found : Found) (file : List ℕ) (first left : ℕ) (batch : Batch) (old new : SessionValue) (command : Command) (result : Result (Unit {0}) CommitFault) → IsBeside found file → first < left
     → left ≤ first + MOST_SPLICES → EndApart (slice_range found.changes.items first left)
-    → (1 ≤ first → left < first + MOST_SPLICES → ¬ EndApart (slice_range found.changes.items (first - 1) left))
+    → IsLongestBatch found.changes.items first left
     → IsHandedBatch found file (slice_range found.changes.items first left) batch → 1 ≤ length old.revisions
     → IsManyAt (length old.revisions - 1) batch.changes.items batch.bytes.items command → TakesCommand old command result new → PutsBatch found file first left old result new
 put_made found file first left batch old new command (Ok u) is order few apart longest handed some many makes = record {

@@ -37,6 +37,12 @@ abbrev pub EndApart : List Change → Type 0
 EndApart [] = Unit {0}
 EndApart (c ∷ changes) = EndsBefore c changes × EndApart changes
 
+-- the changes from number `first` up to `left` are as many as there may be: none stands before them, a command takes no
+-- more, or the one before touches them
+abbrev pub IsLongestBatch : List Change → ℕ → ℕ → Type 0
+IsLongestBatch changes first left =
+    1 ≤ first → left < first + MOST_SPLICES → ¬ EndApart (slice_range changes (first - 1) left)
+
 -- a command makes a batch of what was found, of the last text: the changes from number `first` up to `left`, at least
 -- one and not too many, none of which touches the next, and as many as there may be
 pub record HandsBatch (found : Found) (file : List ℕ) (first left : ℕ) (last : SessionValue) (command : Command)
@@ -44,7 +50,7 @@ pub record HandsBatch (found : Found) (file : List ℕ) (first left : ℕ) (last
   pub some : first < left
   pub few : left ≤ first + MOST_SPLICES
   pub apart : EndApart (slice_range found.changes.items first left)
-  pub longest : 1 ≤ first → left < first + MOST_SPLICES → ¬ EndApart (slice_range found.changes.items (first - 1) left)
+  pub longest : IsLongestBatch found.changes.items first left
   pub is : IsManyAt (length last.revisions - 1)
       (map (shifted found.front) (slice_range found.changes.items first left))
       (bytes_put (file_middle found file) (slice_range found.changes.items first left)) command

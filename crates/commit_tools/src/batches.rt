@@ -1,12 +1,12 @@
 //! Changes handed to a session, as many at once as a command takes.
 
-ghost use Rattle.std.specs.Prelude.{◌≡◌, ◌+◌, ◌-◌, ◌<◌, ◌≤◌, length, slice_range, IfOk};
+ghost use Rattle.std.specs.Prelude.{◌≡◌, ◌+◌, ◌<◌, ◌≤◌, length, slice_range, IfOk};
 ghost use Rattle.command_parts.specs.declared.edit.TheConstants.{MOST_SPLICES};
 ghost use Rattle.edit_commands.specs.Refusals.{TakesAll};
 ghost use Rattle.commit_tools.specs.Found.{IsBeside};
 ghost use Rattle.commit_tools.specs.Handed.{IsHandedBatch};
 ghost use Rattle.commit_tools.specs.Put.{TakesCommand, PutsAll, PutsBatch};
-ghost use Rattle.commit_tools.specs.Stops.{EndApart};
+ghost use Rattle.commit_tools.specs.Stops.{EndApart, IsLongestBatch};
 
 use crate::fault::CommitFault;
 use crate::found::Found;
@@ -30,8 +30,7 @@ fn batch_start(found: &Found, left: usize) -> usize
     ensures some { result < left }
     ensures few { left ≤ result + MOST_SPLICES }
     ensures apart { EndApart (slice_range found.now.changes.items result left) }
-    ensures longest { 1 ≤ result → left < result + MOST_SPLICES
-        → ¬ EndApart (slice_range found.now.changes.items (result - 1) left) }
+    ensures longest { IsLongestBatch found.now.changes.items result left }
 {
     let changes: &[LineChange] = &found.changes;
     let mut first = left - 1;
@@ -104,8 +103,7 @@ fn put_batch(
     requires inside { (first ≤ left) × (left ≤ length found.now.changes.items) }
     requires few { (first < left) × (left ≤ first + MOST_SPLICES) }
     requires apart { EndApart (slice_range found.now.changes.items first left) }
-    requires longest { 1 ≤ first → left < first + MOST_SPLICES
-        → ¬ EndApart (slice_range found.now.changes.items (first - 1) left) }
+    requires longest { IsLongestBatch found.now.changes.items first left }
     requires some { 1 ≤ length session.old.revisions }
     ensures { PutsBatch found.now file.now first left session.old result session.new }
 {
