@@ -1,7 +1,7 @@
 # make try [IMAGE=..]  checks the stored image, or the one that is named, by the program with no proof: a minute; it keeps no program
 # make run       proves and builds the program, and runs it on the stored image
 # make library   proves and builds the C library, and, where there is a C compiler, a shared one of it for Python
-# make check     the merge gate: every proof and test, an edit of each public function that must be refused, and the built program
+# make check     the merge gate: every proof and test, edits of public functions that must be refused, and the built program
 # make long [OLD=..]  what takes more than a minute and is no proof, over the built program: random images and keys, failing devices, dear refusals;
 #                and, where OLD names a clone at c89b5a8 over which crates/cord_answers and its line of crates.txt were laid, in which
 #                `rt run` built that crate: more answers of both builds, compared

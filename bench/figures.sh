@@ -48,7 +48,7 @@ check() {
         /^cordkit/ && !ours { ours = $2 }
         /^sha256sum/ && !theirs { theirs = $2 }
         END {
-            printf "| check %s revisions of all commands, %s nodes, %s rows, %d MB | ", grouped(revisions), grouped(nodes), grouped(shown), bytes / 1e6 + 0.5
+            printf "| check %s revisions of all commands but `many`, %s nodes, %s rows, %d MB | ", grouped(revisions), grouped(nodes), grouped(shown), bytes / 1e6 + 0.5
             printf "%d ms, %s million instructions | ", ours, instructions ? int(instructions / 1e6 + 0.5) : "-"
             printf "`sha256sum` %d ms | %s |\n", theirs, ratio(ours, theirs) }' sh bench/check.sh
 }

@@ -80,8 +80,8 @@ bool cord_check(const uint8_t *image, size_t image_len, const struct cord_source
  * ask for two billion looks at nodes.
  *   true:  *bound is how many looks it takes at most.
  *   false: the bytes are no image, and *bound stays; a check answers code 1 of them, or 13.
- * Proved: all of this; that a check takes no more looks is proved of the call beneath (check_counted of session_checker). Measured: a look
- * takes some nanoseconds. */
+ * Proved: all of this; that a check takes no more looks is proved of the same check that counts (check_counted of session_checker).
+ * Measured: a look takes some nanoseconds. */
 bool cord_looks_bound(const uint8_t *image, size_t image_len, uint64_t *bound);
 
 /* ---- Asking an image that was accepted */
