@@ -260,42 +260,7 @@ fn verify_with<S: CountedSpace<L>, T: Sources, P: Splices, R: Rows, W: Way, L: L
 }
 
 /// What `verify_counted` tells, by trails that a caller keeps from call to call, so that no call sets them up anew.
-/// What they hold before does not matter.
-///
-/// # Errors
-///
-/// As those of `verify`.
-pub fn verify_by<S: CountedSpace<L>, T: Sources, P: Splices, R: Rows, L: Ledger>(
-    looks: &mut Looks<'_, '_, S, L>,
-    trails: &mut Trails,
-    sources: &mut T,
-    parts: PartIter<'_, P>,
-    root: Rope,
-    rows: &R,
-) -> Result<Verdict, SourceFault>
-    requires parts { AreParts (S.table looks.old.space.now) parts }
-    requires root { IsRope (S.table looks.old.space.now) root }
-    ensures verified { VerifiesRows (S.table looks.old.space.now) (S.coded looks.old.space.now)
-        parts.entry root (R.listed rows.now) (T.reading sources.old) (T.reading sources.new) result }
-    ensures looks { looks.new.count.now ≤ looks.old.count.now + most_looks (R.listed rows.now) }
-    ensures space { looks.new.space.now ≡ looks.old.space.now }
-    ensures same_reference { looks.new.count.ghost_name ≡ looks.old.count.ghost_name }
-{
-    if are_short::<S, P, L>(looks.space, &parts, root) {
-        return verify_counted(looks, sources, parts, root, rows);
-    }
-    verify_with(
-        looks,
-        &mut trails.ways,
-        sources,
-        parts,
-        root,
-        rows,
-        &mut Untold,
-    )
-}
-
-/// What `verify_by` tells, and tells `progress` before each row how many of these rows are done.
+/// What they hold before does not matter. It tells `progress` before each row how many of these rows are done.
 ///
 /// # Errors
 ///
@@ -341,12 +306,11 @@ pub fn verify_told<S: CountedSpace<L>, T: Sources, P: Splices, R: Rows, L: Ledge
 
 /// Whether the rows cover the parts of a command and a root, as `verify` tells it, by looks at the space: at most
 /// `LOOKS_LIMIT` for each row, and as many for each byte that a row compares, up to `BYTES_LIMIT` of each row. Each row
-/// goes down from the root. It is never inlined, so a caller that keeps trails pays nothing for it.
+/// goes down from the root.
 ///
 /// # Errors
 ///
 /// As those of `verify`.
-#[inline(never)]
 pub fn verify_counted<S: CountedSpace<L>, T: Sources, P: Splices, R: Rows, L: Ledger>(
     looks: &mut Looks<'_, '_, S, L>,
     sources: &mut T,

@@ -14,7 +14,7 @@ mod over_bytes;
 mod row;
 mod walk;
 
-pub use cover::{Verdict, verify, verify_by, verify_counted, verify_told};
+pub use cover::{Verdict, verify, verify_counted, verify_told};
 pub use exact::describe_part;
 pub use kept_ways::Trails;
 pub use longest::are_longest;

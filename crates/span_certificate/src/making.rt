@@ -1,6 +1,7 @@
 //! Rows made for the parts of a command and its root.
 
 ghost use Rattle.std.specs.Prelude.{◌≡◌, ◌+◌, ◌<◌, ◌≤◌, length, take, drop, Some};
+ghost use Rattle.rope_node.specs.Table.{Table};
 ghost use Rattle.rope_node.specs.Denotes.{cells, rope_cells, IsRope};
 ghost use Rattle.command_parts.specs.Parts.{part_len, part_cells, parts_cells, IsPart, AreParts};
 ghost use Rattle.span_certificate.specs.Longest.{MakesRows, StayWithin};
@@ -63,6 +64,16 @@ fn next_row<S: CountedSpace<L>, W: Way, L: Ledger>(
     }
 }
 
+/// Forgets a way down at the first byte of a part: what both sides have in common is looked for anew there.
+#[inline(always)]
+fn forget_between_parts<W: Way>(way: &mut W, off: u64)
+    ensures { (t : Table) → W.is_way t way.old → W.is_way t way.new }
+{
+    if off == 0 {
+        way.forget();
+    }
+}
+
 /// The rows for a root that is not nil.
 fn make_for<S: CodedSpace, P: Splices, W: Way, L: Ledger>(
     alloc: Global,
@@ -101,8 +112,7 @@ fn make_for<S: CodedSpace, P: Splices, W: Way, L: Ledger>(
                 rows.push(row).map_err(|_| MakeFault::Memory)?;
                 place += row.len;
                 at.skip(row.len);
-                // Where another part begins, what both sides have in common is looked for anew.
-                ways.of_part.keep(at.off > 0);
+                forget_between_parts(&mut ways.of_part, at.off);
             }
         }
     }

@@ -22,10 +22,6 @@ impl Way for FromRoot {
 
     fn forget(&mut self) {}
 
-    fn keep(&mut self, kept: bool) {
-        let _ = kept;
-    }
-
     #[inline(always)]
     fn begin<S: CountedSpace<L>, L: Ledger>(
         &mut self,

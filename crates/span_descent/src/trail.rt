@@ -219,13 +219,6 @@ impl Way for Trail {
     }
 
     #[inline(always)]
-    fn keep(&mut self, kept: bool) {
-        if !kept {
-            self.count = 0;
-        }
-    }
-
-    #[inline(always)]
     fn begin<S: CountedSpace<L>, L: Ledger>(
         &mut self,
         space: &S,

@@ -41,10 +41,6 @@ pub trait Way {
     fn forget(&mut self)
         ensures { (t : Table) → is_way t self.new };
 
-    /// Goes on as it is, or forgets what it kept where `kept` is false.
-    fn keep(&mut self, kept: bool)
-        ensures { (t : Table) → is_way t self.old → is_way t self.new };
-
     /// Where the way down a span goes on: at a stop that holds the first `len` bytes and is the root or no lower than
     /// `low`.
     fn begin<S: CountedSpace<L>, L: Ledger>(

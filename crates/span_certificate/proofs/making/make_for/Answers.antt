@@ -8,7 +8,7 @@ use Rattle.span_certificate.specs.Longest.{IsLongest, StayWithin}
 use Rattle.command_parts.specs.Parts.{part_len, part_at, parts_cells, AreParts}
 use Rattle.command_parts.specs.Places.{held, IsAt}
 use Rattle.command_parts.proofs.PartPlaces.{at_part, at_whole}
-use Rattle.span_certificate.proofs.Made.{IsStep, step_of, whole_parts, making_more, making_none, made_none, made_rows, covers_at_end}
+use Rattle.span_certificate.proofs.Made.{IsStep, step_of, whole_parts, making_more, making_none, made_rows, covers_at_end}
 use Rattle.span_certificate.proofs.making.make_for.Goals as goal
 
 part_here : (parts : List Part) (place : ℕ) (here : Option Part) (off : ℕ) (rest : List Part) (part : Part) → IsAt parts place here off rest → here ≡ Some part → part_at parts place ≡ Some (part, off)
@@ -64,7 +64,7 @@ loop-place-preserved g c =
       making = rw pushed
           (making_more t c.len-end.ensures.sound c.len-end.ensures.true_records (g.S.CodedSpace.coded c.args.space.now) c.args.parts c.args.root c.loop-place.rows.items c.loop-place.place c.loop-place.at.off (c.len-in-Some.result - c.loop-place.at.off) c.in-Some.part c.next_row-row.result
           c.requires.parts c.requires.same here s c.next_row-row.ensures.next (longest_here t c.args.parts c.args.root c.loop-place.place c.loop-place.at.off c.in-Some.part c.len-in-Some.result c.next_row-row.result here c.len-in-Some.ensures c.next_row-row.ensures.longest) (search rules) c.loop-place.invariant.making);
-      ways = record { part = record { sound = c.len-end.ensures.sound; true_records = c.len-end.ensures.true_records; keeps = c.keep.ensures t c.next_row-row.ensures.ways.part.keeps }; root = c.next_row-row.ensures.ways.root };
+      ways = record { part = record { sound = c.len-end.ensures.sound; true_records = c.len-end.ensures.true_records; keeps = c.forget_between_parts.ensures t c.next_row-row.ensures.ways.part.keeps }; root = c.next_row-row.ensures.ways.root };
       at = c.skip.ensures c.args.parts c.loop-place.place c.loop-place.invariant.at;
     }
 
