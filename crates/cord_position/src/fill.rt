@@ -1,7 +1,8 @@
 //! The bytes of a part of a leaf, written into a buffer.
 
-ghost use Rattle.std.specs.Prelude.{◌≡◌, ◌<◌, ◌≤◌, ◌+◌, length, map, OnOk};
+ghost use Rattle.std.specs.Prelude.{◌≡◌, ◌↔◌, ◌<◌, ◌≤◌, ◌+◌, false, length, map, IsErrOf, OnOk};
 ghost use Rattle.std.specs.List.{range_with_len};
+ghost use Rattle.lazy_file.specs.SourceTexts.{holds_span};
 ghost use Rattle.rope_node.specs.Table.{view_at, len_at, IsLeaf, IsFunction};
 ghost use Rattle.rope_node.specs.Denotes.{Place, cell_at};
 ghost use Rattle.cord_position.specs.Fetched.{ReadsSpan, leaf_part};
@@ -27,6 +28,8 @@ pub fn fill_source<T: Sources>(
         (map (Place s) (range_with_len place (length buffer.old))) buffer.new) }
     ensures reads { ReadsSpan (T.reading sources.old) (T.reading sources.new)
         (Place s) place (place + length buffer.old) result }
+    ensures bad_source { IsErrOf result SourceFault.BadSource
+        ↔ (holds_span (T.reading sources.old).stated s place (length buffer.old) ≡ false) }
 {
     if s >= u32::from(sources.count()) {
         return Err(SourceFault::BadSource);

@@ -11,7 +11,7 @@ use Rattle.cord_search.specs.declared.fault.PutFault.TheVariants as Put
 abbrev pub find_fault_code : FindFault → List ℕ
 find_fault_code Find.PatternTooLong = codes "F1"
 find_fault_code (Find.Source fault) = source_fault_code fault
-find_fault_code Find.Memory = codes "memory"
+find_fault_code Find.Memory = codes "Memory"
 
 -- the source's fault that a fault is, if it is one
 abbrev pub find_source_fault : FindFault → Option SourceFault

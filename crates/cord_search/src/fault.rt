@@ -27,7 +27,7 @@ impl fmt::Display for FindFault {
         match self {
             FindFault::PatternTooLong => f.write_str("F1"),
             FindFault::Source(fault) => write!(f, "{fault}"),
-            FindFault::Memory => f.write_str("memory"),
+            FindFault::Memory => f.write_str("Memory"),
         }
     }
 }

@@ -77,8 +77,8 @@ fn find_some<S: NodeSpace, T: Sources>(
 ///
 /// # Errors
 ///
-/// `F1` for a pattern longer than `PATTERN_LIMIT`. `Memory` where the ring for a pattern of some bytes is refused. A
-/// source's fault, where a byte is one of that source and the read of it failed.
+/// `PatternTooLong` for a pattern longer than `PATTERN_LIMIT`. `Memory` where the ring for a pattern of some bytes is
+/// refused. A source's fault, where a byte is one of that source and the read of it failed.
 pub fn find<S: NodeSpace, T: Sources>(
     alloc: Global,
     space: &S,

@@ -37,8 +37,7 @@ pub fn chr<S: NodeSpace, T: Sources>(
     chr_with(alloc, space, sources, x, i, c, &mut [0; PIECE])
 }
 
-/// Finds what the call above finds, by the same reads, with a
-/// buffer that is handed in. What that holds then is not said.
+/// Finds what `chr` finds, by the same reads, with a buffer that is handed in. What that holds then is not said.
 ///
 /// # Errors
 ///

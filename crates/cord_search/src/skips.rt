@@ -73,9 +73,9 @@ fn repeats_at<S: NodeSpace>(space: &S, x: Rope, place: u64) -> bool
     }
 }
 
-/// The first place from which on a byte cannot stand, where it stands at none of `count`
-/// places from `from` on: the first of the leaf's span there, if the leaf repeats within
-/// these, and else `from`. It sets a position where the leaf repeats, and nowhere else.
+/// A place from which on a byte cannot stand, where it stands at none of `count` places from `from` on: where the leaf
+/// there repeats within these, the first of its span (no clause says so), and else `from`. It sets a position where the
+/// leaf repeats, and nowhere else.
 pub fn clear_behind<S: NodeSpace>(alloc: Global, space: &S, x: Rope, from: u64, count: u64) -> u64
     requires rope { IsRope (S.table space.now) x }
     ensures before { result ≤ from }
