@@ -26,8 +26,14 @@ pub record IsMadeByScript (lens script : List ℕ) (v : SessionValue) : Type 0 w
   pub sources : v.held.sources ≡ lens
   pub history : HoldsHistory v
 
+-- sources of these lengths may all be added to a new session
+pub record MayBeAdded (lens : List ℕ) : Type 0 where
+  pub few : length lens ≤ MOST_SOURCES
+  pub short : (k : ℕ) → k < length lens → get_or lens k 0 < TEXT_LIMIT
+
 -- the script stops at this line, over a new session with these sources; what it leaves is a session
 pub record IsStopped (lens script : List ℕ) (at : Stopped) : Type 0 where
+  pub added : MayBeAdded lens
   pub last : SessionValue
   pub stops : TakesLines (new_session lens) 0 (lines_of script) (Err at) last
   pub session : IsSession last

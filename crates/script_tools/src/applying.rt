@@ -1,8 +1,8 @@
 //! A script applied to a new session, whose image is written.
 
-ghost use Rattle.std.specs.Prelude.{◌≡◌, IfOk, IfErr};
+ghost use Rattle.std.specs.Prelude.{◌≡◌, IfOk, IfErr, OnOk};
 ghost use Rattle.edit_commands.specs.Session.{new_session};
-ghost use Rattle.script_tools.specs.Applied.{AppliesScript, AreRefused, IsMadeByScript, MakesNone};
+ghost use Rattle.script_tools.specs.Applied.{AppliesScript, AreRefused, IsMadeByScript, MakesNone, MayBeAdded};
 
 use crate::fault::ApplyFault;
 use edit_commands::{EditFault, Session};
@@ -15,6 +15,7 @@ use work_progress::{Progress, Untold};
 /// A session with sources of these lengths, and no revisions.
 fn begun(alloc: Global, lens: &[u64]) -> Result<Session, EditFault>
     ensures made { IfOk result (λ session. session ≡ new_session lens.now) }
+    ensures added { OnOk result (MayBeAdded lens.now) }
     ensures refused { IfErr result (AreRefused lens.now) }
 {
     let mut session = Session::new(alloc);
