@@ -1,5 +1,5 @@
 -- Sessions before and behind a call.
-use Rattle.std.proofs.Common.{◌≡◌, ℕ, ◌+◌, ◌<◌, ◌≤◌, List, [], ◌∷◌, ◌++◌, length, Some, None, Result, Ok, Err, refl, sym, subst, ◌∙◌, arith}
+use Rattle.std.proofs.Common.{◌≡◌, ℕ, ◌+◌, ◌<◌, ◌≤◌, List, [], ◌∷◌, ◌++◌, length, Some, None, Result, Ok, Err, IfOk, IfErr, OnOk, OnErr, refl, sym, subst, ◌∙◌, arith}
 use Rattle.std.proofs.lemmas.Bool.{leb-false}
 use Rattle.std.proofs.lemmas.List.{length-append}
 use Rattle.function_leaf.specs.declared.coded.Coded.{Coded}
@@ -68,6 +68,14 @@ applies_not held revisions command made new none keeps by = record {
   later = λ same. behind made.root by.places by.terms;
   kept = (record { goes_on = keeps.goes_on; cells = keeps.cells }, refl);
 }
+
+-- a revision that a command makes is put behind the others, or there is no memory for it
+pub puts_so : (held : Held Coded) (revisions : List Revision) (command : Command) (made : Revision) (new : Held Coded) (result : Result ℕ EditFault) (later : SessionValue) → refusal_of (record { held = held; revisions = revisions }) command ≡ None
+    → Revises held revisions command (Ok made) new → IfOk result (λ k. k ≡ length revisions) → OnOk result (later ≡ record { held = new; revisions = revisions ++ made ∷ [] })
+    → IfErr result (λ fault. fault ≡ EditFault.Memory) → OnErr result (later ≡ record { held = new; revisions = revisions })
+    → AppliesOrNot (record { held = held; revisions = revisions }) command result later
+puts_so held revisions command made new (Ok k) later none is number ok fault err = rw (number, ok) (applies_so held revisions command made new none is)
+puts_so held revisions command made new (Err e) later none is number ok fault err = rw (fault, err) (applies_not held revisions command made new none is.keeps is.is.1)
 
 -- ---- a source more
 

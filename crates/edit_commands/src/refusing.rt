@@ -65,7 +65,7 @@ fn names_no_source(store: &Store<Coded>, revisions: &[Revision], command: &Comma
     }
 }
 
-/// Whether a command hands in no change where it has some, or too many.
+/// Whether a command of changes hands in none, or more than `MOST_SPLICES`.
 fn is_wrong_count(command: &Command<'_>) -> bool
     ensures { result ≡ is_wrong_count command.now }
 {

@@ -115,14 +115,7 @@ impl Session {
             &command,
             &mut self.trails,
         )?;
-        let number = self.revisions.len() as u32;
-        let (rows, splices) = (revision.rows.len(), revision.splices.len());
-        self.revisions
-            .push(revision)
-            .map_err(|_| EditFault::Memory)?;
-        self.row_count += rows;
-        self.splice_count += splices;
-        Ok(number)
+        self.put_behind(revision)
     }
 
     /// Puts a revision of this store behind the others.

@@ -21,10 +21,8 @@ fn apply_edit(session: &mut Session, edit: &Edit, room: &Room) -> Result<(), Edi
     ensures refused { IfErr result
         (λ e. RefusesWords session.old (words_in room.now.bytes.items room.now.changes.items edit.now) e session.new) }
 {
-    match session.apply(handed(edit, room)) {
-        Ok(_) => Ok(()),
-        Err(fault) => Err(fault),
-    }
+    session.apply(handed(edit, room))?;
+    Ok(())
 }
 
 /// Makes the revision that a line asks for, if it asks for one.

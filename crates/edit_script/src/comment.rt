@@ -24,6 +24,10 @@ fn balanced(mark: bool) -> &'static str
 }
 
 /// The comment behind a revision's command, as ` # 2: 7 bytes, depth 1, balanced, 3 rows`.
+///
+/// # Errors
+///
+/// `AllocError` where no memory was given for it.
 pub fn comment_text(alloc: Global, note: &Note) -> Result<String, AllocError>
     ensures { IfOk result (λ text. string_bytes text ≡ comment_of (noted_in note.now)) }
 {

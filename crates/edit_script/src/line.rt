@@ -12,6 +12,7 @@ use crate::fault::LineFault;
 use crate::room::Room;
 use command_parts::Edit;
 
+/// The command that a line says, none where it has no words, with a room that is empty.
 fn read_line(line: &[u8], room: &mut Room) -> Result<Option<Edit>, LineFault>
     requires bytes { room.now.bytes.items ≡ [] }
     requires changes { room.now.changes.items ≡ [] }

@@ -28,6 +28,7 @@ fn escape_of(e: u8) -> Option<u8>
     }
 }
 
+/// The value of a digit of base 16.
 fn hex_digit(b: u8) -> Result<u8, LineFault>
     ensures value { IsReadAs (λ d. d) result (hex_digit b) }
     ensures small { IfOk result (λ d. d < 16) }
@@ -38,6 +39,7 @@ fn hex_digit(b: u8) -> Result<u8, LineFault>
     }
 }
 
+/// The byte whose two digits of base 16 stand at the front, and what follows.
 fn hex_at(text: &[u8]) -> Result<(u8, &[u8]), LineFault>
     ensures { IsReadAs (λ x. (x.0, x.1.now)) result (hex_at text.now) }
 {
@@ -51,6 +53,7 @@ fn hex_at(text: &[u8]) -> Result<(u8, &[u8]), LineFault>
     }
 }
 
+/// The byte that an escape stands for, behind its backslash, and what follows.
 fn escape_at(text: &[u8]) -> Result<(u8, &[u8]), LineFault>
     ensures { IsReadAs (λ x. (x.0, x.1.now)) result (escape_at text.now) }
 {

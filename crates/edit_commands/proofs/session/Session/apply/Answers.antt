@@ -1,14 +1,13 @@
-use Rattle.std.proofs.Common.{◌≡◌, [], ◌∷◌, ◌++◌, List, length, sym, subst, ◌∙◌, arith, rules, None, Ok, Err}
+use Rattle.std.proofs.Common.{◌≡◌, List, sym, subst, ◌∙◌, arith, None, Ok}
 use Rattle.function_leaf.specs.Coded.{coded_byte}
 use Rattle.node_table.specs.Held.{table_of}
 use Rattle.command_parts.specs.Parts.{AreRopes}
-use Rattle.edit_commands.specs.declared.fault.EditFault.TheVariants as EditFault
 use Rattle.edit_commands.specs.declared.revision.Revision.{Revision}
 use Rattle.edit_commands.specs.Session.{SessionValue, roots_of, splices_held, AreRevisions}
 use Rattle.edit_commands.specs.Applying.{Revises, AppliesOrNot}
 use Rattle.edit_commands.specs.Refusals.{refusal_of}
-use Rattle.edit_commands.proofs.RevisionLists.{are_ropes, rows_more, splices_more}
-use Rattle.edit_commands.proofs.SessionCalls.{not_full, session_kept, session_more, applies_not, applies_so}
+use Rattle.edit_commands.proofs.RevisionLists.{are_ropes}
+use Rattle.edit_commands.proofs.SessionCalls.{not_full, session_kept, puts_so}
 use Rattle.edit_commands.proofs.session.Session.apply.Goals as goal
 
 pub refusal-requires : goal.refusal-requires
@@ -27,43 +26,15 @@ invariant_of-self c =
     let before : SessionValue = record { held = c.self.inside.store; revisions = c.self.inside.revisions.items } in
     (session_kept before c.revise.new.store c.self.invariant.0 (subst (AreRevisions c.revise.new.store) c.deref-2.ensures.value c.in_err-revision.ensures.earlier), c.self.invariant.1, c.self.invariant.2)
 
-pub invariant_of-self-in_err-map_err : goal.invariant_of-self-in_err-map_err
-invariant_of-self-in_err-map_err c =
-    let before : SessionValue = record { held = c.self.inside.store; revisions = c.self.inside.revisions.items } in
-    let same : c.push.new.self.items ≡ c.self.inside.revisions.items = search rules in
-    rw same (session_kept before c.revise.new.store c.self.invariant.0 (subst (AreRevisions c.revise.new.store) c.deref-2.ensures.value c.in_ok-revision.ensures.earlier), c.self.invariant.1, c.self.invariant.2)
-
 pub invariant_of-self-2 : goal.invariant_of-self-2
 invariant_of-self-2 c =
-    let items = c.self.inside.revisions.items in
-    let pushed : c.push.new.self.items ≡ c.self.inside.revisions.items ++ c.in_ok-revision.revision ∷ [] = search rules in
-    let is : Revises c.self.inside.store c.self.inside.revisions.items c.args.command (Ok c.in_ok-revision.revision) c.revise.new.store =
-    subst (λ (rs : List Revision). Revises c.self.inside.store rs c.args.command (Ok c.in_ok-revision.revision) c.revise.new.store) c.deref-2.ensures.value c.in_ok-revision.ensures in
-    let none : refusal_of (record { held = c.self.inside.store; revisions = c.self.inside.revisions.items }) c.args.command ≡ None =
-    subst (λ (rs : List Revision). refusal_of (record { held = c.self.inside.store; revisions = rs }) c.args.command ≡ None) c.deref.ensures.value (sym c.refusal.ensures ∙ c.in_default.is) in
-    let few = not_full (record { held = c.self.inside.store; revisions = items }) c.args.command none in
-    let count : c.len-rows.result ≡ length c.in_ok-revision.revision.rows.items = search rules in
-    let count' : c.len-splices.result ≡ length c.in_ok-revision.revision.splices.items = search rules in
-    rw pushed (
-      session_more c.revise.new.store items c.in_ok-revision.revision is.earlier is.is.0 few is.few is.few_splices,
-      omega (arith, rows_more items c.in_ok-revision.revision, count, c.self.invariant.1),
-      omega (arith, splices_more items c.in_ok-revision.revision, count', c.self.invariant.2),
-    )
+    let before : SessionValue = record { held = c.self.inside.store; revisions = c.self.inside.revisions.items } in
+    (session_kept before c.revise.new.store c.self.invariant.0 (subst (AreRevisions c.revise.new.store) c.deref-2.ensures.value c.in_ok-revision.ensures.earlier), c.self.invariant.1, c.self.invariant.2)
 
-pub returns-in_err-map_err : goal.returns-in_err-map_err
-returns-in_err-map_err c =
-    let held = c.self.inside.store in
-    let items = c.self.inside.revisions.items in
-    let made = c.in_ok-revision.revision in
-    let new = c.revise.new.store in
-    let pushed : c.push.new.self.items ≡ c.self.inside.revisions.items = search rules in
-    let is : Revises c.self.inside.store c.self.inside.revisions.items c.args.command (Ok c.in_ok-revision.revision) c.revise.new.store =
-    subst (λ (rs : List Revision). Revises c.self.inside.store rs c.args.command (Ok c.in_ok-revision.revision) c.revise.new.store) c.deref-2.ensures.value c.in_ok-revision.ensures in
-    let none : refusal_of (record { held = c.self.inside.store; revisions = c.self.inside.revisions.items }) c.args.command ≡ None =
-    subst (λ (rs : List Revision). refusal_of (record { held = c.self.inside.store; revisions = rs }) c.args.command ≡ None) c.deref.ensures.value (sym c.refusal.ensures ∙ c.in_default.is) in
-    let memory : c.from_residual-in_err-map_err.result ≡ Err EditFault.Memory = search rules in
-    subst (λ (v : SessionValue). AppliesOrNot v c.args.command c.from_residual-in_err-map_err.result (record { held = new; revisions = c.push.new.self.items })) c.self.view_is
-    (rw (pushed, memory) (applies_not held items c.args.command made new none is.keeps is.is.1))
+pub put_behind-requires-clause-room : goal.put_behind-requires-clause-room
+put_behind-requires-clause-room c =
+    let before : SessionValue = record { held = c.self.inside.store; revisions = c.self.inside.revisions.items } in
+    not_full before c.args.command (subst (λ (rs : List Revision). refusal_of (record { held = c.self.inside.store; revisions = rs }) c.args.command ≡ None) c.deref.ensures.value (sym c.refusal.ensures ∙ c.in_default.is))
 
 pub returns : goal.returns
 returns c =
@@ -71,11 +42,7 @@ returns c =
     let items = c.self.inside.revisions.items in
     let made = c.in_ok-revision.revision in
     let new = c.revise.new.store in
-    let pushed : c.push.new.self.items ≡ c.self.inside.revisions.items ++ c.in_ok-revision.revision ∷ [] = search rules in
-    let is : Revises c.self.inside.store c.self.inside.revisions.items c.args.command (Ok c.in_ok-revision.revision) c.revise.new.store =
-    subst (λ (rs : List Revision). Revises c.self.inside.store rs c.args.command (Ok c.in_ok-revision.revision) c.revise.new.store) c.deref-2.ensures.value c.in_ok-revision.ensures in
-    let none : refusal_of (record { held = c.self.inside.store; revisions = c.self.inside.revisions.items }) c.args.command ≡ None =
-    subst (λ (rs : List Revision). refusal_of (record { held = c.self.inside.store; revisions = rs }) c.args.command ≡ None) c.deref.ensures.value (sym c.refusal.ensures ∙ c.in_default.is) in
-    let number : c.len-number.result ≡ length c.self.inside.revisions.items = search rules in
-    subst (λ (v : SessionValue). AppliesOrNot v c.args.command (Ok c.len-number.result) (record { held = new; revisions = c.push.new.self.items })) c.self.view_is
-    (rw (pushed, number) (applies_so held items c.args.command made new none is))
+    let is : Revises held items c.args.command (Ok made) new = subst (λ (rs : List Revision). Revises held rs c.args.command (Ok made) new) c.deref-2.ensures.value c.in_ok-revision.ensures in
+    let none : refusal_of (record { held = held; revisions = items }) c.args.command ≡ None = subst (λ (rs : List Revision). refusal_of (record { held = held; revisions = rs }) c.args.command ≡ None) c.deref.ensures.value (sym c.refusal.ensures ∙ c.in_default.is) in
+    subst (λ (v : SessionValue). AppliesOrNot v c.args.command c.put_behind.result c.put_behind.new.self) c.self.view_is
+    (puts_so held items c.args.command made new c.put_behind.result c.put_behind.new.self none is c.put_behind.ensures.number c.put_behind.ensures.ok c.put_behind.ensures.fault c.put_behind.ensures.err)
