@@ -10,14 +10,14 @@ use Rattle.image_reader.specs.Value.{ImageValue, IsImage}
 use Rattle.image_reader.specs.Reading.{fault_of, image_in}
 use Rattle.image_reader.specs.Spelling.{spelling}
 use Rattle.image_reader.proofs.WholeImages.{whole_again}
-use Rattle.session_checker.specs.Accepted.{Accepts, BytesAsk, IsAccepted, IsExact, IsFirstFault, NeedsNoRead}
+use Rattle.session_checker.specs.Accepted.{Accepts, BytesAsk, IsAccepted, IsExact, IsFirstFault, NeedsNoRead, SpellsFaithful}
 use Rattle.session_checker.specs.Faithful.{IsFaithful}
 use Rattle.session_checker.specs.RevisionRules.{source_fault}
 use Rattle.session_checker.specs.declared.fault.CheckFault.{CheckFault}
 use Rattle.cord_c.specs.declared.verdict.CordVerdict.{CordVerdict}
 use Rattle.cord_c.specs.HeldTexts.{limit_fault, reading_of}
 use Rattle.cord_c.specs.Verdicts.{accepted_verdict, limit_verdict, refused_verdict}
-use Rattle.cord_c.specs.Answers.{JudgesImage, SpellsFaithful}
+use Rattle.cord_c.specs.Answers.{JudgesImage}
 use Rattle.cord_c.specs.Opened.{WasAccepted}
 
 -- the image that bytes spell

@@ -11,8 +11,7 @@ use Rattle.lazy_file.specs.declared.sources.TheConstants.{COUNT_LIMIT}
 use Rattle.rope_node.specs.declared.node.NodeId.{NodeId}
 use Rattle.rope_node.specs.Table.{Table}
 use Rattle.rope_node.specs.Denotes.{Cell, Byte, Place, IsRope, cell_byte, rope_cells, text}
-use Rattle.rope_node.specs.Held.{IsHeldCell}
-use Rattle.rope_node.proofs.HeldCells.{cell_held}
+use Rattle.rope_node.proofs.HeldCells.{IsHeldCell, cell_held}
 use Rattle.cord_position.specs.Fetched.{AreStated, EachCell, IsStated, rope_cell}
 use Rattle.cord_position.specs.Runs.{AreBytesOf}
 use Rattle.image_reader.specs.Accepted.{revision_at}

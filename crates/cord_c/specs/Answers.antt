@@ -2,25 +2,13 @@
 use Rattle.std.specs.Prelude.{◌≡◌, ◌⊎◌, ℕ, Bool, false, IsTrue, List, None}
 use Rattle.lazy_file.specs.SourceTexts.{AreSizes, Stated}
 use Rattle.lazy_file.specs.Readings.{Reads}
-use Rattle.image_reader.specs.Accepted.{HasSources}
-use Rattle.image_reader.specs.Value.{ImageValue, IsImage}
 use Rattle.image_reader.specs.Reading.{image_in}
-use Rattle.image_reader.specs.Spelling.{spelling}
-use Rattle.session_checker.specs.Accepted.{BytesAsk, IsAccepted, IsFirstFault, NeedsNoRead, StatesAll}
+use Rattle.session_checker.specs.Accepted.{BytesAsk, IsAccepted, IsFirstFault, NeedsNoRead, StatesAll, SpellsFaithful}
 use Rattle.session_checker.specs.RevisionRules.{source_fault}
-use Rattle.session_checker.specs.Faithful.{IsFaithful}
 use Rattle.session_checker.specs.declared.fault.CheckFault.{CheckFault}
 use Rattle.cord_c.specs.declared.verdict.CordVerdict.{CordVerdict}
 use Rattle.cord_c.specs.HeldTexts.{limit_fault, reading_of}
 use Rattle.cord_c.specs.Verdicts.{accepted_verdict, limit_verdict, refused_verdict}
-
--- the bytes are accepted over what the sources state; they spell this image, which is of just such sources and faithful
-pub record SpellsFaithful (bytes : List ℕ) (st : Stated) (v : ImageValue) : Type 0 where
-  pub accepted : IsAccepted bytes st
-  pub image : IsImage v
-  pub spelled : bytes ≡ spelling v
-  pub sources : HasSources v st.sizes
-  pub faithful : IsFaithful v st
 
 -- the verdict names the first fault of the bytes, or that of the one read that failed, for a row of bytes before which
 -- all is accepted

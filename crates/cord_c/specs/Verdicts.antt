@@ -8,7 +8,7 @@ use Rattle.image_reader.specs.declared.fault.ReadFault.TheVariants.{Truncated, T
 use Rattle.session_checker.specs.declared.fault.CheckFault.{CheckFault}
 use Rattle.session_checker.specs.declared.fault.CheckFault.TheVariants.{Read, SourceCount, SourceLength, Reference, Length, Depth, Span, Command, Root, Mark, Rows, Source, Looks}
 use Rattle.cord_c.specs.declared.verdict.CordVerdict.{CordVerdict}
-use Rattle.cord_c.specs.declared.verdict.TheConstants.{DEAR, NO_SOURCES, UNHELD}
+use Rattle.cord_c.specs.declared.verdict.TheConstants.{BAD_SOURCES, OVER_LIMIT, UNHELD}
 
 -- I1 to I7
 abbrev pub read_number : ReadFault → ℕ
@@ -52,11 +52,11 @@ refused_verdict (Root revision) = refused_with 9 0 revision 0
 refused_verdict (Mark revision) = refused_with 10 0 revision 0
 refused_verdict (Rows revision row) = refused_with 11 0 revision row
 refused_verdict (Source fault) = refused_with 12 UNHELD 0 0
-refused_verdict (Looks bound) = refused_with DEAR 0 0 bound
+refused_verdict (Looks bound) = refused_with OVER_LIMIT 0 0 bound
 
 -- sources that are none
 abbrev pub limit_verdict : AddFault → CordVerdict
-limit_verdict fault = refused_with NO_SOURCES (add_number fault) 0 0
+limit_verdict fault = refused_with BAD_SOURCES (add_number fault) 0 0
 
 -- an accepted image: how many revisions, nodes and rows it has
 abbrev pub accepted_verdict : ImageValue → CordVerdict

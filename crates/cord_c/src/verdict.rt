@@ -9,13 +9,13 @@ use rope_node::NodeSpace;
 use session_checker::{CheckFault, Checked};
 
 /// The code of sources that are too many or too long.
-pub const NO_SOURCES: u32 = 13;
+pub const BAD_SOURCES: u32 = 13;
 
 /// The kind of `C12`: bytes of a source that are not held.
 pub const UNHELD: u32 = 2;
 
 /// The code of an image whose check may take more looks than a limit. No check has one here.
-pub const DEAR: u32 = 14;
+pub const OVER_LIMIT: u32 = 14;
 
 /// What a check answers.
 #[repr(C)]
@@ -35,6 +35,7 @@ pub struct CordVerdict {
     pub row: u64,
 }
 
+/// The number behind the letter of `C1(I1)` to `C1(I7)`.
 fn read_number(fault: ReadFault) -> u32
     ensures { result ≡ read_number fault }
 {
@@ -49,6 +50,7 @@ fn read_number(fault: ReadFault) -> u32
     }
 }
 
+/// The number of why sources are refused; 0 for want of memory.
 fn add_number(fault: AddFault) -> u32
     ensures { result ≡ add_number fault }
 {
@@ -60,6 +62,7 @@ fn add_number(fault: AddFault) -> u32
 }
 
 impl CordVerdict {
+    /// The answer for an image or sources that are refused.
     fn refused(code: u32, kind: u32, number: u32, row: u64) -> CordVerdict
         ensures { result ≡ refused_with code kind number row }
     {
@@ -106,7 +109,7 @@ impl CordVerdict {
             CheckFault::Mark(revision) => CordVerdict::refused(10, 0, revision, 0),
             CheckFault::Rows(revision, row) => CordVerdict::refused(11, 0, revision, row as u64),
             CheckFault::Source(_) => CordVerdict::refused(12, UNHELD, 0, 0),
-            CheckFault::Looks(bound) => CordVerdict::refused(DEAR, 0, 0, bound),
+            CheckFault::Looks(bound) => CordVerdict::refused(OVER_LIMIT, 0, 0, bound),
         }
     }
 
@@ -114,6 +117,6 @@ impl CordVerdict {
     pub fn of_sources(fault: AddFault) -> CordVerdict
         ensures { result ≡ limit_verdict fault }
     {
-        CordVerdict::refused(NO_SOURCES, add_number(fault), 0, 0)
+        CordVerdict::refused(BAD_SOURCES, add_number(fault), 0, 0)
     }
 }

@@ -4,8 +4,7 @@ use Rattle.std.specs.Prelude.{All, Result, Ok, Err, IsOk, slice_index}
 use Rattle.rope_node.specs.declared.node.NodeId.{NodeId}
 use Rattle.rope_node.specs.Table.{Table, IsSound}
 use Rattle.rope_node.specs.Denotes.{Cell, Byte, Place, IsRope, cell_at, cells, rope_cells}
-use Rattle.rope_node.specs.Held.{IsHeldCell}
-use Rattle.rope_node.proofs.HeldCells.{cell_held}
+use Rattle.rope_node.proofs.HeldCells.{IsHeldCell, cell_held}
 use Rattle.std.proofs.lemmas.Bool.{cases_lt, lt-ltb, le-leb}
 use Rattle.std.proofs.lemmas.List.{get_or_past}
 use Rattle.lazy_file.specs.SourceTexts.{Stated}

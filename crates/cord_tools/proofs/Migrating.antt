@@ -7,7 +7,8 @@ use Rattle.session_checker.proofs.Restated.{accepted_anew, texts_in_two}
 use Rattle.image_reader.specs.Value.{ImageValue, in_version_two}
 use Rattle.image_reader.specs.Spelling.{spelling}
 use Rattle.image_reader.proofs.Versions.{image_in_two}
-use Rattle.cord_tools.specs.Answers.{AreRead, EndsUnwritten, SpellsFaithful}
+use Rattle.cord_tools.specs.Answers.{AreRead, EndsUnwritten}
+use Rattle.session_checker.specs.Accepted.{SpellsFaithful}
 use Rattle.cord_tools.specs.Migrated.{AnswersMigrate, MigratesTo}
 use Rattle.cord_tools.specs.declared.fault.ToolFault.{ToolFault}
 use Rattle.cord_tools.specs.declared.fault.ToolFault.TheVariants.{Write}

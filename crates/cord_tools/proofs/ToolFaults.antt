@@ -8,7 +8,7 @@ use Rattle.lazy_file.specs.declared.faults.SourceFault.{SourceFault}
 use Rattle.lazy_file.specs.declared.faults.SourceFault.TheVariants as Source
 use Rattle.session_checker.specs.declared.fault.CheckFault.{CheckFault}
 use Rattle.session_checker.specs.declared.fault.CheckFault.TheVariants as Check
-use Rattle.session_checker.specs.Accepted.{BytesAsk}
+use Rattle.session_checker.specs.Accepted.{BytesAsk, SpellsFaithful}
 use Rattle.session_checker.specs.Limits.{IsFirstFaultWithin}
 use Rattle.session_checker.specs.RevisionRules.{source_fault}
 use Rattle.node_table.specs.declared.fault.NodeFault.TheVariants as Node
@@ -19,7 +19,7 @@ use Rattle.cord_search.specs.Faults.{put_source_fault}
 use Rattle.cord_search.specs.declared.fault.PutFault.{PutFault}
 use Rattle.cord_search.specs.declared.fault.PutFault.TheVariants as Put
 use Rattle.image_reader.specs.Value.{ImageValue}
-use Rattle.cord_tools.specs.Answers.{AnswersCheck, AnswersShow, AreRead, CheckAsks, EndsUnwritten, ReadsRevision, ShowAsks, SpellsFaithful, revision_cells}
+use Rattle.cord_tools.specs.Answers.{AnswersCheck, AnswersShow, AreRead, CheckAsks, EndsUnwritten, ReadsRevision, ShowAsks, revision_cells}
 use Rattle.cord_tools.specs.Faults.{IsJoinFault, IsStop, check_fault, put_fault, read_fault, tool_rope_fault}
 use Rattle.cord_tools.specs.Files.{AnswersCompare, AnswersFind}
 use Rattle.cord_tools.specs.Unread.{IsPlaceAmong, StopsAt, ToolReads, ToolReadsCells}

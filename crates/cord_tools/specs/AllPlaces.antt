@@ -54,7 +54,7 @@ AnswersFindAll st start pattern before after (Err Memory) = OfFirstPlaces st sta
 AnswersFindAll st start pattern before after (Err PatternTooLong) = Keeps before after
 AnswersFindAll st start pattern before after (Err other) = ⊥
 
--- The search reads source 0 from start on, and refuses long patterns alone.
+-- The search reads source 0 from start on, refuses long patterns alone, and writes what its answer says.
 pub record FindsAll (old new : Reading) (start : ℕ) (pattern : List ℕ) (before after : Option (List ℕ))
     (outcome : Result Status ToolFault) : Type 0 where
   pub reads : ToolReadsCells old new (drop start (file_cells old.stated.sizes 0)) outcome

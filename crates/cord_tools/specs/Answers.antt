@@ -10,14 +10,13 @@ use Rattle.lazy_file.specs.declared.faults.AddFault.{AddFault}
 use Rattle.lazy_file.specs.declared.faults.AddFault.TheVariants as Add
 use Rattle.rope_node.specs.Denotes.{Cell, rope_cells}
 use Rattle.cord_position.specs.Fetched.{AreStated}
-use Rattle.image_reader.specs.Accepted.{HasSources, revision_at}
+use Rattle.image_reader.specs.Accepted.{revision_at}
 use Rattle.image_reader.specs.Reading.{judged_len}
-use Rattle.image_reader.specs.Value.{ImageValue, IsImage, image_table}
-use Rattle.image_reader.specs.Spelling.{spelling}
+use Rattle.image_reader.specs.Value.{ImageValue, image_table}
 use Rattle.session_checker.specs.declared.fault.CheckFault.{CheckFault}
-use Rattle.session_checker.specs.Accepted.{BytesAsk, IsAccepted}
+use Rattle.session_checker.specs.Accepted.{BytesAsk, SpellsFaithful}
 use Rattle.session_checker.specs.Limits.{IsFirstFaultWithin, AreLooksWithin}
-use Rattle.session_checker.specs.Faithful.{IsFaithful, revision_text}
+use Rattle.session_checker.specs.Faithful.{revision_text}
 use Rattle.session_checker.specs.Codes.{check_fault_code}
 use Rattle.cord_tools.specs.Faults.{check_fault}
 use Rattle.cord_tools.specs.Unread.{IsPlaceAmong, StopsAt, ToolReads}
@@ -46,14 +45,6 @@ AreRead remaining bytes = IfSome remaining (λ xs. bytes ≡ take (judged_len xs
 -- the line that names the refusal of a source
 abbrev pub refused_source_line : AddFault → List ℕ
 refused_source_line fault = codes "refused " ++ add_fault_code fault ++ codes "\n"
-
--- the bytes are accepted with what the sources state; they spell this image, which is of just such sources and faithful
-pub record SpellsFaithful (bytes : List ℕ) (st : Stated) (v : ImageValue) : Type 0 where
-  pub accepted : IsAccepted bytes st
-  pub image : IsImage v
-  pub spelled : bytes ≡ spelling v
-  pub sources : HasSources v st.sizes
-  pub faithful : IsFaithful v st
 
 -- the first fault of the bytes under a limit of looks, which is no source's
 pub record IsRefusal (at_most : Option ℕ) (st : Stated) (bytes : List ℕ) (fault : CheckFault) : Type 0 where

@@ -47,7 +47,7 @@ pub data EditsOnto {T : Type 0} (reading : T → Reading) (sources : T) (image :
       → OpensOnto (reading sources) (reading first.sources) image (Ok begun) → ¬ IsTooLongToOpen begun
       → OpensSession begun first.editing → Runs begun first → EditsOnto reading sources image Untouched Runs result
 
--- What run_edit_onto does.
+-- the editor over an image, to the end of its run; where it is not opened no key is read, and nothing is shown or written
 abbrev pub EditsFileOnto : {T : Type 0} → (T → Reading) → T → List ℕ → Option (List ℕ) → Option (List ℕ)
     → Option (List ℕ) → Option (List ℕ) → Option (List ℕ) → Option (List ℕ) → Result Status ToolFault → Type 0
 EditsFileOnto reading sources image keys_before keys_left shown_before shown_now before now result =
@@ -55,7 +55,7 @@ EditsFileOnto reading sources image keys_before keys_left shown_before shown_now
     (λ begun first. RunsToEnd reading (reading sources).stated.sizes begun first keys_before keys_left
     shown_before shown_now before now result) result
 
--- What run_kept_onto does.
+-- the same, with keys that were kept, which are played first, and with each further key kept before it is taken
 abbrev pub EditsKeptOnto : {T : Type 0} → (T → Reading) → T → List ℕ → List ℕ → Option (List ℕ) → Option (List ℕ)
     → Option (List ℕ) → Option (List ℕ) → Option (List ℕ) → Option (List ℕ) → Option (List ℕ) → Option (List ℕ)
     → Result Status ToolFault → Type 0

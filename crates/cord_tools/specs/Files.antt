@@ -104,7 +104,7 @@ AnswersFind st start pattern before after (Err Memory) = Keeps before after
 AnswersFind st start pattern before after (Err PatternTooLong) = Keeps before after
 AnswersFind st start pattern before after (Err other) = ⊥
 
--- The search reads source 0 from start on, and refuses long patterns alone.
+-- The search reads source 0 from start on, refuses long patterns alone, and writes what its answer says.
 pub record FindsPattern (old new : Reading) (start : ℕ)
     (pattern : List ℕ)
     (before after : Option (List ℕ)) (outcome : Result Status ToolFault) : Type 0 where
@@ -141,7 +141,7 @@ AnswersCompare st before after (Err Read) = Keeps before after
 AnswersCompare st before after (Err Memory) = Keeps before after
 AnswersCompare st before after (Err other) = ⊥
 
--- The comparison reads sources 0 and 1.
+-- The comparison reads sources 0 and 1, and writes what its answer says.
 pub record ComparesFiles (old new : Reading)
     (before after : Option (List ℕ)) (outcome : Result Status ToolFault) : Type 0 where
   pub reads : ToolReadsCells old new

@@ -8,7 +8,8 @@ use Rattle.image_reader.specs.Value.{ImageValue, in_version_two}
 use Rattle.image_reader.specs.Spelling.{spelling}
 use Rattle.session_checker.specs.Faithful.{texts}
 use Rattle.session_checker.specs.Limits.{AreLooksWithin}
-use Rattle.cord_tools.specs.Answers.{AreRead, CheckAsks, EndsUnwritten, SpellsFaithful}
+use Rattle.cord_tools.specs.Answers.{AreRead, CheckAsks, EndsUnwritten}
+use Rattle.session_checker.specs.Accepted.{SpellsFaithful}
 use Rattle.cord_tools.specs.Unread.{ToolReads}
 use Rattle.cord_tools.specs.declared.fault.ToolFault.{ToolFault}
 use Rattle.cord_tools.specs.declared.fault.ToolFault.TheVariants.{Write}

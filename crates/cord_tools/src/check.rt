@@ -17,6 +17,7 @@ use std::alloc::{AllocError, Global};
 use std::io;
 use work_progress::{Progress, Untold};
 
+/// The line that counts what an accepted image has.
 fn accepted_line(alloc: Global, image: &Checked) -> Result<String, AllocError>
     ensures { IfOk result (λ line. string_bytes line ≡ accepted_line image.now) }
 {

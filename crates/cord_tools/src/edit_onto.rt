@@ -25,10 +25,7 @@ fn begun_over(alloc: Global, image: &Checked) -> Result<Session, ToolFault>
     ensures begun { IfOk result (IsTakenUp image.now) }
     ensures fault { IfErr result (IsUntaken image.now) }
 {
-    match take_up(alloc, image) {
-        Ok(session) => Ok(session),
-        Err(fault) => Err(ToolFault::from(fault)),
-    }
+    Ok(take_up(alloc, image)?)
 }
 
 /// The session of an image that is checked with these sources. The image's bytes are gone then.

@@ -46,7 +46,7 @@ pub enum ToolFault {
     /// No session goes on from the image.
     #[error("refused {0}")]
     TakeUp(TakeFault),
-    /// The first revision of an edited session is refused.
+    /// The session refused a command or a source.
     #[error("refused {0}")]
     Edit(EditFault),
     /// The file to be edited has more than 2,147,483,647 bytes.

@@ -85,6 +85,10 @@ fn read_on<R: Read>(
 /// Reads an image: its header, and the rest where that has no fault by itself, up to one
 /// byte more than it states. A longer image is refused by what was read. Room for `expected`
 /// bytes is taken before the rest is read, but for no more than the header states.
+///
+/// # Errors
+///
+/// `Read` where a read failed; `Memory`.
 pub fn read_image<R: Read + Drop>(
     alloc: Global,
     reader: R,

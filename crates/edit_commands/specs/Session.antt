@@ -66,6 +66,10 @@ texts_of source v = map (text source) (cells_of v)
 abbrev pub length_at : SessionValue → ℕ → ℕ
 length_at v k = rope_len (session_table v) (get_or (roots_of v.revisions) k None)
 
+-- the commands as they are recorded
+abbrev pub edits_of : List Revision → List Edit
+edits_of revisions = map (λ (r : Revision). r.edit) revisions
+
 -- what commands take from outside the earlier texts, over the sources' bytes
 abbrev pub text_givens : (ℕ → ℕ → ℕ) → Table → Givens ℕ
 text_givens source t = record {

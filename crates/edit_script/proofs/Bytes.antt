@@ -6,7 +6,8 @@ use Rattle.std.proofs.lemmas.List.{append-nil, take_all}
 use Rattle.edit_script.specs.declared.fault.LineFault.{LineFault}
 use Rattle.edit_script.specs.declared.fault.LineFault.TheVariants.{NoCommand, Memory}
 use Rattle.edit_script.specs.Words.{SpellsByte, plain, short, hex, is_plain, escape_of}
-use Rattle.edit_script.specs.Reading.{◌>>=◌, Fails, hex_digit, hex_at, escape_at, byte_at, unquoted}
+use Rattle.edit_script.specs.Reading.{Fails, hex_digit, hex_at, escape_at, byte_at, unquoted}
+use Rattle.command_parts.specs.Commands.{◌>>=◌}
 use Rattle.edit_script.proofs.Choices.{chosen, passed, bind_some, bind_same, some_is}
 
 abbrev Stands : ℕ × List ℕ → List ℕ → Type 0

@@ -10,7 +10,8 @@ use Rattle.edit_script.specs.declared.fault.LineFault.TheVariants.{NoCommand, Me
 use Rattle.edit_script.specs.Words.{Word, Number, Quoted, behind_blanks}
 use Rattle.edit_script.specs.Commands.{Kind, Place, Text, splice_words, splice_kinds}
 use Rattle.edit_script.specs.Handed.{places_from, placed_splices}
-use Rattle.edit_script.specs.Reading.{◌>>=◌, Fails, number_at, quoted_at, is_comment, word_at, words_at, groups_at, change_at}
+use Rattle.edit_script.specs.Reading.{Fails, number_at, quoted_at, is_comment, word_at, words_at, groups_at, change_at}
+use Rattle.command_parts.specs.Commands.{◌>>=◌}
 use Rattle.edit_script.proofs.Choices.{bind_same, some_is}
 use Rattle.edit_script.proofs.Laws.{groups_end, groups_more, word_shrinks}
 

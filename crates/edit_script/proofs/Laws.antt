@@ -13,7 +13,8 @@ use Rattle.edit_script.specs.declared.room.Room.{Room}
 use Rattle.edit_script.specs.Words.{Word, Name, Number, Quoted, BeginsWith, HasWords, IsComment, Spells, is_blank, ends_word, behind_blanks}
 use Rattle.edit_script.specs.Commands.{Kind, Revision, Place, Byte, Text, shapes, shape_in, shape_of, Shape, Suits, HasKinds, IsLine}
 use Rattle.edit_script.specs.Handed.{said}
-use Rattle.edit_script.specs.Reading.{◌>>=◌, IsReadAs, front_word, behind_front, number_at, number_below, quoted_at, is_comment, word_at, words_at, end_at, groups_at, again_at, named_at, line_at}
+use Rattle.edit_script.specs.Reading.{IsReadAs, front_word, behind_front, number_at, number_below, quoted_at, is_comment, word_at, words_at, end_at, groups_at, again_at, named_at, line_at}
+use Rattle.command_parts.specs.Commands.{◌>>=◌}
 use Rattle.edit_script.proofs.Choices.{chosen, passed, bind_some, some_is}
 use Rattle.edit_script.proofs.Fronts.{IsFront, digit_is_no_end, front_is, behind_front_is, front_parts, behind_front_ends, number_back, number_again, below_back, below_again}
 use Rattle.edit_script.proofs.Quotes.{quoted_back, quoted_again}

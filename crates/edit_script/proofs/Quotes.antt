@@ -2,7 +2,8 @@
 use Rattle.std.proofs.Common.{◌≡◌, ℕ, zero, suc, ◌<◌, true, false, cond, eqb, List, [], ◌∷◌, ◌++◌, length, Some, None, refl, sym, ap, subst, ◌∙◌, append_assoc, length-append, arith, inl, inr}
 use Rattle.std.proofs.lemmas.Bool.{cases_Bool, eqb-true, false≢true}
 use Rattle.edit_script.specs.Words.{Quoted, BeginsWith, IsBehindWord, SpellsByte, plain, short, hex, SpellsBytes, is_plain, behind_blanks}
-use Rattle.edit_script.specs.Reading.{◌>>=◌, byte_at, unquoted, is_behind_word, opened, quoted_at}
+use Rattle.edit_script.specs.Reading.{byte_at, unquoted, is_behind_word, opened, quoted_at}
+use Rattle.command_parts.specs.Commands.{◌>>=◌}
 use Rattle.edit_script.proofs.Choices.{chosen, passed, bind_some, some_is}
 use Rattle.edit_script.proofs.Bytes.{byte_back, byte_again, spelled_is_some}
 

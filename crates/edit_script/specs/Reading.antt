@@ -4,15 +4,11 @@ use Rattle.std.specs.List.{position_or_len}
 use Rattle.std.specs.Char.{digit_value}
 use Rattle.std.specs.Str.{all_ascii_digits}
 use Rattle.std.specs.Str.Parse.{digits_value}
+use Rattle.command_parts.specs.Commands.{◌>>=◌}
 use Rattle.edit_script.specs.declared.fault.LineFault.{LineFault}
 use Rattle.edit_script.specs.declared.fault.LineFault.TheVariants.{NoCommand, Memory}
 use Rattle.edit_script.specs.Words.{Word, Name, Number, Quoted, ends_word, behind_blanks, is_plain, escape_of}
 use Rattle.edit_script.specs.Commands.{Kind, Revision, Place, Byte, Text, shape_of}
-
-infixl 10 ◌>>=◌
-abbrev pub ◌>>=◌ : {A B : Type 0} → Option A → (A → Option B) → Option B
-None >>= f = None
-(Some x) >>= f = f x
 
 -- what a function returned, seen by view, is what reading gives, unless memory ran out
 abbrev pub Fails : {Y : Type 0} → LineFault → Option Y → Type 0

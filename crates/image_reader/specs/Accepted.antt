@@ -90,12 +90,12 @@ AreGoodRevisions v Same = (k : ℕ) → k < length v.revisions → IsGoodRevisio
 
 -- ---- images
 
--- with sources of these lengths
+-- the image was made over sources of these lengths, its nodes are good, and its revisions
 pub record IsAcceptedWith (v : ImageValue) (sizes : List ℕ) (Same : List Cell → List Cell → Type 0) : Type 0 where
   pub sources : HasSources v sizes
   pub nodes : AreGoodNodes (image_table v)
   pub revisions : AreGoodRevisions v Same
 
--- with sources of these lengths, whatever bytes they hold
+-- the same, whatever bytes the sources hold
 abbrev pub IsAlwaysAccepted : ImageValue → List ℕ → Type 0
 IsAlwaysAccepted v sizes = (source : ℕ → ℕ → ℕ) → IsAcceptedWith v sizes (SameOver source)

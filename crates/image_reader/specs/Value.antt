@@ -90,7 +90,7 @@ abbrev pub FitsRoot : Option NodeId → Type 0
 FitsRoot None = Unit {0}
 FitsRoot (Some id) = id.0 < NIL_ROOT
 
--- its command is one of the version
+-- its command is one of the version; that, its root and its count of rows fit their fields
 pub record FitsRevision (version : FormatVersion) (r : Revision) : Type 0 where
   pub known : (recorded r.edit).code ≤ last_code version
   pub edit : FitsRecord r.edit

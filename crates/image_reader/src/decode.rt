@@ -26,6 +26,7 @@ pub fn source_in(bytes: &[u8]) -> u64
 /// The root that stands for nil.
 pub const NIL_ROOT: u32 = u32::MAX;
 
+/// The root that a record names by this number.
 fn root_by(number: u32) -> Rope
     ensures { result ≡ root_by_number number }
 {
@@ -92,6 +93,7 @@ pub fn splices_in(bytes: &[u8]) -> u32
     }
 }
 
+/// The kind of a row.
 fn row_kind_in(bytes: &[u8]) -> RowKind
     requires { length bytes.now ≡ ROW_SIZE }
     ensures { result ≡ row_kind_of bytes.now }

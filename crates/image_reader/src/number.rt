@@ -21,6 +21,7 @@ pub fn bytes_before(bytes: &[u8], behind: usize) -> &[u8]
     &bytes[..bytes.len() - behind]
 }
 
+/// The byte at place `at`.
 #[tactic(auto, unfolding(crate::specs::Layout::number_in))]
 pub fn u8_in(bytes: &[u8], at: usize) -> u8
     requires { at + 1 ≤ length bytes.now }
@@ -30,6 +31,7 @@ pub fn u8_in(bytes: &[u8], at: usize) -> u8
     field[0]
 }
 
+/// The number of two bytes at place `at`, the highest first.
 #[tactic(auto, unfolding(crate::specs::Layout::number_in))]
 pub fn u16_in(bytes: &[u8], at: usize) -> u16
     requires { at + 2 ≤ length bytes.now }
@@ -39,6 +41,7 @@ pub fn u16_in(bytes: &[u8], at: usize) -> u16
     u16::from_be_bytes([field[0], field[1]])
 }
 
+/// The number of four bytes at place `at`, the highest first.
 #[tactic(auto, unfolding(crate::specs::Layout::number_in))]
 pub fn u32_in(bytes: &[u8], at: usize) -> u32
     requires { at + 4 ≤ length bytes.now }
@@ -48,6 +51,7 @@ pub fn u32_in(bytes: &[u8], at: usize) -> u32
     u32::from_be_bytes([field[0], field[1], field[2], field[3]])
 }
 
+/// The number of eight bytes at place `at`, the highest first.
 #[tactic(auto, unfolding(crate::specs::Layout::number_in))]
 pub fn u64_in(bytes: &[u8], at: usize) -> u64
     requires { at + 8 ≤ length bytes.now }

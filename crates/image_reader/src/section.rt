@@ -18,7 +18,7 @@ use crate::layout::{HEADER_SIZE, NODE_SIZE, REVISION_SIZE, ROW_SIZE, SOURCE_SIZE
 use crate::node::{has_unused_node_field, is_unknown_node};
 use crate::number::{bytes_from, u8_in, u16_in, u32_in, u64_in};
 use crate::version::FormatVersion;
-use command_parts::codes::{BALANCE, MANY, NEW};
+use command_parts::codes::NEW;
 use rope_node::TEXT_LIMIT;
 
 /// A kind of record.
@@ -167,7 +167,7 @@ impl RecordKind for RevisionRecords {
     ghost fault = { revision_record_fault BALANCE };
 
     fn check(bytes: &[u8]) -> Result<(), ReadFault> {
-        check_revision(BALANCE, bytes)
+        check_revision(FormatVersion::One.last_code(), bytes)
     }
 }
 
@@ -182,7 +182,7 @@ impl RecordKind for SplicedRevisionRecords {
     ghost fault = { revision_record_fault MANY };
 
     fn check(bytes: &[u8]) -> Result<(), ReadFault> {
-        check_revision(MANY, bytes)
+        check_revision(FormatVersion::Two.last_code(), bytes)
     }
 }
 

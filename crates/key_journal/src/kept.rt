@@ -9,10 +9,10 @@ ghost use Rattle.key_journal.specs.declared.kept.KeepFault.TheVariants as KeepFa
 use std::io::{ErrorKind, Read, Write};
 
 /// The key that saves and ends a run.
-const SAVE: u8 = 0x18;
+pub const SAVE: u8 = 0x18;
 
 /// The key that ends a run.
-const LEAVE: u8 = 0x03;
+pub const LEAVE: u8 = 0x03;
 
 /// Whether a run goes on behind this key.
 pub(crate) fn goes_on(key: u8) -> bool

@@ -10,4 +10,4 @@ pub use finding::{Found, find_keys};
 pub use headers::{
     END_SIZE, FROM_SOURCES, HEADER_SIZE, ONTO_IMAGE, WHOLE_LIMIT, header_onto, header_over,
 };
-pub use kept::{KeepFault, Kept};
+pub use kept::{KeepFault, Kept, LEAVE, SAVE};

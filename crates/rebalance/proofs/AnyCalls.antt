@@ -23,7 +23,7 @@ use Rattle.rope_store.proofs.CallSizes.{joined_few, joined_shallow, part_few, si
 use Rattle.leaf_buffer.proofs.Appending.{appended_bytes}
 use Rattle.rebalance.specs.AnyForms.{AnyForm, Anew, AppendsAny, IsLowest, IsPlaced, IsPut, LiesLower, StandInPool, place_in_pool, PartsAny, lifted, append_growth, cat_growth, part_growth}
 use Rattle.rebalance.specs.declared.fault.BalanceFault.{BalanceFault}
-use Rattle.rebalance.specs.declared.pieces.Span.{Span}
+use Rattle.rope_node.specs.declared.node.Span.{Span}
 use Rattle.rebalance.specs.Balancing.{Rebuilds}
 use Rattle.rebalance.specs.Pieces.{kept_pieces, part_count, part_pieces, piece_count, LeadsWithin, LiesInChild, RopeLeadsDown, here}
 use Rattle.rebalance.specs.Steps.{Grows}

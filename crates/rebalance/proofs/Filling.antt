@@ -11,7 +11,7 @@ use Rattle.rope_node.specs.Denotes.{Cell, cells, rope_cells}
 use Rattle.rope_node.proofs.Cells.{cells_length}
 use Rattle.node_table.specs.declared.fault.NodeFault.{NodeFault}
 use Rattle.node_table.specs.Held.{Held, table_of}
-use Rattle.rebalance.specs.declared.pieces.Span.{Span}
+use Rattle.rope_node.specs.declared.node.Span.{Span}
 use Rattle.rebalance.specs.Balancing.{text_with, Fills, FillsSpan}
 use Rattle.rebalance.specs.Pieces.{cells_in_span, span_pieces, IsOfBase, IsOfChildren}
 use Rattle.rebalance.specs.Slots.{full_slots, slots_cells, AreSlots, Inserts, IsSpread}

@@ -10,7 +10,7 @@ use Rattle.rope_node.specs.Extends.{Extends}
 use Rattle.rope_node.proofs.Cells.{cells_at, cells_length}
 use Rattle.rope_node.proofs.Extensions.{cells_kept, len_kept}
 use Rattle.rope_store.proofs.PartTexts.{take_least}
-use Rattle.rebalance.specs.declared.pieces.Span.{Span}
+use Rattle.rope_node.specs.declared.node.Span.{Span}
 use Rattle.rebalance.specs.Pieces.{is_kept, piece_count, cells_in_span, span_pieces, IsOfBase, IsOfChildren, IsPieceSpan, IsInsideNode}
 use Rattle.rebalance.proofs.PieceCounts.{cat_pieces, kept_is, one_kept, one_leaf, pieces_kept, sub_pieces}
 use Rattle.rebalance.proofs.PieceWays.{cells_below}

@@ -17,7 +17,7 @@ use Rattle.rope_store.specs.Refusals.{Refuses, IsTooDeep, deepest}
 use Rattle.leaf_buffer.proofs.Appending.{appended_bytes}
 use Rattle.rope_store.proofs.PartTexts.{some_part}
 use Rattle.rope_node.specs.Balance.{fibonacci}
-use Rattle.rebalance.specs.declared.pieces.Span.{Span}
+use Rattle.rope_node.specs.declared.node.Span.{Span}
 use Rattle.rebalance.specs.Pieces.{IsWhole}
 use Rattle.rebalance.specs.Slots.{IsShallowPiece}
 use Rattle.rebalance.proofs.Fibonacci.{first_ones}

@@ -93,7 +93,7 @@ pub record AnyForm {F : Type 0} (meaning : F → ℕ → ℕ) (old : Held F) (a 
 
 -- ---- two ropes, one behind the other
 
--- what it may add
+-- what joining two ropes may add
 abbrev pub cat_growth : Table → Option NodeId → Option NodeId → Growth
 cat_growth t l r = record { left_pieces = kept_pieces t l; right_pieces = kept_pieces t r; nodes = 2; bytes = MOST_MERGED }
 
@@ -131,7 +131,7 @@ pub record IsLowest (t : Table) (x : Option NodeId) (i n : ℕ) (inner : Option 
   pub no_deeper : rope_depth t inner ≤ rope_depth t x
   pub cells : take n (drop start (rope_cells t inner)) ≡ take n (drop i (rope_cells t x))
 
--- what it may add
+-- what a part may add
 abbrev pub part_growth : ℕ → Growth
 part_growth pieces = record { left_pieces = pieces; right_pieces = 0; nodes = 1; bytes = 0 }
 

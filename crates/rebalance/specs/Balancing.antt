@@ -12,19 +12,19 @@ use Rattle.node_table.specs.declared.fault.NodeFault.TheVariants.{TooLong, TooDe
 use Rattle.node_table.specs.Held.{Held, table_of, KeepsFunctions}
 use Rattle.rebalance.specs.declared.fault.BalanceFault.{BalanceFault}
 use Rattle.rebalance.specs.declared.fault.BalanceFault.TheVariants.{TooManyPieces, Node}
-use Rattle.rebalance.specs.declared.pieces.Span.{Span}
+use Rattle.rope_node.specs.declared.node.Span.{Span}
 use Rattle.rebalance.specs.Steps.{AddsPieces, IsFullAt, Steps}
 use Rattle.rebalance.specs.Slots.{full_slots, slots_cells, Spreads}
 use Rattle.node_table.specs.declared.fault.NodeFault.{NodeFault}
 use Rattle.rebalance.specs.Pieces.{all_pieces, cells_in_span, piece_count, rope_pieces, span_pieces}
 use Rattle.rebalance.specs.declared.pieces.TheConstants.{MOST_PIECES}
 
--- nil, or a rope as long as the Fibonacci number of its depth and one: that of a balanced rope is the next
+-- nil, or a rope at least as long as the Fibonacci number of its depth and one: that of a balanced rope is the next
 abbrev pub IsNearlyBalanced : Table → Option NodeId → Type 0
 IsNearlyBalanced t None = Unit {0}
 IsNearlyBalanced t (Some id) = fibonacci (depth_at t id.0 + 1) ≤ len_at t id.0
 
--- a rope as long as the Fibonacci number of its depth: that of a balanced rope is the next but one
+-- a rope at least as long as the Fibonacci number of its depth: that of a balanced rope is the next but one
 abbrev pub IsRoughlyBalanced : Table → Option NodeId → Type 0
 IsRoughlyBalanced t rope = fibonacci (rope_depth t rope) ≤ rope_len t rope
 

@@ -8,7 +8,7 @@ use Rattle.rope_node.specs.declared.node.NodeView.TheVariants.{Lit, Src, Fun, Ca
 use Rattle.rope_node.specs.Balance.{fibonacci}
 use Rattle.rope_node.specs.Table.{Table, view_at, len_at, depth_at, IsLeaf}
 use Rattle.rope_node.specs.Denotes.{Cell, cells, rope_len}
-use Rattle.rebalance.specs.declared.pieces.Span.{Span}
+use Rattle.rope_node.specs.declared.node.Span.{Span}
 use Rattle.rebalance.specs.declared.pieces.Split.{Split}
 use Rattle.rebalance.specs.declared.pieces.Split.TheVariants.{Piece, Base, Children}
 use Rattle.rebalance.specs.declared.pieces.Tally.{Tally}

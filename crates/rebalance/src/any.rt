@@ -14,10 +14,9 @@ ghost use Rattle.rebalance.specs.Pieces.{HaveFewPieces, LeadsWithin};
 
 use crate::balancing::{balance_by, balance_part, rebuild_rope, rope_has_few_pieces};
 use crate::fault::BalanceFault;
-use crate::pieces::Span;
 use function_leaf::LeafFn;
 use node_table::NodeFault;
-use rope_node::{NodeId, NodeSpace, NodeView, Rope};
+use rope_node::{NodeId, NodeSpace, NodeView, Rope, Span};
 use rope_store::Store;
 
 /// Whether the store refused a rope as too deep.
@@ -37,10 +36,7 @@ fn is_too_deep(plain: Result<Rope, NodeFault>) -> bool
 fn lift(plain: Result<Rope, NodeFault>) -> Result<Rope, BalanceFault>
     ensures { result ≡ lifted plain }
 {
-    match plain {
-        Ok(rope) => Ok(rope),
-        Err(fault) => Err(BalanceFault::Node(fault)),
-    }
+    Ok(plain?)
 }
 
 /// `cat` of the store. Where the node over both would be too deep, `l` and then `r` are balanced first, from leaf spans

@@ -13,11 +13,11 @@ ghost use Rattle.rebalance.specs.declared.pieces.TheConstants.{MOST_PIECES};
 ghost use Rattle.rebalance.specs.Slots.{AreEmptyBelow, AreSlots};
 
 use crate::fault::BalanceFault;
-use crate::pieces::{Span, Split, has_few_pieces, piece, step_down, whole};
+use crate::pieces::{Split, has_few_pieces, piece, step_down, whole};
 use crate::slots::{SLOTS, Slots, insert, join_below};
 use function_leaf::LeafFn;
 use node_table::NodeFault;
-use rope_node::{NodeId, NodeSpace, Rope};
+use rope_node::{NodeId, NodeSpace, Rope, Span};
 use rope_store::Store;
 
 /// A rope of the same text that is about as shallow as its length allows: it is at least as long, in bytes, as the

@@ -15,7 +15,7 @@ ghost use Rattle.rebalance.specs.Steps.{AddsPiece};
 use crate::balanced::fibonacci;
 use function_leaf::LeafFn;
 use node_table::NodeFault;
-use rope_node::{NodeId, NodeSpace, NodeView, Rope};
+use rope_node::{NodeId, NodeSpace, NodeView, Rope, Span};
 use rope_store::{MOST_MERGED, Store};
 
 /// The most pieces that a rope is put together from.
@@ -23,16 +23,6 @@ pub const MOST_PIECES: u32 = 1 << 20;
 
 /// The shortest part of a function leaf that is a part, in bytes; a shorter one is a literal.
 const SHORTEST_PART: u64 = 32;
-
-/// Bytes of a node.
-#[derive(Clone, Copy)]
-pub(crate) struct Span {
-    pub(crate) node: NodeId,
-    /// Where it begins, counted from the node's first byte.
-    pub(crate) start: u64,
-    /// How many bytes it has.
-    pub(crate) len: u64,
-}
 
 /// All the bytes of a node.
 pub(crate) fn whole<F: LeafFn>(store: &Store<F>, node: NodeId) -> Span

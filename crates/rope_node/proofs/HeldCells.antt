@@ -8,8 +8,12 @@ use Rattle.rope_node.specs.declared.node.NodeView.{NodeView}
 use Rattle.rope_node.specs.declared.node.NodeView.TheVariants.{Lit, Src, Fun, Cat, Sub}
 use Rattle.rope_node.specs.Table.{Table, view_at, len_at, HasGoodReferences, HasSpanInside, IsSound}
 use Rattle.rope_node.specs.Denotes.{Cell, Byte, Place, cells, cell_at, node_cells}
-use Rattle.rope_node.specs.Held.{IsHeldCell}
 use Rattle.rope_node.proofs.Cells.{cells_step}
+
+-- a byte, or a place inside a source of the table
+abbrev pub IsHeldCell : Table → Cell → Type 0
+IsHeldCell t (Byte b) = Unit {0}
+IsHeldCell t (Place s p) = (s < length t.sources) × (p < get_or t.sources s 0)
 
 -- each of these cells, and what is read past their end
 abbrev AreHeld : Table → List Cell → Type 0

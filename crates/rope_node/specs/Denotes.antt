@@ -24,7 +24,7 @@ abbrev pub cells_in : Table → ℕ → ℕ → List Cell
 cells_in t zero id = []
 cells_in t (suc steps) id = node_cells t (cells_in t steps) id (len_at t id) (view_at t id)
 
--- a node's children are earlier nodes, so it needs no more steps than its number and one
+-- the cells of a node: its children are earlier nodes, so no way down takes more steps than its number and one
 abbrev pub cells : Table → ℕ → List Cell
 cells t id = cells_in t (suc id) id
 

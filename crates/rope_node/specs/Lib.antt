@@ -5,4 +5,3 @@ pub mod Steps
 pub mod Balance
 pub mod Coded
 pub mod Extends
-pub mod Held

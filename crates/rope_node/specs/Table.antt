@@ -87,7 +87,7 @@ depth_of t Fun = 0
 depth_of t (Cat l r) = 1 + max (depth_at t l.0) (depth_at t r.0)
 depth_of t (Sub b i) = 1 + depth_at t b.0
 
--- the recorded length is what follows from a node's kind and its parts, and so is the recorded depth
+-- the recorded length is right where the children tell it, and the recorded depth is what follows from them
 pub record IsTrueNode (t : Table) (n : Node) : Type 0 where
   pub len : HasTrueLength t n.len n.view
   pub depth : n.depth ≡ depth_of t n.view

@@ -27,13 +27,13 @@ use Rattle.std.proofs.lemmas.List.Sums.{sum_by-cons}
 use Rattle.command_parts.specs.Parts.{parts_of}
 use Rattle.edit_commands.specs.declared.revision.Revision as Kept
 use Rattle.edit_commands.specs.Applying.{KnownRowsPass, PassRows, PutsKnown}
-use Rattle.edit_commands.specs.Session.{IsRevision, IsSession, SessionValue, command_of, roots_of, rows_held, splices_held}
+use Rattle.edit_commands.specs.Session.{IsRevision, IsSession, SessionValue, command_of, roots_of, rows_held, splices_held, edits_of}
 use Rattle.edit_commands.proofs.RevisionSplices.{length-all_splices}
 use Rattle.image_reader.specs.declared.revision.Revision.{Revision}
 use Rattle.image_reader.specs.declared.version.FormatVersion.TheVariants.{Two}
 use Rattle.image_reader.specs.Value.{ImageValue, IsImage, coded_at, image_table}
 use Rattle.image_reader.specs.Accepted.{no_revision, parts_at, revision_at, roots_before, rows_at, rows_before, splices_before}
-use Rattle.session_image.specs.Written.{AreAsMade, IsAsMade, recorded_edits, recorded_revision, rows_in, splices_in}
+use Rattle.session_image.specs.Written.{AreAsMade, IsAsMade, recorded_revision, rows_in, splices_in}
 use Rattle.session_image.proofs.RowLists.{length-rows}
 use Rattle.session_checker.specs.RevisionRules.{HasRowsOverNoSource}
 use Rattle.session_checker.proofs.EarlierRevisions.{rows_before_more, rows_inside, splices_before_more, splices_inside}
@@ -205,8 +205,8 @@ module _ (v : ImageValue) (is : IsImage v) (k : ℕ) (lt : k < length v.revision
           record {
             holds = subst (HoldsImage v) (sym puts.held) takes.holds;
             inside = omega (arith, lt);
-            edits = ap recorded_edits puts.revisions ∙ map_push (λ (r : Kept.Revision). r.edit) before made
-                ∙ ap (λ (e : Edit). recorded_edits before ++ (e ∷ [])) puts.its_edit
+            edits = ap edits_of puts.revisions ∙ map_push (λ (r : Kept.Revision). r.edit) before made
+                ∙ ap (λ (e : Edit). edits_of before ++ (e ∷ [])) puts.its_edit
                 ∙ ap (λ (es : List Edit). es ++ ((revision_at v k).edit ∷ [])) takes.edits
                 ∙ sym (map_next (λ (r : Revision). r.edit) v.revisions k no_revision lt);
             roots = ap roots_of puts.revisions ∙ map_push (λ (r : Kept.Revision). r.root) before made

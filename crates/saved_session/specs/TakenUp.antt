@@ -12,11 +12,11 @@ use Rattle.std.specs.List.{sum_by}
 use Rattle.span_certificate.specs.declared.row.Row.{Row}
 use Rattle.span_certificate.specs.Covers.{rows_len}
 use Rattle.span_certificate.specs.Longest.{AreLongest, AreMade}
-use Rattle.edit_commands.specs.Session.{SessionValue, roots_of}
+use Rattle.edit_commands.specs.Session.{SessionValue, roots_of, edits_of}
 use Rattle.image_reader.specs.declared.revision.Revision.{Revision}
 use Rattle.image_reader.specs.Value.{ImageValue, image_table, coded_at, in_version_two}
 use Rattle.image_reader.specs.Accepted.{parts_at, revision_at, rows_at, rows_before, splices_before}
-use Rattle.session_image.specs.Written.{AreAsMade, IsAsMade, image_of, nodes_of, recorded_edits, recorded_revision, rows_in, splices_in}
+use Rattle.session_image.specs.Written.{AreAsMade, IsAsMade, image_of, nodes_of, recorded_revision, rows_in, splices_in}
 use Rattle.session_checker.specs.RevisionRules.{AreGoodOver, HasRowsOverNoSource}
 
 -- the image keeps its rules over what some sources state
@@ -52,7 +52,7 @@ pub record TakesUp (v : ImageValue) (s : SessionValue) : Type 0 where
   pub block : s.held.pool ≡ held_whole v.pool
   -- so that no function behind the last node answers otherwise
   pub table : table_of coded_byte s.held ≡ image_table v
-  pub edits : recorded_edits s.revisions ≡ map (λ (r : Revision). r.edit) v.revisions
+  pub edits : edits_of s.revisions ≡ map (λ (r : Revision). r.edit) v.revisions
   pub roots : roots_of s.revisions ≡ map (λ (r : Revision). r.root) v.revisions
   pub splices : splices_in s.revisions ≡ v.splices
   pub stand : (k : ℕ) (rows : List Row) → slice_get (each_rows s.revisions) k ≡ Some rows → StandFor v k rows
@@ -82,7 +82,7 @@ pub record TakenRowsPass (v : ImageValue) : Type 0 where
 pub record TakesFirst (v : ImageValue) (k : ℕ) (s : SessionValue) : Type 0 where
   pub holds : HoldsImage v s.held
   pub inside : k ≤ length v.revisions
-  pub edits : recorded_edits s.revisions ≡ map (λ (r : Revision). r.edit) (take k v.revisions)
+  pub edits : edits_of s.revisions ≡ map (λ (r : Revision). r.edit) (take k v.revisions)
   pub roots : roots_of s.revisions ≡ map (λ (r : Revision). r.root) (take k v.revisions)
   pub splices : splices_in s.revisions ≡ take (splices_before v k) v.splices
   pub no_source : (j : ℕ) → j < k → HasRowsOverNoSource v j

@@ -13,12 +13,12 @@ use Rattle.command_parts.specs.Commands.{FullEdit, result_of, with_splices}
 use Rattle.edit_commands.specs.declared.revision.Revision.{Revision}
 use Rattle.edit_commands.specs.Applying.{Applies}
 use Rattle.edit_commands.specs.Building.{splices_with}
-use Rattle.edit_commands.specs.Session.{HoldsHistory, SessionValue, command_of, commands_of, length_at, splices_held, session_table, text_givens, texts_of}
+use Rattle.edit_commands.specs.Session.{HoldsHistory, SessionValue, command_of, commands_of, length_at, splices_held, session_table, text_givens, texts_of, edits_of}
 use Rattle.screen_editor.specs.declared.workspace.TheConstants.{LONGEST_TEXT}
 use Rattle.screen_editor.specs.Editing.{Editing, state_of}
 use Rattle.screen_editor.specs.Opening.{IsFirstSession, at_first_byte}
 use Rattle.screen_editor.specs.Priors.{priors_of}
-use Rattle.screen_editor.specs.Recorded.{HandsNoChanges, edit_at, edits_of}
+use Rattle.screen_editor.specs.Recorded.{HandsNoChanges, edit_at}
 use Rattle.screen_editor.specs.Refusals.{IsTooLong, first_command}
 use Rattle.screen_editor.specs.Revising.{IsMade, first_text}
 use Rattle.screen_editor.proofs.NewTexts.{plain_edit, plain_says, text_len}

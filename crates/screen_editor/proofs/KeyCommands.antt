@@ -3,11 +3,10 @@ use Rattle.std.proofs.Common.{◌≡◌, ℕ, [], ◌++◌, get_or, Option, sym,
 use Rattle.std.specs.List.{cons_option}
 use Rattle.std.proofs.lemmas.List.{append-nil}
 use Rattle.command_parts.specs.declared.edit.Edit.{Edit}
-use Rattle.edit_commands.specs.Session.{SessionValue}
+use Rattle.edit_commands.specs.Session.{SessionValue, edits_of}
 use Rattle.screen_editor.specs.declared.key.Key.{Key}
 use Rattle.screen_editor.specs.Editing.{Editing, state_of}
 use Rattle.screen_editor.specs.Machine.{edit_by_key}
-use Rattle.screen_editor.specs.Recorded.{edits_of}
 use Rattle.screen_editor.specs.Revising.{AppliesCommand, none, one}
 use Rattle.screen_editor.proofs.NewTexts.{edits_more}
 

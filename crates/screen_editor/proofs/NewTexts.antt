@@ -21,9 +21,9 @@ use Rattle.edit_commands.specs.Applying.{Applies}
 use Rattle.edit_commands.specs.Building.{StandEach, edit_with, splices_with}
 use Rattle.edit_commands.specs.Refusals.{result_len}
 use Rattle.edit_commands.specs.Terms.{handed, command_terms}
-use Rattle.edit_commands.specs.Session.{SessionValue, HoldsHistory, splices_held, cells_of, command_of, length_at, roots_of, session_table, texts_of}
+use Rattle.edit_commands.specs.Session.{SessionValue, HoldsHistory, splices_held, cells_of, command_of, length_at, roots_of, session_table, texts_of, edits_of}
 use Rattle.text_lines.proofs.KnownLaws.{length-replaced}
-use Rattle.screen_editor.specs.Recorded.{HandsNoChanges, edit_at, edits_of}
+use Rattle.screen_editor.specs.Recorded.{HandsNoChanges, edit_at}
 use Rattle.screen_editor.specs.Taking.{IsInOrder}
 
 -- ---- a step that may give nothing

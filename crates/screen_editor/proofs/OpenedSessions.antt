@@ -3,12 +3,11 @@
 use Rattle.std.proofs.Common.{◌≡◌, ℕ, ◌<◌, ◌≤◌, List, [], length, Option, None, refl, sym, ap, arith, ◌∙◌}
 use Rattle.std.proofs.lemmas.List.{length-map}
 use Rattle.edit_commands.specs.declared.revision.Revision.{Revision}
-use Rattle.edit_commands.specs.Session.{SessionValue, IsSession, length_at, texts_of}
+use Rattle.edit_commands.specs.Session.{SessionValue, IsSession, length_at, texts_of, edits_of}
 use Rattle.screen_editor.specs.declared.workspace.TheConstants.{LONGEST_TEXT}
 use Rattle.screen_editor.specs.Editing.{Editing, IsEditing, state_of}
 use Rattle.screen_editor.specs.Opening.{GoesOnFrom, OpensSession, none, at_first_byte, there}
 use Rattle.screen_editor.specs.Priors.{priors_of}
-use Rattle.screen_editor.specs.Recorded.{edits_of}
 use Rattle.screen_editor.specs.State.{reopened}
 use Rattle.screen_editor.proofs.PriorLaws.{count_priors, session_earlier}
 

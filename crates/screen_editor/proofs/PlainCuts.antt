@@ -14,14 +14,14 @@ use Rattle.command_parts.specs.declared.edit.Edit.TheVariants as Recorded
 use Rattle.edit_commands.specs.declared.command.Command.{Command}
 use Rattle.edit_commands.specs.declared.revision.Revision.{Revision}
 use Rattle.edit_commands.specs.Applying.{Applies}
-use Rattle.edit_commands.specs.Session.{HoldsHistory, SessionValue, cells_of, edit_of, roots_of, session_table}
+use Rattle.edit_commands.specs.Session.{HoldsHistory, SessionValue, cells_of, edit_of, roots_of, session_table, edits_of}
 use Rattle.screen_editor.specs.declared.cut_span.CutSpan.{CutSpan}
 use Rattle.screen_editor.specs.declared.key.Key.{Key}
 use Rattle.screen_editor.specs.declared.known.KnownText.{KnownText}
 use Rattle.screen_editor.specs.Editing.{Editing, current_root, last_of, state_of}
 use Rattle.screen_editor.specs.KnownTexts.{IsKnownText, IsKnownLine, PlainBehind, TakeNoBreak, TakesSpan}
 use Rattle.screen_editor.specs.Machine.{edit_by_key}
-use Rattle.screen_editor.specs.Recorded.{HandsNoChanges, edit_at, edits_of}
+use Rattle.screen_editor.specs.Recorded.{HandsNoChanges, edit_at}
 use Rattle.screen_editor.specs.Revising.{AppliesCommand, KeepsAll, none, one}
 use Rattle.screen_editor.proofs.KeyPlans.{no_source}
 use Rattle.screen_editor.proofs.NewTexts.{cells_more, edits_more}

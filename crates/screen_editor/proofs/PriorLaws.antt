@@ -15,11 +15,11 @@ use Rattle.command_parts.specs.Parts.{IsInRange}
 use Rattle.rope_node.specs.declared.node.NodeId.{NodeId}
 use Rattle.rope_node.specs.Table.{Table}
 use Rattle.edit_commands.specs.declared.revision.Revision.{Revision}
-use Rattle.edit_commands.specs.Session.{SessionValue, IsSession, roots_of, session_table}
+use Rattle.edit_commands.specs.Session.{SessionValue, IsSession, roots_of, session_table, edits_of}
 use Rattle.edit_commands.specs.declared.command.Command.{Command}
 use Rattle.edit_commands.specs.declared.command.Command.TheVariants.{New, Open, Insert, Delete, Replace, Paste, Join, Cut, Fill, Back, Balance, Many}
 use Rattle.screen_editor.specs.Priors.{made_from, prior_behind, priors_of, priors_on}
-use Rattle.screen_editor.specs.Recorded.{edit_at, edits_of}
+use Rattle.screen_editor.specs.Recorded.{edit_at}
 
 -- ---- one revision more
 

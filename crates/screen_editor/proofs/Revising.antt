@@ -15,7 +15,7 @@ use Rattle.edit_commands.specs.declared.revision.Revision.{Revision}
 use Rattle.command_parts.specs.declared.edit.TheConstants.{MOST_REVISIONS, SPLICES_LIMIT}
 use Rattle.edit_commands.specs.Applying.{Applies, AppliesOrNot, IsLaterFault, Keeps}
 use Rattle.edit_commands.specs.Refusals.{is_empty, is_full, is_full_of_splices, is_out_of_range, is_too_long, is_wrong_count, names_no_revision, names_no_source, refusal_of, result_len}
-use Rattle.edit_commands.specs.Session.{SessionValue, HoldsHistory, IsSession, length_at, splices_held, texts_of}
+use Rattle.edit_commands.specs.Session.{SessionValue, HoldsHistory, IsSession, length_at, splices_held, texts_of, edits_of}
 use Rattle.screen_editor.specs.declared.cut_span.CutSpan.{CutSpan}
 use Rattle.screen_editor.specs.declared.fault.KeyFault.TheVariants as Fault
 use Rattle.screen_editor.specs.declared.workspace.TheConstants.{LONGEST_TEXT}
@@ -24,7 +24,7 @@ use Rattle.screen_editor.specs.Refusals.{LeavesSession}
 use Rattle.screen_editor.specs.Taking.{IsInOrder, IsReviseFault, RevisesOrNot}
 use Rattle.command_parts.specs.declared.edit.Edit.{Edit}
 use Rattle.screen_editor.specs.Priors.{prior_behind, priors_of}
-use Rattle.screen_editor.specs.Recorded.{edit_at, edits_of}
+use Rattle.screen_editor.specs.Recorded.{edit_at}
 use Rattle.screen_editor.proofs.NewTexts.{count_texts, edits_more, given_len, plain_of, text_given, text_len, texts_more}
 use Rattle.screen_editor.proofs.PriorLaws.{earlier_after, prior_anywhere, priors_more}
 

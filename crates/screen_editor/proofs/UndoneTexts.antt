@@ -10,13 +10,12 @@ use Rattle.command_parts.specs.declared.edit.Edit.TheVariants as Recorded
 use Rattle.command_parts.specs.declared.edit.Splice.{Splice}
 use Rattle.command_parts.specs.Commands.{bounded, replaced, result_of, span, spliced, with_splices}
 use Rattle.edit_commands.specs.declared.revision.Revision.{Revision}
-use Rattle.edit_commands.specs.Session.{HoldsHistory, SessionValue, command_of, commands_of, edit_of, session_table, text_givens, texts_of}
+use Rattle.edit_commands.specs.Session.{HoldsHistory, SessionValue, command_of, commands_of, edit_of, session_table, text_givens, texts_of, edits_of}
 use Rattle.screen_editor.specs.declared.key.Key.TheVariants as Keys
 use Rattle.screen_editor.specs.Editing.{Editing, IsEditing, current_len, last_of, state_of}
 use Rattle.screen_editor.specs.KnownTexts.{IsMaker}
 use Rattle.screen_editor.specs.Machine.{done, gone_back}
 use Rattle.screen_editor.specs.Priors.{prior_behind, priors_of}
-use Rattle.screen_editor.specs.Recorded.{edits_of}
 use Rattle.screen_editor.specs.State.{current}
 use Rattle.screen_editor.proofs.KeyPlans.{current_revised, current_text_len, no_source}
 use Rattle.screen_editor.proofs.KeySteps.{last_prior}

@@ -8,14 +8,13 @@ use Rattle.lazy_file.specs.Readings.{Reading}
 use Rattle.cord_position.specs.Fetched.{EachCell, rope_cell}
 use Rattle.edit_commands.specs.declared.fault.EditFault.{EditFault}
 use Rattle.edit_commands.specs.declared.fault.EditFault.TheVariants as Edit
-use Rattle.edit_commands.specs.Session.{SessionValue, IsSession, length_at, roots_of, session_table, texts_of}
+use Rattle.edit_commands.specs.Session.{SessionValue, IsSession, length_at, roots_of, session_table, texts_of, edits_of}
 use Rattle.screen_editor.specs.declared.cut_span.CutSpan.{CutSpan}
 use Rattle.screen_editor.specs.declared.cut_span.TheConstants.{MOST_CUTS}
 use Rattle.screen_editor.specs.declared.fault.KeyFault.{KeyFault}
 use Rattle.screen_editor.specs.declared.fault.KeyFault.TheVariants as Key
 use Rattle.screen_editor.specs.declared.workspace.TheConstants.{LONGEST_TEXT}
 use Rattle.screen_editor.specs.Priors.{priors_of}
-use Rattle.screen_editor.specs.Recorded.{edits_of}
 use Rattle.screen_editor.specs.State.{EditorState}
 
 -- the code that a message names
@@ -111,7 +110,7 @@ pub record IsEditing (e : Editing) : Type 0 where
   pub few_cuts : length e.cuts ≤ MOST_CUTS
   pub cuts : All (IsCutSpan e.session) e.cuts
 
--- its session's sources are those that it reads
+-- its state is one of the editor's, and its session's sources are those that it reads
 pub record IsEditor (v : EditorValue Reading) : Type 0 where
   pub editing : IsEditing v.editing
   pub sizes : v.editing.session.held.sources ≡ v.sources.stated.sizes

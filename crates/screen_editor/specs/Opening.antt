@@ -1,13 +1,13 @@
 -- The session that an editor begins with.
 use Rattle.std.specs.Prelude.{◌≡◌, ◌⊎◌, ℕ, ◌≤◌, ◌<◌, List, [], ◌∷◌, length, get_or, None, Err}
 use Rattle.edit_commands.specs.Applying.{Applies, AppliesOrNot}
-use Rattle.edit_commands.specs.Session.{SessionValue, length_at, texts_of}
+use Rattle.edit_commands.specs.Session.{SessionValue, length_at, texts_of, edits_of}
 use Rattle.screen_editor.specs.declared.fault.EditorFault.{EditorFault}
 use Rattle.screen_editor.specs.declared.fault.EditorFault.TheVariants as New
 use Rattle.screen_editor.specs.declared.workspace.TheConstants.{LONGEST_TEXT}
 use Rattle.screen_editor.specs.Editing.{Editing}
 use Rattle.screen_editor.specs.Priors.{priors_of}
-use Rattle.screen_editor.specs.Recorded.{edit_at, edits_of}
+use Rattle.screen_editor.specs.Recorded.{edit_at}
 use Rattle.screen_editor.specs.Refusals.{first_command}
 use Rattle.screen_editor.specs.Revising.{first_text}
 

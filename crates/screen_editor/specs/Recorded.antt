@@ -1,14 +1,9 @@
 -- The commands of an editor's session as they are recorded.
-use Rattle.std.specs.Prelude.{ℕ, List, [], ◌∷◌, map}
+use Rattle.std.specs.Prelude.{ℕ, [], ◌∷◌}
 use Rattle.command_parts.specs.declared.edit.Edit.{Edit}
 use Rattle.edit_commands.specs.declared.command.Command.{Command}
 use Rattle.edit_commands.specs.declared.command.Command.TheVariants.{Many}
-use Rattle.edit_commands.specs.declared.revision.Revision.{Revision}
 use Rattle.edit_commands.specs.Building.{edit_with}
-
--- those of these revisions
-abbrev pub edits_of : List Revision → List Edit
-edits_of revisions = map (λ (r : Revision). r.edit) revisions
 
 -- a command that hands in no changes
 abbrev pub HandsNoChanges : Command → Type 0

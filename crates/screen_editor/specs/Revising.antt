@@ -8,7 +8,7 @@ use Rattle.edit_commands.specs.declared.command.Command.{Command}
 use Rattle.edit_commands.specs.declared.fault.EditFault.TheVariants as Edit
 use Rattle.command_parts.specs.declared.edit.TheConstants.{MOST_REVISIONS}
 use Rattle.edit_commands.specs.Applying.{Applies, Keeps}
-use Rattle.edit_commands.specs.Session.{SessionValue}
+use Rattle.edit_commands.specs.Session.{SessionValue, edits_of}
 use Rattle.screen_editor.specs.declared.fault.KeyFault.{KeyFault}
 use Rattle.screen_editor.specs.declared.fault.KeyFault.TheVariants as Fault
 use Rattle.screen_editor.specs.declared.key.Key.{Key}
@@ -16,7 +16,7 @@ use Rattle.screen_editor.specs.declared.key.Step.{Step}
 use Rattle.screen_editor.specs.Editing.{Editing, EditorValue, EachCurrent, key_code, state_of}
 use Rattle.screen_editor.specs.Keys.{answer_to, looks_for_lines}
 use Rattle.screen_editor.specs.Machine.{done, edit_by_key, refused, step}
-use Rattle.screen_editor.specs.Recorded.{HandsNoChanges, edit_at, edits_of}
+use Rattle.screen_editor.specs.Recorded.{HandsNoChanges, edit_at}
 use Rattle.screen_editor.specs.Refusals.{GrowsTooLong, IsPlainFault, KeyAsks, LeavesSession, MakesRevision, first_command, key_source_fault}
 use Rattle.screen_editor.specs.State.{start_of}
 

@@ -20,11 +20,6 @@ NotShown before now old new (Frame f) =
     Shows old.sources.stated before now [] × MakesFrame old (Err f) new
 NotShown before now old new _ = ⊥
 
--- the next key, or none at the end
-abbrev pub IsNextKey : Option (List ℕ) → Option (List ℕ) → Option ℕ → Type 0
-IsNextKey before left (Some b) = Consumes before left (b ∷ [])
-IsNextKey before left None = Consumes before left [] × IsAtEnd left
-
 -- the state is shown, and a key of this answer is taken or refused
 pub record TakesOne (keys_before keys_left before now : Option (List ℕ)) (answer : Step) (old new : EditorValue Reading)
     : Type 0 where

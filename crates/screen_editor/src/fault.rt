@@ -52,6 +52,7 @@ pub enum KeyFault {
     Source(SourceFault),
 }
 
+/// The code of a refused command.
 fn edit_code(fault: EditFault) -> &'static str
     ensures { result.now ≡ edit_code fault }
 {
@@ -70,6 +71,7 @@ fn edit_code(fault: EditFault) -> &'static str
     }
 }
 
+/// The code of a failed read.
 fn source_code(fault: SourceFault) -> &'static str
     ensures { result.now ≡ source_fault_code fault }
 {

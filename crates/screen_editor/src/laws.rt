@@ -2,11 +2,10 @@
 
 ghost use Rattle.std.specs.Prelude.{◌≡◌, ◌++◌, ◌∷◌, [], ℕ, List};
 ghost use Rattle.key_journal.specs.Keys.{kept_of};
-ghost use Rattle.edit_commands.specs.Session.{SessionValue, texts_of};
+ghost use Rattle.edit_commands.specs.Session.{SessionValue, texts_of, edits_of};
 ghost use Rattle.screen_editor.specs.Editing.{Editing, IsEditing, state_of};
 ghost use Rattle.screen_editor.specs.Opening.{OpensSession};
 ghost use Rattle.screen_editor.specs.Playing.{EndsRun};
-ghost use Rattle.screen_editor.specs.Recorded.{edits_of};
 ghost use Rattle.screen_editor.specs.Runs.{NoKeyEndsRun};
 ghost use Rattle.screen_editor.specs.State.{reopened};
 

@@ -2,7 +2,7 @@
 
 ghost use Rattle.std.specs.Prelude.{◌≡◌, IfOk};
 ghost use Rattle.screen_editor.specs.Priors.{prior_behind, priors_of};
-ghost use Rattle.screen_editor.specs.Recorded.{edits_of};
+ghost use Rattle.edit_commands.specs.Session.{edits_of};
 
 use command_parts::Edit;
 use edit_commands::Session;

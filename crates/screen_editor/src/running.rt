@@ -5,7 +5,8 @@ ghost use Rattle.std.specs.Io.KnownBytes.{Consumes};
 ghost use Rattle.screen_editor.specs.declared.fault.RunFault.TheVariants.{Read};
 ghost use Rattle.screen_editor.specs.Editing.{seen};
 ghost use Rattle.screen_editor.specs.Runs.{IsLater, IsRun, Shows};
-ghost use Rattle.screen_editor.specs.Turns.{IsNextKey, IsTurn, NotShown, Presses};
+ghost use Rattle.key_journal.specs.Left.{IsNextByte};
+ghost use Rattle.screen_editor.specs.Turns.{IsTurn, NotShown, Presses};
 
 use crate::editor::Editor;
 use crate::fault::{End, RunFault};
@@ -20,7 +21,7 @@ pub const MOST_KEYS: u32 = 1 << 24;
 
 /// The next key. A read that was interrupted is made again.
 fn next_key<K: io::Read>(keys: &mut K) -> Result<Option<u8>, RunFault>
-    ensures key { IfOk result (IsNextKey (K.remaining keys.old) (K.remaining keys.new)) }
+    ensures key { IfOk result (IsNextByte (K.remaining keys.old) (K.remaining keys.new)) }
     ensures none_taken { OnErr result (Consumes (K.remaining keys.old) (K.remaining keys.new) []) }
     ensures fault { IfErr result (λ f. f ≡ Read) }
 {

@@ -11,7 +11,7 @@ use Rattle.session_checker.specs.declared.fault.CheckFault.TheVariants.{Read}
 use Rattle.session_checker.specs.SourceRules.{IsFirstSourceFault}
 use Rattle.session_checker.specs.NodeRules.{IsFirstNodeFault}
 use Rattle.session_checker.specs.RevisionRules.{HasRowsOverNoSource, AreGoodOver, ImageAsks, IsFirstRevisionFault}
-use Rattle.session_checker.specs.Faithful.{EachRevision}
+use Rattle.session_checker.specs.Faithful.{EachRevision, IsFaithful}
 
 -- every source states its text, and no read of what is there fails, as over texts in memory
 pub record StatesAll (st : Stated) : Type 0 where
@@ -33,6 +33,14 @@ pub record IsAccepted (bytes : List ℕ) (st : Stated) : Type 0 where
   pub spelled : bytes ≡ spelling v
   pub tables : HasGoodTables v st.sizes
   pub revisions : AreGoodOver v st
+
+-- the bytes are accepted over what the sources state; they spell this image, which is of just such sources and faithful
+pub record SpellsFaithful (bytes : List ℕ) (st : Stated) (v : ImageValue) : Type 0 where
+  pub accepted : IsAccepted bytes st
+  pub image : IsImage v
+  pub spelled : bytes ≡ spelling v
+  pub sources : HasSources v st.sizes
+  pub faithful : IsFaithful v st
 
 -- The bytes spell an image that keeps its rules with sources of these lengths, whatever bytes they hold, and none of
 -- its rows of bytes is over a source. So does each image that a session writes.

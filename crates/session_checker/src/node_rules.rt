@@ -23,6 +23,7 @@ pub enum NodeRule {
     Span,
 }
 
+/// Whether its source is there, and its children stand before it.
 fn has_good_references<L: Ledger>(records: &Records<'_, '_, '_, L>, id: u32, view: NodeView) -> bool
     ensures { IsTrue result ↔ HasGoodReferences (image_table records.now.image.now) id view }
 {
@@ -34,6 +35,7 @@ fn has_good_references<L: Ledger>(records: &Records<'_, '_, '_, L>, id: u32, vie
     }
 }
 
+/// Whether its length is that of a text, and a concatenation's is its children's sum.
 fn has_good_length<L: Ledger>(
     records: &Records<'_, '_, '_, L>,
     id: u32,
@@ -66,6 +68,7 @@ fn depth_of<L: Ledger>(records: &Records<'_, '_, '_, L>, id: u32, view: NodeView
     }
 }
 
+/// Whether its depth follows from the children's and is at most 64.
 fn has_good_depth<L: Ledger>(
     records: &Records<'_, '_, '_, L>,
     id: u32,
@@ -86,6 +89,7 @@ pub fn is_inside(start: u64, len: u64, end: u64) -> bool
     len <= end && start <= end - len
 }
 
+/// Whether its span lies inside the pool, the source or the base.
 fn has_span_inside<L: Ledger>(
     records: &Records<'_, '_, '_, L>,
     id: u32,

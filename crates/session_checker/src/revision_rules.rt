@@ -34,6 +34,7 @@ fn has_good_root<L: Ledger>(looks: &Looks<'_, '_, Tables<'_>, L>, root: Rope, le
     }
 }
 
+/// Whether a root that is marked is balanced.
 fn has_good_mark<L: Ledger>(looks: &Looks<'_, '_, Tables<'_>, L>, revision: Revision) -> bool
     requires { IsRope (image_table looks.now.space.now) revision.root }
     ensures { IsTrue result ↔ HasGoodMark (image_table looks.now.space.now) revision }

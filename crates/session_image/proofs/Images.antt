@@ -18,13 +18,13 @@ use Rattle.command_parts.specs.declared.edit.Edit.{Edit}
 use Rattle.command_parts.specs.declared.edit.Edit.TheVariants.{New}
 use Rattle.command_parts.specs.Fields.{splices_of, FitsRecord}
 use Rattle.edit_commands.specs.declared.revision.Revision as Kept
-use Rattle.edit_commands.specs.Session.{SessionValue, IsSession, splices_held}
+use Rattle.edit_commands.specs.Session.{SessionValue, IsSession, splices_held, edits_of}
 use Rattle.edit_commands.proofs.RevisionLists.{there_is}
 use Rattle.image_reader.specs.declared.revision.Revision.{Revision}
 use Rattle.image_reader.specs.declared.version.FormatVersion.TheVariants.{Two}
 use Rattle.command_parts.proofs.RecordedNumbers.{code_small}
 use Rattle.image_reader.specs.Value.{ArePlaced, ImageNode, FitsNode, FitsRevision, FitsRoot, FitsSource, FitsView, IsImage}
-use Rattle.session_image.specs.Written.{FitsHeld, SectionsFit, image_of, nodes_of, recorded_edits, recorded_revision}
+use Rattle.session_image.specs.Written.{FitsHeld, SectionsFit, image_of, nodes_of, recorded_revision}
 use Rattle.session_image.proofs.HeldNodes.{node_found}
 use Rattle.session_image.proofs.RowLists.{length-rows, rows_few}
 use Rattle.session_image.proofs.SpliceLists.{length-splices, name_own, placed_so}
@@ -75,13 +75,13 @@ module _ (v : SessionValue) (kept : IsKept coded_byte v.held) (session : IsSessi
   revision_fits : (k : ℕ) (r : Kept.Revision) → slice_get v.revisions k ≡ Some r → FitsRecord r.edit → FitsRevision Two (recorded_revision r)
   revision_fits k r at edit = record { known = (code_small r.edit).1; edit = edit; root = root_fits v.held kept r.root (session.each k r at).certified.root; rows = omega (arith, rows_few v.revisions k r at, session.few_rows) }
 
-  revisions_fit : ((k : ℕ) → k < length v.revisions → FitsRecord (get_or (recorded_edits v.revisions) k New)) → AllByRecursion (FitsRevision Two) (map recorded_revision v.revisions)
+  revisions_fit : ((k : ℕ) → k < length v.revisions → FitsRecord (get_or (edits_of v.revisions) k New)) → AllByRecursion (FitsRevision Two) (map recorded_revision v.revisions)
   revisions_fit edits = all_found (FitsRevision Two) (map recorded_revision v.revisions) (λ k x e.
       let lt : k < length v.revisions = omega (arith, slice_get_within (map recorded_revision v.revisions) k x e, length-map v.revisions recorded_revision) in
       let found = there_is v.revisions k lt in
       let r : Kept.Revision = found.0 in
       let edit : Kept.Revision → Edit = λ (r : Kept.Revision). r.edit in
-      let own : get_or (recorded_edits v.revisions) k New ≡ r.edit = get_or_from_slice_get (recorded_edits v.revisions) k r.edit New (slice_get-map edit v.revisions k ∙ ap (option_map edit) found.1) in
+      let own : get_or (edits_of v.revisions) k New ≡ r.edit = get_or_from_slice_get (edits_of v.revisions) k r.edit New (slice_get-map edit v.revisions k ∙ ap (option_map edit) found.1) in
       let same : recorded_revision r ≡ x = same_Some (recorded_revision r) x (sym (slice_get-map recorded_revision v.revisions k ∙ ap (option_map recorded_revision) found.1) ∙ e) in
       subst (FitsRevision Two) same (revision_fits k r found.1 (subst FitsRecord own (edits k lt))))
 

@@ -7,7 +7,7 @@ use Rattle.std.proofs.lemmas.List.{append-nil, length-append}
 use Rattle.std.proofs.lemmas.List.Sums.{sum_by-cons}
 use Rattle.span_certificate.specs.declared.row.Row.{Row}
 use Rattle.edit_commands.specs.declared.revision.Revision.{Revision}
-use Rattle.edit_commands.specs.Session.{rows_held}
+use Rattle.edit_commands.specs.Session.{rows_held, edits_of}
 use Rattle.image_reader.specs.Spelling.{row_spelling}
 use Rattle.image_reader.specs.Value.{FitsRow}
 use Rattle.std.proofs.Common.{get_or, inl, inr}
@@ -16,7 +16,7 @@ use Rattle.command_parts.specs.declared.edit.Edit.{Edit}
 use Rattle.command_parts.specs.declared.edit.Edit.TheVariants.{New}
 use Rattle.command_parts.specs.Fields.{FitsRecord}
 use Rattle.image_reader.specs.declared.revision.Revision as Recorded
-use Rattle.session_image.specs.Written.{EditsFit, recorded_edits, recorded_revision, rows_in, rows_or_none}
+use Rattle.session_image.specs.Written.{EditsFit, recorded_revision, rows_in, rows_or_none}
 use Rattle.session_image.proofs.Sections.{take_next, split_at, flat_map-behind, all_behind}
 
 abbrev pub rows_kept : Revision → List Row
@@ -44,7 +44,7 @@ edit_or_new : Option Recorded.Revision → Edit
 edit_or_new None = New
 edit_or_new (Some r) = r.edit
 
-edit_found : (revisions : List Revision) (k : ℕ) (r : Recorded.Revision) → slice_get (map recorded_revision revisions) k ≡ Some r → get_or (recorded_edits revisions) k New ≡ r.edit
+edit_found : (revisions : List Revision) (k : ℕ) (r : Recorded.Revision) → slice_get (map recorded_revision revisions) k ≡ Some r → get_or (edits_of revisions) k New ≡ r.edit
 unfolding edit_or_new
 edit_found [] k r e = absurd cc
 edit_found (x ∷ xs) zero r e = ap edit_or_new e

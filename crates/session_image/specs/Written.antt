@@ -10,7 +10,6 @@ use Rattle.node_table.specs.Held.{Held}
 use Rattle.byte_output.specs.Prefix.{AppendsPrefix}
 use Rattle.byte_output.specs.declared.writing.WriteFault.{WriteFault}
 use Rattle.span_certificate.specs.declared.row.Row.{Row}
-use Rattle.command_parts.specs.declared.edit.Edit.{Edit}
 use Rattle.command_parts.specs.declared.edit.Edit.TheVariants.{New}
 use Rattle.command_parts.specs.declared.edit.Splice.{Splice}
 use Rattle.command_parts.specs.Fields.{FitsRecord}
@@ -18,7 +17,7 @@ use Rattle.span_certificate.specs.Covers.{MeetsNoSource}
 use Rattle.span_certificate.specs.Longest.{AreLongest}
 use Rattle.rope_node.specs.Balance.{IsBalancedRope}
 use Rattle.edit_commands.specs.declared.revision.Revision as Kept
-use Rattle.edit_commands.specs.Session.{SessionValue}
+use Rattle.edit_commands.specs.Session.{SessionValue, edits_of}
 use Rattle.image_reader.specs.declared.revision.Revision.{Revision}
 use Rattle.image_reader.specs.declared.version.FormatVersion.TheVariants.{Two}
 use Rattle.image_reader.specs.Value.{ImageNode, ImageValue, FitsFunction, FitsRow, FitsSplice, image_table}
@@ -34,10 +33,6 @@ nodes_of h =
 -- a revision with the number of its rows
 abbrev pub recorded_revision : Kept.Revision → Revision
 recorded_revision r = record { edit = r.edit; mark = r.mark; root = r.root; rows = length r.rows.items }
-
--- the commands as they are recorded
-abbrev pub recorded_edits : List Kept.Revision → List Edit
-recorded_edits revisions = map (λ (r : Kept.Revision). r.edit) revisions
 
 -- all splices, those of revision k behind those of the revisions before it, and all rows
 abbrev pub splices_in : List Kept.Revision → List Splice
@@ -73,7 +68,7 @@ HoldsFit h n = (id : ℕ) → id < n → FitsHeld (get_or h.nodes id no_node).vi
 
 -- the numbers of the first n commands fit
 abbrev pub EditsFit : List Kept.Revision → ℕ → Type 0
-EditsFit revisions n = (k : ℕ) → k < n → FitsRecord (get_or (recorded_edits revisions) k New)
+EditsFit revisions n = (k : ℕ) → k < n → FitsRecord (get_or (edits_of revisions) k New)
 
 -- the functions, the numbers of commands, splices and rows, and the bytes of the pool fit
 pub record SectionsFit (v : SessionValue) : Type 0 where

@@ -4,7 +4,7 @@ use Rattle.std.proofs.lemmas.Result.{err_from_is_err_and}
 use Rattle.byte_output.specs.Prefix.{AppendsPrefix}
 use Rattle.image_reader.specs.Spelling.{spelling}
 use Rattle.image_reader.specs.Value.{ImageValue, in_version_two}
-use Rattle.cord_tools.specs.Answers.{SpellsFaithful}
+use Rattle.session_checker.specs.Accepted.{SpellsFaithful}
 use Rattle.cord_tools.specs.Faults.{check_fault}
 use Rattle.cord_tools.proofs.Migrating.{migrates_none, migrates_to}
 use Rattle.cord_tools.proofs.ToolFaults.{check_refused, image_reads}

@@ -8,7 +8,8 @@ use Rattle.cord_search.specs.Faults.{put_source_fault}
 use Rattle.lazy_file.proofs.LaterReads.{reads_then, same_stated}
 use Rattle.lazy_file.specs.SourceTexts.{Stated}
 use Rattle.image_reader.specs.Value.{image_table}
-use Rattle.cord_tools.specs.Answers.{OfRevision, SpellsFaithful, revision_cells}
+use Rattle.cord_tools.specs.Answers.{OfRevision, revision_cells}
+use Rattle.session_checker.specs.Accepted.{SpellsFaithful}
 use Rattle.cord_tools.specs.Faults.{check_fault, put_fault}
 use Rattle.cord_tools.specs.Unread.{ToolReadsCells}
 use Rattle.cord_tools.proofs.Bytes.{Keeps-same}

@@ -3,7 +3,7 @@ use Rattle.std.proofs.lemmas.List.{length-map, take_all}
 use Rattle.std.proofs.lemmas.Option.{slice_get-map}
 use Rattle.edit_commands.specs.declared.revision.Revision.{Revision}
 use Rattle.screen_editor.specs.Priors.{prior_behind, priors_of}
-use Rattle.screen_editor.specs.Recorded.{edits_of}
+use Rattle.edit_commands.specs.Session.{edits_of}
 use Rattle.screen_editor.proofs.PriorLaws.{none_missing, one_taken}
 use Rattle.screen_editor.proofs.priors.priors_of.Goals as goal
 use Rattle.screen_editor.proofs.priors.priors_of.Goals.{in-Some, in-None}

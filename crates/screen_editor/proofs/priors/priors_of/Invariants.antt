@@ -1,6 +1,6 @@
 use Rattle.std.proofs.Common.{◌≡◌, take}
 use Rattle.screen_editor.specs.Priors.{priors_of}
-use Rattle.screen_editor.specs.Recorded.{edits_of}
+use Rattle.edit_commands.specs.Session.{edits_of}
 use Rattle.screen_editor.proofs.priors.priors_of.Given as goal
 
 abbrev pub invariant-loop-k : goal.invariant-loop-k
