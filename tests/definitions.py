@@ -10,7 +10,7 @@ import re
 TOP = os.path.dirname(os.path.dirname(os.path.abspath(__file__)))
 HEAD = re.compile(r"^(?:(?:pub|abbrev|unfoldable|record|data) )+([^\s:({]+)")
 CASE = re.compile(r"^  (?:pub )?([^\s:]+) :")
-ITEM = re.compile(r"^pub (?:enum|struct|type|const|trait) (\w+)")
+ITEM = re.compile(r"^(?:pub(?:\(crate\))? )?(?:enum|struct|type|const|trait) (\w+)")
 USE = re.compile(r"^\s*(?:ghost |pub )*use Rattle\.([\w.-]+)(?:\.\{([^}]*)\}| as (\w+))", re.M)
 CALL = re.compile(r'^(    )?(pub )?(?:const )?(?:unsafe )?(?:extern "C" )?fn (\w+)')
 
@@ -102,12 +102,13 @@ class Crates:
         exported = set()
         for words in re.findall(r"pub use \w+::(?:\{([^}]*)\}|(\w+))", root):
             exported |= {here for _, here in named("".join(words))}
+        modules = set(re.findall(r"^pub mod (\w+);", root, re.M))
         for file in sorted(os.listdir(os.path.join(TOP, folder))):
             if file.endswith(".rt"):
                 place, lines = f"{crate}/{file}", lines_of(f"{folder}/{file}")
                 self.take_imports(place, "\n".join(lines))
                 self.read_items(place, lines)
-                self.read_calls(crate, place, lines, exported)
+                self.read_calls(crate, place, lines, exported, file[:-3] in modules)
 
     def read_items(self, place, lines):
         """The types and constants that a file of the code declares, each with its comment."""
@@ -126,9 +127,9 @@ class Crates:
                 self.comments[key] = [it for it in self.lines[key] if it.startswith("///")]
             self.cases[key] = key
 
-    def read_calls(self, crate, place, lines, exported):
-        """The calls that are public: functions and methods that the crate gives out, those of its traits, and those of a trait that a type has with a
-        contract of its own."""
+    def read_calls(self, crate, place, lines, exported, is_public):
+        """The calls that are public: functions and methods that the crate gives out, all of a public module, those of its traits, and those of a
+        trait that a type has with a contract of its own."""
         owner, kind = None, None
         for i, line in enumerate(lines):
             block = re.match(r"^(?:pub )?(?:unsafe )?(impl|trait)\b(?:<[^{]*?>)? ?(?:[\w:<>, ]+ for )?(\w+)", line)
@@ -141,7 +142,7 @@ class Crates:
                 continue
             inner, public, name = call.groups()
             found = Call(crate, place, f"{owner}::{name}" if inner else name, lines, i)
-            is_exported = (owner if inner else name) in exported or place.endswith("/lib.rt")
+            is_exported = (owner if inner else name) in exported or is_public or place.endswith("/lib.rt")
             if is_exported and (public or inner and kind == "of a trait" and found.contract):
                 self.calls.append(found)
 

@@ -170,8 +170,9 @@ def words_page(crates):
     opening = """What the contracts of the public calls rest on, in the words of the comments in `specs/`: a reference, to be searched for a name.
         Those that the meaning of `accepted` rests on are left out, since [HEADLINE](HEADLINE.md) has them in full. `python3 tests/headline.py CRATE CALL`
         prints the definitions of one call with their text. Numbers in definitions have no upper bound, and `-` stops at 0."""
-    worked = """They share with the code only the names of its cases and its limits. `crates/worked_tests` computes them on worked examples, whose
-        expected values come from outside the code: from stored images, and by hand."""
+    worked = """They share with the code its limits, and the names of its types' fields and cases; a few of these types are seen by no caller, such as
+        `Ending` of rope_store and `Found` of commit_tools. `crates/worked_tests` computes them on worked examples, whose expected values come from
+        outside the code: from stored images, and by hand."""
     told, crate = [], None
     for place in in_order(crates, {key for key in keys if not is_code(key)}):
         of, file = place.split(".", 1)

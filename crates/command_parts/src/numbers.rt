@@ -3,11 +3,17 @@
 /// The numbers of a revision's record that are its command's.
 #[derive(Clone, Copy, Debug, PartialEq, Eq)]
 pub struct Numbers {
+    /// The revision whose text is changed.
     pub r: u32,
+    /// The other revision; the source of `Open`; how many splices `Many` has.
     pub q: u32,
+    /// A place in the text of `r`.
     pub p: u64,
+    /// How many bytes `Replace` takes out.
     pub m: u64,
+    /// The place of the bytes that come in or stay, in the pool or a text; the byte of `Fill`.
     pub a: u64,
+    /// How many bytes come in, stay (`Cut`), or go out (`Delete`).
     pub n: u64,
 }
 

@@ -53,7 +53,7 @@ pub fn words<'a>(alloc: Global, words: &'a [String]) -> Result<Request<'a>, Word
     })
 }
 
-// What `clap` makes of the words.
+/// What `clap` makes of the words.
 fn matches_of<'a>(
     command: &mut Command<'a>,
     words: &'a [String],
@@ -70,7 +70,7 @@ fn matches_of<'a>(
     Ok(command.try_get_matches_from_mut(words)?)
 }
 
-// Whether the flag of this name was given, before the subcommand or behind it.
+/// Whether the flag of this name was given, before the subcommand or behind it.
 fn is_said(matches: &ArgMatches<'_>, flag: &str) -> bool
     ensures { result ≡ is_said (rows_of (found_of matches.now)) (subcommand_rows_of matches.now) flag.now }
 {
@@ -80,8 +80,8 @@ fn is_said(matches: &ArgMatches<'_>, flag: &str) -> bool
     }
 }
 
-// The action that the matches ask for. Where a number does not
-// read, or words do not go together, the fault is one of `command`.
+/// The action that the matches ask for. Where a number does not
+/// read, or words do not go together, the fault is one of `command`.
 fn action_of<'a>(
     alloc: Global,
     command: &mut Command<'a>,
@@ -112,7 +112,7 @@ fn action_of<'a>(
     }
 }
 
-// The action that the matches ask for, with the usage of its own subcommand where it is refused.
+/// The action that the matches ask for, with the usage of its own subcommand where it is refused.
 fn asked<'a>(alloc: Global, matches: &ArgMatches<'a>) -> Result<Action<'a>, WordsFault>
     requires { IsKnown (subcommand_rows_of matches.now) }
     ensures holds { IfOk result (Holds (subcommand_rows_of matches.now)) }
@@ -125,7 +125,7 @@ fn asked<'a>(alloc: Global, matches: &ArgMatches<'a>) -> Result<Action<'a>, Word
     action_of(alloc, &mut command, matches)
 }
 
-// The subcommand of this name by itself, as the usage shows it, if it may refuse what `clap` takes.
+/// The subcommand of this name by itself, as the usage shows it, if it may refuse what `clap` takes.
 fn alone<'a>(alloc: Global, name: &str) -> Result<Command<'a>, AllocError> {
     let command = match name {
         "check" => check::command(alloc),

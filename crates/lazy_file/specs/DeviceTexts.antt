@@ -55,6 +55,7 @@ stated_by ds = record { sizes = map (λ d. d.size) ds; texts = map device_text d
 abbrev pub no_reading : DeviceReading
 no_reading = record { stated = no_device; failures = 0; calls = 0 }
 
+-- what is known of the devices without their counts
 abbrev pub stated_texts : List DeviceReading → List DeviceText
 stated_texts ds = map (λ d. d.stated) ds
 

@@ -61,6 +61,7 @@ impl<'a> MemSources<'a> {
         Ok(place as u8)
     }
 
+    /// The text of source `s`.
     fn text(&self, s: u8) -> &'a [u8]
         requires { s < length self.now }
         ensures value { result.now ≡ slice_index_or self.now s [] }
@@ -69,6 +70,7 @@ impl<'a> MemSources<'a> {
         self.slices[s as usize]
     }
 
+    /// The `n` bytes of source `s` from place `off` on, if it has them.
     #[tactic(auto, using(crate::proofs::MemoryTexts::size_of_text))]
     fn span(&self, s: u8, off: u64, n: usize) -> Option<&'a [u8]>
         ensures variant { is_some result ≡ holds_span (stated_in_memory self.now) s off n }

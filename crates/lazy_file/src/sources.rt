@@ -28,8 +28,13 @@ pub trait Sources {
         ensures value { result ≡ slice_index (reading self.now).stated.sizes s }
         ensures limit { result ≤ SOURCE_LIMIT };
 
-    /// Reads the bytes of source `s` from place `off` on into the whole of `buffer`. After a fault
-    /// the buffer may hold any bytes. The sources state the same as before.
+    /// Reads the bytes of source `s` from place `off` on into the whole of `buffer`. The sources state the same as
+    /// before.
+    ///
+    /// # Errors
+    ///
+    /// `BadSource` where there is no such source, or it has no such bytes; else what its read ended with: `Device`,
+    /// `Short` or `Memory`. The buffer may hold any bytes then.
     fn read(&mut self, s: u8, off: u64, buffer: &mut [u8]) -> Result<(), SourceFault>
         ensures reads { Reads (reading self.old) (reading self.new)
             (InSpan s off (max 1 (length buffer.old))) (fault_in result) }

@@ -77,6 +77,7 @@ impl Block {
         }
     }
 
+    /// How many bytes it holds.
     pub(crate) fn len(&self) -> usize
         ensures { result ≡ length self.now.bytes }
     {

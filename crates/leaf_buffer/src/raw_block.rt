@@ -72,6 +72,7 @@ impl RawBlock {
         self.room.slice(self.first, self.len)
     }
 
+    /// How many bytes were written.
     pub(crate) fn len(&self) -> usize
         ensures len { result ≡ length self.now }
         ensures limit { result ≤ BLOCK_SIZE }

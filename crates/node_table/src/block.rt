@@ -43,6 +43,7 @@ impl<T: Copy> Block<T> {
         prove!(done.is_ok());
     }
 
+    /// Its item at place `i`.
     pub(crate) fn at(&self, i: usize) -> &T
         requires { i < length self.now }
         ensures { result.now ≡ get_or self.now i result.now }

@@ -37,12 +37,14 @@ impl<T: Copy> Blocks<T> {
         }
     }
 
+    /// How many items there are.
     pub(crate) fn len(&self) -> u32
         ensures { result ≡ length self.now.items }
     {
         self.len
     }
 
+    /// The item at place `i`.
     pub(crate) fn at(&self, i: usize) -> &T
         requires { i < length self.now.items }
         ensures { result.now ≡ get_or self.now.items i result.now }

@@ -97,7 +97,7 @@ impl<F: LeafFn> NodeTable<F> {
         self.pool.can_extend(piece, count)
     }
 
-    // What is stored of a node of the table.
+    /// What is stored of a node of the table.
     pub(crate) fn entry(&self, id: NodeId) -> &Entry<F>
         requires { id.0 < length self.now.nodes }
         ensures node { get_or self.now.nodes id.0 no_node ≡ node_of (record_of result.now) }
@@ -108,14 +108,14 @@ impl<F: LeafFn> NodeTable<F> {
         self.entries.at(id.0 as usize)
     }
 
-    // Whether the table takes `count` nodes more.
+    /// Whether the table takes `count` nodes more.
     fn has_room(&self, count: u32) -> bool
         ensures { IsTrue result ↔ (length self.now.nodes + count ≤ MOST_NODES) }
     {
         count <= MOST_NODES - self.entries.len()
     }
 
-    // Whether the pool takes `count` bytes more.
+    /// Whether the pool takes `count` bytes more.
     fn has_pool_room(&self, count: usize) -> bool
         ensures { IsTrue result ↔ (length self.now.pool.bytes + count < POOL_LIMIT) }
     {

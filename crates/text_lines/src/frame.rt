@@ -22,6 +22,7 @@ use std::alloc::{AllocError, Global};
 /// Clears the screen, and goes to its first row and column.
 const CLEAR: &[u8] = b"\x1B[2J\x1B[H";
 
+/// The status line.
 fn status(
     alloc: Global,
     revision: u32,

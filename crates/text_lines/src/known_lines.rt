@@ -53,6 +53,7 @@ impl KnownLines {
         self.lines().is_empty()
     }
 
+    /// The lines that are known.
     fn lines(&self) -> &[KnownLine]
         ensures lines { result.now ≡ known_lines self.now }
         ensures room { length (known_lines self.now) ≤ MOST_LINES }
@@ -60,12 +61,14 @@ impl KnownLines {
         &self.lines[..self.count.min(MOST_LINES)]
     }
 
+    /// Whether one line more can be known.
     fn has_room(&self) -> bool
         ensures { IsTrue result ↔ (length (known_lines self.now) < MOST_LINES) }
     {
         self.lines().len() < MOST_LINES
     }
 
+    /// Puts a line behind the others.
     fn push(&mut self, line: KnownLine)
         requires { length (known_lines self.old) < MOST_LINES }
         ensures { known_lines self.new ≡ known_lines self.old ++ line ∷ [] }
