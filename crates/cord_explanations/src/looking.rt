@@ -2,12 +2,10 @@
 
 use cord_tools::may_replace;
 use image_reader::{HEADER_SIZE, SOURCE_SIZE};
+use lazy_file::SOURCE_LIMIT;
 use std::alloc::AllocGlobal;
 use std::fs::{self, Files};
 use std::io::{ErrorKind, Read};
-
-/// The longest that a source may be.
-const LONGEST: u64 = (1 << 40) - 1;
 
 /// A file that cannot be read, and why.
 #[derive(Clone, Copy)]
@@ -53,7 +51,7 @@ pub fn len<R: Files + AllocGlobal>(rt: &R, path: &str) -> Option<u64> {
 pub fn first_too_long<'a, R: Files + AllocGlobal>(rt: &R, paths: &[&'a str]) -> Option<&'a str> {
     for path in paths {
         if let Some(len) = len(rt, path) {
-            if len > LONGEST {
+            if len > SOURCE_LIMIT {
                 return Some(path);
             }
         }

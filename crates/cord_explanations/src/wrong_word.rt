@@ -153,10 +153,12 @@ impl fmt::Display for WrongWord<'_> {
     }
 }
 
+/// Whether a character stands between words.
 fn is_blank(c: char) -> bool {
     matches!(c, ' ' | '\t' | '\r')
 }
 
+/// Whether no word goes on with a character.
 fn ends_word(c: char) -> bool {
     is_blank(c) || c == '#'
 }

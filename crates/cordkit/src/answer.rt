@@ -36,6 +36,7 @@ pub struct Answer<W> {
 }
 
 impl<W> Answer<W> {
+    /// A writer of which nothing is kept yet.
     pub fn new(alloc: Global, writer: W) -> Answer<W> {
         Answer {
             writer,

@@ -10,7 +10,7 @@ use std::io::{self, BufWriter, Write};
 /// Lines are written by so many bytes.
 const PIECE: usize = 65_536;
 
-/// Writes where some bytes of a text come from, of an image that is accepted.
+/// Writes where some bytes of a text of an image come from, once it is checked.
 pub fn write_blame<S: Sources>(
     rt: &HostRuntime,
     image: &[u8],

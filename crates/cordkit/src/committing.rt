@@ -9,6 +9,7 @@ use crate::opening::{open, opened_sources, told, told_size};
 use commit_tools::{Commit, CommitFault, run_commit, run_commit_anew};
 use cord_tools::{Status, ToolFault, read_image, read_source};
 use edit_commands::EditFault;
+use leaf_buffer::POOL_LIMIT;
 use node_table::NodeFault;
 use std::fs::{self, File};
 use std::io::{self, ErrorKind, Write};
@@ -17,9 +18,6 @@ use work_progress::Progress;
 
 /// A file that changes while it is read is read so many times.
 const TRIES: usize = 3;
-
-/// A file has fewer bytes than this, as a session's pool has.
-const FILE_LIMIT: u64 = 1 << 32;
 
 /// What is committed, and behind what.
 #[derive(Clone, Copy)]
@@ -76,11 +74,12 @@ fn read_once(rt: &HostRuntime, path: &str) -> Result<(Vec<u8>, Option<FileState>
     let too_long = Err(ToolFault::Edit(EditFault::Node(NodeFault::PoolFull)));
     let state = state_behind(rt, path);
     let file = open(rt, path)?;
-    if told_size(&file) >= FILE_LIMIT {
+    // What a session's pool does not take is not read.
+    if told_size(&file) >= POOL_LIMIT {
         return too_long;
     }
     let bytes = read_source(rt.alloc(), file)?;
-    if bytes.len() as u64 >= FILE_LIMIT {
+    if bytes.len() as u64 >= POOL_LIMIT {
         return too_long;
     }
     Ok((bytes, state))

@@ -1,5 +1,6 @@
 //! What stands under a name.
 
+use std::fmt;
 use std::fs::{self, File, Metadata};
 use std::os::unix::fs::MetadataExt;
 use std::time::{Duration, SystemTime};
@@ -9,6 +10,16 @@ use std::time::{Duration, SystemTime};
 pub struct Moment {
     pub seconds: u64,
     pub nanoseconds: u64,
+}
+
+impl fmt::Display for Moment {
+    fn fmt<W: fmt::Write>(&self, f: &mut fmt::Formatter<W>) -> fmt::Result {
+        let Moment {
+            seconds,
+            nanoseconds,
+        } = *self;
+        write!(f, "{seconds} {nanoseconds}")
+    }
 }
 
 /// The time of these numbers, of which a negative one is told as the large one that the system stores.

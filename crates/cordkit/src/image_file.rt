@@ -25,6 +25,15 @@ enum Replaced {
     This(FileState),
 }
 
+/// Why the file of an image was not made.
+#[derive(Clone, Copy, PartialEq, Eq)]
+enum Hindrance {
+    /// Something else was found there.
+    OtherImage,
+    /// Another run was writing an image beside it.
+    Busy,
+}
+
 /// What became of an image.
 #[derive(Drop)]
 pub enum Put {
@@ -51,10 +60,8 @@ pub struct ImageFile<'a> {
     /// Those of the file that is replaced.
     permissions: Option<Permissions>,
     replaced: Replaced,
-    /// Whether something else was found there.
-    is_other: bool,
-    /// Whether another run was writing an image beside it.
-    is_busy: bool,
+    /// Why it was not made, if a session may tell that.
+    hindrance: Option<Hindrance>,
     /// Whether it is not written where it is to stand.
     never_in_place: bool,
     file: Option<File>,
@@ -124,17 +131,17 @@ fn put_new(rt: &HostRuntime, part: &str, path: &str) -> Result<bool, ToolFault> 
         }
         Err(error) if error.kind() == ErrorKind::AlreadyExists => Ok(false),
         Err(_) if state_at(rt, path).is_some() => Ok(false),
-        // The device has no links.
-        Err(_) => rename(rt, part, path),
+        Err(_) => {
+            // The device has no links.
+            rename(rt, part, path)?;
+            Ok(true)
+        }
     }
 }
 
 /// Gives the file `part` another one's name.
-fn rename(rt: &HostRuntime, part: &str, path: &str) -> Result<bool, ToolFault> {
-    match fs::rename(rt, part, path) {
-        Ok(()) => Ok(true),
-        Err(_) => Err(ToolFault::Write),
-    }
+fn rename(rt: &HostRuntime, part: &str, path: &str) -> Result<(), ToolFault> {
+    fs::rename(rt, part, path).map_err(|_| ToolFault::Write)
 }
 
 /// Gives the file `part` the name of a file that is still as it was. Answers whether it was so. Sessions that save to
@@ -152,7 +159,8 @@ fn put_over(rt: &HostRuntime, part: &str, path: &str, state: FileState) -> Resul
     if state_at(rt, path) != Some(state) {
         return Ok(false);
     }
-    rename(rt, part, path)
+    rename(rt, part, path)?;
+    Ok(true)
 }
 
 impl<'a> ImageFile<'a> {
@@ -164,8 +172,7 @@ impl<'a> ImageFile<'a> {
             part: None,
             permissions: None,
             replaced: Replaced::Any,
-            is_other: false,
-            is_busy: false,
+            hindrance: None,
             never_in_place: false,
             file: None,
         };
@@ -297,14 +304,16 @@ impl<'a> ImageFile<'a> {
                         self.part = None;
                     }
                 Err(error) => {
-                    self.is_busy = error.kind() == ErrorKind::WouldBlock;
+                    if error.kind() == ErrorKind::WouldBlock {
+                        self.hindrance = Some(Hindrance::Busy);
+                    }
                     return Err(error);
                 }
                 made => return made,
             }
         }
         if !self.is_as_begun() {
-            self.is_other = true;
+            self.hindrance = Some(Hindrance::OtherImage);
             return Err(io::Error::from(ErrorKind::AlreadyExists));
         }
         match self.replaced {
@@ -315,15 +324,14 @@ impl<'a> ImageFile<'a> {
 
     /// Whether another run writes an image that is to stand here.
     pub fn is_busy(&self) -> bool {
-        self.is_busy
+        self.hindrance == Some(Hindrance::Busy)
     }
 
     /// Why no image was written.
     pub fn cause(&self, fault: ToolFault) -> ToolFault {
-        if self.is_other {
-            ToolFault::OtherImage
-        } else {
-            fault
+        match self.hindrance {
+            Some(Hindrance::OtherImage) => ToolFault::OtherImage,
+            Some(Hindrance::Busy) | None => fault,
         }
     }
 
@@ -331,7 +339,10 @@ impl<'a> ImageFile<'a> {
     fn put_part(&self, part: &str) -> Result<bool, ToolFault> {
         let path = self.path.as_str();
         match self.replaced {
-            Replaced::Any => rename(self.rt, part, path),
+            Replaced::Any => {
+                rename(self.rt, part, path)?;
+                Ok(true)
+            }
             Replaced::Nothing => put_new(self.rt, part, path),
             Replaced::This(state) => put_over(self.rt, part, path, state),
         }

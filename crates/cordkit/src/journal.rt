@@ -15,9 +15,9 @@ use terminal_keys::TerminalKeys;
 
 /// A key is synced where the last sync is over for so many times
 /// as long as it took, and for so many milliseconds at most.
-const REST: u32 = 16;
+const REST_FACTOR: u32 = 16;
 
-const LONGEST_REST: u64 = 1000;
+const LONGEST_REST_MILLISECONDS: u64 = 1000;
 
 /// A file that is synced as keys come: each one, where they come
 /// no faster than the device syncs them with rests between.
@@ -48,8 +48,8 @@ impl SyncedFile<'_> {
         let _ = self.file.sync_data();
         self.synced = Instant::now(self.rt).ok();
         if let (Some(begun), Some(synced)) = (&begun, &self.synced) {
-            let longest = Duration::from_millis(LONGEST_REST);
-            let rest = synced.duration_since(*begun).saturating_mul(REST);
+            let longest = Duration::from_millis(LONGEST_REST_MILLISECONDS);
+            let rest = synced.duration_since(*begun).saturating_mul(REST_FACTOR);
             self.rest = if rest < longest { rest } else { longest };
         }
     }
@@ -397,7 +397,7 @@ impl<'a> Journal<'a> {
             rt: self.rt,
             file: &self.file,
             synced: None,
-            rest: Duration::from_millis(LONGEST_REST),
+            rest: Duration::from_millis(LONGEST_REST_MILLISECONDS),
         }
     }
 

@@ -5,12 +5,12 @@ use std::time::{Duration, Instant};
 use work_progress::Progress;
 
 /// Work is told once in so many milliseconds.
-const REST: u64 = 1000;
+const REST_MILLISECONDS: u64 = 1000;
 
 /// The clock is asked behind so many parts at most, and sooner where the last ones took more than so many milliseconds.
-const MOST: u64 = 16_384;
+const MOST_PARTS: u64 = 16_384;
 
-const LONG: u64 = 100;
+const LONG_MILLISECONDS: u64 = 100;
 
 /// A line on the terminal of standard error, which says what part of some work is done once the work has run for a
 /// second, and then once a second. It is wiped before anything is written. Where the meter is quiet there is none.
@@ -73,7 +73,7 @@ impl<'a> Meter<'a> {
 
     /// Sees when the clock is to be asked next: some thousand times a second at most.
     fn rest(&mut self, now: Instant, done: u64) {
-        let long = Duration::from_millis(LONG);
+        let long = Duration::from_millis(LONG_MILLISECONDS);
         let took_long = match self.asked {
             Some(asked) => now.duration_since(asked) > long,
             None => false,
@@ -81,7 +81,7 @@ impl<'a> Meter<'a> {
         self.step = if took_long {
             1
         } else {
-            self.step.saturating_mul(2).min(MOST)
+            self.step.saturating_mul(2).min(MOST_PARTS)
         };
         self.next = done.saturating_add(self.step);
         self.asked = Some(now);
@@ -94,7 +94,7 @@ impl<'a> Meter<'a> {
             return;
         };
         self.rest(now, done);
-        if now.duration_since(told) >= Duration::from_millis(REST) {
+        if now.duration_since(told) >= Duration::from_millis(REST_MILLISECONDS) {
             self.write(done);
             self.told = Some(now);
         }

@@ -2,12 +2,9 @@
 
 use crate::twin::Twin;
 use cord_tools::{Status, ToolFault, run_kept, run_kept_onto};
-use key_journal::Kept;
+use key_journal::{Kept, SAVE};
 use lazy_file::Sources;
 use std::{fs, io};
-
-/// The key that saves.
-const SAVE: u8 = 0x18;
 
 /// The key that saves, as often as it is read.
 #[derive(Drop)]

@@ -65,7 +65,7 @@ pub fn refuse_script<W>(
     Ok(Status::Failure)
 }
 
-/// Writes the script of an image that is accepted.
+/// Writes the script of an image, once it is checked.
 pub fn write_log<S: Sources>(
     rt: &HostRuntime,
     image: &[u8],

@@ -43,21 +43,21 @@ fn parsed(numbers: &[u64]) -> Option<Beginning> {
             device,
             inode,
             size,
-            modified,
-            of_modified,
-            changed,
-            of_changed,
+            modified_seconds,
+            modified_nanoseconds,
+            changed_seconds,
+            changed_nanoseconds,
         ] => Some(FileState {
             device: *device,
             inode: *inode,
             size: *size,
             modified: Moment {
-                seconds: *modified,
-                nanoseconds: *of_modified,
+                seconds: *modified_seconds,
+                nanoseconds: *modified_nanoseconds,
             },
             changed: Moment {
-                seconds: *changed,
-                nanoseconds: *of_changed,
+                seconds: *changed_seconds,
+                nanoseconds: *changed_nanoseconds,
             },
         }),
         _ => return None,
@@ -105,9 +105,7 @@ fn told_numbers(alloc: Global, beginning: &Beginning) -> Result<String, AllocErr
         modified,
         changed,
     } = image;
-    let (at, of_it) = (modified.seconds, modified.nanoseconds);
-    let (then, of_that) = (changed.seconds, changed.nanoseconds);
-    format!(in alloc; "{keys} {device} {inode} {size} {at} {of_it} {then} {of_that}\n")
+    format!(in alloc; "{keys} {device} {inode} {size} {modified} {changed}\n")
 }
 
 /// Writes the file of a session that begins.
