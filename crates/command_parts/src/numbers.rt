@@ -3,7 +3,7 @@
 /// The numbers of a revision's record that are its command's.
 #[derive(Clone, Copy, Debug, PartialEq, Eq)]
 pub struct Numbers {
-    /// The revision whose text is changed.
+    /// The revision that the command names first.
     pub r: u32,
     /// The other revision; the source of `Open`; how many splices `Many` has.
     pub q: u32,
