@@ -57,7 +57,8 @@ files="755 lib/cordkit/cordkit $program
 
 # Those of the C library, and those of the Python module, which loads it.
 c_files="644 lib/libcord_c.a $library
-644 include/cord.h crates/cord_c/cord.h
+644 include/cordkit/cord.h crates/cord_c/cord.h
+644 include/cord.h packaging/cord.h
 644 lib/pkgconfig/cordkit.pc packaging/cordkit.pc"
 python_files="644 lib/cordkit/python/cordkit/__init__.py crates/cord_c/callers/cordkit.py
 644 lib/cordkit/python/cordkit/libcord_c.so $shared

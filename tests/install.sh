@@ -104,6 +104,7 @@ wanted_files() {
 755 lib/cordkit/cordkit'
     if [ -f "$library" ]; then
         echo '644 include/cord.h
+644 include/cordkit/cord.h
 644 lib/libcord_c.a
 644 lib/pkgconfig/cordkit.pc'
     fi
@@ -193,6 +194,32 @@ status 1"
     else
         fails "the program in C: $(cat log)"
     fi
+    is_same 'the program in C, with what was built here' \
+        "$(gcc -std=c11 -I "$top/crates/cord_c/include" -o newest newest.c "$library" 2>&1 && ./newest < fox.cord)" 'the brown fox'
+    try_two_headers
+}
+
+# A program may include the collector's header of the same name too, before this one or behind it.
+try_two_headers() {
+    if ! echo '#include <gc/cord.h>' | gcc -E - > log 2>&1; then
+        echo "LEFT OUT: the collector's cord.h: there is no gc/cord.h here; one with its guard stands for it"
+        mkdir gc
+        printf '#ifndef CORD_H\n#define CORD_H\ntypedef const char *CORD;\n#define CORD_EMPTY 0\n#endif\n' > gc/cord.h
+    fi
+    cat > both.c << 'BOTH'
+int main(void) {
+    CORD text = CORD_EMPTY;
+    struct cord_image image = CORD_IMAGE_NONE;
+    uint64_t len = 7;
+    return text != CORD_EMPTY || cord_text_len(&image, 0, &len) || len != 7;
+}
+BOTH
+    for headers in 'gc/cord.h cordkit/cord.h' 'cordkit/cord.h gc/cord.h' 'gc/cord.h cord.h cordkit/cord.h'; do
+        # shellcheck disable=SC2086 # each header is a word
+        { printf '#include <%s>\n' $headers && cat both.c; } > headers.c
+        is_same "a program that includes $headers" \
+            "$(eval "gcc -std=c11 -Wall -Wextra -I . -o headers headers.c $(pkg-config --cflags --libs cordkit)" 2>&1 && ./headers && echo done)" 'done'
+    done
 }
 
 try_python_module() {

@@ -16,8 +16,8 @@
  * Proved of each call is what stands below as its answer, for all that it may be handed, and that it ends, and reads and writes only where
  * it may: the contracts stand at the functions in src/, in words of specs/. Tested, not proved: that these declarations are those
  * functions', with their layouts; what a call's comment says is tested. Neither: how long a call takes. */
-#ifndef CORD_H
-#define CORD_H
+#ifndef CORDKIT_CORD_H
+#define CORDKIT_CORD_H
 
 #include <stdbool.h>
 #include <stddef.h>

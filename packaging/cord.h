@@ -1,0 +1,1 @@
+#include "cordkit/cord.h" /* the header, which stands in a folder now */
