@@ -271,6 +271,27 @@ press C-x
 ended 'saved from there' 'status 0, mode restored'
 is_same 'the text that was kept' "$(text_of typed 6) $(ls typed*)" '62637879 typed'
 
+# A paste under whose first lines the file of keys is full: none of its lines runs in the shell.
+in_tmux kill-server 2> /dev/null
+session=$((session + 1))
+in_tmux new-session -d -x 80 -y 24 -e "CORDKIT=$program" -e "CORDEDIT=$cordedit" -e 'PS1=> ' \
+    sh -c 'trap "" XFSZ; ulimit -f 1; exec sh -i'
+yes "touch ran # $(printf %0100d 0)" | head -n 285 > pasted
+type_text 'clear; "$CORDEDIT" full; echo "status $?"; touch ended'
+press Enter
+screen 'before the paste' 'rev 0 byte 0 of 0' '0 0'
+in_tmux load-buffer -b pasted pasted
+in_tmux paste-buffer -p -d -b pasted
+ended 'a full file of keys' write 'write: the image full, the file of keys or standard output could not be written' \
+    "cordedit: not saved; the keys are kept: the same command goes on from there, and" " cordedit --discard 'full' drops them" 'status 3'
+sleep 2
+is_same 'no line of the paste ran' "$(ls ran ended 2> /dev/null)" ended
+type_text 'echo typed > typed_then'
+press Enter
+sleep 1
+is_same 'what is typed then runs' "$(cat typed_then 2> /dev/null)" typed
+rm -f full.keys
+
 # Keys that are no terminal's.
 got=0
 printf 'a\030' | CORDKIT=$program "$cordedit" piped > frames || got=$?
