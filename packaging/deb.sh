@@ -55,6 +55,11 @@ mkdir "$room/debian"
 : > "$room/debian/control"
 needed=$(cd "$room" && dpkg-shlibdeps -O package/usr/lib/cordkit/cordkit 2> /dev/null | sed -n 's/^shlibs:Depends=//p' || true)
 
+# As which library the checker comes with it, if it does.
+beside=''
+[ ! -f "$room/package/usr/lib/libcord_c.a" ] || beside='for C'
+[ ! -d "$room/package/usr/lib/python3/dist-packages/cordkit" ] || beside="${beside:+$beside and }for python"
+
 documents=$room/package/usr/share/doc/cordkit
 mkdir -p "$documents"
 cp CHANGELOG.md "$documents/changelog"
@@ -75,9 +80,12 @@ find "$room/package/usr/share/man" "$documents/changelog" -type f -exec gzip -9n
     echo " cordkit works on large texts as ropes, and keeps every old state of a text at"
     echo " little cost. A saved session carries every revision of its texts, the commands"
     echo " that made them, and rows that show that each text is what its command gives."
-    echo " So it can be checked, and trusted, without the editor that wrote it. The"
-    echo " program is proved. An editor for the terminal and a second checker, in python,"
-    echo " come with it, and the checker as a library for C and for python."
+    echo " So it can be checked, and trusted, without the editor that wrote it. What the"
+    echo " checker accepts, and what each command answers, is proved; how files are"
+    echo " locked, synced and replaced is tested. An editor for the terminal and a second"
+    echo " checker, in python, come with it, lines by which vim and kakoune keep every"
+    echo " saved state of a file, and manual pages: begin with cordkit-start(7)."
+    [ -z "$beside" ] || echo " The checker also comes as a library $beside."
 } > "$room/package/DEBIAN/control"
 (cd "$room/package" && find usr -type f | sort | xargs md5sum) > "$room/package/DEBIAN/md5sums"
 mkdir -p "$folder"

@@ -52,14 +52,23 @@ files="755 lib/cordkit/cordkit $program
 644 share/fish/vendor_completions.d/cordkit.fish completions/cordkit.fish
 644 share/fish/vendor_completions.d/cordkit-verify.fish completions/cordkit-verify.fish
 644 share/cordkit/magic packaging/magic
-755 share/doc/cordkit/examples/from_git examples/from_git
-755 share/doc/cordkit/examples/keep_file examples/keep_file"
+755 share/cordkit/keep_file examples/keep_file
+644 share/cordkit/keep_file.vim examples/keep_file.vim
+644 share/cordkit/keep_file.kak examples/keep_file.kak
+755 share/doc/cordkit/examples/from_git examples/from_git"
+
+# Documents that become manual pages: their names there, and where they stand.
+pages="cordkit-start docs/START.md
+cordkit-commit docs/COMMIT.md
+cordkit-editor docs/EDITOR.md
+cordkit-faq docs/FAQ.md"
 
 # Those of the C library, and those of the Python module, which loads it.
 c_files="644 lib/libcord_c.a $library
 644 include/cordkit/cord.h crates/cord_c/cord.h
 644 include/cord.h packaging/cord.h
-644 lib/pkgconfig/cordkit.pc packaging/cordkit.pc"
+644 lib/pkgconfig/cordkit.pc packaging/cordkit.pc
+644 share/doc/cordkit/examples/cord.rs crates/cord_c/callers/cord.rs"
 python_files="644 lib/cordkit/python/cordkit/__init__.py crates/cord_c/callers/cordkit.py
 644 lib/cordkit/python/cordkit/libcord_c.so $shared
 755 share/doc/cordkit/examples/check_many.py examples/check_many.py"
@@ -92,12 +101,16 @@ put_all() {
     fi
     add 'the C library' "$library" "$c_files"
     add 'the Python module' "$shared" "$python_files"
-    made=$(printf '%s\n' "$files" | while read -r mode place source; do make_folder "$(dirname "$place")"; done)
+    made=$(printf '%s\n' "$files" "644 share/man/man7/page" | while read -r mode place source; do make_folder "$(dirname "$place")"; done)
     if [ -n "$made" ]; then
         echo "$made" >> "$noted"
     fi
     printf '%s\n' "$files" | while read -r mode place source; do
         install -m "$mode" "$source" "$root/$place"
+    done
+    date=$(sed -n 's/^\.Dd //p' man/cordkit.1)
+    echo "$pages" | while read -r name source; do
+        awk -v name="$name" -v date="$date" -f packaging/page.awk "$source" > "$root/share/man/man7/$name.7"
     done
     if [ -f "$library" ]; then
         version=$(sh packaging/version.sh)
@@ -113,6 +126,9 @@ take_all_away() {
     fi
     printf '%s\n' "$files" "$c_files" "$python_files" | while read -r mode place source; do
         rm -f "$root/$place"
+    done
+    echo "$pages" | while read -r name source; do
+        rm -f "$root/share/man/man7/$name.7"
     done
     rm -rf "$root/lib/cordkit/python/cordkit/__pycache__"
     rm -f "$noted"

@@ -80,6 +80,8 @@ again=$(sh "$top/packaging/deb.sh" "$program" "$room/again" "$library" 2> /dev/n
 is_same 'made twice, it is the same' "$(sha256sum < "$package")" "$(sha256sum < "$again")"
 version=$(dpkg-deb -f "$package" Version)
 is_same 'its version is that of CHANGELOG.md' "$(grep -c "^## ${version%~unreleased} (" "$top/CHANGELOG.md")" 1
+is_same 'its description names the library where it has one' "$(dpkg-deb -f "$package" Description | grep -c 'as a library for C')" \
+    "$(dpkg-deb -c "$package" | grep -c 'lib/libcord_c\.a$')"
 if [ -n "$as_root" ] && ! command -v fakeroot > /dev/null; then
     echo "LEFT OUT: its installation: there is no fakeroot here"
 else

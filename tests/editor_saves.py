@@ -1,7 +1,8 @@
 #!/usr/bin/env python3
 """Has vim and kakoune, each where it is installed, save a file a hundred times, with the line of docs/COMMIT.md in the editor's settings, by which each save
 is committed. Each saved state is shown again byte by byte from the image, both checkers accept it, its bytes come from revisions that were there, the
-file of times names the states, and the last state is the file's.
+file of times names the states, and the last state is the file's. In a terminal that tmux keeps, saves that cannot be committed are shown until that is
+read: beside an image that is none, keys in use, and an image that may not grow. And a file moves with what belongs to it, by the line of docs/COMMIT.md.
 
 Usage: tests/editor_saves.py [PROGRAM [SAVES]]. An editor that is not there is not tried, which is told. The last line is 'N passed, M failed'.
 """
@@ -13,11 +14,17 @@ import shutil
 import subprocess
 import sys
 import tempfile
+import time
 
 from second_checker import PROGRAM, TOP, verify
 
 with open(os.path.join(TOP, "docs/COMMIT.md")) as page:
-    LINES = dict(re.findall(r"^\| (vim|kakoune) \| [^|]* \| `(.*)` \|$", page.read(), re.MULTILINE))
+    PAGE = page.read()
+EXAMPLES = os.environ.get("EXAMPLES", f"{TOP}/examples")
+LINES = {
+    name: line.replace("/usr/share/cordkit", EXAMPLES) for name, line in re.findall(r"^\| (vim|kakoune) \| [^|]* \| `(.*)` \|$", PAGE, re.MULTILINE)
+}
+(MOVING,) = re.findall(r"^  `(for s in .*)`$", PAGE, re.MULTILINE)
 
 
 class Wrong(Exception):
@@ -82,6 +89,91 @@ def kakoune(chance, saves, env):
     run(["kak", "-n", "-ui", "dummy", "-e", "source edits.kak; edit notes.txt\n" + kakoune_script(chance, saves), "notes.txt"], env)
 
 
+# ---- Saves that are not committed, in a terminal
+
+
+class Terminal:
+    """A terminal of 80 columns and 24 rows that tmux keeps, with a program in it."""
+
+    def __init__(self, words, env):
+        # The name of a socket is short.
+        self.socket = tempfile.mkdtemp()
+        self.env = env
+        self.tmux("-f", "/dev/null", "new-session", "-d", "-x", "80", "-y", "24", *words)
+
+    def tmux(self, *words):
+        env = {**self.env, "LC_ALL": "C.UTF-8", "TERM": "screen"}
+        return subprocess.run(["tmux", "-S", f"{self.socket}/s", *words], capture_output=True, text=True, check=False, env=env).stdout
+
+    def type(self, text, *keys):
+        if text:
+            self.tmux("send-keys", "-l", text)
+        for key in keys:
+            self.tmux("send-keys", key)
+
+    def shows(self, what, wanted=True):
+        """Whether the screen comes to show this, whatever lines it is broken into, or not to show it."""
+        for _ in range(200):
+            if (re.search(what, re.sub(r"[\s│]", "", self.tmux("capture-pane", "-p"))) is not None) == wanted:
+                return True
+            time.sleep(0.1)
+        return False
+
+    def end(self):
+        self.tmux("kill-server")
+        shutil.rmtree(self.socket)
+
+
+def settings(name):
+    file = {"vim": "vimrc", "kakoune": "kakrc"}[name]
+    with open(file, "w") as out:
+        out.write(LINES[name] + "\n")
+    if name == "vim":
+        return ["vim", "-N", "-u", file, "-i", "NONE", "-n", "refused.txt"]
+    return ["kak", "-n", "-e", f"source {file}", "refused.txt"]
+
+
+# Why a save is not committed: how that comes about, and what is told. A program that vim runs does not ignore the signal of a file that is too long.
+REFUSED = {
+    "an image that is none": ("echo prose > refused.txt.cord; exec \"$@\"", "refusedC1.I3"),
+    "keys that are in use": (
+        'printf "CORDKEYS%048dx" 0 > refused.txt.cord.keys; rm -f refused.txt.cord; printf "a\\030" | "$CORDKIT" edit refused.txt.cord > /dev/null; '
+        'exec flock refused.txt.cord.keys "$@"',
+        "refusedJ2",
+    ),
+    "an image that may not grow": ('rm -f refused.txt*; yes | head -c 400 > refused.txt; trap "" XFSZ; ulimit -f 1; exec "$@"', "write:|status153"),
+}
+
+
+def shown_until_read(name, why, env):
+    """A save that is not committed is told on the screen, by the file's name and the code, until a key is pressed; the file itself is saved."""
+    setting, code = REFUSED[why]
+    terminal = Terminal(["sh", "-c", setting, "sh", *settings(name)], env)
+    try:
+        require(terminal.shows("refused.txt"), f"{why}: {name} does not begin")
+        terminal.type("ggOtyped", "Escape")
+        terminal.type(":w", "Enter")
+        require(terminal.shows("refused.txtisnotcommitted:") and terminal.shows(code), f"{why}: nothing is shown of it")
+        time.sleep(1)
+        require(terminal.shows(code), f"{why}: it goes away by itself")
+        terminal.type("", "Enter" if name == "vim" else "Space")
+        require(terminal.shows(code, wanted=False), f"{why}: it stays on the screen")
+        with open("refused.txt") as file:
+            require(file.readline() == "typed\n", f"{why}: the file itself is not saved")
+    finally:
+        terminal.end()
+
+
+def moved(program):
+    """The line of the page moves a file with what belongs to it: what is saved then goes on with its history."""
+    done = subprocess.run(["sh", "-c", MOVING], stdin=subprocess.DEVNULL, capture_output=True, text=True, check=False)
+    require(done.returncode == 0 and done.stderr == "", f"the page's line to move a file: {done.stderr}")
+    require(not [name for name in os.listdir() if name.startswith("notes.txt")], "something of the file is left")
+    before = subprocess.run([program, "check", "essay.txt.cord"], capture_output=True, text=True, check=True).stdout
+    committed = subprocess.run([program, "commit", "essay.txt.cord", "essay.txt"], capture_output=True, text=True, check=False).stdout
+    require(committed.startswith("same ") and int(committed.split()[1]) == int(before.split()[1]) - 1, f"the moved history: {committed}")
+
+
 # ---- What was kept
 
 
@@ -125,6 +217,12 @@ def main():
             try:
                 edit(random.Random(name), saves, env)
                 print(f"{name}: {saves} saves, {check_saves(program, saves)} states")
+                moved(program)
+                if shutil.which("tmux"):
+                    for why in REFUSED:
+                        shown_until_read(name, why, env)
+                else:
+                    print(f"LEFT OUT: saves of {name} that are not committed: there is no tmux here")
                 passed += 1
             except (Wrong, subprocess.TimeoutExpired, FileNotFoundError) as wrong:
                 print(f"FAILED: {name}: {wrong}")

@@ -88,6 +88,8 @@ wanted_files() {
 644 share/bash-completion/completions/cordedit
 644 share/bash-completion/completions/cordkit
 644 share/bash-completion/completions/cordkit-verify
+644 share/cordkit/keep_file.kak
+644 share/cordkit/keep_file.vim
 644 share/cordkit/magic
 644 share/fish/vendor_completions.d/cordkit-verify.fish
 644 share/fish/vendor_completions.d/cordkit.fish
@@ -95,9 +97,13 @@ wanted_files() {
 644 share/man/man1/cordkit-verify.1
 644 share/man/man1/cordkit.1
 644 share/man/man5/cord-image.5
+644 share/man/man7/cordkit-commit.7
+644 share/man/man7/cordkit-editor.7
+644 share/man/man7/cordkit-faq.7
+644 share/man/man7/cordkit-start.7
 644 share/zsh/site-functions/_cordkit
+755 share/cordkit/keep_file
 755 share/doc/cordkit/examples/from_git
-755 share/doc/cordkit/examples/keep_file
 755 bin/cordedit
 755 bin/cordkit
 755 bin/cordkit-verify
@@ -106,7 +112,8 @@ wanted_files() {
         echo '644 include/cord.h
 644 include/cordkit/cord.h
 644 lib/libcord_c.a
-644 lib/pkgconfig/cordkit.pc'
+644 lib/pkgconfig/cordkit.pc
+644 share/doc/cordkit/examples/cord.rs'
     fi
     if [ -f "${library%.a}.so" ]; then
         echo '644 lib/cordkit/python/cordkit/__init__.py
@@ -279,6 +286,34 @@ try_history() {
     } > log 2>&1
     is_same 'the installed from_git' "$("$prefix/bin/cordkit" log image | cut -d ' ' -f 1-5 && "$prefix/bin/cordkit" show image 2)" \
         "$(printf 'new # 0: 0 bytes,\nreplace 0 0 0 "one\\ntwo\\n"\nback 1 # 2: 8\none\ntwo')"
+}
+
+# The history of a file that an editor saves, by the installed script, and by the installed line of vim.
+try_saves() {
+    mkdir "$room/saves"
+    cd "$room/saves" || exit 1
+    echo one > notes.txt
+    is_same 'the installed keep_file' "$(PATH="$prefix/bin:$PATH" "$prefix/share/cordkit/keep_file" notes.txt && cut -c 1-2 notes.txt.times)" "$(printf 'committed 1\n1 ')"
+    is_same 'what it refuses it names' "$(echo prose > other.txt.cord && echo two > other.txt && PATH="$prefix/bin:$PATH" "$prefix/share/cordkit/keep_file" other.txt 2>&1; echo "$?")" \
+        "$(printf 'keep_file: other.txt is not committed: refused C1(I3)\nC1(I3): other.txt.cord is no image, and stays as it is: move it away and give the same command again, or name another image\n1')"
+    if has vim 'the installed line of vim'; then
+        printf 'source %s/keep_file.vim\nsilent 1put =\"two\"\nsilent write\ncquit 0\n' "$(printf %s "$prefix/share/cordkit" | sed 's/ /\\ /g')" > edits.vim
+        PATH="$prefix/bin:$PATH" vim -es -u NONE -i NONE -n -S edits.vim notes.txt < /dev/null > told 2>&1
+        is_same 'the installed line of vim' "$("$prefix/bin/cordkit" show notes.txt.cord 2)" "$(printf 'one\ntwo')"
+    fi
+}
+
+# The sections of a document, as its manual page has them.
+sections_of() {
+    sed -n 's/^## //p' "$top/docs/$1.md" | tr '[:lower:]' '[:upper:]' | tr -d "'"
+}
+
+try_documents() {
+    for page in START COMMIT EDITOR FAQ; do
+        installed=$prefix/share/man/man7/cordkit-$(echo "$page" | tr '[:upper:]' '[:lower:]').7
+        is_same "the sections of $page" "$(sed -n 's/^\.SH //p' "$installed" | sed 's/\\(aq//g; s/\\-/-/g' | grep -vxE 'NAME|DESCRIPTION|SEE ALSO')" "$(sections_of "$page")"
+        is_same "no mark of the document is left in $page" "$(grep -cE '\*\*|\]\(|^\|' "$installed")" 0
+    done
 }
 
 # The commands that the program's help names.
@@ -479,8 +514,10 @@ else
     try_keys pipes
 fi
 try_history
+try_saves
 try_library
 try_pages
+try_documents
 make_completions
 if has bash 'the completions of bash'; then try_bash; fi
 if has zsh 'the completions of zsh'; then try_zsh; fi

@@ -186,10 +186,10 @@ screen 'a byte is erased' 'rev 12 byte 2 of 4' '2 0' abde
 press C-l C-g C-v C-s C-q C-z
 screen 'a balance, and keys that do nothing' 'rev 13 byte 2 of 4' '2 0' abde
 press C-x
-ended 'saved' 'status 0, mode restored'
+ended 'saved' 'cordedit: saved image, 14 revisions' 'status 0, mode restored'
 type_text back
 press Enter
-ended 'the terminal echoes and reads lines' 'status 0, mode restored' back 'read back'
+ended 'the terminal echoes and reads lines' 'cordedit: saved image, 14 revisions' 'status 0, mode restored' back 'read back'
 case $("$program" check image) in
 'accepted 14 revisions '*) passes ;;
 *) fails 'the image is accepted' ;;
@@ -205,7 +205,7 @@ screen 'a file' 'rev 0 byte 0 of 9' '0 0' one '?two'
 type_text x
 screen 'a byte before it' 'rev 1 byte 1 of 10' '1 0' xone '?two'
 press C-x
-ended 'saved beside its file' 'status 0, mode restored'
+ended 'saved beside its file' 'cordedit: saved copy, 2 revisions' 'status 0, mode restored'
 case $("$program" check copy file) in
 'accepted 2 revisions '*) passes ;;
 *) fails 'the image with its file is accepted' ;;
@@ -229,7 +229,7 @@ screen 'a byte behind its text' 'rev 14 byte 5 of 5' '5 0' abdef
 press C-u C-u C-u
 screen 'undo crosses what was saved' 'rev 17 byte 4 of 5' '4 0' abcde
 press C-x
-ended 'saved again' 'status 0, mode restored'
+ended 'saved again' 'cordedit: saved image, 18 revisions' 'status 0, mode restored'
 is_same 'the text before and behind' "$(text_of image 13) $(text_of image 14) $(text_of image 17)" '61626465 6162646566 6162636465'
 start -f image
 screen 'an image that is replaced' 'rev 0 byte 0 of 0' '0 0'
@@ -245,6 +245,8 @@ start copy file
 screen 'an image with its file' 'rev 1 byte 0 of 10' '0 0' xone '?two'
 press C-c
 ended 'left' 'status 0, mode restored'
+start --discard none
+ended 'no keys are kept' 'cordedit: no keys are kept for none' 'status 1, mode restored'
 start none missing
 ended 'a message comes behind the screen' read 'read: there is no file missing' 'status 3, mode restored'
 start none
@@ -268,7 +270,7 @@ ended 'left with keys' 'cordedit: not saved; the keys are kept: the same command
 start typed
 screen 'gone on from the keys' 'rev 6 byte 4 of 4' '4 0' bcxy
 press C-x
-ended 'saved from there' 'status 0, mode restored'
+ended 'saved from there' 'cordedit: saved typed, 7 revisions' 'status 0, mode restored'
 is_same 'the text that was kept' "$(text_of typed 6) $(ls typed*)" '62637879 typed'
 
 # A paste under whose first lines the file of keys is full: none of its lines runs in the shell.

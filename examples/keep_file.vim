@@ -1,0 +1,3 @@
+" Each .txt file that is saved is committed by the keep_file beside this file (docs/COMMIT.md). Why one was not is shown until Enter is pressed.
+let g:keep_file = expand('<sfile>:p:h') . '/keep_file'
+autocmd BufWritePost *.txt let g:kept = system(shellescape(g:keep_file) . ' ' . shellescape(expand('<afile>:p'))) | if v:shell_error | throw tr(trim(g:kept), "\n", ' ') | endif
