@@ -1,6 +1,7 @@
 //! Commands as they are handed in.
 
 /// The next `n` of the bytes handed in, to stand in place of the `m` bytes of a text from place `p` on.
+#[repr(C)]
 #[derive(Clone, Copy, Debug, PartialEq, Eq)]
 pub struct Change {
     pub p: u64,
