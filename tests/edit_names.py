@@ -178,9 +178,16 @@ def fits(piece, part):
     return set(words) <= set(WORD.findall(piece))
 
 
+def calls(body, name):
+    """How many calls of this name a body has."""
+    return len(re.findall(rf"\b{name}(?:::<[^>]*>)?\(", re.sub(r"(?m)//.*$", "", body)))
+
+
 def is_lost(part, before, after):
     """Whether the code had this part of a name, and has it no more."""
     kind, words, operator, later = part
+    if kind in ("step", "try") and words and calls(after, words[0]) < calls(before, words[0]):
+        return True
     there = set(WORD.findall(before))
     part = kind, [word for word in words if word in there], operator, later
     had, has = (sum(fits(piece, part) for piece in pieces(body, kind)) for body in (before, after))
