@@ -8,7 +8,7 @@ import os
 import re
 
 TOP = os.path.dirname(os.path.dirname(os.path.abspath(__file__)))
-HEAD = re.compile(r"^(?:(?:pub|abbrev|unfoldable|record|data) )+([^\s:({]+)")
+HEAD = re.compile(r"^(?!pub use )(?:(?:pub|abbrev|unfoldable|record|data) )+([^\s:({]+)")
 CASE = re.compile(r"^  (?:pub )?([^\s:]+) :")
 ITEM = re.compile(r"^(?:pub(?:\(crate\))? )?(?:enum|struct|type|const|trait) (\w+)")
 USE = re.compile(r"^\s*(?:ghost |pub )*use Rattle\.([\w.-]+)(?:\.\{([^}]*)\}| as (\w+))", re.M)

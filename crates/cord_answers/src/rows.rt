@@ -11,13 +11,12 @@ use crate::digest::Digest;
 use crate::report::Report;
 use crate::texts::even;
 use anyhow::Result;
-use command_parts::{Edit, Splice, parts};
 use edit_commands::Session;
 use function_leaf::Coded;
 use lazy_file::MemSources;
 use rope_node::{NodeId, NodeSpace, Rope};
 use rope_store::Store;
-use span_certificate::{Row, RowKind, Verdict, verify};
+use span_certificate::{Edit, Row, RowKind, Splice, Verdict, parts, verify};
 use std::alloc::Global;
 
 /// How long source 0 is, and source 1.

@@ -8,14 +8,13 @@ ghost use Rattle.function_leaf.specs.Coded.{coded_byte};
 ghost use Rattle.rope_node.specs.Denotes.{rope_cells, rope_len, IsRope};
 ghost use Rattle.rope_node.specs.Extends.{Extends};
 ghost use Rattle.node_table.specs.Held.{table_of};
-ghost use Rattle.command_parts.specs.Commands.{full_edit, NamesSplices};
-ghost use Rattle.span_descent.specs.Counts.{BeginsCount};
-ghost use Rattle.command_parts.specs.Parts.{part_len, parts_cells, parts_of, AreRopes, IsInRange, IsPart};
+ghost use Rattle.span_certificate.specs.Commands.{full_edit, NamesSplices};
+ghost use Rattle.span_certificate.specs.Looks.{BeginsCount};
+ghost use Rattle.span_certificate.specs.Parts.{part_len, parts_cells, parts_of, AreRopes, IsInRange, IsPart};
 ghost use Rattle.span_certificate.specs.declared.row.RowKind.TheVariants.{Leaf};
 
 use crate::ropes::LINE;
 use anyhow::{Result, bail};
-use command_parts::{Edit, Part, Splice, parts};
 use edit_commands::{Command, Session};
 use function_leaf::Coded;
 use lazy_file::MemSources;
@@ -23,8 +22,10 @@ use node_table::NodeFault;
 use rope_node::{NodeSpace, Rope};
 use rope_store::Store;
 use session_image::write;
-use span_certificate::{Looks, Row, RowKind, Verdict, describe_part, make, verify, verify_counted};
-use span_descent::{Count, Description};
+use span_certificate::{
+    Count, Description, Edit, Looks, Part, Row, RowKind, Splice, Verdict, describe_part, make,
+    parts, verify, verify_counted,
+};
 use std::alloc::Global;
 use std::marker::Brand;
 use std::sync::ledger::{Blank, Ledger};

@@ -6,9 +6,9 @@ ghost use Rattle.std.specs.List.{sum_by};
 use crate::ropes::MEGABYTE;
 use crate::sessions::rows;
 use anyhow::Result;
-use command_parts::MOST_SPLICES;
 use edit_commands::{Change, Command, Session};
 use rope_node::NodeSpace;
+use span_certificate::MOST_SPLICES;
 use std::alloc::{AllocError, Global};
 use std::time::Instant;
 

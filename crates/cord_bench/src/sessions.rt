@@ -4,10 +4,9 @@ ghost use Rattle.std.specs.Prelude.{◌<◌};
 
 use crate::ropes::{MEGABYTE, place};
 use anyhow::Result;
-use command_parts::MOST_REVISIONS;
 use edit_commands::{Command, EditFault, Session};
 use rope_node::NodeSpace;
-use span_certificate::Row;
+use span_certificate::{MOST_REVISIONS, Row};
 use std::time::Instant;
 
 /// So many commands are made, if no limit refuses one before.

@@ -1,3 +1,5 @@
+pub mod Commands
+pub mod Parts
 pub mod PartLeads
 pub mod Covers
 pub mod Longest

@@ -6,6 +6,7 @@ use Rattle.span_certificate.specs.declared.row.RowKind.{RowKind}
 use Rattle.span_certificate.specs.declared.row.RowKind.TheVariants.{Shared, Leaf, Bytes}
 use Rattle.span_certificate.specs.declared.looks.TheConstants.{LOOKS_LIMIT}
 use Rattle.span_certificate.specs.declared.walk.TheConstants.{BYTES_LIMIT}
+pub use Rattle.span_descent.specs.Counts.{BeginsCount}
 
 -- how many bytes a row of this kind and length compares: of a row that is too long the most that one may have
 abbrev pub kind_bytes : RowKind → ℕ → ℕ
