@@ -8,6 +8,7 @@
 #   1,000 files in states, 1,000 images, committed    python3, strace and git; so does this one
 #   the editor's sessions, ended at each call         python3 and strace
 #   a hundred saves of an editor, each committed      python3; vim and kakoune, each for its own
+#   the bytes of open files at each place             python3
 #   reads and writes that devices refuse              nothing more
 #   the tests of ropes under memcheck                 valgrind, and rt where they are not built
 #   refusals that come behind much work               nothing more
@@ -55,6 +56,7 @@ try 'scripts behind images' python3 python3 tests/going_on.py 1000
 try 'commits, killed and two at once too' python3 python3 tests/commits.py 1000
 try 'crashes of the editor' 'python3 strace' python3 tests/crashes.py
 try 'a hundred saves of vim and kakoune' python3 python3 tests/editor_saves.py
+try 'the bytes of open files, behind 2^32 too' python3 python3 tests/open_files.py
 try 'where bytes come from' python3 python3 tests/random_blames.py 2000
 try 'refused reads and writes' '' sh tests/devices.sh
 try 'the tests of ropes under memcheck' valgrind sh tests/memcheck.sh
