@@ -1,13 +1,13 @@
 # make try [IMAGE=..]  checks the stored image, or the one that is named, by the program with no proof: a minute; it keeps no program
 # make run       proves and builds the program, and runs it on the stored image
 # make library   proves and builds the C library, and, where there is a C compiler, a shared one of it for Python
-# make check     the merge gate: every proof and test, edits of public functions that must be refused, and the built program
+# make check     the merge gate: every proof and test, edits that must be refused, of most public functions or of what they call, and the built program
 # make long [OLD=..]  what takes more than a minute and is no proof, over the built program: random images and keys, failing devices, dear refusals;
 #                and, where OLD names a clone at c89b5a8 over which crates/cord_answers and its line of crates.txt were laid, in which
 #                `rt run` built that crate: more answers of both builds, compared
 # make hostile   has the program check images at the format's limits: ten minutes, 5 GB of memory and of disk
 # make fuzz MINUTES=60  has the program and the second checker answer images that are made from those that reached something new
-# make audit     the edits that must be refused and that the gate has no time for
+# make audit     the edits that must be refused and that the gate has no time for; wrong reads of files, which the test of open files has to tell
 # make bench     times the program beside the usual tools, on data that it makes, and a check over the size of its image
 # make figures   measures anew what docs/PERF.md and docs/SCALE.md tell of the program alone and beside others, and prints their rows: ten minutes
 # make speed OLD=..  times the jobs and the tools over files beside those of another built checkout; an error names what lost a twentieth in two runs
@@ -62,6 +62,7 @@ fuzz:
 
 audit:
 	sh audit/run.sh
+	sh tests/wrong_reads.sh
 
 bench:
 	sh bench/check.sh

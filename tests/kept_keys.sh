@@ -81,9 +81,9 @@ basic() {
     printf 'one\ntwo\n' > file; ready image file; keys Down Left End Home Right; await shows 'byte 1 of 8'; keys C-c; ended; is 'only looked' "$(cat status said) $(echo image*)" '0 restored image*'; rm -f file
     ready image; type_text abc; await shows 'rev 3'; keys C-c; ended; start --discard image; ended; is 'discarded' "$(cat status) $(echo image*)" '0 restored image*'
     clean; printf 'prose' > image; wanted='1 refused C1(I3)
-C1(I3): image is no image, and stays as it is: move it away and give the same command again, or name another image'; refused 'prose' -f image; is 'as it was' "$(cat image) $(echo image*)" 'prose image'
+C1(I3): image is no image: it does not begin with CORDSESS. It stays as it is: move it away and give the same command again, or name another image'; refused 'prose' -f image; is 'as it was' "$(cat image) $(echo image*)" 'prose image'
     wanted='1 refused C1(I3)
-C1(I3): image.new is no image, and stays as it is: move it away and give the same command again, or name another image'; rm -f image; printf 'torn' > image.new; refused 'no image beside it' image; is 'as it was' "$(cat image.new) $(echo image*)" 'torn image.new'
+C1(I3): image.new is no image: it does not begin with CORDSESS. It stays as it is: move it away and give the same command again, or name another image'; rm -f image; printf 'torn' > image.new; refused 'no image beside it' image; is 'as it was' "$(cat image.new) $(echo image*)" 'torn image.new'
     : > image.new; ready image; type_text a; await shows 'rev 1'; keys C-x; ended; is 'an empty one is replaced' "$(text) $(echo image*)" 'a image'; printf 'prose' > image
     "$CORDKIT" edit image < /dev/null > out 2> err; is 'prose, without the option' "$? $(cat err) $(wc -c < out) $(cat image)" '1 refused C1(I3) 0 prose'
     rm -f image; echo mine > image.keys; wanted='1 refused J1
@@ -472,7 +472,7 @@ goes_on() {
     is 'and of this one' "$(printf '\030' | edits image file) $(text file)" 'rev 3 byte 1 of 6 zyxone'
     printf 'new\n' | "$CORDKIT" apply /dev/stdin file four > image; printf 'z' | edits image file > out; is 'two files' "$(told_by)$(files)" 'refused C2 C2: the sources of image are 2 in number, and 1 are given image'; rm -f four
     # What is no session, or one that cannot be gone on from
-    printf prose > image; printf 'z' | edits image > out; is 'prose' "$(told_by)$(cat image) $(files)" 'refused C1(I3) C1(I3): image is no image, and stays as it is: move it away and give the same command again, or name another image prose image'
+    printf prose > image; printf 'z' | edits image > out; is 'prose' "$(told_by)$(cat image) $(files)" 'refused C1(I3) C1(I3): image is no image: it does not begin with CORDSESS. It stays as it is: move it away and give the same command again, or name another image prose image'
     : > image; is 'an empty one is begun' "$(printf 'z\030' | edits image) $(files)" 'rev 1 byte 1 of 1 image'
     tr -d '[:space:]' < "$here/tests/vectors/bytes_row_over_a_source.hex" | tr a-f A-F | basenc --base16 -d > image; before=$(cksum < image); printf abc > file
     printf 'z\030' | edits image file > out; is 'a row of bytes over a source' "$(head -n 1 said) $(cksum < image) $(files)" "refused G1(0) $before image"; rm -f file

@@ -866,7 +866,7 @@ a script that is not there, behind an image, in words;apply --explain --onto one
 a file that is the image in words;commit --explain committed committed;;1;;refused J6\nJ6: committed is the image itself, the file beside it that is to be the image, or a source of its session\n
 an image with keys beside it in words;commit --explain $(cp abc keyed.keys && echo keyed) abcde;;1;;refused J2\nJ2: another session keeps its keys in keyed.keys\n
 a file to commit of 512 gigabytes in words;commit --explain committed half;;1;;refused E7(N4)\nE7(N4): the commit of half would put in more bytes than there may be\n
-an image to commit to that is none in words;commit --explain abcde abc;;1;;refused C1(I3)\nC1(I3): abcde is no image, and stays as it is: move it away and give the same command again, or name another image\n
+an image to commit to that is none in words;commit --explain abcde abc;;1;;refused C1(I3)\nC1(I3): abcde is no image: it does not begin with CORDSESS. It stays as it is: move it away and give the same command again, or name another image\n
 a row of bytes over a source in words, by a file;commit --explain over_bytes ab abc;;1;;refused G1(0)\nG1(0): revision 0 of over_bytes has a row that compares bytes of a source: a session of its commands is made by cordkit log over_bytes SOURCE.. | cordkit apply /dev/stdin SOURCE..\n
 a file to commit that is not there in words;commit --explain committed missing;;3;;read\nread: there is no file missing\n
 a commit to a full device in words;commit --explain /dev/full abc;;3;;write\nwrite: the image /dev/full or standard output could not be written\n
@@ -885,7 +885,7 @@ an image with a file that is shorter in words;edit --explain --onto one_source u
 a row of bytes over a file in words;edit --explain --onto bytes_row_over_a_source unsaved abc;keys_saved;1;;refused G1(0)\nG1(0): revision 0 of bytes_row_over_a_source has a row that compares bytes of a source: a session of its commands is made by cordkit log bytes_row_over_a_source SOURCE.. | cordkit apply /dev/stdin SOURCE..\n
 a text that is too long to edit in words;edit --explain --onto long_text unsaved;keys_saved;1;;refused K1\nK1: a text of long_text has more than 2,147,483,647 bytes\n
 keys that are not there in words;edit --explain --discard missing;;1;;refused J5\nJ5: missing is not there, or not the one that the session had\n
-a file that is no image in words;edit --explain abc;keys_saved;1;;refused C1(I3)\nC1(I3): abc is no image, and stays as it is: move it away and give the same command again, or name another image\n
+a file that is no image in words;edit --explain abc;keys_saved;1;;refused C1(I3)\nC1(I3): abc is no image: it does not begin with CORDSESS. It stays as it is: move it away and give the same command again, or name another image\n
 
 help to check;check --help;;2;;check_help.txt
 help to show;show --help;;2;;show_help.txt

@@ -1,19 +1,19 @@
 #!/bin/sh
 # A slice of what `make long` and `make fuzz` run with python, with fixed seeds, in some seconds: the second checker on the worked images, damaged
 # images, keys, scripts, scripts behind images, commits, crashes of the editor, where bytes come from, the inputs that the fuzzer kept, sources of
-# any size, and how many blocks of files are kept, over the program that `make run` built or the one that $1 names; the history of README.md as a
+# any size, the bytes of open files at each place, and how many blocks of files are kept, over the program that `make run` built or the one that $1 names; the history of README.md as a
 # session, and what docs/START.md and docs/SCRIPTS.md show; what the build before the pass for speed answered, beside the program cord_answers, as
 # the gate built it; images by the C library, through its Python module, where `make library` built it; where there is gcc, each allocation of that
 # program's runs refused, and of those of refusal_tests, as the gate built them; and whether docs/HEADLINE.md and docs/DEFINITIONS.md are what specs/
 # say, each new name there one thing, and each call and clause there that a crate's README.md or docs/PROVED.md names, whether wrong edits keep the
-# names that proofs cite, whether matches name each kind, whether each whole image in tests of crates is a worked one, whether each tool and its options
+# names that proofs cite, how many public calls have one, whether the benchmark can be built at the start, whether matches name each kind, whether each whole image in tests of crates is a worked one, whether each tool and its options
 # stand in help, completions and pages, and whether CONTRIBUTING.md names each file that a new one is told in. Where there is no python3 nothing of it
 # is tried, which is told. What a test left out is told too. The last line is 'N passed, M failed'; the status is not 0 where one failed.
 set -u
 top=$(cd "$(dirname "$0")/.." && pwd)
 program=${1:-$top/crates/cordkit/out/cordkit}
 if ! command -v python3 > /dev/null; then
-    echo "LEFT OUT: the second checker, damaged images, keys, scripts, scripts behind images, commits, crashes of the editor, where bytes come from, the history of README.md, the inputs of the fuzzer, large sources, blocks that are kept, the answers of the start, refused allocations, docs/HEADLINE.md and docs/DEFINITIONS.md, names, README.md and docs/PROVED.md, wrong edits, whole matches, worked images in tests, each tool and its options, CONTRIBUTING.md: there is no python3 here"
+    echo "LEFT OUT: the second checker, damaged images, keys, scripts, scripts behind images, commits, crashes of the editor, where bytes come from, the history of README.md, the inputs of the fuzzer, large sources, the bytes of open files, blocks that are kept, the answers of the start, refused allocations, docs/HEADLINE.md and docs/DEFINITIONS.md, names, README.md and docs/PROVED.md, wrong edits, which calls have them, what the benchmark names, whole matches, worked images in tests, each tool and its options, CONTRIBUTING.md: there is no python3 here"
     echo "0 passed, 0 failed"
     exit 0
 fi
@@ -49,6 +49,7 @@ try 'the history of a file' "$top/tests/git_history.py" "$program"
 try 'what docs/START.md and docs/SCRIPTS.md show' "$top/tests/script_tour.py" "$program"
 try 'the inputs of the fuzzer' "$top/tests/fuzz_images.py" 0 "$program"
 try 'sources of any size' "$top/tests/large_sources.py" "$program"
+try 'the bytes of open files' "$top/tests/open_files.py" --quick "$program"
 try 'blocks of files that are kept' "$top/tests/kept_blocks.py" "$program"
 if [ -f "$top/crates/cord_c/out/libcord_c.so" ]; then
     try 'the C library' -B "$top/crates/cord_c/callers/compare.py" 420 "$program"
@@ -66,6 +67,8 @@ try 'the pages of definitions' "$top/tests/headline.py"
 try 'names' "$top/tests/names.py"
 try 'what README.md files and docs/PROVED.md name' "$top/tests/readmes.py"
 try 'wrong edits' "$top/tests/edit_names.py"
+try 'public calls with wrong edits' "$top/tests/edited_calls.py"
+try 'what the benchmark names' "$top/tests/start_items.py"
 try 'whole matches' "$top/tests/matches.py"
 try 'worked images in tests' "$top/tests/images_in_tests.py"
 try 'each tool and its options' "$top/tests/tools.py"

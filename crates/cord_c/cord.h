@@ -168,10 +168,11 @@ struct cord_origin {
 
 #define CORD_FILL_BYTE 3
 
-/* Where the byte at a place of the text of a revision comes from. It needs no source, and takes a step for each revision before it at most.
+/* Where the byte at a place of the text of a revision comes from. It needs no source. It takes a step for each revision before it at most.
  *   true:  *origin is where.
  *   false: place is the text's length or more, or there is no such revision; *origin stays.
- * Proved: all of this, by what the commands mean alone: what a paste copies keeps its origin, and an undo gives the old ones back. */
+ * Proved: all of this but the steps, by what the commands mean alone: what a paste copies keeps its origin, and an undo gives the old ones
+ * back. */
 bool cord_origin(const struct cord_image *image, uint32_t revision, uint64_t place, struct cord_origin *origin);
 
 /* Writes bytes of that text from a place on into out, as read(2) does: as many as cord_locate tells there, or len where that is less; none

@@ -285,7 +285,8 @@ fn other_sources<R: Files + AllocGlobal>(
 /// Which file is no image, and stays: the image, or the one beside it that was to be the image.
 fn no_image<R: Files + AllocGlobal>(rt: &R, image: &str) -> Option<Sentence> {
     let text =
-        "% is no image, and stays as it is: move it away and give the same command again, or name another image";
+        "% is no image: it does not begin with CORDSESS. It stays as it is: move it away and give \
+        the same command again, or name another image";
     if !is_image(rt, image) {
         return Sentence::new(rt.alloc(), text, image, "");
     }

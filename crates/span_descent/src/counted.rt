@@ -51,7 +51,8 @@ impl<L: Ledger> Count<L> {
     }
 }
 
-/// A space of which each look is counted by `L`. It tells lengths, bytes of the pool and what is shallow without one.
+/// A space of which each look is counted by `L`. Not counted are how many nodes there are, lengths, bytes of the pool,
+/// what is shallow, and the step down from a node that was looked at.
 pub trait CountedSpace<L: Ledger> {
     ghost use Rattle.std.specs.Prelude.{ℕ};
     ghost use Rattle.function_leaf.specs.declared.coded.Coded.{Coded};
