@@ -225,7 +225,7 @@ BOTH
         # shellcheck disable=SC2086 # each header is a word
         { printf '#include <%s>\n' $headers && cat both.c; } > headers.c
         is_same "a program that includes $headers" \
-            "$(eval "gcc -std=c11 -Wall -Wextra -I . -o headers headers.c $(pkg-config --cflags --libs cordkit)" 2>&1 && ./headers && echo done)" 'done'
+            "$(eval "gcc -std=c11 -Wall -Wextra -I . -o headers headers.c $(pkg-config --cflags --libs cordkit)" 2>&1 && ./headers && echo both)" both
     done
 }
 
