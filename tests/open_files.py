@@ -1,6 +1,6 @@
 #!/usr/bin/env python3
 """The bytes of open files: no contract says at which place a file is read, since std's contract of such a read bounds its count alone. So the built
-program, or the one that is named, is run over files of which no place has its bytes twice, the numbers 1 to 500,000, and the same behind 2^32 bytes
+program, or the one that is named, is run over files whose bytes differ from place to place, the numbers 1 to 500,000, and the same behind 2^32 bytes
 of zeros; `cut`, `find`, `cmp`, `show`, `commit` and `edit` have to give what python's own texts do, before 4,096, 65,536 and 2^32 and behind, where they
 take a file so long, as `commit` and `edit` do not. tests/wrong_reads.sh shows that wrong reads are told. With --quick `cmp` compares no file behind 2^32 bytes.
 The last line is 'N passed, M failed'; the status is not 0 where one failed.
