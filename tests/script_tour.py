@@ -1,5 +1,5 @@
-"""Runs what docs/START.md and docs/SCRIPTS.md show, block by block, with the built program, or the one that is named, as `cordkit`, and compares what
-each block writes with what stands there. A block that writes nothing there is no example to be run. Where the program has no `log`, or no
+"""Runs what docs/START.md and docs/SCRIPTS.md show, block by block, with the built program, or the one that is named, as `cordkit`, and examples/from_git, and
+compares what each block writes with what stands there. A block that writes nothing there is no example to be run. Where the program has no `log`, or no
 `find --all`, what needs them is not tried, nor is what needs git where there is none: that is told. The last line is 'N passed, M failed'.
 
 script_tour.py [PROGRAM]"""
@@ -45,8 +45,9 @@ def try_page(page, program):
         blocks = list(blocks_of(file.read()))
     with tempfile.TemporaryDirectory() as room, tempfile.TemporaryDirectory() as tools:
         os.symlink(program, os.path.join(tools, "cordkit"))
+        os.symlink(os.path.join(TOP, "examples/from_git"), os.path.join(tools, "from_git"))
         here = {name: value for name, value in os.environ.items() if not name.startswith("GIT_")}
-        plain = {**here, "PATH": f"{tools}:{here['PATH']}", "GIT_CONFIG_GLOBAL": os.devnull, "GIT_CONFIG_NOSYSTEM": "1"}
+        plain = {**here, "PATH": f"{tools}:{here['PATH']}", "TMPDIR": tools, "GIT_CONFIG_GLOBAL": os.devnull, "GIT_CONFIG_NOSYSTEM": "1"}
         for script, wanted in blocks:
             reason = missing(program, script)
             if reason:
