@@ -6,6 +6,7 @@
 #   1,000 scripts and those of a million lines; 3,000 images, their logs    python3; so does this one
 #   1,000 scripts in pieces, 1,000 images, gone on from                     python3; so does this one
 #   1,000 files in states, 1,000 images, committed    python3, strace and git; so does this one
+#   70 edits of files, committed, beside git          python3 and git
 #   the editor's sessions, ended at each call         python3 and strace
 #   a hundred saves of an editor, each committed      python3; vim and kakoune, each for its own
 #   the bytes of open files at each place             python3
@@ -54,6 +55,7 @@ try 'sessions of keys' python3 python3 tests/random_keys.py 1000
 try 'scripts and logs' python3 python3 tests/random_scripts.py 1000
 try 'scripts behind images' python3 python3 tests/going_on.py 1000
 try 'commits, killed and two at once too' python3 python3 tests/commits.py 1000
+try 'files that were edited' 'python3 git' python3 tests/edited_files.py all
 try 'crashes of the editor' 'python3 strace' python3 tests/crashes.py
 try 'a hundred saves of vim and kakoune' python3 python3 tests/editor_saves.py
 try 'the bytes of open files, behind 2^32 too' python3 python3 tests/open_files.py
