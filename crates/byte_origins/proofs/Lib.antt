@@ -3,10 +3,13 @@ pub mod Lengths
 pub mod EarlierTexts
 pub mod StepBack
 pub mod TakenParts
+pub mod Together
 pub mod StepsTaken
+pub mod Standing
 pub mod NamedBytes
 pub mod StoodThere
 pub mod Stretching
+pub mod JoinedRuns
 pub mod Wanted
 pub mod LeafSpanSteps
 pub mod RunOrigins

@@ -3,10 +3,12 @@
 
 mod arrivals;
 mod descent;
+mod joining;
 mod laws;
 mod origin_store;
 mod ropes;
 mod run;
+mod starts;
 mod stretch;
 mod taking;
 mod texts;
@@ -14,7 +16,10 @@ mod tracing;
 mod walking;
 
 pub use descent::leaf_span;
+pub use joining::Origins;
 pub use laws::{as_many_as_bytes, brought_by_its_command, names_each_byte, stood_there};
 pub use run::{Brought, Origin, OriginRun};
-pub use tracing::{next_start, origin};
-pub use walking::Origins;
+pub use starts::next_start;
+pub use stretch::Stretch;
+pub use taking::{CameFrom, taken};
+pub use tracing::origin;

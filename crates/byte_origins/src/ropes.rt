@@ -13,16 +13,17 @@ ghost use Rattle.byte_origins.specs.StepsBack.{came_len, IsStepBack};
 
 use crate::origin_store::OriginStore;
 use crate::run::OriginRun;
+use crate::starts::{next_start, splices_before};
 use crate::taking::{CameFrom, command_parts, taken_of};
 use crate::texts::TextsBefore;
-use crate::tracing::{next_start, splices_before};
 use image_reader::Revisions;
 use rope_node::Rope;
 use session_checker::Checked;
 use std::alloc::Global;
 
-/// How many steps back are walked for each text before ropes are made.
-const STEPS: u64 = 4;
+/// How much is walked for each text and each splice before ropes are made: a step
+/// back is one, and one more for each part of a command that it goes through.
+const WORK: u64 = 8;
 
 /// The rope of the origins of what stands somewhere in a text, over the ropes of the texts before it.
 fn piece(texts: &mut OriginStore, roots: &[Rope], came: CameFrom) -> Option<Rope>
@@ -89,13 +90,13 @@ impl Ropes {
     }
 
     /// Makes ropes of the first `count` texts, as far as there is memory, and room in the store: once, and where so
-    /// many steps were walked back that this takes less.
-    pub(crate) fn make(&mut self, image: &Checked, count: u32, steps: u64)
+    /// much was walked back that this takes less. Their commands have so many splices.
+    pub(crate) fn make(&mut self, image: &Checked, count: u32, splices: u32, work: u64)
         requires there { count ≤ length image.now.revisions }
         requires ropes { NameTexts image.now self.old.texts self.old.roots.items }
         ensures { NameTexts image.now self.new.texts self.new.roots.items }
     {
-        if self.made || steps / STEPS < u64::from(count) {
+        if self.made || work / WORK < u64::from(count) + u64::from(splices) {
             return;
         }
         self.made = true;

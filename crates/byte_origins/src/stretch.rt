@@ -2,27 +2,79 @@
 
 // The lines `let _count = image.revisions();` are for the proof: the image's records are true, as this call says.
 
-ghost use Rattle.std.specs.Prelude.{◌≡◌, ◌+◌, ◌<◌, ◌≤◌, ◌^◌, ◌++◌, [], IfOk, OnErr, MatchOption, vec_len, vec_capacity};
+ghost use Rattle.std.specs.Prelude.{◌≡◌, ◌↔◌, ◌+◌, ◌<◌, ◌≤◌, ◌^◌, ◌++◌, [], length, min, IfOk, IfSome, IsSome, OnErr, MatchOption, vec_len, vec_capacity};
 ghost use Rattle.std.specs.List.{AllByRecursion};
-ghost use Rattle.byte_origins.specs.Origins.{run_origins};
+ghost use Rattle.image_reader.specs.Accepted.{splices_before};
+ghost use Rattle.byte_origins.specs.Origins.{origins_at, run_origins};
 ghost use Rattle.byte_origins.specs.OriginTexts.{NameTexts};
 ghost use Rattle.byte_origins.specs.StepsBack.{IsStepBack};
-ghost use Rattle.byte_origins.specs.Stretches.{IsStretch, left_origins, put_back};
+ghost use Rattle.byte_origins.specs.Stretches.{IsRestOf, IsStretch, left_origins, put_back, splice_starts, stretch_behind};
 
 use crate::ropes::Ropes;
 use crate::run::OriginRun;
-use crate::taking::{CameFrom, taken};
-use crate::tracing::lowered;
+use crate::starts::{lowered, splices_before, start_of};
+use crate::taking::{CameFrom, taken_counted};
+use rope_node::rope_len;
 use session_checker::Checked;
 use std::alloc::AllocError;
 
 /// Bytes of the text of a revision, and how many splices the revisions before it have.
 #[derive(Clone, Copy, Debug, PartialEq, Eq)]
-pub(crate) struct Stretch {
+pub struct Stretch {
     pub revision: u32,
     pub place: u64,
     pub len: u64,
     pub first: u32,
+}
+
+impl Stretch {
+    /// The rest of the text of revision `k` from a place on, where it has that place.
+    pub fn rest_of(image: &Checked, k: u32, place: u64) -> Option<Stretch>
+        ensures there { IsSome result ↔ place < length (origins_at image.now k) }
+        ensures rest { IfSome result (IsRestOf image.now k place) }
+    {
+        let _count = image.revisions();
+        let Some(root) = image.root(k) else {
+            return None;
+        };
+        let all = rope_len(image, root);
+        if place >= all {
+            return None;
+        }
+        Some(Stretch {
+            revision: k,
+            place,
+            len: all - place,
+            first: splices_before(image, k),
+        })
+    }
+
+    /// What lies behind its first `n` bytes.
+    pub fn behind(self, n: u64) -> Stretch
+        requires fits { self.place + self.len < 2 ^ 64 }
+        requires inside { n ≤ self.len }
+        ensures { result ≡ stretch_behind self n }
+    {
+        Stretch {
+            place: self.place + n,
+            len: self.len - n,
+            ..self
+        }
+    }
+
+    /// At most `n` bytes of the earlier text `j` from `place` on, in place of its own.
+    pub fn earlier(self, image: &Checked, j: u32, place: u64, n: u64) -> Stretch
+        requires stretch { IsStretch image.now self }
+        requires earlier { j < self.revision }
+        ensures { result ≡ record { revision = j; place = place; len = min self.len n; first = splices_before image.now j } }
+    {
+        Stretch {
+            revision: j,
+            place,
+            len: self.len.min(n),
+            first: lowered(image, self.revision, self.first, j),
+        }
+    }
 }
 
 /// Puts back what lies behind the first `n` bytes of a stretch, where there is something.
@@ -33,32 +85,34 @@ fn put_back(left: &mut Vec<Stretch>, x: Stretch, n: u64)
     ensures room { vec_len left.new + 1 ≤ vec_capacity left.new }
 {
     if n < x.len {
-        let place = x.place + n;
-        let len = x.len - n;
-        left.push_reserved(Stretch { place, len, ..x });
+        left.push_reserved(x.behind(n));
     }
 }
 
 /// One step back from a stretch: to its run, where its text has a rope, and else by its command.
-fn step_back(image: &Checked, ropes: &Ropes, x: Stretch) -> CameFrom
+/// How many parts of commands it went through, and one more, is added to `work`.
+fn step_back(image: &Checked, ropes: &Ropes, x: Stretch, work: &mut u64) -> CameFrom
     requires stretch { IsStretch image.now x }
     requires ropes { NameTexts image.now ropes.now.texts ropes.now.roots.items }
     ensures { IsStepBack image.now x.revision x.place result }
 {
     let _count = image.revisions();
+    *work = work.saturating_add(1);
     match ropes.run_at(x.revision, x.place) {
         Some(run) => CameFrom::Run(run),
-        None => taken(image, x.revision, x.first, x.place),
+        None => taken_counted(image, x.revision, x.first, x.place, work),
     }
 }
 
-/// The next run of the stretches that are left, the last one first. How many steps back it took is added to `steps`.
+/// The next run of the stretches that are left, the last one first. How much work it was is added to `work`.
 pub(crate) fn next_run(
     image: &Checked,
+    starts: &[u32],
     ropes: &Ropes,
     left: &mut Vec<Stretch>,
-    steps: &mut u64,
+    work: &mut u64,
 ) -> Result<Option<OriginRun>, AllocError>
+    requires starts { starts.now ≡ splice_starts image.now }
     requires left { AllByRecursion (IsStretch image.now) left.old.items }
     requires ropes { NameTexts image.now ropes.now.texts ropes.now.roots.items }
     ensures stretches { AllByRecursion (IsStretch image.now) left.new.items }
@@ -79,8 +133,7 @@ pub(crate) fn next_run(
             left.push_reserved(top);
             return Err(AllocError);
         };
-        *steps = steps.saturating_add(1);
-        let came = step_back(image, ropes, top);
+        let came = step_back(image, ropes, top, work);
         let len = top.len.min(came.len());
         put_back(left, top, len);
         match came {
@@ -89,7 +142,7 @@ pub(crate) fn next_run(
                 return Ok(Some(OriginRun { first, len }));
             }
             CameFrom::FromText(revision, place, _) => {
-                let first = lowered(image, top.revision, top.first, revision);
+                let first = start_of(image, starts, revision);
                 top = Stretch {
                     revision,
                     place,

@@ -3,11 +3,11 @@
 // The lines `let _count = ..` are for the proof: the image's records
 // are true, and its texts a sound table, as these calls say.
 
-ghost use Rattle.std.specs.Prelude.{◌≡◌, ◌<◌, length};
+ghost use Rattle.std.specs.Prelude.{◌≡◌, ◌<◌, length, Some};
 ghost use Rattle.image_reader.specs.Accepted.{splices_before};
 ghost use Rattle.command_parts.specs.Parts.{part_at, part_len, IsPart};
 ghost use Rattle.byte_origins.specs.EarlierTexts.{len_of_text, texts_parts, texts_table};
-ghost use Rattle.byte_origins.specs.StepsBack.{came_len, IsStepBack, run_of, taken_of};
+ghost use Rattle.byte_origins.specs.StepsBack.{came_len, IsStepBack, run_of, step_back, taken_of};
 
 use crate::run::{Brought, Origin, OriginRun};
 use crate::texts::TextsBefore;
@@ -18,7 +18,7 @@ use session_checker::Checked;
 
 /// Where the bytes from a place on come from, as far as one part of the text goes.
 #[derive(Clone, Copy, Debug, PartialEq, Eq)]
-pub(crate) enum CameFrom {
+pub enum CameFrom {
     /// They are those of an earlier text: which one, the place from which on, and how many.
     FromText(u32, u64, u64),
     /// The text's command brought them.
@@ -27,7 +27,7 @@ pub(crate) enum CameFrom {
 
 impl CameFrom {
     /// How many bytes there are.
-    pub(crate) fn len(self) -> u64
+    pub fn len(self) -> u64
         ensures { result ≡ came_len self }
     {
         match self {
@@ -37,13 +37,14 @@ impl CameFrom {
     }
 }
 
-/// The part that holds a place, and the place inside that part.
-fn held<P: Splices>(parts: PartIter<'_, P>, place: u64) -> Option<(Part, u64)>
+/// The part that holds a place, and the place inside that part. How many parts it went through is added to `passed`.
+fn held<P: Splices>(parts: PartIter<'_, P>, place: u64, passed: &mut u64) -> Option<(Part, u64)>
     ensures { result ≡ part_at parts.entry place }
 {
     let mut rest = parts;
     let mut off = place;
     while let Some(part) = rest.next() {
+        *passed = passed.saturating_add(1);
         let len = part.len();
         if off < len {
             return Some((part, off));
@@ -104,17 +105,36 @@ pub(crate) fn command_parts<'p, 'i, 'a>(
     parts(&texts, &texts, revisions, &revision.edit)
 }
 
-/// What the bytes at `place` of text `k` are, where the revisions before it have `first` splices.
-pub(crate) fn taken(image: &Checked, k: u32, first: u32, place: u64) -> CameFrom
+/// What the bytes at `place` of text `k` are, where the revisions before it have `first` splices: one step back.
+pub fn taken(image: &Checked, k: u32, first: u32, place: u64) -> CameFrom
     requires there { k < length image.now.revisions }
     requires first { first ≡ splices_before image.now k }
     requires inside { place < len_of_text image.now k }
-    ensures { IsStepBack image.now k place result }
+    ensures step { IsStepBack image.now k place result }
+    ensures exact { step_back image.now k place ≡ Some result }
+{
+    let mut passed = 0;
+    taken_counted(image, k, first, place, &mut passed)
+}
+
+/// The same. How many parts of the command it went through is added to `passed`.
+pub(crate) fn taken_counted(
+    image: &Checked,
+    k: u32,
+    first: u32,
+    place: u64,
+    passed: &mut u64,
+) -> CameFrom
+    requires there { k < length image.now.revisions }
+    requires first { first ≡ splices_before image.now k }
+    requires inside { place < len_of_text image.now k }
+    ensures step { IsStepBack image.now k place result }
+    ensures exact { step_back image.now k place ≡ Some result }
 {
     let _count = image.revisions();
     let texts = TextsBefore::of(image, k);
     let revisions = Revisions::over(image.image());
-    match held(command_parts(image, &revisions, k, first), place) {
+    match held(command_parts(image, &revisions, k, first), place, passed) {
         Some((part, off)) => taken_of(&texts, place, part, off),
         None => unreachable!(),
     }

@@ -20,13 +20,15 @@ use Rattle.byte_origins.specs.declared.run.OriginRun.{OriginRun}
 use Rattle.byte_origins.specs.Origins.{AreRuns, origins_at, run_origins}
 use Rattle.byte_origins.proofs.Lengths.{as_long}
 use Rattle.byte_origins.proofs.StoodThere.{stood}
-use Rattle.script_tools.specs.Blamed.{IsNextFound, IsLongestRun, WritesRuns, blame_lines, found_and_left, run_line}
+use Rattle.byte_origins.specs.Stretches.{IsNextRun}
+use Rattle.script_tools.specs.Blamed.{WritesRuns, blame_lines, run_line}
 use Rattle.script_tools.proofs.Pieces.{front_alone, front_and_part, stopped}
 use Rattle.lazy_file.proofs.UsedBlocks.{all_take}
 use Rattle.script_tools.proofs.Printables.{all_drop}
 use Rattle.script_tools.proofs.LoggedScripts.{named}
 use Rattle.byte_origins.proofs.RunOrigins.{length-run}
-use Rattle.script_tools.proofs.BlamedRuns.{has_runs, no_runs, run_and_more, run_begins}
+use Rattle.byte_origins.proofs.JoinedRuns.{run_begins}
+use Rattle.script_tools.proofs.BlamedRuns.{has_runs, no_runs, run_and_more}
 
 -- ---- the wanted origins
 
@@ -50,13 +52,6 @@ wanted_short v k start count true_records lt some =
     let long = as_long v true_records true_records.rules k lt in
     let short = rope_short (image_table v) true_records.sound (revision_at v k).root (true_records.roots k lt) in
     omega (arith, some, long, short, length-take count (drop start os), length-drop start os)
-
-pub wanted_few : (v : ImageValue) (k start count : ℕ) → HasTrueRecordsOf v → k < length v.revisions → length (wanted_origins v k start count) < 18446744073709551616
-wanted_few v k start count true_records lt =
-    let os = origins_at v k in
-    let long = as_long v true_records true_records.rules k lt in
-    let short = rope_short (image_table v) true_records.sound (revision_at v k).root (true_records.roots k lt) in
-    omega (arith, long, short, length-take count (drop start os), length-drop start os)
 
 -- ---- the lines so far
 
@@ -96,43 +91,42 @@ module _ (v : ImageValue) (k start count : ℕ) where
       (all.0, all.1, subst (Appends before now) (sym (all.2 ∙ append-nil b.front)) b.written)
 
   -- the next run, and those behind it
-  next_runs : (place : ℕ) (first run : OriginRun) (left rest : List Origin) (found : Option OriginRun) (before now : Option (List ℕ)) (later : List OriginRun)
-      → IsLongestRun first left run found rest → (b : IsBlaming v k start count place (run_origins first ++ left) before now) → AreRuns (found_and_left found rest) later
+  next_runs : (place : ℕ) (old rest : List Origin) (run : OriginRun) (before now : Option (List ℕ)) (later : List OriginRun)
+      → IsNextRun old run rest → (b : IsBlaming v k start count place old before now) → AreRuns rest later
       → (all : List OriginRun) × AreRuns (wanted_origins v k start count) all × (blame_lines v start all ≡ b.front ++ (run_line v place run ++ blame_lines v (place + run.len) later))
-  next_runs place first run left rest found before now later is b are =
-      b.runs (run ∷ later) (run_and_more (run_origins first ++ left) (found_and_left found rest) run later is.some is.same is.apart are)
+  next_runs place old rest run before now later is b are =
+      b.runs (run ∷ later) (run_and_more old rest run later is.some is.whole is.apart are)
 
-  pub blaming_part : {E : Type 0} (place : ℕ) (first run : OriginRun) (left rest : List Origin) (found : Option OriginRun) (before now after : Option (List ℕ)) (result : Result (Unit {0}) E) → IsErr result
-      → IsLongestRun first left run found rest → IsBlaming v k start count place (run_origins first ++ left) before now → AppendsPrefix now after (run_line v place run) → WritesRuns v k start count before after result
-  blaming_part place first run left rest found before now after result fails is b part =
-      let later = has_runs (found_and_left found rest) in
-      let all = next_runs place first run left rest found before now later.0 is b later.1 in (
+  pub blaming_part : {E : Type 0} (place : ℕ) (old rest : List Origin) (run : OriginRun) (before now after : Option (List ℕ)) (result : Result (Unit {0}) E) → IsErr result
+      → IsNextRun old run rest → IsBlaming v k start count place old before now → AppendsPrefix now after (run_line v place run) → WritesRuns v k start count before after result
+  blaming_part place old rest run before now after result fails is b part =
+      let later = has_runs rest in
+      let all = next_runs place old rest run before now later.0 is b later.1 in (
         all.0,
         all.1,
         stopped before after (blame_lines v start all.0) result fails
             (front_and_part before now after b.front (run_line v place run) (blame_lines v (place + run.len) later.0) (blame_lines v start all.0) (sym all.2) b.written part),
       )
 
-  pub longest_placed : (place : ℕ) (first run : OriginRun) (left rest : List Origin) (found : Option OriginRun) → IsLongestRun first left run found rest
-      → place + length (run_origins first ++ left) ≡ (place + run.len) + length (found_and_left found rest)
-  longest_placed place first run left rest found is =
-      let more : length (run_origins first ++ left) ≡ run.len + length (found_and_left found rest) =
-      ap (λ (os : List Origin). length os) is.same ∙ length-append (run_origins run) (found_and_left found rest) ∙ ap (λ (n : ℕ). n + length (found_and_left found rest)) (length-run run) in
+  pub next_placed : (place : ℕ) (old rest : List Origin) (run : OriginRun) → IsNextRun old run rest → place + length old ≡ (place + run.len) + length rest
+  next_placed place old rest run is =
+      let more : length old ≡ run.len + length rest =
+      ap (λ (os : List Origin). length os) is.whole ∙ length-append (run_origins run) rest ∙ ap (λ (n : ℕ). n + length rest) (length-run run) in
       omega (arith, more)
 
-  pub blaming_more : (place : ℕ) (first run : OriginRun) (left rest : List Origin) (found : Option OriginRun) (before now after : Option (List ℕ))
-      → IsLongestRun first left run found rest → IsBlaming v k start count place (run_origins first ++ left) before now → Appends now after (run_line v place run)
-      → IsBlaming v k start count (place + run.len) (found_and_left found rest) before after
-  blaming_more place first run left rest found before now after is b wrote =
+  pub blaming_more : (place : ℕ) (old rest : List Origin) (run : OriginRun) (before now after : Option (List ℕ))
+      → IsNextRun old run rest → IsBlaming v k start count place old before now → Appends now after (run_line v place run)
+      → IsBlaming v k start count (place + run.len) rest before after
+  blaming_more place old rest run before now after is b wrote =
       record {
         front = b.front ++ run_line v place run;
         written = appends_then before now after b.front (run_line v place run) b.written wrote;
         runs = λ later are.
-            let all = next_runs place first run left rest found before now later is b are in
+            let all = next_runs place old rest run before now later is b are in
             (all.0, all.1, all.2 ∙ sym (append_assoc b.front (run_line v place run) (blame_lines v (place + run.len) later)));
         behind = let le = b.behind in omega (arith, le);
-        placed = sym (longest_placed place first run left rest found is) ∙ b.placed;
-        earlier = behind_all (run_origins run) (found_and_left found rest) (subst (AllByRecursion (λ (o : Origin). o.revision ≤ k)) is.same b.earlier);
+        placed = sym (next_placed place old rest run is) ∙ b.placed;
+        earlier = behind_all (run_origins run) rest (subst (AllByRecursion (λ (o : Origin). o.revision ≤ k)) is.whole b.earlier);
       }
     where
       behind_all : (xs ys : List Origin) → AllByRecursion (λ (o : Origin). o.revision ≤ k) (xs ++ ys) → AllByRecursion (λ (o : Origin). o.revision ≤ k) ys
@@ -140,32 +134,25 @@ module _ (v : ImageValue) (k start count : ℕ) where
       behind_all (x ∷ xs) ys all = behind_all xs ys all.1
 
   -- the run came in by this revision or an earlier one
-  pub run_earlier : (place : ℕ) (first run : OriginRun) (left rest : List Origin) (found : Option OriginRun) (before now : Option (List ℕ)) → k < length v.revisions
-      → IsLongestRun first left run found rest → IsBlaming v k start count place (run_origins first ++ left) before now → run.first.revision < length v.revisions
-  run_earlier place first run left rest found before now lt is b =
-      let before = first_all (run_origins run ++ found_and_left found rest) run.first (run_begins run (found_and_left found rest) is.some) (subst (AllByRecursion (λ (o : Origin). o.revision ≤ k)) is.same b.earlier) in
+  pub run_earlier : (place : ℕ) (old rest : List Origin) (run : OriginRun) (before now : Option (List ℕ)) → k < length v.revisions
+      → IsNextRun old run rest → IsBlaming v k start count place old before now → run.first.revision < length v.revisions
+  run_earlier place old rest run before now lt is b =
+      let before = first_all (run_origins run ++ rest) run.first (run_begins run rest is.some) (subst (AllByRecursion (λ (o : Origin). o.revision ≤ k)) is.whole b.earlier) in
       omega (arith, before, lt)
     where
       first_all : (xs : List Origin) (o : Origin) → slice_get xs 0 ≡ Some o → AllByRecursion (λ (o : Origin). o.revision ≤ k) xs → o.revision ≤ k
       first_all [] o is all = absurd cc
       first_all (x ∷ xs) o is all = subst (λ (p : Origin). p.revision ≤ k) (same_Some x o is) all.0
 
-  pub place_fits : (place : ℕ) (first run : OriginRun) (left rest : List Origin) (found : Option OriginRun) (before now : Option (List ℕ)) → HasTrueRecordsOf v → k < length v.revisions
-      → IsLongestRun first left run found rest → IsBlaming v k start count place (run_origins first ++ left) before now → place + run.len < 18446744073709551616
-  place_fits place first run left rest found before now true_records lt is b =
-      let more = longest_placed place first run left rest found is in
+  pub place_fits : (place : ℕ) (old rest : List Origin) (run : OriginRun) (before now : Option (List ℕ)) → HasTrueRecordsOf v → k < length v.revisions
+      → IsNextRun old run rest → IsBlaming v k start count place old before now → place + run.len < 18446744073709551616
+  place_fits place old rest run before now true_records lt is b =
+      let more = next_placed place old rest run is in
       let placed = b.placed in
       let le = b.behind in
       let one = is.some in
       let some : 1 ≤ length (wanted_origins v k start count) = omega (arith, more, placed, le, one) in
       omega (arith, more, placed, wanted_short v k start count true_records lt some)
-
-  -- a run found among the wanted origins fits
-  pub run_room : (place : ℕ) (first : OriginRun) (left : List Origin) (before now : Option (List ℕ)) → HasTrueRecordsOf v → k < length v.revisions
-      → IsBlaming v k start count place (run_origins first ++ left) before now → first.len + length left < 18446744073709551616
-  run_room place first left before now true_records lt b =
-      let more : length (run_origins first ++ left) ≡ first.len + length left = length-append (run_origins first) left ∙ ap (λ (n : ℕ). n + length left) (length-run first) in
-      let placed = b.placed in let le = b.behind in omega (arith, more, placed, le, wanted_few v k start count true_records lt)
 
 -- ---- the front of a line
 
@@ -206,22 +193,13 @@ pub then_is : {T E : Type 0} (result : Result T E) (xs ys zs : List ℕ) → ys 
 then_is (Ok u) xs ys zs same is = is ∙ same
 then_is (Err e) xs ys zs same is = tt
 
--- ---- the first run, and the next one
+-- ---- the next run
 
-pub first_found : (old new : List Origin) (found : Option OriginRun)
-    → MatchOption found ((old ≡ []) × (new ≡ [])) (λ (x : OriginRun). (1 ≤ x.len) × (old ≡ run_origins x ++ new)) → IsNextFound found new × (found_and_left found new ≡ old)
-first_found old new (Some x) told = (told.0, sym told.1)
-first_found old new None told = (told.1, told.1 ∙ sym told.0)
+pub run_told : (old new : List Origin) (found : Option OriginRun) (run : OriginRun) → found ≡ Some run
+    → MatchOption found ((old ≡ []) × (new ≡ [])) (λ (x : OriginRun). IsNextRun old x new) → IsNextRun old run new
+run_told old new found run is told = subst (λ (f : Option OriginRun). MatchOption f ((old ≡ []) × (new ≡ [])) (λ (x : OriginRun). IsNextRun old x new)) is told
 
--- the run that is found next
-abbrev pub IsAt : ImageValue → ℕ → ℕ → ℕ → ℕ → List Origin → Option (List ℕ) → Option (List ℕ) → Option OriginRun → Type 0
-IsAt v k start count place left before now found = IsNextFound found left × IsBlaming v k start count place (found_and_left found left) before now
-
-pub at_found : (v : ImageValue) (k start count place : ℕ) (left : List Origin) (before now : Option (List ℕ)) (found : Option OriginRun) (run : OriginRun) → found ≡ Some run
-    → IsAt v k start count place left before now found → IsAt v k start count place left before now (Some run)
-at_found v k start count place left before now found run is at = subst (IsAt v k start count place left before now) is at
-
-pub at_end : (v : ImageValue) (k start count place : ℕ) (left : List Origin) (before now : Option (List ℕ)) (found : Option OriginRun) → ((run : OriginRun) → found ≡ Some run → ⊥)
-    → IsAt v k start count place left before now found → found_and_left found left ≡ []
-at_end v k start count place left before now None none at = at.0
-at_end v k start count place left before now (Some run) none at = absurd (none run refl)
+pub none_told : (old new : List Origin) (found : Option OriginRun) → ((run : OriginRun) → found ≡ Some run → ⊥)
+    → MatchOption found ((old ≡ []) × (new ≡ [])) (λ (x : OriginRun). IsNextRun old x new) → old ≡ []
+none_told old new None none told = told.0
+none_told old new (Some run) none told = absurd (none run refl)

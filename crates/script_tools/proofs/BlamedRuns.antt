@@ -11,65 +11,8 @@ use Rattle.byte_origins.specs.declared.run.Origin.{Origin}
 use Rattle.byte_origins.specs.declared.run.OriginRun.{OriginRun}
 use Rattle.byte_origins.specs.Behind.{origin_behind}
 use Rattle.byte_origins.specs.Origins.{AreApart, AreRuns, run_origins}
-use Rattle.byte_origins.proofs.RunOrigins.{behind_none, behind_twice, length-run, runs_joined}
-use Rattle.script_tools.specs.Blamed.{IsLongestRun}
-
--- ---- runs joined
-
-pub run_lengthened : (run next : OriginRun) (rest : List Origin) → origin_behind run.first run.len ≡ next.first
-    → run_origins run ++ (run_origins next ++ rest) ≡ run_origins (record { first = run.first; len = run.len + next.len }) ++ rest
-run_lengthened run next rest on =
-    sym (append_assoc (run_origins run) (run_origins next) rest)
-    ∙ ap (λ (o : Origin). (run_origins run ++ run_origins (record { first = o; len = next.len })) ++ rest) (sym on)
-    ∙ ap (λ (os : List Origin). os ++ rest) (sym (runs_joined run.first run.len next.len))
-
--- a run of one or more begins with its first origin
-pub run_begins : (run : OriginRun) (rest : List Origin) → 1 ≤ run.len → slice_get (run_origins run ++ rest) 0 ≡ Some run.first
-run_begins run rest some = begins run.first run.len some
-  where
-    begins : (o : Origin) (n : ℕ) → 1 ≤ n → slice_get (map (origin_behind o) (range_with_len 0 n) ++ rest) 0 ≡ Some o
-    begins o zero some = absurd (omega (arith, some))
-    begins o (suc n) some = ap (λ (x : Origin). Some x) (behind_none o)
-
--- ---- the longest run
-
--- a run that begins with these origins, as far as it is found
-pub record IsLengthening (first : OriginRun) (old : List Origin) (run : OriginRun) (left : List Origin) : Type 0 where
-  pub some : 1 ≤ run.len
-  pub same : run_origins first ++ old ≡ run_origins run ++ left
-  pub room : run.len + length left ≡ first.len + length old
-
-pub lengthening_begins : (first : OriginRun) (old : List Origin) → 1 ≤ first.len → IsLengthening first old first old
-lengthening_begins first old some = record { some = some; same = refl; room = refl }
-
-pub lengthening_more : (first run next : OriginRun) (old left rest : List Origin) → IsLengthening first old run left → 1 ≤ next.len → left ≡ run_origins next ++ rest → origin_behind run.first run.len ≡ next.first
-    → IsLengthening first old (record { first = run.first; len = run.len + next.len }) rest
-lengthening_more first run next old left rest is some split on =
-    let more : length left ≡ next.len + length rest = ap (λ (os : List Origin). length os) split ∙ length-append (run_origins next) rest ∙ ap (λ (n : ℕ). n + length rest) (length-run next) in
-    record {
-      some = omega (arith, some);
-      same = is.same ∙ ap (λ (os : List Origin). run_origins run ++ os) split ∙ run_lengthened run next rest on;
-      room = omega (arith, is.room, more);
-    }
-
-pub lengthening_stops : (first run next : OriginRun) (old left rest : List Origin) → IsLengthening first old run left → 1 ≤ next.len → left ≡ run_origins next ++ rest → origin_behind run.first run.len ≢ next.first
-    → IsLongestRun first old run (Some next) rest
-lengthening_stops first run next old left rest is some split off =
-    record {
-      some = is.some;
-      same = is.same ∙ ap (λ (os : List Origin). run_origins run ++ os) split;
-      apart = λ e. off (sym (same_Some next.first (origin_behind run.first run.len) (sym (run_begins next rest some) ∙ e)));
-      told = some;
-    }
-
-pub lengthening_ends : (first run : OriginRun) (old left rest : List Origin) → IsLengthening first old run left → left ≡ [] → rest ≡ [] → IsLongestRun first old run None rest
-lengthening_ends first run old left rest is none ended =
-    record {
-      some = is.some;
-      same = is.same ∙ ap (λ (os : List Origin). run_origins run ++ os) (none ∙ sym ended);
-      apart = subst (λ (os : List Origin). slice_get os 0 ≢ Some (origin_behind run.first run.len)) (sym ended) (λ e. absurd cc);
-      told = ended;
-    }
+use Rattle.byte_origins.proofs.RunOrigins.{behind_none, behind_twice, runs_joined}
+use Rattle.byte_origins.proofs.JoinedRuns.{run_begins}
 
 -- ---- runs, one behind the other
 
@@ -167,15 +110,3 @@ one_more o os runs are = by_head runs are.whole are.some are.apart
 pub has_runs : (os : List Origin) → (runs : List OriginRun) × AreRuns os runs
 has_runs [] = ([], no_runs)
 has_runs (o ∷ os) = let rest = has_runs os in one_more o os rest.0 rest.1
-
--- ---- what next tells
-
-pub next_found : (old new : List Origin) (found : Option OriginRun) (run : OriginRun) → found ≡ Some run
-    → MatchOption found ((old ≡ []) × (new ≡ [])) (λ (x : OriginRun). (1 ≤ x.len) × (old ≡ run_origins x ++ new)) → (1 ≤ run.len) × (old ≡ run_origins run ++ new)
-next_found old new found run is told = subst (λ (f : Option OriginRun). MatchOption f ((old ≡ []) × (new ≡ [])) (λ (x : OriginRun). (1 ≤ x.len) × (old ≡ run_origins x ++ new))) is told
-
-pub lengthening_fits : (first run next : OriginRun) (old left rest : List Origin) → IsLengthening first old run left → left ≡ run_origins next ++ rest → first.len + length old < 2 ^ 64 → run.len + next.len < 2 ^ 64
-lengthening_fits first run next old left rest is split room =
-    let more : length left ≡ next.len + length rest = ap (λ (os : List Origin). length os) split ∙ length-append (run_origins next) rest ∙ ap (λ (n : ℕ). n + length rest) (length-run next) in
-    let all = is.room in
-    omega (arith, all, more, room)

@@ -1,20 +1,17 @@
 -- What blaming an image writes.
-use Rattle.std.specs.Prelude.{◌≡◌, ◌≢◌, ℕ, ◌+◌, ◌<◌, ◌≤◌, List, [], ◌∷◌, ◌++◌, length, map, take, drop, slice_get, Option, Some, None, MatchOption, Result, Ok, Err}
-use Rattle.std.specs.List.{range_with_len}
+use Rattle.std.specs.Prelude.{◌≡◌, ℕ, ◌+◌, ◌<◌, ◌≤◌, List, [], ◌∷◌, ◌++◌, length, take, drop, Option, Result, Ok, Err}
 use Rattle.std.specs.Io.KnownBytes.{Keeps}
 use Rattle.lazy_file.specs.Readings.{Reading}
 use Rattle.image_reader.specs.Value.{ImageValue}
-use Rattle.image_reader.specs.Accepted.{command_at, splices_before}
+use Rattle.image_reader.specs.Accepted.{command_at}
 use Rattle.session_checker.specs.declared.fault.CheckFault.{CheckFault}
 use Rattle.session_checker.specs.Limits.{ChecksWithin}
 use Rattle.edit_script.specs.Words.{Word, Number, Quoted, line_of}
 use Rattle.edit_script.specs.Commands.{front_of}
 use Rattle.byte_origins.specs.declared.run.Brought.{Brought}
 use Rattle.byte_origins.specs.declared.run.Brought.TheVariants.{Pool}
-use Rattle.byte_origins.specs.declared.run.Origin.{Origin}
 use Rattle.byte_origins.specs.declared.run.OriginRun.{OriginRun}
-use Rattle.byte_origins.specs.Behind.{origin_behind}
-use Rattle.byte_origins.specs.Origins.{AreRuns, origins_at, run_origins}
+use Rattle.byte_origins.specs.Origins.{AreRuns, origins_at}
 use Rattle.script_tools.specs.declared.shown.LogTexts.TheVariants.{Brief}
 use Rattle.script_tools.specs.declared.fault.BlameFault.{BlameFault}
 use Rattle.script_tools.specs.declared.fault.BlameFault.TheVariants.{Check, NoRevision}
@@ -52,29 +49,6 @@ ShowBytes pool text place [] = Unit {0}
 ShowBytes pool text place (x ∷ xs) =
     ((shown : List ℕ) → run_texts pool x ≡ Quoted shown ∷ [] → shown ≡ take x.len (drop place text))
     × ShowBytes pool text (place + x.len) xs
-
--- ---- the longest run
-
--- the origins of a run that is found already, and those behind it
-abbrev pub found_and_left : Option OriginRun → List Origin → List Origin
-found_and_left (Some x) left = run_origins x ++ left
-found_and_left None left = left
-
--- a run that is found has a byte; where none is found, none is left
-abbrev pub IsNextFound : Option OriginRun → List Origin → Type 0
-IsNextFound found left = MatchOption found (left ≡ []) (λ (x : OriginRun). 1 ≤ x.len)
-
--- a run that begins with these origins and does not go on in those behind it
-pub record IsLongestRun (first : OriginRun) (left : List Origin) (run : OriginRun) (found : Option OriginRun) (rest : List Origin)
-    : Type 0 where
-  pub some : 1 ≤ run.len
-  pub same : run_origins first ++ left ≡ run_origins run ++ found_and_left found rest
-  pub apart : slice_get (found_and_left found rest) 0 ≢ Some (origin_behind run.first run.len)
-  pub told : IsNextFound found rest
-
--- how many splices the revisions before each revision have
-abbrev pub splice_starts : ImageValue → List ℕ
-splice_starts v = map (splices_before v) (range_with_len 0 (length v.revisions))
 
 -- ---- what is written
 

@@ -1,21 +1,20 @@
 //! Where the bytes of a text come from, run by run.
 
-ghost use Rattle.std.specs.Prelude.{◌≡◌, ◌∷◌, ◌++◌, ◌+◌, ◌<◌, ◌≤◌, ◌^◌, [], List, length, take, drop, Ok, IfOk, OnOk};
+ghost use Rattle.std.specs.Prelude.{◌≡◌, ◌∷◌, ◌<◌, [], List, length, take, drop, Ok, OnOk};
 ghost use Rattle.std.specs.Fmt.{decimal};
 ghost use Rattle.command_parts.specs.declared.edit.Splice.{Splice};
 ghost use Rattle.command_parts.specs.Commands.{with_splices};
 ghost use Rattle.image_reader.specs.Accepted.{splices_before};
 ghost use Rattle.edit_script.specs.Words.{Number, line_of};
 ghost use Rattle.edit_script.specs.Commands.{front_of};
-ghost use Rattle.byte_origins.specs.Stretches.{OriginsLeft};
 ghost use Rattle.script_tools.specs.declared.shown.LogTexts.TheVariants.{Brief};
 ghost use Rattle.script_tools.specs.Logged.{WritesText, shown_on};
-ghost use Rattle.script_tools.specs.Blamed.{BlamesImage, IsLongestRun, WritesBlame, WritesRuns, run_line, run_texts, splice_starts};
+ghost use Rattle.script_tools.specs.Blamed.{BlamesImage, WritesBlame, WritesRuns, run_line, run_texts};
 
 use crate::fault::{BlameFault, PieceFault};
 use crate::shown::{LogTexts, write_piece, write_text};
 use crate::wanted::BytesOfText;
-use byte_origins::{Brought, OriginRun, Origins, next_start};
+use byte_origins::{Brought, OriginRun, Origins};
 use command_parts::Edit;
 use edit_script::{push_front, push_number};
 use itoa::Buffer;
@@ -24,25 +23,6 @@ use session_checker::{Checked, check_told};
 use std::alloc::{AllocError, Global};
 use std::io;
 use work_progress::{Progress, Untold};
-
-/// The longest run that begins with this one, and the run behind it, where there is one.
-fn longest(
-    origins: &mut Origins,
-    first: OriginRun,
-) -> Result<(OriginRun, Option<OriginRun>), AllocError>
-    requires some { 1 ≤ first.len }
-    requires room { first.len + length origins.old.left < 2 ^ 64 }
-    ensures longest { IfOk result (λ x. IsLongestRun first origins.old.left x.0 x.1 origins.new.left) }
-{
-    let mut run = first;
-    while let Some(next) = origins.next()? {
-        if !run.goes_on(&next) {
-            return Ok((run, Some(next)));
-        }
-        run.len += next.len;
-    }
-    Ok((run, None))
-}
 
 /// The place of a run, what is told of it by numbers, and its command, in place of what the piece held.
 fn put_run(piece: &mut Vec<u8>, place: u64, run: OriginRun, edit: &Edit) -> Result<(), AllocError>
@@ -90,43 +70,20 @@ fn write_bytes_of<W: io::Write>(
     }
 }
 
-/// How many splices the revisions before each revision have, so that no line goes through them again.
-fn splice_starts(alloc: Global, image: &Checked) -> Result<Vec<u32>, AllocError>
-    ensures { IfOk result (λ starts. starts.items ≡ splice_starts image.now) }
-{
-    let mut starts = Vec::new(alloc);
-    let mut first = 0;
-    for r in 0..image.revisions() {
-        starts.push(first)?;
-        first = next_start(image, r, first);
-    }
-    Ok(starts)
-}
-
-/// The one of revision `k`.
-fn start_of(image: &Checked, starts: &[u32], k: u32) -> u32
-    requires there { k < length image.now.revisions }
-    requires starts { starts.now ≡ splice_starts image.now }
-    ensures { result ≡ splices_before image.now k }
-{
-    starts[k as usize]
-}
-
-/// Writes the line of a run that stands at a place of a text.
+/// Writes the line of a run that stands at a place of a text. The revisions before its own have `first` splices.
 fn write_run<W: io::Write>(
     piece: &mut Vec<u8>,
     image: &Checked,
-    starts: &[u32],
+    first: u32,
     place: u64,
     run: OriginRun,
     writer: &mut W,
 ) -> Result<(), PieceFault>
     requires there { run.first.revision < length image.now.revisions }
-    requires starts { starts.now ≡ splice_starts image.now }
+    requires first { first ≡ splices_before image.now run.first.revision }
     ensures { WritesText (W.contents writer.old) (W.contents writer.new) (run_line image.now place run) result }
 {
-    let k = run.first.revision;
-    let revision = image.image().revision(k, start_of(image, starts, k));
+    let revision = image.image().revision(run.first.revision, first);
     put_run(piece, place, run, &revision.edit)?;
     write_piece(piece, writer)?;
     write_bytes_of(piece, image.image().pool(), run, writer)?;
@@ -149,14 +106,11 @@ fn write_runs<W: io::Write>(
     let _count = image.revisions();
     let mut piece = Vec::new(alloc);
     let mut origins = Origins::of(alloc, image, k, start, count)?;
-    let mut next = origins.next()?;
-    let starts = splice_starts(alloc, image)?;
     let mut place = start;
-    while let Some(first) = next {
-        let (run, behind) = longest(&mut origins, first)?;
-        write_run(&mut piece, image, &starts, place, run, writer)?;
+    while let Some(run) = origins.next()? {
+        let first = origins.splices_before(run.first.revision);
+        write_run(&mut piece, image, first, place, run, writer)?;
         place += run.len;
-        next = behind;
     }
     Ok(())
 }

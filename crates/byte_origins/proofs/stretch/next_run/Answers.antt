@@ -30,8 +30,8 @@ returns-in-Run-clause-next c =
 pub back-preserved : goal.back-preserved
 back-preserved c =
     let v = c.args.image.now in
-    let next : Stretch = record { revision = c.in-FromText.revision; place = c.in-FromText.place; len = c.min-len.result; first = c.lowered-first.result } in
+    let next : Stretch = record { revision = c.in-FromText.revision; place = c.in-FromText.place; len = c.min-len.result; first = c.start_of-first.result } in
     let least : c.min-len.result ≡ min c.back.top.len c.in-FromText.field-2 = c.min-len.ensures ∙ ap (λ (n : ℕ). min c.back.top.len n) (c.len.ensures ∙ ap came_len c.in-FromText.is) in (
-      rw (c.put_back.ensures.items, c.in-Ok.ensures.items) (back_more v (left_origins v c.args.left.now.items) c.back.top next c.back.left.items c.in-FromText.field-2 c.back.invariant.0 c.in-FromText.ensures least c.lowered-first.ensures),
+      rw (c.put_back.ensures.items, c.in-Ok.ensures.items) (back_more v (left_origins v c.args.left.now.items) c.back.top next c.back.left.items c.in-FromText.field-2 c.back.invariant.0 c.in-FromText.ensures least c.start_of-first.ensures),
       c.put_back.ensures.room,
     )

@@ -1,8 +1,19 @@
-use Rattle.byte_origins.proofs.StepsTaken.{walk_more, walk_ends}
+use Rattle.std.proofs.Common.{min, refl}
+use Rattle.image_reader.specs.Accepted.{splices_before}
+use Rattle.byte_origins.specs.declared.stretch.Stretch.{Stretch}
+use Rattle.byte_origins.proofs.Standing.{stands_begins, stands_more, stands_ends}
 use Rattle.byte_origins.proofs.tracing.walked.Goals as goal
 
-pub returns-in-Run : goal.returns-in-Run
-returns-in-Run c = walk_ends c.args.image.now c.args.k c.args.place c.loop-run.at c.loop-run.here c.loop-run.len c.loop-run.first c.min.result c.in-Run.run' c.loop-run.invariant c.in-Run.ensures c.min.ensures
+pub back-init : goal.back-init
+back-init c =
+    let is = c.revisions-count.ensures.true_records in
+    stands_begins c.args.image.now is is.rules c.args.rest c.requires.stretch c.requires.whole
 
-pub loop-run-preserved : goal.loop-run-preserved
-loop-run-preserved c = walk_more c.args.image.now c.args.k c.args.place c.loop-run.at c.loop-run.here c.loop-run.len c.loop-run.first c.in-FromText.j c.in-FromText.p c.in-FromText.n c.min-len.result c.lowered-first.result c.loop-run.invariant c.in-FromText.ensures c.min-len.ensures c.lowered-first.ensures
+pub returns-in-Run : goal.returns-in-Run
+returns-in-Run c = stands_ends c.args.image.now c.args.rest.revision c.args.rest.place c.back.top c.in-Run.run' c.min.result c.back.invariant c.in-Run.ensures.step c.in-Run.ensures.exact c.min.ensures
+
+pub back-preserved : goal.back-preserved
+back-preserved c =
+    let v = c.args.image.now in
+    let next : Stretch = record { revision = c.in-FromText.j; place = c.in-FromText.place; len = min c.back.top.len c.in-FromText.n; first = splices_before v c.in-FromText.j } in
+    rw (c.earlier-top.ensures) (stands_more v c.args.rest.revision c.args.rest.place c.back.top next c.in-FromText.n c.back.invariant c.in-FromText.ensures.step c.in-FromText.ensures.exact refl refl)

@@ -1,8 +1,8 @@
-use Rattle.byte_origins.proofs.StepsTaken.{IsWalking}
+use Rattle.byte_origins.specs.Stretches.{StandsFor}
 use Rattle.byte_origins.proofs.tracing.walked.Given as goal
 
-abbrev pub invariant-loop-run : goal.invariant-loop-run
-invariant-loop-run l = IsWalking l.fn.image l.fn.k l.fn.place l.at l.here l.len l.first
+abbrev pub invariant-back : goal.invariant-back
+invariant-back l = StandsFor l.fn.image l.fn.rest.revision l.fn.rest.place l.top
 
-abbrev pub decreases-loop-run : goal.decreases-loop-run
-decreases-loop-run l = l.at
+abbrev pub decreases-back : goal.decreases-back
+decreases-back l = l.top.revision
