@@ -163,17 +163,27 @@ struct cord_origin {
     uint32_t byte;     /* the fill's byte, of CORD_FILL_BYTE; else 0 */
     uint64_t place;    /* its place in that revision's text */
     uint64_t start;    /* its place in the pool or in the source; else 0 */
-    uint64_t len;      /* for how many bytes of the text this goes on at least, 1 or more */
+    uint64_t len;      /* how many bytes of the text from it on came in together with it, 1 or more */
 };
 
 #define CORD_FILL_BYTE 3
 
-/* Where the byte at a place of the text of a revision comes from. It needs no source. It takes a step for each revision before it at most.
- *   true:  *origin is where.
+/* Where the byte at a place of the text of a revision comes from. It needs no source, and takes a step for each revision before it at most.
+ *   true:  *origin is where; and how many bytes of the text from it on came in together with it: at each step back they stand in one part of
+ *          the command, between two of its changes, and in the end side by side in what one command put in.
  *   false: place is the text's length or more, or there is no such revision; *origin stays.
- * Proved: all of this but the steps, by what the commands mean alone: what a paste copies keeps its origin, and an undo gives the old ones
- * back. */
+ * Proved: all of this, by what the commands mean alone: what a paste copies keeps its origin, and an undo gives the old ones back. Not
+ * proved: how many steps it takes. */
 bool cord_origin(const struct cord_image *image, uint32_t revision, uint64_t place, struct cord_origin *origin);
+
+/* Where the bytes of that text from a place on come from: what cord_origin tells of the first, then of the one behind its bytes, and so on.
+ * runs has room for so many; a loop that adds up the lengths, and asks again from there on, comes to the end of the text. One way back
+ * serves for a whole room, where cord_origin goes one for each.
+ *   true:  *count runs are told: to the end of the text, or so many that they fill half of the room or more. What stands in runs behind
+ *          them may be anything.
+ *   false: place is the text's length or more, or there is no such revision; *count is 0, and runs stays.
+ * Proved: all of this. Measured: how long it takes. */
+bool cord_origins(const struct cord_image *image, uint32_t revision, uint64_t place, struct cord_origin *runs, size_t room, size_t *count);
 
 /* Writes bytes of that text from a place on into out, as read(2) does: as many as cord_locate tells there, or len where that is less; none
  * at the text's end and past it, and of no revision. A loop that adds up *count until it is 0 reads to the end. Sources are as in cord_fetch.

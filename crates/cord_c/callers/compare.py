@@ -2,7 +2,7 @@
 """Compares the library, by cordkit.py, and programs over it, with what has to be answered: the worked images, images that chance makes
 (tests/made_images.py) and damaged ones. Each line is that of the second checker, bin/cordkit-verify; each text of an accepted image is what the
 commands give on plain bytes; each byte is where it is said to stand, up to the end of its leaf's span, and was brought by the revision that it is
-said to be of.
+said to be of, asked for alone or with those behind it.
 
 Usage: compare.py [IMAGES [PROGRAM [CHECK SHOW]...]]: the built cordkit, where PROGRAM names it, and each pair of callers, as check_c and show_c, are
 asked for each line, with its status, and for the newest text of each accepted image. The last line is 'N passed, M failed'.
@@ -11,9 +11,11 @@ asked for each line, with its status, and for the newest text of each accepted i
 import multiprocessing
 import os
 import random
+import struct
 import subprocess
 import sys
 import tempfile
+import time
 
 HERE = os.path.dirname(os.path.abspath(__file__))
 TOP = os.path.dirname(os.path.dirname(os.path.dirname(HERE)))
@@ -28,6 +30,9 @@ import cordkit  # noqa: E402
 
 LONGEST_SHOWN = 1 << 16
 PLACES_OF_A_TEXT = 100
+RUNS_OF_A_TEXT = 2000
+FAR_BACK = 200_000
+SECONDS_BACK = 5
 IMAGES_OF_A_SEED = 21
 
 
@@ -133,6 +138,9 @@ def image_fault(image, data, sources, texts, origins):
                 fault = origin_fault(opened, texts, origins, k, place)
             if fault:
                 return fault
+        fault = runs_fault(opened, k, len(text))
+        if fault:
+            return fault
     return lengths_fault(image, data, sources, texts)
 
 
@@ -147,6 +155,21 @@ def origin_fault(opened, texts, origins, k, place):
         return f"byte {place} of revision {k} has {found!r}, and is of {origins[k][place]}"
     if texts[k][run] != texts[found.revision][there]:
         return f"byte {place} of revision {k} has {found!r}, where other bytes stood"
+    return None
+
+
+def runs_fault(opened, k, size):
+    """What is wrong with the runs that rooms of several sizes are filled with, or nothing: each is what is told of its first byte alone."""
+    if size > RUNS_OF_A_TEXT:
+        return None
+    wanted, place = [], 0
+    while place < size:
+        wanted.append(repr(opened.blame(k, place)))
+        place += opened.blame(k, place).len
+    for room in (1, 2, 3, 7, 64, 4096):
+        told = [repr(run) for run in opened.origins(k, 0, room)]
+        if told != wanted:
+            return f"revision {k} has other runs in a room of {room}: {told[:8]}, and not {wanted[:8]}"
     return None
 
 
@@ -223,6 +246,27 @@ def batch(given):
     return count, accepted, faults
 
 
+def gone_back(times):
+    """The image of `abc`, gone back to so many times, each time to the revision before."""
+    header = b"CORDSESS" + struct.pack(">6IQ", 1, 0, 1, times + 2, times + 1, 0, 3)
+    node = struct.pack(">B11xI16x", 1, 3)
+    none = (0, 0, 0, 0)
+    texts = [(1, 0, 0xFFFFFFFF, 0, 0, *none, 0), (3, 1, 0, 0, 0, 0, 0, 0, 3, 1)] + [(10, 1, 0, k, 0, *none, 1) for k in range(1, times + 1)]
+    revisions = [struct.pack(">BBHIIIQQQQII", code, mark, 0, root, r, q, p, m, a, n, rows, 0) for code, mark, root, r, q, p, m, a, n, rows in texts]
+    rows = [struct.pack(">B11xIQ", 2, 3, 0)] + [struct.pack(">B11xIQ", 1, 3, 0)] * times
+    return b"".join([header, node, *revisions, *rows, b"abc"])
+
+
+def far_fault():
+    """What is wrong with origins far back, or nothing: a walk that goes through all records before each text anew takes minutes."""
+    opened = cordkit.Image(gone_back(FAR_BACK))
+    start, last = time.monotonic(), FAR_BACK + 1
+    found = [repr(run) for run in (opened.blame(last, 0), *opened.origins(last))]
+    wanted = "Origin(revision=1, kind=1, source=0, byte=0, place=0, start=0, len=3)"
+    took = time.monotonic() - start
+    return None if found == [wanted, wanted] and took < SECONDS_BACK else f"{found} far back, in {took} s"
+
+
 def main():
     images = int(sys.argv[1]) if len(sys.argv) > 1 else 2100
     program, callers = sys.argv[2] if len(sys.argv) > 2 else "", sys.argv[3:]
@@ -236,6 +280,10 @@ def main():
             count, accepted, failed = count + came, accepted + good, failed + len(faults)
             for fault in faults:
                 print(fault)
+    fault = far_fault()
+    count, failed = count + 1, failed + (fault is not None)
+    if fault:
+        print(fault)
     print(f"{accepted} of {count} images are accepted, with each text, place and origin; {len(programs)} programs besides")
     print(f"{count - failed} passed, {failed} failed")
     return failed != 0

@@ -30,6 +30,7 @@ mod sys {
         pub fn cord_fetch(image: *const Image, sources: *const Source, count: usize, revision: u32, place: u64, byte: *mut u8) -> u32;
         pub fn cord_locate(image: *const Image, revision: u32, place: u64, run: *mut Run) -> bool;
         pub fn cord_origin(image: *const Image, revision: u32, place: u64, origin: *mut Origin) -> bool;
+        pub fn cord_origins(image: *const Image, revision: u32, place: u64, runs: *mut Origin, room: usize, count: *mut usize) -> bool;
         pub fn cord_read(image: *const Image, sources: *const Source, count: usize, revision: u32, place: u64, out: *mut u8, len: usize, got: *mut usize) -> u32;
     }
 }
@@ -175,10 +176,17 @@ impl<'a> Image<'a> {
         unsafe { sys::cord_locate(&self.image, revision, place, &mut run) }.then_some(run)
     }
 
-    /// Where the byte at a place of that text comes from, and for how many bytes that goes on at least.
+    /// Where the byte at a place of that text comes from, and how many bytes from it on came in together with it.
     pub fn origin(&self, revision: u32, place: u64) -> Option<Origin> {
         let mut origin = Origin::default();
         unsafe { sys::cord_origin(&self.image, revision, place, &mut origin) }.then_some(origin)
+    }
+
+    /// The same of the bytes from a place on, run by run: how many were told, to the text's end, or so many that they fill half of the room or
+    /// more; `None` where there is no such place.
+    pub fn origins(&self, revision: u32, place: u64, runs: &mut [Origin]) -> Option<usize> {
+        let mut count = 0;
+        unsafe { sys::cord_origins(&self.image, revision, place, runs.as_mut_ptr(), runs.len(), &mut count) }.then_some(count)
     }
 
     /// Writes bytes of that text from a place on, to the end of the run there, and answers how many.

@@ -7,6 +7,7 @@
     image.locate(12, 40)                                 # where byte 40 of it stands: pool, source and place, or function
     image.origin(12, 40)                                 # the revision whose command brought it
     image.blame(12, 40)                                  # that, its place there, what it is, and for how many bytes on
+    image.origins(12)                                    # the same of all its bytes, run by run
 
 A source is a path, or bytes, or a number: a length, where no byte of it is held. An image that the editor wrote needs no more to be
 checked and located in. Check, texts, places and origins are the library's, and proved there; this file is tested.
@@ -15,7 +16,7 @@ checked and located in. Check, texts, places and origins are the library's, and 
 import ctypes
 import os
 import struct
-from typing import Iterable, List, NamedTuple, Optional, Tuple, Union
+from typing import Iterable, Iterator, List, NamedTuple, Optional, Tuple, Union
 
 Source = Union[str, "os.PathLike[str]", bytes, int]
 
@@ -128,6 +129,7 @@ def _loaded() -> ctypes.CDLL:
         ("fetch", u32, [pointer, pointer, size, u32, u64, pointer]),
         ("locate", ctypes.c_bool, [pointer, u32, u64, pointer]),
         ("origin", ctypes.c_bool, [pointer, u32, u64, pointer]),
+        ("origins", ctypes.c_bool, [pointer, u32, u64, pointer, size, pointer]),
         ("read", u32, [pointer, pointer, size, u32, u64, pointer, size, pointer]),
     ]:
         call = getattr(library, "cord_" + name)
@@ -246,11 +248,21 @@ class Image:
         return self.blame(k, i).revision
 
     def blame(self, k: int, i: int) -> Origin:
-        """Where byte i of the text of revision k comes from, and for how many bytes that goes on at least."""
+        """Where byte i of the text of revision k comes from, and how many bytes from it on came in together with it."""
         self._try_place(k, i)
         found = Origin()
         _library.cord_origin(ctypes.byref(self._image), k, i, ctypes.byref(found))
         return found
+
+    def origins(self, k: int, start: int = 0, room: int = 4096) -> Iterator[Origin]:
+        """Where the bytes of the text of revision k from start on come from: as blame of the first, and then of each one behind the last run. They
+        are asked for so many at a time."""
+        length, count = self.length(k), ctypes.c_size_t()
+        while start < length:
+            runs = (Origin * room)()
+            _library.cord_origins(ctypes.byref(self._image), k, start, runs, room, ctypes.byref(count))
+            yield from runs[: count.value]
+            start += sum(run.len for run in runs[: count.value])
 
     def _try_place(self, k: int, i: int) -> None:
         if not 0 <= i < self.length(k):

@@ -2,3 +2,4 @@ mod HeldLemmas
 mod CheckedImages
 mod ToldBytes
 mod RunLaws
+mod WaitingStretches

@@ -4,3 +4,4 @@ pub mod Answers
 pub mod Opened
 pub mod Runs
 pub mod ToldOrigins
+pub mod OriginRooms

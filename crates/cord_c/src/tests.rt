@@ -5,6 +5,7 @@ use crate::held_sources::CordSource;
 use crate::open::{CordImage, cord_open};
 use crate::origins::{CordOrigin, cord_origin};
 use crate::run::{CordRun, POOLED, SOURCED};
+use crate::telling::cord_origins;
 use crate::text::{
     NO_PLACE, NOT_HELD, READ, cord_counts, cord_fetch, cord_locate, cord_read, cord_text_len,
 };
@@ -22,6 +23,27 @@ const ONE_INSERT: &[u8] = b"CORDSESS\0\0\0\x01\0\0\0\0\0\0\0\x01\0\0\0\x02\
     \0\0\0\0\0\0\0\0\0\0\0\0\0\0\0\0\0\0\0\0\0\0\0\x03\
     \0\0\0\x01\0\0\0\0\
     \x02\0\0\0\0\0\0\0\0\0\0\0\0\0\0\x03\0\0\0\0\0\0\0\0\
+    abc";
+
+/// `ab`, and `c` put in between: its header, six nodes, three revisions, four rows and pool.
+const BETWEEN: &[u8] = b"CORDSESS\0\0\0\x01\0\0\0\0\0\0\0\x06\
+    \0\0\0\x03\0\0\0\x04\0\0\0\0\0\0\0\0\0\0\0\x03\
+    \x01\0\0\0\0\0\0\0\0\0\0\0\0\0\0\x02\0\0\0\0\0\0\0\0\0\0\0\0\0\0\0\0\
+    \x01\0\0\0\0\0\0\0\0\0\0\0\0\0\0\x01\0\0\0\0\0\0\0\0\0\0\0\0\0\0\0\0\
+    \x01\0\0\0\0\0\0\0\0\0\0\0\0\0\0\x01\0\0\0\0\0\0\0\x02\0\0\0\0\0\0\0\0\
+    \x04\x01\0\0\0\0\0\x01\0\0\0\0\0\0\0\x02\0\0\0\x02\0\0\0\0\0\0\0\0\0\0\0\0\
+    \x01\0\0\0\0\0\0\0\0\0\0\0\0\0\0\x01\0\0\0\0\0\0\0\x01\0\0\0\0\0\0\0\0\
+    \x04\x02\0\0\0\0\0\x03\0\0\0\0\0\0\0\x03\0\0\0\x04\0\0\0\0\0\0\0\0\0\0\0\0\
+    \x01\0\0\0\xff\xff\xff\xff\0\0\0\0\0\0\0\0\0\0\0\0\0\0\0\0\0\0\0\0\
+    \0\0\0\0\0\0\0\0\0\0\0\0\0\0\0\0\0\0\0\0\0\0\0\0\0\0\0\0\
+    \x03\0\0\0\0\0\0\0\0\0\0\0\0\0\0\0\0\0\0\0\0\0\0\0\0\0\0\0\
+    \0\0\0\0\0\0\0\0\0\0\0\0\0\0\0\0\0\0\0\x02\0\0\0\x01\0\0\0\0\
+    \x03\0\0\0\0\0\0\x05\0\0\0\x01\0\0\0\0\0\0\0\0\0\0\0\x01\0\0\0\0\
+    \0\0\0\0\0\0\0\0\0\0\0\x02\0\0\0\0\0\0\0\x01\0\0\0\x03\0\0\0\0\
+    \x02\0\0\0\0\0\0\0\0\0\0\0\0\0\0\x02\0\0\0\0\0\0\0\0\
+    \x02\0\0\0\0\0\0\0\0\0\0\0\0\0\0\x01\0\0\0\0\0\0\0\0\
+    \x02\0\0\0\0\0\0\0\0\0\0\0\0\0\0\x01\0\0\0\0\0\0\0\0\
+    \x02\0\0\0\0\0\0\0\0\0\0\0\0\0\0\x01\0\0\0\0\0\0\0\0\
     abc";
 
 /// A source of 3 bytes, opened, whose bytes a row compares: its header, source, node, revision and row.
@@ -125,6 +147,39 @@ fn bytes_are_told_by_the_revision_that_put_them_in(rt: HostRuntime) {
         len: 2,
     };
     assert_eq!(rt; at, wanted);
+}
+
+/// A byte of the pool that a revision put in.
+const fn pooled(revision: u32, place: u64, start: u64) -> CordOrigin {
+    CordOrigin {
+        revision,
+        kind: POOLED,
+        source: 0,
+        byte: 0,
+        place,
+        start,
+        len: 1,
+    }
+}
+
+#[test]
+fn origins_are_told_one_behind_the_other(rt: HostRuntime) {
+    let mut found = verdict(9, 9, 9, 9, 9);
+    let image = CordImage::open(BETWEEN, &[], &mut found).expect(&rt, "it is accepted");
+    let none = pooled(9, 9, 9);
+    let wanted = [pooled(1, 0, 0), pooled(2, 1, 2), pooled(1, 1, 1)];
+    let (mut many, mut two, mut count) = ([none; 5], [none; 2], 9);
+    assert!(rt; cord_origins(&image, 2, 0, &mut many, &mut count));
+    assert_eq!(rt; (count, [many[0], many[1], many[2]]), (3, wanted));
+    assert!(rt; cord_origins(&image, 2, 1, &mut two, &mut count));
+    assert_eq!(rt; (count, two), (2, [wanted[1], wanted[2]]));
+    assert!(rt; cord_origins(&image, 2, 0, &mut two, &mut count));
+    assert_eq!(rt; (count, two), (2, [wanted[0], wanted[1]]));
+    assert!(rt; cord_origins(&image, 2, 0, &mut [], &mut count));
+    assert_eq!(rt; count, 0);
+    assert!(rt; !cord_origins(&image, 2, 3, &mut two, &mut count));
+    assert!(rt; !cord_origins(&image, 3, 0, &mut two, &mut count));
+    assert_eq!(rt; (count, two), (0, [wanted[0], wanted[1]]));
 }
 
 #[test]
