@@ -1,9 +1,10 @@
 #!/bin/sh
 # Times `blame` of the last text, beside the check of the same image and the `apply` of its script, in one run: the least of five by turns, in
 # milliseconds, and the most memory that each held, where /usr/bin/time is installed. The sessions: keys at one place of an empty text, a day of editing,
-# ten bytes anywhere in a megabyte, `many` of 4,096 places, and 2,000 single bytes. The day is made by chance: keys in a row at a place near the last one,
-# a byte in ten erased, a paste and an undo now and then. COUNT is how many commands there are, 20,000 where it is not given; of keys at one place ten
-# times as many.
+# ten bytes anywhere in a megabyte, `many` of 4,096 places, 2,000 single bytes, one old text again and again with a `many` behind it, and single bytes in
+# an old text that is gone back to behind keys. The day is made by chance: keys in a row at a place near the last one, a byte in ten erased, a paste and an
+# undo now and then. COUNT is how many commands there are, 20,000 where it is not given; of keys at one place ten times as many, 25 times before an old text
+# is gone back to, and of `back` 50 times.
 # blame.sh [COUNT]
 set -eu
 cd "$(dirname "$0")/.."
@@ -72,3 +73,16 @@ awk 'BEGIN { print "open 0"; for (k = 0; k < 50; k++) { printf "many %d", k; for
 measure 'many of 4,096' megabyte
 awk 'BEGIN { srand(3); print "open 0"; for (k = 0; k < 2000; k++) printf "insert %d %d \"x\"\n", k, int(rand() * (1048576 + k)) }' > script
 measure '2,000 single bytes' megabyte
+awk -v n="$((50 * count))" 'BEGIN {
+    print "new"; printf "insert 0 0 \""; for (j = 0; j < 65536; j++) printf "a"; print "\""
+    for (k = 0; k < n; k++) print "back 1"
+    printf "many %d", n + 1; for (j = 0; j < 4096; j++) printf " %d 1 \"x\"", 16 * j; print ""
+}' > script
+measure 'an old text again and again, and many'
+awk -v n="$((25 * count))" -v m="$((count / 10))" 'BEGIN {
+    srand(5); print "open 0"
+    for (k = 0; k < n; k++) printf "insert %d %d \"%c\"\n", k, 500000 + k, 97 + k % 26
+    print "back 0"
+    for (k = 0; k < m; k++) printf "insert %d %d \"x\"\n", n + 1 + k, int(rand() * (1048576 + k))
+}' > script
+measure 'an old text behind keys' megabyte

@@ -164,6 +164,7 @@ first() {
 blame() {
     names='200,000 keys at one place;a day of editing, 20,000 commands in a megabyte;20,000 times ten bytes anywhere in a megabyte'
     names="$names;\`many\` of 4,096 places, 50 times;2,000 single bytes in a megabyte"
+    names="$names;1,000,000 times \`back\` to 64 kB, and \`many\` of 4,096 places;500,000 keys, \`back\` to the old megabyte, and 2,000 single bytes"
     rows '
         / runs$/ { runs = $(NF - 1) }
         /^  check/ { check = $2; of_check = $3 }

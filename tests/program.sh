@@ -154,6 +154,9 @@ changes() { printf '\nmany 1' && seq 0 "$1" | awk '{ printf " %d 1 \"b\"", $1 * 
 { printf 'new\ninsert 0 0 "' && head -c 800 most_bytes && printf '"' && changes 399; } > script_of_changes
 "$program" apply script_of_changes > second_bytes
 seq 0 399 | awk '{ printf "%d 1 2 %d many 1 \"b\"\n%d 1 1 %d insert 0 0 \"a\"\n", 2 * $1, 2 * $1, 2 * $1 + 1, 2 * $1 + 1 }' > second_bytes_blamed
+# One text gone back to from revision to revision: a walk that goes through all records before each text anew takes more than a minute.
+seq 1 500000 | awk 'BEGIN { print "new\ninsert 0 0 \"ab\"" } { print "back " $1 }' > script_of_backs
+"$program" apply script_of_backs > gone_back
 printf 'open 0\njoin 0 0\n' > script_of_a_double
 seq 0 4999 | awk 'BEGIN { print "new" } { print "insert " $1 " 0 \"x\"" }' > script_of_5000
 { printf 'CORDSESS\0\0\0\2' && head -c 28 /dev/zero; } > no_revisions_in_two
@@ -664,6 +667,7 @@ a source shows no bytes;blame bytes_row_over_a_source 0 abc;;0;0 3 0 0 open 0\n;
 an empty text comes from nowhere;blame new_alone 0;;0;;
 no byte of a text;blame --count 0 one_insert 1;;0;;
 each second byte is of another command;blame second_bytes 2;;0;@second_bytes_blamed;
+bytes that half a million revisions went back to;blame gone_back 500001;;0;0 2 1 0 insert 0 0 "ab"\n;
 a place past the end of a text;blame --start 3 one_insert 1;;0;;
 a revision that is not there to blame;blame one_insert 2;;1;;refused no revision\n
 bytes are not told past the limit;blame --at-most 136 one_insert 1;;1;;refused looks 137\n
