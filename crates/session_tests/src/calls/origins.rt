@@ -14,19 +14,6 @@ use std::process::Abort;
 /// A run's place and length, the revision that brought it, and its place there.
 type Told = (u64, u64, u32, u64);
 
-/// Adds a run: to the last one, where that goes on in it.
-fn add<A: AllocGlobal + Abort>(rt: &A, runs: &mut Vec<OriginRun>, run: OriginRun) {
-    if let Some(last) = runs.pop() {
-        if last.goes_on(&run) {
-            let len = last.len.saturating_add(run.len);
-            runs.push(OriginRun { len, ..last }).expect(rt, "memory");
-            return;
-        }
-        runs.push(last).expect(rt, "memory");
-    }
-    runs.push(run).expect(rt, "memory");
-}
-
 /// The longest runs of `count` bytes of text `k` from `start` on, which are few.
 fn runs<A: AllocGlobal + Abort>(
     rt: &A,
@@ -42,7 +29,7 @@ fn runs<A: AllocGlobal + Abort>(
         let Some(run) = left.next().expect(rt, "memory") else {
             return runs;
         };
-        add(rt, &mut runs, run);
+        runs.push(run).expect(rt, "memory");
     }
     panic!(rt; "there are more runs than were made")
 }
