@@ -42,6 +42,10 @@ pub(crate) fn lowered(image: &Checked, k: u32, first: u32, j: u32) -> u32
     requires first { first ≡ splices_before image.now k }
     ensures { result ≡ splices_before image.now j }
 {
+    // The revisions before it are counted where they are fewer than those between the two.
+    if j < k - j {
+        return splices_before(image, j);
+    }
     let mut at = k;
     let mut left = first;
     while at > j {
