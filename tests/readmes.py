@@ -83,7 +83,7 @@ def faults_of_row(crates, crate, call_cell, clause_cell):
         return
     if "/" in names[0]:
         text = "\n".join(lines_of(f"crates/{crate}/{names[0]}")) if is_there("crates", crate, names[0]) else ""
-        laws = re.findall(r"^pub (?:fn )?([^\s:(]+)", text, re.M)
+        laws = re.findall(r"^pub (?:fn )?([^\s:(<]+)", text, re.M)
         yield from (f"`{name}` is no law of {names[0]}" for name in clauses if name not in laws)
         return
     carry, owner = set(), None

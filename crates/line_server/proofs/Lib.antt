@@ -1,0 +1,6 @@
+mod Lines
+mod Batches
+mod Runs
+mod Cuts
+mod Journals
+pub mod Seen
