@@ -64,7 +64,8 @@ impl Room {
 
     /// Puts the answer behind the others, and the line, where it is to be kept: all of that or nothing.
     pub(crate) fn gather(&mut self, is_kept: bool) -> Result<(), ServeFault>
-        ensures kept { OnOk result (self.new.kept.items ≡ self.old.kept.items ++ kept_line is_kept self.old.line.items) }
+        ensures kept { OnOk result
+            (self.new.kept.items ≡ self.old.kept.items ++ kept_line is_kept self.old.line.items) }
         ensures told { OnOk result (self.new.told.items ≡ self.old.told.items ++ ended self.old.answer.items) }
         ensures none_kept { OnErr result (self.new.kept.items ≡ self.old.kept.items) }
         ensures none_told { OnErr result (self.new.told.items ≡ self.old.told.items) }

@@ -25,7 +25,7 @@ fn has_line<R: Read>(requests: &BufReader<R>) -> bool {
     memchr(b'\n', requests.buffer()).is_some()
 }
 
-/// TakesNext a line, waiting for it, and then those that are in hand.
+/// Takes a line, waiting for it, and then those that are in hand.
 #[tactic(auto, using(crate::proofs::Batches::batch_none))]
 fn take_batch<T: TakesLines, R: Read>(
     taker: &mut T,
@@ -88,7 +88,8 @@ fn keep_and_tell<J: io::Write, W: io::Write>(
     tell(answers, told)
 }
 
-/// TakesNext the lines that are in hand together, keeps what is to be kept of them by one write, and tells their answers by one.
+/// Takes the lines that are in hand together, keeps what is to be kept of them by one write, and tells
+/// their answers by one.
 fn serve_batch<T: TakesLines, R: Read, J: io::Write, W: io::Write>(
     taker: &mut T,
     requests: &mut BufReader<R>,
@@ -109,15 +110,15 @@ fn serve_batch<T: TakesLines, R: Read, J: io::Write, W: io::Write>(
     }
 }
 
-/// TakesNext lines, one after the other, up to one that ends the run, or to the end of the input. What is to be kept of those
-/// that are in hand together is kept, each line with its end, before the first of them is answered. The line that ended
-/// the run stands in the room then.
+/// Takes lines, one after the other, up to one that ends the run, or to the end of the input. What is to be kept of
+/// those that are in hand together is kept, each line with its end, before the first of them is answered. The line that
+/// ended the run stands in the room then.
 ///
 /// # Errors
 ///
-/// `Read`, where no line could be read, and `Memory`: every line that was taken is kept and answered. `Keep`, where lines
-/// were taken and not kept to their end, and `Write`, where their answers were not told to their end: every line before
-/// them was kept and answered.
+/// `Read`, where no line could be read, and `Memory`: every line that was taken is kept and answered. `Keep`, where
+/// lines were taken and not kept to their end, and `Write`, where their answers were not told to their end: every line
+/// before them was kept and answered.
 #[tactic(auto, using(crate::proofs::Runs::serving_none, crate::proofs::Runs::unended))]
 pub fn serve<T: TakesLines, R: Read, J: io::Write, W: io::Write>(
     taker: &mut T,

@@ -24,7 +24,7 @@ pub trait TakesLines {
     /// The lines that end a run.
     ghost ends: { List ℕ → Type 0 };
 
-    /// TakesNext a line, and puts its answer into room that is empty.
+    /// Takes a line, and puts its answer into room that is empty.
     fn take(&mut self, line: &[u8], answer: &mut Vec<u8>) -> Result<Next, AllocError>
         requires { answer.now.items ≡ [] }
         ensures { IfOk result (λ next. TakesNext step ends self.old line.now next answer.new.items self.new) };

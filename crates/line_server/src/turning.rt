@@ -11,11 +11,11 @@ use crate::room::Room;
 use crate::taking::{Next, TakesLines};
 use std::io::BufRead;
 
-/// Has the line taken that stands in the room, and puts its answer there. Answers whether it is to be kept, where it does
-/// not end the run.
+/// Has the line taken that stands in the room, and puts its answer there. Answers whether it is
+/// to be kept, where it does not end the run.
 fn take_line<T: TakesLines>(taker: &mut T, room: &mut Room) -> Result<Option<bool>, ServeFault>
-    ensures taken { IfOk result (λ kept. TakesOrEnds T.step T.ends taker.old room.old.line.items kept room.new.answer.items
-        taker.new) }
+    ensures taken { IfOk result (λ kept. TakesOrEnds T.step T.ends taker.old room.old.line.items kept
+        room.new.answer.items taker.new) }
     ensures line { room.new.line.items ≡ room.old.line.items }
     ensures kept { room.new.kept.items ≡ room.old.kept.items }
     ensures told { room.new.told.items ≡ room.old.told.items }
@@ -35,8 +35,8 @@ pub(crate) fn turn<T: TakesLines, R: BufRead>(
     requests: &mut R,
     room: &mut Room,
 ) -> Result<Option<End>, ServeFault>
-    ensures { IsLineTurn T.step T.ends taker.old (R.remaining requests.old) room.old.kept.items room.old.told.items result
-        taker.new (R.remaining requests.new) room.new.kept.items room.new.told.items }
+    ensures { IsLineTurn T.step T.ends taker.old (R.remaining requests.old) room.old.kept.items room.old.told.items
+        result taker.new (R.remaining requests.new) room.new.kept.items room.new.told.items }
 {
     if !read_line(requests, &mut room.line)? {
         return Ok(Some(End::Input));
