@@ -66,7 +66,12 @@ impl Stretch {
     pub fn earlier(self, image: &Checked, j: u32, place: u64, n: u64) -> Stretch
         requires stretch { IsStretch image.now self }
         requires earlier { j < self.revision }
-        ensures { result ≡ record { revision = j; place = place; len = min self.len n; first = splices_before image.now j } }
+        ensures { result ≡ record {
+          revision = j;
+          place = place;
+          len = min self.len n;
+          first = splices_before image.now j;
+        } }
     {
         Stretch {
             revision: j,
