@@ -15,7 +15,8 @@
 # make refuse    refuses each allocation of the tests' runs and of the program's in turn, and fails its reads and writes by real devices
 # make crate NAME=.. DEPS=".."  makes the folders and files of a new crate, and its line in crates.txt
 # make callers IMAGES=2100  builds the C library and its callers in C, Rust and Python, and compares their answers with each other and the program's
-# make wasm      builds the C library as WebAssembly, for examples/check.html, and tries it in node and in chromium, where these are installed
+# make wasm      builds the C library as WebAssembly, and history.html with it, and tries them in node and in chromium, where these are installed
+# make page      builds history.html anew, of the files in page/ and of that module
 # make memcheck  runs the tests of ropes under valgrind's memcheck, where it is installed
 # make install PREFIX=/usr/local [DESTDIR=..] [PROGRAM=..] [LIBRARY=..]  installs the program that `make run` built, or another, with scripts, man pages
 #                and completions, and the C library, its header and the Python module, where `make library` built them
@@ -23,7 +24,7 @@
 # make deb       makes a package for Debian of what `make run` and `make library` built, or of PROGRAM=.. and LIBRARY=.., in the folder out
 # make installed tries all three in folders of their own, over what is built, or PROGRAM=.. and LIBRARY=..
 
-.PHONY: try run library check long hostile fuzz audit bench figures speed instructions refuse callers wasm memcheck crate install uninstall deb installed
+.PHONY: try run library check long hostile fuzz audit bench figures speed instructions refuse callers wasm page memcheck crate install uninstall deb installed
 
 IMAGE = crates/cordkit/stdin
 MINUTES = 10
@@ -97,6 +98,9 @@ callers: library
 
 wasm:
 	sh crates/cord_c/wasm.sh
+
+page:
+	python3 page/pack.py crates/cord_c/out/cord_c.wasm crates/cord_c/out/history.html
 
 memcheck:
 	sh tests/memcheck.sh

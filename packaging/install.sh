@@ -41,6 +41,7 @@ files="755 lib/cordkit/cordkit $program
 755 bin/cordkit bin/cordkit
 755 bin/cordedit bin/cordedit
 755 bin/cordkit-verify bin/cordkit-verify
+755 bin/cordkit-page bin/cordkit-page
 644 share/man/man1/cordkit.1 man/cordkit.1
 644 share/man/man1/cordedit.1 man/cordedit.1
 644 share/man/man1/cordkit-verify.1 man/cordkit-verify.1
@@ -73,13 +74,15 @@ python_files="644 lib/cordkit/python/cordkit/__init__.py crates/cord_c/callers/c
 644 lib/cordkit/python/cordkit/libcord_c.so $shared
 755 share/doc/cordkit/examples/check_many.py examples/check_many.py"
 
-# Adds the files that need a library, or tells that it is not there.
+page_files="644 share/cordkit/history.html crates/cord_c/out/history.html"
+
+# Adds the files that need something else that is built, or tells that it is not there.
 add() {
     if [ -f "$2" ]; then
         files="$files
 $3"
     else
-        echo "LEFT OUT: $1: there is no $2: make library builds it"
+        echo "LEFT OUT: $1: there is no $2: make ${4:-library} builds it"
     fi
 }
 
@@ -101,6 +104,7 @@ put_all() {
     fi
     add 'the C library' "$library" "$c_files"
     add 'the Python module' "$shared" "$python_files"
+    add 'the page' crates/cord_c/out/history.html "$page_files" wasm
     made=$(printf '%s\n' "$files" "644 share/man/man7/page" | while read -r mode place source; do make_folder "$(dirname "$place")"; done)
     if [ -n "$made" ]; then
         echo "$made" >> "$noted"
@@ -124,7 +128,7 @@ take_all_away() {
     if [ -f "$noted" ]; then
         made=$(sed '1!G; h; $!d' "$noted")
     fi
-    printf '%s\n' "$files" "$c_files" "$python_files" | while read -r mode place source; do
+    printf '%s\n' "$files" "$c_files" "$python_files" "$page_files" | while read -r mode place source; do
         rm -f "$root/$place"
     done
     echo "$pages" | while read -r name source; do

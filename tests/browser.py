@@ -1,22 +1,23 @@
 #!/usr/bin/env python3
-"""Opens examples/check.html in a browser without a window, drops and selects images there, and compares what the page says with the tables of
-tests/vectors, and with the second checker over images that chance makes; and the texts that it shows. The checker there is the library as WebAssembly,
-which `make wasm` builds. Where there is no chromium nothing is tried, which is told.
+"""Opens history.html in a browser without a window, from the disk, drops and selects images there, and compares what the page says with the tables of
+tests/vectors, and with the second checker over images that chance makes; the texts that it shows, and where it says that their bytes come from. Then
+pages that bin/cordkit-page wrote: of a session with times, of hostile texts, names and times, and one that was changed afterwards. The checker there is
+the library as WebAssembly: `make wasm` builds it, and the page. Where there is no chromium nothing is tried, which is told.
 
 Usage: browser.py [IMAGES]: so many images of chance (42 if left out). The last line is 'N passed, M failed'.
 """
 
-import functools
-import http.server
+import base64
 import itertools
 import json
 import os
 import random
+import re
 import shutil
+import struct
 import subprocess
 import sys
 import tempfile
-import threading
 import time
 
 from damaged_images import damaged
@@ -24,7 +25,8 @@ from made_images import made
 from second_checker import TOP, verify
 from worked_images import worked
 
-MODULE = os.path.join(TOP, "crates/cord_c/out/cord_c.wasm")
+PAGE = os.path.join(TOP, "crates/cord_c/out/history.html")
+WRITER = os.path.join(TOP, "bin/cordkit-page")
 NAMES = ["chromium", "chromium-browser", "google-chrome"]
 IMAGES_OF_A_SEED = 21
 LONGEST_SHOWN = 1 << 16
@@ -93,12 +95,45 @@ TOLD = """new Promise((done, fail) => {
   const end = performance.now() + 60000;
   const look = () => {
     const text = document.getElementById("told").textContent;
-    if (text !== "" && !text.startsWith("loading")) done(text);
+    if (text !== "" && !/^loading|: (reading|checking)/.test(text)) done(text);
     else if (performance.now() > end) fail(new Error("no answer"));
     else setTimeout(look, 5);
   };
   look();
 })"""
+
+
+# What the page lays out of a revision's text, once it has gone there.
+LAID = """new Promise((done, fail) => {
+  const at = (id) => document.getElementById(id);
+  const end = performance.now() + 60000;
+  window.print = () => done(at("text").textContent);
+  at("controls").checked = true;
+  at("controls").dispatchEvent(new Event("change"));
+  at("revision").value = %d;
+  at("revision").dispatchEvent(new Event("change"));
+  const look = () => {
+    if (at("command").textContent.startsWith(at("revision").value + ": ")) at("print").click();
+    else if (performance.now() > end) fail(new Error("no revision"));
+    else setTimeout(look, 5);
+  };
+  setTimeout(look, 20);
+})"""
+
+
+def laid(text):
+    """Bytes as the page shows them, with marks for tabs, returns and line ends: UTF-8 as text, other bytes as \\xNN, control bytes as pictures."""
+    told = ""
+    for piece in re.findall("[\udc80-\udcff]|[^\udc80-\udcff]", text.decode("utf-8", "surrogateescape")):
+        if "\udc80" <= piece <= "\udcff":
+            told += "\\x%02x" % (ord(piece) - 0xdc00)
+        elif piece == "\t":
+            told += "\u2192\t"
+        elif piece < " ":
+            told += chr(0x2400 + ord(piece))
+        else:
+            told += "\u2421" if piece == "\x7f" else piece
+    return told
 
 
 class Page:
@@ -137,9 +172,8 @@ class Page:
         return self.browser.value(TOLD).split("\n")[0].partition(": ")[2]
 
     def shown(self, revision):
-        """The text that it shows of a revision."""
-        self.browser.value("document.getElementById('revision').value = %d; document.getElementById('show').click()" % revision)
-        return self.browser.value("document.getElementById('text').textContent")
+        """The text that it shows of a revision, as it lays all of it out for the printer."""
+        return self.browser.value(LAID % revision)
 
     def limit(self, looks):
         self.browser.value("document.getElementById('most').value = %d" % looks)
@@ -182,7 +216,7 @@ def fault_of(page, folder, number, data, sources, line):
     if told != line:
         return f"the page says {told!r} and not {line!r}"
     newest = newest_text(data, sources) if line.startswith("accepted ") else None
-    if newest and page.shown(newest[0]) != newest[1].decode(errors="replace").removeprefix("\ufeff"):
+    if newest and page.shown(newest[0]) != laid(newest[1]):
         return f"the page shows revision {newest[0]} as another text"
     return None
 
@@ -208,6 +242,115 @@ def all_faults(page, images):
     return passed, faults
 
 
+# ---- pages that hold an image
+
+
+def written_page(folder, image, sources=(), times=None, name="session.cord"):
+    """What cordkit-page writes of an image, as a file."""
+    paths = [os.path.join(folder, name), *(os.path.join(folder, f"source{k}") for k in range(len(sources)))]
+    for path, content in zip(paths, [image, *sources]):
+        with open(path, "wb") as file:
+            file.write(content)
+    words = [sys.executable, WRITER]
+    if times is not None:
+        words += ["--times", os.path.join(folder, "times")]
+        with open(words[-1], "w") as file:
+            file.write(times)
+    page = os.path.join(folder, "page.html")
+    with open(page, "wb") as file:
+        subprocess.run([*words, "--", *paths], stdout=file, check=True)
+    return page
+
+
+# What the page tells of a byte, once that is shown and its origin is known.
+CLICKED = """new Promise((done, fail) => {
+  const end = performance.now() + 60000;
+  const look = () => {
+    document.querySelector('#text [data-place="%d"]')?.click();
+    const told = document.getElementById("origin").textContent;
+    if (told.startsWith("Byte ")) done(told);
+    else if (performance.now() > end) fail(new Error("no byte"));
+    else setTimeout(look, 20);
+  };
+  look();
+})"""
+
+
+class Carried(Page):
+    """A page that holds an image, with what it says once that is checked."""
+
+    def __init__(self, browser, path):
+        self.browser = browser
+        browser.open("file://" + path)
+        end = time.monotonic() + 60
+        while not re.search("accepted|refused|is not what|had |stopped", self.said()):
+            if time.monotonic() > end:
+                raise RuntimeError("the page does not answer: " + self.said())
+            time.sleep(0.05)
+
+    def said(self):
+        return self.browser.value("document.getElementById('told')?.textContent ?? ''")
+
+    def title(self):
+        return self.browser.value("document.title")
+
+    def told_of(self, place):
+        """What it tells of the byte at a place of what it shows, when that is clicked."""
+        return self.browser.value(CLICKED % place)
+
+    def legend(self):
+        wait = "new Promise((done) => setTimeout(() => done([...document.querySelectorAll('#legend li')].map((row) => row.textContent)), 1500))"
+        return self.browser.value(wait)
+
+
+HOSTILE = b"</script><script>document.title = 'ran'</script><img src=x onerror=\"document.title = 'ran'\"><!-- \xff\x00 ]]>"
+
+
+def session_of(texts):
+    """An image whose revisions are these texts, each put into the empty text at once."""
+    pool, nodes, revisions, rows = b"", b"", struct.pack(">BBHIIIQQQQII", 1, 0, 0, 0xFFFFFFFF, 0, 0, 0, 0, 0, 0, 0, 0), b""
+    for number, text in enumerate(texts):
+        nodes += struct.pack(">BBBBIQQQ", 1, 0, 0, 0, 0, len(text), len(pool), 0)
+        revisions += struct.pack(">BBHIIIQQQQII", 3, 1, 0, number, 0, 0, 0, 0, len(pool), len(text), 1, 0)
+        rows += struct.pack(">B3xIQQ", 2, 0, len(text), 0)
+        pool += text
+    counts = struct.pack(">8s6IQ", b"CORDSESS", 2, 0, len(texts), len(texts) + 1, len(texts), 0, len(pool))
+    return counts + nodes + revisions + rows + pool
+
+
+def carried_faults(browser):
+    """How many checks of pages that hold an image pass, and what is wrong with the others."""
+    faults, passed = [], 0
+
+    def is_same(name, got, wanted):
+        nonlocal passed
+        passed += got == wanted
+        if got != wanted:
+            faults.append(f"{name}: the page says {got!r} and not {wanted!r}")
+
+    with tempfile.TemporaryDirectory() as folder:
+        image = session_of([b"typed", b"a whole paragraph that was put in at once"])
+        times = "1 2026-11-28 09:31:00\n2 2026-11-29 10:00:00\n"
+        page = Carried(browser, written_page(folder, image, times=times))
+        is_same("a page with times", page.said().split("\n")[0], "session.cord: " + verify.line(image, []))
+        is_same("its title", page.title(), "The history of session.cord")
+        is_same("a byte of it", page.told_of(0).split(";")[0], "Byte 0: put in by revision 2, 2026-11-29 10:00, at place 0 of its text")
+        is_same("its legend", page.legend()[:2], ["typed: 0 bytes, 0 %", "put in at once: 41 bytes, 100 %"])
+        is_same("the text before it", page.shown(1), "typed")
+        image = session_of([HOSTILE])
+        page = Carried(browser, written_page(folder, image, times="1 2026-11-28 09:31 </script><script>document.title='ran'</script>\n",
+                                             name="<img src=x onerror=alert(1)>.cord"))
+        is_same("hostile texts", page.shown(1), laid(HOSTILE))
+        is_same("a hostile name", page.title(), "The history of <img src=x onerror=alert(1)>.cord")
+        path = written_page(folder, session_of([b"abc"]))
+        with open(path, "rb") as file:
+            html = file.read()
+        with open(path, "wb") as file:
+            file.write(html.replace(base64.b64encode(session_of([b"abc"])), base64.b64encode(session_of([b"abd"]))))
+        is_same("a changed page", Carried(browser, path).said(), "session.cord is not what was put into this page")
+    return passed, faults
+
+
 def main():
     images = int(sys.argv[1]) if len(sys.argv) > 1 else 42
     program = next(filter(None, map(shutil.which, NAMES)), None)
@@ -215,18 +358,17 @@ def main():
         print("LEFT OUT: the page in a browser: there is no chromium here")
         print("0 passed, 0 failed")
         return 0
-    if not os.path.exists(MODULE):
-        print(f"there is no {MODULE}: make wasm builds it", file=sys.stderr)
+    if not os.path.exists(PAGE):
+        print(f"there is no {PAGE}: make wasm builds it", file=sys.stderr)
         print("0 passed, 1 failed")
         return 1
-    quiet = type("Quiet", (http.server.SimpleHTTPRequestHandler,), {"log_message": lambda *_: None})
-    server = http.server.ThreadingHTTPServer(("127.0.0.1", 0), functools.partial(quiet, directory=TOP))
-    threading.Thread(target=server.serve_forever, daemon=True).start()
     with tempfile.TemporaryDirectory(ignore_cleanup_errors=True) as folder:
         browser = Browser(program, folder)
         try:
-            page = Page(browser, f"http://127.0.0.1:{server.server_port}/examples/check.html")
+            page = Page(browser, "file://" + PAGE)
             passed, faults = all_faults(page, images)
+            carried, others = carried_faults(browser)
+            passed, faults = passed + carried, faults + others
         except RuntimeError as error:
             passed, faults = 0, [str(error)]
         finally:

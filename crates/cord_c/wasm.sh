@@ -8,10 +8,13 @@ room=$(mktemp -d)
 trap 'rm -rf "$room"' EXIT
 trap 'exit 1' HUP INT TERM
 (cd "$top" && tar -cf - --exclude=out --exclude=data crates HANDLES) | (cd "$room" && tar -xf -)
-sed 's/^cord_c staticlib:/cord_c wasm64 memory=2097152:/' "$top/crates.txt" > "$room/crates.txt"
+sed 's/^cord_c staticlib:/cord_c wasm64 memory=671088640:/' "$top/crates.txt" > "$room/crates.txt"
 (cd "$room/crates/cord_c" && rt lib > "$room/log" 2>&1) || { tail -n 30 "$room/log"; exit 1; }
 mkdir -p "$top/crates/cord_c/out"
 cp "$room/crates/cord_c/out/cord_c.wasm" "$top/crates/cord_c/out/cord_c.wasm"
+if command -v python3 > /dev/null; then
+    python3 "$top/page/pack.py" "$top/crates/cord_c/out/cord_c.wasm" "$top/crates/cord_c/out/history.html"
+fi
 grep '^logic=' "$room/log" | tail -n 1
 ls -l "$top/crates/cord_c/out/cord_c.wasm"
 
