@@ -106,6 +106,7 @@ wanted_files() {
 755 share/doc/cordkit/examples/from_git
 755 bin/cordedit
 755 bin/cordkit
+755 bin/cordkit-page
 755 bin/cordkit-verify
 755 lib/cordkit/cordkit'
     if [ -f "$library" ]; then
@@ -295,7 +296,7 @@ try_saves() {
     echo one > notes.txt
     is_same 'the installed keep_file' "$(PATH="$prefix/bin:$PATH" "$prefix/share/cordkit/keep_file" notes.txt && cut -c 1-2 notes.txt.times)" "$(printf 'committed 1\n1 ')"
     is_same 'what it refuses it names' "$(echo prose > other.txt.cord && echo two > other.txt && PATH="$prefix/bin:$PATH" "$prefix/share/cordkit/keep_file" other.txt 2>&1; echo "$?")" \
-        "$(printf 'keep_file: other.txt is not committed: refused C1(I3)\nC1(I3): other.txt.cord is no image, and stays as it is: move it away and give the same command again, or name another image\n1')"
+        "$(printf 'keep_file: other.txt is not committed: refused C1(I3)\nC1(I3): other.txt.cord is no image: it does not begin with CORDSESS. It stays as it is: move it away and give the same command again, or name another image\n1')"
     if has vim 'the installed line of vim'; then
         printf 'source %s/keep_file.vim\nsilent 1put =\"two\"\nsilent write\ncquit 0\n' "$(printf %s "$prefix/share/cordkit" | sed 's/ /\\ /g')" > edits.vim
         PATH="$prefix/bin:$PATH" vim -es -u NONE -i NONE -n -S edits.vim notes.txt < /dev/null > told 2>&1
