@@ -80,13 +80,18 @@ some_of : (o : Option (List Traced)) (n : ℕ) → option_map (λ (l : List Trac
 some_of None n e = absurd (none-some n e)
 some_of (Some xs) n e = same_Some (length xs) n e
 
+there_of : (o : Option (List Traced)) (n : ℕ) → option_map (λ (l : List Traced). length l) o ≡ Some n → (xs : List Traced) × (o ≡ Some xs)
+there_of None n e = absurd (none-some n e)
+there_of (Some xs) n e = (xs, refl)
+
 module _ (v : ImageValue) (true_records : HasTrueRecordsOf v) (rules : EachRevision v (KeepsRules v)) where
   ropes_before : (k : ℕ) → k ≤ length v.revisions → AreRopes (image_table v) (roots_before v k)
   ropes_before k le = earlier_ropes v k (λ c lt. true_records.roots c (omega (arith, lt, le)))
 
-  -- where the texts before k are as long as their roots, so is text k
-  next_long : (k : ℕ) → k < length v.revisions → map (λ (l : List Origin). length l) (take k (all_origins v)) ≡ map (rope_len (image_table v)) (roots_before v k) → length (origins_at v k) ≡ rope_len (image_table v) (revision_at v k).root
-  next_long k lt before =
+  -- where the texts before k are as long as their roots, its command gives as many things as its parts are long
+  long_result : (k : ℕ) → k < length v.revisions → map (λ (l : List Origin). length l) (take k (all_origins v)) ≡ map (rope_len (image_table v)) (roots_before v k)
+      → option_map (λ (l : List Traced). length l) (traced_result v k) ≡ Some (parts_len (parts_at v k))
+  long_result k lt before =
       let t = image_table v in
       let s = true_records.sound in
       let h = true_records.true_records in
@@ -99,11 +104,14 @@ module _ (v : ImageValue) (true_records : HasTrueRecordsOf v) (rules : EachRevis
       } in
       let joined = parts_joined t s h (roots_before v k) (command_at v k) ropes range in
       let long = length-parts_cells t s h (parts_at v k) (parts_in_range t (roots_before v k) (command_at v k) ropes range) in
-      let result : option_map (λ (l : List Traced). length l) (traced_result v k) ≡ Some (parts_len (parts_at v k)) =
-      alike ∙ ap (option_map (λ (l : List Cell). length l)) joined ∙ ap Some long in
+      alike ∙ ap (option_map (λ (l : List Cell). length l)) joined ∙ ap Some long
+
+  -- so text k is as long as its root
+  next_long : (k : ℕ) → k < length v.revisions → map (λ (l : List Origin). length l) (take k (all_origins v)) ≡ map (rope_len (image_table v)) (roots_before v k) → length (origins_at v k) ≡ rope_len (image_table v) (revision_at v k).root
+  next_long k lt before =
       ap (λ (l : List Origin). length l) (origins_step v k lt)
       ∙ length-settled (length (take k (all_origins v))) 0 (unwrap_or (traced_result v k) [])
-      ∙ some_of (traced_result v k) (parts_len (parts_at v k)) result
+      ∙ some_of (traced_result v k) (parts_len (parts_at v k)) (long_result k lt before)
       ∙ sym (rules k lt).root.1
 
   pub lens_before : (k : ℕ) → k ≤ length v.revisions → map (λ (l : List Origin). length l) (take k (all_origins v)) ≡ map (rope_len (image_table v)) (roots_before v k)
@@ -124,3 +132,7 @@ module _ (v : ImageValue) (true_records : HasTrueRecordsOf v) (rules : EachRevis
   -- each text has as many origins as its root is long
   pub as_long : EachRevision v (λ k. length (origins_at v k) ≡ rope_len (image_table v) (revision_at v k).root)
   as_long k lt = next_long k lt (lens_before k (omega (arith, lt)))
+
+  -- each command gives something
+  pub result_there : (k : ℕ) → k < length v.revisions → (xs : List Traced) × (traced_result v k ≡ Some xs)
+  result_there k lt = there_of (traced_result v k) (parts_len (parts_at v k)) (long_result k lt (lens_before k (omega (arith, lt))))

@@ -8,6 +8,7 @@ pub mod StepsTaken
 pub mod Standing
 pub mod NamedBytes
 pub mod StoodThere
+pub mod KeptOrigins
 pub mod Stretching
 pub mod JoinedRuns
 pub mod Wanted

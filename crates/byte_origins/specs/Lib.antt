@@ -1,6 +1,7 @@
 pub mod Behind
 pub mod Origins
 pub mod EarlierTexts
+pub mod KeptEnds
 pub mod StepsBack
 pub mod Stretches
 pub mod Arrivals

@@ -17,7 +17,10 @@ mod walking;
 
 pub use descent::leaf_span;
 pub use joining::Origins;
-pub use laws::{as_many_as_bytes, brought_by_its_command, names_each_byte, stood_there};
+pub use laws::{
+    as_many_as_bytes, brought_by_its_command, goes_back_whole, keeps_both_ends, names_each_byte,
+    stood_there,
+};
 pub use run::{Brought, Origin, OriginRun};
 pub use starts::next_start;
 pub use stretch::Stretch;

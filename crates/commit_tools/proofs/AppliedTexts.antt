@@ -15,7 +15,7 @@ use Rattle.rope_node.specs.Denotes.{Cell, Byte, cell_byte, rope_cells, text}
 use Rattle.function_leaf.specs.declared.coded.Coded.{Coded}
 use Rattle.node_table.specs.Held.{Held, table_of}
 use Rattle.command_parts.specs.declared.edit.Splice.{Splice}
-use Rattle.command_parts.specs.Commands.{◌>>=◌, Givens, Many, bounded, can_splice, replaced, replaced_each, result_of, with_splices}
+use Rattle.command_parts.specs.Commands.{◌>>=◌, Back, Givens, Many, bounded, can_splice, replaced, replaced_each, result_of, with_splices}
 use Rattle.command_parts.specs.Parts.{givens_of, len_of, root_at}
 use Rattle.edit_commands.specs.declared.command.Change.{Change}
 use Rattle.edit_commands.specs.declared.command.Command.{Command}
@@ -26,8 +26,8 @@ use Rattle.edit_commands.specs.Session.{SessionValue, command_of, roots_of}
 use Rattle.edit_commands.specs.Terms.{Chain, changed_terms, done, handed}
 use Rattle.edit_commands.proofs.HandedChanges.{put_bytes}
 use Rattle.commit_tools.specs.Handed.{with_handed}
-use Rattle.commit_tools.specs.Stops.{IsManyAt, IsNew}
-use Rattle.commit_tools.specs.Texts.{last_root, last_text}
+use Rattle.commit_tools.specs.Stops.{IsBackTo, IsManyAt, IsNew}
+use Rattle.commit_tools.specs.Texts.{last_root, last_text, text_in, revision_root}
 
 -- ---- what a command with splices gives
 
@@ -96,14 +96,12 @@ last_is_made old new made more =
     ∙ ap (λ (k : ℕ). get_or (map root old.revisions ++ made.root ∷ []) k None) count
     ∙ get_or_push (map root old.revisions) made.root None (length old.revisions) long
 
--- what stands at the last number is the last text
-last_cells : (v : SessionValue) (t : Table) (x : List Cell) → 1 ≤ length v.revisions → slice_get (map (rope_cells t) (roots_of v.revisions)) (length v.revisions - 1) ≡ Some x → x ≡ rope_cells t (last_root v)
-last_cells v t x some e =
-    let root : Revision → Option NodeId = λ (r : Revision). r.root in
-    let k : ℕ = length v.revisions - 1 in
-    let there : k < length (roots_of v.revisions) = omega (arith, length-map v.revisions root) in
-    some_is x (rope_cells t (last_root v))
-    (sym e ∙ slice_get-map (rope_cells t) (roots_of v.revisions) k ∙ ap (option_map (rope_cells t)) (slice_get-get_or (roots_of v.revisions) k None there))
+-- what stands at a revision's number is its text
+cells_at : (v : SessionValue) (t : Table) (x : List Cell) (r : ℕ) → r < length v.revisions → slice_get (map (rope_cells t) (roots_of v.revisions)) r ≡ Some x → x ≡ rope_cells t (revision_root v r)
+cells_at v t x r inside e =
+    let there : r < length (roots_of v.revisions) = omega (arith, inside, length-map v.revisions (λ (r : Revision). r.root)) in
+    some_is x (rope_cells t (revision_root v r))
+    (sym e ∙ slice_get-map (rope_cells t) (roots_of v.revisions) r ∙ ap (option_map (rope_cells t)) (slice_get-get_or (roots_of v.revisions) r None there))
 
 pub applied_text : (source : ℕ → ℕ → ℕ) (old new : SessionValue) (k : ℕ) (command : Command) (cs : List Change) (bs : List ℕ) → 1 ≤ length old.revisions → Applies old command k new
     → IsManyAt (length old.revisions - 1) cs bs command → sum_by (λ (c : Change). c.n) cs ≤ length bs → last_text source new ≡ with_handed (last_text source old) cs bs
@@ -119,7 +117,7 @@ applied_text source old new k (Command.Many r changes bytes) cs bs some applies 
     let gives : result_of (givens_of u) texts (Many r splices) ≡ Some (rope_cells u made.root) =
     ap (result_of (givens_of u) texts) (sym says) ∙ is.result in
     let found = many_gives (givens_of u) texts r splices (rope_cells u made.root) gives in
-    let was : found.0 ≡ rope_cells t (last_root old) = last_cells old t found.0 some (ap (slice_get texts) (sym at) ∙ found.1) in
+    let was : found.0 ≡ rope_cells t (last_root old) = cells_at old t found.0 (length old.revisions - 1) (omega (arith, some)) (ap (slice_get texts) (sym at) ∙ found.1) in
     let enough : sum_by (λ (c : Change). c.n) changes.now ≤ length bytes.now = rw (of_changes, of_bytes) fits in
     ap (λ (root : Option NodeId). text source (rope_cells u root)) (last_is_made old new made applies.revisions)
     ∙ ap (text source) (sym found.2)
@@ -128,6 +126,19 @@ applied_text source old new k (Command.Many r changes bytes) cs bs some applies 
     ∙ ap (λ (ds : List Change). with_handed (last_text source old) ds bytes.now) of_changes
     ∙ ap (with_handed (last_text source old) cs) of_bytes
 applied_text source old new k command cs bs some applies many fits = absurd many
+
+-- the text of a revision that is gone back to is the last one then
+pub back_text : (source : ℕ → ℕ → ℕ) (old new : SessionValue) (k r : ℕ) (command : Command) → Applies old command k new → IsBackTo r command → r < length old.revisions → last_text source new ≡ text_in source old r
+back_text source old new k r (Command.Back q) applies is there =
+    let made = applies.made in
+    let t = table_of coded_byte old.held in
+    let u = table_of coded_byte new.held in
+    let texts = map (rope_cells t) (roots_of old.revisions) in
+    let says : command_of made ≡ Back q = ap (with_splices made.splices.items) applies.is.edit in
+    let gives : slice_get texts q ≡ Some (rope_cells u made.root) = ap (result_of (givens_of u) texts) (sym says) ∙ applies.is.result in
+    ap (λ (root : Option NodeId). text source (rope_cells u root)) (last_is_made old new made applies.revisions)
+    ∙ ap (text source) (cells_at old t (rope_cells u made.root) r there (ap (slice_get texts) (sym is) ∙ gives))
+back_text source old new k r command applies is there = absurd is
 
 -- ---- an empty text
 

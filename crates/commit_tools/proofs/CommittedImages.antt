@@ -25,9 +25,9 @@ use Rattle.commit_tools.specs.declared.fault.CommitFault.{CommitFault}
 use Rattle.commit_tools.specs.declared.fault.CommitFault.TheVariants.{Check, TakeUp, Read, Edit, Memory, Write}
 use Rattle.commit_tools.specs.Commits.{BeginsCommit, BeginsBehind, CommitsAnew, CommitsOnto, CommitsText, IsCommitted, IsCommittedAnew}
 use Rattle.commit_tools.specs.Stops.{StopsCommit}
-use Rattle.commit_tools.specs.Texts.{ReadsLast, last_root}
+use Rattle.commit_tools.specs.Texts.{ReadsTexts, revision_root}
 use Rattle.commit_tools.proofs.CommittedTexts.{no_cells}
-use Rattle.commit_tools.proofs.LastRoots.{last_none}
+use Rattle.commit_tools.proofs.LastRoots.{root_past}
 
 as_many : (v : ImageValue) (begun : SessionValue) → TakesUp v begun → length begun.revisions ≡ length v.revisions
 as_many v begun takes =
@@ -61,7 +61,7 @@ module _ {at_most : Option ℕ} {old mid : Reading} {bytes file : List ℕ} {beg
       }
 
   pub same_onto : (new : Reading) (revision : ℕ) (made : SessionValue) (before : Option (List ℕ)) → CommitsText mid.stated begun file (Ok (Same revision)) made
-      → ReadsLast {X = Commit} begun mid new (Ok (Same revision)) → Keeps before before → CommitsOnto at_most old new bytes file before before (Ok (Same revision))
+      → ReadsTexts {X = Commit} begun file mid new (Ok (Same revision)) → Keeps before before → CommitsOnto at_most old new bytes file before before (Ok (Same revision))
   same_onto new revision made before commits reads keeps =
       let here = subst (λ (st : Stated). CommitsText st begun file (Ok (Same revision)) made) w.stated commits in
       record {
@@ -73,7 +73,7 @@ module _ {at_most : Option ℕ} {old mid : Reading} {bytes file : List ℕ} {beg
       }
 
   pub failed_onto : (new : Reading) (fault : CommitFault) (made : SessionValue) (before : Option (List ℕ)) → CommitsText mid.stated begun file (Err fault) made
-      → ReadsLast {X = Commit} begun mid new (Err fault) → Keeps before before → CommitsOnto at_most old new bytes file before before (Err fault)
+      → ReadsTexts {X = Commit} begun file mid new (Err fault) → Keeps before before → CommitsOnto at_most old new bytes file before before (Err fault)
   failed_onto new (Edit fault) made before commits reads keeps =
       record { checked = Ok w.v; between = mid; check = w.check; reads = (begun, w.from_image, reads); written = (keeps, record { begun = begun; from_image = w.from_image; stops = subst (λ (st : Stated). StopsCommit st begun file fault) w.stated commits }) }
   failed_onto new (Read fault) made before commits reads keeps = record { checked = Ok w.v; between = mid; check = w.check; reads = (begun, w.from_image, reads); written = keeps }
@@ -97,13 +97,14 @@ commits_anew st begun made file result none store revisions commits =
 
 -- over no text no read fails
 pub fails_anew : (mid new : Reading) (begun made : SessionValue) (file : List ℕ) (fault : CommitFault) (before : Option (List ℕ)) → begun.revisions ≡ []
-    → CommitsText (stated_in_memory []) (new_session []) file (Err fault) made → ReadsLast {X = Commit} begun mid new (Err fault) → Keeps before before → CommitsAnew file before before (Err fault)
+    → CommitsText (stated_in_memory []) (new_session []) file (Err fault) made → ReadsTexts {X = Commit} begun file mid new (Err fault) → Keeps before before → CommitsAnew file before before (Err fault)
 fails_anew mid new begun made file (Edit fault) before none commits reads keeps = (keeps, commits)
 fails_anew mid new begun made file Memory before none commits reads keeps = keeps
 fails_anew mid new begun made file (Read fault) before none commits reads keeps =
-    let no_root : last_root begun ≡ None = last_none begun (ap length none) in
-    let no_len : rope_len (session_table begun) (last_root begun) ≡ 0 = ap (rope_len (session_table begun)) no_root in
-    absurd (omega (arith, reads.asked.2, no_len))
+    let r : ℕ = reads.asked.0 in
+    let no_root : revision_root begun r ≡ None = root_past begun r (omega (arith, ap length none)) in
+    let no_len : rope_len (session_table begun) (revision_root begun r) ≡ 0 = ap (rope_len (session_table begun)) no_root in
+    absurd (omega (arith, reads.asked.2.2, no_len))
 fails_anew mid new begun made file (Check fault) before none commits reads keeps = absurd commits
 fails_anew mid new begun made file (TakeUp fault) before none commits reads keeps = absurd commits
 fails_anew mid new begun made file Write before none commits reads keeps = absurd commits
@@ -111,7 +112,7 @@ fails_anew mid new begun made file Write before none commits reads keeps = absur
 committed_anew : (made : SessionValue) (file : List ℕ) (revision : ℕ) → HoldsHistory made → CommitsText (stated_in_memory []) (new_session []) file (Ok (Added revision)) made → IsCommittedAnew file revision made
 committed_anew made file revision history commits = record {
   reaches = commits.0;
-  text = λ source. commits.0.text source (nothing_stated source) (no_cells (stated_in_memory []) (new_session []) source refl);
+  text = λ source. commits.0.text source (nothing_stated source) (no_cells (stated_in_memory []) (new_session []) commits.0.from refl);
   history = history;
 }
 

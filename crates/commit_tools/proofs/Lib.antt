@@ -1,5 +1,6 @@
 pub mod SameEnds
 pub mod RopeReads
+pub mod ComparedTexts
 pub mod HandedBatches
 pub mod AppliedTexts
 pub mod LastRoots

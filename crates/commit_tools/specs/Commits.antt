@@ -15,7 +15,7 @@ use Rattle.session_checker.specs.Limits.{ChecksWithin}
 use Rattle.saved_session.specs.TakeFaults.{IsTakeFault}
 use Rattle.saved_session.specs.GoneFurther.{GoesFurther, IsTakenUp}
 use Rattle.commit_tools.specs.Stops.{TakesCommit, StopsCommit}
-use Rattle.commit_tools.specs.Texts.{OverLast, ReadsLast, last_text}
+use Rattle.commit_tools.specs.Texts.{OverLast, OverRevision, ReadsTexts, last_text}
 use Rattle.commit_tools.specs.declared.answer.Commit.{Commit}
 use Rattle.commit_tools.specs.declared.answer.Commit.TheVariants.{Same, Added}
 use Rattle.commit_tools.specs.declared.fault.CommitFault.{CommitFault}
@@ -23,13 +23,15 @@ use Rattle.commit_tools.specs.declared.fault.CommitFault.TheVariants.{Check, Tak
 
 -- ---- a session
 
--- a session goes further by the commands of a commit, up to a revision whose text is the file's
+-- a session goes further by the commands of a commit, from the text of revision `from`, up to a revision whose text is
+-- the file's
 pub record ReachesText (st : Stated) (begun : SessionValue) (file : List ℕ) (revision : ℕ) (made : SessionValue)
     : Type 0 where
   pub further : GoesFurther begun made
   pub last : length made.revisions ≡ revision + 1
-  pub text : OverLast st begun (λ source. last_text source made ≡ file)
-  pub by : TakesCommit st begun file made
+  pub from : ℕ
+  pub text : OverRevision st begun from (λ source. last_text source made ≡ file)
+  pub by : TakesCommit st begun file from made
 
 -- Where the last text is the file's already, nothing changes. Else the session reaches it, and had another before, or
 -- none.
@@ -99,12 +101,14 @@ WritesCommit st (Ok v) file before after (Err Memory) = Keeps before after
 WritesCommit st (Ok v) file before after (Err (Check fault)) = ⊥
 WritesCommit st (Err fault) file before after outcome = Keeps before after × (outcome ≡ Err (Check fault))
 
--- what is read of the sources behind the check: cells of the last text alone, and `Read` is told of a read that failed
-abbrev pub ReadsToCompare : Result ImageValue CheckFault → Reading → Reading → Result Commit CommitFault → Type 0
-ReadsToCompare (Ok v) between after (Err (TakeUp fault)) = after ≡ between
-ReadsToCompare (Ok v) between after outcome =
-    (begun : SessionValue) × IsTakenUp v begun × ReadsLast begun between after outcome
-ReadsToCompare (Err fault) between after outcome = after ≡ between
+-- what is read of the sources behind the check: cells of the last text, and of texts as long as the file; and `Read` is
+-- told of a read that failed
+abbrev pub ReadsToCompare : Result ImageValue CheckFault → List ℕ → Reading → Reading → Result Commit CommitFault
+    → Type 0
+ReadsToCompare (Ok v) file between after (Err (TakeUp fault)) = after ≡ between
+ReadsToCompare (Ok v) file between after outcome =
+    (begun : SessionValue) × IsTakenUp v begun × ReadsTexts begun file between after outcome
+ReadsToCompare (Err fault) file between after outcome = after ≡ between
 
 -- what run_commit does: it checks the image, takes it up, goes on to the file's text, and writes
 pub record CommitsOnto (at_most : Option ℕ) (old new : Reading) (bytes file : List ℕ) (before after : Option (List ℕ))
@@ -112,7 +116,7 @@ pub record CommitsOnto (at_most : Option ℕ) (old new : Reading) (bytes file : 
   pub checked : Result ImageValue CheckFault
   pub between : Reading
   pub check : ChecksWithin at_most old between bytes checked
-  pub reads : ReadsToCompare checked between new outcome
+  pub reads : ReadsToCompare checked file between new outcome
   pub written : WritesCommit old.stated checked file before after outcome
 
 -- ---- anew

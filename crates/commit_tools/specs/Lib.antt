@@ -1,4 +1,5 @@
 pub mod Texts
+pub mod Earlier
 pub mod Found
 pub mod Handed
 pub mod Stops

@@ -1,14 +1,14 @@
 -- What handing changes in makes of a session.
-use Rattle.std.specs.Prelude.{◌≡◌, ◌≢◌, ℕ, ◌≤◌, Bool, true, false, List, length, None, Result, Ok, Err}
+use Rattle.std.specs.Prelude.{◌≡◌, ◌≢◌, ℕ, ◌-◌, ◌<◌, ◌≤◌, Bool, true, false, List, length, None, Result, Ok, Err}
 use Rattle.lazy_file.specs.SourceTexts.{Stated}
 use Rattle.edit_commands.specs.Session.{SessionValue}
 use Rattle.edit_commands.specs.Applying.{Applies, AppliesOrNot}
 use Rattle.edit_commands.specs.declared.command.Command.{Command}
 use Rattle.edit_commands.specs.declared.fault.EditFault.{EditFault}
 use Rattle.saved_session.specs.GoneFurther.{GoesFurther}
-use Rattle.commit_tools.specs.Texts.{OverLast, last_root, last_text}
+use Rattle.commit_tools.specs.Texts.{OverLast, OverRevision, last_root, last_text}
 use Rattle.commit_tools.specs.Found.{text_from}
-use Rattle.commit_tools.specs.Stops.{BeginsWithNew, TakesBatches, HandsBatch, LeadsTo, StopsAtBatch, StopsAtNew, StopsBehind}
+use Rattle.commit_tools.specs.Stops.{BeginsWithNew, HandsBatch, IsBackTo, LeadsTo, StopsAtBatch, StopsAtNew, StopsBehind, TakesBehind}
 use Rattle.commit_tools.specs.declared.fault.CommitFault.{CommitFault}
 use Rattle.commit_tools.specs.declared.fault.CommitFault.TheVariants.{Edit, Memory, Read}
 use Rattle.commit_tools.specs.declared.found.Found.{Found}
@@ -67,13 +67,30 @@ BeginsEmpty old (Err (Edit fault)) new = StopsAtNew old fault
 BeginsEmpty old (Err Memory) new = Unit {0}
 BeginsEmpty old (Err other) new = ⊥
 
--- A session goes on to a file's text, where its last text is another; and stays as it is, where it is that.
+-- a session takes the text of revision r, where that is not the last one
+abbrev pub GoesBack : SessionValue → ℕ → Result Bool CommitFault → SessionValue → Type 0
+GoesBack old r (Ok true) new =
+    (r < length old.revisions - 1) × ((command : Command) × IsBackTo r command × ((k : ℕ) × Applies old command k new))
+GoesBack old r (Ok false) new = (r ≡ length old.revisions - 1) × (new ≡ old)
+GoesBack old r (Err (Edit fault)) new =
+    (r < length old.revisions - 1) × ((command : Command) × IsBackTo r command × (fault ≢ EditFault.Memory)
+    × AppliesOrNot old command (Err fault) new)
+GoesBack old r (Err Memory) new = Unit {0}
+GoesBack old r (Err other) new = ⊥
+
+-- A session goes on to a file's text, where its last text is another, and from which revision's text; and stays as it
+-- is, where it is that.
+pub record GoesFrom (st : Stated) (old : SessionValue) (file : List ℕ) (from : ℕ) (new : SessionValue) : Type 0 where
+  pub further : GoesFurther old new
+  pub some : 1 ≤ length new.revisions
+  pub text : OverRevision st old from (λ source. last_text source new ≡ file)
+  pub takes : TakesBehind st old file from new
+
 abbrev pub GoesOnToText : Stated → SessionValue → List ℕ → Result Bool CommitFault → SessionValue → Type 0
 GoesOnToText st old file (Ok true) new =
-    GoesFurther old new × (1 ≤ length new.revisions) × OverLast st old (λ source. last_text source new ≡ file)
-    × OverLast st old (λ source. last_text source old ≢ file) × TakesBatches st old file new
+    ((from : ℕ) × GoesFrom st old file from new) × OverLast st old (λ source. last_text source old ≢ file)
 GoesOnToText st old file (Ok false) new =
-    (new ≡ old) × OverLast st old (λ source. last_text source old ≡ file) × TakesBatches st old file new
+    (new ≡ old) × OverLast st old (λ source. last_text source old ≡ file)
 GoesOnToText st old file (Err (Edit fault)) new = StopsBehind st old file fault
 GoesOnToText st old file (Err (Read fault)) new = Unit {0}
 GoesOnToText st old file (Err Memory) new = Unit {0}

@@ -7,10 +7,11 @@ use Rattle.edit_commands.specs.Session.{SessionValue, session_table}
 use Rattle.edit_commands.specs.Applying.{Applies, AppliesOrNot}
 use Rattle.edit_commands.specs.declared.command.Change as Session
 use Rattle.edit_commands.specs.declared.command.Command.{Command}
-use Rattle.edit_commands.specs.declared.command.Command.TheVariants.{New, Many}
+use Rattle.edit_commands.specs.declared.command.Command.TheVariants.{New, Back, Many}
 use Rattle.edit_commands.specs.declared.fault.EditFault.{EditFault}
 use Rattle.line_changes.specs.declared.change.Change.{Change}
 use Rattle.commit_tools.specs.Texts.{OverLast, last_root, last_text}
+use Rattle.commit_tools.specs.Earlier.{FindsNone, IsLatest}
 use Rattle.commit_tools.specs.Found.{IsBeside, file_middle, text_before}
 use Rattle.commit_tools.specs.Handed.{bytes_put, shifted}
 use Rattle.commit_tools.specs.declared.found.Found.{Found}
@@ -21,6 +22,11 @@ use Rattle.commit_tools.specs.declared.found.Found.{Found}
 abbrev pub IsNew : Command → Type 0
 IsNew New = Unit {0}
 IsNew other = ⊥
+
+-- it is the text of revision r, with its rope
+abbrev pub IsBackTo : ℕ → Command → Type 0
+IsBackTo r (Back q) = q ≡ r
+IsBackTo r other = ⊥
 
 -- it is these changes of revision r, with these bytes
 abbrev pub IsManyAt : ℕ → List Session.Change → List ℕ → Command → Type 0
@@ -76,6 +82,24 @@ pub record TakesBatches (st : Stated) (begun : SessionValue) (file : List ℕ) (
   pub ends : List ℕ
   pub leads : LeadsTo found file begun ends 0 made
 
+-- a session goes back to revision r, which is not the last one and the latest with the file's text, and takes nothing else
+pub record TakesBack (st : Stated) (begun : SessionValue) (file : List ℕ) (r : ℕ) (made : SessionValue) : Type 0 where
+  pub latest : IsLatest st begun file r
+  pub earlier : r < length begun.revisions - 1
+  pub command : Command
+  pub is : IsBackTo r command
+  pub k : ℕ
+  pub applies : Applies begun command k made
+
+-- What a session with a last text takes: nothing, where that is the file's; the text of the latest revision that has it;
+-- or, where no text that was compared is the file's, batches. The number is that of the revision that is gone on from.
+pub data TakesBehind (st : Stated) (begun : SessionValue) (file : List ℕ) (from : ℕ) (made : SessionValue) : Type 0 where
+  takes_nothing : from ≡ length begun.revisions - 1 → OverLast st begun (λ source. last_text source begun ≡ file)
+      → made ≡ begun → TakesBehind st begun file from made
+  takes_back : TakesBack st begun file from made → TakesBehind st begun file from made
+  takes_batches : from ≡ length begun.revisions - 1 → FindsNone st begun file → TakesBatches st begun file made
+      → TakesBehind st begun file from made
+
 -- a session without revisions begins with an empty text
 pub record BeginsWithNew (begun new : SessionValue) : Type 0 where
   pub none : begun.revisions ≡ []
@@ -84,11 +108,11 @@ pub record BeginsWithNew (begun new : SessionValue) : Type 0 where
   pub k : ℕ
   pub applies : Applies begun command k new
 
--- a session takes the commands of a commit: batches behind its last text, or behind the empty text with which it begins
-pub data TakesCommit (st : Stated) (begun : SessionValue) (file : List ℕ) (made : SessionValue) : Type 0 where
-  takes_behind_new : (empty : SessionValue) → BeginsWithNew begun empty → TakesBatches st empty file made
-      → TakesCommit st begun file made
-  takes_behind : 1 ≤ length begun.revisions → TakesBatches st begun file made → TakesCommit st begun file made
+-- a session takes the commands of a commit: behind its last text, or behind the empty text with which it begins
+pub data TakesCommit (st : Stated) (begun : SessionValue) (file : List ℕ) (from : ℕ) (made : SessionValue) : Type 0 where
+  takes_behind_new : (empty : SessionValue) → BeginsWithNew begun empty → TakesBehind st empty file from made
+      → TakesCommit st begun file from made
+  takes_behind : 1 ≤ length begun.revisions → TakesBehind st begun file from made → TakesCommit st begun file from made
 
 -- ---- where it stops
 
@@ -105,11 +129,29 @@ pub record StopsAtBatch (found : Found) (file : List ℕ) (begun : SessionValue)
   pub after : SessionValue
   pub stops : AppliesOrNot last command (Err fault) after
 
--- a session with a last text does not take a batch of the changes that turn this text into the file's
-pub record StopsBehind (st : Stated) (begun : SessionValue) (file : List ℕ) (fault : EditFault) : Type 0 where
+-- a session does not take the text of the latest revision that has the file's
+pub record StopsAtBack (st : Stated) (begun : SessionValue) (file : List ℕ) (fault : EditFault) : Type 0 where
+  pub r : ℕ
+  pub latest : IsLatest st begun file r
+  pub earlier : r < length begun.revisions - 1
+  pub command : Command
+  pub is : IsBackTo r command
+  pub no_memory : fault ≢ EditFault.Memory
+  pub after : SessionValue
+  pub stops : AppliesOrNot begun command (Err fault) after
+
+-- where no text that was compared is the file's, a session does not take a batch of the changes that turn its last text
+-- into the file's
+pub record StopsAtChanges (st : Stated) (begun : SessionValue) (file : List ℕ) (fault : EditFault) : Type 0 where
+  pub none : FindsNone st begun file
   pub found : Found
   pub finds : FindsChanges st begun file found
   pub stops : StopsAtBatch found file begun fault
+
+-- a session with a last text does not take what it is to take
+pub data StopsBehind (st : Stated) (begun : SessionValue) (file : List ℕ) (fault : EditFault) : Type 0 where
+  stops_at_back : StopsAtBack st begun file fault → StopsBehind st begun file fault
+  stops_at_changes : StopsAtChanges st begun file fault → StopsBehind st begun file fault
 
 -- a session without revisions does not take the empty text with which it begins
 pub record StopsAtNew (begun : SessionValue) (fault : EditFault) : Type 0 where
@@ -119,7 +161,7 @@ pub record StopsAtNew (begun : SessionValue) (fault : EditFault) : Type 0 where
   pub after : SessionValue
   pub stops : AppliesOrNot begun command (Err fault) after
 
--- a session does not take a command of a commit: the first one of all; or a batch, behind that or behind a last text
+-- a session does not take a command of a commit: the first one of all; or one behind that, or behind a last text
 pub data StopsCommit (st : Stated) (begun : SessionValue) (file : List ℕ) (fault : EditFault) : Type 0 where
   at_new : begun.revisions ≡ [] → StopsAtNew begun fault → StopsCommit st begun file fault
   behind_new : (empty : SessionValue) → BeginsWithNew begun empty → StopsBehind st empty file fault

@@ -4,6 +4,7 @@
 mod answer;
 mod batches;
 mod committing;
+mod earlier;
 mod fault;
 mod found;
 mod stretches;

@@ -1,16 +1,17 @@
 //! The text of a file as the next state of a session.
 
-ghost use Rattle.std.specs.Prelude.{◌≡◌, ◌↔◌, ◌+◌, ◌-◌, ◌≤◌, [], length, take, drop, IfOk, IfErr, OnOk, IsTrue};
+ghost use Rattle.std.specs.Prelude.{◌≡◌, ◌↔◌, ◌+◌, ◌-◌, ◌<◌, ◌≤◌, [], length, take, drop, IfOk, IfErr, OnOk, IsTrue};
 ghost use Rattle.rope_node.specs.Denotes.{IsRope, rope_len};
 ghost use Rattle.cord_search.specs.Stated.{OfText};
-ghost use Rattle.edit_commands.specs.Session.{session_table};
 ghost use Rattle.commit_tools.specs.Commits.{CommitsText};
+ghost use Rattle.commit_tools.specs.Earlier.{FindsNone};
 ghost use Rattle.commit_tools.specs.Found.{IsBeside, text_before, text_from};
-ghost use Rattle.commit_tools.specs.Put.{BeginsEmpty, GoesOnToText};
-ghost use Rattle.commit_tools.specs.Texts.{IsReadingFault, ReadsLast, ReadsRope, ReadsRopeOr, last_root};
+ghost use Rattle.commit_tools.specs.Put.{BeginsEmpty, GoesBack, GoesOnToText};
+ghost use Rattle.commit_tools.specs.Texts.{IsReadingFault, ReadsRope, ReadsRopeOr, ReadsTexts};
 
 use crate::answer::Commit;
 use crate::batches::{make, put_changes};
+use crate::earlier::{latest_same, revision_root};
 use crate::fault::CommitFault;
 use crate::found::{Ends, Found};
 use crate::stretches::{read_part, same_back, same_front};
@@ -19,21 +20,6 @@ use lazy_file::{SourceFault, Sources};
 use line_changes::{changes, whole_back, whole_front};
 use rope_node::{NodeSpace, Rope, rope_len};
 use std::alloc::Global;
-
-/// The root of the last revision, nil where there is none.
-fn last_root(session: &Session) -> Rope
-    ensures root { result ≡ last_root session.now }
-    ensures rope { IsRope (session_table session.now) result }
-{
-    let count = session.count();
-    if count == 0 {
-        return None;
-    }
-    match session.root(count - 1) {
-        Some(root) => root,
-        None => None,
-    }
-}
 
 /// The `count` bytes of a rope's text from a place on.
 fn middle_of<S: NodeSpace, T: Sources>(
@@ -130,6 +116,42 @@ fn is_same(found: &Found) -> bool
     found.changes.is_empty()
 }
 
+/// Goes on with a session by the changes that turn its last text into a file's. Answers whether there are any.
+fn commit_changes<T: Sources>(
+    alloc: Global,
+    session: &mut Session,
+    sources: &mut T,
+    file: &[u8],
+) -> Result<bool, CommitFault>
+    requires some { 1 ≤ length session.old.revisions }
+    requires none { FindsNone (T.reading sources.old).stated session.old file.now }
+    ensures text { GoesOnToText (T.reading sources.old).stated session.old file.now result session.new }
+    ensures some { OnOk result (1 ≤ length session.new.revisions) }
+    ensures reads { ReadsTexts session.old file.now (T.reading sources.old) (T.reading sources.new) result }
+{
+    let rope = revision_root(session, session.count() - 1);
+    let found = found_beside(alloc, session.space(), sources, rope, file)?;
+    if is_same(&found) {
+        return Ok(false);
+    }
+    put_changes(alloc, session, &found, file)?;
+    Ok(true)
+}
+
+/// Goes back with a session to the text of revision `r`, the latest one that is a file's, where that is not the last.
+/// Answers whether it is another.
+fn go_back(session: &mut Session, r: u32) -> Result<bool, CommitFault>
+    requires { r < length session.old.revisions }
+    ensures text { GoesBack session.old r result session.new }
+    ensures some { OnOk result (1 ≤ length session.new.revisions) }
+{
+    if r == session.count() - 1 {
+        return Ok(false);
+    }
+    make(session, Command::Back { r })?;
+    Ok(true)
+}
+
 /// Goes on with a session to a file's text, where its last text is another. Answers whether it is.
 fn commit_behind<T: Sources>(
     alloc: Global,
@@ -140,15 +162,16 @@ fn commit_behind<T: Sources>(
     requires { 1 ≤ length session.old.revisions }
     ensures text { GoesOnToText (T.reading sources.old).stated session.old file.now result session.new }
     ensures some { OnOk result (1 ≤ length session.new.revisions) }
-    ensures reads { ReadsLast session.old (T.reading sources.old) (T.reading sources.new) result }
+    ensures reads { ReadsTexts session.old file.now (T.reading sources.old) (T.reading sources.new) result }
 {
-    let rope = last_root(session);
-    let found = found_beside(alloc, session.space(), sources, rope, file)?;
-    if is_same(&found) {
-        return Ok(false);
+    let latest = match latest_same(session, sources, file) {
+        Ok(latest) => latest,
+        Err(fault) => return Err(CommitFault::Read(fault)),
+    };
+    match latest {
+        Some(r) => go_back(session, r),
+        None => commit_changes(alloc, session, sources, file),
     }
-    put_changes(alloc, session, &found, file)?;
-    Ok(true)
 }
 
 /// Begins a session without revisions with an empty text.
@@ -167,7 +190,7 @@ pub fn commit_text<T: Sources>(
     file: &[u8],
 ) -> Result<Commit, CommitFault>
     ensures text { CommitsText (T.reading sources.old).stated session.old file.now result session.new }
-    ensures reads { ReadsLast session.old (T.reading sources.old) (T.reading sources.new) result }
+    ensures reads { ReadsTexts session.old file.now (T.reading sources.old) (T.reading sources.new) result }
 {
     if session.count() == 0 {
         begin(session)?;

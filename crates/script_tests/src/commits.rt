@@ -48,6 +48,52 @@ fn the_same_text_writes_nothing(rt: HostRuntime) {
     assert_same(&rt, &(commit, written.len()), &(Commit::Same(1), 0));
 }
 
+/// The bytes of a revision and of its row.
+const ONE_REVISION: usize = 80;
+
+/// The states of a file behind its first two, `one` and `two`, the revision of each, and the line of the log with which it
+/// comes back.
+const STATES_THAT_COME_BACK: [(&[u8], u32, &[u8]); 5] = [
+    (
+        b"one\n",
+        3,
+        b"\nback 1 # 3: 4 bytes, depth 0, balanced, 1 rows\n",
+    ),
+    (
+        b"two\n",
+        4,
+        b"\nback 2 # 4: 4 bytes, depth 0, balanced, 1 rows\n",
+    ),
+    (
+        b"one\n",
+        5,
+        b"\nback 3 # 5: 4 bytes, depth 0, balanced, 1 rows\n",
+    ),
+    (b"", 6, b"\nback 0 # 6: 0 bytes, depth 0, 0 rows\n"),
+    (
+        b"two\n",
+        7,
+        b"\nback 4 # 7: 4 bytes, depth 0, balanced, 1 rows\n",
+    ),
+];
+
+#[test]
+fn states_that_come_back(rt: HostRuntime) {
+    let mut first: Vec<u8> = Vec::new(rt.alloc());
+    let begun = run_commit_anew(rt.alloc(), b"one\n", &mut first);
+    assert_same(&rt, &begun, &Ok(Commit::Added(1)));
+    let (_, mut image) = committed(&rt, &first, b"two\n");
+    for (file, revision, line) in STATES_THAT_COME_BACK {
+        let (commit, newer) = committed(&rt, &image, file);
+        assert_same(&rt, &commit, &Commit::Added(revision));
+        let grown = newer.len().saturating_sub(image.len());
+        assert!(rt; grown <= ONE_REVISION, "{revision}: {grown} bytes more");
+        let log = logged(&rt, &newer, &[], LogTexts::Whole);
+        assert!(rt; log.ends_with(line), "{revision}");
+        image = newer;
+    }
+}
+
 /// The first text with the changes that turn it into the second.
 fn changed<A: AllocGlobal + Abort>(rt: &A, old: &[u8], new: &[u8]) -> Vec<u8> {
     let mut made: Vec<u8> = Vec::new(rt.alloc());

@@ -14,7 +14,7 @@ pub returns-then-count-eq0-clause-text : goal.returns-then-count-eq0-clause-text
 returns-then-count-eq0-clause-text g c =
     let last : length c.commit_behind.new.session.revisions ≡ c.count-then-count-eq0.result - 1 + 1 = omega (arith, c.count-then-count-eq0.ensures.value, c.in_ok-commit_behind.ensures.some) in
     first_text (g.T.Sources.reading c.args.sources.now).stated c.args.session.now c.begin.new.session c.commit_behind.new.session c.args.file.now c.in_ok-commit_behind.field-0 (c.count-then-count-eq0.result - 1)
-    c.in_ok-begin.ensures.0 c.in_ok-begin.ensures.1 c.in_ok-begin.ensures.3 c.in_ok-commit_behind.ensures.text last
+    c.in_ok-begin.ensures.0 c.in_ok-begin.ensures.1 c.in_ok-begin.ensures.2 c.in_ok-begin.ensures.3 c.in_ok-commit_behind.ensures.text last
 
 pub returns-else-added-clause-text : goal.returns-else-added-clause-text
 returns-else-added-clause-text g c =
