@@ -11,3 +11,4 @@ pub mod Sources
 pub mod Spans
 pub mod Unread
 pub mod EditingOnto
+pub mod EditingTyped

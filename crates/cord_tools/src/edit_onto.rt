@@ -29,7 +29,7 @@ fn begun_over(alloc: Global, image: &Checked) -> Result<Session, ToolFault>
 }
 
 /// The session of an image that is checked with these sources. The image's bytes are gone then.
-fn begun_onto<S: Sources>(
+pub(crate) fn begun_onto<S: Sources>(
     alloc: Global,
     older: Vec<u8>,
     sources: &mut S,

@@ -6,6 +6,7 @@ ghost use Rattle.key_journal.specs.Keys.{goes_on, kept_of};
 ghost use Rattle.key_journal.specs.Left.{IsKeepFault, IsNextByte, keys_kept, keys_left};
 ghost use Rattle.key_journal.specs.declared.kept.KeepFault.TheVariants as KeepFault;
 
+use crate::ready::Ready;
 use std::io::{ErrorKind, Read, Write};
 
 /// The key that saves and ends a run.
@@ -142,5 +143,15 @@ impl<R: Read + Drop, W: Write + Drop> Kept<R, W> {
         self.keep(key)?;
         self.held = None;
         Ok(Some(key))
+    }
+}
+
+impl<R: Ready + Drop, W: Write + Drop> Kept<R, W> {
+    /// Whether the next key is there already. None is given, and none is kept.
+    pub fn is_ready(&mut self) -> bool
+        ensures left { Consumes (keys_left R.remaining self.old) (keys_left R.remaining self.new) [] }
+        ensures journal { keys_kept W.contents self.new ≡ keys_kept W.contents self.old }
+    {
+        self.held.is_some() || self.inner.is_ready()
     }
 }

@@ -4,6 +4,7 @@ pub mod MadeFrames
 pub mod ToldKeys
 pub mod TakenKeys
 pub mod ManyTurns
+pub mod TypedTurns
 pub mod ToldRuns
 pub mod CurrentTexts
 pub mod NewTexts

@@ -11,6 +11,8 @@ pub mod Opening
 pub mod LineKeys
 pub mod Runs
 pub mod Turns
+pub mod Watched
+pub mod Typing
 pub mod Playing
 pub mod Priors
 pub mod KnownTexts

@@ -11,10 +11,12 @@ ghost use Rattle.screen_editor.specs.Opening.{IsOpenFault, IsTooLongToOpen, Open
 ghost use Rattle.screen_editor.specs.Revising.{IsMade, TakesKey};
 ghost use Rattle.screen_editor.specs.Refusals.{IsNewFault, IsTooLong};
 ghost use Rattle.screen_editor.specs.Runs.{MakesFrame};
+ghost use Rattle.screen_editor.specs.Watched.{MakesNoted, note_at, watch};
 
 use crate::fault::{EditorFault, KeyFault};
 use crate::key::{Effect, Key, LinePlace, Step};
 use crate::known::{KnownText, known_after};
+use crate::noting::{note_of, untaken_text};
 use crate::opening::{first_session, opened_session};
 use crate::workspace::Workspace;
 use edit_commands::Session;
@@ -145,6 +147,33 @@ fn message_code(message: Option<KeyFault>) -> Option<&'static str>
     }
 }
 
+/// What the screen shows with this note in the message's row.
+fn frame_with<R: Sources>(
+    alloc: Global,
+    sources: &mut R,
+    workspace: &Workspace,
+    known: &mut KnownLines,
+    note: Option<&str>,
+) -> Result<Vec<u8>, FrameFault>
+    requires known { IsKnownLine (R.reading sources.old).stated workspace.now known.old }
+    ensures known { IsKnownLine (R.reading sources.old).stated workspace.now known.new }
+    ensures makes { MakesNoted (option_map (λ m. m.now) note.entry) (over (R.reading sources.old) workspace.now) result
+        (over (R.reading sources.new) workspace.now) }
+{
+    let (root, place) = (workspace.root(), workspace.place());
+    let last = workspace.last();
+    frame_about(
+        alloc,
+        workspace.session().space(),
+        sources,
+        root,
+        place,
+        last,
+        note,
+        known,
+    )
+}
+
 /// What the screen shows.
 fn frame_of<R: Sources>(
     alloc: Global,
@@ -157,18 +186,29 @@ fn frame_of<R: Sources>(
     ensures makes { MakesFrame (over (R.reading sources.old) workspace.now) result
         (over (R.reading sources.new) workspace.now) }
 {
-    let (root, place) = (workspace.root(), workspace.place());
-    let (last, message) = (workspace.last(), message_code(workspace.message()));
-    frame_about(
-        alloc,
-        workspace.session().space(),
-        sources,
-        root,
-        place,
-        last,
-        message,
-        known,
-    )
+    let message = message_code(workspace.message());
+    frame_with(alloc, sources, workspace, known, message)
+}
+
+/// What a terminal shows: what is told before the first key, or how many bytes were not taken, stands in place of the
+/// message.
+fn frame_noted<R: Sources>(
+    alloc: Global,
+    sources: &mut R,
+    workspace: &Workspace,
+    known: &mut KnownLines,
+    hint: Option<&str>,
+    untaken: u32,
+) -> Result<Vec<u8>, FrameFault>
+    requires known { IsKnownLine (R.reading sources.old).stated workspace.now known.old }
+    ensures known { IsKnownLine (R.reading sources.old).stated workspace.now known.new }
+    ensures makes { MakesNoted (note_at (watch (option_map (λ h. h.now) hint.entry) untaken workspace.now))
+        (over (R.reading sources.old) workspace.now) result (over (R.reading sources.new) workspace.now) }
+{
+    let text = untaken_text(alloc, untaken)?;
+    let message = message_code(workspace.message());
+    let note = note_of(hint, untaken, text.as_str(), message);
+    frame_with(alloc, sources, workspace, known, note)
 }
 
 impl<R: Sources + Drop> Editor<R> {
@@ -251,6 +291,30 @@ impl<R: Sources + Drop> Editor<R> {
             &mut self.sources,
             &self.workspace,
             &mut self.known.lines,
+        )
+    }
+
+    /// What a terminal shows, with this note.
+    ///
+    /// # Errors
+    ///
+    /// As those of `frame`.
+    pub(crate) fn frame_noted(
+        &mut self,
+        hint: Option<&str>,
+        untaken: u32,
+    ) -> Result<Vec<u8>, FrameFault>
+        ensures makes { MakesNoted
+            (note_at (watch (option_map (λ h. h.now) hint.entry) untaken self.old.editing))
+            (seen R.reading self.old) result (seen R.reading self.new) }
+    {
+        frame_noted(
+            self.alloc,
+            &mut self.sources,
+            &self.workspace,
+            &mut self.known.lines,
+            hint,
+            untaken,
         )
     }
 

@@ -9,9 +9,11 @@ mod keeping;
 mod key;
 mod known;
 pub mod laws;
+mod noting;
 mod opening;
 mod priors;
 mod running;
+mod typing;
 mod workspace;
 
 pub use editor::Editor;

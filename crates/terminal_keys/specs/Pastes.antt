@@ -1,13 +1,18 @@
 -- The text that a paste types.
-use Rattle.std.specs.Prelude.{◌≡◌, ℕ, List, [], ◌∷◌, ◌++◌, ◌&&◌, ◌==◌, not, if◌then◌else◌}
+use Rattle.std.specs.Prelude.{◌≡◌, ℕ, List, [], ◌∷◌, ◌++◌, Bool, ◌&&◌, ◌||◌, ◌==◌, if◌then◌else◌}
+use Rattle.terminal_keys.specs.declared.mode.TheConstants.{NO_KEY}
 use Rattle.terminal_keys.specs.declared.mode.Mode.TheVariants.{Pasted}
-use Rattle.terminal_keys.specs.Keys.{is_text, keys_in, keys_of}
+use Rattle.terminal_keys.specs.Keys.{as_text, is_text, keys_in, keys_of}
 
--- of bytes behind this one those that are text, but no LF behind CR
+-- bytes behind this one as text, but no LF behind CR
 abbrev pub pasted_text : ℕ → List ℕ → List ℕ
 pasted_text before [] = []
 pasted_text before (b ∷ bs) =
-    if is_text b && not (before == 0x0D && b == 0x0A) then b ∷ pasted_text b bs else pasted_text b bs
+    if before == 0x0D && b == 0x0A then pasted_text b bs else as_text b ∷ pasted_text b bs
+
+-- text, or the byte that is no key
+abbrev pub is_harmless : ℕ → Bool
+is_harmless b = is_text b || b == NO_KEY
 
 -- these bytes before the mark that ends a paste are its text, and what follows the mark is typed
 abbrev pub PastesText : List ℕ → Type 0

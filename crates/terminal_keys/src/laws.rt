@@ -2,10 +2,10 @@
 
 ghost use Rattle.std.specs.Prelude.{◌≡◌, ◌≢◌, ℕ, ◌≤◌, List, [], ◌∷◌, ◌++◌, replicate, All, IsTrue, false};
 ghost use Rattle.terminal_keys.specs.Held.{IsOpen};
-ghost use Rattle.terminal_keys.specs.Keys.{is_text, keys_in, keys_of, letter};
+ghost use Rattle.terminal_keys.specs.Keys.{keys_in, keys_of, letter};
 ghost use Rattle.terminal_keys.specs.Laws.{AreParameters, IsEscape, IsFinal, IsOutside, IsSequenceTooLong, IsString};
 ghost use Rattle.terminal_keys.specs.Laws.{BreaksOff, FallsAway, IsWholeSequence, Types};
-ghost use Rattle.terminal_keys.specs.Pastes.{pasted_text, PastesText};
+ghost use Rattle.terminal_keys.specs.Pastes.{is_harmless, pasted_text, PastesText};
 ghost use Rattle.terminal_keys.specs.Sequences.{is_in_string};
 ghost use Rattle.terminal_keys.specs.declared.mode.Mode.{Mode};
 ghost use Rattle.terminal_keys.specs.declared.mode.Mode.TheVariants.{Pasted};
@@ -54,12 +54,12 @@ pub fn known_keys()
     ensures modified { Types (0x1B ∷ 0x5B ∷ 0x31 ∷ 0x3B ∷ 0x35 ∷ 0x43 ∷ []) (0x06 ∷ []) }
 {}
 
-/// Between the marks of a paste no byte is a command: what is no text is nothing, and each byte of text is itself, but
-/// that the end of a line that CR and LF make is one.
+/// Between the marks of a paste no byte is a command: what is no text is a byte that is no key, and each byte of text is
+/// itself, but that the end of a line that CR and LF make is one.
 pub fn pastes()
     ensures begins { (rest : List ℕ) → keys_of (0x1B ∷ 0x5B ∷ 0x32 ∷ 0x30 ∷ 0x30 ∷ 0x7E ∷ rest) ≡ keys_in Pasted rest }
     ensures ends { (mode : Mode) (rest : List ℕ)
         → keys_in mode (0x1B ∷ 0x5B ∷ 0x32 ∷ 0x30 ∷ 0x31 ∷ 0x7E ∷ rest) ≡ keys_of rest }
     ensures text { (bytes : List ℕ) → All (λ b. b ≢ 0x1B) bytes → PastesText bytes }
-    ensures no_command { (bytes : List ℕ) → All (λ b. IsTrue (is_text b)) (pasted_text 0 bytes) }
+    ensures no_command { (bytes : List ℕ) → All (λ b. IsTrue (is_harmless b)) (pasted_text 0 bytes) }
 {}

@@ -1,9 +1,12 @@
 //! What is typed, and what is pasted.
 
 ghost use Rattle.std.specs.Prelude.{◌≡◌};
-ghost use Rattle.terminal_keys.specs.Keys.{is_text};
+ghost use Rattle.terminal_keys.specs.Keys.{as_text, is_text};
 
 use crate::owed::Owed;
+
+/// What stands for a pasted byte that is no text: a byte that is no key.
+const NO_KEY: u8 = 0x80;
 
 /// Whether bytes are typed or pasted.
 #[derive(Clone, Copy, Debug, PartialEq, Eq)]
@@ -23,6 +26,13 @@ fn is_text(byte: u8) -> bool
     matches!(byte, 0x09 | 0x0A | 0x0D | 0x20..=0x7E)
 }
 
+/// A pasted byte, where it is text, or else one that is no key.
+fn as_text(byte: u8) -> u8
+    ensures { result ≡ as_text byte }
+{
+    if is_text(byte) { byte } else { NO_KEY }
+}
+
 impl Mode {
     ghost use Rattle.terminal_keys.specs.Held.{owed};
     ghost use Rattle.terminal_keys.specs.Keys.{mode_after, passed};
@@ -34,13 +44,7 @@ impl Mode {
         match self {
             Mode::Typed => Owed::once(byte),
             Mode::Returned if byte == 0x0A => Owed::none(),
-            _ => {
-                if is_text(byte) {
-                    Owed::once(byte)
-                } else {
-                    Owed::none()
-                }
-            }
+            _ => Owed::once(as_text(byte)),
         }
     }
 

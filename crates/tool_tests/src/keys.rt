@@ -92,8 +92,11 @@ const SEQUENCES: [(&[u8], &[u8]); 67] = [
     (b"z\x1bO", b"z"),
     (b"z\x1b(", b"z"),
     (b"z\x1b]0;a", b"z"),
-    // Pastes: no command, the end of a line once, no sequence, and one without an end.
-    (b"\x1b[200~a\x18\x03\0\x80\tb\x1b[201~\x18", b"a\tb\x18"),
+    // Pastes: no command, the end of a line once, no sequence, and one without an end. What is no text is no key.
+    (
+        b"\x1b[200~a\x18\x03\0\xff\tb\x1b[201~\x18",
+        b"a\x80\x80\x80\x80\tb\x18",
+    ),
     (
         b"\x1b[200~a\r\nb\rc\nd\r\r\n\x1b[201~\r\n",
         b"a\rb\rc\nd\r\r\r\n",
@@ -101,7 +104,7 @@ const SEQUENCES: [(&[u8], &[u8]); 67] = [
     (b"\x1b[200~\x1b[A\x1bOAx\x1b[3~\x1b[201~\x1b[A", b"x\x10"),
     (b"\x1b[200~\x1b]0;a\x07x\x1bPb\x1b\\y\x1b[201~z", b"xyz"),
     (b"\x1b[201~z", b"z"),
-    (b"\x1b[200~a\x1b[200~b\x18", b"ab"),
+    (b"\x1b[200~a\x1b[200~b\x18", b"ab\x80"),
 ];
 
 /// The keys of these bytes, and how many reads failed. The reader is read on behind a failed read.

@@ -25,3 +25,5 @@ mod same;
 mod saved;
 #[cfg(test)]
 mod tools;
+#[cfg(test)]
+mod typed;

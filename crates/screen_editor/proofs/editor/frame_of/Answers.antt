@@ -1,18 +1,10 @@
 use Rattle.std.proofs.Common.{ap, ◌∙◌}
 use Rattle.std.specs.Option.{option_map}
-use Rattle.screen_editor.proofs.KnownKeys.{current_known, known_in_current}
-use Rattle.screen_editor.specs.Editing.{key_code}
-use Rattle.screen_editor.proofs.MadeFrames.{frame_made}
+use Rattle.screen_editor.specs.Editing.{key_code, over}
+use Rattle.screen_editor.proofs.MadeFrames.{own_frame}
 use Rattle.screen_editor.proofs.editor.frame_of.Goals as goal
 
-pub returns : goal.returns
-returns g c = record {
-  makes = frame_made (g.R.Sources.reading c.args.sources.now) (g.R.Sources.reading c.frame_about.new.sources) c.frame_about.result c.args.workspace.now c.session.result.now c.space.result.now c.root-root.result c.place-place.result c.last-last.result (option_map (λ m. m.now) c.message_code-message.result)
-      c.session.ensures.value c.space.ensures.store c.root-root.ensures.value c.place-place.ensures.value c.last-last.ensures.value (c.message_code-message.ensures ∙ ap (option_map key_code) c.message.ensures)
-      (record { bytes = c.frame_about.ensures.bytes; reads = c.frame_about.ensures.reads });
-  known = current_known (g.R.Sources.reading c.args.sources.now).stated c.args.workspace.now c.session.result.now c.space.result.now c.root-root.result c.frame_about.new.known c.session.ensures.value c.space.ensures.store c.root-root.ensures.value c.frame_about.ensures.known;
-}
-
-pub frame_about-requires-clause-known : goal.frame_about-requires-clause-known
-frame_about-requires-clause-known g c =
-    known_in_current (g.R.Sources.reading c.args.sources.now).stated c.args.workspace.now c.session.result.now c.space.result.now c.root-root.result c.args.known.now c.session.ensures.value c.space.ensures.store c.root-root.ensures.value c.requires.known
+pub returns-clause-makes : goal.returns-clause-makes
+returns-clause-makes g c =
+    own_frame (option_map (λ m. m.now) c.message_code-message.result) (over (g.R.Sources.reading c.args.sources.now) c.args.workspace.now) c.frame_with.result (over (g.R.Sources.reading c.frame_with.new.sources) c.args.workspace.now)
+    (c.message_code-message.ensures ∙ ap (option_map key_code) c.message.ensures) c.frame_with.ensures.makes
