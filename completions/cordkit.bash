@@ -6,6 +6,7 @@ _cordkit_kinds() {
         check | migrate | log | apply | cordkit-verify) echo file files ;;
         show | blame) echo file number files ;;
         commit) echo file file files ;;
+        restore) echo file number file files ;;
         cut) echo number number file ;;
         join) echo files ;;
         find) echo number text file ;;
@@ -18,13 +19,14 @@ _cordkit_kinds() {
 _cordkit_options() {
     case $1 in
         cordkit-verify) echo --text --graph --at-most --help ;;
-        check | show | migrate | commit) echo --at-most --explain --quiet --help ;;
-        log) echo --at-most --brief --explain --quiet --help ;;
+        check | migrate) echo --at-most --length --explain --quiet --help ;;
+        show | commit | restore) echo --at-most --explain --quiet --help ;;
+        log) echo --at-most --length --brief --explain --quiet --help ;;
         blame) echo --at-most --start --count --explain --quiet --help ;;
         apply) echo --onto --at-most --explain --quiet --help ;;
         find) echo --all --explain --quiet --help ;;
-        edit) echo --onto --keep --session --no-clobber --discard --explain --quiet --help ;;
-        cordedit) echo -f --copy --text --continue --discard --help ;;
+        edit) echo --onto --keep --session --no-clobber --replace --discard --explain --quiet --help ;;
+        cordedit) echo -f --replace --copy --text --continue --discard --help ;;
         help) ;;
         '') echo --explain --quiet --help --version ;;
         *) echo --explain --quiet --help ;;
@@ -43,7 +45,7 @@ _cordkit_read() {
             ((++place))
         elif [[ $word == -- ]]; then
             ended=yes
-        elif [[ $word == --at-most || $word == --start || $word == --count || $word == --text || $word == --onto || $word == --keep || $word == --session ]]; then
+        elif [[ $word == --at-most || $word == --length || $word == --start || $word == --count || $word == --text || $word == --onto || $word == --keep || $word == --session ]]; then
             [[ ${COMP_WORDS[k + 1]} == = ]] && ((++k))
             ((++k >= COMP_CWORD)) && valued=$command$word
         elif [[ $word == --continue ]]; then
@@ -57,7 +59,7 @@ _cordkit_read() {
 }
 
 _cordkit() {
-    local commands='check show cut join find cmp edit migrate log blame apply commit help'
+    local commands='check show cut join find cmp edit migrate log blame apply commit restore help'
     local IFS=$' \t\n' command='' place=0 ended='' valued='' continued='' redirected='' kind kinds
     COMPREPLY=()
     [[ ${1##*/} == cordkit ]] || command=${1##*/}

@@ -3,11 +3,12 @@
 docs/FORMAT.md alone. The states are texts that chance changes: bytes of all kinds, lines moved, doubled, joined and all new, line ends of two kinds, no last
 break, no byte, thousands of places at once, and as they are. Each commit tells the number of the last revision; its text is the state's, every earlier
 section of the image is a front of the newer one's, each text before and its front and back keep where their bytes come from, and a state that is
-there already changes no byte of the image. Where there is git, the bytes that all commits put in are within 1.3 of what `git diff --minimal` puts in.
+there already changes no byte of the image. A state that an earlier revision has comes back by 80 bytes, with the origins that the latest such one has. Where
+there is git, the bytes that all other commits put in are within 1.3 of what `git diff --minimal` puts in.
 
 Images that chance makes, the worked ones and the vectors are gone on from too; what the second checker refuses is refused so, and stays as it is. Where
 there is strace, and RUNS is 100 or more, a commit is killed before each of its calls of the system, or that call fails, and the same command again finds the older
-image or the newer one; and another commit begins and ends while the first one stands before each of them: what either told is there.
+image or the newer one; and another commit begins and ends while the first one stands before each of them: what either told is there, and none fails for it alone.
 
 Usage: tests/commits.py [RUNS [PROGRAM [FIRST]]]; FIRST is the number of the first run. The last line is 'N passed, M failed'.
 """
@@ -32,6 +33,8 @@ from second_checker import PROGRAM, verify
 MOST_PLACES, MOST_BYTES = 4096, 65536
 # Longer texts are shown, and not followed byte by byte.
 LONGEST_FOLLOWED = 20_000
+# What an image grows by where a state comes back: a revision and its row.
+COMES_BACK = verify.REVISION_SIZE + verify.ROW_SIZE
 # From so many runs on commits are killed too, and begun in pairs.
 LONG = 100
 ANSWER = re.compile(rb"(same|committed) (\d+)\n")
@@ -120,6 +123,25 @@ def front_of(first, second):
     return min(len(first), len(second))
 
 
+def earlier_with(older, state):
+    """The latest revision of an image whose text is this one, or nothing."""
+    texts = verify.all_texts(verify.checked(older, []), [])
+    return next((k for k in reversed(range(len(texts))) if texts[k] == state), None)
+
+
+def back_fault(older, newer, earlier):
+    """What is wrong with a commit of the text that an earlier revision has, or nothing."""
+    if len(newer) > len(older) + COMES_BACK:
+        return f"{len(newer) - len(older)} bytes more for the text of revision {earlier}"
+    image = verify.checked(newer, [])
+    if image.revisions[-1][:4] != (verify.BACK, image.revisions[earlier].mark, image.revisions[earlier].root, earlier):
+        return f"another command than back to {earlier}"
+    if max(map(len, verify.all_texts(image, []))) > LONGEST_FOLLOWED:
+        return None
+    origins = origins_of(image, [])
+    return None if origins[-1] == origins[earlier] else f"other origins than those of revision {earlier}"
+
+
 def origin_fault(image, sources, count):
     """Whether a byte of the whole lines in front of a change, or behind it, comes from elsewhere than before, or nothing."""
     texts = verify.all_texts(image, sources)
@@ -180,15 +202,19 @@ def run_states(given):
     """How many bytes commits put in, how many git does, and what is wrong, or nothing."""
     program, seed = given
     chance = random.Random(seed)
-    state, ours, gits, fault = b"", 0, 0, None
+    state, states, ours, gits, fault = b"", [], 0, 0, None
     with tempfile.TemporaryDirectory() as folder:
         room = Commits(program, folder, [])
         for number in range(chance.choice([2, 6, 12])):
             before, older = state, room.image_bytes()
-            state = next_state(chance, state)
+            state = chance.choice(states) if states and chance.random() < 0.2 else next_state(chance, state)
+            states.append(state)
             fault = committed_fault(room, state, older, room.commit(state))
             newer = room.image_bytes()
-            if not fault and older and newer != older:
+            earlier = earlier_with(older, state) if not fault and older and newer != older else None
+            if earlier is not None:
+                fault = back_fault(older, newer, earlier)
+            elif not fault and older and newer != older:
                 image = verify.checked(newer, [])
                 fault = origin_fault(image, [], len(verify.image_of(older).revisions))
                 if shutil.which("git"):
@@ -328,7 +354,7 @@ def run_two(given):
                 told, said = one.communicate()
             texts = verify.all_texts(verify.checked(room.image_bytes(), []), [])
             for status, what, text in (one.returncode, said, b"of one\n"), (other[0], other[2], b"of another\n"):
-                well = text in texts if status == 0 else what in (b"refused J4\n", b"write\n") or call == "read" and what == b"read\n"
+                well = text in texts if status == 0 else what == b"refused J4\n" or call == "read" and what == b"read\n"
                 if not well:
                     return "two", 0, 0, f"two at {call} {number}: {status} {what}, {texts}"
             if one.returncode and other[0]:

@@ -3,7 +3,7 @@
 another one, with the file of a session, and by bin/cordedit, also in a terminal. A crash comes before each call of the system that makes, writes, syncs,
 renames or removes a file, or that call fails; or where a file gets longer than so many bytes, so that each file is cut at each byte. In rows of crashes
 what goes on crashes too. After each crash the image is the older one or the newer one, byte for byte, and no key that a frame told is lost. In the end the
-newer image is there, what cordedit was asked for beside it, and nothing else.
+newer image is there, what cordedit was asked for beside it, and nothing else but a digest of the file.
 
 Usage: tests/crashes.py [CRASHES [PROGRAM [FIRST]]]: so many crashes of each session, taken by chance, and as many rows of them, from the seed FIRST on;
 where the number is 0 each crash, and a hundred rows. Where there is no strace nothing is tried, which is told. The last line is 'N passed, M failed'.
@@ -196,12 +196,16 @@ class Room:
 
     def fault_at_end(self, answer):
         """What is wrong where a session went on and ended, or nothing."""
-        there = set(os.listdir(self.folder))
+        # The digest of a file may be missing where a crash came behind the image.
+        there = set(os.listdir(self.folder)) - {"image.sources", "image.sources.new"}
         if self.typed == LEAVE:
             # The next Save takes these away.
             there -= {"session", "image.new"}
         asked = {name: self.made[made] for name, made in self.session.asked.items()}
-        if answer[0] or not self.is_saved() or there != {"image", *self.session.begun, *asked}:
+        # What was replaced has this name; and so has what a session goes on from, where a call failed that would have told so.
+        kept = {"image.saved-1"} if "image" in self.session.begun and self.read("image.saved-1") == self.made["image"] else set()
+        is_lost = "image" in self.session.begun and "--onto=other" in self.session.words and not kept
+        if answer[0] or not self.is_saved() or is_lost or there - kept != {"image", *self.session.begun, *asked}:
             return f"{answer[0]} {answer[2]}, {'saved' if self.is_saved() else 'not saved'}, {sorted(there)}"
         stay = {name: self.made[name] for name in self.session.begun if name != "image"}
         changed = [name for name, data in (asked | stay).items() if self.read(name) != data]

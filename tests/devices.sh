@@ -1,7 +1,7 @@
 #!/bin/sh
 # Runs the program that `make run` built, or the one that $1 names, over inputs and outputs that are closed, that are folders, or that have no
-# room. Each run has to end with the status 3 and the one word for what stopped it, and what it wrote is a front of its answer. The last
-# line is 'N passed, M failed'.
+# room. Each run that needs them has to end with the status 3 and the one word for what stopped it, and what it wrote is a front of its answer. Files that
+# it writes are whole, whichever streams are closed. The last line is 'N passed, M failed'.
 set -u
 cd "$(dirname "$0")/../crates/cordkit" || exit 1
 program=${1:-out/cordkit}
@@ -110,6 +110,97 @@ for words in "edit $folder/old" "edit --keep $folder/keys $folder/old" "edit --o
 done
 cmp -s stdin "$folder/old" && [ ! -e "$folder/keys" ] && echo write > "$err"
 is_stopped "the image is as it was" write
+
+# Standard streams that are closed, one, two and all of them: no file that is opened takes the place of one, so no byte of an answer, a frame or a line of an
+# error is in an image or in a file of keys, and none of those is read as keys. By the program itself, and by its launcher, which runs what was built here.
+launcher=$PWD/../../bin/cordkit
+[ "$program" = out/cordkit ] || launcher=''
+case $program in
+/*) ;;
+*) program=$PWD/$program ;;
+esac
+mkdir "$folder/closed" && cd "$folder/closed" || exit 1
+image_of_text() { rm -f "$1"*; printf one > text && "$program" commit "$1" text > /dev/null && printf two > text; }
+
+# The run of these words with the streams closed that $1 names, by their numbers. It writes to `out` and `err`, and reads `typed`.
+with_closed() {
+    streams=$1 && shift
+    : > out
+    : > err
+    status=0
+    (
+        case $streams in *0*) exec 0<&- ;; *) exec 0< typed ;; esac
+        case $streams in *1*) exec 1>&- ;; *) exec 1> out ;; esac
+        case $streams in *2*) exec 2>&- ;; *) exec 2> err ;; esac
+        exec "$@"
+    ) || status=$?
+}
+
+# An image is whole, and has this text last.
+is_whole() {
+    answer=$("$program" check "$1" < /dev/null 2>&1) && revisions=${answer#accepted } &&
+        [ "$("$program" show "$1" $((${revisions%% *} - 1)))" = "$2" ]
+}
+
+# What the run $1 has to end with: the status, and what it says where standard error is not closed.
+ends() {
+    is=yes
+    [ "$status" = "$2" ] || is="status $status"
+    case $streams in *2*) [ ! -s err ] || is="standard error $(cat err)" ;; *) [ "$(cat err)" = "$3" ] || is="standard error $(cat err)" ;; esac
+    [ "$4" = true ] || is='another image'
+    [ ! -e image.keys ] || [ "$(head -c 8 image.keys)" = CORDKEYS ] || is='other keys'
+    [ ! -e image.new ] || is='image.new'
+    if [ "$is" = yes ]; then
+        passed=$((passed + 1))
+    else
+        failed=$((failed + 1))
+        echo "FAILED: $1, closed $streams: $is" >&2
+    fi
+}
+if_true() { if "$@"; then echo true; else echo false; fi; }
+
+# A tool that needs its output ends by `write` where that is closed, and the editor by `read` where its keys are.
+try_closed() {
+    by=$1 && shift
+    for streams in 0 1 2 01 02 12 012; do
+        case $streams in *1*) got=3 said=write ;; *) got=0 said='' ;; esac
+        image_of_text image
+        with_closed "$streams" "$by" commit image text
+        ends commit "$got" "$said" "$(if_true is_whole image two)"
+        [ "$got" = 3 ] || { [ "$(cat out)" = 'committed 2' ] && passed=$((passed + 1)) || failed=$((failed + 1)); }
+        rm -f image
+        with_closed "$streams" "$by" commit image text
+        ends 'a first commit' "$got" "$said" "$(if_true is_whole image two)"
+        for words in 'apply script text' 'apply --onto old onto' 'migrate old'; do
+            # shellcheck disable=SC2086 # words
+            with_closed "$streams" "$by" $words
+            ends "$words" "$got" "$said" "$(if_true is_whole old one)"
+            [ "$got" = 3 ] || { "$program" check out $(case $words in *text) echo text ;; esac) > answer && passed=$((passed + 1)) || failed=$((failed + 1)); }
+        done
+        case $streams in *1*) ;; *0*) got=3 said=read ;; esac
+        for words in 'edit image' 'edit image text' 'edit --keep=image.keys image' 'edit --keep=image.keys image text' \
+            'edit --onto=old image' 'edit --onto=image --keep=image.keys image'; do
+            image_of_text image
+            case $words in *--onto=image*) ;; *) rm -f image ;; esac
+            # shellcheck disable=SC2086 # words
+            with_closed "$streams" "$by" $words
+            case $got$words in
+            3*--onto=image*) text='is_whole image one' ;;
+            3*) text='test ! -e image' ;;
+            0*text) text='"$program" check image text' ;;
+            0*--onto*) text='is_whole image XYone' ;;
+            0*) text='is_whole image XY' ;;
+            esac
+            ends "$words" "$got" "$said" "$(if_true eval "$text > answer")"
+        done
+    done
+}
+printf 'XY\030' > typed
+printf 'open 0\ninsert 0 0 "XY"\n' > script
+printf 'insert 1 0 "XY"\n' > onto
+image_of_text old
+try_closed "$program"
+[ -z "$launcher" ] || try_closed "$launcher"
 
 echo "$passed passed, $failed failed"
 [ "$failed" = 0 ]

@@ -1,7 +1,7 @@
 #!/usr/bin/env python3
 """Has the built cordkit commit files before and behind edits of many kinds, row by row: blocks of 1,000 to 50,000 lines taken out, put in or moved, lines
 like code, whose text comes again and again, files of 300,000 lines, lines of a megabyte, bytes that are no lines. In each row the commit's last
-text is the file, and the bytes that its commands put in are at most 1.3 times those of `git diff --minimal`.
+text is the file, the bytes that its commands put in are at most 1.3 times those of `git diff --minimal`, and the first state comes back by 80 bytes more.
 
 With `times` each row also tells, by the least of three runs in milliseconds, what the commit takes, what `git diff` takes of the two files, and what a
 check and an `apply --onto` of an empty script take of the image before; a commit that takes more than half as much again as these three is an error.
@@ -19,7 +19,7 @@ import sys
 import tempfile
 import time
 
-from commits import ANSWER, Commits, git_puts
+from commits import ANSWER, COMES_BACK, Commits, git_puts
 from second_checker import PROGRAM, verify
 
 # The bytes put in, as often as git's, and the milliseconds beside those of git.
@@ -182,7 +182,7 @@ def rows(which):
 
 
 def put_by(image):
-    """How many bytes the splices of an image put in. A commit makes no other commands."""
+    """How many bytes the splices of an image put in. No other command of a commit puts any in."""
     header = verify.header_of(image)
     sizes = header.sections()
     start = sum(sizes[:4])
@@ -230,6 +230,10 @@ def row_fault(room, first, second, timed):
     ours, gits = put_by(newer) - put_by(older), git_puts(room.folder, first, second)
     text = f"{ours:,} bytes put in, {gits:,} by git; {verify.header_of(newer).revisions - verify.header_of(older).revisions} revisions, {len(newer) - len(older):,} more of the image"
     fault = f"{ours} bytes put in, {gits} by git" if ours > MOST_TIMES_GIT * gits else None
+    room.commit(first)
+    back = len(room.image_bytes()) - len(newer)
+    if back > COMES_BACK:
+        fault = fault or f"{back} bytes more of the image where the first state comes back"
     if timed:
         commit, git, check, onto = times_of(room, first, second, older)
         text += f"; commit {commit:.0f} ms, git diff {git:.0f}, check {check:.0f}, apply --onto {onto:.0f}"

@@ -12,7 +12,7 @@ if ! [ -x "$CORDKIT" ]; then
     echo "0 passed, 1 failed"
     exit 1
 fi
-pipes='over_another discarding gone_on two_files_of_keys left_behind no_room words_of_the_script goes_on between_renames two_over_one'
+pipes='over_another kept_by_name restores discarding gone_on two_files_of_keys left_behind no_room words_of_the_script goes_on between_renames two_over_one at_once modes'
 if ! command -v tmux > /dev/null; then
     echo "there is no tmux here: nothing was tried in a terminal"
     # shellcheck disable=SC2086 # words
@@ -74,7 +74,7 @@ basic() {
     start image; await shows 'rev 4 byte 0 of 4'; keys C-u; await shows 'rev 5 byte 0 of 3'; keys C-c; ended; is 'undo crosses Save' "$(cat status) $(tail -c 1 image.keys | od -An -tx1) $(text)" '0 restored  15 dabc'
     wanted="2 cordedit: image.keys has keys over the image that is there: without -f the same command goes on from there, and cordedit --discard 'image' drops them"; refused 'they are not over the file' -f image
     start image; await shows 'rev 5 byte 0 of 3'; keys C-x; ended; is 'goes on from there' "$(cat status) $(text) $(echo image*)" '0 restored abc image'
-    ready -f image; type_text new; keys C-x; ended; is 'replaced' "$(text) $(echo image*)" 'new image'
+    ready -f image; type_text new; keys C-x; ended; is 'replaced' "$(text) $(echo image*)" 'new image image.saved-1'
     clean; ready image; type_text abc; await shows 'rev 3'; keys C-c; ended; is 'left' "$(cat status) $(body) $(echo image*)" '0 restored abc image.keys'; sed 's/^/    /' said
     start image; await shows 'rev 3 byte 3 of 3'; type_text d; await shows 'rev 4'; is 'goes on' "$(body)" abcd; keys C-x; ended; is 'saved' "$(text) $(echo image*)" 'abcd image'
     clean; ready image; keys C-c; ended; is 'no key, no journal' "$(echo image*)" 'image*'
@@ -98,7 +98,7 @@ cordedit: not saved; the keys are kept: over the image and the file that they be
     start image file; await shows 'rev 2'; keys C-x; ended; is 'and its file' "$(cat status) $(text file | head -n 1)" '0 restored yxone'
     clean; ready image; type_text a; await shows 'rev 1'; mkdir -p other; "$CORDKIT" edit --keep=image.keys image < /dev/null > /dev/null 2> err; is 'in use' "$? $(cat err)" '1 refused J2'; keys C-x; ended; is 'not disturbed' "$(text)" a
     clean; mkdir image; wanted='3 write
-write: the image image, the file of keys or standard output could not be written'; refused 'a folder' -f image; clean
+write: image could not be written: it is a folder'; refused 'a folder' -f image; clean
     head -c 30 /dev/zero > zero; "$CORDKIT" edit --keep=image.keys image < /dev/null > /dev/null; is 'nothing typed' "$(echo image*)" 'image*'
     printf 'abc\003' | "$CORDKIT" edit --keep=image.keys image > /dev/null; for n in 0 1 17 55; do head -c $n image.keys > torn.keys; printf 'Q\030' | "$CORDKIT" edit --keep=torn.keys image > /dev/null; is "torn at $n" "$? $(text) $(echo torn*)" '0 Q torn*'; rm -f image; done
     clean
@@ -120,21 +120,52 @@ pastes() {
     printf 'a\tb\nc' > want; text > got; cmp -s got want; is 'a paste has no command' "$?" 0; clean
 }
 
+# What a terminal is shown: a first screen with a name, the bytes that were not taken, and of a paste of 9,712 bytes a few frames.
+row() { in_tmux capture-pane -p | tail -n 1; }
+watched() {
+    clean; ready image; await shows leaves; is 'a first screen' "$(row)" 'rev 0 byte 0 of 0 image  Ctrl-X saves  Ctrl-C leaves'
+    type_text a; await shows 'rev 1'; is 'until the first key' "$(row)" 'rev 1 byte 1 of 1'
+    printf '\303\251\200' > bytes; paste bytes; await shows 'taken: 3'; is 'typed bytes' "$(row)" 'rev 1 byte 1 of 1 bytes not taken: 3'
+    type_text b; await shows 'rev 2'; is 'until the next key' "$(row)" 'rev 2 byte 2 of 2'
+    printf 'c\303\251' > bytes; in_tmux load-buffer -b k bytes; in_tmux paste-buffer -p -r -d -b k; await shows taken; is 'pasted bytes' "$(row)" 'rev 3 byte 3 of 3 bytes not taken: 2'
+    kill -s TSTP "$(cat wrapper)"; await is_stopped; kill -s CONT "$(cat wrapper)"; await shows taken; is 'and behind a stop' "$(row)" 'rev 3 byte 3 of 3 bytes not taken: 2'
+    keys C-x; ended; is 'saved' "$(cat status) $(text)" '0 restored abc'
+    clean; ready image; in_tmux pipe-pane 'cat > frames'; head -c 9712 /dev/zero | tr '\0' x > typed; paste typed; await shows 'rev 9712'; in_tmux pipe-pane
+    n=$(grep -ao '\[2J' frames | wc -l); echo "    $n frames"; is 'a long paste has few frames' "$([ "$n" -gt 0 ] && [ "$n" -lt 500 ] && echo few)" few
+    is 'and each key is kept' "$(body | wc -c)" 9712; keys C-x; ended; is 'saved' "$(cat status) $(text | wc -c)" '0 restored 9712'; rm -f bytes typed frames; clean
+}
+
+# In fewer rows than a frame has the cursor's row is shown, and the message's.
+at_cursor() { in_tmux capture-pane -p | sed -n "$(($(in_tmux display-message -p '#{cursor_y}') + 1))p"; }
+few_rows() {
+    for n in 23 12 3; do
+        clean; seq 40 > file; size="-x 80 -y $n"; ready image file; await shows leaves; is "$n rows: the first line" "$(in_tmux capture-pane -p | head -n 1) $(at_cursor)" '1 1'
+        for line in 2 12 13 14 25 40; do
+            while [ "$(in_tmux capture-pane -p | tail -n 1 | cut -d ' ' -f 4)" -lt "$(head -n $((line - 1)) file | wc -c)" ]; do keys Down; sleep 0.05; done
+            is "$n rows: line $line" "$(at_cursor) $(row)" "$line rev 0 byte $(head -n $((line - 1)) file | wc -c) of $(wc -c < file)"
+        done
+        keys C-c; ended
+    done
+    size='-x 80 -y 23'; ready image file; in_tmux resize-window -x 80 -y 30; await shows 23; in_tmux resize-window -x 80 -y 10; sleep 0.3; await shows leaves; is 'after a change' "$(at_cursor) $(in_tmux capture-pane -p | wc -l)" '1 10'
+    keys C-c; ended; size='-x 80 -y 24'; rm -f file; clean
+}
+
 options() {
     clean; printf 'one\n' > file; ready --copy --text out image file; type_text x; await shows 'rev 1'; keys C-x; ended
-    is 'a text, and a copy' "$(cat status) $(cat out) $(cat image.0) $(echo image*)" '0 restored xone one image image.0'
+    is 'a text, and a copy' "$(cat status) $(cat out) $(cat image.0) $(echo image*)" '0 restored xone one image image.0 image.sources'
     ready --continue image next file; type_text y; await shows 'rev 1'; keys C-c; ended; start --continue image next file; await shows 'rev 1'; keys C-x; ended
-    is 'goes on from the last text' "$(cat status) $("$CORDKIT" show next 1 next.0) $(echo next*)" '0 restored yxone next next.0'
+    is 'goes on from the last text' "$(cat status) $("$CORDKIT" show next 1 next.0) $(echo next*)" '0 restored yxone next next.0 next.sources'
     wanted='2 cordedit: file is the file itself, over which the image stands'; refused 'the file as OUT' --text file new file
-    rm -f out next next.0; ready --text out image2 file; keys C-c; ended; is 'left with no key' "$(cat status) $(echo out* image2*)" '0 restored out* image2*'; rm -f file; clean
+    rm -f out next next.0 next.sources; ready --text out image2 file; keys C-c; ended; is 'left with no key' "$(cat status) $(echo out* image2*)" '0 restored out* image2*'; rm -f file; clean
 }
 
 folders() {
     [ "$(id -u)" != 0 ] || { echo '    as root each folder can be written'; return; }
     mkdir -p closed; printf 'abc\030' | "$CORDKIT" edit closed/image > /dev/null; chmod 555 closed
-    printf 'abcd\030' | "$CORDKIT" edit closed/image > /dev/null; is 'a closed folder' "$? $("$CORDKIT" show closed/image 4)" '0 abcd'
+    printf 'abcd\030' | "$CORDKIT" edit closed/image > /dev/null 2> said; is 'a closed folder: what is there can have no other name' "$? $(cat said) $("$CORDKIT" show closed/image 3)" '3 write abc'
+    printf 'abcd\030' | "$CORDKIT" edit --replace closed/image > /dev/null; is 'a closed folder' "$? $("$CORDKIT" show closed/image 4)" '0 abcd'
     wanted='3 write
-write: the image closed/image, the file of keys or standard output could not be written'; refused 'a closed folder' -f closed/image; chmod 755 closed; rm -rf closed
+write: closed/image.keys could not be written: the rights of the file or of its folder are against it'; refused 'a closed folder' -f closed/image; chmod 755 closed; rm -rf closed
 }
 
 signals() {
@@ -150,7 +181,7 @@ signals() {
     clean; ready image; type_text abc; await shows 'rev 3'; kill -9 "$(cat wrapper)"; ended; await none_left; is 'the wrapper is killed' "$(cat status) $(body)" '137 restored abc'
     type_text next; keys Enter; await test -s answer; is 'no key is eaten then' "$(cat answer) $(body)" 'next abc'; in_tmux kill-server; clean
     ready image; type_text abc; await shows 'rev 3'; in_tmux resize-window -x 79 -y 24; await shows 'the window has fewer'; in_tmux resize-window -x 90 -y 30; await shows 'rev 3 byte 3 of 3'
-    type_text d; await shows 'rev 4'; in_tmux resize-window -x 80 -y 20; await shows 'the window has fewer'; keys C-c; ended; is 'left in a small window' "$(cat status) $(body)" '130 restored abcd'; clean
+    type_text d; await shows 'rev 4'; in_tmux resize-window -x 80 -y 2; await shows 'the window has'; keys C-c; ended; is 'left in a small window' "$(cat status) $(body)" '130 restored abcd'; clean
     write_other theirs; ready image; type_text abc; await shows 'rev 3'; kill -s TSTP "$(cat wrapper)"; await is_stopped
     printf 'd\030' | "$CORDKIT" edit --keep=image.keys image > /dev/null; kill -s CONT "$(cat wrapper)"; ended
     is 'stopped, and another one saves' "$(cat status) $(head -n 1 said) $(text) $(files)" '1 restored refused J5 abcd image'; clean
@@ -168,8 +199,9 @@ signals() {
     printf '#!/bin/sh\nmv image.keys image.keys.saved\nkill -9 $$\n' > within_save; chmod +x within_save; program=$CORDKIT; CORDKIT=$room/within_save; start image; ended; CORDKIT=$program
     is 'killed within Save' "$(cat status) $(grep cordedit said)" '137 restored cordedit: ended within Save: the same command goes on with the image, or with its keys where it is not in its place'
     start image; await shows 'rev 5 byte 3 of 5'; keys C-x; ended; is 'and saved' "$(cat status) $(text) $(files)" '0 restored abcxy image'; rm -f within_save; clean
-    wanted='2 cordedit: the terminal has fewer than 80 columns or 24 rows'
-    size='-x 79 -y 24'; refused narrow image; size='-x 80 -y 23'; refused low image; size='-x 80 -y 24'; clean
+    wanted='2 cordedit: there is no folder missing'; refused 'no folder' missing/image
+    wanted='2 cordedit: the terminal has fewer than 80 columns or 3 rows'
+    size='-x 79 -y 24'; refused narrow image; size='-x 80 -y 2'; refused low image; size='-x 80 -y 24'; clean
 }
 
 # An interactive shell as the parent: where the wrapper was killed, it takes the terminal back, and the program ends, and takes no key of it.
@@ -261,7 +293,8 @@ close() {
     got=$?
 }
 has_keys() { [ "$(tail -c +57 "$1")" = "$2" ]; }
-files() { echo image* | sed 's/^image\*$//'; }
+# Digests of a file stay beside its image, and are no file of a session.
+files() { echo image* | sed 's/^image\*$//; s/ image\.sources$//'; }
 image_of() { "$CORDKIT" show "$1" "$(($("$CORDKIT" check "$1" | cut -d ' ' -f 2) - 1))"; }
 write_other() { printf 'new\ninsert 0 0 "%s"\n' "$1" > script && "$CORDKIT" apply script > other.cord; }
 refusal() { echo "$got $(head -n 1 "$1.said")"; }
@@ -297,9 +330,64 @@ over_another() {
     begin A --keep=image.keys --no-clobber image; close A; is 'nor by keys that were kept' "$(refusal A) $(body)" '1 refused J3 abc'
     : > image.saved-1; begin A --keep=image.keys image; await grep -q 'rev 3' A.out; cat other.cord > image; type_keys A 'd\030'; close A
     is 'no name is used twice' "$(refusal A) $(wc -c < image.saved-1) $(image_of image.saved-2) $(body)" '1 refused J4 0 abcd abcd'
-    begin A --keep=image.keys image; type_keys A 'e\030'; close A; is 'it is replaced where it is as it was' "$got $(text) $(files)" '0 abcde image image.saved-1 image.saved-2'
+    begin A --keep=image.keys image; type_keys A 'e\030'; close A; is 'it is replaced where it is as it was' "$got $(text) $(files)" '0 abcde image image.saved-1 image.saved-2 image.saved-3'
+    cmp -s image.saved-3 other.cord; is 'and is kept' "$?" 0
     clean; : > image; begin A --keep=image.keys --no-clobber image; type_keys A 'a\030'; close A; is 'an empty one is replaced' "$got $(text) $(files)" '0 a image'
-    clean; begin A image; type_keys A abc; await grep -q 'rev 3' A.out; cat other.cord > image; type_keys A '\030'; close A; is 'without keys what is there is replaced' "$got $(text)" '0 abc'; clean
+    clean; begin A image; type_keys A abc; await grep -q 'rev 3' A.out; cat other.cord > image; type_keys A '\030'; close A; is 'without keys what is there is replaced' "$got $(text) $(image_of image.saved-1)" '0 abc theirs'; clean
+}
+
+# The image that was there has a name at each moment: where links, moves and syncs fail, and where the program is killed before one.
+others() { for file in image.saved-*; do [ ! -s "$file" ] || printf ' %s' "$(cksum < "$file")"; done; }
+kept_by_name() {
+    printf 'old\030' | "$CORDKIT" edit older > /dev/null; was=$(cksum < older); printf 'abc\030' | "$CORDKIT" edit newer > /dev/null; new=$(cksum < newer)
+    said="the image that was there is kept as $(pwd -P)/image.saved"
+    for keys in '' --keep=image.keys; do
+        clean; cp older image; printf 'abc\030' | "$CORDKIT" edit $keys image > /dev/null 2> A.said; is "$keys: kept" "$? $(cat A.said) $(cksum < image)$(others)" "0 $said-1 $new $was"
+        printf 'abc\030' | "$CORDKIT" edit $keys image > /dev/null 2> A.said; is "$keys: the same bytes" "$? $(cat A.said) $(files)" '0  image image.saved-1'
+        printf 'old\030' | "$CORDKIT" edit $keys image > /dev/null 2> A.said; is "$keys: the next number" "$? $(cat A.said) $(cksum < image)$(others)" "0 $said-2 $was $was $new"
+        printf 'abc\030' | "$CORDKIT" edit $keys --replace image > /dev/null 2> A.said; is "$keys: it may go" "$? $(cat A.said) $(cksum < image)$(others)" "0  $new $was $new"
+        ln -s image image.link; printf 'old\030' | "$CORDKIT" edit $keys image.link > /dev/null 2> A.said; is "$keys: behind a link" "$? $(cat A.said) $(cksum < image) $(readlink image.link)" "0 $said-3 $was image"
+    done
+    clean; cp older image; printf 'z\030' | "$CORDKIT" edit --onto image image > /dev/null 2> A.said; is 'the same history' "$? $(cat A.said) $(files)" '0  image'
+    clean; : > image; printf 'abc\030' | "$CORDKIT" edit image > /dev/null 2> A.said; is 'an empty file' "$? $(cat A.said) $(files)" '0  image'
+    clean; printf one > file; cp older image; echo mine > image.0; printf '\030' | "$CORDEDIT" -f --copy image file > /dev/null 2> A.said
+    is 'a copy that was there' "$? $(tail -n 1 A.said) $(cat image.0 image.0.saved-1) $(cksum < image.saved-1)" "0 cordedit: what was there of image.0 is kept as image.0.saved-1 onemine $was"
+    printf '\030' | "$CORDEDIT" -f --copy image file > /dev/null 2> A.said; is 'the same copy' "$? $(cat A.said) $(files)" '0  image image.0 image.0.saved-1 image.saved-1'; rm -f file
+    command -v strace > /dev/null || { echo '    there is no strace here'; clean; rm -f older newer; return; }
+    fails() { clean; cp older image; printf 'abc\030' | strace -f -qq -o /dev/null -e "inject=$1" "$CORDKIT" edit --keep=image.keys image > /dev/null 2> A.said; got=$?; }
+    fails link:error=EPERM; is 'a device without links' "$got $(cat A.said) $(cksum < image)$(others) $(files)" "0 $said-1 $new $was image image.saved-1"
+    fails rename:error=EIO; is 'no move' "$got $(cat A.said) $(cksum < image) $(body) $(files)" "3 write $was abc image image.keys"
+    printf 'abc\030' > saving; runs=0 lost=0
+    for links in yes ''; do for call in fsync flock rename unlink openat statx ${links:+link}; do
+        k=1
+        while clean; cp older image; ! strace -f -qq -o /dev/null $([ -n "$links" ] || echo -einject=link:error=EPERM) -e "inject=$call:signal=KILL:when=$k" "$CORDKIT" edit --keep=image.keys image < saving > out 2> A.said; do
+            there=$(for file in image image.saved-*; do [ ! -e "$file" ] || cksum < "$file"; done)
+            printf '\030' | "$CORDKIT" edit --keep=image.keys image > out 2> A.said; got=$?
+            case $got$there in 0*"$was"*) [ "$(others)" = " $was" ] ;; *) false ;; esac || { lost=$((lost + 1)); echo "    ${links:-no links} $call $k: $got $(cat A.said) '$there', then $(cksum < image)$(others)"; }
+            k=$((k + 1)) runs=$((runs + 1))
+        done
+    done; done
+    echo "    killed at $runs calls"; is 'a name at each moment' "$lost" 0; clean; rm -f older newer out
+}
+
+# A file that is restored has the one text or the other, and what it held is in the image then: killed before each call, and where each fails.
+restores() {
+    clean; printf one > file; "$CORDKIT" commit older file > out; printf 'one two' > file; "$CORDKIT" commit older file >> out; printf three > file; cp older image
+    "$CORDKIT" restore image 1 file >> out; is 'restored' "$? $(cat out | tr '\n' ' ')$(cat file) $(text)" '0 committed 1 committed 2 committed 3 one three'
+    command -v strace > /dev/null || { echo '    there is no strace here'; clean; rm -f older out file; return; }
+    runs=0 lost=0
+    for ends in signal=KILL error=EIO; do for call in openat read write fsync flock link rename statx; do
+        k=1
+        while clean; cp older image; rm -f file.*; printf three > file; strace -f -qq -o trace -e "inject=$call:$ends:when=$k" "$CORDKIT" restore image 1 file > out 2> said; got=$?; [ "$got" -gt 128 ] || grep -q INJECTED trace; do
+            case "$ends $got $(cat file)" in
+            *' one') [ "$(text)" = three ] ;;
+            'signal=KILL '*' three' | 'error=EIO '[!0]*' three') [ "$(text)" = three ] || cmp -s image older ;;
+            *) false ;;
+            esac && { [ "$ends" = signal=KILL ] || [ "$(echo file.*)" = 'file.*' ]; } || { lost=$((lost + 1)); echo "    $ends $call $k: $got $(cat said) '$(cat file)' '$(text)' $(echo file.*)"; }
+            k=$((k + 1)) runs=$((runs + 1))
+        done
+    done; done
+    echo "    ended at $runs calls"; is 'a file that is restored' "$lost" 0; clean; rm -f older out said trace file file.*
 }
 
 discarding() {
@@ -323,7 +411,7 @@ gone_on() {
     begin A --keep=image.keys --session=state image; type_keys A '\030'; close A; is 'the keys are gone' "$(refusal A) $(text) $(files)" '1 refused J5 abcd image'
     begin B --keep=image.keys image; type_keys B e; await has_keys image.keys e
     begin A --keep=image.keys --session=state image; type_keys A '\030'; close A; is 'another one has its name' "$(refusal A)" '1 refused J5'
-    type_keys B '\030'; close B; is 'and is not disturbed' "$got $(text) $(files)" '0 e image'
+    type_keys B '\030'; close B; is 'and is not disturbed' "$got $(text) $(image_of image.saved-1) $(files)" '0 e abcd image image.saved-1'
     clean; rm -f state; cp other.cord image; begin A --keep=image.keys --session=state image; type_keys A abc; await has_keys image.keys abc; kill -9 "$a"; close A
     write_other more; cp other.cord image; begin A --keep=image.keys --session=state image; type_keys A '\030'; close A
     is 'what was there at its beginning' "$(refusal A) $(image_of image) $(image_of image.saved-1) $(body)" '1 refused J4 more abc abc'; rm -f state
@@ -332,6 +420,12 @@ gone_on() {
     clean; rm -f state; begin A --keep=image.keys --session=state image; type_keys A abc; await has_keys image.keys abc; kill -9 "$a"; close A
     printf 'abc\030' | "$CORDKIT" edit image > /dev/null; begin A --keep=image.keys --session=state image; type_keys A '\030'; close A
     is 'its own image is there already' "$got $(text) $(files) $(echo state*)" '0 abc image state*'
+    clean; rm -f state; printf 'old\030' | "$CORDKIT" edit image > /dev/null; begin A --onto=image --keep=image.keys --session=state image; type_keys A abc; await has_keys image.keys abc; kill -9 "$a"; close A
+    mv image.keys image.keys.saved; begin A --onto=image --keep=image.keys --session=state image; await grep -q 'rev 6' A.out; type_keys A 'd\003'; close A; is 'killed within Save, before its rename' "$got $(body)" '0 abcd'
+    mv image.keys image.keys.saved; printf 'abcd\030' | "$CORDKIT" edit --onto=image image > /dev/null
+    begin A --onto=image --keep=image.keys --session=state image; await grep -q 'rev 7' A.out; type_keys A 'e\030'; close A; is 'and behind it: it goes on with the image' "$got $(cat A.said) $(text) $(files) $(echo state*)" '0  eabcdold image state*'
+    clean; printf 'old\030' | "$CORDKIT" edit image > /dev/null; begin A --onto=image --keep=image.keys --session=state image; type_keys A abc; await has_keys image.keys abc; kill -9 "$a"; close A; rm image.keys
+    begin A --onto=image --keep=image.keys --session=state image; close A; is 'keys that another one dropped' "$(refusal A) $(text)" '1 refused J5 old'; rm -f state; clean
 }
 
 two_files_of_keys() {
@@ -340,7 +434,8 @@ two_files_of_keys() {
         begin A --keep=image.keys image; type_keys A one; await has_keys image.keys one
         begin B --keep=other.keys image; type_keys B two; await has_keys other.keys two
         type_keys A '\030'; close A; is "$begun: the first that saves" "$got $(text)" '0 one'
-        type_keys B '\030'; close B; is "$begun: the second" "$(refusal B) $(text) $(image_of image.saved-1) $(files)" '1 refused J4 one two image image.saved-1'
+        type_keys B '\030'; close B; others=$(for file in image.saved-*; do image_of "$file"; done)
+        is "$begun: the second" "$(refusal B) $(text)" '1 refused J4 one'; is "$begun: each has a name" "$others" "$([ "$begun" = nothing ] || printf old)two"
     done
     rm -f other.keys; clean
 }
@@ -349,8 +444,8 @@ two_files_of_keys() {
 left_behind() {
     clean; printf 'old\030' | "$CORDKIT" edit image > /dev/null; ln image image.new; before=$(cksum < image)
     begin A --keep=image.keys image; type_keys A 'abc\003'; close A; is 'a second name of the image' "$got $(cksum < image) $(body)" "0 $before abc"
-    ln image image.new 2> /dev/null; begin A --keep=image.keys image; type_keys A '\030'; close A; is 'and Save' "$got $(text) $(files)" '0 abc image'
-    ln image image.new; printf 'new\030' | "$CORDKIT" edit image > /dev/null; is 'without keys' "$? $(text) $(files)" '0 new image'
+    ln image image.new 2> /dev/null; begin A --keep=image.keys image; type_keys A '\030'; close A; is 'and Save' "$got $(text) $(cksum < image.saved-1) $(files)" "0 abc $before image image.saved-1"; rm image.saved-1
+    ln image image.new; printf 'new\030' | "$CORDKIT" edit --replace image > /dev/null; is 'without keys' "$? $(text) $(files)" '0 new image'
     clean; begin A --keep=image.keys image; type_keys A abc; close A; cp image.keys kept; begin A --keep=image.keys image; type_keys A '\030'; close A
     cp kept image.keys; ln image image.new; before=$(cksum < image); "$CORDKIT" edit --keep=image.keys --no-clobber image < /dev/null > /dev/null 2> A.said; got=$?
     is 'the keys of an image that was saved' "$got $(cat A.said) $(cksum < image) $(files)" "0 the session was saved before: its image is image $before image"
@@ -358,7 +453,7 @@ left_behind() {
     write_other theirs; cat other.cord > image; cp kept image.keys; "$CORDKIT" edit --keep=image.keys --no-clobber image < /dev/null > /dev/null 2> A.said; got=$?
     is 'the image of other keys' "$(refusal A) $(image_of image) $(body) $(files)" '1 refused J3 theirs abc image image.keys'; rm -f kept
     clean; printf 'new\030' | "$CORDKIT" edit image > /dev/null
-    printf CORDSESS > image.new; printf 'abc\030' | "$CORDKIT" edit --keep=image.keys image > /dev/null; is 'a part of an image' "$? $(text) $(files)" '0 abc image'
+    printf CORDSESS > image.new; printf 'abc\030' | "$CORDKIT" edit --replace --keep=image.keys image > /dev/null; is 'a part of an image' "$? $(text) $(files)" '0 abc image'
     if command -v flock > /dev/null; then
         : > image.new; printf 'd\030' | flock image.new "$CORDKIT" edit --keep=image.keys image > /dev/null 2> A.said; got=$?
         is 'a part that another session writes' "$(refusal A) $(text) $(body) $(files)" '3 write abc d image image.keys image.new'
@@ -368,9 +463,74 @@ left_behind() {
 
 no_room() {
     clean; printf 'abc\030' > saving
-    "$CORDKIT" edit --keep=image.keys image < saving >&- 2> A.said; got=$?; is 'a closed output, which the keys would be' "$got $(cat A.said) $(wc -c < image.keys)" '3 write 0'; clean
+    "$CORDKIT" edit --keep=image.keys image < saving >&- 2> A.said; got=$?; is 'a closed output' "$got $(cat A.said) $(files)" '3 write '; clean
+    "$CORDKIT" edit --keep=image.keys image < saving > image.keys 2> A.said; got=$?; is 'an output that is the file of keys' "$got $(cat A.said) $(wc -c < image.keys)" '3 write 0'; clean
     (trap '' XFSZ; ulimit -f 0; "$CORDKIT" edit image < saving 2>&1 > /dev/null) | cat > A.said; is 'no part of 0 bytes stays' "$(cat A.said) $(files)" 'write '
     (trap '' XFSZ; ulimit -f 0; "$CORDKIT" edit --keep=image.keys image < saving 2>&1 > /dev/null) | cat > A.said; is 'no room at the start' "$(cat A.said) $(files)" 'write '; clean
+}
+
+# Runs that begin at once: each commit is made, behind the others, and each session without keys is saved, where it was the last one. They wait for each other.
+at_once() {
+    mkdir texts; numbers=$(seq 20)
+    for begun in nothing image; do
+        clean; [ "$begun" = nothing ] || printf 'old\030' | "$CORDKIT" edit image > /dev/null
+        for n in $numbers; do
+            echo "text $n" > "texts/$n"
+            { "$CORDKIT" commit image "texts/$n" > "texts/$n.said" 2>&1; echo $? >> "texts/$n.said"; } &
+        done
+        wait
+        lost=''
+        for n in $numbers; do
+            read -r said revision < "texts/$n.said"
+            [ "$said $(tail -n 1 "texts/$n.said")" = 'committed 0' ] && "$CORDKIT" show image "$revision" | cmp -s - "texts/$n" || lost="$lost $n: $(cat "texts/$n.said")"
+        done
+        is "$begun: twenty commits at once" "$lost $(sort -u texts/*.said | grep -c committed) $(files)" ' 20 image'
+    done
+    clean
+    for n in $numbers; do { printf "%s\\030" "$n" | "$CORDKIT" edit image > /dev/null 2> "texts/$n.said"; echo $? >> "texts/$n.said"; } & done
+    wait
+    is 'twenty sessions without keys at once' "$(tail -qn 1 texts/*.said | sort -u) $(echo image.n*) $(echo "$numbers" | grep -cx "$(text)")" '0 image.n* 1'
+    rm -r texts
+    if command -v flock > /dev/null; then
+        clean; printf abc > saving; : > image.new; flock image.new sleep 1 & flock -w 1 image.new true; "$CORDKIT" commit image saving > A.said 2>&1
+        is 'a commit waits for another run' "$? $(cat A.said) $(files)" '0 committed 1 image'; wait
+        : > image.new; printf 'x\030' > typed; flock image.new "$CORDKIT" edit image < typed > /dev/null 2> A.said; is 'and an edit, as long as that' "$? $(cat A.said) $(text)" '3 write abc'
+        printf abcd > saving; flock image.new "$CORDKIT" commit image saving > A.said 2>&1; is 'a commit behind a run that does not end' "$? $(cat A.said) $(text) $(files)" '1 refused J4 abc image image.new'
+    fi
+    clean
+}
+
+# Who may read what is made. A new image is as open as its file, and as the image that it goes on from; so is a copy, a text and the file of times. Keys
+# are their owner's alone. An image that is there stays as open as it is.
+modes() {
+    mode() { echo $(stat -c %a "$@" 2>&1); }
+    before=$(umask)
+    for mask in 022 077; do
+        umask "$mask"
+        for bits in 600 640 644; do
+            name="umask $mask, a file $bits"
+            clean; printf abc > text; chmod "$bits" text; "$CORDKIT" commit image text > /dev/null; is "$name: a commit" "$(mode image)" "$bits"
+            chmod 604 image; printf abcd > text; "$CORDKIT" commit image text > /dev/null; is "$name: the next one" "$(mode image)" 604
+            clean; printf 'x\030' | "$CORDKIT" edit image text > /dev/null; is "$name: an edit" "$(mode image)" "$bits"
+            chmod 604 image; printf 'x\030' | "$CORDKIT" edit --onto=image image text > /dev/null; is "$name: over it" "$(mode image)" 604
+            chmod 660 image; printf 'x\030' | "$CORDKIT" edit --onto=image image.too text > /dev/null; is "$name: from one image to another" "$(mode image.too)" "$(printf %o $((0$bits & 0660)))"
+            clean; begin A --keep=image.keys image text; type_keys A abc; await has_keys image.keys abc; is "$name: keys" "$(mode image.keys)" 600
+            type_keys A '\030'; close A; is "$name: saved by keys" "$(mode image)" "$bits"
+            clean; printf 'x\030' | "$CORDEDIT" --copy --text image.text image text > /dev/null; is "$name: by the script" "$(mode image image.0 image.text)" "$bits $bits $bits"
+            chmod 604 image.text; printf 'x\030' | "$CORDEDIT" --text image.text image text > /dev/null; is "$name: a text that was there" "$(mode image.text)" 604
+            printf '' | "$CORDEDIT" --continue image image_next text > /dev/null; is "$name: the next text" "$(mode image_next.0)" "$bits"; rm -f image_next*
+            clean; sh "$here/examples/keep_file" text > /dev/null; is "$name: times" "$(mode text.cord text.times)" "$bits $bits"
+            chmod 604 text.times; echo more >> text; sh "$here/examples/keep_file" text > /dev/null; is "$name: the next ones" "$(mode text.times)" 604; rm -f text.*
+            if command -v strace > /dev/null; then
+                clean; printf abc > text; strace -qq -o /dev/null -e inject=write:signal=KILL:when=1 "$CORDKIT" commit image text > /dev/null 2>&1
+                is "$name: before the first byte" "$(mode image.new) $(wc -c < image.new)" "$bits 0"
+                strace -qq -o calls -e trace=openat "$CORDKIT" commit image text > /dev/null
+                made=$(sed -n 's/.*image.new.*O_CREAT.*, 0\([0-7]*\)).*/\1/p' calls); is "$name: from its beginning" "$made" "$bits"; rm -f calls
+            fi
+            rm -f text
+        done
+    done
+    umask "$before"; clean
 }
 
 # How many revisions the frames in a file tell, at most.
@@ -463,18 +623,24 @@ goes_on() {
         head -c $n $kept > image.keys; is "$n bytes of $kept, and the file" "$(printf 'l\003' | edits -f image) $(number) $(body)" 'rev 1 byte 1 of 1 1 l'; rm image.keys
     done; done
     cat from_file > image.keys; printf '\030' | edits image > out; is 'keys from the file, and another image' "$(told_by)$(body)" 'refused J3 J3: image is there already: cordedit -f replaces it, and cordedit --continue image NEW begins with its last text k'
-    is 'they may replace it' "$(printf '\030' | edits -f image) $(texts) $(files)" 'rev 1 byte 1 of 1 .k. image'; rm -f from_file over_it older out
+    before=$(cksum < image); is 'they may replace it' "$(printf '\030' | edits -f image) $(texts) $(files)" 'rev 1 byte 1 of 1 .k. image image.saved-1'
+    is 'which is kept' "$(tail -n 1 said) $(cksum < image.saved-1)" "the image that was there is kept as $(pwd -P)/image.saved-1 $before"
+    printf 'm\030' | edits --replace image > out; is 'and need not be' "$(text) $(cat said) $(files)" 'm  image image.saved-1'; rm -f from_file over_it older out
     # A file, and its copy
     clean; printf one > file; printf 'x\030' | edits --copy image file > out; is 'a copy is the file' "$(printf 'y\030' | edits --text out image) $(texts file) $(cat out)" 'rev 2 byte 1 of 5 one.xone.yxone. yxone'
+    digest="$(sha256sum < file | cut -d ' ' -f 1) 3"; is 'its digest beside the image' "$(cat image.sources)" "$digest"
+    told='is not the file that image was made from: its digest is not the one in image.sources. cordedit --copy keeps a copy of the file beside the image '
+    printf two > other; printf '\003' | edits image other > out; is 'a file of other bytes' "$(told_by)$(files) $(cat image.sources)" "other ${told}image image.0 $digest"
+    printf '\003' | edits image > out; is 'its copy is none' "$(told_by)$(files)" 'image image.0'; rm other
     rm image.0; printf 'z' | edits image > out; is 'no file' "$(told_by)$(files)" 'refused C2 C2: image was made over one source, of 3 bytes, and 0 are given image'
     printf four > four; printf 'z' | edits image four > out; is 'a longer file' "$(told_by)$(files)" 'refused C3(0) C3(0): source 0, four, has 4 bytes, and the image was made over 3 image'
-    is 'its file' "$(printf 'z' | edits image file)" 'rev 3 byte 1 of 6'; printf two > four; printf '\030' | edits image four > out; is 'keys of another text' "$(told_by)$(body)" 'refused J1 J1: image.keys has the keys of another file or image, or something else z'
+    is 'its file' "$(printf 'z' | edits image file)" 'rev 3 byte 1 of 6'; printf two > four; printf '\030' | edits image four > out; is 'keys of another text' "$(tail -n 2 said | tr '\n' ' ')$(body)" 'refused J1 J1: image.keys has the keys of another file or image, or something else z'
     is 'and of this one' "$(printf '\030' | edits image file) $(text file)" 'rev 3 byte 1 of 6 zyxone'
     printf 'new\n' | "$CORDKIT" apply /dev/stdin file four > image; printf 'z' | edits image file > out; is 'two files' "$(told_by)$(files)" 'refused C2 C2: the sources of image are 2 in number, and 1 are given image'; rm -f four
     # What is no session, or one that cannot be gone on from
     printf prose > image; printf 'z' | edits image > out; is 'prose' "$(told_by)$(cat image) $(files)" 'refused C1(I3) C1(I3): image is no image: it does not begin with CORDSESS. It stays as it is: move it away and give the same command again, or name another image prose image'
     : > image; is 'an empty one is begun' "$(printf 'z\030' | edits image) $(files)" 'rev 1 byte 1 of 1 image'
-    tr -d '[:space:]' < "$here/tests/vectors/bytes_row_over_a_source.hex" | tr a-f A-F | basenc --base16 -d > image; before=$(cksum < image); printf abc > file
+    tr -d '[:space:]' < "$here/tests/vectors/bytes_row_over_a_source.hex" | tr a-f A-F | basenc --base16 -d > image; before=$(cksum < image); printf abc > file; rm image.sources
     printf 'z\030' | edits image file > out; is 'a row of bytes over a source' "$(head -n 1 said) $(cksum < image) $(files)" "refused G1(0) $before image"; rm -f file
     clean; printf 'a\030' | edits real > out; chmod 640 real; ln -s real image; is 'a link' "$(printf 'b\030' | edits image) $(text) $(stat -c %a real) $(readlink image) $(files)" 'rev 2 byte 1 of 2 ba 640 real image'; rm -f real; clean
 }
@@ -502,7 +668,7 @@ between_renames() {
         mv image.keys image.keys.saved; cp $at image.other && mv image.other image
         begin A --onto=image --keep=image.keys --session=state image; type_keys A '\030'; close A
         case $at in
-        newer) is 'saved, and the session goes on' "$(refusal A) $(cksum < image) $(files)" "1 refused J5 $(cksum < newer) image image.keys.saved" ;;
+        newer) is 'saved, and the session goes on' "$(refusal A) $(cksum < image) $(files)" "0  $(cksum < newer) image" ;;
         older) is 'a session goes on, over another file of these bytes' "$(refusal A) $(cksum < image.saved-1) $(files)" "1 refused J4 $(cksum < newer) image image.keys image.saved-1" ;;
         esac
     done
@@ -526,7 +692,7 @@ two_over_one() {
     begin A --onto=image --keep=image.keys image; type_keys A e; await has_keys image.keys e; printf 'new\n' > script; "$CORDKIT" apply --onto image script > further; cat further > image; before=$(cksum < image)
     type_keys A '\030'; close A; is 'a script meanwhile' "$(refusal A) $(cksum < image) $(image_of image.saved-1) $(body) $(files)" "1 refused J4 $before eonedabcxy e image image.keys image.saved-1"
     begin A --onto=image --keep=image.keys image; type_keys A '\030'; close A; is 'keys over what is gone' "$(refusal A) $(cksum < image) $(body)" "1 refused J1 $before e"; rm -f further
-    clean; printf 'xy\030' | "$CORDKIT" edit other > /dev/null; cp other image; begin A --onto=other --keep=image.keys image; type_keys A 'z\030'; close A; is 'an image by another name' "$got $(text) $(image_of other) $(files)" '0 zxy xy image'; rm -f other; clean
+    clean; printf 'xy\030' | "$CORDKIT" edit other > /dev/null; cp other image; begin A --onto=other --keep=image.keys image; type_keys A 'z\030'; close A; is 'an image by another name' "$got $(text) $(image_of other) $(files)" '0 zxy xy image image.saved-1'; rm -f other; clean
 }
 
 # A goes on from an image, and is killed before each of its calls of the system: the same command ends with the image of as many keys, and of those that a frame told.
@@ -559,6 +725,7 @@ onto_each_fault() {
             printf '\030' | "$CORDKIT" edit --onto=image --keep=image.keys image > /dev/null 2> A.said; again=$?
             case "$got $(head -n 1 said)" in
             '0 ') cmp -s image newer ;;
+            '0 the image that was there is kept as '*) cmp -s image newer && cmp -s image.saved-1 older ;;
             '3 read' | '3 write') [ "$there" = "$(cksum < newer)" ] || [ "$there" = "$(cksum < older)" ] ;;
             '1 refused J'[245] | '127 '*'error while loading shared libraries'*) [ "$there" = "$(cksum < older)" ] ;;
             *) false ;;
@@ -599,6 +766,6 @@ onto_each_stop() {
 
 # shellcheck disable=SC2086 # words
 [ "$*" != pipes ] || set -- $pipes
-for test in ${*:-$pipes each_call each_stop onto_each_call onto_each_fault onto_each_stop basic sequences pastes options folders signals parents kills kills_onto devices speed}; do echo "$test"; "$test"; done
+for test in ${*:-$pipes each_call each_stop onto_each_call onto_each_fault onto_each_stop basic sequences pastes watched few_rows options folders signals parents kills kills_onto devices speed}; do echo "$test"; "$test"; done
 echo "$passed passed, $failed failed"
 [ "$failed" = 0 ]

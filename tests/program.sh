@@ -57,9 +57,12 @@ printf 'new\n\nback 7\n' > script_of_no_revision
 printf 'new\ncut 0 1 2\n' > script_of_long_cuts
 printf '# one more byte\ninsert 1 3 "d"\n' > script_of_d
 printf 'new\ninsert 0 0 "a"\ninsert 1 1 "b"\n' > script_of_a_and_b
+printf 'the image that was there is kept as %s/over.saved-1\n' "$(pwd -P)" > over_is_kept
 sixty=$(yes a | head -n 60 | tr -d '\n')
 printf 'new\ninsert 0 0 "%sb"\n' "$sixty" > script_of_61
 printf 'new # 0: 0 bytes, depth 0, 0 rows\ninsert 0 0 "%s"... # 1: 61 bytes, depth 0, balanced, 1 rows\n' "$sixty" > brief_log
+printf 'open 0\nopen 1\n' > script_of_two_sources
+printf 'open 0 # 0: 3 bytes, depth 0, balanced, 1 rows\nopen 1 # 1: 2 bytes, depth 0, balanced, 1 rows\n' > log_of_two_sources
 printf 'abcdefg abcdefg abcdefg a' > weeks
 printf aaaaaaaa > eight
 printf 'new\nfill 0 0 0 1099511627776\n' > script_too_long
@@ -162,6 +165,7 @@ seq 0 4999 | awk 'BEGIN { print "new" } { print "insert " $1 " 0 \"x\"" }' > scr
 { printf 'CORDSESS\0\0\0\2' && head -c 28 /dev/zero; } > no_revisions_in_two
 printf 'ab\025c\030' > keys_saved
 printf 'ab\025c\003' > keys_left
+printf '\016\006\003' > keys_moved
 printf 'ab\025c' > keys_ended
 printf '\030' > key_save
 printf '\025\003' > key_undo
@@ -184,7 +188,7 @@ head -c -1 long_pool > long_pool_short
 { cat long_pool && printf x; } > long_pool_more
 { head -c 184 long_pool && printf '\003' && tail -c +186 long_pool; } > long_pool_bytes
 # images and their twins in version 2; a header alone whose version is 3; a terabyte of zeros behind an image
-for image in one_insert new_alone bytes_row_over_a_source; do
+for image in one_insert new_alone one_source bytes_row_over_a_source; do
     { head -c 11 "$image" && printf '\002' && tail -c +13 "$image"; } > "${image}_in_two" || exit 1
 done
 { head -c 11 one_insert && printf '\003' && tail -c +13 one_insert | head -c 28; } > header_in_three
@@ -356,15 +360,153 @@ try_scripts() {
     done < ../lines
 }
 
+# A case that is no run of its own: its name, what was found, and what was to be.
+is() {
+    if [ "$2" = "$3" ]; then
+        passed=$((passed + 1))
+    else
+        failed=$((failed + 1))
+        echo "FAILED: $1: $2 for $3"
+    fi
+}
+
+# The line of a source, of a digest of these files.
+line_over() {
+    size=$(wc -c < "$1") && [ $# = 1 ] || shift
+    echo "$(cat "$@" | sha256sum | head -c 64) $size"
+}
+
+# What is told of a file that is not the one of an image.
+changed() {
+    printf '%s\\n' "$1 is not the file that $2 was made from: its digest is not the one in $2.sources. cordedit --copy keeps a copy of the file beside the image"
+}
+
+# Digests of sources beside an image: who writes them, and who tells that a source has other bytes.
+try_sources() {
+    printf abd > abd
+    frame abd 'rev 0 byte 0 of 3' 1 > frame_of_abd
+    one='accepted 1 revisions 1 nodes 1 rows\n'
+    try 'a session over a file' 'edit made abc' key_save 0 edit_abc.txt ''
+    is 'its digest beside it' "$(cat made.sources)" "$(line_over abc)"
+    printf 'open 0\n' > script_of_a_file
+    "$program" apply script_of_a_file abc | cmp -s - made
+    is 'and not in it' "$?" 0
+    try 'the file as it was' 'check made abc' '' 0 "$one" ''
+    try 'a file of other bytes is checked' 'check made abd' '' 0 "$one" "$(changed abd made)"
+    try 'a file of other bytes is shown' 'show made 0 abd' '' 0 abd "$(changed abd made)"
+    try 'a file of other bytes is gone on with' 'edit --onto made made abd' key_save 0 @frame_of_abd "$(changed abd made)"
+    is 'it is told again: the digest stays' "$(cat made.sources)" "$(line_over abc)"
+    try 'and by kept keys' 'edit --onto=made --keep=made.keys made abd' nothing 0 @frame_of_abd "$(changed abd made)"
+    try 'a session from a session' 'edit --onto made from_made abd' key_save 0 @frame_of_abd "$(changed abd made)"
+    is 'has the digest of that' "$(cat from_made.sources)" "$(line_over abc)"
+    try 'a log reads no bytes of a file' 'log made abd' '' 0 'open 0 # 0: 3 bytes, depth 0, balanced, 1 rows\n' ''
+    try 'a file of another length' 'check made ab' '' 1 'refused C3(0)\n' ''
+    try 'a file that is not there' 'check made missing' '' 3 '' 'read\n'
+    mkfifo abd_pipe
+    cat abd > abd_pipe &
+    try 'a file by a pipe' 'check made abd_pipe' '' 0 "$one" ''
+    wait $!
+    escape=$(printf 'a\033b')
+    cp abd "$escape"
+    try 'a name with a control character' 'check made "$escape"' '' 0 "$one" "$(changed 'a?b' made)"
+    ln -s made link_of_made
+    try 'an image by a link' 'check link_of_made abd' '' 0 "$one" "$(changed abd link_of_made)"
+    mv made.sources kept.sources
+    try 'no digests' 'check made abd' '' 0 "$one" ''
+    try 'and none to go on with' 'edit --onto made unsaved abd' nothing 0 @frame_of_abd ''
+    mkfifo made.sources
+    try 'a pipe in their place' 'check made abd' '' 0 "$one" ''
+    rm made.sources
+    printf 'a list\n' > made.sources
+    try 'a text in their place' 'show made 0 abd' '' 0 abd ''
+    try 'which stays' 'edit made abc' key_save 0 edit_abc.txt "$PWD/made.sources could not be written\n"
+    is 'as it was' "$(cat made.sources)" 'a list'
+    { head -c 63 kept.sources && tail -c 3 kept.sources; } > made.sources
+    try 'a damaged line' 'check made abd' '' 0 "$one" ''
+    truncate -s 549755813888 made.sources
+    try 'half a terabyte in their place' 'check made abd' '' 0 "$one" ''
+    : > made.sources
+    try 'nothing in their place' 'check made abd' '' 0 "$one" ''
+    try 'a commit over a file' 'commit made ab abc' '' 0 'committed 1\n' ''
+    is 'its digest is written' "$(cat made.sources)" "$(line_over abc)"
+    try 'a commit over a file of other bytes' 'commit made abcde abd' '' 0 'committed 2\n' "$(changed abd made)"
+    is 'and stays' "$(cat made.sources) $(ls made*)" "$(line_over abc) $(printf 'made\nmade.sources')"
+    rm made.sources
+    try 'the same text' 'commit made abcde abc' '' 0 'same 2\n' ''
+    is 'writes nothing' "$(ls made*)" made
+    printf 'open 0\nopen 1\n' > script_of_two_files
+    "$program" apply script_of_two_files ab abc > made
+    try 'a commit over two files' 'commit made abcde ab abc' '' 0 'committed 2\n' ''
+    is 'a line of each' "$(cat made.sources)" "$(line_over ab && line_over abc)"
+    try 'the second has other bytes' 'check made ab abd' '' 0 "$("$program" check made ab abc)\n" "$(changed abd made)"
+    rm made made.sources
+    try 'a session over no file' 'edit made' key_save 0 "$("$program" edit unsaved < /dev/null)" ''
+    is 'has no digests' "$(ls made*)" made
+    rm made
+    (umask 077 && cp abc abc_of_its_owner && "$program" edit made abc_of_its_owner < key_save > ../frames)
+    is 'a session of its owner alone' "$(stat -c %a made made.sources)" "$(printf '600\n600')"
+    try 'an image that is no file' 'edit /dev/null abc' key_save 0 edit_abc.txt ''
+    is 'has none beside it' "$(ls /dev/null.sources 2> /dev/null)" ''
+    truncate -s 20000000 of_20000000
+    head -c 1048576 of_20000000 > one_end
+    { head -c 2000000 of_20000000 && printf x && head -c 17999999 of_20000000; } > byte_between
+    { head -c 19000000 of_20000000 && printf x && head -c 999999 of_20000000; } > byte_at_the_end
+    frame "$of_zeros" 'rev 0 byte 0 of 20000000' 1 > frame_of_large
+    rm made made.sources
+    try 'a session over a large file' 'edit made of_20000000' key_save 0 @frame_of_large ''
+    is 'no digest where no keys are kept' "$(cat made.sources)" -
+    try 'is checked with any file' 'check made byte_between' '' 0 "$one" ''
+    rm made made.sources
+    try 'one whose keys are kept' 'edit --keep=made.keys made of_20000000' key_save 0 @frame_of_large ''
+    is 'the digest of its ends' "$(cat made.sources)" "$(line_over of_20000000 one_end one_end)"
+    try 'another byte at an end' 'check made byte_at_the_end' '' 0 "$one" "$(changed byte_at_the_end made)"
+    try 'another byte between them' 'check made byte_between' '' 0 "$one" ''
+}
+
 # What is longer than a pipe holds, into one whose reader goes.
 try_closed_pipe() {
-    { timeout 60 "$program" "$2" "$3" 2> ../err; echo $? > ../status; } | head -c 1 > ../out
-    if [ "$(cat ../status) $(cat ../err)" = '3 write' ]; then
+    { timeout 60 "$program" "$2" --explain "$3" 2> ../err; echo $? > ../status; } | head -c 1 > ../out
+    if [ "$(cat ../status) $(cat ../err)" = "3 write
+write: standard output could not be written: it is a pipe that nobody reads any more" ]; then
         passed=$((passed + 1))
     else
         failed=$((failed + 1))
         echo "FAILED: $1: status $(cat ../status) for 3, and it wrote $(cat ../err)"
     fi
+}
+
+# A case as above, of whose standard descriptors these are a terminal: the name, the descriptors, the words, standard input, the status, and what goes
+# to standard output and to the terminal.
+try_on_terminal() {
+    name=$1 descriptors=$2 words=$3 input=$4 status=$5
+    eval "set -- \"\$6\" \"\$7\" $words"
+    expected "$1" > ../expected_out
+    expected "$2" > ../expected_err
+    shift 2
+    got=0
+    timeout 60 python3 "$top/tests/on_terminal.py" "$descriptors" "$program" "$@" < "${input:-/dev/null}" > ../out 2> ../err || got=$?
+    if [ "$got" = "$status" ] && is_expected; then
+        passed=$((passed + 1))
+    else
+        failed=$((failed + 1))
+        echo "FAILED: $name: status $got for $status, and it wrote:"
+        cat ../out ../err
+        echo
+    fi
+}
+
+# A file that fails is named unasked where standard error is a terminal, and nothing else is explained there.
+try_terminals() {
+    try_on_terminal 'an image that is not there, on a terminal' 2 'check missing' '' 3 '' 'read\nread: there is no file missing\n'
+    try_on_terminal 'an image on a full device, on a terminal' 2 'commit /dev/full abc' '' 3 '' \
+        'write\nwrite: /dev/full could not be written: its disk is full\n'
+    try_on_terminal 'a commit in a folder that is not there, on a terminal' 2 'commit missing/image abc' '' 3 '' \
+        'write\nwrite: missing/image could not be written: its folder is not there\n'
+    try_on_terminal 'no word on a terminal' 02 '' '' 1 'refused C1(I1)\n' \
+        'cordkit waits for an image on standard input; cordkit --help shows what else it does\n'
+    try_on_terminal 'no word, and an image from a file' 2 '' one_insert 0 'accepted 2 revisions 1 nodes 1 rows\n' ''
+    try_on_terminal 'a refusal on a terminal' 2 'log abcde' '' 1 '' 'refused C1(I1)\n'
+    try_on_terminal 'an answer on a terminal' 2 'cmp ab abc' '' 1 'less\n' ''
 }
 
 # A file of 39,960 bytes in lines of so many is cut to 7,879 once the frame behind so many keys Down has come. The frame behind one more needs no byte past these:
@@ -416,7 +558,9 @@ try_version() {
 if [ "$cases" = all ]; then
     try_scripts
     try_closed_pipe 'an image into a closed pipe' apply script_of_5000
+    try_terminals
     try_version
+    try_sources
     try_cut_file 'a file in lines of 60 that is cut behind a frame' 60 51
     try_cut_file 'a file in lines of 48 that is cut behind a frame' 48 64
     if command -v flock > /dev/null; then
@@ -458,6 +602,23 @@ substrings are accepted to depth 64;check substrings_of_depth_64;;0;accepted 2 r
 a source is accepted;check one_source abc;;0;accepted 1 revisions 0 nodes 0 rows\n;
 a source of another length is refused;check one_source ab;;1;refused C3(0)\n;
 a source that is not given is refused;check one_source;;1;refused C2\n;
+* a length in the place of a source;check --length 3 one_source;;0;accepted 1 revisions 0 nodes 0 rows\n;
+a length that a source had not;check --length=2 one_source;;1;refused C3(0)\n;
+a length too many;check one_source --length 3 --length 3;;1;refused C2\n;
+a length that no source has;check --length 1099511627776 one_source;;1;refused S5\n;
+a length that is no number;check --length x one_source;;2;;error: invalid value 'x' for '<LENGTH>': invalid digit found in string\n\nUsage: cordkit check [OPTIONS] <IMAGE> [SOURCE]...\n\nFor more information, try '--help'.\n
+no byte is made up where one is compared;check --length 3 bytes_row_over_a_source;;3;;read\n
+nor where that is written anew;migrate --length 3 bytes_row_over_a_source;;3;;read\n
+nor where it is logged;log --length 3 bytes_row_over_a_source;;3;;read\n
+that is told in words;check --explain --length 3 bytes_row_over_a_source;;3;;read\nread: bytes of a source are wanted whose length alone is given: name the file of each\n
+a length and a file;check --length 3 $("$program" apply script_of_two_sources abc ab > two_sources && echo two_sources) ab;;0;accepted 2 revisions 2 nodes 2 rows\n;
+a file and a length;check two_sources abc --length 2;;0;accepted 2 revisions 2 nodes 2 rows\n;
+two lengths;check two_sources --length 3 --length 2;;0;accepted 2 revisions 2 nodes 2 rows\n;
+a length in the place of another source;check two_sources --length 2 abc;;1;refused C3(0)\n;
+a script of lengths alone;log --length 3 --length 2 two_sources;;0;@log_of_two_sources;
+an image of a length alone in version 2;migrate --length 3 one_source;;0;@one_source_in_two;
+another length in words;check --explain --length 3 two_sources abc;;1;refused C3(1)\n;C3(1): source 1 of two_sources had 2 bytes when that was made, and has others now\n
+a length too few in words;check --explain --length 3 two_sources;;1;refused C2\n;C2: the sources of two_sources are 2 in number, and 1 are given\n
 a row of bytes over a source is accepted;check bytes_row_over_a_source abc;;0;accepted 1 revisions 1 nodes 1 rows\n;
 a row that leads elsewhere is refused;check back_shared_elsewhere;;1;refused C11(2,0)\n;
 a command past its text is refused;check insert_past_the_end;;1;refused C8(2)\n;
@@ -641,12 +802,46 @@ a file that is to be the image;commit committed $(cp committed committed.new && 
 it is as it was;cmp committed committed.new;;0;equal\n;
 an image with keys beside it;commit $(cp committed keyed && cp abc keyed.keys && echo keyed) abc;;1;;refused J2\n
 an image with an empty file of keys beside it;commit $(: > keyed.keys && echo keyed) abc;;0;committed 5\n;
+a state that comes back;commit $("$program" commit came_back abc >> told && "$program" commit came_back abcde >> told && echo came_back) abc;;0;committed 3\n;
+its bytes have the origin that they had;blame came_back 3;;0;0 3 1 0 many 0 "abc"\n;
+the state between comes back;commit came_back abcde;;0;committed 4\n;
+so have its bytes;blame came_back 4;;0;0 3 1 0 many 0 "abc"\n3 2 2 3 many 1 "de"\n;
+the first one comes back once more;commit came_back abc;;0;committed 5\n;
+the latest with a text is gone back to, by one command;log came_back;;0;new # 0: 0 bytes, depth 0, 0 rows\nmany 0 0 0 "abc" # 1: 3 bytes, depth 0, balanced, 1 rows\nmany 1 3 0 "de" # 2: 5 bytes, depth 0, balanced, 2 rows\nback 1 # 3: 3 bytes, depth 0, balanced, 1 rows\nback 2 # 4: 5 bytes, depth 0, balanced, 1 rows\nback 3 # 5: 3 bytes, depth 0, balanced, 1 rows\n;
+a state that is the last one;commit came_back abc;;0;same 5\n;
 a file to commit that is not there;commit committed missing;;3;;read\n
 a file to commit that is a folder;commit committed folder;;3;;read\n
 a file to commit of 512 gigabytes;commit committed half;;1;;refused E7(N4)\n
 an image to commit to that is not there beside a source;commit missing abcde abc;;3;;read\n
 an image to commit to that is a folder;commit folder abcde;;3;;write\n
 a commit to a full device;commit /dev/full abc;;3;;write\n
+a file gets the text of a revision;restore $(cp committed restored && cp ab note && chmod 640 note && echo restored) 1 note;;0;committed 5\n;
+it has that text;cut 0 9 note;;0;abc;
+what it held is kept;show restored 5;;0;ab;
+it has the mode that it had;cut 0 9 $(test "$(stat -c %a note)" = 640 && echo note);;0;abc;
+an older text again;restore restored 2 note;;0;committed 6\n;
+what a file holds is the last text;restore restored 2 $(cp abc note && echo note);;0;same 6\n;
+a file behind a link gets a text;restore restored 1 $(ln -s note note_link && echo note_link);;0;committed 7\n;
+the link leads to it still;cut 0 9 $(test -h note_link && echo note);;0;abc;
+a file that is not there is made;restore restored 2 note_anew;;0;;
+it has the text;cut 0 9 note_anew;;0;abcde;
+an empty text is restored;restore restored 0 note_anew;;0;same 7\n;
+the file is empty;cmp note_anew nothing;;0;equal\n;
+a file gets a text over a source;restore $(echo open 0 > open_script && "$program" apply open_script abc > opened && echo opened) 0 note_anew abc;;0;committed 1\n;
+it has the bytes of the source;cut 0 9 note_anew;;0;abc;
+a revision that is not there to restore;restore restored 99 note;;1;;refused no revision\n
+an image to restore from that is not there;restore missing 0 note;;3;;read\n
+none is made;check missing;;3;;read\n
+an image to restore from that is refused;restore child_not_earlier 0 note;;1;;refused C4(1)\n
+an image to restore from without its source;restore one_source 0 note;;1;;refused C2\n
+a look more than the limit, and nothing is restored;restore --at-most=136 $(cp one_insert restored_one && echo restored_one) 0 note;;1;;refused looks 137\n
+an image with keys beside it to restore from;restore $(cp restored keyed && cp abc keyed.keys && echo keyed) 0 note;;1;;refused J2\n
+its answer on a full device, and the text stays;restore restored 0 note;;3;/dev/full;write\n
+the file has what it had;cmp note abc;;0;equal\n;
+nothing is beside it any more;check note.new-1;;3;;read\n
+a file to restore that is the image;restore restored 0 restored;;1;;refused J6\n
+a folder to restore;restore restored 0 folder;;3;;write\n
+a device to restore;restore restored 0 /dev/null;;3;;write\n
 its answer on a full device;commit committed_told abc;;3;/dev/full;write\n
 the image is there;show committed_told 1;;0;abc;
 an image is logged;log one_insert;;0;new # 0: 0 bytes, depth 0, 0 rows\ninsert 0 0 "abc" # 1: 3 bytes, depth 0, balanced, 1 rows\n;
@@ -679,6 +874,13 @@ keys are shown and saved;edit saved;keys_saved;0;edit.txt;
 the saved image shows its last text;show saved 4;;0;ac;
 the saved image shows what undo gave;show saved 3;;0;a;
 the saved image shows the text before;show saved 2;;0;ab;
+an image takes another one's place, which is kept;edit $(cp one_insert over && echo over);keys_saved;0;edit.txt;@over_is_kept
+its last text is the new one;show over 4;;0;ac;
+what was there has another name;cmp over.saved-1 one_insert;;0;equal\n;
+the same bytes take no place;edit over;keys_saved;0;edit.txt;
+they are not kept;check over.saved-2;;3;;read\n
+an image that may go;edit --replace $(cp one_insert over && echo over);keys_saved;0;edit.txt;
+it is not kept;check over.saved-2;;3;;read\n
 keys that leave are shown;edit unsaved;keys_left;0;edit.txt;
 keys that end are shown;edit unsaved;keys_ended;0;edit.txt;
 neither is saved;check unsaved;;3;;read\n
@@ -692,6 +894,8 @@ keys that are a folder;edit unsaved abc;folder;3;edit_abc.txt;read\n
 a file that is no image is not replaced;edit abc;keys_saved;1;;refused C1(I3)\n
 it is as it was;cut 0 10 abc;;0;abc;
 a folder is not replaced;edit folder;keys_saved;3;;write\n
+what cannot be read stands beside an image;edit $(cp one_insert beside && mkfifo beside.new && echo beside);keys_saved;3;;write\n
+the image is not written in place;cmp beside one_insert;;0;equal\n;
 keys that leave are kept;edit --keep keys kept;keys_left;0;edit.txt;
 no image is behind them;check kept;;3;;read\n
 they are not those of a file;edit --keep keys kept abc;keys_saved;1;;refused J1\n
@@ -736,10 +940,12 @@ keys in a device;edit --keep /dev/zero unsaved;keys_left;1;;refused J1\n
 keys behind an image on a full device;edit --onto one_insert /dev/full;keys_saved;3;@frames_onto;write\n
 frames behind an image on a full device;edit --onto one_insert unsaved;keys_saved;3;/dev/full;write\n
 nothing is saved of all these;check unsaved;;3;;read\n
+keys that only moved are not kept;edit --discard $("$program" edit --keep moved unsaved abc < keys_moved > /dev/null && echo moved);;1;;refused J5\n
 keys to be dropped;edit --keep dropped unsaved;keys_left;0;edit.txt;
 with a file;edit --discard dropped ab;;2;;error: the argument '--discard' cannot be used with a word for a session: it takes the file of keys alone\n\nUsage: cordkit edit [OPTIONS] <IMAGE> [FILE]\n\nFor more information, try '--help'.\n
 with keys to be kept;edit --keep kept --discard dropped;;2;;error: the argument '--discard' cannot be used with a word for a session: it takes the file of keys alone\n\nUsage: cordkit edit [OPTIONS] <IMAGE> [FILE]\n\nFor more information, try '--help'.\n
 with a session;edit --discard --session kept dropped;;2;;error: the argument '--discard' cannot be used with a word for a session: it takes the file of keys alone\n\nUsage: cordkit edit [OPTIONS] <IMAGE> [FILE]\n\nFor more information, try '--help'.\n
+with another word about the image;edit --replace --discard dropped;;2;;error: the argument '--discard' cannot be used with a word for a session: it takes the file of keys alone\n\nUsage: cordkit edit [OPTIONS] <IMAGE> [FILE]\n\nFor more information, try '--help'.\n
 with a word about the image;edit --no-clobber --discard dropped;;2;;error: the argument '--discard' cannot be used with a word for a session: it takes the file of keys alone\n\nUsage: cordkit edit [OPTIONS] <IMAGE> [FILE]\n\nFor more information, try '--help'.\n
 they are dropped;edit --discard dropped;;0;;
 they are not there;edit --discard dropped;;1;;refused J5\n
@@ -838,15 +1044,27 @@ a text in words;log --explain abcde;;1;;refused C1(I1)\nC1(I1): abcde ends too e
 standard input in words;--explain;cut_short_by_one;1;refused C1(I1)\n;C1(I1): standard input ends too early to be an image\n
 a limit of looks in words;check --explain --at-most 136 one_insert;;1;refused looks 137\n;looks 137: the check of one_insert may take 137 looks at nodes, more than --at-most allows\n
 a revision that is not there in words;show --explain one_insert 7;;1;;refused no revision\nno revision: one_insert is accepted, and has no such revision\n
+a revision to restore that is not there in words;restore --explain one_insert 7 note;;1;;refused no revision\nno revision: one_insert is accepted, and has no such revision\n
+a file to restore that is a folder in words;restore --explain one_insert 0 folder;;3;;write\nwrite: folder could not be written: it is no regular file\n
 a revision to blame that is not there in words;blame --explain one_insert 7;;1;;refused no revision\nno revision: one_insert is accepted, and has no such revision\n
 a file that is not there in words;cmp --explain abc missing;;3;;read\nread: there is no file missing\n
 an image that is not there in words;check --explain missing abc;;3;;read\nread: there is no file missing\n
 a folder in words;check --explain folder;;3;;read\nread: folder is a folder\n
 a file below a file in words;cut --explain 0 1 abc/abc;;3;;read\nread: abc/abc is below what is no folder\n
-a full device in words;join --explain abc;;3;/dev/full;write\nwrite: standard output could not be written\n
-an image on a full device in words;edit --explain /dev/full;keys_saved;3;edit.txt;write\nwrite: the image /dev/full, the file of keys or standard output could not be written\n
-keys that are a folder in words;edit --explain unsaved abc;folder;3;edit_abc.txt;read\nread: standard input, the file of keys or abc could not be read to its end\n
-standard input that is a folder in words;--explain;folder;3;;read\nread: standard input could not be read to its end\n
+a full device in words;join --explain abc;;3;/dev/full;write\nwrite: standard output could not be written: its disk is full\n
+an image on a full device in words;edit --explain /dev/full;keys_saved;3;edit.txt;write\nwrite: /dev/full could not be written: its disk is full\n
+frames on a full device in words;edit --explain unsaved;keys_saved;3;/dev/full;write\nwrite: standard output could not be written: its disk is full\n
+an image in a folder that is not there in words;edit --explain missing/image;keys_saved;3;edit.txt;write\nwrite: missing/image could not be written: its folder is not there\n
+a commit in a folder that is not there in words;commit --explain missing/image abc;;3;;write\nwrite: missing/image could not be written: its folder is not there\n
+an image below a file in words;commit --explain abc/image ab;;3;;read\nread: abc/image.keys is below what is no folder\n
+an image that is a folder in words;commit --explain folder abc;;3;;write\nwrite: folder could not be written: it is a folder\n
+keys in a folder that is not there in words;edit --explain --keep missing/keys kept;keys_saved;3;;write\nwrite: missing/keys could not be written: its folder is not there\n
+a session's file that is a folder in words;edit --explain --keep kept_keys --session folder kept;keys_saved;3;;read\nread: folder is a folder\n
+no session begins in what is none in words;edit --explain --keep kept_keys --session abc kept;keys_saved;3;;read\nread: abc could not be read to its end: it is no file of a session\n
+a commit's answer on a full device in words;commit --explain committed_told ab;;3;/dev/full;write\nwrite: standard output could not be written: its disk is full\n
+control bytes of a name in words;cmp --explain abc $(printf 'a\033[31m\177b');;3;;read\nread: there is no file a\\x1b[31m\\x7fb\n
+keys that are a folder in words;edit --explain unsaved abc;folder;3;edit_abc.txt;read\nread: standard input is a folder\n
+standard input that is a folder in words;--explain;folder;3;;read\nread: standard input is a folder\n
 a line that is no command in words;apply --explain script_without_quotes;;1;;refused P(2)\nP(2): line 2 of script_without_quotes is no command: word 4 (abc) is not in quotes\n
 a line that is no command, of a script by a pipe, in words;apply --explain pipe_of_a_script;;1;;refused P(2)\nP(2): line 2 of pipe_of_a_script is no command\n
 a brief script in words;apply --explain $("$program" apply script_of_61 > applied && "$program" log --brief applied > logged && echo logged);;1;;refused P(2)\nP(2): line 2 of logged is no command: ... stands right behind the quotes of word 4\n
@@ -873,7 +1091,7 @@ a file to commit of 512 gigabytes in words;commit --explain committed half;;1;;r
 an image to commit to that is none in words;commit --explain abcde abc;;1;;refused C1(I3)\nC1(I3): abcde is no image: it does not begin with CORDSESS. It stays as it is: move it away and give the same command again, or name another image\n
 a row of bytes over a source in words, by a file;commit --explain over_bytes ab abc;;1;;refused G1(0)\nG1(0): revision 0 of over_bytes has a row that compares bytes of a source: a session of its commands is made by cordkit log over_bytes SOURCE.. | cordkit apply /dev/stdin SOURCE..\n
 a file to commit that is not there in words;commit --explain committed missing;;3;;read\nread: there is no file missing\n
-a commit to a full device in words;commit --explain /dev/full abc;;3;;write\nwrite: the image /dev/full or standard output could not be written\n
+a commit to a full device in words;commit --explain /dev/full abc;;3;;write\nwrite: /dev/full could not be written: its disk is full\n
 a file that is too long in words;cut --explain 0 1 too_long;;1;;refused S5\nS5: too_long has more than 2^40 - 1 bytes\n
 files that are too long together in words;join --explain half half;;1;;refused N1\nN1: the files together would make a text of 2^40 bytes or more\n
 a pattern that is too long in words;find --explain 0 $(yes a | head -n 4097 | tr -d '\n') abcde;;1;;refused F1\nF1: the pattern has more than 4,096 bytes\n

@@ -313,6 +313,18 @@ def older_image(chance, room):
     return older
 
 
+def without_kept(room, older, answer, is_kept):
+    """An answer without the line on an image that was replaced, where that is kept by another name, which is taken away."""
+    name = f"{os.path.realpath(room.image)}.saved-1"
+    if not is_kept:
+        return answer
+    with open(name, "rb") as file:
+        is_whole = file.read() == older
+    os.remove(name)
+    line = f"the image that was there is kept as {name}\n".encode()
+    return (answer[0], answer[1], answer[2].removesuffix(line) if is_whole and answer[2].endswith(line) else b"nothing is kept")
+
+
 def run(program, seed):
     """What chance typed, whether a cut span was dropped, and what is wrong with the run, or nothing."""
     chance = random.Random(seed)
@@ -324,6 +336,7 @@ def run(program, seed):
         plain = Plain(room.sources[0] if room.sources else b"")
         wanted = typed(plain, keys)
         answer = room.run("edit", keys=keys + end)
+        answer = without_kept(room, older, answer, older and end == SAVE and room.saved() != older)
         fault = None
         if older == NO_IMAGE:
             if answer != (1, b"", b"refused C1(I3)\n") or room.saved() != older:
@@ -364,7 +377,9 @@ def onto_fault(room, chance):
     undone = bytes(chance.choice(b"\x15\x15\x15\x15ab\x05") for _ in range(chance.randrange(20)))
     keys, end = chance.choice([random_keys(chance, 60), undone, undone]), chance.choice([SAVE, SAVE, LEAVE, b""])
     wanted = typed(plain, keys)
-    answer = room.run("edit", "--onto", chance.choice([room.image, room.put("older", older)]), keys=keys + end)
+    begun = chance.choice([room.image, room.put("older", older)])
+    answer = room.run("edit", "--onto", begun, keys=keys + end)
+    answer = without_kept(room, older, answer, begun != room.image and end == SAVE and room.saved() != older)
     if answer != (0, wanted, b""):
         return f"other frames behind an image: status {answer[0]}, {answer[2]!r}"
     if end != SAVE:

@@ -284,7 +284,7 @@ press Enter
 screen 'before the paste' 'rev 0 byte 0 of 0' '0 0'
 in_tmux load-buffer -b pasted pasted
 in_tmux paste-buffer -p -d -b pasted
-ended 'a full file of keys' write 'write: the image full, the file of keys or standard output could not be written' \
+ended 'a full file of keys' write 'write: full.keys could not be written: it would be longer than a file may be' \
     "cordedit: not saved; the keys are kept: the same command goes on from there, and" " cordedit --discard 'full' drops them" 'status 3'
 sleep 2
 is_same 'no line of the paste ran' "$(ls ran ended 2> /dev/null)" ended

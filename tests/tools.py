@@ -112,7 +112,7 @@ def of_zsh():
     yield "completions/_cordkit, commands", {name: Tool(does=first.upper() + rest.replace("'\\''", "'")) for name, first, rest in listed}, ()
     found = {}
     for names, line in re.findall(r"^ +([\w| ]+)\) _arguments (.*)", text, re.M):
-        line = line.replace("$limit", "'--at-most=[]'").replace("$flags", "'--explain[]' '--quiet[]'").replace("$help", "'--help[]'")
+        line = line.replace("$limit", "'--at-most=[]'").replace("$lengths", "'--length=[]'").replace("$flags", "'--explain[]' '--quiet[]'").replace("$help", "'--help[]'")
         words = re.findall(r"'(\d|\*):", line)
         for name in names.split(" | "):
             found[name] = Tool(options_in(line, r"'--([\w-]+)(=)?\["), [word.replace("*", "...") for word in words])

@@ -78,6 +78,16 @@ fn inputs<'a>(alloc: Global, action: &Action<'a>) -> Result<Vec<&'a str>, AllocE
             inputs.extend_from_slice(&[*file, *image])?;
             inputs.extend_from_slice(sources)?;
         }
+        Action::Restore {
+            image,
+            file,
+            sources,
+            ..
+        } => {
+            inputs.push(*image)?;
+            inputs.extend_from_slice(sources)?;
+            inputs.push(*file)?;
+        }
         Action::Cut { file, .. } | Action::Find { file, .. } => inputs.push(*file)?,
         Action::Join { files } => inputs.extend_from_slice(files)?,
         Action::Cmp { first, second } => inputs.extend_from_slice(&[*first, *second])?,
@@ -133,7 +143,9 @@ fn run_of<'a>(action: &Action<'a>) -> Run<'a> {
         | Action::Cmp { .. } => Run::Reads,
         Action::Join { .. } => Run::Joins,
         Action::Apply { script, .. } => Run::Applies { script },
-        Action::Commit { image, file, .. } => Run::Commits { image, file },
+        Action::Commit { image, file, .. } | Action::Restore { image, file, .. } => {
+            Run::Commits { image, file }
+        }
         Action::Edit {
             onto,
             keys,
@@ -151,7 +163,7 @@ fn run_of<'a>(action: &Action<'a>) -> Run<'a> {
 }
 
 /// The sentence about a file that cannot be read.
-fn failure(why: ErrorKind) -> &'static str {
+pub(crate) fn failure(why: ErrorKind) -> &'static str {
     match why {
         ErrorKind::NotFound => "there is no file %",
         ErrorKind::PermissionDenied => "% may not be read",
@@ -171,6 +183,7 @@ fn image_of<'a, 'b>(action: &'b Action<'a>) -> Option<(&'a str, &'b [&'a str])> 
         | Action::Log { image, sources, .. }
         | Action::Blame { image, sources, .. }
         | Action::Commit { image, sources, .. }
+        | Action::Restore { image, sources, .. }
         | Action::Apply {
             onto: Some(image),
             sources,
@@ -217,6 +230,55 @@ fn other_count<R: Files + AllocGlobal>(rt: &R, image: &str, sources: &[&str]) ->
     let text = "the sources of % are # in number, and # are given";
     let numbers = format!(in rt.alloc(); "{made},{given}").ok()?;
     Sentence::new(rt.alloc(), text, image, &numbers)
+}
+
+/// The lengths that a run was given in the place of sources.
+fn lengths_of<'b>(action: &'b Action<'_>) -> &'b [u64] {
+    match action {
+        Action::Check { lengths, .. }
+        | Action::Migrate { lengths, .. }
+        | Action::Log { lengths, .. } => lengths.numbers.as_slice(),
+        Action::CheckInput
+        | Action::Show { .. }
+        | Action::Blame { .. }
+        | Action::Cut { .. }
+        | Action::Join { .. }
+        | Action::Find { .. }
+        | Action::Cmp { .. }
+        | Action::Edit { .. }
+        | Action::Discard { .. }
+        | Action::Commit { .. }
+        | Action::Restore { .. }
+        | Action::Apply { .. } => &[],
+    }
+}
+
+/// What an image says of sources of which the lengths alone are given, all or some.
+fn other_lengths<R: Files + AllocGlobal>(
+    rt: &R,
+    image: &str,
+    given: usize,
+    source: &str,
+) -> Option<Sentence> {
+    let alloc = rt.alloc();
+    if source.is_empty() {
+        let text = "the sources of % are # in number, and # are given";
+        let numbers = format!(in alloc; "{},{given}", source_count(rt, image)?).ok()?;
+        return Sentence::new(alloc, text, image, &numbers);
+    }
+    let text = "source # of % had # bytes when that was made, and has others now";
+    let then = source_len(rt, image, source.parse::<u8>().ok()?)?;
+    let numbers = format!(in alloc; "{source},{then}").ok()?;
+    Sentence::new(alloc, text, image, &numbers)
+}
+
+/// Where nothing but the length of some source is given, its bytes cannot be read.
+fn only_length<R: Files + AllocGlobal>(rt: &R, action: &Action<'_>) -> Option<Sentence> {
+    if lengths_of(action).is_empty() {
+        return None;
+    }
+    let text = "bytes of a source are wanted whose length alone is given: name the file of each";
+    Sentence::new(rt.alloc(), text, "", "")
 }
 
 /// How long a source is, and how long it was when the image was made.
@@ -279,6 +341,10 @@ fn other_sources<R: Files + AllocGlobal>(
         };
     }
     let (image, sources) = image_of(action)?;
+    let lengths = lengths_of(action).len();
+    if lengths > 0 {
+        return other_lengths(rt, image, sources.len() + lengths, numbers);
+    }
     other_given(rt, image, sources, numbers)
 }
 
@@ -302,7 +368,10 @@ fn seen<R: Files + AllocGlobal>(
     numbers: &str,
 ) -> Option<Sentence> {
     match name {
-        "read" => unread(rt, action),
+        "read" => match unread(rt, action) {
+            None => only_length(rt, action),
+            file => file,
+        },
         "S5" => too_long(rt, action),
         "I3" => match run_of(action) {
             Run::Edits(Editing { image, .. }) | Run::Commits { image, .. } => no_image(rt, image),
@@ -320,6 +389,9 @@ fn seen<R: Files + AllocGlobal>(
 
 /// What a run writes to.
 fn output(alloc: Global, action: &Action<'_>) -> Result<String, AllocError> {
+    if let Action::Restore { image, file, .. } = action {
+        return format!(in alloc; "the image {image}, {file} or standard output");
+    }
     match run_of(action) {
         Run::Edits(Editing { image, .. }) => {
             format!(in alloc; "the image {image}, the file of keys or standard output")
@@ -330,14 +402,15 @@ fn output(alloc: Global, action: &Action<'_>) -> Result<String, AllocError> {
     }
 }
 
-/// The file that a run reads, or what it may have been where it reads several.
-fn one_input<'a>(alloc: Global, action: &Action<'a>) -> Result<&'a str, AllocError> {
+/// The file that a run reads, or those that it may have been where it reads several.
+fn one_input(alloc: Global, action: &Action<'_>) -> Result<String, AllocError> {
     let inputs = inputs(alloc, action)?;
-    Ok(match inputs.as_slice() {
-        [] => "standard input",
-        [file] => *file,
-        _ => "one of the files",
-    })
+    match inputs.as_slice() {
+        [] => String::from_str(alloc, "standard input"),
+        [file] => String::from_str(alloc, file),
+        [first, second] => format!(in alloc; "{first} or {second}"),
+        [first, .., last] => format!(in alloc; "one of the files from {first} to {last}"),
+    }
 }
 
 /// What a run reads.
@@ -349,7 +422,7 @@ fn input(alloc: Global, action: &Action<'_>) -> Result<String, AllocError> {
         }
         Run::Discards { keys } => String::from_str(alloc, keys),
         Run::Reads | Run::Joins | Run::Applies { .. } | Run::Commits { .. } => {
-            String::from_str(alloc, one_input(alloc, action)?)
+            one_input(alloc, action)
         }
     }
 }
@@ -418,7 +491,7 @@ fn about(
 }
 
 /// A code with its sentence.
-fn with_code<'a>(told: &'a str, sentence: Sentence) -> Explanation<'a>
+pub(crate) fn with_code<'a>(told: &'a str, sentence: Sentence) -> Explanation<'a>
     ensures { result.code ≡ told.entry }
 {
     Explanation {

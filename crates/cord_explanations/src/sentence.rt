@@ -1,5 +1,6 @@
 //! Sentences in which numbers and names stand.
 
+use crate::shown_name::ShownName;
 use std::alloc::Global;
 use std::fmt;
 
@@ -27,7 +28,7 @@ impl fmt::Display for Sentence {
         let mut numbers = self.numbers.split(',');
         for c in self.text.chars() {
             match c {
-                '%' => f.write_str(&self.about)?,
+                '%' => write!(f, "{}", ShownName { name: &self.about })?,
                 '#' => f.write_str(numbers.next().unwrap_or(""))?,
                 _ => f.write_char(c)?,
             }

@@ -1,5 +1,7 @@
 -- What the getters of `clap`'s matches give of the rows.
-use Rattle.std.proofs.Common.{◌≡◌, ◌∙◌, ap, List, [], Option, Some, None, map, option_map, unwrap_or}
+use Rattle.std.proofs.Common.{◌≡◌, ◌∙◌, ◌<◌, ◌+◌, ◌++◌, ◌∷◌, ℕ, All, ap, get_or, length, sym, subst, take, List, [], Option, Some, None, map, option_map, unwrap_or}
+use Rattle.std.specs.List.{AllZip}
+use Rattle.std.proofs.lemmas.List.{get_or-map, length-map, take_more}
 use Rattle.std.specs.Prelude.{Box}
 use Rattle.std.specs.Borrow.{Bor}
 use Rattle.std.specs.Box.{box_value}
@@ -36,3 +38,25 @@ given_as m name word rows is named has = go (out-ArgMatches m).subcommand named 
         → Some (word, rows) ≡ subcommand_rows o
     go None e f = absurd cc
     go (Some b) e f = rw (← is) cc
+
+-- one more of each
+zip_push : {A B : Type 0} (R : A → B → Type 0) (xs : List A) (ys : List B) (x : A) (y : B) → AllZip R xs ys → R x y → AllZip R (xs ++ x ∷ []) (ys ++ y ∷ [])
+zip_push R [] [] x y h r = (r, tt)
+zip_push R [] (b ∷ ys) x y h r = absurd h
+zip_push R (a ∷ xs) [] x y h r = absurd h
+zip_push R (a ∷ xs) (b ∷ ys) x y h r = (h.0, zip_push R xs ys x y h.1 r)
+
+pub zip_more : {A B : Type 0} (R : A → B → Type 0) (xs : List A) (ys : List B) (i : ℕ) (d : A) (y : B) → i < length xs → AllZip R (take i xs) ys → R (get_or xs i d) y
+    → AllZip R (take (i + 1) xs) (ys ++ y ∷ [])
+zip_more R xs ys i d y lt h r = subst (λ l. AllZip R l (ys ++ y ∷ [])) (sym (take_more xs i d lt)) (zip_push R (take i xs) ys (get_or xs i d) y h r)
+
+-- what is so of what borrows show is so of the borrows
+pub zip_shown : {A B : Type 0} (R : A → B → Type 0) (xs : List (Bor A)) (ys : List B) → AllZip (λ x y. R x.now y) xs ys → AllZip R (map (λ x. x.now) xs) ys
+zip_shown R [] [] h = tt
+zip_shown R [] (y ∷ ys) h = absurd h
+zip_shown R (x ∷ xs) [] h = absurd h
+zip_shown R (x ∷ xs) (y ∷ ys) h = (h.0, zip_shown R xs ys h.1)
+
+-- and the other way round, of each alone
+pub all_shown : {A : Type 0} (P : A → Type 0) (xs : List (Bor A)) → All P (map (λ x. x.now) xs) → All (λ x. P x.now) xs
+all_shown P xs each k d lt = subst P (get_or-map (λ x. x.now) xs k d d.now lt) (each k d.now (rw (length-map xs (λ x. x.now)) lt))

@@ -1,6 +1,7 @@
 -- The program's command line, and what an action holds of it.
 use Rattle.std.specs.Prelude.{◌≡◌, ◌⊎◌, ◌∷◌, ◌||◌, ⊤, ℕ, Bool, true, false, List, [], Option, Some, None, Ok, String}
-use Rattle.std.specs.Prelude.{IfSome, codes, if◌then◌else◌, is_some, map, not, string_bytes, unwrap_or}
+use Rattle.std.specs.Prelude.{All, IfSome, codes, if◌then◌else◌, is_some, map, not, string_bytes, unwrap_or}
+use Rattle.std.specs.List.{AllZip}
 use Rattle.std.specs.Option.{option_map, option_map_or}
 use Rattle.std.specs.Str.{bytes_eq}
 use Rattle.std.specs.Str.Parse.{ParsesUnsigned}
@@ -13,7 +14,7 @@ use Rattle.clap.specs.declared.builder.action.ArgAction.TheVariants.{Append, Set
 use Rattle.clap.specs.declared.error.kind.ErrorKind.TheVariants.{ArgumentConflict, MissingRequiredArgument, ValueValidation}
 use Rattle.cord_words.specs.declared.request.Request.{Request}
 use Rattle.cord_words.specs.declared.action.Action.{Action}
-use Rattle.cord_words.specs.declared.action.Action.TheVariants.{CheckInput, Check, Show, Cut, Join, Find, Cmp, Edit, Discard, Migrate, Log, Blame, Apply, Commit}
+use Rattle.cord_words.specs.declared.action.Action.TheVariants.{CheckInput, Check, Show, Cut, Join, Find, Cmp, Edit, Discard, Migrate, Log, Blame, Apply, Commit, Restore}
 
 -- ---- the words that the program takes
 
@@ -44,6 +45,10 @@ files_rule = record file_rule { action = Some Append }
 abbrev pub limit_rule : Rule
 limit_rule = record (new_rule (codes "LOOKS")) { long = Some (codes "at-most") }
 
+-- the option `--length LENGTH`, as often as it is given
+abbrev pub length_rule : Rule
+length_rule = record (new_rule (codes "LENGTH")) { long = Some (codes "length"); action = Some Append }
+
 -- an option of this name, which has no value
 abbrev pub flag_rule : Text → Rule
 flag_rule name = record (new_rule name) { long = Some name; action = Some SetTrue }
@@ -58,9 +63,9 @@ quiet_rule = flag_rule (codes "quiet")
 abbrev pub with_flags : App → App
 with_flags a = with_rule (with_rule a explain_rule) quiet_rule
 
--- `check [--at-most LOOKS] IMAGE [SOURCE]...`
+-- `check [--at-most LOOKS] [--length LENGTH]... IMAGE [SOURCE]...`
 abbrev pub check_app : App
-check_app = with_rule (with_rule (with_rule (new_app (codes "check")) limit_rule) image_rule)
+check_app = with_rule (with_rule (with_rule (with_rule (new_app (codes "check")) limit_rule) length_rule) image_rule)
     sources_rule
 
 -- `show [--at-most LOOKS] IMAGE REV [SOURCE]...`
@@ -103,19 +108,20 @@ session_rule = record (new_rule (codes "SESSION")) { long = Some (codes "session
 abbrev pub old_rule : Rule
 old_rule = record (new_rule (codes "OLD")) { long = Some (codes "onto") }
 
--- `edit [--onto OLD] [--keep KEYS] [--session SESSION] [--no-clobber] [--discard] IMAGE [FILE]`
+-- `edit [--onto OLD] [--keep KEYS] [--session SESSION] [--no-clobber] [--replace] [--discard] IMAGE [FILE]`
 abbrev pub edit_app : App
-edit_app = with_rule (with_rule (with_rule (with_rule (with_rule (with_rule (with_rule (new_app (codes "edit")) old_rule)
-    keep_rule) session_rule) (flag_rule (codes "no-clobber"))) (flag_rule (codes "discard"))) image_rule) optional_file_rule
+edit_app = with_rule (with_rule (with_rule (with_rule (with_rule (with_rule (with_rule (with_rule (new_app (codes "edit")) old_rule)
+    keep_rule) session_rule) (flag_rule (codes "no-clobber"))) (flag_rule (codes "replace"))) (flag_rule (codes "discard")))
+    image_rule) optional_file_rule
 
--- `migrate [--at-most LOOKS] IMAGE [SOURCE]...`
+-- `migrate [--at-most LOOKS] [--length LENGTH]... IMAGE [SOURCE]...`
 abbrev pub migrate_app : App
-migrate_app = with_rule (with_rule (with_rule (new_app (codes "migrate")) limit_rule) image_rule)
+migrate_app = with_rule (with_rule (with_rule (with_rule (new_app (codes "migrate")) limit_rule) length_rule) image_rule)
     sources_rule
 
--- `log [--at-most LOOKS] [--brief] IMAGE [SOURCE]...`
+-- `log [--at-most LOOKS] [--length LENGTH]... [--brief] IMAGE [SOURCE]...`
 abbrev pub log_app : App
-log_app = with_rule (with_rule (with_rule (with_rule (new_app (codes "log")) limit_rule)
+log_app = with_rule (with_rule (with_rule (with_rule (with_rule (new_app (codes "log")) limit_rule) length_rule)
     (flag_rule (codes "brief"))) image_rule) sources_rule
 
 -- the option `--start START`
@@ -145,6 +151,11 @@ abbrev pub commit_app : App
 commit_app = with_rule (with_rule (with_rule (with_rule (new_app (codes "commit")) limit_rule) image_rule) file_rule)
     sources_rule
 
+-- `restore [--at-most LOOKS] IMAGE REV FILE [SOURCE]...`
+abbrev pub restore_app : App
+restore_app = with_rule (with_rule (with_rule (with_rule (with_rule (new_app (codes "restore")) limit_rule) image_rule)
+    revision_rule) file_rule) sources_rule
+
 -- the program's name, and that it has a version
 abbrev pub titled_app : App
 titled_app = on_top (λ s. record s { has_version = true }) (new_app (codes "cordkit"))
@@ -156,8 +167,8 @@ with_tool program tool = with_subcommand program (with_flags tool).top
 -- the program, as clap is told of it: all its subcommands
 unfoldable pub cordkit_app : App
 cordkit_app = with_tool (with_tool (with_tool (with_tool (with_tool (with_tool (with_tool (with_tool (with_tool (with_tool (with_tool
-    (with_tool (with_flags titled_app) check_app) show_app) cut_app) join_app) find_app) cmp_app) edit_app) migrate_app) log_app)
-    blame_app) apply_app) commit_app
+    (with_tool (with_tool (with_flags titled_app) check_app) show_app) cut_app) join_app) find_app) cmp_app) edit_app) migrate_app)
+    log_app) blame_app) apply_app) commit_app) restore_app
 
 -- ---- what was given
 
@@ -190,6 +201,10 @@ MayReadAs None n = n ≡ None
 MayReadAs (Some t) None = ⊥
 MayReadAs (Some t) (Some n) = ReadsAs t n
 
+-- the texts read as these numbers, one by one
+abbrev pub EachReadsAs : List Text → List ℕ → Type 0
+EachReadsAs = AllZip ReadsAs
+
 -- this subcommand was given, with such arguments
 abbrev pub Gives : Option (Text × List Row) → Text → (List Row → Type 0) → Type 0
 Gives given name P = (rows : List Row) × (given ≡ Some (name, rows)) × P rows
@@ -198,7 +213,7 @@ Gives given name P = (rows : List Row) × (given ≡ Some (name, rows)) × P row
 abbrev pub names_session : List Row → Bool
 names_session rows = is_some (first_of (codes "OLD") rows) || (is_some (first_of (codes "KEYS") rows)
     || (is_some (first_of (codes "SESSION") rows) || (is_set rows (codes "no-clobber")
-    || is_some (first_of (codes "FILE") rows))))
+    || (is_set rows (codes "replace") || is_some (first_of (codes "FILE") rows)))))
 
 -- `apply` has `--at-most` only where it has `--onto`
 abbrev pub limits_a_check : List Row → Bool
@@ -207,8 +222,9 @@ limits_a_check rows = is_some (first_of (codes "IMAGE") rows) || not (is_some (f
 -- the action is the subcommand that was given, with the texts and the numbers of its arguments
 abbrev pub Holds : Option (Text × List Row) → Action → Type 0
 Holds given CheckInput = given ≡ None
-Holds given (Check at_most image sources) = Gives given (codes "check") (λ rows.
+Holds given (Check at_most lengths image sources) = Gives given (codes "check") (λ rows.
     MayReadAs (first_of (codes "LOOKS") rows) at_most
+    × EachReadsAs (argument_texts rows (codes "LENGTH")) lengths.numbers.items
     × (image.now ≡ argument_text rows (codes "IMAGE"))
     × (map (λ s. s.now) sources.items ≡ argument_texts rows (codes "SOURCE")))
 Holds given (Show at_most image revision sources) = Gives given (codes "show") (λ rows.
@@ -225,23 +241,27 @@ Holds given (Find all start pattern file) = Gives given (codes "find") (λ rows.
     × (pattern.now ≡ argument_text rows (codes "PATTERN")) × (file.now ≡ argument_text rows (codes "FILE")))
 Holds given (Cmp first second) = Gives given (codes "cmp") (λ rows.
     (first.now ≡ argument_text rows (codes "FIRST")) × (second.now ≡ argument_text rows (codes "SECOND")))
-Holds given (Edit onto keys session no_clobber image file) = Gives given (codes "edit") (λ rows.
+Holds given (Edit onto keys session no_clobber replace image file) = Gives given (codes "edit") (λ rows.
     (is_set rows (codes "discard") ≡ false)
     × (option_map (λ o. o.now) onto ≡ first_of (codes "OLD") rows)
     × (option_map (λ k. k.now) keys ≡ first_of (codes "KEYS") rows)
     × (option_map (λ s. s.now) session ≡ first_of (codes "SESSION") rows)
     × (no_clobber ≡ is_set rows (codes "no-clobber"))
+    × (replace ≡ is_set rows (codes "replace"))
     × (image.now ≡ argument_text rows (codes "IMAGE"))
     × (option_map (λ f. f.now) file ≡ first_of (codes "FILE") rows))
 Holds given (Discard keys) = Gives given (codes "edit") (λ rows.
     (is_set rows (codes "discard") ≡ true) × (names_session rows ≡ false)
     × (keys.now ≡ argument_text rows (codes "IMAGE")))
-Holds given (Migrate at_most image sources) = Gives given (codes "migrate") (λ rows.
+Holds given (Migrate at_most lengths image sources) = Gives given (codes "migrate") (λ rows.
     MayReadAs (first_of (codes "LOOKS") rows) at_most
+    × EachReadsAs (argument_texts rows (codes "LENGTH")) lengths.numbers.items
     × (image.now ≡ argument_text rows (codes "IMAGE"))
     × (map (λ s. s.now) sources.items ≡ argument_texts rows (codes "SOURCE")))
-Holds given (Log at_most brief image sources) = Gives given (codes "log") (λ rows.
-    MayReadAs (first_of (codes "LOOKS") rows) at_most × (brief ≡ is_set rows (codes "brief"))
+Holds given (Log at_most lengths brief image sources) = Gives given (codes "log") (λ rows.
+    MayReadAs (first_of (codes "LOOKS") rows) at_most
+    × EachReadsAs (argument_texts rows (codes "LENGTH")) lengths.numbers.items
+    × (brief ≡ is_set rows (codes "brief"))
     × (image.now ≡ argument_text rows (codes "IMAGE"))
     × (map (λ s. s.now) sources.items ≡ argument_texts rows (codes "SOURCE")))
 Holds given (Blame at_most start count image revision sources) = Gives given (codes "blame") (λ rows.
@@ -258,6 +278,11 @@ Holds given (Apply onto at_most script sources) = Gives given (codes "apply") (�
 Holds given (Commit at_most image file sources) = Gives given (codes "commit") (λ rows.
     MayReadAs (first_of (codes "LOOKS") rows) at_most
     × (image.now ≡ argument_text rows (codes "IMAGE")) × (file.now ≡ argument_text rows (codes "FILE"))
+    × (map (λ s. s.now) sources.items ≡ argument_texts rows (codes "SOURCE")))
+Holds given (Restore at_most image revision file sources) = Gives given (codes "restore") (λ rows.
+    MayReadAs (first_of (codes "LOOKS") rows) at_most
+    × (image.now ≡ argument_text rows (codes "IMAGE")) × ReadsAs (argument_text rows (codes "REV")) revision
+    × (file.now ≡ argument_text rows (codes "FILE"))
     × (map (λ s. s.now) sources.items ≡ argument_texts rows (codes "SOURCE")))
 
 -- the matches of the program's own arguments
@@ -281,7 +306,7 @@ IsOneOf (x ∷ xs) n = (n ≡ x) ⊎ IsOneOf xs n
 abbrev pub subcommand_names : List Text
 subcommand_names = codes "check" ∷ codes "show" ∷ codes "cut" ∷ codes "join" ∷ codes "find"
     ∷ codes "cmp" ∷ codes "edit" ∷ codes "migrate" ∷ codes "log" ∷ codes "blame" ∷ codes "apply"
-    ∷ codes "commit" ∷ []
+    ∷ codes "commit" ∷ codes "restore" ∷ []
 
 -- the subcommand that was given, if any, is one of the program's own, and not `help`
 abbrev pub IsKnown : Option (Text × List Row) → Type 0
@@ -292,21 +317,28 @@ IsKnown (Some p) = IsOneOf subcommand_names p.0
 abbrev pub WhereGiven : Option (Text × List Row) → Text → (List Row → Type 0) → Type 0
 WhereGiven given name P = (rows : List Row) → given ≡ Some (name, rows) → P rows
 
+-- the limit of looks and each length is a number
+abbrev pub LimitAndLengthsRead : List Row → Type 0
+LimitAndLengthsRead rows =
+    IfSome (first_of (codes "LOOKS") rows) IsNumber × All IsNumber (argument_texts rows (codes "LENGTH"))
+
 -- each word that stands for a number is one
 pub record NumbersRead (given : Option (Text × List Row)) : Type 0 where
-  pub check : WhereGiven given (codes "check") (λ rows. IfSome (first_of (codes "LOOKS") rows) IsNumber)
+  pub check : WhereGiven given (codes "check") LimitAndLengthsRead
   pub show : WhereGiven given (codes "show") (λ rows.
       IfSome (first_of (codes "LOOKS") rows) IsNumber × IsNumber (argument_text rows (codes "REV")))
   pub cut : WhereGiven given (codes "cut") (λ rows.
       IsNumber (argument_text rows (codes "START")) × IsNumber (argument_text rows (codes "COUNT")))
   pub find : WhereGiven given (codes "find") (λ rows. IsNumber (argument_text rows (codes "START")))
-  pub migrate : WhereGiven given (codes "migrate") (λ rows. IfSome (first_of (codes "LOOKS") rows) IsNumber)
-  pub log : WhereGiven given (codes "log") (λ rows. IfSome (first_of (codes "LOOKS") rows) IsNumber)
+  pub migrate : WhereGiven given (codes "migrate") LimitAndLengthsRead
+  pub log : WhereGiven given (codes "log") LimitAndLengthsRead
   pub blame : WhereGiven given (codes "blame") (λ rows.
       IfSome (first_of (codes "LOOKS") rows) IsNumber × IfSome (first_of (codes "START") rows) IsNumber
       × IfSome (first_of (codes "COUNT") rows) IsNumber × IsNumber (argument_text rows (codes "REV")))
   pub apply : WhereGiven given (codes "apply") (λ rows. IfSome (first_of (codes "LOOKS") rows) IsNumber)
   pub commit : WhereGiven given (codes "commit") (λ rows. IfSome (first_of (codes "LOOKS") rows) IsNumber)
+  pub restore : WhereGiven given (codes "restore") (λ rows.
+      IfSome (first_of (codes "LOOKS") rows) IsNumber × IsNumber (argument_text rows (codes "REV")))
 
 -- `--discard` stands beside no word that is for a session
 abbrev pub DiscardsAlone : Option (Text × List Row) → Type 0

@@ -1,14 +1,23 @@
 //! What the program is asked to do.
 
+/// The lengths that were given in the place of sources, and how many files stand before each.
+#[derive(Debug, Drop, PartialEq, Eq)]
+pub struct Lengths {
+    pub numbers: Vec<u64>,
+    pub files_before: Vec<usize>,
+}
+
 /// A subcommand with its texts, which are the words as they stand, and its numbers.
 #[derive(Debug, Drop, PartialEq, Eq)]
 pub enum Action<'a> {
     /// Check the image on standard input.
     CheckInput,
     /// Check the image of a file. The sources are the files that its session was made from, in
-    /// their order. The check may take no more looks at nodes than `at_most`, if that is given.
+    /// their order, and among them those of which the length alone is given. The check may take no
+    /// more looks at nodes than `at_most`, if that is given.
     Check {
         at_most: Option<u64>,
+        lengths: Lengths,
         image: &'a str,
         sources: Vec<&'a str>,
     },
@@ -16,6 +25,7 @@ pub enum Action<'a> {
     /// check take.
     Migrate {
         at_most: Option<u64>,
+        lengths: Lengths,
         image: &'a str,
         sources: Vec<&'a str>,
     },
@@ -53,13 +63,15 @@ pub enum Action<'a> {
     /// Edit a text on the screen, which begins as that of a file or empty, or go on with the session of
     /// the image `onto`, where there is one, which was made over that file. Save its session as an
     /// image. Keep the keys of the terminal in the file `keys`, where there is one, and begin with
-    /// those that it has. Under `no_clobber` an image that is there is refused. The file `session`,
-    /// where there is one, has what there was when the session began, and goes once the image is saved.
+    /// those that it has. Under `no_clobber` an image that is there is refused, and under `replace` it
+    /// may go. The file `session`, where there is one, has what there was when the session began, and
+    /// goes once the image is saved.
     Edit {
         onto: Option<&'a str>,
         keys: Option<&'a str>,
         session: Option<&'a str>,
         no_clobber: bool,
+        replace: bool,
         image: &'a str,
         file: Option<&'a str>,
     },
@@ -71,6 +83,7 @@ pub enum Action<'a> {
     /// Where it is `brief`, long texts are cut short.
     Log {
         at_most: Option<u64>,
+        lengths: Lengths,
         brief: bool,
         image: &'a str,
         sources: Vec<&'a str>,
@@ -91,6 +104,15 @@ pub enum Action<'a> {
     Commit {
         at_most: Option<u64>,
         image: &'a str,
+        file: &'a str,
+        sources: Vec<&'a str>,
+    },
+    /// Make the bytes of a file the last text of the image of a file, as `Commit` does, and then give that file the text
+    /// of a revision that the image had before. Where there is no such file, it is made.
+    Restore {
+        at_most: Option<u64>,
+        image: &'a str,
+        revision: u64,
         file: &'a str,
         sources: Vec<&'a str>,
     },

@@ -3,7 +3,7 @@
 ghost use Rattle.std.specs.Prelude.{◌≡◌, IfOk, false};
 ghost use Rattle.clap.specs.Words.{App, Rule, app_of, new_app, rule_of, with_rule};
 ghost use Rattle.clap.specs.declared.builder.command.Command.TheViews.{out-Command as fields_of};
-ghost use Rattle.cord_words.specs.Words.{count_rule, explain_rule, file_rule, flag_rule, from_rule, image_rule, keep_rule, limit_rule};
+ghost use Rattle.cord_words.specs.Words.{count_rule, explain_rule, file_rule, flag_rule, from_rule, image_rule, keep_rule, length_rule, limit_rule};
 ghost use Rattle.cord_words.specs.Words.{old_rule, onto_rule, optional_file_rule, quiet_rule, required_rule, revision_rule};
 ghost use Rattle.cord_words.specs.Words.{session_rule, sources_rule, start_rule, with_flags};
 
@@ -93,6 +93,18 @@ pub fn limit<'a>(alloc: Global) -> Arg<'a>
     Arg::new(alloc, "LOOKS")
         .help("The most looks at nodes that the check may take")
         .long("at-most")
+}
+
+/// `--length LENGTH`
+pub fn length<'a>(alloc: Global) -> Arg<'a>
+    ensures rule { rule_of result ≡ length_rule }
+    ensures local { result.global ≡ false }
+{
+    let often = ArgAction::Append;
+    Arg::new(alloc, "LENGTH")
+        .help("How many bytes a source has whose file is not given: it stands in a SOURCE's place")
+        .long("length")
+        .action(often)
 }
 
 /// `--start START`

@@ -1,4 +1,4 @@
-//! `check [--at-most LOOKS] IMAGE [SOURCE]...`
+//! `check [--at-most LOOKS] [--length LENGTH]... IMAGE [SOURCE]...`
 
 ghost use Rattle.std.specs.Prelude.{◌≡◌, ◌∷◌, [], IfErr, IfOk, Some, codes, false};
 ghost use Rattle.clap.specs.Words.{app_of, found_of, rows_of};
@@ -21,6 +21,7 @@ pub fn command<'a>(alloc: Global) -> Result<Command<'a>, AllocError>
     let about = "Say whether a saved session is accepted, or by which fault it is refused";
     let command = args::command(alloc, "check", about);
     let command = args::with(Ok(command), args::limit(alloc));
+    let command = args::with(command, args::length(alloc));
     let command = args::with(command, args::image(alloc));
     args::with(command, args::sources(alloc))
 }
@@ -38,6 +39,7 @@ pub fn action<'a>(
 {
     Ok(Action::Check {
         at_most: given::optional_number(alloc, command, given, "LOOKS")?,
+        lengths: given::lengths(alloc, command, given)?,
         image: given::text(given, "IMAGE"),
         sources: given::texts(alloc, given, "SOURCE")?,
     })

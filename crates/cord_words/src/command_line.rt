@@ -13,7 +13,8 @@ use crate::action::Action;
 use crate::fault::WordsFault;
 use crate::request::Request;
 use crate::{
-    apply, args, blame, check, cmp, commit, cut, edit, find, given, join, log, migrate, show,
+    apply, args, blame, check, cmp, commit, cut, edit, find, given, join, log, migrate, restore,
+    show,
 };
 use clap::error::ErrorKind;
 use clap::{ArgMatches, Command, Error};
@@ -108,6 +109,7 @@ fn action_of<'a>(
         Some(("blame", given)) => blame::action(alloc, command, given),
         Some(("apply", given)) => apply::action(alloc, command, given),
         Some(("commit", given)) => commit::action(alloc, command, given),
+        Some(("restore", given)) => restore::action(alloc, command, given),
         Some(_) => unreachable!(),
     }
 }
@@ -138,6 +140,7 @@ fn alone<'a>(alloc: Global, name: &str) -> Result<Command<'a>, AllocError> {
         "blame" => blame::command(alloc),
         "apply" => apply::command(alloc),
         "commit" => commit::command(alloc),
+        "restore" => restore::command(alloc),
         _ => Ok(titled(alloc)),
     };
     let path = format!(in alloc; "cordkit {name}")?;
@@ -199,7 +202,8 @@ fn cordkit<'a>(alloc: Global) -> Result<Command<'a>, AllocError>
     let command = add_tool(alloc, command, log::command(alloc));
     let command = add_tool(alloc, command, blame::command(alloc));
     let command = add_tool(alloc, command, apply::command(alloc));
-    add_tool(alloc, command, commit::command(alloc))
+    let command = add_tool(alloc, command, commit::command(alloc));
+    add_tool(alloc, command, restore::command(alloc))
 }
 
 /// The refusal of words that are no text, with the usage of the program. It is `Memory`, where there was none for it.

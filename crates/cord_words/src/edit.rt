@@ -1,4 +1,4 @@
-//! `edit [--onto OLD] [--keep KEYS] [--session SESSION] [--no-clobber] IMAGE [FILE]`, and `edit --discard KEYS`
+//! `edit [--onto OLD] [--keep KEYS] [--session SESSION] [--no-clobber] [--replace] IMAGE [FILE]`, and `edit --discard KEYS`
 
 ghost use Rattle.std.specs.Prelude.{◌≡◌, ◌∷◌, [], IfErr, IfOk, Some, codes, false};
 ghost use Rattle.clap.specs.Words.{app_of, found_of, new_app, rows_of};
@@ -35,6 +35,8 @@ pub fn command<'a>(alloc: Global) -> Result<Command<'a>, AllocError>
     let command = args::with(command, args::session(alloc));
     let help = "Refuse an image that is there already";
     let command = args::with(command, args::flag(alloc, "no-clobber", help));
+    let help = "Let an image that is there go: it is not kept by another name";
+    let command = args::with(command, args::flag(alloc, "replace", help));
     let help = "Edit nothing: take away IMAGE, which is a file of keys that no session has";
     let command = args::with(command, args::flag(alloc, "discard", help));
     let command = args::with(command, args::image(alloc));
@@ -49,6 +51,7 @@ fn names_session(given: &ArgMatches<'_>) -> bool
         || given::has(given, "KEYS")
         || given::has(given, "SESSION")
         || given::flag(given, "no-clobber")
+        || given::flag(given, "replace")
         || given::has(given, "FILE")
 }
 
@@ -79,6 +82,7 @@ pub fn action<'a>(
         keys: given::optional_text(given, "KEYS"),
         session: given::optional_text(given, "SESSION"),
         no_clobber: given::flag(given, "no-clobber"),
+        replace: given::flag(given, "replace"),
         image: given::text(given, "IMAGE"),
         file: given::optional_text(given, "FILE"),
     })

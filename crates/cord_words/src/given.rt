@@ -1,12 +1,14 @@
 //! The arguments of a subcommand, as they were given.
 
-ghost use Rattle.std.specs.Prelude.{◌≡◌, ◌∷◌, [], IfOk, IfErr, IfSome, is_some, map};
+ghost use Rattle.std.specs.Prelude.{◌≡◌, ◌∷◌, ◌++◌, [], All, IfOk, IfErr, IfSome, OnOk, codes, is_some, map};
+ghost use Rattle.std.specs.List.{AllZip};
 ghost use Rattle.std.specs.Option.{option_map};
 ghost use Rattle.clap.specs.Words.{first_of, found_of, rows_of};
 ghost use Rattle.clap.specs.declared.error.kind.ErrorKind.TheVariants.{ValueValidation};
-ghost use Rattle.cord_words.specs.Words.{IsNumber, MayReadAs, ReadsAs, argument_text, argument_texts, is_set};
+ghost use Rattle.cord_words.specs.Words.{EachReadsAs, IsNumber, MayReadAs, ReadsAs, argument_text, argument_texts, is_set};
 ghost use Rattle.cord_words.specs.Refusals.{FailsAs};
 
+use crate::action::Lengths;
 use crate::fault::WordsFault;
 use clap::error::ErrorKind;
 use clap::{ArgMatches, Command};
@@ -105,4 +107,80 @@ pub fn optional_number(
         None => Ok(None),
         Some(text) => Ok(Some(parsed(alloc, command, id, text)?)),
     }
+}
+
+/// Adds a number behind the others.
+fn push(numbers: &mut Vec<u64>, number: u64) -> Result<(), AllocError>
+    ensures { OnOk result (numbers.new.items ≡ numbers.old.items ++ number ∷ []) }
+{
+    numbers.push(number)?;
+    Ok(())
+}
+
+/// The numbers of texts, one by one. Where one is none of 64 bits, the fault is one of `command`.
+fn each_parsed(
+    alloc: Global,
+    command: &mut Command<'_>,
+    id: &str,
+    texts: &[&str],
+) -> Result<Vec<u64>, WordsFault>
+    ensures reads { IfOk result (λ numbers. AllZip (λ t. ReadsAs t.now) texts.now numbers.items) }
+    ensures only_memory { IfErr result (λ f. All (λ t. IsNumber t.now) texts.now → f ≡ WordsFault.Memory) }
+    ensures kind { IfErr result (FailsAs (ValueValidation ∷ [])) }
+{
+    let mut numbers = Vec::new(alloc);
+    for text in texts {
+        match parsed(alloc, command, id, text) {
+            Ok(number) => push(&mut numbers, number)?,
+            Err(fault) => return Err(fault),
+        }
+    }
+    Ok(numbers)
+}
+
+/// The numbers of an argument in their order, and none where it was not given. Where a text is none of 64 bits, the
+/// fault is one of `command`.
+fn numbers(
+    alloc: Global,
+    command: &mut Command<'_>,
+    given: &ArgMatches<'_>,
+    id: &str,
+) -> Result<Vec<u64>, WordsFault>
+    ensures reads { IfOk result (λ numbers.
+        EachReadsAs (argument_texts (rows_of (found_of given.now)) id.now) numbers.items) }
+    ensures only_memory { IfErr result (λ f.
+        All IsNumber (argument_texts (rows_of (found_of given.now)) id.now) → f ≡ WordsFault.Memory) }
+    ensures kind { IfErr result (FailsAs (ValueValidation ∷ [])) }
+{
+    let texts = texts(alloc, given, id)?;
+    each_parsed(alloc, command, id, &texts)
+}
+
+/// How many files stand before each length among the words.
+fn files_before(alloc: Global, given: &ArgMatches<'_>) -> Result<Vec<usize>, AllocError> {
+    let lengths = given.indices_of("LENGTH").unwrap_or(&[]);
+    let files = given.indices_of("SOURCE").unwrap_or(&[]);
+    let mut before = Vec::new(alloc);
+    for place in lengths {
+        before.push(files.iter().filter(|file| *file < place).count())?;
+    }
+    Ok(before)
+}
+
+/// The lengths that were given. Where one is no number of 64 bits, the fault is one of `command`.
+pub fn lengths(
+    alloc: Global,
+    command: &mut Command<'_>,
+    given: &ArgMatches<'_>,
+) -> Result<Lengths, WordsFault>
+    ensures reads { IfOk result (λ lengths.
+        EachReadsAs (argument_texts (rows_of (found_of given.now)) (codes "LENGTH")) lengths.numbers.items) }
+    ensures only_memory { IfErr result (λ f.
+        All IsNumber (argument_texts (rows_of (found_of given.now)) (codes "LENGTH")) → f ≡ WordsFault.Memory) }
+    ensures kind { IfErr result (FailsAs (ValueValidation ∷ [])) }
+{
+    Ok(Lengths {
+        numbers: numbers(alloc, command, given, "LENGTH")?,
+        files_before: files_before(alloc, given)?,
+    })
 }

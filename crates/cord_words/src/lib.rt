@@ -18,9 +18,10 @@ mod join;
 mod log;
 mod migrate;
 mod request;
+mod restore;
 mod show;
 
-pub use action::Action;
+pub use action::{Action, Lengths};
 pub use command_line::{no_text, words};
 pub use fault::WordsFault;
 pub use request::Request;

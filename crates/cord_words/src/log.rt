@@ -1,4 +1,4 @@
-//! `log [--at-most LOOKS] [--brief] IMAGE [SOURCE]...`
+//! `log [--at-most LOOKS] [--length LENGTH]... [--brief] IMAGE [SOURCE]...`
 
 ghost use Rattle.std.specs.Prelude.{◌≡◌, ◌∷◌, [], IfErr, IfOk, Some, codes, false};
 ghost use Rattle.clap.specs.Words.{app_of, found_of, rows_of};
@@ -21,6 +21,7 @@ pub fn command<'a>(alloc: Global) -> Result<Command<'a>, AllocError>
     let about = "Write a saved session as a script of its commands";
     let command = args::command(alloc, "log", about);
     let command = args::with(Ok(command), args::limit(alloc));
+    let command = args::with(command, args::length(alloc));
     let help = "Write at most 60 bytes of each text, and then `...`";
     let command = args::with(command, args::flag(alloc, "brief", help));
     let command = args::with(command, args::image(alloc));
@@ -40,6 +41,7 @@ pub fn action<'a>(
 {
     Ok(Action::Log {
         at_most: given::optional_number(alloc, command, given, "LOOKS")?,
+        lengths: given::lengths(alloc, command, given)?,
         brief: given::flag(given, "brief"),
         image: given::text(given, "IMAGE"),
         sources: given::texts(alloc, given, "SOURCE")?,

@@ -1,4 +1,4 @@
-//! `migrate [--at-most LOOKS] IMAGE [SOURCE]...`
+//! `migrate [--at-most LOOKS] [--length LENGTH]... IMAGE [SOURCE]...`
 
 ghost use Rattle.std.specs.Prelude.{◌≡◌, ◌∷◌, [], IfErr, IfOk, Some, codes, false};
 ghost use Rattle.clap.specs.Words.{app_of, found_of, rows_of};
@@ -21,6 +21,7 @@ pub fn command<'a>(alloc: Global) -> Result<Command<'a>, AllocError>
     let about = "Write a saved session anew, in the latest version of its format";
     let command = args::command(alloc, "migrate", about);
     let command = args::with(Ok(command), args::limit(alloc));
+    let command = args::with(command, args::length(alloc));
     let command = args::with(command, args::image(alloc));
     args::with(command, args::sources(alloc))
 }
@@ -38,6 +39,7 @@ pub fn action<'a>(
 {
     Ok(Action::Migrate {
         at_most: given::optional_number(alloc, command, given, "LOOKS")?,
+        lengths: given::lengths(alloc, command, given)?,
         image: given::text(given, "IMAGE"),
         sources: given::texts(alloc, given, "SOURCE")?,
     })

@@ -1,5 +1,7 @@
 //! What the program answered.
 
+use crate::faults::Faults;
+use cord_explanations::ShownName;
 use std::alloc::Global;
 use std::{fmt, io};
 
@@ -11,6 +13,8 @@ const KEPT: usize = 128;
 pub enum Note {
     /// It got this name, and not its own.
     OtherName(String),
+    /// It is in its place, and the one that was there has this name.
+    Kept(String),
     /// It has this name since an earlier run.
     SavedBefore(String),
 }
@@ -18,8 +22,15 @@ pub enum Note {
 impl fmt::Display for Note {
     fn fmt<W: fmt::Write>(&self, f: &mut fmt::Formatter<W>) -> fmt::Result {
         match self {
-            Note::OtherName(name) => write!(f, "the image of the session is {name}"),
+            Note::OtherName(name) => {
+                write!(f, "the image of the session is {}", ShownName { name })
+            }
+            Note::Kept(name) => {
+                let name = ShownName { name };
+                write!(f, "the image that was there is kept as {name}")
+            }
             Note::SavedBefore(name) => {
+                let name = ShownName { name };
                 write!(f, "the session was saved before: its image is {name}")
             }
         }
@@ -28,21 +39,29 @@ impl fmt::Display for Note {
 
 /// A writer, of which the first bytes that it takes are kept, and
 /// so is a refusal that is told elsewhere: it is what is explained.
+/// Beside it the file that could not be read or written.
 #[derive(Drop)]
-pub struct Answer<W> {
+pub struct Answer<'a, W> {
     writer: W,
     kept: Vec<u8>,
     note: Option<Note>,
+    faults: &'a Faults,
 }
 
-impl<W> Answer<W> {
+impl<'a, W> Answer<'a, W> {
     /// A writer of which nothing is kept yet.
-    pub fn new(alloc: Global, writer: W) -> Answer<W> {
+    pub fn new(alloc: Global, writer: W, faults: &'a Faults) -> Answer<'a, W> {
         Answer {
             writer,
             kept: Vec::new(alloc),
             note: None,
+            faults,
         }
+    }
+
+    /// Which file could not be read or written.
+    pub fn faults(&self) -> &'a Faults {
+        self.faults
     }
 
     /// Keeps these bytes, if there is room for them. What is not kept is not explained.
@@ -69,7 +88,7 @@ impl<W> Answer<W> {
     }
 }
 
-impl<W: io::Write> io::Write for Answer<W> {
+impl<W: io::Write> io::Write for Answer<'_, W> {
     fn write(&mut self, bytes: &[u8]) -> io::Result<usize> {
         let n = self.writer.write(bytes)?;
         if let Some(taken) = bytes.get(..n) {

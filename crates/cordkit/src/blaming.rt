@@ -1,11 +1,12 @@
 //! Where bytes come from, as an output.
 
+use crate::faults::Output;
 use crate::meter::Meter;
 use crate::opening::told;
 use cord_tools::ToolFault;
 use lazy_file::Sources;
 use script_tools::{BlameFault, BytesOfText, run_blame_told};
-use std::io::{self, BufWriter, Write};
+use std::io::{BufWriter, Write};
 
 /// Lines are written by so many bytes.
 const PIECE: usize = 65_536;
@@ -17,9 +18,10 @@ pub fn write_blame<S: Sources>(
     sources: &mut S,
     at_most: Option<u64>,
     wanted: BytesOfText,
+    output: Output<'_>,
     meter: &mut Meter<'_>,
 ) -> Result<(), ToolFault> {
-    let mut writer = BufWriter::with_capacity(rt.alloc(), PIECE, io::writer(rt)).map_err(told)?;
+    let mut writer = BufWriter::with_capacity(rt.alloc(), PIECE, output).map_err(told)?;
     meter.start("records");
     let written = run_blame_told(
         rt.alloc(),

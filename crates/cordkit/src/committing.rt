@@ -2,22 +2,28 @@
 
 ghost use Rattle.std.specs.Prelude.{◌≡◌, ◌*◌, ◌<◌, length};
 
+use crate::digests::SourceLines;
+use crate::faults::Faults;
 use crate::file_state::{FileState, is_named, state_behind};
 use crate::image_file::ImageFile;
 use crate::meter::Meter;
-use crate::opening::{open, opened_sources, told, told_size};
+use crate::opening::{open, opened_sources, told_size};
 use commit_tools::{Commit, CommitFault, run_commit, run_commit_anew};
 use cord_tools::{Status, ToolFault, read_image, read_source};
 use edit_commands::EditFault;
+use lazy_file::Sources;
 use leaf_buffer::POOL_LIMIT;
 use node_table::NodeFault;
-use std::fs::{self, File};
+use std::fs;
 use std::io::{self, ErrorKind, Write};
 use std::sync::ledger::{Blank, Ledger};
 use work_progress::Progress;
 
 /// A file that changes while it is read is read so many times.
 const TRIES: usize = 3;
+
+/// A commit that finds another one's image begins anew so many times at most.
+const BEGINNINGS: usize = 1000;
 
 /// What is committed, and behind what.
 #[derive(Clone, Copy)]
@@ -26,6 +32,7 @@ pub struct Committing<'a> {
     pub image: &'a str,
     pub file: &'a str,
     pub sources: &'a [&'a str],
+    pub faults: &'a Faults,
 }
 
 /// How it is told why there is no new image.
@@ -59,18 +66,22 @@ fn refuse_own(
 }
 
 /// Refuses an image beside which keys of a session are kept.
-fn refuse_keys(rt: &HostRuntime, image: &str) -> Result<(), ToolFault> {
+fn refuse_keys(rt: &HostRuntime, image: &str, faults: &Faults) -> Result<(), ToolFault> {
     let keys = format!(in rt.alloc(); "{image}.keys")?;
     match fs::metadata(rt, keys.as_str()) {
         Ok(metadata) if metadata.len() > 0 => Err(ToolFault::KeysInUse),
         Ok(_) => Ok(()),
         Err(error) if error.kind() == ErrorKind::NotFound => Ok(()),
-        Err(error) => Err(told(error)),
+        Err(error) => Err(faults.unread(keys.as_str(), error)),
     }
 }
 
 /// The bytes of a file, and what stood under its name before they were read.
-fn read_once(rt: &HostRuntime, path: &str) -> Result<(Vec<u8>, Option<FileState>), ToolFault> {
+fn read_once(
+    rt: &HostRuntime,
+    path: &str,
+    faults: &Faults,
+) -> Result<(Vec<u8>, Option<FileState>), ToolFault> {
     let too_long = Err(ToolFault::Edit(EditFault::Node(NodeFault::PoolFull)));
     let state = state_behind(rt, path);
     let file = open(rt, path)?;
@@ -78,7 +89,7 @@ fn read_once(rt: &HostRuntime, path: &str) -> Result<(Vec<u8>, Option<FileState>
     if told_size(&file) >= POOL_LIMIT {
         return too_long;
     }
-    let bytes = read_source(rt.alloc(), file)?;
+    let bytes = read_source(rt.alloc(), faults.input(path, file))?;
     if bytes.len() as u64 >= POOL_LIMIT {
         return too_long;
     }
@@ -86,66 +97,86 @@ fn read_once(rt: &HostRuntime, path: &str) -> Result<(Vec<u8>, Option<FileState>
 }
 
 /// The bytes that a file has, as far as its size and its times tell: read anew where these changed meanwhile.
-fn read_file(rt: &HostRuntime, path: &str) -> Result<Vec<u8>, ToolFault> {
+fn read_file(rt: &HostRuntime, path: &str, faults: &Faults) -> Result<Vec<u8>, ToolFault> {
     for _ in 0..TRIES {
-        let (bytes, state) = read_once(rt, path)?;
+        let (bytes, state) = read_once(rt, path, faults)?;
         if state_behind(rt, path) == state {
             return Ok(bytes);
         }
     }
-    Err(ToolFault::Read)
+    Err(faults.unread(
+        path,
+        io::Error::other("it changed each time that it was read"),
+    ))
+}
+
+/// What a commit begins from: the image, what the file holds, and whether there is an image to go on from.
+#[derive(Drop)]
+pub(crate) struct Begun<'a> {
+    image: ImageFile<'a>,
+    text: Vec<u8>,
+    is_new: bool,
+}
+
+/// Looks at the image, and reads the file.
+pub(crate) fn begin<'a>(
+    rt: &'a HostRuntime,
+    words: Committing<'a>,
+) -> Result<Begun<'a>, ToolFault> {
+    let mut image = ImageFile::new(rt, words.image, words.faults)?;
+    image.has_text_of(words.file);
+    image.give_way();
+    refuse_own(rt, words, &image)?;
+    refuse_keys(rt, words.image, words.faults)?;
+    // What this look tells is what is replaced: a later one may fail.
+    let there = image.look();
+    image.replace_only(there);
+    let text = read_file(rt, words.file, words.faults)?;
+    Ok(Begun {
+        image,
+        text,
+        is_new: there.is_none_or(|state| state.size == 0),
+    })
 }
 
 /// The commit behind an image that is there.
-fn commit_onto<L: Ledger>(
+fn commit_onto<S: Sources>(
     rt: &HostRuntime,
     words: Committing<'_>,
-    older: File,
-    text: &[u8],
-    image: &mut ImageFile<'_>,
+    begun: &mut Begun<'_>,
+    sources: &mut S,
     meter: &mut Meter<'_>,
-    blank: Blank,
-) -> Result<Commit, ToolFault>
-    requires name { blank.name ≡ L.name }
-    requires parts { blank.parts ≡ L.parts }
-    requires many { 2 * length words.sources.now < blank.parts }
-{
-    image.keep_whole(&older)?;
+) -> Result<Commit, ToolFault> {
+    let older = open(rt, words.image)?;
+    begun.image.keep_whole(&older)?;
     let expected = told_size(&older);
-    let mut sources = opened_sources::<L>(rt, words.sources, blank)?;
     let bytes = read_image(rt.alloc(), older, expected)?;
     meter.start("records");
     let commit = run_commit(
         rt.alloc(),
         bytes,
-        &mut sources,
+        sources,
         words.at_most,
-        text,
-        image,
+        &begun.text,
+        &mut begun.image,
         meter,
     );
     commit.map_err(told_fault)
 }
 
 /// The commit, behind the image that is there or as a new one.
-fn committed<L: Ledger>(
+fn committed<S: Sources>(
     rt: &HostRuntime,
     words: Committing<'_>,
-    text: &[u8],
-    image: &mut ImageFile<'_>,
-    is_new: bool,
+    begun: &mut Begun<'_>,
+    sources: &mut S,
     meter: &mut Meter<'_>,
-    blank: Blank,
-) -> Result<Commit, ToolFault>
-    requires name { blank.name ≡ L.name }
-    requires parts { blank.parts ≡ L.parts }
-    requires many { 2 * length words.sources.now < blank.parts }
-{
-    if is_new && words.sources.is_empty() {
-        return run_commit_anew(rt.alloc(), text, image).map_err(told_fault);
+) -> Result<Commit, ToolFault> {
+    if begun.is_new && words.sources.is_empty() {
+        run_commit_anew(rt.alloc(), &begun.text, &mut begun.image).map_err(told_fault)
+    } else {
+        commit_onto(rt, words, begun, sources, meter)
     }
-    let older = open(rt, words.image)?;
-    commit_onto::<L>(rt, words, older, text, image, meter, blank)
 }
 
 /// Puts the image in its place, and gives the line of the answer. That is made first: nothing wants memory behind it.
@@ -153,14 +184,60 @@ fn put_and_tell(
     rt: &HostRuntime,
     image: &ImageFile<'_>,
     commit: Commit,
+    lines: &SourceLines,
 ) -> Result<String, ToolFault> {
     let line = format!(in rt.alloc(); "{commit}\n")?;
     image.put_here()?;
+    if let Commit::Added(_) = commit {
+        lines.keep_beside(rt, image.path());
+    }
     Ok(line)
 }
 
+/// Commits, and gives the line of the answer.
+fn commit_once<S: Sources>(
+    rt: &HostRuntime,
+    words: Committing<'_>,
+    begun: &mut Begun<'_>,
+    sources: &mut S,
+    lines: &SourceLines,
+    meter: &mut Meter<'_>,
+) -> Result<String, ToolFault> {
+    let put = match committed(rt, words, begun, sources, &mut *meter) {
+        Ok(commit) => put_and_tell(rt, &begun.image, commit, lines),
+        Err(_) if begun.image.is_busy() => Err(ToolFault::OtherImage),
+        Err(fault) => Err(begun.image.cause(fault)),
+    };
+    meter.end();
+    if put.is_err() {
+        begun.image.drop_part();
+    }
+    put
+}
+
+/// Commits, and gives the line of the answer. Where another one came between, it begins anew.
+pub(crate) fn commit_begun<'a, S: Sources>(
+    rt: &'a HostRuntime,
+    words: Committing<'a>,
+    begun: Begun<'a>,
+    sources: &mut S,
+    lines: &SourceLines,
+    meter: &mut Meter<'_>,
+) -> Result<String, ToolFault> {
+    let mut begun = begun;
+    for _ in 0..BEGINNINGS {
+        match commit_once(rt, words, &mut begun, sources, lines, meter) {
+            Err(ToolFault::OtherImage | ToolFault::Write) if !begun.image.is_as_begun() => {
+                begun = begin(rt, words)?;
+            }
+            line => return line,
+        }
+    }
+    Err(ToolFault::OtherImage)
+}
+
 /// Makes what a file holds now the last text of an image, and puts the new image in the place of the one that was there
-/// when it was read. Answers on standard output which revision has it.
+/// when it was read. Where another one came between, it begins anew. Answers on standard output which revision has it.
 pub fn commit<L: Ledger>(
     rt: &HostRuntime,
     words: Committing<'_>,
@@ -171,26 +248,21 @@ pub fn commit<L: Ledger>(
     requires parts { blank.parts ≡ L.parts }
     requires many { 2 * length words.sources.now < blank.parts }
 {
-    let mut image = ImageFile::new(rt, words.image)?;
-    refuse_own(rt, words, &image)?;
-    refuse_keys(rt, words.image)?;
-    // What this look tells is what is replaced: a later one may fail.
-    let there = image.look();
-    image.replace_only(there);
-    let is_new = there.is_none_or(|state| state.size == 0);
-    let text = read_file(rt, words.file)?;
-    let put = match committed::<L>(rt, words, &text, &mut image, is_new, &mut *meter, blank) {
-        Ok(commit) => put_and_tell(rt, &image, commit),
-        Err(_) if image.is_busy() => Err(ToolFault::OtherImage),
-        Err(fault) => Err(image.cause(fault)),
-    };
-    meter.end();
-    if put.is_err() {
-        image.drop_part();
+    let begun = begin(rt, words)?;
+    let lines = SourceLines::over(rt, Some(words.image), words.sources)?;
+    let mut sources = opened_sources::<L>(rt, words.sources, blank)?;
+    let line = commit_begun(rt, words, begun, &mut sources, &lines, meter)?;
+    answer(rt, words, line)
+}
+
+/// Tells which revision has the text.
+pub(crate) fn answer(
+    rt: &HostRuntime,
+    words: Committing<'_>,
+    line: String,
+) -> Result<Status, ToolFault> {
+    match words.faults.output(rt).write_all(line.as_bytes()) {
+        Ok(()) => Ok(Status::Success),
+        Err(_) => Err(ToolFault::Write),
     }
-    let line = put?;
-    io::writer(rt)
-        .write_all(line.as_bytes())
-        .map_err(|_| ToolFault::Write)?;
-    Ok(Status::Success)
 }

@@ -3,7 +3,9 @@
 ghost use Rattle.std.specs.Prelude.{◌≡◌, ◌<◌};
 
 use crate::answer::{Answer, Note};
+use crate::digests::{SourceLines, is_large};
 use crate::editing_onto::edit_onto;
+use crate::faults::{Faults, STANDARD_INPUT};
 use crate::file_state::FileState;
 use crate::image_file::{ImageFile, Put};
 use crate::journal::Journal;
@@ -11,10 +13,10 @@ use crate::opening::{OpenedSources, opened_sources};
 use crate::session_file::{Beginning, read_beginning, write_beginning};
 use cord_tools::{Status, ToolFault, run_edit};
 use lazy_file::Sources;
+use std::fs;
 use std::fs::File;
 use std::io::ErrorKind;
 use std::sync::ledger::{Blank, Ledger};
-use std::{fs, io};
 
 /// What `edit` is asked for.
 #[derive(Clone, Copy)]
@@ -23,8 +25,10 @@ pub struct Editing<'a> {
     pub keys: Option<&'a str>,
     pub session: Option<&'a str>,
     pub no_clobber: bool,
+    pub replace: bool,
     pub image: &'a str,
     pub file: Option<&'a str>,
+    pub faults: &'a Faults,
 }
 
 /// What follows an edit: an image that is whole is put in its place.
@@ -40,6 +44,22 @@ pub(crate) fn finish(
         image.drop_part();
     }
     put
+}
+
+/// The image of the words. A new one is open to nobody to whom its file is not, or the image that it goes
+/// on from. What it takes the place of is kept, where the words do not say that it may go.
+fn image_of<'a>(rt: &'a HostRuntime, words: Editing<'a>) -> Result<ImageFile<'a>, ToolFault> {
+    let mut image = ImageFile::new(rt, words.image, words.faults)?;
+    if let Some(file) = words.file {
+        image.has_text_of(file);
+    }
+    if let Some(older) = words.onto {
+        image.has_text_of(older);
+    }
+    if !words.replace {
+        image.keep_old();
+    }
+    Ok(image)
 }
 
 /// Whether an image is there that is not to be replaced.
@@ -65,7 +85,7 @@ fn begin(
             keys: journal.birth()?,
             image: there,
         };
-        write_beginning(rt, session, &beginning)?;
+        write_beginning(rt, session, &beginning, words.faults)?;
     }
     Ok(there)
 }
@@ -73,11 +93,11 @@ fn begin(
 /// The image of a session that has the lock of its keys: it takes the place of what was there when the session began.
 pub(crate) fn begun_image<'a>(
     rt: &'a HostRuntime,
-    words: Editing<'_>,
+    words: Editing<'a>,
     journal: &Journal<'_>,
     begun: Option<Beginning>,
 ) -> Result<ImageFile<'a>, ToolFault> {
-    let mut image = ImageFile::new(rt, words.image)?;
+    let mut image = image_of(rt, words)?;
     let there = match begun {
         Some(beginning) => beginning.image,
         None => begin(rt, words, journal, &image)?,
@@ -92,7 +112,7 @@ pub(crate) fn beginning_of(
     words: Editing<'_>,
 ) -> Result<Option<Beginning>, ToolFault> {
     match words.session {
-        Some(session) => read_beginning(rt, session),
+        Some(session) => read_beginning(rt, session, words.faults),
         None => Ok(None),
     }
 }
@@ -103,7 +123,9 @@ pub(crate) fn close(rt: &HostRuntime, words: Editing<'_>) -> Result<(), ToolFaul
         return Ok(());
     };
     match fs::remove_file(rt, session) {
-        Err(error) if error.kind() != ErrorKind::NotFound => Err(ToolFault::Write),
+        Err(error) if error.kind() != ErrorKind::NotFound => {
+            Err(words.faults.unwritten(session, error))
+        }
         _ => Ok(()),
     }
 }
@@ -128,7 +150,7 @@ fn saved_before<S: Sources + Drop>(
         return Err(ToolFault::ImageThere);
     }
     // It may have a second name.
-    let _ = ImageFile::new(rt, words.image)?.look();
+    let _ = ImageFile::new(rt, words.image, words.faults)?.look();
     Ok(Put::Before)
 }
 
@@ -141,17 +163,17 @@ fn edit_kept<S: Sources + Drop>(
 ) -> Result<Put, ToolFault> {
     let mut sources = sources;
     let begun = beginning_of(rt, words)?;
-    let journal = Journal::open(rt, keys, begun.map(|b| b.keys), &mut sources)?;
+    let journal = Journal::open(rt, keys, begun.map(|b| b.keys), &mut sources, words.faults)?;
     let put = match begun_image(rt, words, &journal, begun) {
         Ok(mut image) => {
-            let status = journal.edit(sources, &mut image);
+            let status = journal.edit(words.image, sources, &mut image);
             finish(status, &image)
         }
         Err(ToolFault::ImageThere) => saved_before(rt, words, &journal, sources),
         Err(fault) => Err(fault),
     };
     match &put {
-        Ok(Put::InPlace | Put::Before) => {
+        Ok(Put::InPlace | Put::Over(_) | Put::Before) => {
             close(rt, words)?;
             journal.remove()?;
         }
@@ -167,14 +189,15 @@ fn edit_kept<S: Sources + Drop>(
 /// Edits, and keeps no keys.
 fn edit_unkept<S: Sources + Drop>(
     rt: &HostRuntime,
+    words: Editing<'_>,
     sources: S,
     image: &mut ImageFile<'_>,
 ) -> Result<Put, ToolFault> {
     let status = run_edit(
         rt.alloc(),
         sources,
-        &mut rt.reader(),
-        &mut io::writer(rt),
+        &mut words.faults.input(STANDARD_INPUT, rt.reader()),
+        &mut words.faults.output(rt),
         image,
     );
     finish(status, image)
@@ -196,7 +219,7 @@ fn edit_file<L: Ledger>(
         Some(keys) => edit_kept(rt, words, keys, sources),
         None => {
             refuse_image(words, image)?;
-            edit_unkept(rt, sources, image)
+            edit_unkept(rt, words, sources, image)
         }
     }
 }
@@ -217,33 +240,57 @@ pub(crate) fn sources_of<L: Ledger>(
     }
 }
 
+/// What is to stand beside the image of the file of a session. A new session that keeps no keys reads no more of a large
+/// file than it shows.
+fn lines_of(rt: &HostRuntime, words: Editing<'_>) -> Result<SourceLines, ToolFault> {
+    let Some(file) = words.file else {
+        return SourceLines::over(rt, None, &[]);
+    };
+    if words.keys.is_none() && words.onto.is_none() && is_large(rt, file) {
+        return SourceLines::of_unread(rt);
+    }
+    SourceLines::over(rt, words.onto, &[file])
+}
+
 /// Edits a file, or an empty text, or goes on with an image, and saves the
 /// session. The image is looked at before, and opened when it is saved.
 pub fn edit<L: Ledger, W>(
     rt: &HostRuntime,
     words: Editing<'_>,
-    answer: &mut Answer<W>,
+    answer: &mut Answer<'_, W>,
     blank: Blank,
 ) -> Result<Status, ToolFault>
     requires name { blank.name ≡ L.name }
     requires parts { blank.parts ≡ L.parts }
     requires many { 2 < blank.parts }
 {
-    let mut image = ImageFile::new(rt, words.image)?;
+    let mut image = image_of(rt, words)?;
+    let lines = lines_of(rt, words)?;
     let put = match words.onto {
         Some(older) => edit_onto::<L>(rt, words, older, &mut image, blank)?,
         None => edit_file::<L>(rt, words, &mut image, blank)?,
     };
     match put {
         Put::Beside(name) => {
+            lines.keep_beside(rt, &name);
             answer.set_note(Note::OtherName(name));
             Err(ToolFault::OtherImage)
         }
         Put::Before => {
+            lines.keep_beside(rt, image.path());
             let name = String::from_str(rt.alloc(), words.image)?;
             answer.set_note(Note::SavedBefore(name));
             Ok(Status::Success)
         }
-        Put::None | Put::InPlace => Ok(Status::Success),
+        Put::Over(name) => {
+            lines.keep_beside(rt, image.path());
+            answer.set_note(Note::Kept(name));
+            Ok(Status::Success)
+        }
+        Put::InPlace => {
+            lines.keep_beside(rt, image.path());
+            Ok(Status::Success)
+        }
+        Put::None => Ok(Status::Success),
     }
 }

@@ -5,6 +5,7 @@ ghost use Rattle.std.specs.Prelude.{◌≡◌, ◌<◌};
 use crate::editing::{
     Editing, begin_again, beginning_of, begun_image, close, finish, refuse_image, sources_of,
 };
+use crate::faults::STANDARD_INPUT;
 use crate::file_state::{FileState, state_of};
 use crate::image_file::{ImageFile, Put};
 use crate::journal::{Journal, LockedKeys};
@@ -13,7 +14,6 @@ use crate::session_file::Beginning;
 use cord_tools::{Status, ToolFault, read_image, run_edit_onto};
 use lazy_file::Sources;
 use std::fs::File;
-use std::io;
 use std::sync::ledger::{Blank, Ledger};
 
 /// An image that is gone on from, as it was when it was opened, and its source.
@@ -53,7 +53,7 @@ fn opened_older<L: Ledger>(
 /// to be there still, as it was when it was opened.
 fn image_over<'a>(
     rt: &'a HostRuntime,
-    words: Editing<'_>,
+    words: Editing<'a>,
     journal: &Journal<'_>,
     begun: Option<Beginning>,
     older: &File,
@@ -79,7 +79,7 @@ fn put_behind(journal: &Journal<'_>, image: &ImageFile<'_>) -> Result<Put, ToolF
     journal.set_aside()?;
     let put = image.put();
     match &put {
-        Ok(Put::InPlace) => {}
+        Ok(Put::InPlace | Put::Over(_)) => {}
         _ => journal.bring_back(),
     }
     put
@@ -113,7 +113,7 @@ fn saved_before<S: Sources + Drop>(
         return Err(ToolFault::ImageThere);
     }
     // It may have a second name.
-    let _ = ImageFile::new(rt, words.image)?.look();
+    let _ = ImageFile::new(rt, words.image, words.faults)?.look();
     Ok(Put::Before)
 }
 
@@ -131,7 +131,7 @@ fn edit_kept<L: Ledger>(
     requires many { 2 < blank.parts }
 {
     let begun = beginning_of(rt, words)?;
-    let locked = LockedKeys::open(rt, keys, begun.map(|b| b.keys))?;
+    let locked = LockedKeys::open(rt, keys, begun.map(|b| b.keys), words.faults)?;
     let older = match opened_older::<L>(rt, words, path, blank) {
         Ok(older) => older,
         Err(fault) => {
@@ -145,10 +145,11 @@ fn edit_kept<L: Ledger>(
         bytes,
         mut sources,
     } = older;
-    let journal = Journal::onto(rt, keys, locked, &bytes, &mut sources)?;
+    let journal = Journal::onto(rt, keys, locked, &bytes, &mut sources, words.faults)?;
+    let begun = journal.begun_with(begun);
     let put = match image_over(rt, words, &journal, begun, &file, state) {
         Ok(mut image) => {
-            let status = journal.edit_onto(bytes, sources, &mut image);
+            let status = journal.edit_onto(words.image, bytes, sources, &mut image);
             finish_kept(status, &journal, &image)
         }
         Err(ToolFault::ImageThere) => saved_before(rt, words, &journal, bytes, sources),
@@ -156,7 +157,7 @@ fn edit_kept<L: Ledger>(
     };
     match &put {
         // Whoever finds no keys finds an image that no session holds any more.
-        Ok(Put::InPlace) => {
+        Ok(Put::InPlace | Put::Over(_)) => {
             close(rt, words)?;
             journal.remove_saved()?;
         }
@@ -192,8 +193,8 @@ fn edit_unkept<L: Ledger>(
         rt.alloc(),
         older.bytes,
         older.sources,
-        &mut rt.reader(),
-        &mut io::writer(rt),
+        &mut words.faults.input(STANDARD_INPUT, rt.reader()),
+        &mut words.faults.output(rt),
         image,
     );
     finish(status, image)

@@ -9,7 +9,6 @@ use crate::scripts::{read_script, refuse_script};
 use cord_tools::{Status, ToolFault, read_image};
 use saved_session::TakeFault;
 use script_tools::{OntoFault, run_apply_onto};
-use std::io;
 use std::sync::ledger::{Blank, Ledger};
 use work_progress::Progress;
 
@@ -38,7 +37,7 @@ impl Progress for Stages<'_, '_> {
 fn refuse_taking<W>(
     rt: &HostRuntime,
     fault: TakeFault,
-    answer: &mut Answer<W>,
+    answer: &mut Answer<'_, W>,
 ) -> Result<Status, ToolFault> {
     if fault == TakeFault::Memory {
         return Err(ToolFault::Memory);
@@ -58,7 +57,7 @@ pub fn apply_onto<L: Ledger, W>(
     at_most: Option<u64>,
     script: &str,
     paths: &[&str],
-    answer: &mut Answer<W>,
+    answer: &mut Answer<'_, W>,
     meter: &mut Meter<'_>,
     blank: Blank,
 ) -> Result<Status, ToolFault>
@@ -79,7 +78,7 @@ pub fn apply_onto<L: Ledger, W>(
         &mut sources,
         at_most,
         &script,
-        &mut io::writer(rt),
+        &mut answer.faults().output(rt),
         &mut stages,
     );
     meter.end();

@@ -4,17 +4,27 @@
 mod answer;
 mod blaming;
 mod committing;
+mod digests;
 mod editing;
 mod editing_onto;
+mod faults;
+mod few_rows;
 mod file_state;
 mod going_on;
+mod hint;
 mod image_file;
 mod journal;
 mod meter;
+mod modes;
+mod old_image;
 mod opening;
+mod part_file;
+mod restoring;
 mod saved_before;
 mod scripts;
 mod session_file;
+mod standard_streams;
+mod text_file;
 mod twin;
 
 ghost use Rattle.std.specs.Prelude.{◌≡◌, ◌*◌, ◌-◌, ◌^◌, ◌<◌, length};
@@ -22,32 +32,76 @@ ghost use Rattle.std.specs.Prelude.{◌≡◌, ◌*◌, ◌-◌, ◌^◌, ◌<�
 use crate::answer::Answer;
 use crate::blaming::write_blame;
 use crate::committing::{Committing, commit};
+use crate::digests::tell_changed;
 use crate::editing::{Editing, edit};
+use crate::faults::{Faults, STANDARD_INPUT};
 use crate::going_on::apply_onto;
 use crate::journal::discard;
 use crate::meter::Meter;
-use crate::opening::{OpenedImage, opened_image, opened_sources};
+use crate::opening::{
+    OpenedImage, names_of, opened_image, opened_image_of, opened_sources, opened_with_sources,
+};
+use crate::restoring::{Restoring, restore};
 use crate::scripts::{lens_of, read_script, refuse_script, write_log};
+use crate::standard_streams::StandardStreams;
 use cord_explanations::explained;
 use cord_tools::{
     Outcome, Status, ToolFault, exit_status, read_image, refuse_check, run_check_told, run_cmp,
     run_cut, run_find, run_find_all_told, run_join, run_migrate_told, run_show, run_stdin,
 };
-use cord_words::{Action, Request, WordsFault, no_text, words};
+use cord_words::{Action, Lengths, Request, WordsFault, no_text, words};
 use lazy_file::Sources;
 use script_tools::{ApplyFault, BytesOfText, run_apply_told};
-use std::io::ErrorKind;
+use std::io::{ErrorKind, IsTerminal};
 use std::marker::Brand;
 use std::process::ExitCode;
 use std::sync::ledger::{Blank, Ledger};
 use std::{env, io};
 use work_progress::Progress;
 
+/// An image and its sources, of some of which the length alone is given.
+fn opened_with<L: Ledger>(
+    rt: &HostRuntime,
+    at_most: Option<u64>,
+    lengths: &Lengths,
+    image: &str,
+    paths: &[&str],
+    blank: Blank,
+) -> Result<OpenedImage<L>, ToolFault>
+    requires name { blank.name ≡ L.name }
+    requires parts { blank.parts ≡ L.parts }
+    requires many { blank.parts ≡ 2 ^ 64 - 1 }
+{
+    let names = names_of(rt.alloc(), lengths, paths)?;
+    opened_image_of::<L>(rt, at_most, image, &names, blank)
+}
+
+/// The same, to be checked: of files alone it is told whether they are those that the session was made from.
+fn opened_to_check<L: Ledger>(
+    rt: &HostRuntime,
+    at_most: Option<u64>,
+    lengths: &Lengths,
+    image: &str,
+    paths: &[&str],
+    blank: Blank,
+) -> Result<OpenedImage<L>, ToolFault>
+    requires name { blank.name ≡ L.name }
+    requires parts { blank.parts ≡ L.parts }
+    requires many { blank.parts ≡ 2 ^ 64 - 1 }
+{
+    let opened = opened_with::<L>(rt, at_most, lengths, image, paths, blank)?;
+    if lengths.numbers.is_empty() {
+        // Where there is no memory for it, nothing is told.
+        let _ = tell_changed(rt, image, paths);
+    }
+    Ok(opened)
+}
+
 /// Checks an image with its sources. Sources that are refused answer for it.
 fn check<L: Ledger, W: io::Write>(
     rt: &HostRuntime,
     opened: Result<OpenedImage<L>, ToolFault>,
-    answer: &mut Answer<W>,
+    answer: &mut Answer<'_, W>,
     meter: &mut Meter<'_>,
 ) -> Result<Status, ToolFault> {
     match opened {
@@ -73,6 +127,7 @@ fn show<L: Ledger>(
     rt: &HostRuntime,
     opened: Result<OpenedImage<L>, ToolFault>,
     revision: u64,
+    faults: &Faults,
 ) -> Result<Status, ToolFault> {
     let mut image = opened?;
     run_show(
@@ -82,7 +137,7 @@ fn show<L: Ledger>(
         &mut image.sources,
         image.at_most,
         revision,
-        &mut io::writer(rt),
+        &mut faults.output(rt),
     )?;
     Ok(Status::Success)
 }
@@ -91,6 +146,7 @@ fn show<L: Ledger>(
 fn migrate<L: Ledger>(
     rt: &HostRuntime,
     opened: Result<OpenedImage<L>, ToolFault>,
+    faults: &Faults,
     meter: &mut Meter<'_>,
 ) -> Result<Status, ToolFault> {
     let mut image = opened?;
@@ -101,7 +157,7 @@ fn migrate<L: Ledger>(
         image.expected,
         &mut image.sources,
         image.at_most,
-        &mut io::writer(rt),
+        &mut faults.output(rt),
         meter,
     )?;
     Ok(Status::Success)
@@ -112,11 +168,21 @@ fn log<L: Ledger>(
     rt: &HostRuntime,
     opened: Result<OpenedImage<L>, ToolFault>,
     brief: bool,
+    faults: &Faults,
     meter: &mut Meter<'_>,
 ) -> Result<Status, ToolFault> {
     let mut image = opened?;
     let bytes = read_image(rt.alloc(), image.file, image.expected)?;
-    write_log(rt, &bytes, &mut image.sources, image.at_most, brief, meter)?;
+    let output = faults.output(rt);
+    write_log(
+        rt,
+        &bytes,
+        &mut image.sources,
+        image.at_most,
+        brief,
+        output,
+        meter,
+    )?;
     Ok(Status::Success)
 }
 
@@ -125,11 +191,21 @@ fn blame<L: Ledger>(
     rt: &HostRuntime,
     opened: Result<OpenedImage<L>, ToolFault>,
     wanted: BytesOfText,
+    faults: &Faults,
     meter: &mut Meter<'_>,
 ) -> Result<Status, ToolFault> {
     let mut image = opened?;
     let bytes = read_image(rt.alloc(), image.file, image.expected)?;
-    write_blame(rt, &bytes, &mut image.sources, image.at_most, wanted, meter)?;
+    let output = faults.output(rt);
+    write_blame(
+        rt,
+        &bytes,
+        &mut image.sources,
+        image.at_most,
+        wanted,
+        output,
+        meter,
+    )?;
     Ok(Status::Success)
 }
 
@@ -139,6 +215,7 @@ fn cut<L: Ledger>(
     start: u64,
     count: u64,
     file: &str,
+    faults: &Faults,
     blank: Blank,
 ) -> Result<Status, ToolFault>
     requires name { blank.name ≡ L.name }
@@ -146,18 +223,29 @@ fn cut<L: Ledger>(
     requires many { 2 < blank.parts }
 {
     let mut sources = opened_sources::<L>(rt, &[file], blank)?;
-    run_cut(rt.alloc(), &mut sources, start, count, &mut io::writer(rt))?;
+    run_cut(
+        rt.alloc(),
+        &mut sources,
+        start,
+        count,
+        &mut faults.output(rt),
+    )?;
     Ok(Status::Success)
 }
 
 /// Writes files, one behind the other.
-fn join<L: Ledger>(rt: &HostRuntime, files: &[&str], blank: Blank) -> Result<Status, ToolFault>
+fn join<L: Ledger>(
+    rt: &HostRuntime,
+    files: &[&str],
+    faults: &Faults,
+    blank: Blank,
+) -> Result<Status, ToolFault>
     requires name { blank.name ≡ L.name }
     requires parts { blank.parts ≡ L.parts }
     requires many { 2 * length files.now < blank.parts }
 {
     let mut sources = opened_sources::<L>(rt, files, blank)?;
-    run_join(rt.alloc(), &mut sources, &mut io::writer(rt))?;
+    run_join(rt.alloc(), &mut sources, &mut faults.output(rt))?;
     Ok(Status::Success)
 }
 
@@ -168,6 +256,7 @@ fn find<L: Ledger>(
     start: u64,
     pattern: &[u8],
     file: &str,
+    faults: &Faults,
     meter: &mut Meter<'_>,
     blank: Blank,
 ) -> Result<Status, ToolFault>
@@ -176,7 +265,7 @@ fn find<L: Ledger>(
     requires many { 2 < blank.parts }
 {
     let mut sources = opened_sources::<L>(rt, &[file], blank)?;
-    let mut writer = io::writer(rt);
+    let mut writer = faults.output(rt);
     if all {
         meter.start("bytes");
         let found = run_find_all_told(
@@ -199,6 +288,7 @@ fn compare<L: Ledger>(
     rt: &HostRuntime,
     first: &str,
     second: &str,
+    faults: &Faults,
     blank: Blank,
 ) -> Result<Status, ToolFault>
     requires name { blank.name ≡ L.name }
@@ -206,7 +296,7 @@ fn compare<L: Ledger>(
     requires many { 4 < blank.parts }
 {
     let mut sources = opened_sources::<L>(rt, &[first, second], blank)?;
-    run_cmp(rt.alloc(), &mut sources, &mut io::writer(rt))
+    run_cmp(rt.alloc(), &mut sources, &mut faults.output(rt))
 }
 
 /// Writes the image of the session that a script makes.
@@ -214,7 +304,7 @@ fn apply<L: Ledger, W>(
     rt: &HostRuntime,
     script: &str,
     paths: &[&str],
-    answer: &mut Answer<W>,
+    answer: &mut Answer<'_, W>,
     meter: &mut Meter<'_>,
     blank: Blank,
 ) -> Result<Status, ToolFault>
@@ -226,7 +316,8 @@ fn apply<L: Ledger, W>(
     let sources = opened_sources::<L>(rt, paths, blank)?;
     let lens = lens_of(rt.alloc(), &sources)?;
     meter.start("bytes");
-    let applied = run_apply_told(rt.alloc(), &script, &lens, &mut io::writer(rt), &mut *meter);
+    let mut writer = answer.faults().output(rt);
+    let applied = run_apply_told(rt.alloc(), &script, &lens, &mut writer, &mut *meter);
     meter.end();
     match applied {
         Ok(()) => Ok(Status::Success),
@@ -236,11 +327,21 @@ fn apply<L: Ledger, W>(
     }
 }
 
+/// Says what is waited for, where it is somebody at a terminal who is to give it.
+fn tell_waiting(rt: &HostRuntime) {
+    if rt.stdin().is_terminal() {
+        // There is no other place to tell that standard error is closed.
+        let _ = rt.eprintln(
+            "cordkit waits for an image on standard input; cordkit --help shows what else it does",
+        );
+    }
+}
+
 /// Tells where bytes of a text come from, where the words ask for it; else checks the image of standard input.
 fn run_blame_or_stdin<L: Ledger, W: io::Write>(
     rt: &HostRuntime,
     action: &Action<'_>,
-    answer: &mut Answer<W>,
+    answer: &mut Answer<'_, W>,
     meter: &mut Meter<'_>,
     blank: Blank,
 ) -> Result<Status, ToolFault>
@@ -264,9 +365,14 @@ fn run_blame_or_stdin<L: Ledger, W: io::Write>(
                 start: start.unwrap_or(0),
                 count: count.unwrap_or(u64::MAX),
             },
+            answer.faults(),
             meter,
         ),
-        _ => run_stdin(rt.alloc(), rt.reader(), answer),
+        _ => {
+            tell_waiting(rt);
+            let input = answer.faults().input(STANDARD_INPUT, rt.reader());
+            run_stdin(rt.alloc(), input, answer)
+        }
     }
 }
 
@@ -274,7 +380,7 @@ fn run_blame_or_stdin<L: Ledger, W: io::Write>(
 fn run_over_image<L: Ledger, W: io::Write>(
     rt: &HostRuntime,
     action: &Action<'_>,
-    answer: &mut Answer<W>,
+    answer: &mut Answer<'_, W>,
     meter: &mut Meter<'_>,
     blank: Blank,
 ) -> Result<Status, ToolFault>
@@ -285,11 +391,12 @@ fn run_over_image<L: Ledger, W: io::Write>(
     match action {
         Action::Check {
             at_most,
+            lengths,
             image,
             sources,
         } => check(
             rt,
-            opened_image::<L>(rt, *at_most, image, sources, blank),
+            opened_to_check::<L>(rt, *at_most, lengths, image, sources, blank),
             answer,
             meter,
         ),
@@ -300,27 +407,32 @@ fn run_over_image<L: Ledger, W: io::Write>(
             sources,
         } => show(
             rt,
-            opened_image::<L>(rt, *at_most, image, sources, blank),
+            opened_with_sources::<L>(rt, *at_most, image, sources, blank),
             *revision,
+            answer.faults(),
         ),
         Action::Migrate {
             at_most,
+            lengths,
             image,
             sources,
         } => migrate(
             rt,
-            opened_image::<L>(rt, *at_most, image, sources, blank),
+            opened_with::<L>(rt, *at_most, lengths, image, sources, blank),
+            answer.faults(),
             meter,
         ),
         Action::Log {
             at_most,
+            lengths,
             brief,
             image,
             sources,
         } => log(
             rt,
-            opened_image::<L>(rt, *at_most, image, sources, blank),
+            opened_with::<L>(rt, *at_most, lengths, image, sources, blank),
             *brief,
+            answer.faults(),
             meter,
         ),
         _ => run_blame_or_stdin::<L, W>(rt, action, answer, meter, blank),
@@ -331,7 +443,7 @@ fn run_over_image<L: Ledger, W: io::Write>(
 fn run_session<L: Ledger, W: io::Write>(
     rt: &HostRuntime,
     action: &Action<'_>,
-    answer: &mut Answer<W>,
+    answer: &mut Answer<'_, W>,
     meter: &mut Meter<'_>,
     blank: Blank,
 ) -> Result<Status, ToolFault>
@@ -345,6 +457,7 @@ fn run_session<L: Ledger, W: io::Write>(
             keys,
             session,
             no_clobber,
+            replace,
             image,
             file,
         } => {
@@ -353,26 +466,14 @@ fn run_session<L: Ledger, W: io::Write>(
                 keys: *keys,
                 session: *session,
                 no_clobber: *no_clobber,
+                replace: *replace,
                 image,
                 file: *file,
+                faults: answer.faults(),
             };
             edit::<L, W>(rt, words, answer, blank)
         }
-        Action::Discard { keys } => discard(rt, keys),
-        Action::Commit {
-            at_most,
-            image,
-            file,
-            sources,
-        } => {
-            let words = Committing {
-                at_most: *at_most,
-                image,
-                file,
-                sources,
-            };
-            commit::<L>(rt, words, meter, blank)
-        }
+        Action::Discard { keys } => discard(rt, keys, answer.faults()),
         Action::Apply {
             onto: Some(image),
             at_most,
@@ -388,12 +489,61 @@ fn run_session<L: Ledger, W: io::Write>(
     }
 }
 
+/// Commits a file, or restores it, or does what else the words ask for over a session.
+fn run_states<L: Ledger, W: io::Write>(
+    rt: &HostRuntime,
+    action: &Action<'_>,
+    answer: &mut Answer<'_, W>,
+    meter: &mut Meter<'_>,
+    blank: Blank,
+) -> Result<Status, ToolFault>
+    requires name { blank.name ≡ L.name }
+    requires parts { blank.parts ≡ L.parts }
+    requires many { blank.parts ≡ 2 ^ 64 - 1 }
+{
+    match action {
+        Action::Commit {
+            at_most,
+            image,
+            file,
+            sources,
+        } => {
+            let words = Committing {
+                at_most: *at_most,
+                image,
+                file,
+                sources,
+                faults: answer.faults(),
+            };
+            commit::<L>(rt, words, meter, blank)
+        }
+        Action::Restore {
+            at_most,
+            image,
+            revision,
+            file,
+            sources,
+        } => {
+            let words = Restoring {
+                at_most: *at_most,
+                image,
+                revision: *revision,
+                file,
+                sources,
+                faults: answer.faults(),
+            };
+            restore::<L>(rt, words, meter, blank)
+        }
+        _ => run_session::<L, W>(rt, action, answer, meter, blank),
+    }
+}
+
 /// Does what the words ask for. Files are opened in the order of the words
 /// before anything is written, the image of `edit` when it is saved.
 fn run<L: Ledger, W: io::Write>(
     rt: &HostRuntime,
     action: &Action<'_>,
-    answer: &mut Answer<W>,
+    answer: &mut Answer<'_, W>,
     meter: &mut Meter<'_>,
     blank: Blank,
 ) -> Result<Status, ToolFault>
@@ -408,19 +558,34 @@ fn run<L: Ledger, W: io::Write>(
         | Action::Migrate { .. }
         | Action::Log { .. }
         | Action::Blame { .. } => run_over_image::<L, W>(rt, action, answer, meter, blank),
-        Action::Cut { start, count, file } => cut::<L>(rt, *start, *count, file, blank),
-        Action::Join { files } => join::<L>(rt, files.as_slice(), blank),
+        Action::Cut { start, count, file } => {
+            cut::<L>(rt, *start, *count, file, answer.faults(), blank)
+        }
+        Action::Join { files } => join::<L>(rt, files.as_slice(), answer.faults(), blank),
         Action::Find {
             all,
             start,
             pattern,
             file,
-        } => find::<L>(rt, *all, *start, pattern.as_bytes(), file, meter, blank),
-        Action::Cmp { first, second } => compare::<L>(rt, first, second, blank),
+        } => {
+            let pattern = pattern.as_bytes();
+            find::<L>(
+                rt,
+                *all,
+                *start,
+                pattern,
+                file,
+                answer.faults(),
+                meter,
+                blank,
+            )
+        }
+        Action::Cmp { first, second } => { compare::<L>(rt, first, second, answer.faults(), blank) }
         Action::Edit { .. }
         | Action::Discard { .. }
         | Action::Commit { .. }
-        | Action::Apply { .. } => { run_session::<L, W>(rt, action, answer, meter, blank) }
+        | Action::Restore { .. }
+        | Action::Apply { .. } => { run_states::<L, W>(rt, action, answer, meter, blank) }
     }
 }
 
@@ -444,20 +609,37 @@ fn tell(rt: &HostRuntime, action: &Action<'_>, code: &str) {
     }
 }
 
+/// Tells on standard error why a run ended by this fault: by the file that failed, where one is known.
+fn tell_fault<W>(rt: &HostRuntime, action: &Action<'_>, fault: ToolFault, answer: &Answer<'_, W>) {
+    let Ok(told) = format!(in rt.alloc(); "{fault}") else {
+        return;
+    };
+    let code = told.strip_prefix("refused ").unwrap_or(&told);
+    match answer.faults().explained(fault, code) {
+        Some(explanation) => {
+            // There is no other place to tell that standard error is closed.
+            let _ = rt.eprintln(explanation);
+        }
+        None => tell(rt, action, code),
+    }
+}
+
 /// Explains on standard error why the program ended without what was asked of it, if it did.
-fn explain<W>(rt: &HostRuntime, action: &Action<'_>, outcome: Outcome, answer: &Answer<W>) {
+fn explain<W>(rt: &HostRuntime, action: &Action<'_>, outcome: Outcome, answer: &Answer<'_, W>) {
     if let Outcome::Ended(fault) = outcome {
-        let Ok(told) = format!(in rt.alloc(); "{fault}") else {
-            return;
-        };
-        tell(rt, action, told.strip_prefix("refused ").unwrap_or(&told));
+        tell_fault(rt, action, fault, answer);
     } else if let Some(code) = answer.refusal() {
         tell(rt, action, code);
     }
 }
 
+/// Whether it is explained unasked on a terminal how a run ended: by a file that could not be read or written.
+fn is_of_files(outcome: Outcome) -> bool {
+    matches!(outcome, Outcome::Ended(ToolFault::Read | ToolFault::Write))
+}
+
 /// Tells on standard error what became of the image of a session, where that is not plain.
-fn tell_note<W>(rt: &HostRuntime, answer: &Answer<W>) {
+fn tell_note<W>(rt: &HostRuntime, answer: &Answer<'_, W>) {
     if let Some(note) = answer.note() {
         // There is no other place to tell that standard error is closed.
         let _ = rt.eprintln(note);
@@ -466,7 +648,8 @@ fn tell_note<W>(rt: &HostRuntime, answer: &Answer<W>) {
 
 /// Does what is asked for, and explains how it ended.
 fn run_request(rt: &HostRuntime, request: &Request<'_>) -> Outcome {
-    let mut answer = Answer::new(rt.alloc(), io::writer(rt));
+    let faults = Faults::new(rt.alloc());
+    let mut answer = Answer::new(rt.alloc(), faults.output(rt), &faults);
     let mut meter = Meter::new(rt, request.quiet);
     let ended = run::<Brand, _>(
         rt,
@@ -477,7 +660,7 @@ fn run_request(rt: &HostRuntime, request: &Request<'_>) -> Outcome {
     );
     let outcome = outcome(rt, ended);
     tell_note(rt, &answer);
-    if request.explain {
+    if request.explain || (is_of_files(outcome) && rt.stderr().is_terminal()) {
         explain(rt, &request.action, outcome, &answer);
     }
     outcome
@@ -518,5 +701,6 @@ fn run_words(rt: &HostRuntime) -> Outcome {
 }
 
 fn main(rt: HostRuntime) -> ExitCode {
+    let _streams = StandardStreams::hold(&rt);
     ExitCode::from(exit_status(run_words(&rt)))
 }

@@ -1,6 +1,7 @@
 //! Scripts as inputs.
 
 use crate::answer::Answer;
+use crate::faults::Output;
 use crate::meter::Meter;
 use crate::opening::{open, told, told_size};
 use cord_tools::{Status, ToolFault, read_source};
@@ -8,7 +9,7 @@ use edit_script::{Stop, Stopped};
 use lazy_file::{AddFault, SOURCE_LIMIT, Sources};
 use script_tools::{LogFault, LogTexts, run_log_told};
 use std::alloc::{AllocError, Global};
-use std::io::{self, BufWriter, Write};
+use std::io::{BufWriter, Write};
 
 /// A script is written by so many bytes.
 const PIECE: usize = 65_536;
@@ -48,7 +49,7 @@ fn refusal_at(alloc: Global, code: &str, line: u64) -> Result<String, AllocError
 pub fn refuse_script<W>(
     rt: &HostRuntime,
     stopped: Stopped,
-    answer: &mut Answer<W>,
+    answer: &mut Answer<'_, W>,
 ) -> Result<Status, ToolFault> {
     let alloc = rt.alloc();
     let told = match stopped.why {
@@ -72,6 +73,7 @@ pub fn write_log<S: Sources>(
     sources: &mut S,
     at_most: Option<u64>,
     brief: bool,
+    output: Output<'_>,
     meter: &mut Meter<'_>,
 ) -> Result<(), ToolFault> {
     let texts = if brief {
@@ -79,7 +81,7 @@ pub fn write_log<S: Sources>(
     } else {
         LogTexts::Whole
     };
-    let mut writer = BufWriter::with_capacity(rt.alloc(), PIECE, io::writer(rt)).map_err(told)?;
+    let mut writer = BufWriter::with_capacity(rt.alloc(), PIECE, output).map_err(told)?;
     meter.start("records");
     let written = run_log_told(
         rt.alloc(),

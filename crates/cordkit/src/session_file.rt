@@ -1,12 +1,12 @@
 //! The file of a session: what there was when it began. A session
 //! that goes on finds it, and it goes once the image is saved.
 
+use crate::faults::Faults;
 use crate::file_state::{FileBirth, FileState, Moment};
-use crate::opening::told;
 use cord_tools::ToolFault;
 use std::alloc::{AllocError, Global};
-use std::fs;
 use std::io::ErrorKind;
+use std::{fs, io};
 
 /// What a session began with.
 #[derive(Clone, Copy)]
@@ -16,16 +16,16 @@ pub struct Beginning {
     pub image: Option<FileState>,
 }
 
-/// The numbers of a text, which spaces part.
-fn numbers(alloc: Global, text: &str) -> Result<Vec<u64>, ToolFault> {
+/// The numbers of a text, which spaces part, where it has nothing else.
+fn numbers(alloc: Global, text: &str) -> Result<Option<Vec<u64>>, AllocError> {
     let mut numbers = Vec::new(alloc);
     for word in text.split_ascii_whitespace() {
         match word.parse::<u64>() {
-            Ok(number) => numbers.push(number).map_err(|_| ToolFault::Memory)?,
-            Err(_) => return Err(ToolFault::Read),
+            Ok(number) => numbers.push(number)?,
+            Err(_) => return Ok(None),
         }
     }
-    Ok(numbers)
+    Ok(Some(numbers))
 }
 
 /// What a session began with whose file has these numbers.
@@ -71,19 +71,24 @@ fn parsed(numbers: &[u64]) -> Option<Beginning> {
 /// # Errors
 ///
 /// `Read`, where the file cannot be read, or has something else. `Memory`.
-pub fn read_beginning(rt: &HostRuntime, path: &str) -> Result<Option<Beginning>, ToolFault> {
+pub fn read_beginning(
+    rt: &HostRuntime,
+    path: &str,
+    faults: &Faults,
+) -> Result<Option<Beginning>, ToolFault> {
     let text = match fs::read_to_string(rt, path) {
         Ok(text) => text,
         Err(error) if error.kind() == ErrorKind::NotFound => return Ok(None),
-        Err(error) => return Err(told(error)),
+        Err(error) => return Err(faults.unread(path, error)),
     };
-    let numbers = numbers(rt.alloc(), &text)?;
-    if !text.ends_with('\n') {
-        return Ok(None);
-    }
-    match parsed(&numbers) {
+    let found = match numbers(rt.alloc(), &text)? {
+        Some(numbers) if text.ends_with('\n') => parsed(&numbers),
+        Some(_) => return Ok(None),
+        None => None,
+    };
+    match found {
         Some(beginning) => Ok(Some(beginning)),
-        None => Err(ToolFault::Read),
+        None => Err(faults.unread(path, io::Error::other("it is no file of a session"))),
     }
 }
 
@@ -117,7 +122,11 @@ pub fn write_beginning(
     rt: &HostRuntime,
     path: &str,
     beginning: &Beginning,
+    faults: &Faults,
 ) -> Result<(), ToolFault> {
     let numbers = told_numbers(rt.alloc(), beginning)?;
-    fs::write(rt, path, numbers).map_err(|_| ToolFault::Write)
+    match fs::write(rt, path, numbers) {
+        Ok(()) => Ok(()),
+        Err(error) => Err(faults.unwritten(path, error)),
+    }
 }

@@ -1,9 +1,10 @@
 //! What codes mean, of runs that ended with them. With files, tests/program.sh shows it.
 
-use cord_explanations::explained;
-use cord_words::Action;
+use cord_explanations::{explained, explained_file};
+use cord_words::{Action, Lengths};
 use std::alloc::AllocGlobal;
 use std::fs::Files;
+use std::io::{Error, ErrorKind};
 use std::process::Abort;
 use std::test::Fail;
 
@@ -35,6 +36,10 @@ fn codes_are_explained(rt: HostRuntime) -> Result<(), Fail> {
             (
                 Action::Check {
                     at_most: Some(1),
+                    lengths: Lengths {
+                        numbers: Vec::new(alloc),
+                        files_before: Vec::new(alloc),
+                    },
                     image: "a.cord",
                     sources: Vec::new(alloc),
                 },
@@ -111,6 +116,7 @@ fn codes_of_an_edit_behind_an_image_are_explained(rt: HostRuntime) -> Result<(),
         keys: Some("a.keys"),
         session: None,
         no_clobber: false,
+        replace: false,
         image: "b.cord",
         file: Some("a.txt"),
     };
@@ -195,4 +201,49 @@ fn codes_of_a_commit_are_explained(rt: HostRuntime) -> Result<(), Fail> {
             ),
         ],
     )
+}
+
+#[test]
+fn files_that_fail_are_explained(rt: HostRuntime) -> Result<(), Fail> {
+    let rows = [
+        (
+            "write",
+            ErrorKind::StorageFull,
+            "write: a\\x1b[2J.cord could not be written: its disk is full",
+        ),
+        (
+            "write",
+            ErrorKind::NotFound,
+            "write: a\\x1b[2J.cord could not be written: its folder is not there",
+        ),
+        (
+            "write",
+            ErrorKind::BrokenPipe,
+            "write: a\\x1b[2J.cord could not be written: it is a pipe that nobody reads any more",
+        ),
+        (
+            "read",
+            ErrorKind::IsADirectory,
+            "read: a\\x1b[2J.cord is a folder",
+        ),
+    ];
+    for (code, kind, wanted) in rows {
+        let told = explained_file(rt.alloc(), code, "a\x1b[2J.cord", Error::from(kind)).expect(
+            &rt,
+            "an explanation",
+        );
+        assert_eq!(rt; told.code, code);
+        let told = format!(in rt.alloc(); "{told}")?;
+        assert_eq!(rt; told.as_str(), wanted);
+    }
+    let told = explained_file(rt.alloc(), "read", "a", Error::other("it changed")).expect(
+        &rt,
+        "an explanation",
+    );
+    let told = format!(in rt.alloc(); "{told}")?;
+    assert_eq!(rt;
+        told.as_str(),
+        "read: a could not be read to its end: it changed"
+    );
+    Ok(())
 }

@@ -54,11 +54,11 @@ fn words_over_images_are_read(rt: HostRuntime) -> Result<(), Fail> {
             ("cordkit", "CheckInput"),
             (
                 "cordkit check a.cord",
-                r#"Check { at_most: None, image: "a.cord", sources: [] }"#,
+                r#"Check { at_most: None, lengths: Lengths { numbers: [], files_before: [] }, image: "a.cord", sources: [] }"#,
             ),
             (
                 "cordkit check a -- b -c",
-                r#"Check { at_most: None, image: "a", sources: ["b", "-c"] }"#,
+                r#"Check { at_most: None, lengths: Lengths { numbers: [], files_before: [] }, image: "a", sources: ["b", "-c"] }"#,
             ),
             (
                 "cordkit show a 18446744073709551615 c b",
@@ -70,16 +70,33 @@ fn words_over_images_are_read(rt: HostRuntime) -> Result<(), Fail> {
             ),
             (
                 "cordkit migrate --at-most 0 a b",
-                r#"Migrate { at_most: Some(0), image: "a", sources: ["b"] }"#,
+                r#"Migrate { at_most: Some(0), lengths: Lengths { numbers: [], files_before: [] }, image: "a", sources: ["b"] }"#,
             ),
             (
                 "cordkit log a b",
-                r#"Log { at_most: None, brief: false, image: "a", sources: ["b"] }"#,
+                r#"Log { at_most: None, lengths: Lengths { numbers: [], files_before: [] }, brief: false, image: "a", sources: ["b"] }"#,
             ),
             (
                 "cordkit log a --brief --at-most=7",
-                r#"Log { at_most: Some(7), brief: true, image: "a", sources: [] }"#,
+                r#"Log { at_most: Some(7), lengths: Lengths { numbers: [], files_before: [] }, brief: true, image: "a", sources: [] }"#,
             ),
+            (
+                "cordkit check --length 7 a b --length=0 c",
+                r#"Check { at_most: None, lengths: Lengths { numbers: [7, 0], files_before: [0, 1] }, image: "a", sources: ["b", "c"] }"#,
+            ),
+            (
+                "cordkit log a --brief --length 18446744073709551615",
+                r#"Log { at_most: None, lengths: Lengths { numbers: [18446744073709551615], files_before: [0] }, brief: true, image: "a", sources: [] }"#,
+            ),
+            (
+                "cordkit migrate --length 3 --length 2 a",
+                r#"Migrate { at_most: None, lengths: Lengths { numbers: [3, 2], files_before: [0, 0] }, image: "a", sources: [] }"#,
+            ),
+            (
+                "cordkit check --length 18446744073709551616 a",
+                "ValueValidation",
+            ),
+            ("cordkit check --length 1 --length x a", "ValueValidation"),
             (
                 "cordkit blame a 2 b",
                 r#"Blame { at_most: None, start: None, count: None, image: "a", revision: 2, sources: ["b"] }"#,
@@ -117,6 +134,14 @@ fn words_of_scripts_and_commits_are_read(rt: HostRuntime) -> Result<(), Fail> {
                 "cordkit commit --at-most=7 a b c d",
                 r#"Commit { at_most: Some(7), image: "a", file: "b", sources: ["c", "d"] }"#,
             ),
+            (
+                "cordkit restore a 3 b",
+                r#"Restore { at_most: None, image: "a", revision: 3, file: "b", sources: [] }"#,
+            ),
+            (
+                "cordkit restore --at-most=7 a 3 b c d",
+                r#"Restore { at_most: Some(7), image: "a", revision: 3, file: "b", sources: ["c", "d"] }"#,
+            ),
         ],
     )
 }
@@ -146,27 +171,31 @@ fn words_over_files_are_read(rt: HostRuntime) -> Result<(), Fail> {
             ("cordkit cmp b a", r#"Cmp { first: "b", second: "a" }"#),
             (
                 "cordkit edit a.cord",
-                r#"Edit { onto: None, keys: None, session: None, no_clobber: false, image: "a.cord", file: None }"#,
+                r#"Edit { onto: None, keys: None, session: None, no_clobber: false, replace: false, image: "a.cord", file: None }"#,
             ),
             (
                 "cordkit edit a.cord b.txt",
-                r#"Edit { onto: None, keys: None, session: None, no_clobber: false, image: "a.cord", file: Some("b.txt") }"#,
+                r#"Edit { onto: None, keys: None, session: None, no_clobber: false, replace: false, image: "a.cord", file: Some("b.txt") }"#,
             ),
             (
                 "cordkit edit --keep k a.cord b.txt",
-                r#"Edit { onto: None, keys: Some("k"), session: None, no_clobber: false, image: "a.cord", file: Some("b.txt") }"#,
+                r#"Edit { onto: None, keys: Some("k"), session: None, no_clobber: false, replace: false, image: "a.cord", file: Some("b.txt") }"#,
             ),
             (
                 "cordkit edit --keep=k -- -a.cord",
-                r#"Edit { onto: None, keys: Some("k"), session: None, no_clobber: false, image: "-a.cord", file: None }"#,
+                r#"Edit { onto: None, keys: Some("k"), session: None, no_clobber: false, replace: false, image: "-a.cord", file: None }"#,
             ),
             (
                 "cordkit edit --keep k --no-clobber --session s a.cord",
-                r#"Edit { onto: None, keys: Some("k"), session: Some("s"), no_clobber: true, image: "a.cord", file: None }"#,
+                r#"Edit { onto: None, keys: Some("k"), session: Some("s"), no_clobber: true, replace: false, image: "a.cord", file: None }"#,
             ),
             (
                 "cordkit edit --onto o --keep k a.cord b.txt",
-                r#"Edit { onto: Some("o"), keys: Some("k"), session: None, no_clobber: false, image: "a.cord", file: Some("b.txt") }"#,
+                r#"Edit { onto: Some("o"), keys: Some("k"), session: None, no_clobber: false, replace: false, image: "a.cord", file: Some("b.txt") }"#,
+            ),
+            (
+                "cordkit edit --replace a.cord",
+                r#"Edit { onto: None, keys: None, session: None, no_clobber: false, replace: true, image: "a.cord", file: None }"#,
             ),
             ("cordkit edit --discard k", r#"Discard { keys: "k" }"#),
             (
@@ -188,6 +217,7 @@ fn words_are_refused_by_their_kinds(rt: HostRuntime) -> Result<(), Fail> {
             ("cordkit edit --discard --keep j k", "ArgumentConflict"),
             ("cordkit edit k --discard --session s", "ArgumentConflict"),
             ("cordkit edit --discard --no-clobber k", "ArgumentConflict"),
+            ("cordkit edit --discard --replace k", "ArgumentConflict"),
             ("cordkit edit --discard --onto o k", "ArgumentConflict"),
             ("cordkit edit --onto o", "MissingRequiredArgument"),
             ("cordkit edit --onto o --onto p a", "ArgumentConflict"),
@@ -197,6 +227,8 @@ fn words_are_refused_by_their_kinds(rt: HostRuntime) -> Result<(), Fail> {
             ("cordkit show a x", "ValueValidation"),
             ("cordkit check --at-most x a", "ValueValidation"),
             ("cordkit log --at-most x a", "ValueValidation"),
+            ("cordkit restore a b c", "ValueValidation"),
+            ("cordkit restore a 1", "MissingRequiredArgument"),
             ("cordkit apply --at-most 9 s", "MissingRequiredArgument"),
             ("cordkit apply --at-most x s", "MissingRequiredArgument"),
             ("cordkit apply --at-most x --onto a s", "ValueValidation"),

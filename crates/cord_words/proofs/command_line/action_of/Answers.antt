@@ -34,3 +34,23 @@ returns-in-Some-commit-default-clause-kind c =
     let arm = c.in-Some-commit-default in
     let given = given_as c.args.matches.now arm.field-0-0.now (codes "commit") (rows_of (found_of arm.given.now)) arm.is-commit arm.ensures.name arm.ensures.rows in
     subst (λ o. IfErr c.action-in-Some-commit-default.result (FailsAs (own_kinds o))) given c.action-in-Some-commit-default.ensures.kind
+
+pub returns-in-Some-restore-default-clause-holds : goal.returns-in-Some-restore-default-clause-holds
+returns-in-Some-restore-default-clause-holds c =
+    let arm = c.in-Some-restore-default in
+    let given = given_as c.args.matches.now arm.field-0-0.now (codes "restore") (rows_of (found_of arm.given.now)) arm.is-restore arm.ensures.name arm.ensures.rows in
+    subst (λ o. IfOk c.action-in-Some-restore-default.result (Holds o)) given c.action-in-Some-restore-default.ensures.holds
+
+pub returns-in-Some-restore-default-clause-only_memory :
+    goal.returns-in-Some-restore-default-clause-only_memory
+returns-in-Some-restore-default-clause-only_memory c =
+    let arm = c.in-Some-restore-default in
+    let given = given_as c.args.matches.now arm.field-0-0.now (codes "restore") (rows_of (found_of arm.given.now)) arm.is-restore arm.ensures.name arm.ensures.rows in
+    subst (λ o. IfErr c.action-in-Some-restore-default.result (λ f. NumbersRead o → DiscardsAlone o → LimitsACheck o → f ≡ Memory)) given
+    (IfErr-weaker c.action-in-Some-restore-default.result _ _ (λ f h read alone limits. h read) c.action-in-Some-restore-default.ensures.only_memory)
+
+pub returns-in-Some-restore-default-clause-kind : goal.returns-in-Some-restore-default-clause-kind
+returns-in-Some-restore-default-clause-kind c =
+    let arm = c.in-Some-restore-default in
+    let given = given_as c.args.matches.now arm.field-0-0.now (codes "restore") (rows_of (found_of arm.given.now)) arm.is-restore arm.ensures.name arm.ensures.rows in
+    subst (λ o. IfErr c.action-in-Some-restore-default.result (FailsAs (own_kinds o))) given c.action-in-Some-restore-default.ensures.kind

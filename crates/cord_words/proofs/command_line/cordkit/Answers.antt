@@ -16,4 +16,5 @@ returns c =
     let nine = c.add_tool-command-9.ensures _ _ eight c.command-9.ensures.app in
     let ten = c.add_tool-command-10.ensures _ _ nine c.command-10.ensures.app in
     let eleven = c.add_tool-command-11.ensures _ _ ten c.command-11.ensures.app in
-    c.add_tool.ensures _ _ eleven c.command-12.ensures.app
+    let twelve = c.add_tool-command-12.ensures _ _ eleven c.command-12.ensures.app in
+    c.add_tool.ensures _ _ twelve c.command-13.ensures.app

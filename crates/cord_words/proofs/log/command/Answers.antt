@@ -3,6 +3,7 @@ use Rattle.cord_words.proofs.log.command.Goals as goal
 pub returns-clause-app : goal.returns-clause-app
 returns-clause-app c =
     let one = c.with-command.ensures.app _ _ c.command-command.ensures.app c.limit.ensures.rule in
-    let two = c.with-command-2.ensures.app _ _ one c.flag.ensures.rule in
-    let three = c.with-command-3.ensures.app _ _ two c.image.ensures.rule in
-    c.with.ensures.app _ _ three c.sources.ensures.rule
+    let two = c.with-command-2.ensures.app _ _ one c.length.ensures.rule in
+    let three = c.with-command-3.ensures.app _ _ two c.flag.ensures.rule in
+    let four = c.with-command-4.ensures.app _ _ three c.image.ensures.rule in
+    c.with.ensures.app _ _ four c.sources.ensures.rule

@@ -1,0 +1,9 @@
+use Rattle.cord_words.proofs.restore.command.Goals as goal
+
+pub returns-clause-app : goal.returns-clause-app
+returns-clause-app c =
+    let one = c.with-command.ensures.app _ _ c.command-command.ensures.app c.limit.ensures.rule in
+    let two = c.with-command-2.ensures.app _ _ one c.image.ensures.rule in
+    let three = c.with-command-3.ensures.app _ _ two c.revision.ensures.rule in
+    let four = c.with-command-4.ensures.app _ _ three c.file.ensures.rule in
+    c.with.ensures.app _ _ four c.sources.ensures.rule
