@@ -138,7 +138,7 @@ try_installing() {
     make_it install PREFIX="$room/bare" PROGRAM="$program" LIBRARY="$room/missing.a"
     is_same 'without a C library it is told how to build one, and all else is installed' \
         "$(grep -c 'LEFT OUT: .*: make library builds it' "$room/made") $(cd "$room/bare" && find . -type f | sort)" \
-        "2 $(cd "$prefix" && find . -type f | grep -v -e /cord.h -e /libcord_c -e /pkgconfig/ -e /python/ -e /check_many.py | sort)"
+        "2 $(cd "$prefix" && find . -type f | grep -v -e /cord.h -e /libcord_c -e /pkgconfig/ -e /python/ -e /check_many.py -e /cord.rs | sort)"
     make_it uninstall PREFIX="$room/bare"
     is_same 'nothing of that is left' "$(below "$room/bare")" ''
 }
