@@ -82,7 +82,8 @@ impl Pool {
     /// `AllocError` where no memory was given for the list of blocks.
     pub fn holding(alloc: Global, bytes: Vec<u8>) -> Result<Pool, AllocError>
         requires { length bytes.items < POOL_LIMIT }
-        ensures { IfOk result (λ pool. pool ≡ held_whole bytes.items) }
+        ensures pool { IfOk result (λ pool. pool ≡ held_whole bytes.items) }
+        ensures memory { IsErr result → 0 < length bytes.items }
     {
         let mut blocks = Vec::new(alloc);
         if !bytes.is_empty() {

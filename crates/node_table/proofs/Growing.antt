@@ -5,6 +5,8 @@ use Rattle.std.proofs.lemmas.Bool.{cases_lt}
 use Rattle.std.proofs.lemmas.List.Elements.{All-nil, All-from_get_or}
 use Rattle.std.proofs.lemmas.List.{length-append, length-map, get_or_append_left, get_or-append_right, get_or-map, map-append}
 use Rattle.function_leaf.specs.Optional.{answer_of}
+use Rattle.smallvec.specs.SmallVec.{SmallVec}
+use Rattle.std.specs.Result.{is_ok}
 use Rattle.leaf_buffer.specs.declared.pool.TheConstants.{POOL_LIMIT}
 use Rattle.leaf_buffer.specs.Contents.{Contents, KeepsPieces}
 use Rattle.leaf_buffer.proofs.PoolGrowth.{PoolGrows}
@@ -117,6 +119,11 @@ kept_source {F} meaning h len k few short =
         | inr new ↦ rw (get_or-append_right h.sources (len ∷ []) (length h.sources) s 0 refl new) (get_or_one len (s - length h.sources) (TEXT_LIMIT) short)
       ];
     }
+
+-- what a vector holds after a push that may be refused
+pub pushed_items : {A E : Type 0} (result : Result A E) (old new : SmallVec ℕ) (len : ℕ) → OnOk result (new.items ≡ old.items ++ len ∷ []) → OnErr result (new ≡ old) → new.items ≡ (if is_ok result then old.items ++ len ∷ [] else old.items)
+pushed_items (Ok a) old new len ok err = ok
+pushed_items (Err e) old new len ok err = ap (λ (v : SmallVec ℕ). v.items) err
 
 pub kept_push : {F : Type 0} (meaning : F → ℕ → ℕ) (records : List (Record F)) (pool : Contents) (sources : List ℕ) (len : ℕ) (b : Bool) (pushed : List ℕ) → IsKept meaning (held_of records pool sources) → length sources < MOST_SOURCES → len < TEXT_LIMIT → pushed ≡ (if b then sources ++ len ∷ [] else sources) → IsKept meaning (held_of records pool pushed)
 kept_push meaning records pool sources len true pushed k few short is = rw is (kept_source meaning (held_of records pool sources) len k few short)

@@ -1,10 +1,11 @@
 -- What a table is that was made of another one, node for node.
-use Rattle.std.specs.Prelude.{◌≡◌, ℕ, ◌<◌, ◌≤◌, List, length, map, take, get_or, Option, Some, None}
+use Rattle.std.specs.Prelude.{◌≡◌, ◌⊎◌, ℕ, ◌<◌, ◌≤◌, List, length, map, take, get_or, Option, Some, None}
 use Rattle.function_leaf.specs.declared.coded.Coded.{Coded}
 use Rattle.leaf_buffer.specs.Contents.{held_whole}
 use Rattle.rope_node.specs.declared.node.NodeView.{NodeView}
 use Rattle.rope_node.specs.declared.node.NodeView.TheVariants.{Lit, Src, Fun, Cat, Sub}
 use Rattle.rope_node.specs.Table.{Table, view_at, len_at, depth_at}
+use Rattle.node_table.specs.declared.node_table.TheConstants.{FEW_SOURCES}
 use Rattle.node_table.specs.declared.record.Record.{Record}
 use Rattle.node_table.specs.Held.{Held, node_of, function_of_record}
 
@@ -38,3 +39,7 @@ pub record IsCopyOf (t : Table) (coded : ℕ → Coded) (h : Held Coded) : Type 
   pub functions : (id : ℕ) → id < length t.nodes → get_or h.functions id None ≡ function_in (coded id) (view_at t id)
   pub pool : h.pool ≡ held_whole t.pool
   pub sources : h.sources ≡ t.sources
+
+-- a table that cannot be held without memory: it has a node, a byte in its pool, or more than few sources
+abbrev pub TakesMemory : Table → Type 0
+TakesMemory t = (0 < length t.nodes) ⊎ ((0 < length t.pool) ⊎ (FEW_SOURCES < length t.sources))

@@ -5,6 +5,7 @@ use Rattle.leaf_buffer.specs.Contents.{appended, extended}
 use Rattle.rope_node.specs.declared.limits.TheConstants.{MOST_NODES, MOST_SOURCES, TEXT_LIMIT}
 use Rattle.rope_node.specs.declared.node.NodeId.{NodeId}
 use Rattle.rope_node.specs.Extends.{Extends}
+use Rattle.node_table.specs.declared.node_table.TheConstants.{FEW_SOURCES}
 use Rattle.node_table.specs.declared.record.Record.{Record}
 use Rattle.node_table.specs.declared.fault.NodeFault.{NodeFault}
 use Rattle.node_table.specs.declared.fault.NodeFault.TheVariants.{TooLong, TableFull, PoolFull, TooManySources, Memory}
@@ -45,5 +46,6 @@ pub record AddsSource {F : Type 0} (meaning : F → ℕ → ℕ) (old : Held F) 
   pub held : IsKept meaning new
   pub too_many : IsErrOf result TooManySources ↔ (length old.sources ≡ MOST_SOURCES)
   pub too_long : IsErrOf result TooLong ↔ ((length old.sources < MOST_SOURCES) × (TEXT_LIMIT ≤ len))
+  pub memory : IsErrOf result Memory → FEW_SOURCES ≤ length old.sources
   pub faults : IfErr result (λ e. (e ≡ TooManySources) ⊎ ((e ≡ TooLong) ⊎ (e ≡ Memory)))
   pub err : OnErr result (new ≡ old)

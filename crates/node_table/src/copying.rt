@@ -1,11 +1,12 @@
 //! A table that is made of another one, node for node.
 
-ghost use Rattle.std.specs.Prelude.{◌≡◌, ◌<◌, ◌≤◌, length, map, IfOk};
+ghost use Rattle.std.specs.Prelude.{◌≡◌, ◌⊎◌, ◌<◌, ◌≤◌, length, map, IfOk, IsOk, IsErr};
 ghost use Rattle.function_leaf.specs.Coded.{coded_byte};
 ghost use Rattle.leaf_buffer.specs.declared.pool.TheConstants.{POOL_LIMIT};
 ghost use Rattle.rope_node.specs.declared.limits.TheConstants.{MOST_NODES, MOST_SOURCES};
 ghost use Rattle.rope_node.specs.Table.{view_at, IsSound, HasTrueRecords};
-ghost use Rattle.node_table.specs.Copies.{CopiesFirst, IsCopyOf, copied_record, function_in};
+ghost use Rattle.node_table.specs.declared.node_table.TheConstants.{FEW_SOURCES};
+ghost use Rattle.node_table.specs.Copies.{CopiesFirst, IsCopyOf, TakesMemory, copied_record, function_in};
 ghost use Rattle.node_table.specs.Entries.{record_of};
 ghost use Rattle.node_table.specs.Held.{IsKept};
 ghost use Rattle.node_table.specs.Lefts.{KeepLefts};
@@ -13,17 +14,19 @@ ghost use Rattle.node_table.specs.Lefts.{KeepLefts};
 use crate::blocks::Blocks;
 use crate::entry::Entry;
 use crate::new_nodes::put_one;
-use crate::node_table::NodeTable;
+use crate::node_table::{Lengths, NodeTable};
 use crate::record::Record;
 use function_leaf::Coded;
 use leaf_buffer::Pool;
 use rope_node::{CodedSpace, NodeId, NodeSpace, NodeView};
+use smallvec::SmallVec;
 use std::alloc::{AllocError, Global};
 
 /// The bytes of the pool.
 fn pool_bytes<S: NodeSpace>(alloc: Global, space: &S) -> Result<Vec<u8>, AllocError>
     ensures bytes { IfOk result (λ bytes. bytes.items ≡ (S.table space.now).pool) }
     ensures limit { length (S.table space.now).pool < POOL_LIMIT }
+    ensures memory { IsErr result → 0 < length (S.table space.now).pool }
 {
     let len = space.pool_len();
     let mut bytes = Vec::with_capacity(alloc, len as usize)?;
@@ -34,10 +37,12 @@ fn pool_bytes<S: NodeSpace>(alloc: Global, space: &S) -> Result<Vec<u8>, AllocEr
 }
 
 /// The lengths of the sources.
-fn source_lengths<S: NodeSpace>(alloc: Global, space: &S) -> Result<Vec<u64>, AllocError>
-    ensures { IfOk result (λ lengths. lengths.items ≡ (S.table space.now).sources) }
+fn source_lengths<S: NodeSpace>(alloc: Global, space: &S) -> Result<Lengths, AllocError>
+    ensures lengths { IfOk result (λ lengths. lengths.items ≡ (S.table space.now).sources) }
+    ensures room { IfOk result (λ lengths. FEW_SOURCES ≤ lengths.capacity) }
+    ensures few { length (S.table space.now).sources ≤ FEW_SOURCES → IsOk result }
 {
-    let mut lengths = Vec::new(alloc);
+    let mut lengths = SmallVec::new(alloc);
     for s in 0..space.source_count() {
         lengths.push(space.source_len(s))?;
     }
@@ -79,6 +84,7 @@ fn entries_of<S: CodedSpace>(alloc: Global, space: &S) -> Result<Blocks<Entry<Co
     ensures copied { IfOk result (λ entries. CopiesFirst (S.NodeSpace.table space.now) (S.coded space.now)
         (length (S.NodeSpace.table space.now).nodes) (map record_of entries.items)) }
     ensures lefts { IfOk result (λ entries. KeepLefts entries.items) }
+    ensures memory { IsErr result → 0 < length (S.NodeSpace.table space.now).nodes }
 {
     let mut entries = Blocks::new(alloc);
     for id in 0..space.count() {
@@ -93,12 +99,13 @@ impl NodeTable<Coded> {
     ///
     /// # Errors
     ///
-    /// `AllocError` where memory was refused.
+    /// `AllocError` where memory was refused. Without nodes and bytes in the pool, few sources want none.
     pub fn copied<S: CodedSpace>(alloc: Global, space: &S) -> Result<NodeTable<Coded>, AllocError>
         requires nodes { length (S.NodeSpace.table space.now).nodes ≤ MOST_NODES }
         requires sources { length (S.NodeSpace.table space.now).sources ≤ MOST_SOURCES }
         ensures copied { IfOk result (IsCopyOf (S.NodeSpace.table space.now) (S.coded space.now)) }
         ensures kept { IfOk result (IsKept coded_byte) }
+        ensures memory { IsErr result → TakesMemory (S.NodeSpace.table space.now) }
     {
         let bytes = pool_bytes(alloc, space)?;
         let pool = Pool::holding(alloc, bytes)?;

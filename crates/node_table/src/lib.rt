@@ -13,5 +13,5 @@ mod space;
 
 pub use fault::NodeFault;
 pub use new_nodes::NewNodes;
-pub use node_table::NodeTable;
+pub use node_table::{FEW_SOURCES, NodeTable};
 pub use record::Record;

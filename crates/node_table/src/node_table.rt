@@ -16,29 +16,37 @@ use crate::new_nodes::{NewNodes, put_behind};
 use function_leaf::LeafFn;
 use leaf_buffer::{BLOCK_SIZE, POOL_LIMIT, Piece, Pool};
 use rope_node::{MOST_NODES, MOST_SOURCES, NodeId, Rope, TEXT_LIMIT};
+use smallvec::SmallVec;
 use std::alloc::Global;
 use std::marker::Model;
+
+/// So many sources want no memory.
+pub const FEW_SOURCES: usize = 8;
+
+/// The lengths of sources.
+pub(crate) type Lengths = SmallVec<u64, 8>;
 
 /// A sound table of nodes with true records. Nodes are put behind the others and never change.
 #[derive(Drop)]
 pub struct NodeTable<F: LeafFn> {
     pub(crate) entries: Blocks<Entry<F>>,
     pub(crate) pool: Pool,
-    pub(crate) sources: Vec<u64>,
+    pub(crate) sources: Lengths,
 }
 
 impl<F: LeafFn> Model for NodeTable<F> {
-    ghost use Rattle.std.specs.Prelude.{map};
+    ghost use Rattle.std.specs.Prelude.{◌≤◌, map};
     ghost use Rattle.node_table.specs.Entries.{record_of};
     ghost use Rattle.node_table.specs.Held.{Held, held_of, IsKept};
     ghost use Rattle.node_table.specs.Lefts.{KeepLefts};
+    ghost use Rattle.node_table.specs.declared.node_table.TheConstants.{FEW_SOURCES};
 
     ghost Value = { Held F };
 
     ghost view = { λ a. held_of (map record_of a.entries.items) a.pool a.sources.items };
 
     ghost invariant = { λ a. IsKept F.meaning (held_of (map record_of a.entries.items) a.pool a.sources.items)
-        × KeepLefts a.entries.items };
+        × KeepLefts a.entries.items × (FEW_SOURCES ≤ a.sources.capacity) };
 }
 
 /// Puts these bytes at the pool's end, in one block.
@@ -64,7 +72,7 @@ impl<F: LeafFn> NodeTable<F> {
         NodeTable {
             entries: Blocks::new(alloc),
             pool: Pool::new(alloc),
-            sources: Vec::new(alloc),
+            sources: SmallVec::new(alloc),
         }
     }
 
@@ -72,7 +80,8 @@ impl<F: LeafFn> NodeTable<F> {
     ///
     /// # Errors
     ///
-    /// `TooManySources` where there are 255, `TooLong` for 2^40 bytes or more, `Memory`. The table is then as before.
+    /// `TooManySources` where there are 255, `TooLong` for 2^40 bytes or more, `Memory` only behind `FEW_SOURCES`
+    /// others. The table is then as before.
     pub fn add_source(&mut self, len: u64) -> Result<u8, NodeFault>
         ensures { AddsSource F.meaning self.old len result self.new }
     {

@@ -3,13 +3,14 @@
 // The lines `let _count = ..` and their like are for the proof:
 // image, session and store keep their rules, as these calls say.
 
-ghost use Rattle.std.specs.Prelude.{◌≡◌, ◌+◌, ◌<◌, ◌≤◌, length, take, drop, IfOk, IfErr, OnOk, OnErr};
+ghost use Rattle.std.specs.Prelude.{◌≡◌, ◌+◌, ◌<◌, ◌≤◌, length, take, drop, IsErr, IfOk, IfErr, OnOk, OnErr};
 ghost use Rattle.command_parts.specs.Commands.{named_splices, NamesSplices};
 ghost use Rattle.image_reader.specs.Accepted.{rows_before, splices_before};
 ghost use Rattle.edit_commands.specs.Session.{IsSession};
 ghost use Rattle.session_checker.specs.Faithful.{EachRevision, HasTrueRecordsOf};
 ghost use Rattle.session_checker.specs.RevisionRules.{HasRowsOverNoSource};
-ghost use Rattle.image_reader.specs.Value.{IsImage};
+ghost use Rattle.image_reader.specs.Value.{IsImage, image_table};
+ghost use Rattle.node_table.specs.Copies.{TakesMemory};
 ghost use Rattle.saved_session.specs.TakenUp.{HoldsImage, TakesFirst, TakesUp, WasChecked};
 ghost use Rattle.saved_session.specs.TakeFaults.{IsTakeFault};
 
@@ -118,6 +119,7 @@ fn take_revision(
 fn take_nodes(alloc: Global, checked: &Checked<'_>) -> Result<Session, TakeFault>
     ensures taken { IfOk result (TakesFirst checked.now 0) }
     ensures fault { IfErr result (λ fault. fault ≡ TakeFault.Memory) }
+    ensures memory { IsErr result → TakesMemory (image_table checked.now) }
 {
     let _nodes = checked.image().node_count();
     let store = match Store::copied(alloc, checked) {
@@ -134,7 +136,8 @@ fn take_nodes(alloc: Global, checked: &Checked<'_>) -> Result<Session, TakeFault
 /// # Errors
 ///
 /// Revision by revision, `OverSource`, where a row of bytes is over a source,
-/// and `TooManyRows`, where rows that are made anew are too many; `Memory`.
+/// and `TooManyRows`, where rows that are made anew are too many; `Memory`, which the image of an empty session with
+/// few sources does not want.
 pub fn take_up(alloc: Global, checked: &Checked<'_>) -> Result<Session, TakeFault>
     requires { WasChecked checked.now }
     ensures taken { IfOk result (TakesUp checked.now) }

@@ -13,10 +13,11 @@ invariant_of-result g c =
     let records = map record_of c.in_ok-entries.entries.items in
     let pool = c.in_ok-pool.pool in
     let sources = c.in_ok-sources.sources.items in
-    let whole = c.in_ok-pool.ensures ∙ ap held_whole c.in_ok-bytes.ensures.bytes in
-    let copy : IsCopyOf t coded (held_of records pool sources) = copy_of_all t coded records pool sources c.in_ok-entries.ensures.copied whole c.in_ok-sources.ensures in (
+    let whole = c.in_ok-pool.ensures.pool ∙ ap held_whole c.in_ok-bytes.ensures.bytes in
+    let copy : IsCopyOf t coded (held_of records pool sources) = copy_of_all t coded records pool sources c.in_ok-entries.ensures.copied whole c.in_ok-sources.ensures.lengths in (
       copy_is_kept t coded (held_of records pool sources) copy (copy_counts records pool sources) c.count-count.ensures.sound c.count-count.ensures.true_records c.requires.nodes c.requires.sources,
       c.in_ok-entries.ensures.lefts,
+      c.in_ok-sources.ensures.room,
     )
 
 pub returns-clause-kept : goal.returns-clause-kept

@@ -29,6 +29,7 @@ invariant_of-self-2 g c =
     let can = subst (λ (p : Contents). CanHold g.F.LeafFn.meaning h p new) (ap (λ (p : Contents). extended p bytes) (sym (ap (λ (k : Held _). k.pool) c.self.view_is)) ∙ sym grown) c.requires.nodes in (
       kept_put g.F.LeafFn.meaning h before old pool c.self.inside.sources.items new (map record_of c.reserve.new.self.items) (map record_of c.put_behind.new.entries.items) c.self.view_is c.self.invariant.0 can grows short few (ap (λ xs. map record_of xs) c.reserve.ensures.items) c.put_behind.ensures.items,
       c.put_behind.ensures.lefts,
+      c.self.invariant.2,
     )
 
 pub returns : goal.returns
