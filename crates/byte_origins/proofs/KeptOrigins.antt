@@ -1,24 +1,22 @@
 -- The origins at the ends of a text, behind a command with splices between two places of an earlier one.
-use Rattle.std.proofs.Common.{◌≡◌, ℕ, zero, suc, ◌+◌, ◌-◌, ◌<◌, ◌≤◌, Bool, true, false, List, [], ◌∷◌, ◌++◌, map, length, take, drop, get_or, Option, Some, None, refl, sym, ap, ◌∙◌, subst, arith, append_assoc, inl, inr}
+use Rattle.std.proofs.Common.{◌≡◌, ℕ, suc, ◌+◌, ◌-◌, ◌<◌, ◌≤◌, Bool, true, false, List, [], ◌∷◌, ◌++◌, map, length, take, drop, get_or, Option, Some, None, refl, sym, ap, ◌∙◌, subst, arith, append_assoc, inl, inr}
 use Rattle.std.specs.Prelude.{if◌then◌else◌, slice_get}
 use Rattle.std.specs.Option.{option_map, unwrap_or}
 use Rattle.std.specs.List.{take-map, drop-map}
 use Rattle.std.proofs.lemmas.Bool.{cases_lt}
-use Rattle.std.proofs.lemmas.List.{drop-drop, length-append, length-drop, length-map, length-take, length-take-le, take-append-drop, take_at, get_or-take}
+use Rattle.std.proofs.lemmas.List.{drop-drop, length-map, length-take, take-append-drop, get_or-take}
 use Rattle.std.proofs.lemmas.Option.{same_Some, none-some, slice_get-map, slice_get-get_or, slice_get_past}
-use Rattle.std.proofs.Math.Seq.{drop-append_seam}
 use Rattle.command_parts.specs.declared.edit.Splice.{Splice}
 use Rattle.command_parts.specs.Commands.{◌>>=◌, Back, Givens, Many, bounded, can_splice, replaced_each, result_of}
 use Rattle.command_parts.specs.Parts.{Follow}
-use Rattle.command_parts.proofs.SplicedTexts.{follow_inside, replaced_from, spliced_from}
+use Rattle.command_parts.proofs.SplicedTexts.{replaced_from, spliced_from}
 use Rattle.image_reader.specs.Value.{ImageValue}
 use Rattle.image_reader.specs.Accepted.{KeepsRules, command_at}
 use Rattle.session_checker.specs.Faithful.{EachRevision, HasTrueRecordsOf}
 use Rattle.byte_origins.specs.declared.run.Origin.{Origin}
 use Rattle.byte_origins.specs.KeptEnds.{KeepsOrigins}
 use Rattle.byte_origins.specs.Origins.{Traced, Earlier, Outside, settled, origins_at, traced_givens}
-use Rattle.byte_origins.proofs.Lengths.{all_origins, length-all_origins, origins_step, result_there, traced_result}
-use Rattle.byte_origins.proofs.Steps.{length-settled}
+use Rattle.byte_origins.proofs.Lengths.{all_origins, origins_step, result_there, traced_result}
 
 -- ---- what a command gives
 
@@ -57,17 +55,14 @@ spliced_behind pool t end k (s ∷ splices) f =
 
 -- ---- origins
 
-settled_take : (k p n : ℕ) (xs : List Traced) → take n (settled k p xs) ≡ settled k p (take n xs)
-settled_take k p zero xs = refl
-settled_take k p (suc n) [] = refl
-settled_take k p (suc n) (Earlier o ∷ xs) = ap (λ (l : List Origin). o ∷ l) (settled_take k (p + 1) n xs)
-settled_take k p (suc n) (Outside b ∷ xs) = ap (λ (l : List Origin). record { revision = k; place = p; brought = b } ∷ l) (settled_take k (p + 1) n xs)
-
-settled_drop : (k p n : ℕ) (xs : List Traced) → drop n (settled k p xs) ≡ settled k (p + n) (drop n xs)
-settled_drop k p zero xs = let same : p ≡ p + 0 = omega arith in ap (λ (j : ℕ). settled k j xs) same
-settled_drop k p (suc n) [] = refl
-settled_drop k p (suc n) (Earlier o ∷ xs) = let same : (p + 1) + n ≡ p + suc n = omega arith in settled_drop k (p + 1) n xs ∙ ap (λ (j : ℕ). settled k j (drop n xs)) same
-settled_drop k p (suc n) (Outside b ∷ xs) = let same : (p + 1) + n ≡ p + suc n = omega arith in settled_drop k (p + 1) n xs ∙ ap (λ (j : ℕ). settled k j (drop n xs)) same
+settled_append : (k p : ℕ) (xs ys : List Traced) → settled k p (xs ++ ys) ≡ settled k p xs ++ settled k (p + length xs) ys
+settled_append k p [] ys = let same : p ≡ p + 0 = omega arith in ap (λ (j : ℕ). settled k j ys) same
+settled_append k p (Earlier o ∷ xs) ys =
+    let same : (p + 1) + length xs ≡ p + suc (length xs) = omega arith in
+    ap (λ (l : List Origin). o ∷ l) (settled_append k (p + 1) xs ys ∙ ap (λ (j : ℕ). settled k (p + 1) xs ++ settled k j ys) same)
+settled_append k p (Outside b ∷ xs) ys =
+    let same : (p + 1) + length xs ≡ p + suc (length xs) = omega arith in
+    ap (λ (l : List Origin). record { revision = k; place = p; brought = b } ∷ l) (settled_append k (p + 1) xs ys ∙ ap (λ (j : ℕ). settled k (p + 1) xs ++ settled k j ys) same)
 
 settled_earlier : (k p : ℕ) (os : List Origin) → settled k p (map Earlier os) ≡ os
 settled_earlier k p [] = refl
@@ -78,20 +73,20 @@ kept_of : (k front end : ℕ) (os : List Origin) (pool : List Traced) (splices :
 kept_of k front end os pool splices xs follow inside e =
     let t = map Earlier os in
     let long : length t ≡ length os = length-map os Earlier in
-    let le : front ≤ end = follow_inside end front splices follow in
-    let whole = replaced_from pool t (length t) front splices refl (follow_wider end (length t) front splices (omega (arith, inside, long)) follow) in
+    let first = take front os in
     let rest = spliced_behind pool t end front splices follow in
-    let zs = take front t ++ rest.0 in
-    let is : xs ≡ zs ++ drop end t = sym e ∙ whole ∙ ap (λ (r : List Traced). take front t ++ r) rest.1 ∙ simp append_assoc in
-    let n : ℕ = length (settled k 0 xs) - (length os - end) in
-    let place : n ≡ length zs = omega (arith, length-settled k 0 xs, ap length is, length-append zs (drop end t), length-drop end t, long, inside) in
+    let n : ℕ = 0 + length (map Earlier first) in
+    let is : xs ≡ map Earlier first ++ (rest.0 ++ map Earlier (drop end os)) =
+    sym e ∙ replaced_from pool t (length t) front splices refl (follow_wider end (length t) front splices (omega (arith, inside, long)) follow)
+    ∙ ap (λ (r : List Traced). take front t ++ r) rest.1
+    ∙ ap (λ (r : List Traced). r ++ (rest.0 ++ drop end t)) (take-map Earlier front os)
+    ∙ ap (λ (r : List Traced). map Earlier first ++ (rest.0 ++ r)) (drop-map Earlier end os) in
     record {
-      before = settled_take k 0 front xs
-          ∙ ap (settled k 0) (ap (take front) (sym e ∙ whole) ∙ take_at (take front t) (spliced_from pool t front splices) front (length-take-le front t (omega (arith, le, inside, long))) ∙ take-map Earlier front os)
-          ∙ settled_earlier k 0 (take front os);
-      behind = settled_drop k 0 n xs
-          ∙ ap (settled k (0 + n)) (ap (λ (j : ℕ). drop j xs) place ∙ ap (drop (length zs)) is ∙ drop-append_seam zs (drop end t) ∙ drop-map Earlier end os)
-          ∙ settled_earlier k (0 + n) (drop end os);
+      between = settled k n rest.0;
+      whole = ap (settled k 0) is
+          ∙ settled_append k 0 (map Earlier first) (rest.0 ++ map Earlier (drop end os))
+          ∙ ap (λ (l : List Origin). l ++ settled k n (rest.0 ++ map Earlier (drop end os))) (settled_earlier k 0 first)
+          ∙ ap (λ (l : List Origin). first ++ l) (settled_append k n rest.0 (map Earlier (drop end os)) ∙ ap (λ (l : List Origin). settled k n rest.0 ++ l) (settled_earlier k (n + length rest.0) (drop end os)));
     }
 
 -- ---- a revision's origins

@@ -1,7 +1,7 @@
 -- A stretch that stands for bytes of a text, while it goes back step by step.
-use Rattle.std.proofs.Common.{◌≡◌, ℕ, ◌+◌, ◌-◌, ◌<◌, ◌≤◌, min, ltb, List, [], ◌∷◌, length, take, drop, Option, Some, None, refl, sym, ap, ◌∙◌, subst, arith, inl, inr}
+use Rattle.std.proofs.Common.{◌≡◌, ℕ, ◌+◌, ◌-◌, ◌<◌, ◌≤◌, min, ltb, List, [], ◌∷◌, take, drop, Option, Some, None, refl, sym, ap, ◌∙◌, subst, arith, inl, inr}
 use Rattle.std.specs.Option.{option_map}
-use Rattle.std.proofs.lemmas.Bool.{cases_Bool, lt-ltb, le-ltb, ltb-true, ltb-false, cond-true, cond-false}
+use Rattle.std.proofs.lemmas.Bool.{cases_Bool, lt-ltb, le-ltb, ltb-false, cond-true, cond-false}
 use Rattle.std.proofs.lemmas.List.{take-take, drop-take, drop-drop}
 use Rattle.std.proofs.lemmas.Option.{same_Some, some_pair_parts}
 use Rattle.command_parts.specs.declared.part.Part.{Part}
@@ -17,7 +17,7 @@ use Rattle.byte_origins.specs.declared.taking.CameFrom.TheVariants.{FromText, Ru
 use Rattle.byte_origins.specs.EarlierTexts.{len_of_text, texts_parts}
 use Rattle.byte_origins.specs.Origins.{origins_at}
 use Rattle.byte_origins.specs.StepsBack.{CameTogether, in_run, in_text, IsBrought, IsFromText, IsOriginAt, came_len, step_back, taken_of}
-use Rattle.byte_origins.specs.Stretches.{IsStretch, StandsFor, stretch_behind, stretch_origins}
+use Rattle.byte_origins.specs.Stretches.{IsStretch, StandsFor, stretch_behind}
 use Rattle.byte_origins.proofs.StepsTaken.{shorter, take-run}
 use Rattle.byte_origins.proofs.Together.{together_fits, together_in_run, together_in_text}
 

@@ -1,9 +1,8 @@
 -- What stays of a text's origins at its ends.
-use Rattle.std.specs.Prelude.{◌≡◌, ℕ, ◌-◌, List, length, take, drop}
+use Rattle.std.specs.Prelude.{◌≡◌, ℕ, List, ◌++◌, take, drop}
 use Rattle.byte_origins.specs.declared.run.Origin.{Origin}
 
--- the first `front` bytes of an older text keep their origins in a newer one, and so do those from place `end` on, as its
--- last ones
+-- a newer text begins with an older one's origins up to place `front`, and ends with those from place `end` on
 pub record KeepsOrigins (front end : ℕ) (old new : List Origin) : Type 0 where
-  pub before : take front new ≡ take front old
-  pub behind : drop (length new - (length old - end)) new ≡ drop end old
+  pub between : List Origin
+  pub whole : new ≡ take front old ++ (between ++ drop end old)

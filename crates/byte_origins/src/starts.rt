@@ -55,6 +55,26 @@ pub(crate) fn lowered(image: &Checked, k: u32, first: u32, j: u32) -> u32
     left
 }
 
+/// How many splices there are.
+fn all_splices(image: &Checked) -> u32
+    ensures { result ≡ splices_before image.now (length image.now.revisions) }
+{
+    let image = image.image();
+    // The value is an image, as its count says.
+    let _count = image.node_count();
+    image.splice_count()
+}
+
+/// How many splices the revisions before `k` have, counted from the first revision or from the last one, whichever is
+/// nearer.
+pub(crate) fn first_splice(image: &Checked, k: u32) -> u32
+    requires { k ≤ length image.now.revisions }
+    ensures { result ≡ splices_before image.now k }
+{
+    let _count = image.revisions();
+    lowered(image, image.revisions(), all_splices(image), k)
+}
+
 /// Those of each revision, so that no step back goes through the revisions between two texts.
 pub(crate) fn splice_starts(alloc: Global, image: &Checked) -> Result<Vec<u32>, AllocError>
     ensures { IfOk result (λ starts. starts.items ≡ splice_starts image.now) }

@@ -12,7 +12,7 @@ ghost use Rattle.byte_origins.specs.Stretches.{IsRestOf, IsStretch, left_origins
 
 use crate::ropes::Ropes;
 use crate::run::OriginRun;
-use crate::starts::{lowered, splices_before, start_of};
+use crate::starts::{first_splice, lowered, start_of};
 use crate::taking::{CameFrom, taken_counted};
 use rope_node::rope_len;
 use session_checker::Checked;
@@ -45,7 +45,7 @@ impl Stretch {
             revision: k,
             place,
             len: all - place,
-            first: splices_before(image, k),
+            first: first_splice(image, k),
         })
     }
 

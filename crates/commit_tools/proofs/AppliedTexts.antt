@@ -1,5 +1,5 @@
 -- The text of the revision that changes make.
-use Rattle.std.proofs.Common.{◌≡◌, ℕ, zero, suc, ◌+◌, ◌-◌, ◌<◌, ◌≤◌, Bool, true, false, List, [], ◌∷◌, ◌++◌, length, map, take, drop, get_or, Option, Some, None, Ok, refl, sym, ap, ◌∙◌, arith}
+use Rattle.std.proofs.Common.{◌≡◌, ℕ, zero, suc, ◌+◌, ◌-◌, ◌<◌, ◌≤◌, List, [], ◌∷◌, ◌++◌, length, map, take, drop, get_or, Option, Some, None, Ok, refl, sym, ap, ◌∙◌, arith}
 use Rattle.std.specs.Prelude.{if◌then◌else◌, slice_get}
 use Rattle.std.specs.List.{sum_by}
 use Rattle.std.specs.Option.{option_map}
@@ -15,7 +15,7 @@ use Rattle.rope_node.specs.Denotes.{Cell, Byte, cell_byte, rope_cells, text}
 use Rattle.function_leaf.specs.declared.coded.Coded.{Coded}
 use Rattle.node_table.specs.Held.{Held, table_of}
 use Rattle.command_parts.specs.declared.edit.Splice.{Splice}
-use Rattle.command_parts.specs.Commands.{◌>>=◌, Back, Givens, Many, bounded, can_splice, replaced, replaced_each, result_of, with_splices}
+use Rattle.command_parts.specs.Commands.{Back, Givens, Many, bounded, can_splice, replaced, replaced_each, result_of, with_splices}
 use Rattle.command_parts.specs.Parts.{givens_of, len_of, root_at}
 use Rattle.edit_commands.specs.declared.command.Change.{Change}
 use Rattle.edit_commands.specs.declared.command.Command.{Command}
@@ -28,26 +28,16 @@ use Rattle.edit_commands.proofs.HandedChanges.{put_bytes}
 use Rattle.commit_tools.specs.Handed.{with_handed}
 use Rattle.commit_tools.specs.Stops.{IsBackTo, IsManyAt, IsNew}
 use Rattle.commit_tools.specs.Texts.{last_root, last_text, text_in, revision_root}
+use Rattle.commit_tools.proofs.Results.{bound, chosen, some_is}
 
 -- ---- what a command with splices gives
-
-bound : {A B : Type 0} (o : Option A) (f : A → Option B) (y : B) → (o >>= f) ≡ Some y → (x : A) × (o ≡ Some x) × (f x ≡ Some y)
-bound None f y e = absurd cc
-bound (Some x) f y e = (x, refl, e)
-
-chosen : {X : Type 0} (b : Bool) (o : Option X) (y : X) → (if b then o else None) ≡ Some y → o ≡ Some y
-chosen true o y e = e
-chosen false o y e = absurd cc
-
-some_is : {X : Type 0} (x y : X) → Some x ≡ Some y → x ≡ y
-some_is x y e = cc
 
 pub many_gives : {C : Type 0} (g : Givens C) (texts : List (List C)) (r : ℕ) (splices : List Splice) (x : List C) → result_of g texts (Many r splices) ≡ Some x
     → (t : List C) × (slice_get texts r ≡ Some t) × (replaced_each g.pool t splices ≡ x)
 many_gives g texts r splices x e =
     let t = bound (slice_get texts r) (λ t. if can_splice (length g.pool) (length t) splices then bounded (replaced_each g.pool t splices) else None) x e in
     let short = chosen (can_splice (length g.pool) (length t.0) splices) (bounded (replaced_each g.pool t.0 splices)) x t.2 in
-    (t.0, t.1, some_is (replaced_each g.pool t.0 splices) x (chosen _ (Some (replaced_each g.pool t.0 splices)) x short))
+    (t.0, t.1, some_is (replaced_each g.pool t.0 splices) x (chosen _ (Some (replaced_each g.pool t.0 splices)) x short.1).1)
 
 -- ---- as bytes
 

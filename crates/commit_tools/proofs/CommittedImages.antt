@@ -29,7 +29,8 @@ use Rattle.commit_tools.specs.Texts.{ReadsTexts, revision_root}
 use Rattle.commit_tools.proofs.CommittedTexts.{no_cells}
 use Rattle.commit_tools.proofs.LastRoots.{root_past}
 
-as_many : (v : ImageValue) (begun : SessionValue) → TakesUp v begun → length begun.revisions ≡ length v.revisions
+-- it has as many revisions
+pub as_many : (v : ImageValue) (begun : SessionValue) → TakesUp v begun → length begun.revisions ≡ length v.revisions
 as_many v begun takes =
     sym (length-map begun.revisions (λ (r : Kept.Revision). r.root)) ∙ ap length takes.roots ∙ length-map v.revisions (λ (r : Revision). r.root)
 

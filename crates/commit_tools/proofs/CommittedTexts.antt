@@ -22,7 +22,7 @@ use Rattle.commit_tools.specs.declared.fault.CommitFault.{CommitFault}
 use Rattle.commit_tools.specs.declared.fault.CommitFault.TheVariants.{Check, TakeUp, Read, Edit, Memory, Write}
 use Rattle.commit_tools.specs.declared.found.Found.{Found}
 use Rattle.commit_tools.specs.Earlier.{FindsNone, IsLatest}
-use Rattle.commit_tools.specs.Found.{IsBeside, text_before, text_from}
+use Rattle.commit_tools.specs.Found.{FrontsEndBefore, IsBeside, text_before, text_from}
 use Rattle.commit_tools.specs.Put.{BeginsEmpty, GoesBack, GoesOnToText, PutsAll, TakesCommand}
 use Rattle.commit_tools.specs.Stops.{BeginsWithNew, FindsChanges, IsBackTo, at_new, behind, behind_new, stops_at_back, stops_at_changes, takes_back, takes_batches, takes_behind, takes_behind_new, takes_nothing}
 use Rattle.commit_tools.specs.Commits.{CommitsText}
@@ -67,12 +67,15 @@ reads_none begun middle file before after fault one empty reads =
 
 -- what is found of the last root in the session's store turns its last text into the file's
 pub finds_changes : (st : Stated) (v : SessionValue) (h : Held Coded) (rope : Option NodeId) (found : Found) (file : List ℕ) → h ≡ v.held → rope ≡ last_root v → IsBeside found file
-    → OfText (table_of coded_byte h) st rope (λ u. u ≡ text_before found file) → rope_len (table_of coded_byte h) rope ≡ length (text_before found file) → FindsChanges st v file found
-finds_changes st v h rope found file held root is of len = record {
+    → OfText (table_of coded_byte h) st rope (λ u. u ≡ text_before found file) → rope_len (table_of coded_byte h) rope ≡ length (text_before found file)
+    → OfText (table_of coded_byte h) st rope (λ u. FrontsEndBefore (rope_len (table_of coded_byte h) rope) u file (length file - found.end)) → FindsChanges st v file found
+finds_changes st v h rope found file held root is of len apart = record {
   beside = is;
   len = subst (λ (r : Option NodeId). rope_len (table_of coded_byte v.held) r ≡ length (text_before found file)) root
       (subst (λ (k : Held Coded). rope_len (table_of coded_byte k) rope ≡ length (text_before found file)) held len);
   text = over_found v h rope st found file (length found.changes.items) held root of;
+  apart = subst (λ (r : Option NodeId). OfText (table_of coded_byte v.held) st r (λ u. FrontsEndBefore (rope_len (table_of coded_byte v.held) r) u file (length file - found.end))) root
+      (subst (λ (k : Held Coded). OfText (table_of coded_byte k) st rope (λ u. FrontsEndBefore (rope_len (table_of coded_byte k) rope) u file (length file - found.end))) held apart);
 }
 
 pub stays_there : (st : Stated) (v : SessionValue) (found : Found) (file : List ℕ) → FindsChanges st v file found → found.changes.items ≡ [] → GoesOnToText st v file (Ok false) v

@@ -1,8 +1,9 @@
 -- A session's texts beside a file.
 use Rattle.std.proofs.Common.{◌≡◌, ℕ, zero, suc, ◌+◌, ◌<◌, ◌≤◌, List, [], ◌∷◌, length, map, take, drop, get_or, Option, None, refl, sym, ap, subst, ◌∙◌, arith, inl, inr}
-use Rattle.std.specs.Prelude.{◌≢◌, slice_index, nat_eq}
-use Rattle.std.proofs.lemmas.Bool.{cases_Bool, cases_lt, cond-true, cond-false, eq-eqb}
+use Rattle.std.specs.Prelude.{◌≢◌, slice_index, nat_eq, cond}
+use Rattle.std.proofs.lemmas.Bool.{cases_lt, cond-true, eq-eqb}
 use Rattle.std.proofs.lemmas.List.{length-map, take_all}
+use Rattle.std.proofs.lemmas.List.Sums.{sum_by-cons}
 use Rattle.std.proofs.Math.Seq.{drop-cons}
 use Rattle.function_leaf.specs.declared.coded.Coded.{Coded}
 use Rattle.function_leaf.specs.Coded.{coded_byte}
@@ -78,13 +79,12 @@ others_more st v file before r next here others q le lt =
       | inr last ↦ let same : r ≡ q = omega (arith, last, le) in subst (λ (k : ℕ). OverRevision st v k (λ source. text_in source v k ≢ file)) same here
     ]
 
-count_cons : (t : Table) (n : ℕ) (root : Option NodeId) (roots : List (Option NodeId)) → count_as_long t n roots ≤ count_as_long t n (root ∷ roots)
-count_cons t n root roots =
-    let more : ℕ = suc (count_as_long t n roots) in
-    elim (cases_Bool (nat_eq (rope_len t root) n)) [
-      | inl same ↦ omega (arith, cond-true (nat_eq (rope_len t root) n) more (count_as_long t n roots) same)
-      | inr other ↦ omega (arith, cond-false (nat_eq (rope_len t root) n) more (count_as_long t n roots) other)
-    ]
+-- whether a root's text has n bytes, as a number
+abbrev one_as_long : Table → ℕ → Option NodeId → ℕ
+one_as_long t n root = cond (nat_eq (rope_len t root) n) 1 0
+
+count_cons : (t : Table) (n : ℕ) (root : Option NodeId) (roots : List (Option NodeId)) → count_as_long t n (root ∷ roots) ≡ one_as_long t n root + count_as_long t n roots
+count_cons t n root roots = sum_by-cons (one_as_long t n) root roots
 
 at_root : (roots : List (Option NodeId)) (r : ℕ) → r < length roots → drop r roots ≡ root_at roots r ∷ drop (suc r) roots
 at_root roots r there = drop-cons roots r None there
@@ -104,7 +104,7 @@ count_more v n before r next there =
 
 -- and one as long counts
 pub count_one : (v : SessionValue) (h : Held Coded) (rope : Option NodeId) (n before r : ℕ) → before ≡ r + 1 → r < length v.revisions → h ≡ v.held → rope ≡ revision_root v r → rope_len (table_of coded_byte h) rope ≡ n
-    → as_long_from v n r ≡ suc (as_long_from v n before)
+    → as_long_from v n r ≡ 1 + as_long_from v n before
 count_one v h rope n before r next there held root long =
     let t = session_table v in
     let roots = roots_of v.revisions in
@@ -112,8 +112,9 @@ count_one v h rope n before r next there held root long =
     let same : rope_len t (root_at roots r) ≡ n = sym (length_here v h rope r held root) ∙ long in
     let own : suc r ≡ before = omega (arith, next) in
     ap (count_as_long t n) (at_root roots r (omega (arith, there, length-map v.revisions (λ (r : Revision). r.root))))
-    ∙ cond-true (nat_eq (rope_len t (root_at roots r)) n) (suc rest) rest (eq-eqb (rope_len t (root_at roots r)) n same)
-    ∙ ap (λ (k : ℕ). suc (count_as_long t n (drop k roots))) own
+    ∙ count_cons t n (root_at roots r) (drop (suc r) roots)
+    ∙ ap (λ (k : ℕ). k + rest) (cond-true (nat_eq (rope_len t (root_at roots r)) n) 1 0 (eq-eqb (rope_len t (root_at roots r)) n same))
+    ∙ ap (λ (k : ℕ). 1 + count_as_long t n (drop k roots)) own
 
 -- ---- reads
 

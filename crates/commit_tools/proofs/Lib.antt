@@ -2,9 +2,15 @@ pub mod SameEnds
 pub mod RopeReads
 pub mod ComparedTexts
 pub mod HandedBatches
+pub mod Results
 pub mod AppliedTexts
 pub mod LastRoots
 pub mod FoundTexts
 pub mod PutBatches
 pub mod CommittedTexts
 pub mod CommittedImages
+pub mod GrownResults
+pub mod EarlierOrigins
+pub mod KeptEnds
+pub mod BatchOrigins
+pub mod CommitOrigins

@@ -1,5 +1,6 @@
 -- Which of a session's texts is a file's.
-use Rattle.std.specs.Prelude.{◌≡◌, ◌≢◌, nat_eq, if◌then◌else◌, ℕ, suc, ◌<◌, ◌≤◌, List, [], ◌∷◌, length, drop, Option, Some, None}
+use Rattle.std.specs.Prelude.{◌≡◌, ◌≢◌, nat_eq, ℕ, suc, ◌<◌, ◌≤◌, List, length, drop, Option, Some, None}
+use Rattle.std.specs.List.{count_by}
 use Rattle.lazy_file.specs.SourceTexts.{Stated}
 use Rattle.rope_node.specs.declared.node.NodeId.{NodeId}
 use Rattle.rope_node.specs.Table.{Table}
@@ -10,9 +11,7 @@ use Rattle.commit_tools.specs.declared.earlier.TheConstants.{TEXTS_COMPARED}
 
 -- how many of these roots' texts have n bytes
 abbrev pub count_as_long : Table → ℕ → List (Option NodeId) → ℕ
-count_as_long t n [] = 0
-count_as_long t n (root ∷ roots) =
-    if nat_eq (rope_len t root) n then suc (count_as_long t n roots) else count_as_long t n roots
+count_as_long t n roots = count_by (λ root. nat_eq (rope_len t root) n) roots
 
 -- no revision from number `from` on has the file's text
 abbrev pub HaveOthers : Stated → SessionValue → List ℕ → ℕ → Type 0
@@ -30,7 +29,8 @@ pub record IsLatest (st : Stated) (v : SessionValue) (file : List ℕ) (r : ℕ)
 pub record FindsNone (st : Stated) (v : SessionValue) (file : List ℕ) : Type 0 where
   pub from : ℕ
   pub others : HaveOthers st v file from
-  pub enough : 1 ≤ from → TEXTS_COMPARED ≤ count_as_long (session_table v) (length file) (drop from (roots_of v.revisions))
+  pub enough : 1 ≤ from
+      → TEXTS_COMPARED ≤ count_as_long (session_table v) (length file) (drop from (roots_of v.revisions))
 
 -- the latest revision with the file's text, among those that are compared
 abbrev pub FindsLatest : Stated → SessionValue → List ℕ → Option ℕ → Type 0

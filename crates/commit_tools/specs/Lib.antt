@@ -5,4 +5,5 @@ pub mod Handed
 pub mod Stops
 pub mod Put
 pub mod Commits
+pub mod CommonEnds
 pub mod Codes

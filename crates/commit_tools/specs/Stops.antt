@@ -12,7 +12,7 @@ use Rattle.edit_commands.specs.declared.fault.EditFault.{EditFault}
 use Rattle.line_changes.specs.declared.change.Change.{Change}
 use Rattle.commit_tools.specs.Texts.{OverLast, last_root, last_text}
 use Rattle.commit_tools.specs.Earlier.{FindsNone, IsLatest}
-use Rattle.commit_tools.specs.Found.{IsBeside, file_middle, text_before}
+use Rattle.commit_tools.specs.Found.{FrontsEndBefore, IsBeside, file_middle, text_before}
 use Rattle.commit_tools.specs.Handed.{bytes_put, shifted}
 use Rattle.commit_tools.specs.declared.found.Found.{Found}
 
@@ -69,11 +69,14 @@ LeadsTo found file begun (left ∷ ends) first last =
     (before : SessionValue) × (command : Command) × (k : ℕ) × LeadsTo found file begun ends left before
     × HandsBatch found file first left before command × Applies before command k last
 
--- what turns a session's last text into the file's
+-- what turns a session's last text into the file's; what both have in common at the front ends before the back that was
+-- found
 pub record FindsChanges (st : Stated) (begun : SessionValue) (file : List ℕ) (found : Found) : Type 0 where
   pub beside : IsBeside found file
   pub len : rope_len (session_table begun) (last_root begun) ≡ length (text_before found file)
   pub text : OverLast st begun (λ source. last_text source begun ≡ text_before found file)
+  pub apart : OverLast st begun (λ source. FrontsEndBefore (rope_len (session_table begun) (last_root begun))
+      (last_text source begun) file (length file - found.end))
 
 -- a session with a last text takes the batches of all changes that turn it into the file's, and nothing else
 pub record TakesBatches (st : Stated) (begun : SessionValue) (file : List ℕ) (made : SessionValue) : Type 0 where

@@ -5,7 +5,7 @@ ghost use Rattle.rope_node.specs.Denotes.{IsRope, rope_len};
 ghost use Rattle.cord_search.specs.Stated.{OfText};
 ghost use Rattle.commit_tools.specs.Commits.{CommitsText};
 ghost use Rattle.commit_tools.specs.Earlier.{FindsNone};
-ghost use Rattle.commit_tools.specs.Found.{IsBeside, text_before, text_from};
+ghost use Rattle.commit_tools.specs.Found.{FrontsEndBefore, IsBeside, text_before, text_from};
 ghost use Rattle.commit_tools.specs.Put.{BeginsEmpty, GoesBack, GoesOnToText};
 ghost use Rattle.commit_tools.specs.Texts.{IsReadingFault, ReadsRope, ReadsRopeOr, ReadsTexts};
 
@@ -62,6 +62,8 @@ fn ends_of<S: NodeSpace, T: Sources>(
         (λ u. take ends.front u ≡ take ends.front file.now)) }
     ensures back { IfOk result (λ ends. OfText (S.table space.now) (T.reading sources.old).stated rope
         (λ u. drop (rope_len (S.table space.now) rope - ends.back) u ≡ drop (length file.now - ends.back) file.now)) }
+    ensures apart { IfOk result (λ ends. OfText (S.table space.now) (T.reading sources.old).stated rope
+        (λ u. FrontsEndBefore (rope_len (S.table space.now) rope) u file.now ends.back)) }
     ensures reads { ReadsRope (S.table space.now) rope (T.reading sources.old) (T.reading sources.new) result }
 {
     let front = same_front(space, sources, rope, file)?;
@@ -88,6 +90,8 @@ fn found_beside<S: NodeSpace, T: Sources>(
     ensures text { IfOk result (λ found. OfText (S.table space.now) (T.reading sources.old).stated rope
         (λ u. u ≡ text_from found file.now (length found.changes.items))) }
     ensures len { IfOk result (λ found. rope_len (S.table space.now) rope ≡ length (text_before found file.now)) }
+    ensures apart { IfOk result (λ found. OfText (S.table space.now) (T.reading sources.old).stated rope
+        (λ u. FrontsEndBefore (rope_len (S.table space.now) rope) u file.now (length file.now - found.end))) }
     ensures fault { IfErr result IsReadingFault }
     ensures reads { ReadsRopeOr (S.table space.now) rope (T.reading sources.old) (T.reading sources.new) result }
 {

@@ -1,5 +1,5 @@
 use Rattle.std.proofs.Common.{arith, ◌∙◌}
-use Rattle.byte_origins.proofs.JoinedRuns.{lengthening_begins, lengthening_fits, lengthening_more, next_found}
+use Rattle.byte_origins.proofs.JoinedRuns.{lengthening_fits, lengthening_more, next_found}
 use Rattle.byte_origins.proofs.joining.lengthen.Goals as goal
 
 pub overflow_add-run : goal.overflow_add-run
