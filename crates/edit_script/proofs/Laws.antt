@@ -11,9 +11,9 @@ use Rattle.std.specs.Str.Parse.{IsNumeral}
 use Rattle.std.proofs.lemmas.Str.Parse.{digit_from_value}
 use Rattle.edit_script.specs.declared.room.Room.{Room}
 use Rattle.edit_script.specs.Words.{Word, Name, Number, Quoted, BeginsWith, HasWords, IsComment, Spells, is_blank, ends_word, behind_blanks}
-use Rattle.edit_script.specs.Commands.{Kind, Revision, Place, Byte, Text, shapes, shape_in, shape_of, Shape, Suits, HasKinds, IsLine}
+use Rattle.edit_script.specs.Commands.{Kind, Revision, Place, Byte, Text, shapes, shape_in, shape_of, Shape, Suits, HasKinds, IsLine, IsNamedIn}
 use Rattle.edit_script.specs.Handed.{said}
-use Rattle.edit_script.specs.Reading.{IsReadAs, front_word, behind_front, number_at, number_below, quoted_at, is_comment, word_at, words_at, end_at, groups_at, again_at, named_at, line_at}
+use Rattle.edit_script.specs.Reading.{IsReadAs, front_word, behind_front, number_at, number_below, quoted_at, is_comment, word_at, words_at, end_at, groups_at, again_at, named_at, named_in, line_at}
 use Rattle.command_parts.specs.Commands.{◌>>=◌}
 use Rattle.edit_script.proofs.Choices.{chosen, passed, bind_some, some_is}
 use Rattle.edit_script.proofs.Fronts.{IsFront, digit_is_no_end, front_is, behind_front_is, front_parts, behind_front_ends, number_back, number_again, below_back, below_again}
@@ -58,7 +58,7 @@ comment_back : (t : List ℕ) → is_comment t ≡ true → IsComment t
 comment_back [] h = tt
 comment_back (b ∷ t) h = eqb-true b 35 h
 
-comment_again : (t : List ℕ) → IsComment t → is_comment t ≡ true
+pub comment_again : (t : List ℕ) → IsComment t → is_comment t ≡ true
 comment_again [] h = refl
 comment_again (b ∷ t) h = eq-eqb b 35 h
 
@@ -192,7 +192,7 @@ again_again (kind ∷ kinds) line ws s h = groups_again (length line) kind kinds
 abbrev pub is_name : List ℕ → Bool
 is_name name = ltb 0 (length name) && list_all (λ b. not (ends_word b)) name
 
-abbrev names_hold : List (List ℕ × Shape) → Bool
+abbrev pub names_hold : List (List ℕ × Shape) → Bool
 names_hold table = list_all (λ (x : List ℕ × Shape). is_name x.0) table
 
 name_in : (table : List (List ℕ × Shape)) (name : List ℕ) (shape : Shape) → names_hold table ≡ true → shape_in table name ≡ Some shape → is_name name ≡ true
@@ -207,7 +207,7 @@ name_in (x ∷ table) name shape h e =
 pub name_is : (name : List ℕ) (shape : Shape) → shape_of name ≡ Some shape → is_name name ≡ true
 name_is name shape e = name_in shapes name shape refl e
 
-not_comment : (name rest : List ℕ) → is_name name ≡ true → is_comment (name ++ rest) ≡ false
+pub not_comment : (name rest : List ℕ) → is_name name ≡ true → is_comment (name ++ rest) ≡ false
 not_comment [] rest h = absurd cc
 not_comment (b ∷ name) rest h =
     let p = and_parts (not (ends_word b)) (list_all (λ b. not (ends_word b)) name) (and_parts (ltb 0 (length (b ∷ name))) _ h).1 in
@@ -215,19 +215,48 @@ not_comment (b ∷ name) rest h =
 
 -- ---- lines
 
+-- what is read behind a name of a table stands there
+pub named_back : (table : List (List ℕ × Shape)) (line : List ℕ) (ws : List Word)
+    → named_in table (front_word (behind_blanks line)) (behind_front (behind_blanks line)) ≡ Some ws → IsNamedIn table ws × HasWords line ws
+named_back table line ws e =
+    let t = behind_blanks line in
+    let s = bind_some (shape_in table (front_word t)) (λ shape. words_at (again_at shape.again) shape.once (behind_front t) >>= λ ws. Some (Name (front_word t) ∷ ws)) ws e in
+    let y = bind_some (words_at (again_at s.0.again) s.0.once (behind_front t)) (λ ws. Some (Name (front_word t) ∷ ws)) ws s.2 in
+    let others = words_back (again_at s.0.again) s.0.again (again_back s.0.again) s.0.once (behind_front t) y.0 y.1 in
+    let first : BeginsWith line (Name (front_word t)) (behind_front t) = record { text = front_word t; spelled = refl; parts = front_parts t; ends = behind_front_ends t } in
+    subst (λ (vs : List Word). IsNamedIn table vs × HasWords line vs) (some_is (Name (front_word t) ∷ y.0) ws y.2)
+    ((s.0, s.1, others.1), (behind_front t, first, others.0))
+
+-- a name of a table and the words behind it that stand in a line are read
+pub named_again : (table : List (List ℕ × Shape)) (line : List ℕ) (ws : List Word) → names_hold table ≡ true → IsNamedIn table ws → HasWords line ws
+    → (is_comment (behind_blanks line) ≡ false)
+    × (named_in table (front_word (behind_blanks line)) (behind_front (behind_blanks line)) ≡ Some ws)
+named_again table line [] hold c h = absurd c
+named_again table line (Number n ∷ ws) hold c h = absurd c
+named_again table line (Quoted bytes ∷ ws) hold c h = absurd c
+named_again table line (Name name ∷ ws) hold c h =
+    let b = h.1 in
+    let rest = h.0 in
+    let is = name_in table name c.0 hold c.1 in
+    let plain : IsFront name = (and_parts (ltb 0 (length name)) (list_all (λ b. not (ends_word b)) name) is).1 in
+    let parts : behind_blanks line ≡ name ++ rest = b.parts ∙ ap (λ (t : List ℕ). t ++ rest) b.spelled in (
+      ap is_comment parts ∙ not_comment name rest is,
+      rw (parts, front_is name rest plain b.ends, behind_front_is name rest plain b.ends, c.1, words_again (again_at c.0.again) c.0.again (again_again c.0.again) c.0.once rest ws c.2 h.2) refl,
+    )
+
+line_named : (ws : List Word) → IsNamedIn shapes ws → IsLine ws
+line_named [] c = absurd c
+line_named (Number n ∷ ws) c = absurd c
+line_named (Quoted bytes ∷ ws) c = absurd c
+line_named (Name name ∷ ws) c = c
+
 -- what is read of a line stands there
 pub line_back : (line : List ℕ) (ws : List Word) → line_at line ≡ Some ws → IsLine ws × HasWords line ws
 line_back line ws e =
     let t = behind_blanks line in
     elim (chosen (is_comment t) (Some []) (named_at (front_word t) (behind_front t)) (Some ws) e) [
       | inl p ↦ subst (λ (vs : List Word). IsLine vs × HasWords line vs) (some_is [] ws p.1) (refl, comment_back t p.0)
-      | inr p ↦
-          let s = bind_some (shape_of (front_word t)) (λ shape. words_at (again_at shape.again) shape.once (behind_front t) >>= λ ws. Some (Name (front_word t) ∷ ws)) ws p.1 in
-          let y = bind_some (words_at (again_at s.0.again) s.0.once (behind_front t)) (λ ws. Some (Name (front_word t) ∷ ws)) ws s.2 in
-          let others = words_back (again_at s.0.again) s.0.again (again_back s.0.again) s.0.once (behind_front t) y.0 y.1 in
-          let first : BeginsWith line (Name (front_word t)) (behind_front t) = record { text = front_word t; spelled = refl; parts = front_parts t; ends = behind_front_ends t } in
-          subst (λ (vs : List Word). IsLine vs × HasWords line vs) (some_is (Name (front_word t) ∷ y.0) ws y.2)
-          ((s.0, s.1, others.1), (behind_front t, first, others.0))
+      | inr p ↦ let h = named_back shapes line ws p.1 in (line_named ws h.0, h.1)
     ]
 
 -- the words of a command that stand in a line are read
@@ -236,12 +265,8 @@ line_again line [] c h = rw (comment_again (behind_blanks line) h) refl
 line_again line (Number n ∷ ws) c h = absurd cc
 line_again line (Quoted bytes ∷ ws) c h = absurd cc
 line_again line (Name name ∷ ws) c h =
-    let b = h.1 in
-    let rest = h.0 in
-    let is = name_is name c.0 c.1 in
-    let plain : IsFront name = (and_parts (ltb 0 (length name)) (list_all (λ b. not (ends_word b)) name) is).1 in
-    let parts : behind_blanks line ≡ name ++ rest = b.parts ∙ ap (λ (t : List ℕ). t ++ rest) b.spelled in
-    rw (parts, not_comment name rest is, front_is name rest plain b.ends, behind_front_is name rest plain b.ends, c.1, words_again (again_at c.0.again) c.0.again (again_again c.0.again) c.0.once rest ws c.2 h.2) refl
+    let n = named_again shapes line (Name name ∷ ws) refl c h in
+    rw (n.0) (n.1)
 
 pub is_found : (line : List ℕ) (room : Room) (r : Result (Option Edit) LineFault) → IsReadAs (said room) r (line_at line)
     → IfOk r (λ x. IsLine (said room x) × HasWords line (said room x))

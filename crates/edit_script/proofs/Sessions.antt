@@ -82,7 +82,7 @@ recorded_says old pool first t roots (Many r changes bytes) places takes stand =
     (changes_say old pool _ _ bytes.now 0 changes.now places (omega (arith, takes)) stand)
 recorded_says old pool first t roots other places takes stand = refl
 
-some_words : (command : Command) → 0 < length (words_handed command)
+pub some_words : (command : Command) → 0 < length (words_handed command)
 some_words New = omega arith
 some_words other = omega arith
 
@@ -136,7 +136,7 @@ words_kept old new goes (E.Many r splices) inside =
     ap (λ (ws : List Word). Name (codes "many") ∷ Number r ∷ ws) (splices_kept old new goes splices inside)
 words_kept old new goes other inside = refl
 
-all_kept : (old new : List ℕ) → GoesOnFrom old new → (es : List FullEdit) → AllByRecursion (StandsInside (length old)) es → map (words_of new) es ≡ map (words_of old) es
+pub all_kept : (old new : List ℕ) → GoesOnFrom old new → (es : List FullEdit) → AllByRecursion (StandsInside (length old)) es → map (words_of new) es ≡ map (words_of old) es
 all_kept old new goes [] inside = refl
 all_kept old new goes (e ∷ es) inside =
     ap (λ (w : List Word). w ∷ map (words_of new) es) (words_kept old new goes e inside.0)
@@ -146,7 +146,7 @@ splices_more : (old new : ℕ) → old ≤ new → (splices : List Splice) → A
 splices_more old new le [] inside = tt
 splices_more old new le (s ∷ splices) inside = (omega (arith, le, inside.0), splices_more old new le splices inside.1)
 
-inside_more : (old new : ℕ) → old ≤ new → (e : FullEdit) → StandsInside old e → StandsInside new e
+pub inside_more : (old new : ℕ) → old ≤ new → (e : FullEdit) → StandsInside old e → StandsInside new e
 inside_more old new le (E.Insert r p a n) inside = omega arith
 inside_more old new le (E.Replace r p m a n) inside = omega arith
 inside_more old new le (E.Many r splices) inside = splices_more old new le splices inside

@@ -107,6 +107,12 @@ HasKinds again (k ∷ kinds) (w ∷ ws) = Suits k w × HasKinds again kinds ws
 HasKinds (k ∷ again) [] (w ∷ ws) = Suits k w × HasKinds (k ∷ again) again ws
 HasKinds again kinds ws = ⊥
 
+-- a name of a table, and words of its shape
+abbrev pub IsNamedIn : List (List ℕ × Shape) → List Word → Type 0
+IsNamedIn table (Name name ∷ ws) =
+    (shape : Shape) × (shape_in table name ≡ Some shape) × HasKinds shape.again shape.once ws
+IsNamedIn table words = ⊥
+
 -- no words at all, or a command's name and words of its shape
 abbrev pub IsLine : List Word → Type 0
 IsLine (Name name ∷ ws) = (shape : Shape) × (shape_of name ≡ Some shape) × HasKinds shape.again shape.once ws

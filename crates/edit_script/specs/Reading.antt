@@ -8,7 +8,7 @@ use Rattle.command_parts.specs.Commands.{◌>>=◌}
 use Rattle.edit_script.specs.declared.fault.LineFault.{LineFault}
 use Rattle.edit_script.specs.declared.fault.LineFault.TheVariants.{NoCommand, Memory}
 use Rattle.edit_script.specs.Words.{Word, Name, Number, Quoted, ends_word, behind_blanks, is_plain, escape_of}
-use Rattle.edit_script.specs.Commands.{Kind, Revision, Place, Byte, Text, shape_of}
+use Rattle.edit_script.specs.Commands.{Kind, Revision, Place, Byte, Text, Shape, shape_in, shapes}
 
 -- what a function returned, seen by view, is what reading gives, unless memory ran out
 abbrev pub Fails : {Y : Type 0} → LineFault → Option Y → Type 0
@@ -137,12 +137,16 @@ abbrev pub again_at : List Kind → List ℕ → Option (List Word)
 again_at [] line = end_at line
 again_at kinds line = groups_at (length line) kinds line
 
--- the words of a command behind its name
-abbrev pub named_at : List ℕ → List ℕ → Option (List Word)
-named_at name line = do
-  shape ← shape_of name
+-- a name of a table, and the words behind it
+abbrev pub named_in : List (List ℕ × Shape) → List ℕ → List ℕ → Option (List Word)
+named_in table name line = do
+  shape ← shape_in table name
   ws ← words_at (again_at shape.again) shape.once line
   Some (Name name ∷ ws)
+
+-- a command's name, and the words behind it
+abbrev pub named_at : List ℕ → List ℕ → Option (List Word)
+named_at name line = named_in shapes name line
 
 -- a place, a length and bytes, and what is left
 abbrev pub change_at : List ℕ → Option (List Word × List ℕ)

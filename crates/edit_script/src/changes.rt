@@ -10,8 +10,8 @@ ghost use Rattle.edit_script.specs.Reading.{IsReadAs, change_at, groups_at};
 
 use crate::blanks::is_end;
 use crate::fault::LineFault;
-use crate::number::number;
-use crate::quoted::quoted;
+use crate::number::number64;
+use crate::quoted::quoted_bytes;
 use crate::room::Room;
 use edit_commands::Change;
 
@@ -25,9 +25,9 @@ fn change(line: &mut &[u8], bytes: &mut Vec<u8>) -> Result<Change, LineFault>
     ensures kept { take (length bytes.old.items) bytes.new.items ≡ bytes.old.items }
 {
     Ok(Change {
-        p: number(line)?,
-        m: number(line)?,
-        n: quoted(line, bytes)?,
+        p: number64(line)?,
+        m: number64(line)?,
+        n: quoted_bytes(line, bytes)?,
     })
 }
 

@@ -8,8 +8,8 @@ ghost use Rattle.edit_script.specs.Reading.{IsReadAs, end_at, named_at};
 use crate::blanks::is_end;
 use crate::changes::changes;
 use crate::fault::LineFault;
-use crate::number::{number, number8, number32};
-use crate::quoted::quoted;
+use crate::number::{number8, number32, number64};
+use crate::quoted::quoted_bytes;
 use crate::room::Room;
 use command_parts::Edit;
 use command_parts::codes::{
@@ -65,15 +65,15 @@ pub fn command(name: &[u8], line: &mut &[u8], room: &mut Room) -> Result<Edit, L
     match code {
         NEW => ended(Edit::New, line),
         OPEN => ended(Edit::Open { s: number32(line)? }, line),
-        INSERT => ended(Edit::Insert { r: number32(line)?, p: number(line)?, a: 0, n: quoted(line, bytes)? }, line),
-        DELETE => ended(Edit::Delete { r: number32(line)?, p: number(line)?, n: number(line)? }, line),
+        INSERT => ended(Edit::Insert { r: number32(line)?, p: number64(line)?, a: 0, n: quoted_bytes(line, bytes)? }, line),
+        DELETE => ended(Edit::Delete { r: number32(line)?, p: number64(line)?, n: number64(line)? }, line),
         REPLACE => ended(Edit::Replace {
-            r: number32(line)?, p: number(line)?, m: number(line)?, a: 0, n: quoted(line, bytes)? }, line),
+            r: number32(line)?, p: number64(line)?, m: number64(line)?, a: 0, n: quoted_bytes(line, bytes)? }, line),
         PASTE => ended(Edit::Paste {
-            r: number32(line)?, p: number(line)?, q: number32(line)?, i: number(line)?, n: number(line)? }, line),
+            r: number32(line)?, p: number64(line)?, q: number32(line)?, i: number64(line)?, n: number64(line)? }, line),
         JOIN => ended(Edit::Join { r: number32(line)?, q: number32(line)? }, line),
-        CUT => ended(Edit::Cut { r: number32(line)?, i: number(line)?, n: number(line)? }, line),
-        FILL => ended(Edit::Fill { r: number32(line)?, p: number(line)?, c: number8(line)?, n: number(line)? }, line),
+        CUT => ended(Edit::Cut { r: number32(line)?, i: number64(line)?, n: number64(line)? }, line),
+        FILL => ended(Edit::Fill { r: number32(line)?, p: number64(line)?, c: number8(line)?, n: number64(line)? }, line),
         BACK => ended(Edit::Back { r: number32(line)? }, line),
         BALANCE => ended(Edit::Balance { r: number32(line)? }, line),
         MANY => Ok(Edit::Many { r: number32(line)?, first: 0, count: changes(line, room)? }),

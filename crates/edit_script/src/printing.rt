@@ -14,7 +14,7 @@ use itoa::Buffer;
 use std::alloc::AllocError;
 
 /// The digit of base 16 for a number below 16.
-fn glyph(d: u8) -> u8
+pub fn glyph(d: u8) -> u8
     requires { d < 16 }
     ensures { result ≡ digit_glyph false d }
 {

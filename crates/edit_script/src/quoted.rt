@@ -104,7 +104,11 @@ fn unquote<'a>(text: &'a [u8], room: &mut Vec<u8>) -> Result<&'a [u8], LineFault
 
 /// Puts the bytes that are written in quotes at a line's front behind those in `room`, and leaves what is behind them.
 /// Answers how many they are.
-pub fn quoted(line: &mut &[u8], room: &mut Vec<u8>) -> Result<u64, LineFault>
+///
+/// # Errors
+///
+/// `NoCommand`, where the line begins with no bytes in quotes, and `Memory`: some of the bytes may be in the room.
+pub fn quoted_bytes(line: &mut &[u8], room: &mut Vec<u8>) -> Result<u64, LineFault>
     ensures bytes { IsReadAs (λ n. (take n (drop (length room.old.items) room.new.items), line.new.now)) result
         (quoted_at line.old.now) }
     ensures len { IfOk result (λ n. length room.old.items + n ≡ length room.new.items) }

@@ -4,7 +4,7 @@ use super::logs::{SOURCE, sources_of};
 use super::tools::{ONE_INSERT, Taker, applied, assert_same};
 use image_reader::ReadFault;
 use script_tools::{BlameFault, BytesOfText, run_blame};
-use session_checker::CheckFault;
+use session_checker::{CheckFault, WantedRevision};
 use std::alloc::AllocGlobal;
 use std::process::Abort;
 
@@ -38,7 +38,7 @@ const EXCHANGED: &[u8] =
 /// All bytes of the text of a revision.
 fn whole(revision: u64) -> BytesOfText {
     BytesOfText {
-        revision,
+        revision: WantedRevision::Number(revision),
         start: 0,
         count: u64::MAX,
     }
@@ -71,6 +71,12 @@ fn insertion_inside_another(rt: HostRuntime) {
     assert_blamed(&rt, FOX, whole(2), FOX_BLAMED);
     assert_blamed(&rt, FOX, whole(1), b"0 7 1 0 insert 0 0 \"the fox\"\n");
     assert_blamed(&rt, FOX, whole(0), b"");
+    let last = BytesOfText {
+        revision: WantedRevision::Last,
+        start: 0,
+        count: u64::MAX,
+    };
+    assert_blamed(&rt, FOX, last, FOX_BLAMED);
 }
 
 #[test]
@@ -160,7 +166,7 @@ fn some_bytes_of_a_text(rt: HostRuntime) {
         (13, 1, b""),
         (u64::MAX, u64::MAX, b""),
     ] {
-        let revision = 2;
+        let revision = WantedRevision::Number(2);
         assert_blamed(
             &rt,
             FOX,

@@ -13,4 +13,6 @@ mod logs;
 #[cfg(test)]
 mod onto;
 #[cfg(test)]
+mod serving;
+#[cfg(test)]
 mod tools;

@@ -1,0 +1,6 @@
+pub mod Outcomes
+pub mod Questions
+pub mod Answers
+pub mod Spoken
+pub mod Kept
+pub mod Fronts
