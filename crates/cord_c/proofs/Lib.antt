@@ -1,5 +1,4 @@
-mod HeldLemmas
-mod CheckedImages
+mod OpenedImages
 mod ToldBytes
 mod RunLaws
 mod WaitingStretches

@@ -22,11 +22,11 @@ use Rattle.image_reader.proofs.Faults.{else_none}
 use Rattle.image_reader.proofs.WholeImages.{front_back}
 use Rattle.session_checker.specs.Faithful.{HasTrueRecordsOf, IsFetchedOf, fetched_cell, revision_text}
 use Rattle.session_checker.proofs.RevisionTexts.{no_revision_past, text_of_root}
-use Rattle.cord_c.specs.declared.held_sources.CordSource.{CordSource}
-use Rattle.cord_c.specs.HeldTexts.{held_bytes, stated_as_held}
+use Rattle.cord_types.specs.declared.held_sources.CordSource.{CordSource}
+use Rattle.cord_types.specs.HeldTexts.{held_bytes, stated_as_held}
 use Rattle.cord_c.specs.Opened.{WasAccepted}
 use Rattle.cord_c.specs.Runs.{IsByteHeld, text_part}
-use Rattle.cord_c.proofs.HeldLemmas.{text_stated}
+use Rattle.cord_types.proofs.HeldLemmas.{text_stated}
 
 -- ---- sources that go on
 

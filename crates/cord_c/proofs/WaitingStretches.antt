@@ -16,12 +16,12 @@ use Rattle.byte_origins.specs.declared.run.OriginRun.{OriginRun}
 use Rattle.byte_origins.specs.declared.stretch.Stretch.{Stretch}
 use Rattle.byte_origins.specs.declared.taking.CameFrom.TheVariants.{FromText, Run}
 use Rattle.byte_origins.specs.Origins.{origins_at}
-use Rattle.byte_origins.specs.StepsBack.{IsBrought, IsFromText, IsOriginAt, step_back}
+use Rattle.byte_origins.specs.StepsBack.{IsBrought, IsFromText, step_back}
 use Rattle.byte_origins.specs.Stretches.{IsStretch, StandsFor, stretch_behind}
 use Rattle.byte_origins.specs.EarlierTexts.{len_of_text}
 use Rattle.byte_origins.proofs.Lengths.{as_long}
 use Rattle.byte_origins.proofs.Standing.{stands_begins, stands_behind, stands_ends, stands_more}
-use Rattle.cord_c.specs.declared.origins.CordOrigin.{CordOrigin}
+use Rattle.cord_types.specs.declared.origins.CordOrigin.{CordOrigin}
 use Rattle.cord_c.specs.ToldOrigins.{IsToldOrigin, origin_numbers}
 use Rattle.cord_c.specs.OriginRooms.{AreToldOrigins, AreWaiting, FreesSlot, PutsInFront, StandInOrder, TellsFirst, TellsRuns, behind_of, stretch_of, told_end, waiting_numbers, waits}
 

@@ -7,7 +7,7 @@ use Rattle.byte_origins.specs.declared.stretch.Stretch.{Stretch}
 use Rattle.byte_origins.specs.Origins.{origins_at}
 use Rattle.byte_origins.specs.StepsBack.{IsOriginAt}
 use Rattle.byte_origins.specs.Stretches.{StandsFor, stretch_behind}
-use Rattle.cord_c.specs.declared.origins.CordOrigin.{CordOrigin}
+use Rattle.cord_types.specs.declared.origins.CordOrigin.{CordOrigin}
 use Rattle.cord_c.specs.declared.waiting.TheConstants.{WAITING}
 use Rattle.cord_c.specs.ToldOrigins.{IsToldOrigin}
 

@@ -1,26 +1,21 @@
 -- Where the bytes of a revision's text stand.
-use Rattle.std.specs.Prelude.{◌≡◌, ◌≢◌, ◌⊎◌, ℕ, ◌+◌, ◌<◌, ◌≤◌, min, List, [], ◌∷◌, length, replicate, take, drop, Option, Some, None}
-use Rattle.function_leaf.specs.declared.coded.Coded.TheVariants.{Fill, Ramp, Cycle}
-use Rattle.function_leaf.specs.declared.pattern.TheConstants.{PATTERN_LIMIT}
-use Rattle.function_leaf.specs.Pattern.{padded}
+use Rattle.std.specs.Prelude.{◌≡◌, ◌≢◌, ◌⊎◌, ℕ, ◌+◌, ◌<◌, ◌≤◌, min, List, length, take, drop, Option, Some}
 use Rattle.rope_node.specs.declared.node.LeafSpan.{LeafSpan}
 use Rattle.rope_node.specs.declared.node.NodeId.{NodeId}
-use Rattle.rope_node.specs.Table.{view_at}
 use Rattle.rope_node.specs.Denotes.{Cell, Byte, Place, rope_len}
 use Rattle.lazy_file.specs.SourceTexts.{AreSizes, Stated}
 use Rattle.cord_position.specs.Fetched.{EachCell, IsReadable, rope_part}
 use Rattle.cord_position.specs.Runs.{AreBytesOf, rope_span, run_left}
 use Rattle.span_descent.specs.declared.description.Description.{Description}
-use Rattle.span_descent.specs.declared.description.Description.TheVariants.{Pooled, Sourced, Computed}
-use Rattle.span_descent.specs.Leads.{described_cells, leaf_description}
-use Rattle.image_reader.specs.declared.codes.TheConstants.{CYCLE, FILL, RAMP}
+use Rattle.span_descent.specs.Leads.{described_cells}
 use Rattle.image_reader.specs.Value.{ImageValue, coded_at, image_table}
 use Rattle.image_reader.specs.Accepted.{revision_at}
 use Rattle.session_checker.specs.Faithful.{IsFetchedOf, fetched_cell}
-use Rattle.cord_c.specs.declared.run.CordRun.{CordRun}
-use Rattle.cord_c.specs.declared.run.TheConstants.{COMPUTED, POOLED, SOURCED}
+use Rattle.cord_types.specs.declared.run.CordRun.{CordRun}
+use Rattle.cord_types.specs.ToldRuns.{leaf_span_description}
+pub use Rattle.cord_types.specs.ToldRuns.{computed_run, placed_run, run_told}
 use Rattle.cord_c.specs.declared.text.TheConstants.{NO_PLACE, NOT_HELD, READ}
-use Rattle.cord_c.specs.HeldTexts.{held_bytes}
+use Rattle.cord_types.specs.HeldTexts.{held_bytes}
 
 -- the root of a revision's text; of none, nil
 abbrev pub text_root : ImageValue → ℕ → Option NodeId
@@ -38,47 +33,13 @@ text_part v k place n = rope_part (image_table v) (text_root v k) place n
 abbrev pub left_of : ImageValue → ℕ → ℕ → ℕ
 left_of v k place = run_left (image_table v) (text_root v k) place
 
--- what a span of a leaf is: the pool or a source from the leaf's place there and the span's in the leaf on, or the
--- leaf's function from there on
+-- what a span of a leaf is, over the image's nodes and functions
 abbrev pub span_description : ImageValue → Option LeafSpan → Option Description
-span_description v None = None
-span_description v (Some x) = leaf_description (coded_at v x.leaf.0) x.start (view_at (image_table v) x.leaf.0)
+span_description v x = leaf_span_description (image_table v) (coded_at v) x
 
 -- what the leaf span is that holds the byte at a place of the text
 abbrev pub description_at : ImageValue → ℕ → ℕ → Option Description
 description_at v k place = span_description v (rope_span (image_table v) (text_root v k) place)
-
--- the numbers of a run of n bytes of the pool or of a source
-abbrev pub placed_run : ℕ → ℕ → ℕ → ℕ → CordRun
-placed_run kind s a n = record {
-  kind = kind;
-  source = s;
-  function = 0;
-  pattern_len = 0;
-  start = a;
-  len = n;
-  pattern = replicate PATTERN_LIMIT 0;
-}
-
--- and of what a function answers from its place i on
-abbrev pub computed_run : ℕ → List ℕ → ℕ → ℕ → CordRun
-computed_run function pattern i n = record {
-  kind = COMPUTED;
-  source = 0;
-  function = function;
-  pattern_len = length pattern;
-  start = i;
-  len = n;
-  pattern = padded pattern;
-}
-
--- the numbers of n bytes of a description
-abbrev pub run_told : Description → ℕ → CordRun
-run_told (Pooled a) n = placed_run POOLED 0 a n
-run_told (Sourced s a) n = placed_run SOURCED s a n
-run_told (Computed (Fill c) i) n = computed_run FILL (c ∷ []) i n
-run_told (Computed (Ramp c) i) n = computed_run RAMP (c ∷ []) i n
-run_told (Computed (Cycle pattern) i) n = computed_run CYCLE pattern i n
 
 -- The numbers are those of the run that the text has from this place on: bytes of one description, which is that of the
 -- leaf span that holds them, up to its end.

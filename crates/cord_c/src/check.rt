@@ -3,13 +3,11 @@
 ghost use Rattle.std.specs.Prelude.{◌≡◌, ◌↔◌, None, false, IsTrue};
 ghost use Rattle.image_reader.specs.Looks.{looks_bound};
 ghost use Rattle.image_reader.specs.Reading.{fault_of, image_in};
-ghost use Rattle.cord_c.specs.HeldTexts.{stated_as_held};
-ghost use Rattle.cord_c.specs.Answers.{JudgesImage};
+ghost use Rattle.cord_types.specs.HeldTexts.{stated_as_held};
+ghost use Rattle.cord_types.specs.Answers.{JudgesImage};
 
-use crate::held_sources::{CordSource, HeldSources};
-use crate::verdict::CordVerdict;
+use cord_types::{CordSource, CordVerdict, checked};
 use image_reader::{Image, looks_bound};
-use session_checker::check;
 
 /// How many looks at nodes the check of an image takes at most, by its counts and its rows, before any node is looked
 /// at. Where the bytes are no image, so that the check's answer is `C1`, `bound` stays.
@@ -38,21 +36,5 @@ pub extern "C" fn cord_check(
 ) -> bool
     ensures { JudgesImage image.now (stated_as_held sources.now) result verdict.new }
 {
-    let mut held = match HeldSources::new(sources) {
-        Ok(held) => held,
-        Err(fault) => {
-            *verdict = CordVerdict::of_sources(fault);
-            return false;
-        }
-    };
-    match check(image, &mut held) {
-        Ok(checked) => {
-            *verdict = CordVerdict::of_image(&checked);
-            true
-        }
-        Err(fault) => {
-            *verdict = CordVerdict::of_fault(fault);
-            false
-        }
-    }
+    checked(image, sources, verdict).is_some()
 }

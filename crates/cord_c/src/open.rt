@@ -1,13 +1,12 @@
 //! Images that stay open.
 
 ghost use Rattle.std.specs.Prelude.{◌≡◌, false, is_some, IfSome, IsTrue};
-ghost use Rattle.cord_c.specs.HeldTexts.{stated_as_held};
-ghost use Rattle.cord_c.specs.Answers.{JudgesImage};
+ghost use Rattle.cord_types.specs.HeldTexts.{stated_as_held};
+ghost use Rattle.cord_types.specs.Answers.{JudgesImage};
 ghost use Rattle.cord_c.specs.Opened.{WasAccepted, opened_image};
 
 use crate::check::cord_check;
-use crate::held_sources::CordSource;
-use crate::verdict::CordVerdict;
+use cord_types::{CordSource, CordVerdict};
 use session_checker::Checked;
 use std::marker::Model;
 

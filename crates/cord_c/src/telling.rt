@@ -9,9 +9,9 @@ ghost use Rattle.cord_c.specs.Opened.{opened_image};
 ghost use Rattle.cord_c.specs.OriginRooms.{TellsFirst, TellsOrigins, TellsRuns};
 
 use crate::open::CordImage;
-use crate::origins::CordOrigin;
 use crate::waiting::{put_behind, stretch_of};
 use byte_origins::{CameFrom, OriginRun, Stretch, taken};
+use cord_types::CordOrigin;
 use session_checker::Checked;
 
 /// The run that a stretch begins with, as far as its bytes came in together. What lies behind it on the way back waits

@@ -1,15 +1,13 @@
 //! Each call over worked images. What the tests want is counted on the format's tables.
 
 use crate::check::{cord_check, cord_looks_bound};
-use crate::held_sources::CordSource;
 use crate::open::{CordImage, cord_open};
-use crate::origins::{CordOrigin, cord_origin};
-use crate::run::{CordRun, POOLED, SOURCED};
+use crate::origins::cord_origin;
 use crate::telling::cord_origins;
 use crate::text::{
     NO_PLACE, NOT_HELD, READ, cord_counts, cord_fetch, cord_locate, cord_read, cord_text_len,
 };
-use crate::verdict::CordVerdict;
+use cord_types::{CordOrigin, CordRun, CordSource, CordVerdict, POOLED, SOURCED};
 
 /// The insertion of `abc`: its header, node, two revisions, row and pool.
 const ONE_INSERT: &[u8] = b"CORDSESS\0\0\0\x01\0\0\0\0\0\0\0\x01\0\0\0\x02\

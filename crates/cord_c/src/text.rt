@@ -1,23 +1,17 @@
 //! The texts of an open image.
 
-ghost use Rattle.std.specs.Prelude.{◌≡◌, ◌↔◌, ◌<◌, ◌+◌, ℕ, min, false, length, take, drop, IfOk, IsTrue};
-ghost use Rattle.lazy_file.specs.SourceTexts.{AreSizes};
-ghost use Rattle.cord_position.specs.Fetched.{ReadsSpan};
-ghost use Rattle.cord_position.specs.Runs.{AreBytesOf};
-ghost use Rattle.session_checker.specs.Faithful.{fetched_cell, revision_text};
-ghost use Rattle.cord_c.specs.HeldTexts.{stated_as_held};
+ghost use Rattle.std.specs.Prelude.{◌≡◌, ◌↔◌, ◌<◌, ℕ, false, length, IsTrue};
+ghost use Rattle.rope_node.specs.Denotes.{IsRope};
+ghost use Rattle.image_reader.specs.Value.{image_table};
+ghost use Rattle.session_checker.specs.Faithful.{revision_text};
+ghost use Rattle.cord_types.specs.HeldTexts.{stated_as_held};
 ghost use Rattle.cord_c.specs.Opened.{opened_image};
-ghost use Rattle.cord_c.specs.Verdicts.{accepted_verdict};
-ghost use Rattle.cord_c.specs.Runs.{FetchesByte, IsLocated, ReadsRun, left_of, revision_len, text_part};
+ghost use Rattle.cord_types.specs.Verdicts.{accepted_verdict};
+ghost use Rattle.cord_c.specs.Runs.{FetchesByte, IsLocated, ReadsRun, revision_len, text_root};
 
-use crate::held_sources::{CordSource, HeldSources};
 use crate::open::CordImage;
-use crate::run::CordRun;
-use crate::span::{described, span_of};
-use crate::verdict::CordVerdict;
-use cord_position::fill_part;
-use lazy_file::{SourceFault, Sources};
-use rope_node::{NodeSpace, rope_len};
+use cord_types::{CordRun, CordSource, CordVerdict, HeldSources, located, read_run};
+use rope_node::{Rope, rope_len};
 use session_checker::Checked;
 
 /// The bytes that were asked for are there.
@@ -80,6 +74,17 @@ pub extern "C" fn cord_fetch(
     }
 }
 
+/// The root of the text of a revision; of none, nil.
+fn root_of(image: &Checked, revision: u32) -> Rope
+    ensures value { result ≡ text_root image.now revision }
+    ensures rope { IsRope (image_table image.now) result }
+{
+    match image.root(revision) {
+        Some(root) => root,
+        None => None,
+    }
+}
+
 /// Where the byte at a place of the text of a revision stands, and how many bytes of the text follow it there: all up
 /// to the end of its leaf's span. Where there is no such place, or no such revision, `run` stays.
 #[unsafe(no_mangle)]
@@ -94,44 +99,14 @@ pub extern "C" fn cord_locate(
     ensures kept { result ≡ false → run.new ≡ run.old }
 {
     let image = image.checked();
-    match span_of(&image, revision, place) {
-        Some(span) => {
-            *run = CordRun::of(described(&image, span), span.len);
+    let root = root_of(&image, revision);
+    match located(&image, root, place) {
+        Some(found) => {
+            *run = found;
             true
         }
         None => false,
     }
-}
-
-/// Writes the bytes of a text from a place to the end of its leaf's span
-/// there into the buffer, as many as it takes, and answers how many.
-///
-/// # Errors
-///
-/// A source's fault, where they are of that source and the read
-/// of them failed. They may then be any bytes in the buffer.
-fn fill_run<T: Sources>(
-    image: &Checked,
-    sources: &mut T,
-    revision: u32,
-    place: u64,
-    buffer: &mut [u8],
-) -> Result<usize, SourceFault>
-    ensures count { IfOk result (λ n. n ≡ min (left_of image.now revision place) (length buffer.old)) }
-    ensures rest { IfOk result (λ n. drop n buffer.new ≡ drop n buffer.old) }
-    ensures bytes { IfOk result (λ n. AreBytesOf (T.reading sources.old).stated
-        (text_part image.now revision place n) (take n buffer.new)) }
-    ensures reads { ReadsSpan (T.reading sources.old) (T.reading sources.new) (fetched_cell image.now revision)
-        place (place + min (left_of image.now revision place) (length buffer.old)) result }
-{
-    let Some(span) = span_of(image, revision, place) else {
-        return Ok(0);
-    };
-    let n = span.len.min(buffer.len() as u64) as usize;
-    if n > 0 {
-        fill_part(image, sources, span.leaf, span.start, &mut buffer[..n])?;
-    }
-    Ok(n)
 }
 
 /// Writes the bytes of the text of a revision from a place on into `out`: as many as it
@@ -153,7 +128,9 @@ pub extern "C" fn cord_read(
     let Ok(mut held) = HeldSources::new(sources) else {
         return NOT_HELD;
     };
-    match fill_run(&image.checked(), &mut held, revision, place, out) {
+    let image = image.checked();
+    let root = root_of(&image, revision);
+    match read_run(&image, &mut held, root, place, out) {
         Ok(n) => {
             *count = n;
             READ

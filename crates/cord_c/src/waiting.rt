@@ -3,8 +3,8 @@
 ghost use Rattle.std.specs.Prelude.{◌≡◌, ◌+◌, ◌<◌, ◌≤◌, ◌^◌, length};
 ghost use Rattle.cord_c.specs.OriginRooms.{FreesSlot, PutsInFront, behind_of, stretch_of, waiting_numbers};
 
-use crate::origins::CordOrigin;
 use byte_origins::Stretch;
+use cord_types::CordOrigin;
 
 /// The kind of a stretch that waits.
 pub const WAITING: u32 = 0;

@@ -1,6 +1,6 @@
 use Rattle.std.proofs.Common.{sym, ap, ◌∙◌}
 use Rattle.image_reader.specs.Looks.{looks_bound}
-use Rattle.cord_c.proofs.CheckedImages.{image_again}
+use Rattle.cord_types.proofs.CheckedImages.{image_again}
 use Rattle.cord_c.proofs.check.cord_looks_bound.Goals as goal
 
 pub returns-in-Ok-clause-value : goal.returns-in-Ok-clause-value

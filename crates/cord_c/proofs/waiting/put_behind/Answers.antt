@@ -1,5 +1,5 @@
 use Rattle.std.proofs.Common.{◌-◌, slice_set, ap, ◌∙◌, arith}
-use Rattle.cord_c.specs.declared.origins.CordOrigin.{CordOrigin}
+use Rattle.cord_types.specs.declared.origins.CordOrigin.{CordOrigin}
 use Rattle.cord_c.specs.OriginRooms.{waiting_numbers}
 use Rattle.cord_c.proofs.WaitingStretches.{put_in_slot}
 use Rattle.cord_c.proofs.waiting.put_behind.Goals as goal

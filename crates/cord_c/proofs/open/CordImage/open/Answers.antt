@@ -1,5 +1,5 @@
-use Rattle.cord_c.specs.HeldTexts.{stated_as_held}
-use Rattle.cord_c.proofs.CheckedImages.{opens}
+use Rattle.cord_types.specs.HeldTexts.{stated_as_held}
+use Rattle.cord_c.proofs.OpenedImages.{opens}
 use Rattle.cord_c.proofs.open.CordImage.open.Goals as goal
 
 pub invariant_of-result : goal.invariant_of-result

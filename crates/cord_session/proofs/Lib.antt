@@ -1,0 +1,2 @@
+mod SlotValues
+mod Resuming

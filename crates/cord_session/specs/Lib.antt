@@ -1,0 +1,6 @@
+pub mod Slots
+pub mod Commands
+pub mod Applied
+pub mod Sessions
+pub mod Asked
+pub mod Images

@@ -1,0 +1,3 @@
+pub mod LooseValues
+mod RopeSlotValues
+mod AskedRopes

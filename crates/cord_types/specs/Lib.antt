@@ -1,0 +1,5 @@
+pub mod HeldTexts
+pub mod Verdicts
+pub mod Answers
+pub mod ToldRuns
+pub mod ToldOrigins
